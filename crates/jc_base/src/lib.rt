@@ -1,0 +1,15 @@
+//! Names, texts, lists, and what the tool sees of the outside: trees of files and sinks of bytes.
+#![tactic(auto)]
+
+pub mod items;
+pub mod mem_file;
+pub mod mem_sink;
+pub mod mem_trees;
+pub mod name;
+mod root_faults;
+mod schedule;
+pub mod sink;
+pub mod sure_sink;
+pub mod sure_trees;
+pub mod text;
+pub mod trees;

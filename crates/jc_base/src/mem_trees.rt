@@ -1,0 +1,122 @@
+//! Trees in memory, whose calls fail by a list.
+ghost use Rattle.std.specs.Prelude.{◌≡◌, ◌≤◌, ◌<◌, ◌+◌, ◌^◌, ◌⊎◌, ℕ, List, Some, true, false, length, IfOk, IsErrOf, IsOkUnless, IsTrue};
+ghost use Rattle.jc_base.specs.Causes.{Rose};
+ghost use Rattle.jc_base.specs.Outside.{Lists, Holds, ReadsFront, are_distinct, are_files};
+ghost use Rattle.jc_base.specs.MemFile.{files_of};
+ghost use Rattle.jc_base.specs.Schedule.{Plan, fails_next, after_call};
+
+use crate::mem_file::{MemFile, front, paths};
+use crate::root_faults::RootFaults;
+use crate::schedule::Schedule;
+use crate::text::Text;
+use crate::trees::{TreeError, Trees};
+use std::alloc::Global;
+
+/// Trees in memory. The calls of the given numbers, counted from 1 over `list` and `read`, fail.
+/// The counter of calls stops at `u64::MAX`, and no call made from then on fails.
+#[derive(Drop)]
+pub struct MemTrees {
+    files: Vec<MemFile>,
+    schedule: Schedule,
+    failed: RootFaults,
+    ghost distinct: { IsTrue (are_files (files_of files.items)) },
+}
+
+impl MemTrees {
+    ghost use Rattle.jc_base.specs.MemTrees.{plan_of, held_by, faults_at};
+
+    /// Trees of these files, on which no call was made yet.
+    pub fn new(alloc: Global, files: Vec<MemFile>, failing: Vec<u64>) -> MemTrees
+        requires { IsTrue (are_files (files_of files.items)) }
+        ensures files { held_by result ≡ files_of files.items }
+        ensures faults { (root : List ℕ) → faults_at result root ≡ 0 }
+        ensures plan { plan_of result ≡ record { calls = 0; failing = failing.items } }
+    {
+        MemTrees {
+            files,
+            schedule: Schedule::new(failing),
+            failed: RootFaults::new(alloc),
+        }
+    }
+
+    /// How many calls on the root failed.
+    pub fn faults(&self, root: &str) -> u64
+        ensures { result ≡ faults_at self.now root.now }
+    {
+        self.failed.count(root)
+    }
+
+    // Counts a failed call on the root, and answers its error.
+    fn fault(&mut self, alloc: Global, root: &str) -> TreeError
+        ensures files { held_by self.new ≡ held_by self.old }
+        ensures plan { plan_of self.new ≡ plan_of self.old }
+        ensures never_falls { (r : List ℕ) → faults_at self.old r ≤ faults_at self.new r }
+        ensures cause { result ≡ TreeError.Fault → Rose (faults_at self.old root.now) (faults_at self.new root.now) }
+    {
+        match self.failed.raise(alloc, root) {
+            Ok(()) => TreeError::Fault,
+            Err(_) => TreeError::Memory,
+        }
+    }
+}
+
+impl Trees for MemTrees {
+    ghost use Rattle.jc_base.specs.MemTrees.{plan_of, held_by, faults_at};
+
+    ghost content = { λ t. Some (held_by t) };
+
+    ghost faults = { faults_at };
+
+    #[tactic(auto, using(crate::proofs::Paths::distinct_paths))]
+    fn list(&mut self, alloc: Global, root: &str) -> Result<Vec<Text>, TreeError>
+        ensures listed { IfOk result (λ paths. Lists (Some (held_by self.old)) root.now paths.items) }
+        ensures once { IfOk result (λ paths. IsTrue (are_distinct paths.items)) }
+        ensures content { Some (held_by self.new) ≡ Some (held_by self.old) }
+        ensures never_falls { (r : List ℕ) → faults_at self.old r ≤ faults_at self.new r }
+        ensures bounded { (r : List ℕ) → faults_at self.new r < 2 ^ 64 }
+        ensures cause { IsErrOf result TreeError.Fault → Rose (faults_at self.old root.now) (faults_at self.new root.now) }
+
+        // Which calls fail.
+        ensures counted { plan_of self.new ≡ after_call (plan_of self.old) }
+        ensures fails { fails_next (plan_of self.old) ≡ true → IsErrOf result TreeError.Fault ⊎ IsErrOf result TreeError.Memory }
+        ensures succeeds { fails_next (plan_of self.old) ≡ false → IsOkUnless result TreeError.Memory }
+    {
+        if self.schedule.next_fails() {
+            return Err(self.fault(alloc, root));
+        }
+        match paths(alloc, self.files.as_slice(), root) {
+            Ok(found) => Ok(found),
+            Err(_) => Err(TreeError::Memory),
+        }
+    }
+
+    fn read(
+        &mut self,
+        alloc: Global,
+        root: &str,
+        path: &str,
+        limit: u32,
+    ) -> Result<Vec<u8>, TreeError>
+        requires held { Holds (Some (held_by self.old)) root.now path.now }
+        requires limit { limit ≤ 4194304 }
+        ensures bytes { IfOk result (λ read. ReadsFront (Some (held_by self.old)) root.now path.now (limit + 1) read.items) }
+        ensures short { IfOk result (λ read. length read.items ≤ limit + 1) }
+        ensures content { Some (held_by self.new) ≡ Some (held_by self.old) }
+        ensures never_falls { (r : List ℕ) → faults_at self.old r ≤ faults_at self.new r }
+        ensures bounded { (r : List ℕ) → faults_at self.new r < 2 ^ 64 }
+        ensures cause { IsErrOf result TreeError.Fault → Rose (faults_at self.old root.now) (faults_at self.new root.now) }
+
+        // Which calls fail.
+        ensures counted { plan_of self.new ≡ after_call (plan_of self.old) }
+        ensures fails { fails_next (plan_of self.old) ≡ true → IsErrOf result TreeError.Fault ⊎ IsErrOf result TreeError.Memory }
+        ensures succeeds { fails_next (plan_of self.old) ≡ false → IsOkUnless result TreeError.Memory }
+    {
+        if self.schedule.next_fails() {
+            return Err(self.fault(alloc, root));
+        }
+        match front(alloc, self.files.as_slice(), root, path, limit as usize + 1) {
+            Ok(found) => Ok(found.unwrap()),
+            Err(_) => Err(TreeError::Memory),
+        }
+    }
+}

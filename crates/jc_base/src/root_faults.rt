@@ -1,0 +1,45 @@
+//! A count of faults for each root.
+ghost use Rattle.std.specs.Prelude.{◌≡◌, ◌≤◌, ◌<◌, ◌^◌, OnOk, List, ℕ, unwrap_or};
+ghost use Rattle.std.specs.BTreeMap.{get_by_text};
+ghost use Rattle.jc_base.specs.Causes.{Rose};
+
+use std::alloc::{AllocError, Global};
+use std::collections::BTreeMap;
+
+/// How many calls failed, for each root. A count stops at `u64::MAX`.
+#[derive(Drop)]
+pub struct RootFaults {
+    counts: BTreeMap<String, u64>,
+    ghost bounded: { (root : List ℕ) → unwrap_or (get_by_text counts root) 0 < 2 ^ 64 },
+}
+
+impl RootFaults {
+    ghost use Rattle.jc_base.specs.RootFaults.{count_at};
+
+    /// No call has failed yet.
+    pub fn new(alloc: Global) -> RootFaults
+        ensures { (root : List ℕ) → count_at result root ≡ 0 }
+    {
+        RootFaults {
+            counts: BTreeMap::new(alloc),
+        }
+    }
+
+    /// How many calls on the root failed.
+    pub fn count(&self, root: &str) -> u64
+        ensures { result ≡ count_at self.now root.now }
+    {
+        self.counts.get(root).copied().unwrap_or(0)
+    }
+
+    /// Counts a failed call on the root. For want of memory nothing is counted.
+    pub fn raise(&mut self, alloc: Global, root: &str) -> Result<(), AllocError>
+        ensures rose { OnOk result (Rose (count_at self.old root.now) (count_at self.new root.now)) }
+        ensures never_falls { (other : List ℕ) → count_at self.old other ≤ count_at self.new other }
+    {
+        let count = self.count(root).saturating_add(1);
+        let key = String::from_str(alloc, root)?;
+        self.counts.insert(key, count)?;
+        Ok(())
+    }
+}

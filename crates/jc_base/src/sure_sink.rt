@@ -1,0 +1,42 @@
+//! A sink in memory that doesn't fail.
+ghost use Rattle.std.specs.Prelude.{◌≡◌, Some, []};
+
+use crate::sink::{Sink, SinkError};
+use std::alloc::Global;
+
+/// A sink in memory. No call fails but for want of memory, and its count of faults stays 0.
+#[derive(Drop)]
+pub struct SureSink {
+    bytes: Vec<u8>,
+}
+
+impl SureSink {
+    /// An empty sink.
+    pub fn new(alloc: Global) -> SureSink
+        ensures { ⟦<SureSink as Sink>⟧.taken result ≡ Some [] }
+    {
+        SureSink {
+            bytes: Vec::new(alloc),
+        }
+    }
+
+    /// The bytes taken.
+    pub fn bytes(&self) -> &[u8]
+        ensures { ⟦<SureSink as Sink>⟧.taken self.now ≡ Some result.now }
+    {
+        self.bytes.as_slice()
+    }
+}
+
+impl Sink for SureSink {
+    ghost taken = { λ s. Some s.bytes.items };
+
+    ghost faults = { λ _. 0 };
+
+    fn put(&mut self, bytes: &[u8]) -> Result<(), SinkError> {
+        match self.bytes.extend_from_slice(bytes) {
+            Ok(()) => Ok(()),
+            Err(_) => Err(SinkError::Memory),
+        }
+    }
+}
