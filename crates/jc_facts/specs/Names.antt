@@ -1,0 +1,46 @@
+-- Names, packages and keys, as bytes.
+--     same x y      the two names are equal
+--     package_of x      the name up to its last '/', or nothing (JVMS 5.3)
+--     is_key k m      the member has this name and descriptor (JVMS 4.5, 4.6)
+use Rattle.std.specs.Prelude.{ℕ, Bool, cond, List, [], ◌∷◌, ◌==◌, ◌&&◌, codes}
+use Rattle.std.specs.Str.{bytes_eq}
+use Rattle.std.specs.List.{list_any}
+use Rattle.jc_facts.specs.declared.key.Key.{Key}
+use Rattle.jc_facts.specs.declared.class_facts.Member.{Member}
+
+abbrev pub Bytes : Type 0
+Bytes = List ℕ
+
+abbrev pub same : Bytes → Bytes → Bool
+same = bytes_eq
+
+-- x is one of the names
+abbrev pub is_among : List Bytes → Bytes → Bool
+is_among xs x = list_any (λ y. same y x) xs
+
+-- the name up to its last '/', or nothing
+unfoldable pub package_of : Bytes → Bytes
+package_of [] = []
+package_of (x ∷ xs) = cond (list_any (λ y. y == 47) xs) (x ∷ package_of xs) []
+
+abbrev pub same_package : Bytes → Bytes → Bool
+same_package x y = same (package_of x) (package_of y)
+
+abbrev pub is_key : Key → Member → Bool
+is_key k m = same m.name k.name && same m.descriptor k.descriptor
+
+abbrev pub same_key : Key → Key → Bool
+same_key k l = same k.name l.name && same k.descriptor l.descriptor
+
+abbrev pub key_of : Member → Key
+key_of m = record { name = m.name; descriptor = m.descriptor }
+
+abbrev pub object_name : Bytes
+object_name = codes "java/lang/Object"
+
+-- an instance or class initializer's name (JVMS 2.9)
+abbrev pub is_init : Bytes → Bool
+is_init x = same x (codes "<init>")
+
+abbrev pub is_clinit : Bytes → Bool
+is_clinit x = same x (codes "<clinit>")

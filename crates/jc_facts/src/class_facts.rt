@@ -1,0 +1,55 @@
+//! Records of classes.
+use crate::key::Key;
+use jc_base::items::Items;
+use jc_base::name::Name;
+
+/// A field or a method (JVMS 4.5, 4.6).
+#[derive(PartialEq, Eq, Debug, Drop)]
+pub struct Member {
+    pub name: Name,
+    pub descriptor: Name,
+    pub flags: u16,
+}
+
+/// The value of a constant field (JVMS 4.7.2). Floating-point values are kept as their bits.
+#[derive(PartialEq, Eq, Debug, Drop)]
+pub enum Constant {
+    Int(u32),
+    Float(u32),
+    Long(u64),
+    Double(u64),
+    Text(Name),
+}
+
+/// A static field of a constant value.
+#[derive(PartialEq, Eq, Debug, Drop)]
+pub struct Fixed {
+    pub key: Key,
+    pub value: Constant,
+}
+
+/// The generic signature of a field, a method or, where there is no key, of the class itself
+/// (JVMS 4.7.9).
+#[derive(PartialEq, Eq, Debug, Drop)]
+pub struct Signed {
+    pub key: Option<Key>,
+    pub text: Name,
+}
+
+/// What the tool knows of a class or an interface (JVMS 4.1). Each list is in file order.
+#[derive(PartialEq, Eq, Debug, Drop)]
+pub struct ClassFacts {
+    pub name: Name,
+    pub major: u16,
+    pub flags: u16,
+    pub superclass: Option<Name>,
+    pub interfaces: Items<Name>,
+    pub fields: Items<Member>,
+    pub methods: Items<Member>,
+    /// The names that PermittedSubclasses gives, where the class has the attribute.
+    pub permits: Option<Items<Name>>,
+    pub nest_host: Option<Name>,
+    pub nest_members: Items<Name>,
+    pub constants: Items<Fixed>,
+    pub signatures: Items<Signed>,
+}

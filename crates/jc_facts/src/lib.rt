@@ -1,0 +1,9 @@
+//! Facts of class files, findings about them, and the definitions that all contracts speak of.
+#![tactic(auto)]
+
+pub mod act;
+pub mod class_facts;
+pub mod finding;
+pub mod head;
+pub mod key;
+pub mod link_error;
