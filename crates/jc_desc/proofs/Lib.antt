@@ -1,0 +1,10 @@
+pub mod Params
+pub mod ClassNames
+pub mod Grammar
+pub mod Again
+pub mod Parts
+pub mod Entries
+pub mod Pools
+pub mod Sound
+pub mod Methods
+pub mod MethodClauses
