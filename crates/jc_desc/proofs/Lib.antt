@@ -1,5 +1,6 @@
 pub mod Params
 pub mod ClassNames
+pub mod Shapes
 pub mod Grammar
 pub mod Again
 pub mod Parts
