@@ -4,6 +4,7 @@ pub mod Shapes
 pub mod Grammar
 pub mod Again
 pub mod Parts
+pub mod Links
 pub mod Entries
 pub mod Pools
 pub mod Sound

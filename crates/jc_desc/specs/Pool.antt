@@ -1,92 +1,64 @@
--- The constant pool.
-use Rattle.std.specs.Prelude.{◌≡◌, ℕ, zero, suc, pred, ◌+◌, ◌-◌, List, [], ◌∷◌, ◌++◌, length, drop, get_or, Option, Some, None, Result, Ok, Err, Bool, true, false, ◌==◌, ◌||◌, ◌&&◌, not, nat_lt, codes, bytes_eq, is_some, if◌then◌else◌}
+-- The constant pool of a class file (JVMS 4.4): what its indices hold, what the indices in an
+-- entry lead to, and what is asked of an entry.
+use Rattle.std.specs.Prelude.{ℕ, ◌+◌, List, [], ◌∷◌, length, drop, get_or, Option, Some, None, Bool, true, false, ◌==◌, ◌||◌, ◌&&◌, not, nat_lt, is_some, if◌then◌else◌}
 use Rattle.byteorder.specs.Endian.{big_number}
-use Rattle.jc_desc.specs.declared.fault.Fault.{Fault}
-use Rattle.jc_desc.specs.declared.fault.Reason.{Reason}
-use Rattle.jc_desc.specs.declared.fault.Reason.TheVariants as reasons
-use Rattle.jc_desc.specs.Faults.{◌>>=◌, fault, number_at, part_at, check, first_fault, unless, or_fault}
-use Rattle.jc_desc.specs.Names.{is_class_name, is_member_name, is_initializer}
+use Rattle.jc_desc.specs.Names.{is_class_name, is_member_name, is_init, is_clinit}
 use Rattle.jc_desc.specs.Reading.{field_of, method_of}
+use Rattle.jc_desc.specs.Tags as tags
 use Rattle.jc_desc.specs.Types.{TypeOf, Method}
-use Rattle.jc_desc.specs.Utf8.{is_text}
 
--- What an index holds: the tag, and the bytes that follow it (of a Utf8 its text alone). Tag 0 holds nothing.
--- `left` says how many bytes of the file were left at the tag.
+-- What an index holds: the tag of an entry and the bytes behind the tag, of a Utf8 its text alone.
+-- Tag 0 holds nothing. `left` says how many bytes of the file are left at the tag, itself counted.
 pub record Slot : Type 0 where
   pub tag : ℕ
   pub body : List ℕ
   pub left : ℕ
 
+-- the major version of the file, and what each index from 0 on holds
 pub record PoolOf : Type 0 where
   pub major : ℕ
   pub slots : List Slot
 
+-- index 0, and the second index of a Long or a Double
 abbrev pub nothing : Slot
 nothing = record { tag = 0; body = []; left = 0 }
+
+-- a major from 45 to 61; from 56 on the minor is 0 or 65535 (JVMS 4.1, table 4.1-A)
+abbrev pub is_version : ℕ → ℕ → Bool
+is_version minor major = not (nat_lt major 45) && not (nat_lt 61 major) && (nat_lt major 56 || minor == 0 || minor == 65535)
 
 -- how many bytes follow the tag of an entry that isn't a Utf8
 abbrev pub body_len : ℕ → Option ℕ
 body_len tag =
-    if tag == 3 || tag == 4 || tag == 9 || tag == 10 || tag == 11 || tag == 12 || tag == 17 || tag == 18 then Some 4
-    else if tag == 5 || tag == 6 then Some 8
-    else if tag == 7 || tag == 8 || tag == 16 || tag == 19 || tag == 20 then Some 2
-    else if tag == 15 then Some 3
+    if tag == tags.integer || tag == tags.float then Some 4
+    else if tag == tags.long || tag == tags.double then Some 8
+    else if tag == tags.class || tag == tags.string || tag == tags.method_type || tag == tags.module_name || tag == tags.package_name then Some 2
+    else if tag == tags.field_ref || tag == tags.method_ref || tag == tags.interface_method_ref || tag == tags.name_and_type || tag == tags.dynamic || tag == tags.invoke_dynamic then Some 4
+    else if tag == tags.method_handle then Some 3
     else None
 
--- a Long or a Double, which takes two indices
+-- a Long or a Double, which takes two indices (JVMS 4.4.5)
 abbrev pub is_wide : ℕ → Bool
-is_wide tag = tag == 5 || tag == 6
+is_wide tag = tag == tags.long || tag == tags.double
 
--- ---- the entries
+-- ---- what the indices in an entry lead to
 
-abbrev pub text_at : List ℕ → Result (List ℕ × List ℕ) Fault
-text_at bytes = do
-  len ← number_at 2 bytes
-  part_at len.0 len.1
-
-abbrev pub sized_at : Option ℕ → ℕ → List ℕ → Result (List ℕ × List ℕ) Fault
-sized_at None left bytes = fault left reasons.BadTag
-sized_at (Some n) left bytes = part_at n bytes
-
--- what follows a tag at which so many bytes were left
-unfoldable pub body_at : ℕ → ℕ → List ℕ → Result (List ℕ × List ℕ) Fault
-body_at left tag bytes = if tag == 1 then text_at bytes else sized_at (body_len tag) left bytes
-
--- an entry, behind which another index of the pool follows or not
-unfoldable pub entry_at : Bool → List ℕ → Result (Slot × List ℕ) Fault
-entry_at follows bytes = do
-  tag ← number_at 1 bytes
-  body ← body_at (length bytes) tag.0 tag.1
-  check (follows || not (is_wide tag.0)) (length bytes) reasons.BadIndex
-    (check (not (tag.0 == 1) || is_text body.0) (length bytes) reasons.BadUtf8
-      (Ok (record { tag = tag.0; body = body.0; left = length bytes }, body.1)))
-
--- what n indices hold, where the first is the second index of a wide entry or begins an entry
-unfoldable pub slots_at : Bool → ℕ → List ℕ → Result (List Slot × List ℕ) Fault
-slots_at second zero bytes = Ok ([], bytes)
-slots_at true (suc n) bytes = do
-  others ← slots_at false n bytes
-  Ok (nothing ∷ others.0, others.1)
-slots_at false (suc n) bytes = do
-  entry ← entry_at (nat_lt 0 n) bytes
-  others ← slots_at (is_wide entry.0.tag) n entry.1
-  Ok (entry.0 ∷ others.0, others.1)
-
--- ---- what the indices of an entry lead to
-
--- the number in the two bytes of a body from place i; 0 where they aren't there
+-- the number in the two bytes of a body from place i on; 0 where they aren't there
 abbrev pub short_in : ℕ → List ℕ → ℕ
 short_in i body = if nat_lt (length body) (i + 2) then 0 else big_number 2 (drop i body)
 
+-- the two indices of an entry
 abbrev pub first : Slot → ℕ
 first s = short_in 0 s.body
 
 abbrev pub second : Slot → ℕ
 second s = short_in 2 s.body
 
+-- what an index holds
 abbrev pub at : List Slot → ℕ → Slot
 at slots i = get_or slots i nothing
 
+-- an index holds an entry of this tag
 abbrev pub holds : List Slot → ℕ → ℕ → Bool
 holds slots tag i = (at slots i).tag == tag
 
@@ -101,27 +73,35 @@ name_of slots s = (at slots (first s)).body
 abbrev pub descriptor_of : List Slot → Slot → List ℕ
 descriptor_of slots s = (at slots (second s)).body
 
--- the NameAndType of a member reference, a Dynamic or an InvokeDynamic
+-- the NameAndType of a reference to a member, a Dynamic or an InvokeDynamic
 abbrev pub pair_of : List Slot → Slot → Slot
 pair_of slots s = at slots (second s)
 
--- ---- first pass over the entries: each index holds an entry of the kind that it has to (JVMS 4.4)
+-- the kind of a MethodHandle, and the index of the member that it uses
+abbrev pub kind_of : Slot → ℕ
+kind_of s = get_or s.body 0 0
+
+abbrev pub target_of : Slot → ℕ
+target_of s = short_in 1 s.body
+
+-- ---- what is asked of an entry's indices
 
 abbrev pub names_one_text : ℕ → Bool
-names_one_text tag = tag == 7 || tag == 8 || tag == 16 || tag == 19 || tag == 20
+names_one_text tag = tag == tags.class || tag == tags.string || tag == tags.method_type || tag == tags.module_name || tag == tags.package_name
 
 abbrev pub is_member_ref : ℕ → Bool
-is_member_ref tag = tag == 9 || tag == 10 || tag == 11
+is_member_ref tag = tag == tags.field_ref || tag == tags.method_ref || tag == tags.interface_method_ref
 
+-- each index holds an entry of the kind that JVMS 4.4.1 to 4.4.12 name for it
 unfoldable pub refers : List Slot → Slot → Bool
 refers slots s =
-    if names_one_text s.tag then holds slots 1 (first s)
-    else if is_member_ref s.tag then holds slots 7 (first s) && holds slots 12 (second s)
-    else if s.tag == 12 then holds slots 1 (first s) && holds slots 1 (second s)
-    else if s.tag == 17 || s.tag == 18 then holds slots 12 (second s)
+    if names_one_text s.tag then holds slots tags.utf8 (first s)
+    else if is_member_ref s.tag then holds slots tags.class (first s) && holds slots tags.name_and_type (second s)
+    else if s.tag == tags.name_and_type then holds slots tags.utf8 (first s) && holds slots tags.utf8 (second s)
+    else if s.tag == tags.dynamic || s.tag == tags.invoke_dynamic then holds slots tags.name_and_type (second s)
     else true
 
--- ---- second pass over the entries: names, descriptors and handles (JVMS 4.4)
+-- ---- what is asked of names, descriptors and handles
 
 abbrev pub is_field : List ℕ → Bool
 is_field bytes = is_some (field_of bytes)
@@ -129,186 +109,58 @@ is_field bytes = is_some (field_of bytes)
 abbrev pub is_method : List ℕ → Bool
 is_method bytes = is_some (method_of bytes)
 
+-- the descriptor of an array
 abbrev pub is_array : List ℕ → Bool
 is_array [] = false
 is_array (b ∷ bs) = b == 91 && is_field (b ∷ bs)
 
+-- the type of a method whose result is void
 abbrev pub no_result : Option Method → Bool
 no_result None = false
 no_result (Some m) = not (is_some m.result)
 
-abbrev pub is_init : List ℕ → Bool
-is_init name = bytes_eq name (codes "<init>")
+-- the name of a Class: of a class, or an array descriptor (JVMS 4.4.1)
+abbrev pub is_class_text : List ℕ → Bool
+is_class_text text = is_class_name text || is_array text
 
--- a reason where the test fails, else the next
-abbrev pub want : Bool → Reason → Option Reason → Option Reason
-want true reason next = next
-want false reason next = Some reason
+-- name and descriptor of a NameAndType, of a field or a method (JVMS 4.4.6)
+abbrev pub is_any_member : List ℕ → List ℕ → Bool
+is_any_member name descriptor = (is_member_name name false || is_member_name name true) && (is_field descriptor || is_method descriptor)
 
-abbrev pub class_fault : List ℕ → Option Reason
-class_fault text = want (is_class_name text || is_array text) reasons.BadName None
+-- name and descriptor of a method that is referred to, in an interface or not (JVMS 4.4.2): no
+-- class initializer, a constructor only of a class, and one that returns nothing
+abbrev pub is_used_method : Bool → List ℕ → List ℕ → Bool
+is_used_method interface name descriptor =
+    is_method descriptor && is_member_name name true && not (is_clinit name)
+    && (not (is_init name) || (not interface && no_result (method_of descriptor)))
 
-abbrev pub pair_fault : List ℕ → List ℕ → Option Reason
-pair_fault name descriptor =
-    want (is_member_name name false || is_member_name name true) reasons.BadName
-      (want (is_field descriptor || is_method descriptor) reasons.BadDescriptor None)
-
-abbrev pub field_fault : List ℕ → Option Reason
-field_fault descriptor = want (is_field descriptor) reasons.BadDescriptor None
-
-abbrev pub shape_fault : List ℕ → Option Reason
-shape_fault descriptor = want (is_method descriptor) reasons.BadDescriptor None
-
--- `interface` where the reference is an InterfaceMethodref
-abbrev pub method_fault : Bool → List ℕ → List ℕ → Option Reason
-method_fault interface name descriptor =
-    want (is_method descriptor) reasons.BadDescriptor
-      (want (is_member_name name true && (is_init name || not (is_initializer name)) && not (interface && is_init name)) reasons.BadName
-        (want (not (is_init name) || no_result (method_of descriptor)) reasons.BadDescriptor None))
-
--- the kinds of member references that a handle of a kind may name
+-- the kinds of references that a handle of a kind may use: fields by kinds 1 to 4, methods by 5 to
+-- 9 (JVMS 4.4.8)
 abbrev pub handle_fits : ℕ → ℕ → Bool
 handle_fits kind tag =
-    if kind == 1 || kind == 2 || kind == 3 || kind == 4 then tag == 9
-    else if kind == 5 || kind == 8 then tag == 10
-    else if kind == 6 || kind == 7 then tag == 10 || tag == 11
-    else if kind == 9 then tag == 11
+    if kind == 1 || kind == 2 || kind == 3 || kind == 4 then tag == tags.field_ref
+    else if kind == 5 || kind == 8 then tag == tags.method_ref
+    else if kind == 6 || kind == 7 then tag == tags.method_ref || tag == tags.interface_method_ref
+    else if kind == 9 then tag == tags.interface_method_ref
     else false
 
-abbrev pub kind_of : Slot → ℕ
-kind_of s = get_or s.body 0 0
+-- kind 8 makes an object by a constructor, and no other kind calls one (JVMS 4.4.8)
+abbrev pub handle_names : ℕ → List ℕ → Bool
+handle_names kind name =
+    if kind == 8 then is_init name
+    else if kind == 5 || kind == 6 || kind == 7 || kind == 9 then not (is_init name)
+    else true
 
-abbrev pub target_of : Slot → ℕ
-target_of s = short_in 1 s.body
-
-abbrev pub handle_fault : ℕ → ℕ → List ℕ → Option Reason
-handle_fault kind tag name =
-    want (handle_fits kind tag) reasons.BadIndex
-      (want (if kind == 8 then is_init name else if kind == 5 || kind == 6 || kind == 7 || kind == 9 then not (is_init name) else true) reasons.BadName None)
-
-unfoldable pub meaning_fault : List Slot → Slot → Option Reason
-meaning_fault slots s =
-    if s.tag == 7 then class_fault (text_of slots s)
-    else if s.tag == 12 then pair_fault (name_of slots s) (descriptor_of slots s)
-    else if s.tag == 9 then field_fault (descriptor_of slots (pair_of slots s))
-    else if s.tag == 10 || s.tag == 11 then method_fault (s.tag == 11) (name_of slots (pair_of slots s)) (descriptor_of slots (pair_of slots s))
-    else if s.tag == 15 then handle_fault (kind_of s) (at slots (target_of s)).tag (name_of slots (pair_of slots (at slots (target_of s))))
-    else if s.tag == 16 then shape_fault (text_of slots s)
-    else if s.tag == 18 then shape_fault (descriptor_of slots (pair_of slots s))
-    else if s.tag == 17 then field_fault (descriptor_of slots (pair_of slots s))
-    else None
-
-abbrev pub stands : Slot → Option Reason → Option Fault
-stands s None = None
-stands s (Some reason) = Some (record { left = s.left; reason = reason })
-
-abbrev pub reference_fault : List Slot → Slot → Option Fault
-reference_fault slots s = stands s (want (refers slots s) reasons.BadIndex None)
-
-abbrev pub sense_fault : List Slot → Slot → Option Fault
-sense_fault slots s = stands s (meaning_fault slots s)
-
--- the first fault of both passes
-abbrev pub links_fault : List Slot → Option Fault
-links_fault slots = or_fault (first_fault (reference_fault slots) slots) (first_fault (sense_fault slots) slots)
-
--- ---- the whole of it
-
-abbrev pub is_version : ℕ → ℕ → Bool
-is_version minor major = not (nat_lt major 45) && not (nat_lt 61 major) && (nat_lt major 56 || minor == 0 || minor == 65535)
-
--- magic and version: the major
-unfoldable pub start_at : List ℕ → Result (ℕ × List ℕ) Fault
-start_at bytes = do
-  magic ← number_at 4 bytes
-  minor ← check (magic.0 == 0xcafe_babe) (length bytes) reasons.BadMagic (number_at 2 magic.1)
-  major ← number_at 2 minor.1
-  check (is_version minor.0 major.0) (length magic.1) reasons.BadVersion (Ok (major.0, major.1))
-
-abbrev pub linked : ℕ → List Slot → List ℕ → Result (PoolOf × List ℕ) Fault
-linked major slots rest = unless (links_fault slots) (Ok (record { major = major; slots = slots }, rest))
-
-unfoldable pub pool_at : List ℕ → Result (PoolOf × List ℕ) Fault
-pool_at bytes = do
-  start ← start_at bytes
-  count ← number_at 2 start.1
-  slots ← slots_at false (count.0 - 1) count.1
-  linked start.0 (nothing ∷ slots.0) slots.1
-
--- ---- what a pool answers
-
--- a value where the test holds
-abbrev pub some_if : {A : Type 0} → Bool → A → Option A
-some_if true x = Some x
-some_if false x = None
-
-abbrev pub tag_in : PoolOf → ℕ → Option ℕ
-tag_in pool i = some_if (not ((at pool.slots i).tag == 0)) (at pool.slots i).tag
-
-abbrev pub utf8_in : PoolOf → ℕ → Option (List ℕ)
-utf8_in pool i = some_if (holds pool.slots 1 i) (at pool.slots i).body
-
-abbrev pub class_in : PoolOf → ℕ → Option (List ℕ)
-class_in pool i = some_if (holds pool.slots 7 i) (text_of pool.slots (at pool.slots i))
-
-pub record MemberRefOf : Type 0 where
-  pub tag : ℕ
-  pub class : List ℕ
-  pub name : List ℕ
-  pub descriptor : List ℕ
-
-abbrev pub member_of : List Slot → Slot → MemberRefOf
-member_of slots s = record {
-  tag = s.tag;
-  class = text_of slots (at slots (first s));
-  name = name_of slots (pair_of slots s);
-  descriptor = descriptor_of slots (pair_of slots s);
-}
-
-abbrev pub member_ref_in : PoolOf → ℕ → Option MemberRefOf
-member_ref_in pool i = some_if (is_member_ref (at pool.slots i).tag) (member_of pool.slots (at pool.slots i))
-
-pub record HandleRefOf : Type 0 where
-  pub kind : ℕ
-  pub member : MemberRefOf
-
-abbrev pub handle_in : PoolOf → ℕ → Option HandleRefOf
-handle_in pool i = some_if (holds pool.slots 15 i) (record { kind = kind_of (at pool.slots i); member = member_of pool.slots (at pool.slots (target_of (at pool.slots i))) })
-
-abbrev pub dynamic_in : PoolOf → ℕ → Option ℕ
-dynamic_in pool i = some_if (holds pool.slots 17 i || holds pool.slots 18 i) (first (at pool.slots i))
-
-pub data ConstantOf : Type 0 where
-  int : ℕ → ConstantOf
-  float : ℕ → ConstantOf
-  long : ℕ → ConstantOf
-  double : ℕ → ConstantOf
-  text : List ℕ → ConstantOf
-
-abbrev pub word_in : List ℕ → ℕ
-word_in body = if nat_lt (length body) 4 then 0 else big_number 4 body
-
-abbrev pub double_word_in : List ℕ → ℕ
-double_word_in body = if nat_lt (length body) 8 then 0 else big_number 8 body
-
-abbrev pub constant_of : List Slot → Slot → Option ConstantOf
-constant_of slots s =
-    if s.tag == 3 then Some (int (word_in s.body))
-    else if s.tag == 4 then Some (float (word_in s.body))
-    else if s.tag == 5 then Some (long (double_word_in s.body))
-    else if s.tag == 6 then Some (double (double_word_in s.body))
-    else if s.tag == 8 then Some (text (text_of slots s))
-    else None
-
-abbrev pub constant_in : PoolOf → ℕ → Option ConstantOf
-constant_in pool i = constant_of pool.slots (at pool.slots i)
-
--- ---- the whole bytes
-
--- the bytes begin with a pool, which ends at this offset
-abbrev pub ReadsPool : List ℕ → PoolOf → ℕ → Type 0
-ReadsPool bytes pool offset = (rest : List ℕ) × (pool_at bytes ≡ Ok (pool, rest)) × (offset ≡ length bytes - length rest)
-
--- the first fault of the bytes up to the end of the pool
-abbrev pub PoolFaulty : List ℕ → ℕ → Reason → Type 0
-PoolFaulty bytes offset reason = (f : Fault) × (pool_at bytes ≡ Err f) × (offset ≡ length bytes - f.left) × (reason ≡ f.reason)
+-- what an entry names has the form that JVMS 4.4.1 to 4.4.10 ask for
+unfoldable pub is_meaningful : List Slot → Slot → Bool
+is_meaningful slots s =
+    if s.tag == tags.class then is_class_text (text_of slots s)
+    else if s.tag == tags.name_and_type then is_any_member (name_of slots s) (descriptor_of slots s)
+    else if s.tag == tags.field_ref then is_field (descriptor_of slots (pair_of slots s))
+    else if s.tag == tags.method_ref then is_used_method false (name_of slots (pair_of slots s)) (descriptor_of slots (pair_of slots s))
+    else if s.tag == tags.interface_method_ref then is_used_method true (name_of slots (pair_of slots s)) (descriptor_of slots (pair_of slots s))
+    else if s.tag == tags.method_handle then handle_fits (kind_of s) (at slots (target_of s)).tag && handle_names (kind_of s) (name_of slots (pair_of slots (at slots (target_of s))))
+    else if s.tag == tags.method_type then is_method (text_of slots s)
+    else if s.tag == tags.dynamic then is_field (descriptor_of slots (pair_of slots s))
+    else if s.tag == tags.invoke_dynamic then is_method (descriptor_of slots (pair_of slots s))
+    else true
