@@ -1,6 +1,6 @@
 -- Worlds of heads: what a client that names a class meets, over the names and flags of classes alone. A head stands for any class
 -- of them that extends java/lang/Object, names no interface and permits no subclasses.
-use Rattle.std.specs.Prelude.{Bool, not, List, [], ◌∷◌, ◌++◌, length, Option, None, Some, ◌≡◌, ◌||◌, ◌&&◌, nat_le, cond, if◌then◌else◌, IsTrue}
+use Rattle.std.specs.Prelude.{Bool, not, List, [], ◌∷◌, ◌++◌, length, Option, None, Some, ◌≡◌, ◌||◌, ◌&&◌, nat_le, if◌then◌else◌, IsTrue}
 use Rattle.std.specs.List.{list_any, All, Contains}
 use Rattle.std.specs.Str.{is_utf8}
 use Rattle.jc_facts.specs.declared.head.Head.{Head}
@@ -48,6 +48,10 @@ is_allowed_beside side x =
 pub record AreClients (platform old new clients : List Head) : Type 0 where
   pub allowed_old : All (λ c. IsTrue (is_allowed_beside (platform ++ old) c.name)) clients
   pub allowed_new : All (λ c. IsTrue (is_allowed_beside (platform ++ new) c.name)) clients
+
+-- no class of the release has the name of one of the platform
+abbrev pub AreApart : List Head → List Head → Type 0
+AreApart platform release = (h : Head) → Contains release h → head_named platform h.name ≡ None
 
 -- Whatever clients there are, each naming of a class that is Ok with the old release is Ok with the new.
 abbrev pub KeepsClasses : List Head → List Head → List Head → Type 0
