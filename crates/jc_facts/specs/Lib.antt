@@ -4,3 +4,4 @@ pub mod Types
 pub mod Exact
 pub mod Heads
 pub mod Gone
+pub mod Text
