@@ -5,3 +5,6 @@ pub mod Pieces
 pub mod Pool
 pub mod ClassFile
 pub mod FirstForm
+pub mod Exact
+pub mod Heads
+pub mod Gone

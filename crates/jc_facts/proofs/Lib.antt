@@ -1,0 +1,5 @@
+pub mod Same
+pub mod Listed
+pub mod Apart
+pub mod Exact
+pub mod Heads
