@@ -3,3 +3,4 @@ pub mod Places
 pub mod Listings
 pub mod FrontRead
 pub mod TreeRead
+pub mod ThreeTrees

@@ -121,28 +121,28 @@ IsVerdict words files findings = (sides : Sides words files) × AreFindings side
 
 -- the whole output of the findings was put, and nothing to the error stream
 pub record Reports (findings : List Finding) (out err : Took) : Type 0 where
-  pub out : TakesAll out.before out.after (output_of findings)
-  pub err : err.after ≡ err.before
+  pub output : TakesAll out.before out.after (output_of findings)
+  pub errors : err.after ≡ err.before
 
 -- it stopped for this cause: its line was put to the error stream, and nothing to the output
 pub record Refuses (g : Given) (stop : Stop) (out err : Took) : Type 0 where
   pub cause : HasCause g stop
-  pub out : out.after ≡ out.before
-  pub err : TakesAll err.before err.after (line_of stop)
+  pub output : out.after ≡ out.before
+  pub errors : TakesAll err.before err.after (line_of stop)
 
 -- a verdict was due: a front of its output was put, and nothing to the error stream; a failed put was one on the output
 pub record CutsReport (g : Given) (findings : List Finding) (out err : Took) (status : ℕ) : Type 0 where
   pub due : Told g.content (λ files. IsVerdict g.words files findings)
-  pub out : TakesFront out.before out.after (output_of findings)
-  pub err : err.after ≡ err.before
+  pub output : TakesFront out.before out.after (output_of findings)
+  pub errors : err.after ≡ err.before
   pub cause : status ≡ 5 → Rose out.faults_before out.faults_after
 
 -- a refusal was due, or there was no memory, which has no line: a front of the line was put, and nothing to the output; a failed put was
 -- one on the error stream
 pub record CutsRefusal (g : Given) (stop : Stop) (out err : Took) (status : ℕ) : Type 0 where
   pub due : HasCause g stop
-  pub out : out.after ≡ out.before
-  pub err : TakesFront err.before err.after (line_of stop)
+  pub output : out.after ≡ out.before
+  pub errors : TakesFront err.before err.after (line_of stop)
   pub cause : status ≡ 5 → Rose err.faults_before err.faults_after
 
 -- a put failed, or there was no memory

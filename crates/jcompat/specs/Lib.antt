@@ -5,3 +5,5 @@ pub mod Stop
 pub mod Classes
 pub mod Survey
 pub mod Answers
+pub mod Check
+pub mod Written

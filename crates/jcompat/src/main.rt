@@ -1,8 +1,11 @@
 //! Says whether clients that were compiled against an old release of a library link with a new one.
 #![tactic(auto)]
 
+mod check;
 mod classes;
 mod put;
+mod report;
+mod run;
 mod words;
 mod stop;
 mod survey;
