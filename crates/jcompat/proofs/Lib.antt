@@ -4,3 +4,4 @@ pub mod Listings
 pub mod FrontRead
 pub mod TreeRead
 pub mod ThreeTrees
+pub mod Events
