@@ -12,3 +12,6 @@ mod members;
 mod pool;
 
 // pub use class::read_head;
+
+#[cfg(test)]
+mod tests;
