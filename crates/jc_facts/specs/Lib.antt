@@ -8,3 +8,4 @@ pub mod FirstForm
 pub mod Exact
 pub mod Heads
 pub mod Gone
+pub mod Text
