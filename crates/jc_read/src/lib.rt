@@ -10,5 +10,6 @@ mod entry;
 mod flags;
 mod members;
 mod pool;
+
 #[cfg(test)]
 mod tests;

@@ -1,1 +1,5 @@
 pub mod Puts
+pub mod Places
+pub mod Listings
+pub mod FrontRead
+pub mod TreeRead

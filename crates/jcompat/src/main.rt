@@ -1,9 +1,11 @@
 //! Says whether clients that were compiled against an old release of a library link with a new one.
 #![tactic(auto)]
 
+mod classes;
 mod put;
 mod words;
 mod stop;
+mod survey;
 mod text;
 mod tree;
 
