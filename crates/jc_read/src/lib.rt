@@ -10,4 +10,5 @@ mod entry;
 mod flags;
 mod members;
 mod pool;
-
+#[cfg(test)]
+mod tests;
