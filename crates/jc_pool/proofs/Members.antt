@@ -1,5 +1,5 @@
 -- Members and handles that a pool answers have the form that is asked for.
-use Rattle.std.proofs.Common.{◌≡◌, ◌≢◌, ℕ, Bool, true, false, ◌&&◌, ◌||◌, nat_eq, List, Some, refl, sym, ap, subst, ◌∙◌, arith, ◌⊎◌, inl, inr}
+use Rattle.std.proofs.Common.{◌≡◌, ◌≢◌, ℕ, Bool, true, false, ◌&&◌, ◌||◌, nat_eq, List, Some, refl, sym, subst, ◌∙◌, arith, ◌⊎◌, inl, inr}
 use Rattle.std.proofs.lemmas.Bool.{eqb-true}
 use Rattle.std.proofs.lemmas.Bool.Decides.{nat_tests}
 use Rattle.jc_desc.specs.Pool.{Slot, PoolOf, at, first, second, holds, text_of, name_of, descriptor_of, pair_of, kind_of, target_of, refers, is_member_ref, is_meaningful, is_class_text, is_any_member, is_field, is_used_method, handle_fits, handle_names}
@@ -21,11 +21,12 @@ one_of_three tag h = go (nat_eq tag 9) (nat_eq tag 10) (nat_eq tag 11) refl refl
 leads : (slots : List Slot) (s : Slot) → is_member_ref s.tag ≡ true → refers slots s ≡ true → (holds slots 7 (first s) ≡ true) × (holds slots 12 (second s) ≡ true)
 unfolding refers
 leads slots s r h = elim (one_of_three s.tag r) [
-    | inl t ↦ both (holds slots 7 (first s)) (holds slots 12 (second s)) (rw t at h)
-    | inr o ↦ elim o [
+  | inl t ↦ both (holds slots 7 (first s)) (holds slots 12 (second s)) (rw t at h)
+  | inr o ↦ elim o [
     | inl t ↦ both (holds slots 7 (first s)) (holds slots 12 (second s)) (rw t at h)
     | inr t ↦ both (holds slots 7 (first s)) (holds slots 12 (second s)) (rw t at h)
-    ] ]
+  ]
+]
 
 class_means : (slots : List Slot) (c : Slot) → c.tag ≡ 7 → is_meaningful slots c ≡ true → is_class_text (text_of slots c) ≡ true
 unfolding is_meaningful

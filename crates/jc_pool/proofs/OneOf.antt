@@ -1,10 +1,8 @@
 -- Either one pool is read, or one fault is met.
 use Rattle.std.proofs.Common.{◌≡◌, ℕ, ◌-◌, List, length, Result, Ok, Err, refl, sym, ap, ◌∙◌, ◌⊎◌, inl, inr}
 use Rattle.jc_desc.specs.declared.fault.Fault.{Fault}
-use Rattle.jc_desc.specs.declared.fault.Reason.{Reason}
 use Rattle.jc_desc.specs.Pool.{PoolOf}
-use Rattle.jc_desc.specs.PoolGrammar.{ReadsPool}
-use Rattle.jc_desc.specs.PoolSteps.{pool_at, PoolFaulty}
+use Rattle.jc_desc.specs.PoolSteps.{pool_at}
 use Rattle.jc_desc.proofs.Pools.{pool_is, pool_again}
 use Rattle.jc_pool.specs.Law.{ReadsOne, HasOneFault}
 

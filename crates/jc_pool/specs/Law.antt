@@ -1,5 +1,5 @@
 -- What is said of every list of bytes: it begins with one pool, or it has one first fault.
-use Rattle.std.specs.Prelude.{◌≡◌, ℕ, Bool, true, false, List, ◌∷◌, ◌++◌, length}
+use Rattle.std.specs.Prelude.{◌≡◌, ℕ, true, false, List, ◌∷◌, ◌++◌, length}
 use Rattle.jc_desc.specs.declared.fault.Reason.{Reason}
 use Rattle.jc_desc.specs.Pool.{Slot, PoolOf, is_class_text, is_any_member, is_field, is_used_method, handle_fits, handle_names}
 use Rattle.jc_desc.specs.PoolAnswers.{MemberRefOf, HandleRefOf}

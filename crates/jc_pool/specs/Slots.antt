@@ -1,5 +1,5 @@
 -- Entries without where they lie in memory, and what a reader gives.
-use Rattle.std.specs.Prelude.{◌≡◌, ℕ, List, [], ◌∷◌, ◌++◌, map, Result, Ok, Err, false}
+use Rattle.std.specs.Prelude.{ℕ, List, [], ◌∷◌, ◌++◌, map, Result, Ok, false}
 use Rattle.jc_desc.specs.declared.fault.Fault.{Fault}
 use Rattle.jc_desc.specs.Faults.{◌>>=◌}
 use Rattle.jc_desc.specs.Pool as pool

@@ -66,7 +66,10 @@ fn body_at(left: usize, tag: u8, bytes: &[u8]) -> Result<(&[u8], &[u8]), Fault>
         return text_at(bytes);
     }
     match body_len(tag) {
-        None => Err(Fault { left, reason: Reason::BadTag }),
+        None => Err(Fault {
+            left,
+            reason: Reason::BadTag,
+        }),
         Some(len) => bytes_at(len, bytes),
     }
 }
@@ -79,10 +82,16 @@ fn entry_at(follows: bool, bytes: &[u8]) -> Result<(Slot<'_>, &[u8]), Fault>
     let (tag, rest) = u8_at(bytes)?;
     let (body, rest) = body_at(left, tag, rest)?;
     if !follows && is_wide(tag) {
-        return Err(Fault { left, reason: Reason::BadIndex });
+        return Err(Fault {
+            left,
+            reason: Reason::BadIndex,
+        });
     }
     if tag == tags::UTF8 && !is_text(body) {
-        return Err(Fault { left, reason: Reason::BadUtf8 });
+        return Err(Fault {
+            left,
+            reason: Reason::BadUtf8,
+        });
     }
     Ok((Slot { tag, body, left }, rest))
 }

@@ -11,3 +11,5 @@ pub mod tags;
 
 pub use jc_desc::fault::{Malformed, Reason};
 
+#[cfg(test)]
+mod tests;

@@ -49,14 +49,22 @@ pub(crate) fn target(slot: Slot<'_>) -> u16
 pub(crate) fn kind(slot: Slot<'_>) -> u8
     ensures { result ≡ kind_in (slot_of slot.entry) }
 {
-    if slot.body.is_empty() { 0 } else { slot.body[0] }
+    if slot.body.is_empty() {
+        0
+    } else {
+        slot.body[0]
+    }
 }
 
 /// What an index holds.
 pub(crate) fn at<'a>(slots: &[Slot<'a>], index: u16) -> Slot<'a>
     ensures { slot_of result ≡ at_of (slots_of slots.now) index }
 {
-    if (index as usize) < slots.len() { slots[index as usize] } else { NOTHING }
+    if (index as usize) < slots.len() {
+        slots[index as usize]
+    } else {
+        NOTHING
+    }
 }
 
 fn holds(slots: &[Slot<'_>], tag: u8, index: u16) -> bool
@@ -112,7 +120,8 @@ fn refers(slots: &[Slot<'_>], slot: Slot<'_>) -> bool
         return holds(slots, tags::UTF8, first(slot));
     }
     if is_member_ref(slot.tag) {
-        return holds(slots, tags::CLASS, first(slot)) && holds(slots, tags::NAME_AND_TYPE, second(slot));
+        return holds(slots, tags::CLASS, first(slot))
+            && holds(slots, tags::NAME_AND_TYPE, second(slot));
     }
     if slot.tag == tags::NAME_AND_TYPE {
         return holds(slots, tags::UTF8, first(slot)) && holds(slots, tags::UTF8, second(slot));
@@ -148,7 +157,11 @@ fn is_array(bytes: &[u8]) -> bool
 fn class_fault(text: &[u8]) -> Option<Reason>
     ensures { result ≡ class_fault_of text.now }
 {
-    if is_class_name(text) || is_array(text) { None } else { Some(Reason::BadName) }
+    if is_class_name(text) || is_array(text) {
+        None
+    } else {
+        Some(Reason::BadName)
+    }
 }
 
 fn pair_fault(name: &[u8], descriptor: &[u8]) -> Option<Reason>
@@ -215,13 +228,21 @@ fn handle_fault(kind: u8, tag: u8, name: &[u8]) -> Option<Reason>
 fn field_fault(descriptor: &[u8]) -> Option<Reason>
     ensures { result ≡ field_fault_of descriptor.now }
 {
-    if is_field(descriptor) { None } else { Some(Reason::BadDescriptor) }
+    if is_field(descriptor) {
+        None
+    } else {
+        Some(Reason::BadDescriptor)
+    }
 }
 
 fn shape_fault(descriptor: &[u8]) -> Option<Reason>
     ensures { result ≡ shape_fault_of descriptor.now }
 {
-    if is_method(descriptor) { None } else { Some(Reason::BadDescriptor) }
+    if is_method(descriptor) {
+        None
+    } else {
+        Some(Reason::BadDescriptor)
+    }
 }
 
 /// The first reason against what an entry names.
@@ -257,7 +278,10 @@ fn first_reference_fault(slots: &[Slot<'_>]) -> Option<Fault>
 {
     for slot in slots {
         if !refers(slots, *slot) {
-            return Some(Fault { left: slot.left, reason: Reason::BadIndex });
+            return Some(Fault {
+                left: slot.left,
+                reason: Reason::BadIndex,
+            });
         }
     }
     None
@@ -268,7 +292,10 @@ fn first_sense_fault(slots: &[Slot<'_>]) -> Option<Fault>
 {
     for slot in slots {
         if let Some(reason) = meaning(slots, *slot) {
-            return Some(Fault { left: slot.left, reason });
+            return Some(Fault {
+                left: slot.left,
+                reason,
+            });
         }
     }
     None

@@ -77,13 +77,21 @@ pub enum PoolConstant<'a> {
 fn word_in(body: &[u8]) -> u32
     ensures { result ≡ word_in_body body.now }
 {
-    if body.len() < 4 { 0 } else { BigEndian::read_u32(body) }
+    if body.len() < 4 {
+        0
+    } else {
+        BigEndian::read_u32(body)
+    }
 }
 
 fn double_word_in(body: &[u8]) -> u64
     ensures { result ≡ double_word_in_body body.now }
 {
-    if body.len() < 8 { 0 } else { BigEndian::read_u64(body) }
+    if body.len() < 8 {
+        0
+    } else {
+        BigEndian::read_u64(body)
+    }
 }
 
 fn member<'a>(slots: &[Slot<'a>], slot: Slot<'a>) -> MemberRef<'a>
@@ -161,7 +169,11 @@ impl<'a> Pool<'a> {
         ensures { option_map (λ text. text.now) result ≡ utf8_in self.now index }
     {
         let slot = at(self.slots.as_slice(), index);
-        if slot.tag == tags::UTF8 { Some(slot.body) } else { None }
+        if slot.tag == tags::UTF8 {
+            Some(slot.body)
+        } else {
+            None
+        }
     }
 
     /// The name of a Class, or its array descriptor. None exactly where the index holds no Class.
@@ -169,7 +181,11 @@ impl<'a> Pool<'a> {
         ensures { option_map (λ text. text.now) result ≡ class_in self.now index }
     {
         let slot = at(self.slots.as_slice(), index);
-        if slot.tag == tags::CLASS { Some(text(self.slots.as_slice(), slot)) } else { None }
+        if slot.tag == tags::CLASS {
+            Some(text(self.slots.as_slice(), slot))
+        } else {
+            None
+        }
     }
 
     /// The member that a Fieldref, Methodref or InterfaceMethodref names. None exactly where the
@@ -206,7 +222,11 @@ impl<'a> Pool<'a> {
         ensures { result ≡ dynamic_in self.now index }
     {
         let slot = at(self.slots.as_slice(), index);
-        if slot.tag == tags::DYNAMIC || slot.tag == tags::INVOKE_DYNAMIC { Some(first(slot)) } else { None }
+        if slot.tag == tags::DYNAMIC || slot.tag == tags::INVOKE_DYNAMIC {
+            Some(first(slot))
+        } else {
+            None
+        }
     }
 
     /// The constant of an Integer, Float, Long, Double or String. None exactly where the index

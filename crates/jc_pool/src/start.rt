@@ -8,7 +8,9 @@ use jc_desc::bytes::{u16_at, u32_at};
 use jc_desc::fault::{Fault, Reason};
 
 const MAGIC: u32 = 0xcafe_babe;
+
 const OLDEST_MAJOR: u16 = 45;
+
 const NEWEST_MAJOR: u16 = 61;
 
 /// From this major on the minor is 0, or 65535 for a class that depends on preview features.

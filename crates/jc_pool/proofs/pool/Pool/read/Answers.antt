@@ -1,4 +1,4 @@
-use Rattle.std.proofs.Common.{◌≡◌, List, ℕ, length, ◌-◌, Ok, sym, arith}
+use Rattle.std.proofs.Common.{sym}
 use Rattle.jc_desc.proofs.Pools.{pool_is}
 use Rattle.jc_pool.proofs.pool.Pool.read.Goals as goal
 
