@@ -3,7 +3,10 @@
 
 pub mod act;
 pub mod class_facts;
+pub mod client;
 pub mod finding;
 pub mod head;
 pub mod key;
 pub mod link_error;
+pub mod outcome;
+pub mod verdict;

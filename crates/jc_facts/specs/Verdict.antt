@@ -1,0 +1,22 @@
+-- The verdict on a new release: its findings, collisions and notes.
+--     IsVerdict O N v      v is the verdict on the new side N, after the old side O
+use Rattle.std.specs.Prelude.{Bool, List, [], ◌∷◌, true, false}
+use Rattle.jc_facts.specs.declared.verdict.Verdict.{Verdict}
+use Rattle.jc_facts.specs.World.{World}
+use Rattle.jc_facts.specs.Findings.{Stands}
+use Rattle.jc_facts.specs.Collisions.{CollisionStands}
+use Rattle.jc_facts.specs.Notes.{NoteStands}
+use Rattle.jc_facts.specs.Orders.{finding_order, collision_order, note_order, IsExact}
+
+-- the verdict has each finding, each collision and each note that stands once, in order, and no other
+pub record IsVerdict (O N : World) (v : Verdict) : Type 0 where
+  pub findings : IsExact finding_order (Stands O N) v.findings
+  pub collisions : IsExact collision_order (CollisionStands O N) v.collisions
+  pub notes : IsExact note_order (NoteStands O N) v.notes
+
+-- there is a finding
+abbrev pub is_incompatible : Verdict → Bool
+is_incompatible v = some_of v.findings where
+  some_of : {A : Type 0} → List A → Bool
+  some_of [] = false
+  some_of (x ∷ xs) = true
