@@ -1,6 +1,6 @@
 -- The outcome of an item of a class that loads (JVMS 5.4.3, 5.4.4, 6.5).
 --     outcome W x i      none where the item i of the class x is Ok, or the error of the first step that fails
-use Rattle.std.specs.Prelude.{Bool, true, false, not, cond, List, [], ◌∷◌, Option, None, Some, ◌==◌, ◌||◌, ◌&&◌, codes, ◌≡◌}
+use Rattle.std.specs.Prelude.{Bool, true, false, not, cond, List, [], ◌∷◌, Option, None, Some, ◌||◌, ◌&&◌, codes, ◌≡◌}
 use Rattle.jc_facts.specs.declared.key.Key.{Key}
 use Rattle.jc_facts.specs.declared.act.Act.{Act}
 use Rattle.jc_facts.specs.declared.act.Act.TheVariants.{PutStatic, PutField}
@@ -12,7 +12,7 @@ use Rattle.jc_facts.specs.declared.link_error.LinkError.{LinkError}
 use Rattle.jc_facts.specs.declared.link_error.LinkError.TheVariants.{NoClassDefFoundError, IllegalAccessError, IncompatibleClassChangeError, NoSuchFieldError, NoSuchMethodError, InstantiationError, VerifyError}
 use Rattle.jc_facts.specs.Names.{Bytes, same, is_among}
 use Rattle.jc_facts.specs.Flags.{is_static, is_instance, is_final, is_interface, is_abstract}
-use Rattle.jc_facts.specs.Types.{Element, Primitive, Class, TypeText, read_type}
+use Rattle.jc_facts.specs.Types.{Element, Primitive, Class, TypeText, read_type, is_array}
 use Rattle.jc_facts.specs.Options.{or_else, and_then, some_and}
 use Rattle.jc_facts.specs.World.{World, find, Found}
 use Rattle.jc_facts.specs.Hierarchy.{in_chain}
@@ -41,15 +41,6 @@ type_fault W x (Some a) = element_fault W x a.element
 -- the same of the class that a type text names
 unfoldable pub class_step : World → Bytes → Bytes → Option LinkError
 class_step W x t = type_fault W x (read_type t)
-
--- the type is an array
-abbrev pub is_array_type : Option TypeText → Bool
-is_array_type None = true
-is_array_type (Some a) = not (a.dims == 0)
-
--- the text is that of an array
-abbrev pub is_array : Bytes → Bool
-is_array t = is_array_type (read_type t)
 
 -- ---- lookup
 
