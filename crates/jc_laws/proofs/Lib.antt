@@ -45,3 +45,6 @@ pub mod Sound
 pub mod Relation
 pub mod Itself
 pub mod Staged
+pub mod Examples
+pub mod WorkedExamples
+pub mod WorkedClients
