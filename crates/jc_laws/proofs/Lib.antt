@@ -5,6 +5,7 @@ pub mod Depth
 pub mod Loaded
 pub mod Locality
 pub mod Agree
+pub mod Agreement
 pub mod Sides
 pub mod Allowed
 pub mod Above
