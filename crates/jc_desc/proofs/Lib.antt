@@ -1,0 +1,13 @@
+pub mod Params
+pub mod ClassNames
+pub mod Shapes
+pub mod Grammar
+pub mod Again
+pub mod Apart
+pub mod Parts
+pub mod Links
+pub mod Entries
+pub mod Pools
+pub mod Sound
+pub mod Methods
+pub mod MethodClauses

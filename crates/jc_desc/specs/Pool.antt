@@ -1,0 +1,166 @@
+-- The constant pool of a class file (JVMS 4.4): what its indices hold, what the indices in an
+-- entry lead to, and what is asked of an entry.
+use Rattle.std.specs.Prelude.{ℕ, ◌+◌, List, [], ◌∷◌, length, drop, get_or, Option, Some, None, Bool, true, false, ◌==◌, ◌||◌, ◌&&◌, not, nat_lt, is_some, if◌then◌else◌}
+use Rattle.byteorder.specs.Endian.{big_number}
+use Rattle.jc_desc.specs.Names.{is_class_name, is_member_name, is_init, is_clinit}
+use Rattle.jc_desc.specs.Reading.{field_of, method_of}
+use Rattle.jc_desc.specs.Tags as tags
+use Rattle.jc_desc.specs.Types.{Method}
+
+-- What an index holds: the tag of an entry and the bytes behind the tag, of a Utf8 its text alone.
+-- Tag 0 holds nothing. `left` says how many bytes of the file are left at the tag, itself counted.
+pub record Slot : Type 0 where
+  pub tag : ℕ
+  pub body : List ℕ
+  pub left : ℕ
+
+-- the major version of the file, and what each index from 0 on holds
+pub record PoolOf : Type 0 where
+  pub major : ℕ
+  pub slots : List Slot
+
+-- index 0, and the second index of a Long or a Double
+abbrev pub nothing : Slot
+nothing = record { tag = 0; body = []; left = 0 }
+
+-- a major from 45 to 61; from 56 on the minor is 0 or 65535 (JVMS 4.1, table 4.1-A)
+abbrev pub is_version : ℕ → ℕ → Bool
+is_version minor major = not (nat_lt major 45) && not (nat_lt 61 major) && (nat_lt major 56 || minor == 0 || minor == 65535)
+
+-- how many bytes follow the tag of an entry that isn't a Utf8
+abbrev pub body_len : ℕ → Option ℕ
+body_len tag =
+    if tag == tags.integer || tag == tags.float then Some 4
+    else if tag == tags.long || tag == tags.double then Some 8
+    else if tag == tags.class || tag == tags.string || tag == tags.method_type || tag == tags.module_name || tag == tags.package_name then Some 2
+    else if tag == tags.field_ref || tag == tags.method_ref || tag == tags.interface_method_ref || tag == tags.name_and_type || tag == tags.dynamic || tag == tags.invoke_dynamic then Some 4
+    else if tag == tags.method_handle then Some 3
+    else None
+
+-- a Long or a Double, which takes two indices (JVMS 4.4.5)
+abbrev pub is_wide : ℕ → Bool
+is_wide tag = tag == tags.long || tag == tags.double
+
+-- ---- what the indices in an entry lead to
+
+-- the number in the two bytes of a body from place i on; 0 where they aren't there
+abbrev pub short_in : ℕ → List ℕ → ℕ
+short_in i body = if nat_lt (length body) (i + 2) then 0 else big_number 2 (drop i body)
+
+-- the two indices of an entry
+abbrev pub first : Slot → ℕ
+first s = short_in 0 s.body
+
+abbrev pub second : Slot → ℕ
+second s = short_in 2 s.body
+
+-- what an index holds
+abbrev pub at : List Slot → ℕ → Slot
+at slots i = get_or slots i nothing
+
+-- an index holds an entry of this tag
+abbrev pub holds : List Slot → ℕ → ℕ → Bool
+holds slots tag i = (at slots i).tag == tag
+
+-- the text that a Class, String, MethodType, Module or Package names
+abbrev pub text_of : List Slot → Slot → List ℕ
+text_of slots s = (at slots (first s)).body
+
+-- name and descriptor of a NameAndType
+abbrev pub name_of : List Slot → Slot → List ℕ
+name_of slots s = (at slots (first s)).body
+
+abbrev pub descriptor_of : List Slot → Slot → List ℕ
+descriptor_of slots s = (at slots (second s)).body
+
+-- the NameAndType of a reference to a member, a Dynamic or an InvokeDynamic
+abbrev pub pair_of : List Slot → Slot → Slot
+pair_of slots s = at slots (second s)
+
+-- the kind of a MethodHandle, and the index of the member that it uses
+abbrev pub kind_of : Slot → ℕ
+kind_of s = get_or s.body 0 0
+
+abbrev pub target_of : Slot → ℕ
+target_of s = short_in 1 s.body
+
+-- ---- what is asked of an entry's indices
+
+abbrev pub names_one_text : ℕ → Bool
+names_one_text tag = tag == tags.class || tag == tags.string || tag == tags.method_type || tag == tags.module_name || tag == tags.package_name
+
+abbrev pub is_member_ref : ℕ → Bool
+is_member_ref tag = tag == tags.field_ref || tag == tags.method_ref || tag == tags.interface_method_ref
+
+-- each index holds an entry of the kind that JVMS 4.4.1 to 4.4.12 name for it
+unfoldable pub refers : List Slot → Slot → Bool
+refers slots s =
+    if names_one_text s.tag then holds slots tags.utf8 (first s)
+    else if is_member_ref s.tag then holds slots tags.class (first s) && holds slots tags.name_and_type (second s)
+    else if s.tag == tags.name_and_type then holds slots tags.utf8 (first s) && holds slots tags.utf8 (second s)
+    else if s.tag == tags.dynamic || s.tag == tags.invoke_dynamic then holds slots tags.name_and_type (second s)
+    else true
+
+-- ---- what is asked of names, descriptors and handles
+
+abbrev pub is_field : List ℕ → Bool
+is_field bytes = is_some (field_of bytes)
+
+abbrev pub is_method : List ℕ → Bool
+is_method bytes = is_some (method_of bytes)
+
+-- the descriptor of an array
+abbrev pub is_array : List ℕ → Bool
+is_array [] = false
+is_array (b ∷ bs) = b == 91 && is_field (b ∷ bs)
+
+-- the type of a method whose result is void
+abbrev pub no_result : Option Method → Bool
+no_result None = false
+no_result (Some m) = not (is_some m.result)
+
+-- the name of a Class: of a class, or an array descriptor (JVMS 4.4.1)
+abbrev pub is_class_text : List ℕ → Bool
+is_class_text text = is_class_name text || is_array text
+
+-- name and descriptor of a NameAndType, of a field or a method (JVMS 4.4.6)
+abbrev pub is_any_member : List ℕ → List ℕ → Bool
+is_any_member name descriptor = (is_member_name name false || is_member_name name true) && (is_field descriptor || is_method descriptor)
+
+-- name and descriptor of a method that is referred to, in an interface or not (JVMS 4.4.2): no
+-- class initializer, a constructor only of a class, and one that returns nothing
+abbrev pub is_used_method : Bool → List ℕ → List ℕ → Bool
+is_used_method interface name descriptor =
+    is_method descriptor && is_member_name name true && not (is_clinit name)
+    && (not (is_init name) || (not interface && no_result (method_of descriptor)))
+
+-- the kinds of references that a handle of a kind may use: fields by kinds 1 to 4, methods by 5 to
+-- 9 (JVMS 4.4.8)
+abbrev pub handle_fits : ℕ → ℕ → Bool
+handle_fits kind tag =
+    if kind == 1 || kind == 2 || kind == 3 || kind == 4 then tag == tags.field_ref
+    else if kind == 5 || kind == 8 then tag == tags.method_ref
+    else if kind == 6 || kind == 7 then tag == tags.method_ref || tag == tags.interface_method_ref
+    else if kind == 9 then tag == tags.interface_method_ref
+    else false
+
+-- kind 8 makes an object by a constructor, and no other kind calls one (JVMS 4.4.8)
+abbrev pub handle_names : ℕ → List ℕ → Bool
+handle_names kind name =
+    if kind == 8 then is_init name
+    else if kind == 5 || kind == 6 || kind == 7 || kind == 9 then not (is_init name)
+    else true
+
+-- what an entry names has the form that JVMS 4.4.1 to 4.4.10 ask for
+unfoldable pub is_meaningful : List Slot → Slot → Bool
+is_meaningful slots s =
+    if s.tag == tags.class then is_class_text (text_of slots s)
+    else if s.tag == tags.name_and_type then is_any_member (name_of slots s) (descriptor_of slots s)
+    else if s.tag == tags.field_ref then is_field (descriptor_of slots (pair_of slots s))
+    else if s.tag == tags.method_ref then is_used_method false (name_of slots (pair_of slots s)) (descriptor_of slots (pair_of slots s))
+    else if s.tag == tags.interface_method_ref then is_used_method true (name_of slots (pair_of slots s)) (descriptor_of slots (pair_of slots s))
+    else if s.tag == tags.method_handle then handle_fits (kind_of s) (at slots (target_of s)).tag && handle_names (kind_of s) (name_of slots (pair_of slots (at slots (target_of s))))
+    else if s.tag == tags.method_type then is_method (text_of slots s)
+    else if s.tag == tags.dynamic then is_field (descriptor_of slots (pair_of slots s))
+    else if s.tag == tags.invoke_dynamic then is_method (descriptor_of slots (pair_of slots s))
+    else true
