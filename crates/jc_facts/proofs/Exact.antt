@@ -1,5 +1,5 @@
 -- What a test gives of each place of a list, in order, is exactly what stands there.
-use Rattle.std.proofs.Common.{◌≡◌, Bool, true, false, cond, List, [], ◌∷◌, refl, sym, subst, Option, Some, None, arith, ◌⊎◌, inl, inr, ◌<◌}
+use Rattle.std.proofs.Common.{◌≡◌, List, [], ◌∷◌, refl, sym, subst, Option, Some, None, ◌⊎◌, inl, inr}
 use Rattle.std.specs.List.{filter_map, cons_option, Contains, All}
 use Rattle.std.proofs.lemmas.List.Elements.{All-weaker, All-contains_itself}
 use Rattle.std.specs.List.Sorted.{IsPermutation, IsSortedBy}
@@ -7,9 +7,9 @@ use Rattle.std.specs.Ordering.{is_lt, nat_cmp}
 use Rattle.std.specs.Cmp.Lexicographic.{slice_cmp}
 use Rattle.std.proofs.lemmas.List.Sorted.{All-permutation, Contains-permutation}
 use Rattle.jc_facts.specs.Names.{Bytes}
-use Rattle.jc_facts.specs.Exact.{Before, NamesRise, IsExact}
+use Rattle.jc_facts.specs.Exact.{IsExact}
 use Rattle.jc_facts.proofs.Apart.{Apart, Apart-permutation, Apart-filter_map, NamesRise-sorted}
-use Rattle.jc_facts.proofs.Listed.{EachOf, here, there, cases, none}
+use Rattle.jc_facts.proofs.Listed.{here, there, cases, none}
 
 -- a place of the list gives the thing
 pub record Gives {X F : Type 0} (h : X → Option F) (xs : List X) (f : F) : Type 0 where

@@ -1,17 +1,17 @@
 -- What clients of a release meet, from its findings of gone classes alone.
-use Rattle.std.proofs.Common.{◌≡◌, ◌≢◌, ◌<◌, Bool, true, false, not, ◌||◌, ◌&&◌, cond, List, [], ◌∷◌, ◌++◌, Option, Some, None, refl, sym, ap, subst, ◌∙◌, ◌⊎◌, inl, inr}
+use Rattle.std.proofs.Common.{◌≡◌, Bool, true, false, not, ◌||◌, ◌&&◌, cond, List, [], ◌∷◌, ◌++◌, Option, Some, None, refl, sym, ap, subst, ◌∙◌}
 use Rattle.std.specs.Prelude.{nat_le, IsTrue, length}
 use Rattle.std.specs.List.{Contains, All, list_any}
 use Rattle.std.specs.Str.{is_utf8}
-use Rattle.std.proofs.lemmas.List.Elements.{All-contains, Contains-append_left, Contains-append_right}
+use Rattle.std.proofs.lemmas.List.Elements.{All-contains, Contains-append_right}
 use Rattle.jc_facts.specs.declared.head.Head.{Head}
 use Rattle.jc_facts.specs.declared.finding.Finding.{Finding}
 use Rattle.jc_facts.specs.declared.link_error.LinkError.{LinkError}
-use Rattle.jc_facts.specs.declared.link_error.LinkError.TheVariants.{NoClassDefFoundError, IllegalAccessError}
+use Rattle.jc_facts.specs.declared.link_error.LinkError.TheVariants.{IllegalAccessError}
 use Rattle.jc_facts.specs.Names.{Bytes, same, same_package, package_of, object_name}
 use Rattle.jc_facts.specs.Flags.{is_public}
 use Rattle.jc_facts.specs.Types.{Element, Primitive, Class, TypeText, read_type}
-use Rattle.jc_facts.specs.Heads.{head_named, access_fault, element_fault, type_fault, class_outcome, is_allowed_beside, AreClients, KeepsClasses, BreaksClass}
+use Rattle.jc_facts.specs.Heads.{head_named, access_fault, element_fault, type_fault, class_outcome, is_allowed_beside, AreClients, KeepsClasses}
 use Rattle.jc_facts.specs.Gone.{gone_error, gone_class, gone_finding, IsGone}
 use Rattle.jc_facts.specs.Exact.{IsExact}
 use Rattle.jc_facts.proofs.Same.{same_is, same_itself}

@@ -3,3 +3,6 @@ pub mod Listed
 pub mod Apart
 pub mod Exact
 pub mod Heads
+pub mod Keys
+pub mod Lists
+pub mod Tests

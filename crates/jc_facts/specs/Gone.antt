@@ -1,5 +1,5 @@
 -- The findings of public classes that are gone, over heads.
-use Rattle.std.specs.Prelude.{Bool, true, false, cond, List, [], ◌∷◌, length, Option, None, Some, ◌≡◌, ◌≢◌, ◌<◌, ℕ, slice_index_or, if◌then◌else◌}
+use Rattle.std.specs.Prelude.{List, length, Option, None, Some, ◌≡◌, ◌≢◌, ◌<◌, ℕ, slice_index_or, if◌then◌else◌}
 use Rattle.std.specs.List.{Contains}
 use Rattle.jc_facts.specs.declared.head.Head.{Head}
 use Rattle.jc_facts.specs.declared.finding.Finding.{Finding}

@@ -1,6 +1,6 @@
 -- Worlds of heads: what a client that names a class meets, over the names and flags of classes alone. A head stands for any class
 -- of them that extends java/lang/Object, names no interface and permits no subclasses.
-use Rattle.std.specs.Prelude.{Bool, not, List, [], ◌∷◌, ◌++◌, length, Option, None, Some, ◌≡◌, ◌||◌, ◌&&◌, nat_le, cond, if◌then◌else◌, IsTrue}
+use Rattle.std.specs.Prelude.{Bool, not, List, [], ◌∷◌, ◌++◌, length, Option, None, Some, ◌≡◌, ◌||◌, ◌&&◌, nat_le, if◌then◌else◌, IsTrue}
 use Rattle.std.specs.List.{list_any, All, Contains}
 use Rattle.std.specs.Str.{is_utf8}
 use Rattle.jc_facts.specs.declared.head.Head.{Head}

@@ -4,3 +4,9 @@ pub mod Types
 pub mod Exact
 pub mod Heads
 pub mod Gone
+pub mod Rules
+pub mod Valid
+pub mod KeyOrder
+pub mod Seen
+pub mod Attributes
+pub mod ClassFile

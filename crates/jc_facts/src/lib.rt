@@ -4,6 +4,10 @@
 pub mod act;
 pub mod class_facts;
 pub mod finding;
+pub mod flags;
 pub mod head;
 pub mod key;
+pub mod key_set;
 pub mod link_error;
+pub mod rules;
+pub mod validity;
