@@ -1,5 +1,5 @@
 -- The test of a class name holds exactly where the bytes are parts joined by /.
-use Rattle.std.proofs.Common.{◌≡◌, ℕ, Bool, true, false, cond, not, ◌&&◌, ◌||◌, nat_eq, List, [], ◌∷◌, ◌++◌, refl, sym, ap, subst, ◌∙◌, arith, ◌⊎◌, inl, inr, IsTrue}
+use Rattle.std.proofs.Common.{◌≡◌, ℕ, Bool, true, false, not, ◌&&◌, ◌||◌, nat_eq, List, [], ◌∷◌, ◌++◌, refl, ap, subst, ◌∙◌, arith, inl, inr, IsTrue}
 use Rattle.std.proofs.lemmas.Bool.{eqb-true}
 use Rattle.std.specs.List.{list_all}
 use Rattle.jc_desc.specs.Names.{is_name_byte, is_nil, is_name_part, joined_parts, IsClassName, is_rest_of_name, is_class_name}
@@ -29,30 +29,30 @@ rest_is : (begins : Bool) (bytes : List ℕ) → is_rest_of_name begins bytes �
 rest_is true [] h = absurd cc
 rest_is false [] h = record { first = []; others = []; letters = refl; some = refl; parts = refl; whole = refl }
 rest_is begins (b ∷ bs) h = elim (chosen (nat_eq b 47) _ _ _ h) [
-    | inl a ↦
-        let t = both (not begins) (is_rest_of_name true bs) a.1 in
-        let r = rest_is true bs t.1 in
-        let slash : b ≡ 47 = eqb-true b 47 a.0 in
-        record {
-          first = [];
-          others = r.first ∷ r.others;
-          letters = refl;
-          some = rw t.0 refl;
-          parts = all_both _ _ (all_both _ _ r.some r.letters) r.parts;
-          whole = rw slash (ap (λ (rest : List ℕ). 47 ∷ rest) r.whole);
-        }
-    | inr a ↦
-        let t = both (is_name_byte b) (is_rest_of_name false bs) a.1 in
-        let r = rest_is false bs t.1 in
-        record {
-          first = b ∷ r.first;
-          others = r.others;
-          letters = all_both _ _ t.0 r.letters;
-          some = or_true (not begins);
-          parts = r.parts;
-          whole = ap (λ (rest : List ℕ). b ∷ rest) r.whole ∙ longer b r.first r.others;
-        }
-    ] where
+  | inl a ↦
+      let t = both (not begins) (is_rest_of_name true bs) a.1 in
+      let r = rest_is true bs t.1 in
+      let slash : b ≡ 47 = eqb-true b 47 a.0 in
+      record {
+        first = [];
+        others = r.first ∷ r.others;
+        letters = refl;
+        some = rw t.0 refl;
+        parts = all_both _ _ (all_both _ _ r.some r.letters) r.parts;
+        whole = rw slash (ap (λ (rest : List ℕ). 47 ∷ rest) r.whole);
+      }
+  | inr a ↦
+      let t = both (is_name_byte b) (is_rest_of_name false bs) a.1 in
+      let r = rest_is false bs t.1 in
+      record {
+        first = b ∷ r.first;
+        others = r.others;
+        letters = all_both _ _ t.0 r.letters;
+        some = or_true (not begins);
+        parts = r.parts;
+        whole = ap (λ (rest : List ℕ). b ∷ rest) r.whole ∙ longer b r.first r.others;
+      }
+] where
   or_true : (a : Bool) → (a || true) ≡ true
   or_true true = refl
   or_true false = refl
@@ -76,12 +76,12 @@ joined_again first [] h =
     let t = both (is_name_part first) true h in
     let p = both (not (is_nil first)) (list_all is_name_byte first) t.0 in
     whole_part first p.0 p.1 where
-  whole_part : (part : List ℕ) → not (is_nil part) ≡ true → list_all is_name_byte part ≡ true → is_rest_of_name true part ≡ true
-  whole_part [] s h = absurd cc
-  whole_part (b ∷ bs) s h = let t = both (is_name_byte b) (list_all is_name_byte bs) h in rw (t.0, no_slash b t.0) (ends bs t.1) where
-    ends : (cs : List ℕ) → list_all is_name_byte cs ≡ true → is_rest_of_name false cs ≡ true
-    ends [] h = refl
-    ends (c ∷ cs) h = let t = both (is_name_byte c) (list_all is_name_byte cs) h in rw (t.0, no_slash c t.0) (ends cs t.1)
+      whole_part : (part : List ℕ) → not (is_nil part) ≡ true → list_all is_name_byte part ≡ true → is_rest_of_name true part ≡ true
+      whole_part [] s h = absurd cc
+      whole_part (b ∷ bs) s h = let t = both (is_name_byte b) (list_all is_name_byte bs) h in rw (t.0, no_slash b t.0) (ends bs t.1) where
+        ends : (cs : List ℕ) → list_all is_name_byte cs ≡ true → is_rest_of_name false cs ≡ true
+        ends [] h = refl
+        ends (c ∷ cs) h = let t = both (is_name_byte c) (list_all is_name_byte cs) h in rw (t.0, no_slash c t.0) (ends cs t.1)
 joined_again first (next ∷ others) h =
     let t = both (is_name_part first) (list_all is_name_part (next ∷ others)) h in
     let p = both (not (is_nil first)) (list_all is_name_byte first) t.0 in

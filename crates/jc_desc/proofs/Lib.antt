@@ -3,6 +3,7 @@ pub mod ClassNames
 pub mod Shapes
 pub mod Grammar
 pub mod Again
+pub mod Apart
 pub mod Parts
 pub mod Links
 pub mod Entries

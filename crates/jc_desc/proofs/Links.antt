@@ -5,7 +5,7 @@ use Rattle.jc_desc.specs.declared.fault.Reason.{Reason}
 use Rattle.jc_desc.specs.declared.fault.Reason.TheVariants as reasons
 use Rattle.jc_desc.specs.Faults.{or_fault, first_fault}
 use Rattle.jc_desc.specs.Names.{is_class_name, is_member_name, is_init, is_clinit}
-use Rattle.jc_desc.specs.Pool.{Slot, nothing, at, text_of, name_of, descriptor_of, pair_of, kind_of, target_of, refers, is_meaningful, is_field, is_method, is_array, no_result, is_class_text, is_any_member, is_used_method, handle_fits, handle_names}
+use Rattle.jc_desc.specs.Pool.{Slot, at, text_of, name_of, descriptor_of, pair_of, kind_of, target_of, refers, is_meaningful, is_field, is_method, is_array, no_result, is_class_text, is_any_member, is_used_method, handle_fits, handle_names}
 use Rattle.jc_desc.specs.PoolGrammar.{IsLinked}
 use Rattle.jc_desc.specs.PoolSteps.{want, stands, class_fault, pair_fault, field_fault, shape_fault, method_fault, handle_fault, meaning_fault, reference_fault, sense_fault, links_fault}
 use Rattle.jc_desc.specs.Reading.{method_of}
@@ -46,10 +46,10 @@ method_tells interface name descriptor =
     let void : Bool = no_result (method_of descriptor) in
     let named : Bool = is_member_name name true && not (is_clinit name) && not (interface && is_init name) in
     let steps : Tells (method_fault interface name descriptor) (is_method descriptor && (named && (not (is_init name) || void))) =
-        next_want (is_method descriptor) reasons.BadDescriptor _ (named && (not (is_init name) || void))
-          (next_want named reasons.BadName _ (not (is_init name) || void) (last_want (not (is_init name) || void) reasons.BadDescriptor)) in
+    next_want (is_method descriptor) reasons.BadDescriptor _ (named && (not (is_init name) || void))
+    (next_want named reasons.BadName _ (not (is_init name) || void) (last_want (not (is_init name) || void) reasons.BadDescriptor)) in
     let same : (is_method descriptor && (named && (not (is_init name) || void))) ≡ is_used_method interface name descriptor =
-        regroup (is_method descriptor) (is_member_name name true) (not (is_clinit name)) (is_init name) interface void in
+    regroup (is_method descriptor) (is_member_name name true) (not (is_clinit name)) (is_init name) interface void in
     record { holds = λ e. sym same ∙ steps.holds e; quiet = λ e. steps.quiet (same ∙ e) }
 
 class_tells : (text : List ℕ) → Tells (class_fault text) (is_class_text text)
@@ -58,7 +58,7 @@ class_tells text = last_want (is_class_name text || is_array text) reasons.BadNa
 pair_tells : (name descriptor : List ℕ) → Tells (pair_fault name descriptor) (is_any_member name descriptor)
 pair_tells name descriptor =
     next_want (is_member_name name false || is_member_name name true) reasons.BadName _ (is_field descriptor || is_method descriptor)
-      (last_want (is_field descriptor || is_method descriptor) reasons.BadDescriptor)
+    (last_want (is_field descriptor || is_method descriptor) reasons.BadDescriptor)
 
 field_tells : (descriptor : List ℕ) → Tells (field_fault descriptor) (is_field descriptor)
 field_tells descriptor = last_want (is_field descriptor) reasons.BadDescriptor

@@ -1,9 +1,9 @@
 -- The test of modified UTF-8 holds exactly where the bytes are a row of shapes.
-use Rattle.std.proofs.Common.{◌≡◌, ℕ, suc, zero, ◌-◌, ◌<◌, ◌≤◌, Bool, true, false, cond, not, ◌&&◌, ◌||◌, nat_eq, nat_lt, List, [], ◌∷◌, ◌++◌, length, refl, sym, ap, subst, ◌∙◌, arith, append_assoc, ◌⊎◌, inl, inr, IsTrue}
+use Rattle.std.proofs.Common.{◌≡◌, ℕ, suc, zero, ◌-◌, ◌<◌, true, false, cond, not, ◌&&◌, nat_eq, nat_lt, List, [], ◌∷◌, ◌++◌, length, refl, sym, ap, subst, ◌∙◌, arith, ◌⊎◌, inl, inr, IsTrue}
 use Rattle.std.proofs.lemmas.Bool.Decides.{nat_tests}
 use Rattle.jc_desc.specs.Utf8.{is_follower, followers, is_first, is_rest_of_text, is_text, is_shape, AreShapes, joined, IsText}
 use Rattle.jc_desc.proofs.Grammar.{chosen}
-use Rattle.jc_desc.proofs.ClassNames.{both, all_both}
+use Rattle.jc_desc.proofs.ClassNames.{both}
 
 -- a row of shapes with one more in front
 more : (shape rest : List ℕ) → is_shape shape ≡ true → IsText rest → IsText (shape ++ rest)
@@ -25,9 +25,9 @@ three_bytes a b c f n g k = rw (g, k) (front a f n) where
 -- how many bytes follow a first one
 few : (a : ℕ) → (followers a ≡ 0) ⊎ ((followers a ≡ 1) ⊎ (followers a ≡ 2))
 few a = elim (chosen (nat_lt a 128) 0 (cond (nat_lt a 224) 1 2) (followers a) refl) [
-    | inl x ↦ inl (sym x.1)
-    | inr x ↦ elim (chosen (nat_lt a 224) 1 2 (followers a) x.1) [ inl y ↦ inr (inl (sym y.1)) | inr y ↦ inr (inr (sym y.1)) ]
-    ]
+  | inl x ↦ inl (sym x.1)
+  | inr x ↦ elim (chosen (nat_lt a 224) 1 2 (followers a) x.1) [ inl y ↦ inr (inl (sym y.1)) | inr y ↦ inr (inr (sym y.1)) ]
+]
 
 -- one more byte of a shape that is due
 due_step : (due n : ℕ) (bytes : List ℕ) → nat_eq due 0 ≡ false → due - 1 ≡ n → is_rest_of_text due bytes ≡ true → (b : ℕ) × (bs : List ℕ) × (bytes ≡ b ∷ bs) × (is_follower b ≡ true) × (is_rest_of_text n bs ≡ true)
@@ -45,18 +45,19 @@ text_is_below (suc n) (a ∷ cs) l h =
     let t = both (is_first a) (is_rest_of_text (followers a) cs) h in
     let short : length cs < n = (let q : suc (length cs) < suc n = l in omega arith) in
     elim (few a) [
-    | inl k ↦ more (a ∷ []) cs (one_byte a t.0 k) (text_is_below n cs short (subst (λ (d : ℕ). is_rest_of_text d cs ≡ true) k t.1))
-    | inr o ↦ elim o [
-    | inl k ↦
-        let x = due_step 1 0 cs refl refl (subst (λ (d : ℕ). is_rest_of_text d cs ≡ true) k t.1) in
-        let less : length x.1 < n = (let q : length cs ≡ suc (length x.1) = ap (λ (bs : List ℕ). length bs) x.2 in omega arith) in
-        subst (λ (bs : List ℕ). IsText (a ∷ bs)) (sym x.2) (more (a ∷ x.0 ∷ []) x.1 (two_bytes a x.0 t.0 k x.3) (text_is_below n x.1 less x.4))
-    | inr k ↦
-        let x = due_step 2 1 cs refl refl (subst (λ (d : ℕ). is_rest_of_text d cs ≡ true) k t.1) in
-        let y = due_step 1 0 x.1 refl refl x.4 in
-        let less : length y.1 < n = (let q : length cs ≡ suc (length x.1) = ap (λ (bs : List ℕ). length bs) x.2 in let r : length x.1 ≡ suc (length y.1) = ap (λ (bs : List ℕ). length bs) y.2 in omega arith) in
-        subst (λ (bs : List ℕ). IsText (a ∷ bs)) (sym (x.2 ∙ ap (λ (bs : List ℕ). x.0 ∷ bs) y.2)) (more (a ∷ x.0 ∷ y.0 ∷ []) y.1 (three_bytes a x.0 y.0 t.0 k x.3 y.3) (text_is_below n y.1 less y.4))
-    ] ]
+      | inl k ↦ more (a ∷ []) cs (one_byte a t.0 k) (text_is_below n cs short (subst (λ (d : ℕ). is_rest_of_text d cs ≡ true) k t.1))
+      | inr o ↦ elim o [
+        | inl k ↦
+            let x = due_step 1 0 cs refl refl (subst (λ (d : ℕ). is_rest_of_text d cs ≡ true) k t.1) in
+            let less : length x.1 < n = (let q : length cs ≡ suc (length x.1) = ap (λ (bs : List ℕ). length bs) x.2 in omega arith) in
+            subst (λ (bs : List ℕ). IsText (a ∷ bs)) (sym x.2) (more (a ∷ x.0 ∷ []) x.1 (two_bytes a x.0 t.0 k x.3) (text_is_below n x.1 less x.4))
+        | inr k ↦
+            let x = due_step 2 1 cs refl refl (subst (λ (d : ℕ). is_rest_of_text d cs ≡ true) k t.1) in
+            let y = due_step 1 0 x.1 refl refl x.4 in
+            let less : length y.1 < n = (let q : length cs ≡ suc (length x.1) = ap (λ (bs : List ℕ). length bs) x.2 in let r : length x.1 ≡ suc (length y.1) = ap (λ (bs : List ℕ). length bs) y.2 in omega arith) in
+            subst (λ (bs : List ℕ). IsText (a ∷ bs)) (sym (x.2 ∙ ap (λ (bs : List ℕ). x.0 ∷ bs) y.2)) (more (a ∷ x.0 ∷ y.0 ∷ []) y.1 (three_bytes a x.0 y.0 t.0 k x.3 y.3) (text_is_below n y.1 less y.4))
+      ]
+    ]
 
 pub text_is : (bytes : List ℕ) → is_text bytes ≡ true → IsText bytes
 text_is bytes h = text_is_below (suc (length bytes)) bytes (omega arith) h
@@ -75,20 +76,22 @@ shape_again (a ∷ b ∷ []) rest h t =
     let f : is_first a ≡ true = first_of_two a p.0 in
     let n : followers a ≡ 1 = followers_of_two a p.0 in
     rw (f, n, p.1) t where
-  first_of_two : (a : ℕ) → (not (nat_lt a 192) && nat_lt a 224) ≡ true → is_first a ≡ true
-  first_of_two a h = grind (arith, nat_tests)
-  followers_of_two : (a : ℕ) → (not (nat_lt a 192) && nat_lt a 224) ≡ true → followers a ≡ 1
-  followers_of_two a h = grind (arith, nat_tests)
+      first_of_two : (a : ℕ) → (not (nat_lt a 192) && nat_lt a 224) ≡ true → is_first a ≡ true
+      first_of_two a h = grind (arith, nat_tests)
+
+      followers_of_two : (a : ℕ) → (not (nat_lt a 192) && nat_lt a 224) ≡ true → followers a ≡ 1
+      followers_of_two a h = grind (arith, nat_tests)
 shape_again (a ∷ b ∷ c ∷ []) rest h t =
     let q = both (not (nat_lt a 224) && nat_lt a 240 && is_follower b) (is_follower c) h in
     let p = both (not (nat_lt a 224) && nat_lt a 240) (is_follower b) q.0 in
     let f : is_first a ≡ true = first_of_three a p.0 in
     let n : followers a ≡ 2 = followers_of_three a p.0 in
     rw (f, n, p.1, q.1) t where
-  first_of_three : (a : ℕ) → (not (nat_lt a 224) && nat_lt a 240) ≡ true → is_first a ≡ true
-  first_of_three a h = grind (arith, nat_tests)
-  followers_of_three : (a : ℕ) → (not (nat_lt a 224) && nat_lt a 240) ≡ true → followers a ≡ 2
-  followers_of_three a h = grind (arith, nat_tests)
+      first_of_three : (a : ℕ) → (not (nat_lt a 224) && nat_lt a 240) ≡ true → is_first a ≡ true
+      first_of_three a h = grind (arith, nat_tests)
+
+      followers_of_three : (a : ℕ) → (not (nat_lt a 224) && nat_lt a 240) ≡ true → followers a ≡ 2
+      followers_of_three a h = grind (arith, nat_tests)
 shape_again (a ∷ b ∷ c ∷ d ∷ ds) rest h t = absurd cc
 
 shapes_again : (shapes : List (List ℕ)) → AreShapes shapes → is_text (joined shapes) ≡ true

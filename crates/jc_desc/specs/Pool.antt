@@ -5,7 +5,7 @@ use Rattle.byteorder.specs.Endian.{big_number}
 use Rattle.jc_desc.specs.Names.{is_class_name, is_member_name, is_init, is_clinit}
 use Rattle.jc_desc.specs.Reading.{field_of, method_of}
 use Rattle.jc_desc.specs.Tags as tags
-use Rattle.jc_desc.specs.Types.{TypeOf, Method}
+use Rattle.jc_desc.specs.Types.{Method}
 
 -- What an index holds: the tag of an entry and the bytes behind the tag, of a Utf8 its text alone.
 -- Tag 0 holds nothing. `left` says how many bytes of the file are left at the tag, itself counted.

@@ -44,7 +44,7 @@ entry_at follows bytes = do
   tag ← number_at 1 bytes
   body ← body_at (length bytes) tag.0 tag.1
   check (follows || not (is_wide tag.0)) (length bytes) reasons.BadIndex
-    (check (not (tag.0 == tags.utf8) || is_text body.0) (length bytes) reasons.BadUtf8
+      (check (not (tag.0 == tags.utf8) || is_text body.0) (length bytes) reasons.BadUtf8
       (Ok (record { tag = tag.0; body = body.0; left = length bytes }, body.1)))
 
 -- the entries of n indices, where the first index is the second one of a Long or a Double or not
@@ -71,7 +71,7 @@ class_fault text = want (is_class_name text || is_array text) reasons.BadName No
 abbrev pub pair_fault : List ℕ → List ℕ → Option Reason
 pair_fault name descriptor =
     want (is_member_name name false || is_member_name name true) reasons.BadName
-      (want (is_field descriptor || is_method descriptor) reasons.BadDescriptor None)
+    (want (is_field descriptor || is_method descriptor) reasons.BadDescriptor None)
 
 abbrev pub field_fault : List ℕ → Option Reason
 field_fault descriptor = want (is_field descriptor) reasons.BadDescriptor None
@@ -83,14 +83,14 @@ shape_fault descriptor = want (is_method descriptor) reasons.BadDescriptor None
 abbrev pub method_fault : Bool → List ℕ → List ℕ → Option Reason
 method_fault interface name descriptor =
     want (is_method descriptor) reasons.BadDescriptor
-      (want (is_member_name name true && not (is_clinit name) && not (interface && is_init name)) reasons.BadName
-        (want (not (is_init name) || no_result (method_of descriptor)) reasons.BadDescriptor None))
+    (want (is_member_name name true && not (is_clinit name) && not (interface && is_init name)) reasons.BadName
+    (want (not (is_init name) || no_result (method_of descriptor)) reasons.BadDescriptor None))
 
 -- of a handle of this kind, which uses a member of this tag and name
 abbrev pub handle_fault : ℕ → ℕ → List ℕ → Option Reason
 handle_fault kind tag name =
     want (handle_fits kind tag) reasons.BadIndex
-      (want (handle_names kind name) reasons.BadName None)
+    (want (handle_names kind name) reasons.BadName None)
 
 -- the first reason against what an entry names
 unfoldable pub meaning_fault : List Slot → Slot → Option Reason

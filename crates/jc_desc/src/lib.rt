@@ -5,6 +5,9 @@
 pub mod bytes;
 pub mod fault;
 pub mod field;
+pub mod laws;
 pub mod method;
 pub mod names;
+#[cfg(test)]
+mod tests;
 pub mod utf8;

@@ -1,0 +1,8 @@
+pub mod Same
+pub mod Listed
+pub mod Apart
+pub mod Exact
+pub mod Heads
+pub mod Keys
+pub mod Lists
+pub mod Tests

@@ -1,8 +1,15 @@
 pub mod Names
 pub mod Flags
 pub mod Types
+pub mod Exact
+pub mod Heads
+pub mod Gone
 pub mod Rules
 pub mod Valid
+pub mod KeyOrder
+pub mod Seen
+pub mod Attributes
+pub mod ClassFile
 pub mod Options
 pub mod World
 pub mod Search

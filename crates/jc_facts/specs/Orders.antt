@@ -55,7 +55,7 @@ noted_key (note.Fixed x k) = Some k
 abbrev pub note_order : Note → Note → Ordering
 note_order = then_cmp (on group_of nat_cmp) (then_cmp (on noted_class name_order) (on noted_key (option_order key_order)))
 
--- ---- exact lists
+-- ---- lists in order
 
 -- each item stands before all later ones
 unfoldable pub Rises : {A : Type 0} → (A → A → Ordering) → List A → Type 0
@@ -63,7 +63,7 @@ Rises order [] = Unit {0}
 Rises order (x ∷ xs) = AllByRecursion (λ y. order x y ≡ Less) xs × Rises order xs
 
 -- the list has each item that stands once, in order, and no other
-pub record IsExact {A : Type 0} (order : A → A → Ordering) (Stand : A → Type 0) (xs : List A) : Type 0 where
+pub record HasExactly {A : Type 0} (order : A → A → Ordering) (Stand : A → Type 0) (xs : List A) : Type 0 where
   pub in_order : Rises order xs
   pub sound : All Stand xs
   pub complete : (x : A) → Stand x → Contains xs x

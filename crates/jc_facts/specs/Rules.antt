@@ -5,10 +5,11 @@
 --     is_method_descriptor name f descriptor      of a method of this name and these flags (JVMS 4.3.3, 4.6)
 -- No other rule on flags is made; bits that the rules don't name are kept and not judged.
 use Rattle.std.specs.Prelude.{ℕ, ◌+◌, Bool, false, not, Option, None, Some, is_some, ◌||◌, ◌&&◌, nat_le, nat_lt, if◌then◌else◌}
+use Rattle.jc_desc.specs.Names.{is_init, is_clinit}
 use Rattle.jc_desc.specs.Reading.{field_of, method_of, slots_of_method}
 use Rattle.jc_desc.specs.Pool.{no_result}
 use Rattle.jc_facts.specs.Flags.{is_public, is_private, is_protected, is_static, is_final, is_volatile, is_native, is_interface, is_abstract, is_module}
-use Rattle.jc_facts.specs.Names.{Bytes, same, object_name, is_init, is_clinit}
+use Rattle.jc_facts.specs.Names.{Bytes, same, object_name}
 
 -- the name of the class that alone has no superclass
 abbrev pub is_object : Bytes → Bool

@@ -128,3 +128,25 @@ pub record IsValidClass (c : ClassFacts) : Type 0 where
   pub signatures : IsTrue (list_all (is_valid_signature c) c.signatures)
   pub signatures_differ : IsTrue (keys_differ (signed_keys c.signatures))
   pub one_of_class : IsTrue (nat_le (count_by is_of_class c.signatures) 1)
+
+-- ---- the same as four tests: all of them pass exactly where the record is valid
+
+-- name, flags, superclass and interfaces
+abbrev pub head_test : ClassFacts → Bool
+head_test c = is_name c.name && are_class_flags c.major c.flags && is_superclass c c.superclass && list_all is_name c.interfaces
+
+-- fields and methods
+abbrev pub members_test : ClassFacts → Bool
+members_test c =
+    list_all (is_valid_field c) c.fields && keys_differ (keys_of c.fields)
+    && list_all (is_valid_method c) c.methods && keys_differ (keys_of c.methods)
+
+-- who may extend the class, and its nest
+abbrev pub nest_test : ClassFacts → Bool
+nest_test c = are_permits c.major c.permits && is_nest_host c.major c.nest_host && are_nest_members c.major c.nest_members
+
+-- constants and signatures
+abbrev pub texts_test : ClassFacts → Bool
+texts_test c =
+    list_all (is_valid_constant c) c.constants && keys_differ (fixed_keys c.constants)
+    && list_all (is_valid_signature c) c.signatures && keys_differ (signed_keys c.signatures) && nat_le (count_by is_of_class c.signatures) 1

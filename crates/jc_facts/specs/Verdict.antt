@@ -6,13 +6,13 @@ use Rattle.jc_facts.specs.World.{World}
 use Rattle.jc_facts.specs.Findings.{Stands}
 use Rattle.jc_facts.specs.Collisions.{CollisionStands}
 use Rattle.jc_facts.specs.Notes.{NoteStands}
-use Rattle.jc_facts.specs.Orders.{finding_order, collision_order, note_order, IsExact}
+use Rattle.jc_facts.specs.Orders.{finding_order, collision_order, note_order, HasExactly}
 
 -- the verdict has each finding, each collision and each note that stands once, in order, and no other
 pub record IsVerdict (O N : World) (v : Verdict) : Type 0 where
-  pub findings : IsExact finding_order (Stands O N) v.findings
-  pub collisions : IsExact collision_order (CollisionStands O N) v.collisions
-  pub notes : IsExact note_order (NoteStands O N) v.notes
+  pub findings : HasExactly finding_order (Stands O N) v.findings
+  pub collisions : HasExactly collision_order (CollisionStands O N) v.collisions
+  pub notes : HasExactly note_order (NoteStands O N) v.notes
 
 -- there is a finding
 abbrev pub is_incompatible : Verdict → Bool

@@ -1,5 +1,5 @@
--- Where no finding stands, what clients name and is_assignable with the old release they can with the new one.
-use Rattle.std.proofs.Common.{◌≡◌, ℕ, zero, suc, Bool, true, false, List, [], ◌∷◌, refl, sym, ◌∙◌, ap, subst, Option, Some, None, not, ◌||◌, ◌&&◌, ◌⊎◌, inl, inr}
+-- Where no finding stands, what clients name and assignable with the old release they can with the new one.
+use Rattle.std.proofs.Common.{lit≤, ◌≡◌, ℕ, zero, suc, Bool, true, false, List, [], ◌∷◌, refl, sym, ◌∙◌, ap, subst, Option, Some, None, not, ◌||◌, ◌&&◌, ◌⊎◌, inl, inr}
 use Rattle.std.proofs.lemmas.Bool.{and_parts, both_ways, and_from, or_cases}
 use Rattle.jc_facts.specs.declared.class_facts.ClassFacts.{ClassFacts}
 use Rattle.jc_facts.specs.declared.link_error.LinkError.TheVariants.{IllegalAccessError}
@@ -100,7 +100,7 @@ module _ (O N : World) (cs : List ClassFacts) (fo : Fits O cs) (fn : Fits N cs) 
       go None h = absurd (cc)
       go (Some a) h = by a.element h
 
-  -- a client, or a library class that was is_usable
+  -- a client, or a library class that was usable
   pub data IsHeld : Bytes → Type 0 where
     client : {y : Bytes} (c : ClassFacts) → class_named cs y ≡ Some c → IsHeld y
     library : {y : Bytes} → class_named cs y ≡ None → is_usable O y ≡ true → IsHeld y
@@ -125,7 +125,7 @@ module _ (O N : World) (cs : List ClassFacts) (fo : Fits O cs) (fn : Fits N cs) 
   library_chain s t ks us kt ut i = go (in_chain N s t) refl (is_interface_of N t) refl
     where
       b : (is_kept O N s && is_kept O N t && in_chain O s t && not (in_chain N s t) && not (is_interface_of N t)) ≡ false
-      b = report_where-none _ _ _ _ (quiet (record { rule = 4; class = s; key = None; target = Some t }))
+      b = report_where-none _ _ _ _ (quiet.none (record { rule = 4; class = s; key = None; target = Some t }) (quiet.first 4 (lit≤ tt)))
 
       all : (p q : Bool) → in_chain N s t ≡ p → is_interface_of N t ≡ q → (p ≡ false) → (q ≡ false) → ⊥
       all p q e f g h = both_ways _ b (and_from (is_kept O N s && is_kept O N t && in_chain O s t && not (in_chain N s t)) (not (is_interface_of N t))

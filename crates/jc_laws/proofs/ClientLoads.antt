@@ -107,7 +107,7 @@ taken_superclass W c d g =
       permits = or_right (is_interface d.flags || is_final d.flags) (is_sealed_to W d c) b;
     }
 
--- the classes that an accepted class names are is_class_accessible from it
+-- the classes that an accepted class names are accessible from it
 pub super_access : (W : World) (c : ClassFacts) → own_fault W c ≡ None → EachOf (λ y. (d : ClassFacts) → find W y ≡ Some d → is_class_accessible W c.name d ≡ true) (supers c)
 unfolding own_fault superclass_fault interface_fault and_then
 super_access W c o = go c.superclass (or_else-none (and_then (superclass_fault W c) c.superclass) _ o).0 (EachOf-map by_interface c.interfaces (named_interfaces W c o))
@@ -131,7 +131,7 @@ module _ (O N : World) (cs : List ClassFacts) (fo : Fits O cs) (fn : Fits N cs) 
   client_allowed : (x : Bytes) (c : ClassFacts) → class_named cs x ≡ Some c → allowed O N x ≡ true
   client_allowed x c e = and_from (is_allowed O x) (is_allowed N x) (EachOf-class_named (λ n. is_allowed O n ≡ true) cs x c e allowed_o) (EachOf-class_named (λ n. is_allowed N n ≡ true) cs x c e allowed_n)
 
-  -- a library class that a client can name was is_usable
+  -- a library class that a client can name was usable
   pub library_usable : (x : Bytes) (c : ClassFacts) → class_named cs x ≡ Some c → (y : Bytes) (d : ClassFacts) → class_named cs y ≡ None → find O y ≡ Some d → load_fault VO y ≡ None → is_class_accessible VO x d ≡ true → is_usable O y ≡ true
   library_usable x c e y d l f h a =
       let p = allowed_parts O x (EachOf-class_named (λ n. is_allowed O n ≡ true) cs x c e allowed_o) in
@@ -146,7 +146,7 @@ module _ (O N : World) (cs : List ClassFacts) (fo : Fits O cs) (fn : Fits N cs) 
   pub library_loads : (y : Bytes) → class_named cs y ≡ None → is_usable O y ≡ true → load_fault VN y ≡ None
   library_loads y l u = sym (load_fault-side N cs fn.bare fn.unused y l) ∙ (usable_parts N y (stays_usable O N quiet y u)).loaded
 
-  -- what a class that is is_extendable or is_implementable and was is_usable is now
+  -- what a class that is is_extendable or is_implementable and was usable is now
   record IsKeptOpen (d : ClassFacts) (y : Bytes) : Type 0 where
     class : ClassFacts
     is_there : find N y ≡ Some class

@@ -68,7 +68,7 @@ of_field_acts P h GetField e = h.1.1.0
 of_field_acts P h PutField e = h.1.1.1.0
 of_field_acts P h _ e = absurd (cc)
 
-module _ (O N : World) (ccs : List ClientClass) (g : Ground O N (facts_of ccs))
+module _ (O N : World) (ccs : List ClientClass) (g : Ground O N (facts_of ccs)) (q7 : g.quiet.rules 7 ≡ true)
     (no_constant : (i : Bytes) (k : Key) → constant_stands O N i k ≡ true → MeetsConstant (with_clients O (facts_of ccs)) ccs i k → ⊥)
     (X : ClientClass) (is_in : Contains ccs X) (kx : class_named (facts_of ccs) X.facts.name ≡ Some X.facts) (lx : load_fault (with_clients O (facts_of ccs)) X.facts.name ≡ None)
     (act : Act) (t : Bytes) (k : Key) (r : Option Bytes) (place : Place) (is_field : form_of act ≡ FieldForm)
@@ -101,7 +101,7 @@ module _ (O N : World) (ccs : List ClientClass) (g : Ground O N (facts_of ccs))
   never p = absurd (let q : FieldForm ≡ MethodForm = sym is_field ∙ p in cc)
 
   stays : (s : Bytes) → is_usable O s ≡ true → (b : Bytes) → IsSeat O N b → act_fault O b s k act ≡ None → act_fault N b s k act ≡ None
-  stays s u = of_field_acts (λ a. (b : Bytes) → IsSeat O N b → act_fault O b s k a ≡ None → act_fault N b s k a ≡ None) (field_act_stays O N g.quiet s k u) act is_field
+  stays s u = of_field_acts (λ a. (b : Bytes) → IsSeat O N b → act_fault O b s k a ≡ None → act_fault N b s k a ≡ None) (field_act_stays O N g.quiet q7 s k u) act is_field
 
   now : (s : Bytes) → is_usable O s ≡ true → load_fault N s ≡ None
   now s u = (usable_parts N s (stays_usable O N g.quiet s u)).loaded
@@ -160,7 +160,7 @@ module _ (O N : World) (ccs : List ClientClass) (g : Ground O N (facts_of ccs))
   interface_pair : (y : Bytes) → class_named cs y ≡ None → is_usable O y ≡ true → is_interface_of O y ≡ true → (m : Found) → field_found O y k ≡ Some m → (m' : Found) × (field_found N y k ≡ Some m') × (Before m → Now m')
   unfolding act_fault Before Now look_up looked field_found
   interface_pair y ky u i m e =
-      let fn = look_up-takes N FieldForm y k (seat_use N object_name y GetStatic) ((field_act_stays O N g.quiet y k u).0 object_name (inl refl) (look_up-from O FieldForm y k (seat_use O object_name y GetStatic) (record {
+      let fn = look_up-takes N FieldForm y k (seat_use N object_name y GetStatic) ((field_act_stays O N g.quiet q7 y k u).0 object_name (inl refl) (look_up-from O FieldForm y k (seat_use O object_name y GetStatic) (record {
         found = m;
         taken = e';
         fine = open-from O object_name y GetStatic m (record { access = or_first (is_public m.member.flags) _ cm.public; kind = rw cm.static refl; final = refl });
@@ -443,7 +443,7 @@ module _ (O N : World) (ccs : List ClientClass) (g : Ground O N (facts_of ccs))
           (p.0, sym (field_found-side N cs g.fn.bare g.fn.unused t k kt (now t u)) ∙ p.1, p.2)
 
 -- each field act of a client that loads
-module _ (O N : World) (ccs : List ClientClass) (g : Ground O N (facts_of ccs))
+module _ (O N : World) (ccs : List ClientClass) (g : Ground O N (facts_of ccs)) (q7 : g.quiet.rules 7 ≡ true)
     (no_constant : (i : Bytes) (k : Key) → constant_stands O N i k ≡ true → MeetsConstant (with_clients O (facts_of ccs)) ccs i k → ⊥) where
   pub field_access : (X : ClientClass) → Contains ccs X → class_named (facts_of ccs) X.facts.name ≡ Some X.facts → load_fault (with_clients O (facts_of ccs)) X.facts.name ≡ None
       → (act : Act) (t : Bytes) (k : Key) (r : Option Bytes) (place : Place) → form_of act ≡ FieldForm → Contains X.items (item.Access act t k r place)
@@ -485,5 +485,5 @@ module _ (O N : World) (ccs : List ClientClass) (g : Ground O N (facts_of ccs))
       res = by (class_named (facts_of ccs) t) refl
         where
           by : (w : Option ClassFacts) → class_named (facts_of ccs) t ≡ w → (m' : Found) × (field_found (with_clients N (facts_of ccs)) t k ≡ Some m') × IsUsed (with_clients N (facts_of ccs)) X.facts.name act t r place m'
-          by (Some d) q = field_client O N ccs g no_constant X is_in kx lx act t k r place f items n h d q tk.found e u
-          by None q = field_library O N ccs g no_constant X is_in kx lx act t k r place f items n h q tk.found e u
+          by (Some d) q = field_client O N ccs g q7 no_constant X is_in kx lx act t k r place f items n h d q tk.found e u
+          by None q = field_library O N ccs g q7 no_constant X is_in kx lx act t k r place f items n h q tk.found e u

@@ -162,7 +162,7 @@ module _ (O : World) (valid : (x : Bytes) (c : ClassFacts) → find O x ≡ Some
           member None h = absurd (cc)
           member (Some m) h = rw h refl
 
-  pub quiet_itself : Quiet O O
+  pub quiet_itself : (s : Subject) → finding_at O O s ≡ None
   unfolding finding_at rule_1 rule_2 rule_3 rule_4 rule_6 rule_7 rule_8 rule_9 init_finding and_then became_class
   quiet_itself p = go p.key p.target
     where

@@ -146,7 +146,7 @@ cons_head : (ms : List Found) (c : IsCons ms) → head_of ms ≡ Some c.head
 unfolding head_of
 cons_head ms c = ap head_of c.is
 
-module _ (O N : World) (ccs : List ClientClass) (g : Ground O N (facts_of ccs))
+module _ (O N : World) (ccs : List ClientClass) (g : Ground O N (facts_of ccs)) (q8 : g.quiet.rules 8 ≡ true) (q9 : g.quiet.rules 9 ≡ true)
     (no_capture : (a : Bytes) (k : Key) → capture_stands O N a k ≡ true → MeetsCapture (with_clients O (facts_of ccs)) ccs a k → ⊥)
     (X : ClientClass) (kx : class_named (facts_of ccs) X.facts.name ≡ Some X.facts) (lx : load_fault (with_clients O (facts_of ccs)) X.facts.name ≡ None)
     (act : Act) (t : Bytes) (k : Key) (r : Option Bytes) (place : Place) (is_method : form_of act ≡ FieldForm → ⊥) (mk : is_method_key k ≡ true)
@@ -184,7 +184,7 @@ module _ (O N : World) (ccs : List ClientClass) (g : Ground O N (facts_of ccs))
   o_loads = was O N cs g k mk
 
   stays : (s : Bytes) → is_usable O s ≡ true → (b : Bytes) → IsSeat O N b → act_fault O b s k (what_of act) ≡ None → act_fault N b s k (what_of act) ≡ None
-  stays s u = of_method_acts (λ a. (b : Bytes) → IsSeat O N b → act_fault O b s k a ≡ None → act_fault N b s k a ≡ None) (method_act_stays O N g.quiet s k mk u) act
+  stays s u = of_method_acts (λ a. (b : Bytes) → IsSeat O N b → act_fault O b s k a ≡ None → act_fault N b s k a ≡ None) (method_act_stays O N g.quiet q8 s k mk u) act
 
   one_access : (s : Bytes) → is_usable O s ≡ true → (m : Found) → looked N (form_of act) s k ≡ Some m → is_public m.member.flags ≡ true → is_protected m.member.flags ≡ false
   one_access s u m e p = declared_one_access N valid_n k m no_clinit (looked-declared N (form_of act) s k m is_method (n_loads s u) e) p
@@ -287,7 +287,7 @@ module _ (O N : World) (ccs : List ClientClass) (g : Ground O N (facts_of ccs))
             taken = head-looked O st.seat k c.head seat_class hd;
             fine = open-from O object_name st.seat InvokeVirtual c.head (record { access = or_first (is_public c.head.member.flags) _ p.0; kind = p.1; final = refl });
           }) in
-          let new = look_up-takes N MethodForm st.seat k (seat_use N object_name st.seat InvokeVirtual) ((method_act_stays O N g.quiet st.seat k mk st.is_usable).0 object_name (inl refl) old) in
+          let new = look_up-takes N MethodForm st.seat k (seat_use N object_name st.seat InvokeVirtual) ((method_act_stays O N g.quiet q8 st.seat k mk st.is_usable).0 object_name (inl refl) old) in
           record { found = new.found; taken = looked-head N st.seat k new.found new.taken; is_open = open-parts N object_name st.seat InvokeVirtual new.found new.fine }
 
       -- the superinterfaces have it now
@@ -453,7 +453,7 @@ module _ (O N : World) (ccs : List ClientClass) (g : Ground O N (facts_of ccs))
             go (Some m') f = public m' f (is_public m'.member.flags && is_instance m'.member.flags) refl
             go None f =
                 by_offer m b st_act (first_new ∙ ap (λ z. or_else z (first_declared k (chain N st.seat))) q ∙ f)
-                (offered_class O N cs g k mk root_none t st (leaf f) (choices-offers VO t k (record { head = m; tail = ms; is = is })))
+                (offered_class O N cs g k mk root_none q9 t st (leaf f) (choices-offers VO t k (record { head = m; tail = ms; is = is })))
 
       pub method_class : form_of act ≡ MethodForm → (m : Found) → looked VO (form_of act) t k ≡ Some m → IsUsed VO x act t r place m → (m' : Found) × (looked VN (form_of act) t k ≡ Some m') × IsUsed VN x act t r place m'
       unfolding or_else
@@ -544,7 +544,7 @@ module _ (O N : World) (ccs : List ClientClass) (g : Ground O N (facts_of ccs))
               let hs : head_of (superinterface_choices VO t k) ≡ Some m = sym (ap head_of choices_o ∙ ap (λ z. head_of (or_choices z (superinterface_choices VO t k))) (ap (λ z. or_else z (object_method O k)) p ∙ q)) ∙ hd in
               let cn = head_cons (superinterface_choices VO t k) m hs in
               let pm : IsPublicInstance m = (subst (EachOf IsPublicInstance) cn.1 (superinterface_choices-public VO g.valid_o t k n.loaded no_clinit)).0 in
-              let o = offered_interface O N cs g k mk q t d kt n.loaded interface (choices-offers VO t k (record { head = m; tail = cn.0; is = cn.1 })) in
+              let o = offered_interface O N cs g k mk q q9 t d kt n.loaded interface (choices-offers VO t k (record { head = m; tail = cn.0; is = cn.1 })) in
               let c = choices-some VN t k o in
               let pc : IsPublicInstance c.head = (subst (EachOf IsPublicInstance) c.is (superinterface_choices-public VN g.valid_n t k n.now no_clinit)).0 in
               made c.head (ap head_of choices_n ∙ ap (λ z. head_of (or_choices z (superinterface_choices VN t k))) (ap (λ z. or_else z (object_method O k)) p ∙ q) ∙ cons_head (superinterface_choices VN t k) c)
@@ -562,7 +562,7 @@ module _ (O N : World) (ccs : List ClientClass) (g : Ground O N (facts_of ccs))
               owner (Some w) q = let z : Found = record { owner = d.name; member = w } in let v : z ≡ m = cc in ap (class_named cs) (sym (ap (λ t. t.owner) v) ∙ class_named-name cs t d kt) ∙ kt
 
 -- each act on a method of a client that loads
-module _ (O N : World) (ccs : List ClientClass) (g : Ground O N (facts_of ccs))
+module _ (O N : World) (ccs : List ClientClass) (g : Ground O N (facts_of ccs)) (q8 : g.quiet.rules 8 ≡ true) (q9 : g.quiet.rules 9 ≡ true)
     (no_capture : (a : Bytes) (k : Key) → capture_stands O N a k ≡ true → MeetsCapture (with_clients O (facts_of ccs)) ccs a k → ⊥) where
   pub method_access : (X : ClientClass) → class_named (facts_of ccs) X.facts.name ≡ Some X.facts → load_fault (with_clients O (facts_of ccs)) X.facts.name ≡ None
       → (act : Act) (t : Bytes) (k : Key) (r : Option Bytes) (place : Place) → (form_of act ≡ FieldForm → ⊥) → is_method_key k ≡ true
@@ -604,9 +604,9 @@ module _ (O N : World) (ccs : List ClientClass) (g : Ground O N (facts_of ccs))
 
           at : (d : ClassFacts) → class_named (facts_of ccs) t ≡ Some d → (f : Form) → form_of act ≡ f → (m' : Found) × (looked (with_clients N (facts_of ccs)) (form_of act) t k ≡ Some m') × IsUsed (with_clients N (facts_of ccs)) X.facts.name act t r place m'
           at d q FieldForm f = absurd (is_method f)
-          at d q MethodForm f = method_class O N ccs g no_capture X kx lx act t k r place is_method mk n h d q (sym (kind d q) ∙ looked-class VO t k tk.found (ap (λ f. looked VO f t k) (sym f) ∙ tk.taken)) f tk.found tk.taken u
-          at d q InterfaceForm f = method_interface O N ccs g no_capture X kx lx act t k r place is_method mk n h d q (sym (kind d q) ∙ looked-interface VO t k tk.found (ap (λ f. looked VO f t k) (sym f) ∙ tk.taken)) f tk.found tk.taken u
+          at d q MethodForm f = method_class O N ccs g q8 q9 no_capture X kx lx act t k r place is_method mk n h d q (sym (kind d q) ∙ looked-class VO t k tk.found (ap (λ f. looked VO f t k) (sym f) ∙ tk.taken)) f tk.found tk.taken u
+          at d q InterfaceForm f = method_interface O N ccs g q8 q9 no_capture X kx lx act t k r place is_method mk n h d q (sym (kind d q) ∙ looked-interface VO t k tk.found (ap (λ f. looked VO f t k) (sym f) ∙ tk.taken)) f tk.found tk.taken u
 
           by : (w : Option ClassFacts) → class_named (facts_of ccs) t ≡ w → (m' : Found) × (looked (with_clients N (facts_of ccs)) (form_of act) t k ≡ Some m') × IsUsed (with_clients N (facts_of ccs)) X.facts.name act t r place m'
           by (Some d) q = at d q (form_of act) refl
-          by None q = method_library O N ccs g no_capture X kx lx act t k r place is_method mk n h q tk.found tk.taken u
+          by None q = method_library O N ccs g q8 q9 no_capture X kx lx act t k r place is_method mk n h q tk.found tk.taken u

@@ -62,11 +62,11 @@ of_method_acts P h act.InvokeStaticInterface = h.1.1.1.0
 of_method_acts P h act.InvokeSpecialInterface = h.1.1.0
 of_method_acts P h _ = h.0
 
-pub method_act_stays : (O N : World) → Quiet O N → (c : Bytes) (k : Key) → is_method_key k ≡ true → is_usable O c ≡ true → EachOf (λ a. (s : Bytes) → IsSeat O N s → act_fault O s c k a ≡ None → act_fault N s c k a ≡ None) method_acts
+pub method_act_stays : (O N : World) → (quiet : Quiet O N) → quiet.rules 8 ≡ true → (c : Bytes) (k : Key) → is_method_key k ≡ true → is_usable O c ≡ true → EachOf (λ a. (s : Bytes) → IsSeat O N s → act_fault O s c k a ≡ None → act_fault N s c k a ≡ None) method_acts
 unfolding finding_at rule_8
-method_act_stays O N quiet c k mk u =
+method_act_stays O N quiet q8 c k mk u =
     EachOf-map stays method_acts
-    (first_act-none O N (at_key 8 c k) k method_acts (rw (mk, stays_steady O N quiet c u) at (quiet (at_key 8 c k))))
+    (first_act-none O N (at_key 8 c k) k method_acts (rw (mk, stays_steady O N quiet c u) at (quiet.none (at_key 8 c k) q8)))
   where
     stays : (a : Act) → ((s : Bytes) → IsSeat O N s → closed_act O N c k a s ≡ None) → (s : Bytes) → IsSeat O N s → act_fault O s c k a ≡ None → act_fault N s c k a ≡ None
     stays a h s i o = where_open-none (act_fault O s c k a) (act_fault N s c k a) (h s i) o

@@ -35,12 +35,12 @@ use Rattle.jc_laws.proofs.Named.{with_interfaces-unroll, any_left, any_right, an
 use Rattle.jc_laws.proofs.Offers.{each-map, interfaces_of-map, interfaces_of-append, superinterfaces-interface, inherits-with}
 
 -- what an interface that clients name offers, it offers still
-pub inherits_stays : (O N : World) → Quiet O N → (i : Bytes) (k : Key) → is_method_key k ≡ true → is_base_interface O N i ≡ true → object_method O k ≡ None → inherits O i k ≡ true → inherits N i k ≡ true
+pub inherits_stays : (O N : World) → (quiet : Quiet O N) → quiet.rules 9 ≡ true → (i : Bytes) (k : Key) → is_method_key k ≡ true → is_base_interface O N i ≡ true → object_method O k ≡ None → inherits O i k ≡ true → inherits N i k ≡ true
 unfolding finding_at rule_9
-inherits_stays O N quiet i k mk b o h = go (inherits N i k) refl
+inherits_stays O N quiet q9 i k mk b o h = go (inherits N i k) refl
   where
     none : (is_method_key k && is_base_interface O N i && inherits O i k && not (inherits N i k) && is_none (object_method O k)) ≡ false
-    none = report_where-none _ _ _ _ (quiet (at_key 9 i k))
+    none = report_where-none _ _ _ _ (quiet.none (at_key 9 i k) q9)
 
     go : (w : Bool) → inherits N i k ≡ w → w ≡ true
     go true e = refl
@@ -107,7 +107,7 @@ module _ (O N : World) (cs : List ClassFacts) (g : Ground O N cs) (k : Key) (mk 
                 interface_base O N cs g.fo g.fn g.quiet g.allowed_o g.allowed_n y c t.0 s q ks (find-library O cs g.fo.bare s ks ∙ t.1) l e;
           }
 
-  module _ (no_method : object_method O k ≡ None) where
+  module _ (no_method : object_method O k ≡ None) (q9 : g.quiet.rules 9 ≡ true) where
     Offered : Bytes → Type 0
     Offered i = (class_named cs i ≡ None → (is_base_interface O N i ≡ true) × (is_usable O i ≡ true)) → is_interface_of VO i ≡ true
         → list_any (offers k) (with_interfaces VO i) ≡ true → list_any (offers k) (with_interfaces VN i) ≡ true
@@ -137,7 +137,7 @@ module _ (O N : World) (cs : List ClassFacts) (g : Ground O N cs) (k : Key) (mk 
         before = inherits-with O g.root g.root_o g.root_super g.root_interfaces i fo.0 k fo.1 (was i u) (interface_super O g.root g.root_o g.root_class i fo.0 fo.1 (valid_side_o i fo.0 fo.1) ko) ∙ ap (list_any (offers k)) (with_interfaces-side O cs g.fo.bare g.fo.unused i l (was i u)) ∙ h
 
         still : inherits N i k ≡ true
-        still = inherits_stays O N g.quiet i k mk b no_method before
+        still = inherits_stays O N g.quiet q9 i k mk b no_method before
 
     of_interface : (i : Bytes) → load_fault VO i ≡ None → Offered i
     unfolding Offered

@@ -125,16 +125,16 @@ pub record IsNewStill (N : World) (t d : Bytes) : Type 0 where
   pub declares : own_method class (init_key d) ≡ Some member
   pub public : is_public member.flags ≡ true
 
-pub new_still : (O N : World) → Quiet O N → (t d : Bytes) (c : ClassFacts) (m : Member) → is_usable O t ≡ true → find O t ≡ Some c → (is_abstract c.flags || is_interface c.flags) ≡ false
+pub new_still : (O N : World) → (quiet : Quiet O N) → quiet.rules 5 ≡ true → (t d : Bytes) (c : ClassFacts) (m : Member) → is_usable O t ≡ true → find O t ≡ Some c → (is_abstract c.flags || is_interface c.flags) ≡ false
     → own_method c (init_key d) ≡ Some m → is_public m.flags ≡ true → IsNewStill N t d
 unfolding finding_at init_finding and_then
-new_still O N quiet t d c m u f a e p = go (usable_parts N t (stays_usable O N quiet t u))
+new_still O N quiet q5 t d c m u f a e p = go (usable_parts N t (stays_usable O N quiet t u))
   where
     k : Key
     k = init_key d
 
     broken : new_broken O N t k ≡ None
-    broken = report-none (at_key 5 t k) act.NewObject (new_broken O N t k) (or_else-none (and_then (report (at_key 5 t k) act.NewObject None) (new_broken O N t k)) (and_then (report (at_key 5 t k) act.InitSuper None) (init_broken O N t k)) (quiet (at_key 5 t k))).0
+    broken = report-none (at_key 5 t k) act.NewObject (new_broken O N t k) (or_else-none (and_then (report (at_key 5 t k) act.NewObject None) (new_broken O N t k)) (and_then (report (at_key 5 t k) act.InitSuper None) (init_broken O N t k)) (quiet.none (at_key 5 t k) q5)).0
 
     had : had_init O t k (λ m. is_public m.flags) ≡ true
     had = and_from (is_init k.name) (some_and (λ m. is_public m.flags) (and_then (λ c. own_method c k) (find O t))) (init_named d) (ap (λ o. some_and (λ m. is_public m.flags) (and_then (λ c. own_method c k) o)) f ∙ ap (some_and (λ m. is_public m.flags)) e ∙ p)
@@ -163,16 +163,16 @@ pub record IsInitStill (N : World) (t d : Bytes) : Type 0 where
   pub declares : own_method class (init_key d) ≡ Some member
   pub access : public_or_protected member ≡ true
 
-pub init_still : (O N : World) → Quiet O N → (t d : Bytes) (c : ClassFacts) (m : Member) → is_usable O t ≡ true → is_base_class O N t ≡ true → find O t ≡ Some c
+pub init_still : (O N : World) → (quiet : Quiet O N) → quiet.rules 5 ≡ true → (t d : Bytes) (c : ClassFacts) (m : Member) → is_usable O t ≡ true → is_base_class O N t ≡ true → find O t ≡ Some c
     → own_method c (init_key d) ≡ Some m → public_or_protected m ≡ true → IsInitStill N t d
 unfolding finding_at init_finding and_then
-init_still O N quiet t d c m u b f e p = go (usable_parts N t (stays_usable O N quiet t u))
+init_still O N quiet q5 t d c m u b f e p = go (usable_parts N t (stays_usable O N quiet t u))
   where
     k : Key
     k = init_key d
 
     broken : init_broken O N t k ≡ None
-    broken = report-none (at_key 5 t k) act.InitSuper (init_broken O N t k) (or_else-none (and_then (report (at_key 5 t k) act.NewObject None) (new_broken O N t k)) (and_then (report (at_key 5 t k) act.InitSuper None) (init_broken O N t k)) (quiet (at_key 5 t k))).1
+    broken = report-none (at_key 5 t k) act.InitSuper (init_broken O N t k) (or_else-none (and_then (report (at_key 5 t k) act.NewObject None) (new_broken O N t k)) (and_then (report (at_key 5 t k) act.InitSuper None) (init_broken O N t k)) (quiet.none (at_key 5 t k) q5)).1
 
     had : had_init O t k public_or_protected ≡ true
     had = and_from (is_init k.name) (some_and public_or_protected (and_then (λ c. own_method c k) (find O t))) (init_named d) (ap (λ o. some_and public_or_protected (and_then (λ c. own_method c k) o)) f ∙ ap (some_and public_or_protected) e ∙ p)
@@ -191,7 +191,7 @@ init_still O N quiet t d c m u b f e p = go (usable_parts N t (stays_usable O N 
           access = not_false (public_or_protected w.0) (fault_where-none (not (public_or_protected w.0)) IllegalAccessError w.2);
         }
 
-module _ (O N : World) (cs : List ClassFacts) (g : Ground O N cs) (x : Bytes) (c : ClassFacts) (kx : class_named cs x ≡ Some c) (lx : load_fault (with_clients O cs) x ≡ None) (t d : Bytes) (n : IsNamed O N cs g x c kx lx t) where
+module _ (O N : World) (cs : List ClassFacts) (g : Ground O N cs) (x : Bytes) (c : ClassFacts) (kx : class_named cs x ≡ Some c) (lx : load_fault (with_clients O cs) x ≡ None) (t d : Bytes) (n : IsNamed O N cs g x c kx lx t) (q5 : g.quiet.rules 5 ≡ true) where
   abbrev VO : World
   VO = with_clients O cs
 
@@ -327,7 +327,7 @@ module _ (O N : World) (cs : List ClassFacts) (g : Ground O N cs) (x : Bytes) (c
       pp = is_member_accessible-apart VO x t m (owner_apart O N cs g x c kx lx t o.class f) (member_of VO m o.fine)
 
       s : IsInitStill N t d
-      s = init_still O N g.quiet t d o.class o.member base.1 base.0 f o.declares pp
+      s = init_still O N g.quiet q5 t d o.class o.member base.1 base.0 f o.declares pp
 
       fnn : find VN t ≡ Some s.class
       fnn = sym (find-library N cs g.fn.bare t l) ∙ s.is_there
@@ -405,7 +405,7 @@ module _ (O N : World) (cs : List ClassFacts) (g : Ground O N cs) (x : Bytes) (c
       )
         where
           s : IsNewStill N t d
-          s = new_still O N g.quiet t d o.class o.member u f a o.declares p
+          s = new_still O N g.quiet q5 t d o.class o.member u f a o.declares p
 
           m' : Found
           m' = record { owner = t; member = s.member }
@@ -497,7 +497,7 @@ module _ (O N : World) (cs : List ClassFacts) (g : Ground O N cs) (x : Bytes) (c
       go w = (ap (and_then (λ c. fault_where (is_abstract c.flags || is_interface c.flags) InstantiationError)) w.0.is_there ∙ ap (λ b. fault_where b InstantiationError) w.1, own_init-from VN t d (new_use VN) n.now w.0)
 
 -- the items
-module _ (O N : World) (cs : List ClassFacts) (g : Ground O N cs) (x : Bytes) (c : ClassFacts) (kx : class_named cs x ≡ Some c) (lx : load_fault (with_clients O cs) x ≡ None) (t d : Bytes) where
+module _ (O N : World) (cs : List ClassFacts) (g : Ground O N cs) (x : Bytes) (c : ClassFacts) (kx : class_named cs x ≡ Some c) (lx : load_fault (with_clients O cs) x ≡ None) (t d : Bytes) (q5 : g.quiet.rules 5 ≡ true) where
   pub init_item : (same t c.name || some_and (same t) c.superclass) ≡ true → outcome (with_clients O cs) x (item.Init t d) ≡ None → outcome (with_clients N cs) x (item.Init t d) ≡ None
   unfolding outcome
   init_item v h =
@@ -507,7 +507,7 @@ module _ (O N : World) (cs : List ClassFacts) (g : Ground O N cs) (x : Bytes) (c
       let n = named O N cs g x c kx lx t p.0 q.0 in
       or_else-both (class_step (with_clients N cs) x t) (cond (is_array t) (Some NoSuchMethodError) (init_fault (with_clients N cs) t d (use_it (with_clients N cs))))
       (class_step-kept O N cs g.fo g.fn g.quiet g.allowed_o g.allowed_n g.clients_load x c kx t p.0)
-      (rw q.0 (init_kept O N cs g x c kx lx t d n v q.1))
+      (rw q.0 (init_kept O N cs g x c kx lx t d n q5 v q.1))
 
   pub new_item : outcome (with_clients O cs) x (item.New t d) ≡ None → outcome (with_clients N cs) x (item.New t d) ≡ None
   unfolding outcome
@@ -518,7 +518,7 @@ module _ (O N : World) (cs : List ClassFacts) (g : Ground O N cs) (x : Bytes) (c
       let q = cond-none (is_array t) NoSuchMethodError (or_else (made (with_clients O cs)) (init_fault (with_clients O cs) t d (use_it (with_clients O cs)))) p.1 in
       let s = or_else-none (made (with_clients O cs)) (init_fault (with_clients O cs) t d (use_it (with_clients O cs))) q.1 in
       let n = named O N cs g x c kx lx t p.0 q.0 in
-      let r = new_kept O N cs g x c kx lx t d n q.0 s.0 s.1 in
+      let r = new_kept O N cs g x c kx lx t d n q5 q.0 s.0 s.1 in
       or_else-both (class_step (with_clients N cs) x t) (cond (is_array t) (Some NoSuchMethodError) (or_else (made (with_clients N cs)) (init_fault (with_clients N cs) t d (use_it (with_clients N cs)))))
       (class_step-kept O N cs g.fo g.fn g.quiet g.allowed_o g.allowed_n g.clients_load x c kx t p.0)
       (rw q.0 (or_else-both (made (with_clients N cs)) (init_fault (with_clients N cs) t d (use_it (with_clients N cs))) r.0 r.1))

@@ -106,12 +106,12 @@ where_open-none (Some x) e h p = absurd (cc)
 abbrev pub at_key : ℕ → Bytes → Key → Subject
 at_key r x k = record { rule = r; class = x; key = Some k; target = None }
 
--- each act on a field of a class that was is_usable
-pub field_act_stays : (O N : World) → Quiet O N → (c : Bytes) (k : Key) → is_usable O c ≡ true → EachOf (λ a. (s : Bytes) → IsSeat O N s → act_fault O s c k a ≡ None → act_fault N s c k a ≡ None) field_acts
+-- each act on a field of a class that was usable
+pub field_act_stays : (O N : World) → (quiet : Quiet O N) → quiet.rules 7 ≡ true → (c : Bytes) (k : Key) → is_usable O c ≡ true → EachOf (λ a. (s : Bytes) → IsSeat O N s → act_fault O s c k a ≡ None → act_fault N s c k a ≡ None) field_acts
 unfolding finding_at rule_7
-field_act_stays O N quiet c k u =
+field_act_stays O N quiet q7 c k u =
     EachOf-map stays field_acts
-    (first_act-none O N (at_key 7 c k) k field_acts (rw (stays_steady O N quiet c u) at (quiet (at_key 7 c k))))
+    (first_act-none O N (at_key 7 c k) k field_acts (rw (stays_steady O N quiet c u) at (quiet.none (at_key 7 c k) q7)))
   where
     stays : (a : Act) → ((s : Bytes) → IsSeat O N s → closed_act O N c k a s ≡ None) → (s : Bytes) → IsSeat O N s → act_fault O s c k a ≡ None → act_fault N s c k a ≡ None
     stays a h s i o = where_open-none (act_fault O s c k a) (act_fault N s c k a) (h s i) o

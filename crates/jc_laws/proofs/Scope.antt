@@ -1,5 +1,5 @@
 -- Clients in scope, as the walk over clients takes them.
-use Rattle.std.proofs.Common.{◌≡◌, Bool, true, false, cond, List, [], ◌∷◌, ◌++◌, refl, sym, ◌∙◌, ap, subst, Option, Some, None, not, ◌||◌, inl, inr, is_some}
+use Rattle.std.proofs.Common.{◌≡◌, Bool, true, false, cond, List, [], ◌∷◌, ◌++◌, refl, sym, ◌∙◌, ap, subst, Option, Some, None, not, ◌||◌, inl, inr, is_some, ◌&&◌}
 use Rattle.std.proofs.lemmas.Bool.{and_parts, both_ways}
 use Rattle.std.specs.List.{Contains}
 use Rattle.std.proofs.lemmas.List.Elements.{recursion_from_All, All-from_recursion, All-contains, Contains-append_left, Contains-append_right, Contains-push}
@@ -26,6 +26,11 @@ use Rattle.jc_laws.proofs.Sides.{find-library}
 use Rattle.jc_laws.proofs.Allowed.{unused_from_allowed}
 use Rattle.jc_laws.proofs.Packages.{allowed_parts, package_apart}
 use Rattle.jc_laws.proofs.Clients.{Fits, find-client}
+use Rattle.jc_facts.specs.Names.{key_of}
+use Rattle.jc_facts.specs.Overriding.{meets_final}
+use Rattle.jc_facts.specs.Words.{is_inheritable}
+use Rattle.jc_laws.proofs.Uses.{not_true}
+use Rattle.jc_laws.proofs.FinalsKept.{meets-free}
 use Rattle.jc_laws.proofs.Standing.{Quiet, none_is}
 use Rattle.jc_laws.proofs.Inits.{calls_init}
 use Rattle.jc_facts.specs.Assignment.{is_assignable}
@@ -70,14 +75,20 @@ class_named-first (c ∷ cs) ds x h = go (same c.name x) h (class_named-first cs
     go true q r = refl
     go false q r = r q
 
--- no method of the class but initializers
+-- the class declares no method that others could inherit, initializers apart
 abbrev pub DeclaresNone : ClassFacts → Type 0
-DeclaresNone c = EachOf (λ (m : Member). (is_init m.name || is_clinit m.name) ≡ true) c.methods
+DeclaresNone c = EachOf (λ (m : Member). (is_init m.name || is_clinit m.name || not (is_inheritable m)) ≡ true) c.methods
 
-overrides_none : (x : Bytes) (above : List ClassFacts) (ms : List Member) → EachOf (λ m. (is_init m.name || is_clinit m.name) ≡ true) ms → overrides_final x ms above ≡ false
+overrides_none : (x : Bytes) (above : List ClassFacts) (ms : List Member) → EachOf (λ m. (is_init m.name || is_clinit m.name || not (is_inheritable m)) ≡ true) ms → overrides_final x ms above ≡ false
 unfolding overrides_final
 overrides_none x above [] h = refl
-overrides_none x above (m ∷ ms) h = rw (h.0, overrides_none x above ms h.1) refl
+overrides_none x above (m ∷ ms) h = go (is_init m.name || is_clinit m.name) refl (is_inheritable m) refl h.0 (overrides_none x above ms h.1)
+  where
+    go : (b : Bool) → (is_init m.name || is_clinit m.name) ≡ b → (d : Bool) → is_inheritable m ≡ d → (is_init m.name || is_clinit m.name || not (is_inheritable m)) ≡ true → overrides_final x ms above ≡ false
+        → (not (is_init m.name || is_clinit m.name) && meets_final (key_of m) (record { owner = x; member = m } ∷ []) above || overrides_final x ms above) ≡ false
+    go true e d f w r = rw (e, r) refl
+    go false e false f w r = rw (e, meets-free (key_of m) (record { owner = x; member = m } ∷ []) above (f, tt), r) refl
+    go false e true f w r = absurd (let z : (is_init m.name || is_clinit m.name || not (is_inheritable m)) ≡ false = rw (e, f) refl in not_true (is_init m.name || is_clinit m.name || not (is_inheritable m)) w z)
 
 module _ (platform old new : List ClassFacts) (cs : List ClientClass) (root : is_some (class_named platform object_name) ≡ true)
     (quiet : Quiet (side platform old) (side platform new)) (scope : IsInScope (side platform old) (side platform new) cs) where

@@ -25,7 +25,7 @@ use Rattle.jc_laws.proofs.ClientItems.{above, in_chain-step}
 module _ (O N : World) (cs : List ClassFacts) (fo : Fits O cs) (fn : Fits N cs) (quiet : Quiet O N)
     (allowed_o : EachOf (λ n. is_allowed O n ≡ true) (names cs)) (allowed_n : EachOf (λ n. is_allowed N n ≡ true) (names cs))
     (calls_super : (x y : Bytes) (c d : ClassFacts) → class_named cs x ≡ Some c → is_interface c.flags ≡ false → c.superclass ≡ Some y → class_named cs y ≡ None → find O y ≡ Some d → has_init d public_or_protected ≡ true)
-    -- each client has a superclass, that of an interface is java/lang/Object, and this is is_usable
+    -- each client has a superclass, that of an interface is java/lang/Object, and this is usable
     (rooted : (x : Bytes) (c : ClassFacts) → class_named cs x ≡ Some c → (y : Bytes) × (c.superclass ≡ Some y))
     (interface_root : (x y : Bytes) (c : ClassFacts) → class_named cs x ≡ Some c → is_interface c.flags ≡ true → c.superclass ≡ Some y → y ≡ object_name)
     (root_usable : is_usable O object_name ≡ true) where

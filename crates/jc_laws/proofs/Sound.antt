@@ -10,6 +10,8 @@ use Rattle.jc_facts.specs.declared.key.Key.{Key}
 use Rattle.jc_facts.specs.declared.client.Item.{Item}
 use Rattle.jc_facts.specs.declared.client.Item.TheVariants as item
 use Rattle.jc_facts.specs.declared.link_error.LinkError.TheVariants.{VerifyError}
+use Rattle.jc_facts.specs.declared.act.Act.{Act}
+use Rattle.jc_facts.specs.declared.client.Place.{Place}
 use Rattle.jc_facts.specs.Names.{Bytes, same, same_package, object_name, is_init, is_clinit, key_of}
 use Rattle.jc_facts.specs.Flags.{is_private, is_instance, is_interface}
 use Rattle.jc_facts.specs.World.{World, find, Found, class_named, side, with_clients, own_method, is_client}
@@ -89,10 +91,7 @@ list_all-each p (x ∷ xs) h = let q = and_parts (p x) (list_all p xs) h in (q.0
 
 module _ (platform old new : List ClassFacts) (cs : List ClientClass) (root : HasRoot platform)
     (valid_platform : EachOf IsValidClass platform) (valid_old : EachOf IsValidClass old) (valid_new : EachOf IsValidClass new)
-    (quiet : Quiet (side platform old) (side platform new)) (scope : IsInScope (side platform old) (side platform new) cs)
-    (no_constant : (i : Bytes) (k : Key) → constant_stands (side platform old) (side platform new) i k ≡ true → MeetsConstant (with_clients (side platform old) (facts_of cs)) cs i k → ⊥)
-    (no_capture : (a : Bytes) (k : Key) → capture_stands (side platform old) (side platform new) a k ≡ true → MeetsCapture (with_clients (side platform old) (facts_of cs)) cs a k → ⊥)
-    (no_final : (a : Bytes) (k : Key) → final_stands (side platform old) (side platform new) a k ≡ true → MeetsFinal (with_clients (side platform old) (facts_of cs)) cs a k → ⊥) where
+    (quiet : Quiet (side platform old) (side platform new)) (scope : IsInScope (side platform old) (side platform new) cs) where
   abbrev O : World
   O = side platform old
 
@@ -233,7 +232,9 @@ module _ (platform old new : List ClassFacts) (cs : List ClientClass) (root : Ha
       go (Some d) k = of_client d k
       go None k = of_library k
 
-  module _ (x s : Bytes) (c : ClassFacts) (e : class_named (facts_of cs) x ≡ Some c) (l : load_fault VO x ≡ None) (i : is_interface c.flags ≡ false) (q : c.superclass ≡ Some s) (t : IsTail s) where
+  module _ (q6 : quiet.rules 6 ≡ true)
+      (no_final : (a : Bytes) (k : Key) → final_stands (side platform old) (side platform new) a k ≡ true → MeetsFinal (with_clients (side platform old) (facts_of cs)) cs a k → ⊥)
+      (x s : Bytes) (c : ClassFacts) (e : class_named (facts_of cs) x ≡ Some c) (l : load_fault VO x ≡ None) (i : is_interface c.flags ≡ false) (q : c.superclass ≡ Some s) (t : IsTail s) where
     seat_is : seat VO x ≡ Some t.seat_name
     unfolding first_library is_client
     seat_is =
@@ -271,7 +272,7 @@ module _ (platform old new : List ClassFacts) (cs : List ClientClass) (root : Ha
         k = key_of m
 
         h6 : (is_method_key k && is_base_class O N t.seat_name && finals N t.seat_name k && not (finals O t.seat_name k) && finds_overridable O t.seat_name k) ≡ false
-        h6 = report_where-none _ _ _ _ (quiet (at_key 6 t.seat_name k))
+        h6 = report_where-none _ _ _ _ (quiet.none (at_key 6 t.seat_name k) q6)
 
         four : (a b c d f : Bool) → a ≡ true → b ≡ true → c ≡ true → d ≡ true → f ≡ true → (a && b && c && d && f) ≡ true
         four a b c d f p q r s u = and_from (a && b && c && d) f (and_from (a && b && c) d (and_from (a && b) c (and_from a b p q) r) s) u
@@ -345,27 +346,31 @@ module _ (platform old new : List ClassFacts) (cs : List ClientClass) (root : Ha
             let z : meets_final (key_of m) (record { owner = c.name; member = m } ∷ []) (chain VO s) ≡ false = subst (λ b. (not b && meets_final (key_of m) (record { owner = c.name; member = m } ∷ []) (chain VO s)) ≡ false) p w in
             rw (p, method_kept m o.0 (ap not p) z, r) refl
 
-  finals_kept : (x : Bytes) (c : ClassFacts) → class_named (facts_of cs) x ≡ Some c → load_fault VO x ≡ None → is_interface c.flags ≡ false → EachOf (λ s. load_fault VN s ≡ None) (supers c) → and_then (superclass_fault VN c) c.superclass ≡ None
+  finals_kept : quiet.rules 6 ≡ true → ((a : Bytes) (k : Key) → final_stands (side platform old) (side platform new) a k ≡ true → MeetsFinal (with_clients (side platform old) (facts_of cs)) cs a k → ⊥)
+      → (x : Bytes) (c : ClassFacts) → class_named (facts_of cs) x ≡ Some c → load_fault VO x ≡ None → is_interface c.flags ≡ false → EachOf (λ s. load_fault VN s ≡ None) (supers c) → and_then (superclass_fault VN c) c.superclass ≡ None
       → overrides_final c.name c.methods (of_super (chain VO) c.superclass) ≡ false → overrides_final c.name c.methods (of_super (chain VN) c.superclass) ≡ false
   unfolding and_then
-  finals_kept x c e l i hn g o = go c.superclass refl (loads-parts VO x c (find-client O (facts_of cs) fo x c e) l).0 hn g o
+  finals_kept q6 no_final x c e l i hn g o = go c.superclass refl (loads-parts VO x c (find-client O (facts_of cs) fo x c e) l).0 hn g o
     where
       go : (w : Option Bytes) → c.superclass ≡ w → EachOf (λ s. load_fault VO s ≡ None) (supers_of w c.interfaces) → EachOf (λ s. load_fault VN s ≡ None) (supers_of w c.interfaces) → and_then (superclass_fault VN c) w ≡ None
           → overrides_final c.name c.methods (of_super (chain VO) w) ≡ false → overrides_final c.name c.methods (of_super (chain VN) w) ≡ false
       go None q lo ln g o = o
-      go (Some s) q lo ln g o = all_kept x s c e l i q (tail_of x s c e i q l lo.0 ln.0 g) c.methods (own_of c.methods (fit_of c (valid_o x c (find-client O (facts_of cs) fo x c e))).methods_differ) o
+      go (Some s) q lo ln g o = all_kept q6 no_final x s c e l i q (tail_of x s c e i q l lo.0 ln.0 g) c.methods (own_of c.methods (fit_of c (valid_o x c (find-client O (facts_of cs) fo x c e))).methods_differ) o
 
-  loads_kept : (x : Bytes) (c : ClassFacts) → class_named (facts_of cs) x ≡ Some c → load_fault VO x ≡ None → load_fault VN x ≡ None
-  loads_kept x c e h = clients_load O N (facts_of cs) fo fn quiet ao an calls (same_root platform old new cs has_root quiet scope) finals_kept x h c e
+  abbrev pub KeepsLoads : Type 0
+  KeepsLoads = (x : Bytes) (c : ClassFacts) → class_named (facts_of cs) x ≡ Some c → load_fault VO x ≡ None → load_fault VN x ≡ None
 
-  ground : Ground (side platform old) (side platform new) (facts_of cs)
-  ground = record {
+  pub loads_kept : quiet.rules 6 ≡ true → ((a : Bytes) (k : Key) → final_stands (side platform old) (side platform new) a k ≡ true → MeetsFinal (with_clients (side platform old) (facts_of cs)) cs a k → ⊥) → KeepsLoads
+  loads_kept q6 no_final x c e h = clients_load O N (facts_of cs) fo fn quiet ao an calls (same_root platform old new cs has_root quiet scope) (finals_kept q6 no_final) x h c e
+
+  ground : KeepsLoads → Ground (side platform old) (side platform new) (facts_of cs)
+  ground loads = record {
     fo = fo;
     fn = fn;
     quiet = quiet;
     allowed_o = ao;
     allowed_n = an;
-    clients_load = loads_kept;
+    clients_load = loads;
     calls_super = calls;
     rooted = rooted;
     interface_root = interface_root;
@@ -387,25 +392,77 @@ module _ (platform old new : List ClassFacts) (cs : List ClientClass) (root : Ha
   valid_item : (X : ClientClass) (i : Item) → Contains cs X → Contains X.items i → item_valid X.facts i ≡ true
   valid_item X i h w = All-contains (λ i. item_valid X.facts i ≡ true) X.items i (All-from_recursion (λ i. item_valid X.facts i ≡ true) X.items (list_all-each (item_valid X.facts) X.items (All-contains IsValidClient cs X scope.valid h).items)) w
 
-  item_kept : (X : ClientClass) (i : Item) → Contains cs X → load_fault VO X.facts.name ≡ None → Contains X.items i → is_in_reach VO X.facts.name i ≡ true → outcome VO X.facts.name i ≡ None → outcome VN X.facts.name i ≡ None
-  unfolding outcome
-  item_kept X (item.Class t) h l w r o = class_step-kept O N (facts_of cs) fo fn quiet ao an loads_kept X.facts.name X.facts (named_client X h) t o
-  item_kept X (item.New t d) h l w r o = new_item O N (facts_of cs) ground X.facts.name X.facts (named_client X h) l t d o
-  item_kept X (item.Init t d) h l w r o = init_item O N (facts_of cs) ground X.facts.name X.facts (named_client X h) l t d (valid_item X (item.Init t d) h w) o
-  item_kept X (item.Access act t k v place) h l w r o = go (form_of act) refl (valid_item X (item.Access act t k v place) h w)
-    where
-      by_method : (form_of act ≡ FieldForm → ⊥) → is_method_key k ≡ true → outcome VN X.facts.name (item.Access act t k v place) ≡ None
-      by_method f mk = method_access O N cs ground no_capture X (named_client X h) l act t k v place f mk r o
+  -- ---- items, from the loads of the clients and from what the rules of each kind of item find
 
-      go : (f : Form) → form_of act ≡ f → (is_field_form (form_of act) || not (is_init k.name || is_clinit k.name)) ≡ true → outcome VN X.facts.name (item.Access act t k v place) ≡ None
-      go FieldForm f q = field_access O N cs ground no_constant X h (named_client X h) l act t k v place f w r o
-      go MethodForm f q = by_method (λ z. let y : FieldForm ≡ MethodForm = sym z ∙ f in cc) (subst (λ z. (is_field_form z || not (is_init k.name || is_clinit k.name)) ≡ true) f q)
-      go InterfaceForm f q = by_method (λ z. let y : FieldForm ≡ InterfaceForm = sym z ∙ f in cc) (subst (λ z. (is_field_form z || not (is_init k.name || is_clinit k.name)) ≡ true) f q)
-  item_kept X (item.Assign s t) h l w r o =
-      let p = and_parts (type_in_reach VO X.facts.name s) (type_in_reach VO X.facts.name t) r in
-      let a : is_assignable VO s t ≡ true = not_false (is_assignable VO s t) (fault_where-none (not (is_assignable VO s t)) VerifyError o) in
-      let b : is_assignable VN s t ≡ true = is_assignable-kept O N (facts_of cs) fo fn quiet ao an loads_kept X.facts.name X.facts (named_client X h) s t p.0 p.1 a in
-      rw b refl
+  abbrev pub KeepsItem : ClientClass → Item → Type 0
+  KeepsItem X i = Contains cs X → load_fault VO X.facts.name ≡ None → Contains X.items i → is_in_reach VO X.facts.name i ≡ true → outcome VO X.facts.name i ≡ None → outcome VN X.facts.name i ≡ None
 
-  pub sound : Keeps (side platform old) (side platform new) cs
-  sound = record { loading = λ c h l. loads_kept c.facts.name c.facts (named_client c h) l; uses = λ c i h l w r o. item_kept c i h l w r o }
+  module _ (loads : KeepsLoads) where
+    pub class_kept : (X : ClientClass) (t : Bytes) → KeepsItem X (item.Class t)
+    unfolding outcome
+    class_kept X t h l w r o = class_step-kept O N (facts_of cs) fo fn quiet ao an loads X.facts.name X.facts (named_client X h) t o
+
+    pub assign_kept : (X : ClientClass) (s t : Bytes) → KeepsItem X (item.Assign s t)
+    unfolding outcome
+    assign_kept X s t h l w r o =
+        let p = and_parts (type_in_reach VO X.facts.name s) (type_in_reach VO X.facts.name t) r in
+        let a : is_assignable VO s t ≡ true = not_false (is_assignable VO s t) (fault_where-none (not (is_assignable VO s t)) VerifyError o) in
+        let b : is_assignable VN s t ≡ true = is_assignable-kept O N (facts_of cs) fo fn quiet ao an loads X.facts.name X.facts (named_client X h) s t p.0 p.1 a in
+        rw b refl
+
+    pub new_kept : quiet.rules 5 ≡ true → (X : ClientClass) (t d : Bytes) → KeepsItem X (item.New t d)
+    unfolding ground
+    new_kept q5 X t d h l w r o = new_item O N (facts_of cs) (ground loads) X.facts.name X.facts (named_client X h) l t d q5 o
+
+    pub init_kept : quiet.rules 5 ≡ true → (X : ClientClass) (t d : Bytes) → KeepsItem X (item.Init t d)
+    unfolding ground
+    init_kept q5 X t d h l w r o = init_item O N (facts_of cs) (ground loads) X.facts.name X.facts (named_client X h) l t d q5 (valid_item X (item.Init t d) h w) o
+
+    pub field_kept : quiet.rules 7 ≡ true
+        → ((i : Bytes) (k : Key) → constant_stands (side platform old) (side platform new) i k ≡ true → MeetsConstant (with_clients (side platform old) (facts_of cs)) cs i k → ⊥)
+        → (X : ClientClass) (act : Act) (t : Bytes) (k : Key) (v : Option Bytes) (place : Place) → form_of act ≡ FieldForm → KeepsItem X (item.Access act t k v place)
+    unfolding ground
+    field_kept q7 no_constant X act t k v place f h l w r o = field_access O N cs (ground loads) q7 no_constant X h (named_client X h) l act t k v place f w r o
+
+    pub invoke_kept : quiet.rules 8 ≡ true → quiet.rules 9 ≡ true
+        → ((a : Bytes) (k : Key) → capture_stands (side platform old) (side platform new) a k ≡ true → MeetsCapture (with_clients (side platform old) (facts_of cs)) cs a k → ⊥)
+        → (X : ClientClass) (act : Act) (t : Bytes) (k : Key) (v : Option Bytes) (place : Place) → (form_of act ≡ FieldForm → ⊥) → KeepsItem X (item.Access act t k v place)
+    unfolding ground
+    invoke_kept q8 q9 no_capture X act t k v place f h l w r o = method_access O N cs (ground loads) q8 q9 no_capture X (named_client X h) l act t k v place f (by (form_of act) refl (valid_item X (item.Access act t k v place) h w)) r o
+      where
+        by : (g : Form) → form_of act ≡ g → (is_field_form (form_of act) || not (is_init k.name || is_clinit k.name)) ≡ true → is_method_key k ≡ true
+        by FieldForm g q = absurd (f g)
+        by MethodForm g q = subst (λ z. (is_field_form z || not (is_init k.name || is_clinit k.name)) ≡ true) g q
+        by InterfaceForm g q = subst (λ z. (is_field_form z || not (is_init k.name || is_clinit k.name)) ≡ true) g q
+
+    pub access_kept : quiet.rules 7 ≡ true → quiet.rules 8 ≡ true → quiet.rules 9 ≡ true
+        → ((i : Bytes) (k : Key) → constant_stands (side platform old) (side platform new) i k ≡ true → MeetsConstant (with_clients (side platform old) (facts_of cs)) cs i k → ⊥)
+        → ((a : Bytes) (k : Key) → capture_stands (side platform old) (side platform new) a k ≡ true → MeetsCapture (with_clients (side platform old) (facts_of cs)) cs a k → ⊥)
+        → (X : ClientClass) (act : Act) (t : Bytes) (k : Key) (v : Option Bytes) (place : Place) → KeepsItem X (item.Access act t k v place)
+    access_kept q7 q8 q9 no_constant no_capture X act t k v place = go (form_of act) refl
+      where
+        go : (f : Form) → form_of act ≡ f → KeepsItem X (item.Access act t k v place)
+        go FieldForm f = field_kept q7 no_constant X act t k v place f
+        go MethodForm f = invoke_kept q8 q9 no_capture X act t k v place (λ z. let y : FieldForm ≡ MethodForm = sym z ∙ f in cc)
+        go InterfaceForm f = invoke_kept q8 q9 no_capture X act t k v place (λ z. let y : FieldForm ≡ InterfaceForm = sym z ∙ f in cc)
+
+    -- every item, where rules 5, 7, 8 and 9 find nothing
+    pub item_kept : quiet.rules 5 ≡ true → quiet.rules 7 ≡ true → quiet.rules 8 ≡ true → quiet.rules 9 ≡ true
+        → ((i : Bytes) (k : Key) → constant_stands (side platform old) (side platform new) i k ≡ true → MeetsConstant (with_clients (side platform old) (facts_of cs)) cs i k → ⊥)
+        → ((a : Bytes) (k : Key) → capture_stands (side platform old) (side platform new) a k ≡ true → MeetsCapture (with_clients (side platform old) (facts_of cs)) cs a k → ⊥)
+        → (X : ClientClass) (i : Item) → KeepsItem X i
+    item_kept q5 q7 q8 q9 no_constant no_capture X (item.Class t) = class_kept X t
+    item_kept q5 q7 q8 q9 no_constant no_capture X (item.New t d) = new_kept q5 X t d
+    item_kept q5 q7 q8 q9 no_constant no_capture X (item.Init t d) = init_kept q5 X t d
+    item_kept q5 q7 q8 q9 no_constant no_capture X (item.Access act t k v place) = access_kept q7 q8 q9 no_constant no_capture X act t k v place
+    item_kept q5 q7 q8 q9 no_constant no_capture X (item.Assign s t) = assign_kept X s t
+
+    -- the loads and the items
+    pub keeps_all : quiet.rules 5 ≡ true → quiet.rules 7 ≡ true → quiet.rules 8 ≡ true → quiet.rules 9 ≡ true
+        → ((i : Bytes) (k : Key) → constant_stands (side platform old) (side platform new) i k ≡ true → MeetsConstant (with_clients (side platform old) (facts_of cs)) cs i k → ⊥)
+        → ((a : Bytes) (k : Key) → capture_stands (side platform old) (side platform new) a k ≡ true → MeetsCapture (with_clients (side platform old) (facts_of cs)) cs a k → ⊥)
+        → Keeps (side platform old) (side platform new) cs
+    keeps_all q5 q7 q8 q9 no_constant no_capture = record {
+      loading = λ c h l. loads c.facts.name c.facts (named_client c h) l;
+      uses = λ c i h l w r o. item_kept q5 q7 q8 q9 no_constant no_capture c i h l w r o;
+    }

@@ -1,5 +1,5 @@
 -- What follows for a class where no finding stands.
-use Rattle.std.proofs.Common.{◌≡◌, ℕ, Bool, true, false, refl, Option, Some, None, is_none, not, ◌||◌, ◌&&◌}
+use Rattle.std.proofs.Common.{◌≡◌, ◌≤◌, lit≤, ℕ, Bool, true, false, refl, Option, Some, None, is_none, not, ◌||◌, ◌&&◌}
 use Rattle.std.proofs.lemmas.Bool.{and_parts, and_from}
 use Rattle.jc_facts.specs.declared.class_facts.ClassFacts.{ClassFacts}
 use Rattle.jc_facts.specs.declared.act.Act.{Act}
@@ -33,13 +33,20 @@ and_false false b h e = absurd (cc)
 abbrev pub at_class : ℕ → Bytes → Subject
 at_class r x = record { rule = r; class = x; key = None; target = None }
 
-abbrev pub Quiet : World → World → Type 0
-Quiet O N = (p : Subject) → finding_at O N p ≡ None
+-- the rules that are known to find nothing, rules 1 to 4 at least
+pub record Quiet (O N : World) : Type 0 where
+  pub rules : ℕ → Bool
+  pub first : (n : ℕ) → n ≤ 4 → rules n ≡ true
+  pub none : (s : Subject) → rules s.rule ≡ true → finding_at O N s ≡ None
+
+-- nothing is found at all
+pub all_quiet : (O N : World) → ((s : Subject) → finding_at O N s ≡ None) → Quiet O N
+all_quiet O N q = record { rules = λ n. true; first = λ n h. refl; none = λ s h. q s }
 
 module _ (O N : World) (quiet : Quiet O N) where
   pub stays_usable : (x : Bytes) → is_usable O x ≡ true → is_usable N x ≡ true
   unfolding finding_at rule_1
-  stays_usable x h = and_not (is_usable O x) (is_usable N x) (report_where-none _ _ _ _ (quiet (at_class 1 x))) h
+  stays_usable x h = and_not (is_usable O x) (is_usable N x) (report_where-none _ _ _ _ (quiet.none (at_class 1 x) (quiet.first 1 (lit≤ tt)))) h
 
   pub stays_kept : (x : Bytes) → is_usable O x ≡ true → is_kept O N x ≡ true
   unfolding is_kept
@@ -47,7 +54,7 @@ module _ (O N : World) (quiet : Quiet O N) where
 
   pub never_stopped : (x : Bytes) → became_class O N x ≡ false
   unfolding finding_at rule_3
-  never_stopped x = report_where-none _ _ _ _ (quiet (at_class 3 x))
+  never_stopped x = report_where-none _ _ _ _ (quiet.none (at_class 3 x) (quiet.first 3 (lit≤ tt)))
 
   pub stays_steady : (x : Bytes) → is_usable O x ≡ true → is_steady O N x ≡ true
   unfolding is_steady
@@ -55,15 +62,15 @@ module _ (O N : World) (quiet : Quiet O N) where
 
   pub never_closed : (x : Bytes) → is_closed O N x ≡ false
   unfolding finding_at rule_2
-  never_closed x = report_where-none _ _ _ _ (quiet (at_class 2 x))
+  never_closed x = report_where-none _ _ _ _ (quiet.none (at_class 2 x) (quiet.first 2 (lit≤ tt)))
 
-  -- a is_usable interface is one still
+  -- a usable interface is one still
   pub stays_interface : (x : Bytes) → is_usable O x ≡ true → is_interface_of O x ≡ true → is_interface_of N x ≡ true
   unfolding became_class
   stays_interface x h i =
       and_not (is_kept O N x && is_interface_of O x) (is_interface_of N x) (never_stopped x) (and_from (is_kept O N x) (is_interface_of O x) (stays_kept x h) i)
 
--- a is_usable class is there, is public and loads
+-- a usable class is there, is public and loads
 pub record IsUsable (W : World) (x : Bytes) : Type 0 where
   pub class : ClassFacts
   pub is_there : find W x ≡ Some class

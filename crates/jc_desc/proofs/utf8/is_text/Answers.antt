@@ -6,7 +6,8 @@ use Rattle.jc_desc.proofs.utf8.is_text.Goals as goal
 tells : (r : Bool) (bytes : List ℕ) → r ≡ is_text bytes → IsTrue r ↔ IsText bytes
 tells r bytes e = (
   (λ t. let s : r ≡ true = grind (arith, t) in text_is bytes (sym e ∙ s)),
-  (λ h. let s : r ≡ true = e ∙ text_again bytes h in let t : IsTrue r = grind (arith, s) in t))
+  (λ h. let s : r ≡ true = e ∙ text_again bytes h in let t : IsTrue r = grind (arith, s) in t),
+)
 
 pub returns-clause-shapes : goal.returns-clause-shapes
 returns-clause-shapes c = tells c.are_shapes.result c.args.bytes.now c.are_shapes.ensures
