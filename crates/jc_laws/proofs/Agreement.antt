@@ -1,5 +1,5 @@
 -- Two worlds that agree on names, closed under what the classes name, agree on all that is looked for there.
-use Rattle.std.proofs.Common.{◌≡◌, ◌≤◌, Bool, true, false, cond, List, [], ◌∷◌, ◌++◌, refl, sym, ◌∙◌, ap, subst, Option, Some, None, arith, length-append, not, ◌||◌, ◌&&◌}
+use Rattle.std.proofs.Common.{◌≡◌, Bool, true, false, cond, List, [], ◌∷◌, refl, sym, ◌∙◌, ap, subst, Option, Some, None, not, ◌||◌, ◌&&◌}
 use Rattle.jc_facts.specs.declared.class_facts.ClassFacts.{ClassFacts}
 use Rattle.jc_facts.specs.declared.key.Key.{Key}
 use Rattle.jc_facts.specs.declared.class_facts.Member.{Member}
@@ -7,7 +7,7 @@ use Rattle.jc_facts.specs.Names.{Bytes, same, object_name}
 use Rattle.jc_facts.specs.Flags.{is_private, is_static}
 use Rattle.jc_laws.proofs.Worlds.{find-name}
 use Rattle.std.specs.List.{filter}
-use Rattle.jc_facts.specs.World.{World, find, class_named, size, with_clients, Found, own_method, found_in}
+use Rattle.jc_facts.specs.World.{World, find, Found, own_method, found_in}
 use Rattle.jc_facts.specs.Search.{supers, supers_of}
 use Rattle.jc_facts.specs.Hierarchy.{chain, chain_step, of_super, names_in, has_superinterface, each, with_interfaces, interfaces_step, interfaces_of, superinterfaces}
 use Rattle.jc_facts.specs.Loading.{load_fault}
@@ -15,7 +15,7 @@ use Rattle.jc_facts.specs.Lookup.{field_found, field_step, method_choices, super
 use Rattle.jc_laws.proofs.Settles.{EachOf, EachOf-map, EachOf-both, EachOf-append, list_any-same, filter-same}
 use Rattle.jc_laws.proofs.Loaded.{loads-parts, loads-induction, unroll}
 use Rattle.jc_laws.proofs.Locality.{chain_step-local, interfaces_step-local, field_step-local, each-same, of_interfaces}
-use Rattle.jc_laws.proofs.Agree.{Agree, search-agree, load_fault-agree}
+use Rattle.jc_laws.proofs.Agree.{Agree, search-agree}
 
 module _ (W V : World) (S : Bytes → Type 0) (a : Agree W V S) where
   pub chain-agree : (x : Bytes) → S x → load_fault W x ≡ None → chain W x ≡ chain V x
@@ -145,6 +145,6 @@ module _ (W V : World) (S : Bytes → Type 0) (a : Agree W V S) where
   unfolding method_choices
   method_choices-agree x k s h = rw (superinterface_choices-agree x k s h, chain-agree x s h) refl
 
-  pub interface_choices-agree : (x : Bytes) (k : Key) → S x → S object_name → load_fault W x ≡ None → interface_choices W x k ≡ interface_choices V x k
+  pub interface_choices-agree : (x : Bytes) (k : Key) → S x → find W object_name ≡ find V object_name → load_fault W x ≡ None → interface_choices W x k ≡ interface_choices V x k
   unfolding interface_choices object_method
-  interface_choices-agree x k s o h = rw (superinterface_choices-agree x k s h, a.same x s, a.same object_name o) refl
+  interface_choices-agree x k s o h = rw (superinterface_choices-agree x k s h, a.same x s, o) refl

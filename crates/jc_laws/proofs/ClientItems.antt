@@ -1,4 +1,4 @@
--- Where no finding stands, what clients name and assignable with the old release they can with the new one.
+-- Where no finding stands, what clients name and assign with the old release they can with the new one.
 use Rattle.std.proofs.Common.{lit≤, ◌≡◌, ℕ, zero, suc, Bool, true, false, List, [], ◌∷◌, refl, sym, ◌∙◌, ap, subst, Option, Some, None, not, ◌||◌, ◌&&◌, ◌⊎◌, inl, inr}
 use Rattle.std.proofs.lemmas.Bool.{and_parts, both_ways, and_from, or_cases}
 use Rattle.jc_facts.specs.declared.class_facts.ClassFacts.{ClassFacts}

@@ -146,7 +146,7 @@ module _ (O N : World) (cs : List ClassFacts) (fo : Fits O cs) (fn : Fits N cs) 
   pub library_loads : (y : Bytes) → class_named cs y ≡ None → is_usable O y ≡ true → load_fault VN y ≡ None
   library_loads y l u = sym (load_fault-side N cs fn.bare fn.unused y l) ∙ (usable_parts N y (stays_usable O N quiet y u)).loaded
 
-  -- what a class that is is_extendable or is_implementable and was usable is now
+  -- what a class that is extendable or implementable and was usable is now
   record IsKeptOpen (d : ClassFacts) (y : Bytes) : Type 0 where
     class : ClassFacts
     is_there : find N y ≡ Some class

@@ -8,17 +8,13 @@ use Rattle.jc_facts.specs.Search.{descend, supers}
 use Rattle.jc_facts.specs.Hierarchy.{chain, chain_step}
 use Rattle.jc_facts.specs.Loading.{load_fault, fault_at}
 use Rattle.jc_facts.specs.Lookup.{field_found, field_step}
+use Rattle.jc_laws.specs.Walks.{over_clients}
 use Rattle.jc_laws.proofs.Settles.{EachOf, EachOf-map}
 use Rattle.jc_laws.proofs.Descent.{IsLocal}
 use Rattle.jc_laws.proofs.Loaded.{loaded-level, loaded-parts, loads_from, unroll}
 use Rattle.jc_laws.proofs.Locality.{chain_step-local, field_step-local}
 use Rattle.jc_laws.proofs.Agree.{search-agree}
 use Rattle.jc_laws.proofs.Sides.{IsLibrary, sides, load_fault-side}
-
--- a search over clients alone, at most n levels deep, where `library` answers for every other name
-unfoldable pub over_clients : {B : Type 0} → List ClassFacts → (Bytes → B) → ((Bytes → B) → ClassFacts → B) → ℕ → Bytes → B
-over_clients cs library step zero x = library x
-over_clients cs library step (suc n) x = elim (class_named cs x) [ None ↦ library x | Some c ↦ step (over_clients cs library step n) c ]
 
 module _ {B : Type 0} (cs : List ClassFacts) (library : Bytes → B) (step : (Bytes → B) → ClassFacts → B) where
   pub over_clients-library : (n : ℕ) (x : Bytes) → class_named cs x ≡ None → over_clients cs library step (suc n) x ≡ library x

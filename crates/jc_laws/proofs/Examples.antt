@@ -1,14 +1,13 @@
 -- Small releases, and all that the rules find between two of them.
 --     findings O N, collisions O N, notes O N      over every subject that the two sides name
 --     computes      the definitions that unfold where these compute
-use Rattle.std.proofs.Common.{ℕ, Bool, true, false, cond, List, [], ◌∷◌, ◌++◌, Option, Some, None, codes, not, ◌≡◌, ◌<◌, lit<, zero, suc, slice_index}
+use Rattle.std.proofs.Common.{ℕ, Bool, true, false, cond, List, [], ◌∷◌, ◌++◌, Option, Some, None, codes, ◌≡◌, ◌<◌, lit<, zero, suc, slice_index}
 use Rattle.std.specs.List.{filter_map, list_any, AllByRecursion}
 use Rattle.std.specs.Str.{is_utf8}
 use Rattle.std.proofs.lemmas.Str.{is_utf8-from_IsUtf8, IsUtf8-from_ascii}
 use Rattle.jc_desc.specs.Reading.{class_at, basic_from, type_at, field_of, params_at, result_of, method_of, slots_of_method}
 use Rattle.jc_facts.specs.declared.class_facts.ClassFacts.{ClassFacts}
 use Rattle.jc_facts.specs.declared.class_facts.Member.{Member}
-use Rattle.jc_facts.specs.declared.class_facts.Fixed.{Fixed}
 use Rattle.jc_facts.specs.declared.key.Key.{Key}
 use Rattle.jc_facts.specs.declared.finding.Finding.{Finding}
 use Rattle.jc_facts.specs.declared.act.Act.{Act}
@@ -18,7 +17,7 @@ use Rattle.jc_facts.specs.declared.verdict.Note.{Note}
 use Rattle.jc_facts.specs.declared.verdict.Note.TheVariants as note
 use Rattle.jc_facts.specs.Names.{Bytes, object_name, package_of, key_of, same_key}
 use Rattle.jc_facts.specs.Types.{read_type}
-use Rattle.jc_facts.specs.Options.{or_else, first_some, and_then, some_and}
+use Rattle.jc_facts.specs.Options.{or_else, first_some, and_then}
 use Rattle.jc_facts.specs.World.{World, side, classes, size, class_named, find, is_client, found_in}
 use Rattle.jc_facts.specs.Search.{descend}
 use Rattle.jc_facts.specs.Hierarchy.{chain_step, chain, each, interfaces_step, with_interfaces, interfaces_of, superinterfaces}
@@ -38,11 +37,11 @@ use Rattle.jc_facts.specs.Notes.{loses_constant}
 -- all that outcomes and verdicts compute with
 unfoldable pub computes : ℕ
 unfolding class_at basic_from type_at field_of params_at result_of method_of slots_of_method package_of read_type or_else first_some and_then size class_named find is_client found_in descend
-  chain_step chain each interfaces_step with_interfaces interfaces_of superinterfaces host_of is_member_accessible meets_final overrides_final superclass_fault interface_fault own_fault load_step load_fault
-  field_step field_found first_declared if_inheritable declared_by only_or superinterface_choices or_choices method_choices if_public_instance object_method interface_choices assign_to is_assignable passes_protected_check
-  class_fault class_step first_of look_up is_direct_super receiver_ok assignment_ok use_fault init_fault outcome is_allowed names_differ type_in_reach first_library
-  is_usable is_kept became_class is_steady is_extendable is_implementable is_closed is_base_class is_base_interface finals inherits act_fault least
-  gone_error act_finding first_act rule_1 rule_2 rule_3 rule_4 init_finding rule_6 rule_7 rule_8 rule_9 finding_at constant_stands captures capture_stands final_stands collision_at loses_constant
+    chain_step chain each interfaces_step with_interfaces interfaces_of superinterfaces host_of is_member_accessible meets_final overrides_final superclass_fault interface_fault own_fault load_step load_fault
+    field_step field_found first_declared if_inheritable declared_by only_or superinterface_choices or_choices method_choices if_public_instance object_method interface_choices assign_to is_assignable passes_protected_check
+    class_fault class_step first_of look_up is_direct_super receiver_ok assignment_ok use_fault init_fault outcome is_allowed names_differ type_in_reach first_library
+    is_usable is_kept became_class is_steady is_extendable is_implementable is_closed is_base_class is_base_interface finals inherits act_fault least
+    gone_error act_finding first_act rule_1 rule_2 rule_3 rule_4 init_finding rule_6 rule_7 rule_8 rule_9 finding_at constant_stands captures capture_stands final_stands collision_at loses_constant
 computes = 0
 
 -- ---- classes

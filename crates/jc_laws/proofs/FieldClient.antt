@@ -38,7 +38,8 @@ use Rattle.jc_laws.proofs.Depth.{fault_at-deep}
 use Rattle.jc_laws.proofs.Loaded.{loads-parts, loads-found}
 use Rattle.jc_laws.proofs.Locality.{of_interfaces}
 use Rattle.jc_laws.proofs.Sides.{find-library, field_found-side}
-use Rattle.jc_laws.proofs.Clients.{Fits, find-client, over_clients, over_clients-library, field_found-clients}
+use Rattle.jc_laws.specs.Walks.{over_clients}
+use Rattle.jc_laws.proofs.Clients.{Fits, find-client, over_clients-library, field_found-clients}
 use Rattle.jc_laws.proofs.Standing.{stays_usable, stays_interface, usable_parts}
 use Rattle.jc_laws.proofs.OpenActs.{IsSeat, field_act_stays}
 use Rattle.jc_laws.proofs.ClientLoads.{super_access, interface_base}

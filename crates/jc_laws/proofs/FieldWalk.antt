@@ -9,7 +9,7 @@ use Rattle.jc_facts.specs.Options.{or_else, first_some, and_then}
 use Rattle.jc_facts.specs.Lookup.{field_step}
 use Rattle.jc_laws.proofs.Settles.{EachOf, EachOf-map, EachOf-both}
 use Rattle.jc_laws.proofs.Locality.{of_interfaces}
-use Rattle.jc_laws.proofs.Clients.{over_clients}
+use Rattle.jc_laws.specs.Walks.{over_clients}
 
 -- what an interface gives with both releases: nothing, or fields that agree, or the new release has gained the field, which then passes P
 pub data Strong (G : Type 0) (F : Found → Found → Type 0) (P : Found → Type 0) : Option Found → Option Found → Type 0 where

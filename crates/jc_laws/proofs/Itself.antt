@@ -25,7 +25,7 @@ use Rattle.jc_facts.specs.Seats.{where_open, closed_act, act_fault, first_seat, 
 use Rattle.jc_facts.specs.Collisions.{constant_stands, capture_stands, captures, are_none, final_stands}
 use Rattle.jc_laws.proofs.Settles.{EachOf, EachOf-map}
 use Rattle.jc_laws.proofs.Allowed.{among_each}
-use Rattle.jc_laws.proofs.Standing.{Quiet, class_is-there}
+use Rattle.jc_laws.proofs.Standing.{class_is-there}
 
 and-self : (a : Bool) → (a && not a) ≡ false
 and-self true = refl

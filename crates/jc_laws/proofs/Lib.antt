@@ -49,3 +49,9 @@ pub mod Staged
 pub mod Examples
 pub mod WorkedExamples
 pub mod WorkedClients
+pub mod AgreementLaw
+pub mod ChoiceLaws
+pub mod WalkLaws
+pub mod OverridingLaw
+pub mod FindingLaws
+pub mod SoundnessLaws

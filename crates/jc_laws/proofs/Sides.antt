@@ -1,22 +1,16 @@
 -- Clients with names that the side does not use change nothing of the side's classes.
-use Rattle.std.proofs.Common.{◌≡◌, ◌≤◌, Bool, true, false, cond, List, [], ◌∷◌, ◌++◌, refl, sym, ◌∙◌, ap, subst, Option, Some, None, arith, length-append, not, ◌||◌, ◌&&◌}
+use Rattle.std.proofs.Common.{◌≡◌, ◌≤◌, List, [], ◌∷◌, ◌++◌, refl, sym, ◌∙◌, Some, None, arith, length-append}
 use Rattle.jc_facts.specs.declared.class_facts.ClassFacts.{ClassFacts}
 use Rattle.jc_facts.specs.declared.key.Key.{Key}
-use Rattle.jc_facts.specs.declared.class_facts.Member.{Member}
-use Rattle.jc_facts.specs.Names.{Bytes, same, object_name}
-use Rattle.jc_facts.specs.Flags.{is_private, is_static}
-use Rattle.jc_laws.proofs.Worlds.{find-name}
-use Rattle.std.specs.List.{filter}
-use Rattle.jc_facts.specs.World.{World, find, class_named, size, with_clients, Found, own_method, found_in}
-use Rattle.jc_facts.specs.Search.{supers, supers_of}
-use Rattle.jc_facts.specs.Hierarchy.{chain, chain_step, of_super, names_in, has_superinterface, each, with_interfaces, interfaces_step, interfaces_of, superinterfaces}
+use Rattle.jc_facts.specs.Names.{Bytes, object_name}
+use Rattle.jc_facts.specs.World.{World, find, class_named, size, with_clients}
+use Rattle.jc_facts.specs.Search.{supers}
+use Rattle.jc_facts.specs.Hierarchy.{chain, with_interfaces, superinterfaces}
 use Rattle.jc_facts.specs.Loading.{load_fault}
-use Rattle.jc_facts.specs.Lookup.{field_found, field_step, method_choices, superinterface_choices, interface_choices, only_or, is_concrete, is_maximal, declared_by, if_inheritable, object_method}
-use Rattle.jc_laws.proofs.Settles.{EachOf, EachOf-map, EachOf-both, EachOf-append, list_any-same, filter-same}
-use Rattle.jc_laws.proofs.Loaded.{loads-parts, loads-induction, unroll}
-use Rattle.jc_laws.proofs.Locality.{chain_step-local, interfaces_step-local, field_step-local, each-same, of_interfaces}
+use Rattle.jc_facts.specs.Lookup.{field_found, method_choices, superinterface_choices, interface_choices}
+use Rattle.jc_laws.proofs.Settles.{EachOf}
 use Rattle.jc_laws.proofs.Agreement.{chain-agree, field_found-agree, with_interfaces-agree, superinterfaces-agree, IsGoodIn, superinterfaces-good_in, superinterface_choices-agree, method_choices-agree, interface_choices-agree}
-use Rattle.jc_laws.proofs.Agree.{Agree, search-agree, load_fault-agree}
+use Rattle.jc_laws.proofs.Agree.{Agree, load_fault-agree}
 
 class_named-front : (cs ds : List ClassFacts) (x : Bytes) → class_named ds x ≡ None → class_named (cs ++ ds) x ≡ class_named cs x
 unfolding class_named
@@ -75,4 +69,4 @@ module _ (W : World) (clients : List ClassFacts) (bare : W.clients ≡ []) where
     method_choices-side x k s h = method_choices-agree W V IsLibrary sides x k s h
 
     pub interface_choices-side : (x : Bytes) (k : Key) → IsLibrary x → IsLibrary object_name → load_fault W x ≡ None → interface_choices W x k ≡ interface_choices V x k
-    interface_choices-side x k s o h = interface_choices-agree W V IsLibrary sides x k s o h
+    interface_choices-side x k s o h = interface_choices-agree W V IsLibrary sides x k s (find-library object_name o) h

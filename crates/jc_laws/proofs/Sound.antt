@@ -52,7 +52,7 @@ use Rattle.jc_laws.proofs.FieldClient.{field_access}
 use Rattle.jc_laws.proofs.MethodClient.{method_access, first_library-below}
 use Rattle.jc_laws.proofs.NewInit.{new_item, init_item}
 
-class_named-each : (P : ClassFacts → Type 0) (cs : List ClassFacts) (x : Bytes) (c : ClassFacts) → EachOf P cs → class_named cs x ≡ Some c → P c
+pub class_named-each : (P : ClassFacts → Type 0) (cs : List ClassFacts) (x : Bytes) (c : ClassFacts) → EachOf P cs → class_named cs x ≡ Some c → P c
 unfolding class_named
 class_named-each P [] x c h e = absurd (cc)
 class_named-each P (d ∷ cs) x c h e = go (same d.name x) e (class_named-each P cs x c h.1)

@@ -1,10 +1,10 @@
 -- What fewer rules keep, for clients that declare no method which others could inherit.
-use Rattle.std.proofs.Common.{◌≡◌, Bool, true, refl, List, is_some}
+use Rattle.std.proofs.Common.{◌≡◌, true, refl, List}
 use Rattle.jc_facts.specs.declared.class_facts.ClassFacts.{ClassFacts}
 use Rattle.jc_facts.specs.declared.client.ClientClass.{ClientClass}
 use Rattle.jc_facts.specs.declared.key.Key.{Key}
-use Rattle.jc_facts.specs.Names.{Bytes, object_name}
-use Rattle.jc_facts.specs.World.{side, with_clients, class_named}
+use Rattle.jc_facts.specs.Names.{Bytes}
+use Rattle.jc_facts.specs.World.{side, with_clients}
 use Rattle.jc_facts.specs.Clients.{IsInScope, facts_of, Keeps, HasRoot}
 use Rattle.jc_facts.specs.Meets.{MeetsConstant, MeetsCapture}
 use Rattle.jc_facts.specs.Valid.{IsValidClass}

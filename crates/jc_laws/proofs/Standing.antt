@@ -40,7 +40,7 @@ pub record Quiet (O N : World) : Type 0 where
   pub none : (s : Subject) → rules s.rule ≡ true → finding_at O N s ≡ None
 
 -- nothing is found at all
-pub all_quiet : (O N : World) → ((s : Subject) → finding_at O N s ≡ None) → Quiet O N
+abbrev pub all_quiet : (O N : World) → ((s : Subject) → finding_at O N s ≡ None) → Quiet O N
 all_quiet O N q = record { rules = λ n. true; first = λ n h. refl; none = λ s h. q s }
 
 module _ (O N : World) (quiet : Quiet O N) where

@@ -12,7 +12,7 @@ use Rattle.jc_facts.specs.declared.key.Key.{Key}
 use Rattle.jc_facts.specs.declared.act.Act.TheVariants.{InvokeVirtual}
 use Rattle.jc_facts.specs.declared.link_error.LinkError.TheVariants.{IllegalAccessError, VerifyError, NoClassDefFoundError, NoSuchMethodError}
 use Rattle.jc_facts.specs.Names.{Bytes, object_name}
-use Rattle.jc_facts.specs.World.{World, side, with_clients}
+use Rattle.jc_facts.specs.World.{World, with_clients}
 use Rattle.jc_facts.specs.Loading.{load_fault}
 use Rattle.jc_facts.specs.Outcome.{outcome, Links}
 use Rattle.jc_facts.specs.Valid.{IsValidClass}

@@ -10,7 +10,7 @@ use Rattle.jc_facts.specs.declared.verdict.Note.TheVariants.{Unloadable}
 use Rattle.jc_facts.specs.Names.{Bytes, object_name}
 use Rattle.jc_facts.specs.World.{World, side}
 use Rattle.jc_facts.specs.Collisions.{collision}
-use Rattle.jc_laws.proofs.Examples.{computes, member, init, key, a_class, extending, public_class, plain, public_interface, sealed_interface, object, over, finding, finding_to, finding_of, finding_from, Finds, ascii}
+use Rattle.jc_laws.proofs.Examples.{computes, member, init, key, a_class, extending, public_class, plain, public_interface, sealed_interface, over, finding, finding_to, finding_of, finding_from, Finds, ascii}
 
 abbrev p_A : Bytes
 p_A = codes "p/A"
