@@ -27,15 +27,15 @@ use Rattle.jc_facts.specs.Valid.{IsValidClass}
 
 -- an item that a valid client may have: an instance initializer's call of its own class or superclass;
 -- no act on a method that names an initializer
-abbrev pub item_valid : ClassFacts → Item → Bool
-item_valid c (item.Init t d) = same t c.name || some_and (same t) c.superclass
-item_valid c (item.Access act t k r place) = is_field_act act || not (is_init k.name || is_clinit k.name)
-item_valid c _ = true
+abbrev pub is_valid_item : ClassFacts → Item → Bool
+is_valid_item c (item.Init t d) = same t c.name || some_and (same t) c.superclass
+is_valid_item c (item.Access act t k r place) = is_field_act act || not (is_init k.name || is_clinit k.name)
+is_valid_item c _ = true
 
 -- a valid client: a valid record, with items that it may have
 pub record IsValidClient (c : ClientClass) : Type 0 where
   pub facts : IsValidClass c.facts
-  pub items : IsTrue (list_all (item_valid c.facts) c.items)
+  pub items : IsTrue (list_all (is_valid_item c.facts) c.items)
 
 -- the records of the clients
 abbrev pub facts_of : List ClientClass → List ClassFacts

@@ -25,7 +25,7 @@ use Rattle.jc_facts.specs.Acts.{Form, FieldForm, MethodForm, InterfaceForm, form
 use Rattle.jc_facts.specs.Outcome.{outcome}
 use Rattle.jc_facts.specs.Valid.{IsValidClass}
 use Rattle.jc_laws.proofs.ValidFacts.{superclass_fits, fit_of}
-use Rattle.jc_facts.specs.Clients.{IsValidClient, IsInScope, facts_of, names_differ, is_allowed, item_valid, is_in_reach, type_in_reach, first_library, seat, Keeps, HasRoot}
+use Rattle.jc_facts.specs.Clients.{IsValidClient, IsInScope, facts_of, names_differ, is_allowed, is_valid_item, is_in_reach, type_in_reach, first_library, seat, Keeps, HasRoot}
 use Rattle.jc_facts.specs.Meets.{MeetsConstant, MeetsCapture, MeetsFinal}
 use Rattle.jc_facts.specs.Findings.{finding_at, rule_6, finds_overridable}
 use Rattle.jc_facts.specs.Words.{has_init, public_or_protected, is_usable, is_base_class, finals, is_method_key, is_inheritable}
@@ -389,8 +389,8 @@ module _ (platform old new : List ClassFacts) (cs : List ClientClass) (root : Ha
   named_client : (X : ClientClass) → Contains cs X → class_named (facts_of cs) X.facts.name ≡ Some X.facts
   named_client X h = All-contains (λ (c : ClientClass). class_named (facts_of cs) c.facts.name ≡ Some c.facts) cs X (All-from_recursion (λ (c : ClientClass). class_named (facts_of cs) c.facts.name ≡ Some c.facts) cs (named_clients cs scope.differ)) h
 
-  valid_item : (X : ClientClass) (i : Item) → Contains cs X → Contains X.items i → item_valid X.facts i ≡ true
-  valid_item X i h w = All-contains (λ i. item_valid X.facts i ≡ true) X.items i (All-from_recursion (λ i. item_valid X.facts i ≡ true) X.items (list_all-each (item_valid X.facts) X.items (All-contains IsValidClient cs X scope.valid h).items)) w
+  valid_item : (X : ClientClass) (i : Item) → Contains cs X → Contains X.items i → is_valid_item X.facts i ≡ true
+  valid_item X i h w = All-contains (λ i. is_valid_item X.facts i ≡ true) X.items i (All-from_recursion (λ i. is_valid_item X.facts i ≡ true) X.items (list_all-each (is_valid_item X.facts) X.items (All-contains IsValidClient cs X scope.valid h).items)) w
 
   -- ---- items, from the loads of the clients and from what the rules of each kind of item find
 
