@@ -2,8 +2,9 @@
 use Rattle.std.specs.Prelude.{ℕ, List, [], ◌∷◌, Option, None, Some, ◌≡◌, if◌then◌else◌}
 use Rattle.std.specs.List.{Contains, All, AllByRecursion}
 use Rattle.std.specs.declared.cmp.Ordering.{Ordering}
-use Rattle.std.specs.declared.cmp.Ordering.TheVariants.{Less, Equal, Greater}
+use Rattle.std.specs.declared.cmp.Ordering.TheVariants.{Less}
 use Rattle.std.specs.Ordering.{nat_cmp, on, then_cmp}
+use Rattle.std.specs.Option.{option_cmp}
 use Rattle.std.specs.Cmp.Lexicographic.{slice_cmp}
 use Rattle.jc_facts.specs.declared.key.Key.{Key}
 use Rattle.jc_facts.specs.declared.finding.Finding.{Finding}
@@ -11,30 +12,20 @@ use Rattle.jc_facts.specs.declared.verdict.Collision.{Collision}
 use Rattle.jc_facts.specs.declared.verdict.Note.{Note}
 use Rattle.jc_facts.specs.declared.verdict.Note.TheVariants as note
 use Rattle.jc_facts.specs.Names.{Bytes}
+use Rattle.jc_facts.specs.KeyOrder.{key_cmp}
 
 -- names in byte order
 abbrev pub name_order : Bytes → Bytes → Ordering
 name_order = slice_cmp nat_cmp
 
--- keys by name, then by descriptor
-abbrev pub key_order : Key → Key → Ordering
-key_order = then_cmp (on (λ k. k.name) name_order) (on (λ k. k.descriptor) name_order)
-
--- what isn't there stands before what is
-abbrev pub option_order : {A : Type 0} → (A → A → Ordering) → Option A → Option A → Ordering
-option_order order None None = Equal
-option_order order None (Some y) = Less
-option_order order (Some x) None = Greater
-option_order order (Some x) (Some y) = order x y
-
 -- findings by rule, class, then key or target
 abbrev pub finding_order : Finding → Finding → Ordering
 finding_order = then_cmp (on (λ f. f.rule) nat_cmp) (then_cmp (on (λ f. f.«class») name_order)
-    (then_cmp (on (λ f. f.key) (option_order key_order)) (on (λ f. f.target) (option_order name_order))))
+    (then_cmp (on (λ f. f.key) (option_cmp key_cmp)) (on (λ f. f.target) (option_cmp name_order))))
 
 -- collisions by rule, class, then key
 abbrev pub collision_order : Collision → Collision → Ordering
-collision_order = then_cmp (on (λ c. c.rule) nat_cmp) (then_cmp (on (λ c. c.«class») name_order) (on (λ c. c.key) key_order))
+collision_order = then_cmp (on (λ c. c.rule) nat_cmp) (then_cmp (on (λ c. c.«class») name_order) (on (λ c. c.key) key_cmp))
 
 -- the group of a note: classes of the old release, then of the new, then constants
 abbrev pub group_of : Note → ℕ
@@ -53,7 +44,7 @@ noted_key (note.Fixed x k) = Some k
 
 -- notes by group, class, then key
 abbrev pub note_order : Note → Note → Ordering
-note_order = then_cmp (on group_of nat_cmp) (then_cmp (on noted_class name_order) (on noted_key (option_order key_order)))
+note_order = then_cmp (on group_of nat_cmp) (then_cmp (on noted_class name_order) (on noted_key (option_cmp key_cmp)))
 
 -- ---- lists in order
 

@@ -14,9 +14,11 @@ pub record IsVerdict (O N : World) (v : Verdict) : Type 0 where
   pub collisions : HasExactly collision_order (CollisionStands O N) v.collisions
   pub notes : HasExactly note_order (NoteStands O N) v.notes
 
--- there is a finding
+-- the list holds something
+abbrev pub holds_some : {A : Type 0} → List A → Bool
+holds_some [] = false
+holds_some (x ∷ xs) = true
+
+-- the verdict is `incompatible`: there is a finding
 abbrev pub is_incompatible : Verdict → Bool
-is_incompatible v = some_of v.findings where
-  some_of : {A : Type 0} → List A → Bool
-  some_of [] = false
-  some_of (x ∷ xs) = true
+is_incompatible v = holds_some v.findings

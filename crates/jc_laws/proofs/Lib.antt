@@ -55,3 +55,5 @@ pub mod WalkLaws
 pub mod OverridingLaw
 pub mod FindingLaws
 pub mod SoundnessLaws
+pub mod VerdictLaw
+pub mod UsableLaw

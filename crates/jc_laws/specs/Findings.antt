@@ -1,19 +1,33 @@
 -- Laws of findings and of verdicts.
-use Rattle.std.specs.Prelude.{[], ◌≡◌, false, Some, None}
+use Rattle.std.specs.Prelude.{[], ◌≡◌, false, Some, None, ℕ, true}
 use Rattle.jc_facts.specs.declared.class_facts.ClassFacts.{ClassFacts}
 use Rattle.jc_facts.specs.declared.key.Key.{Key}
 use Rattle.jc_facts.specs.declared.finding.Finding.{Finding}
+use Rattle.jc_facts.specs.declared.verdict.Collision.{Collision}
 use Rattle.jc_facts.specs.declared.verdict.Verdict.{Verdict}
 use Rattle.jc_facts.specs.Names.{Bytes}
 use Rattle.jc_facts.specs.World.{World, find}
 use Rattle.jc_facts.specs.Valid.{IsValidClass}
 use Rattle.jc_facts.specs.Findings.{Subject, finding_at, subject_of}
-use Rattle.jc_facts.specs.Collisions.{constant_stands, capture_stands, final_stands}
+use Rattle.jc_facts.specs.Collisions.{constant_stands, capture_stands, final_stands, collision_at}
+use Rattle.jc_facts.specs.Words.{is_usable}
 use Rattle.jc_facts.specs.Verdict.{IsVerdict}
 
 -- the finding on a subject speaks of that subject: there is at most one for each rule, class and key or target
 abbrev pub FindingIsOnItsSubject : Type 0
 FindingIsOnItsSubject = (O N : World) (s : Subject) (f : Finding) → finding_at O N s ≡ Some f → subject_of f ≡ s
+
+-- the class of a finding was usable on the old side
+abbrev pub FindingsAreOfUsable : Type 0
+FindingsAreOfUsable = (O N : World) (s : Subject) (f : Finding) → finding_at O N s ≡ Some f → is_usable O s.class ≡ true
+
+-- and so was the class of a collision
+abbrev pub CollisionsAreOfUsable : Type 0
+CollisionsAreOfUsable = (O N : World) (rule : ℕ) (x : Bytes) (k : Key) (c : Collision) → collision_at O N rule x k ≡ Some c → is_usable O x ≡ true
+
+-- there is at most one verdict
+abbrev pub VerdictIsOne : Type 0
+VerdictIsOne = (O N : World) (v w : Verdict) → IsVerdict O N v → IsVerdict O N w → v ≡ w
 
 -- where a verdict lists no finding, no rule stands anywhere
 abbrev pub EmptyMeansNone : Type 0

@@ -9,7 +9,7 @@ ghost use Rattle.jc_laws.specs.Sides.{SidesStay};
 ghost use Rattle.jc_laws.specs.Choices.{InheritedArePublic, EachChoiceGivesTheSame, EachInitGivesTheSame};
 ghost use Rattle.jc_laws.specs.Walks.{WalksOverClients, SeatEndsTheClients};
 ghost use Rattle.jc_laws.specs.Overriding.{WalkIsOverriding, FinalsRefuse};
-ghost use Rattle.jc_laws.specs.Findings.{FindingIsOnItsSubject, EmptyMeansNone, NothingBreaksItself};
+ghost use Rattle.jc_laws.specs.Findings.{FindingIsOnItsSubject, FindingsAreOfUsable, CollisionsAreOfUsable, VerdictIsOne, EmptyMeansNone, NothingBreaksItself};
 ghost use Rattle.jc_laws.specs.Soundness.{Soundness, SoundnessOfRules, LoadsAndTypesKept, FieldsKept, KeptWithoutMethods};
 
 /// The load fault of a class is the same at every sufficient depth (JVMS 5.3.5).
@@ -75,6 +75,21 @@ pub fn finals_refuse()
 /// There is at most one finding for each rule, class and key or target.
 pub fn finding_is_on_its_subject()
     ensures { FindingIsOnItsSubject }
+{}
+
+/// The class of a finding was usable on the old side.
+pub fn findings_are_of_usable()
+    ensures { FindingsAreOfUsable }
+{}
+
+/// The class of a collision was usable on the old side.
+pub fn collisions_are_of_usable()
+    ensures { CollisionsAreOfUsable }
+{}
+
+/// Two sides have one verdict.
+pub fn verdict_is_one()
+    ensures { VerdictIsOne }
 {}
 
 /// A verdict without a finding says that no rule stands anywhere.
