@@ -57,3 +57,4 @@ pub mod FindingLaws
 pub mod SoundnessLaws
 pub mod VerdictLaw
 pub mod UsableLaw
+pub mod ExactLists
