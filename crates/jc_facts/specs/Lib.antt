@@ -9,4 +9,6 @@ pub mod Valid
 pub mod KeyOrder
 pub mod Seen
 pub mod Attributes
-pub mod ClassFile
+pub mod ClassParts
+pub mod ClassGrammar
+pub mod ClassSteps
