@@ -10,5 +10,6 @@ pub mod AttributeLists
 pub mod Contents
 pub mod ClassMembers
 pub mod ClassFiles
+pub mod ReadValid
 pub mod Lists
 pub mod Tests

@@ -1,6 +1,10 @@
 pub mod Names
 pub mod Flags
 pub mod Types
+pub mod Pieces
+pub mod Pool
+pub mod ClassFile
+pub mod FirstForm
 pub mod Exact
 pub mod Heads
 pub mod Gone
@@ -12,3 +16,4 @@ pub mod Attributes
 pub mod ClassParts
 pub mod ClassGrammar
 pub mod ClassSteps
+pub mod Text
