@@ -11,5 +11,6 @@ pub mod Contents
 pub mod ClassMembers
 pub mod ClassFiles
 pub mod ReadValid
+pub mod ReadLists
 pub mod Lists
 pub mod Tests

@@ -51,22 +51,22 @@ pub class_names : (file after : Bytes) (pool : PoolOf) (bytes : Bytes) (names : 
 class_names file after pool bytes names rest h a = all_items (IsClassAt pool) is_name (λ bs y r c. class_name file after pool c.index y h c.names) a.after_count names rest a.items_are
 
 -- the superclass, in a class that is java/lang/Object or not, an interface or not
-abbrev super_fits : Bool → Bool → Option Bytes → Bool
+abbrev pub super_fits : Bool → Bool → Option Bytes → Bool
 super_fits object interface None = object
 super_fits object interface (Some s) = is_name s && not object && implies interface (is_object s)
 
-superclass_fits : (file after : Bytes) (pool : PoolOf) (object interface : Bool) (i : ℕ) (x : Option Bytes) → IsPool file pool after → IsSuperclass pool object interface i x → super_fits object interface x ≡ true
+pub superclass_fits : (file after : Bytes) (pool : PoolOf) (object interface : Bool) (i : ℕ) (x : Option Bytes) → IsPool file pool after → IsSuperclass pool object interface i x → super_fits object interface x ≡ true
 superclass_fits file after pool object interface i None h s = s.1
 superclass_fits file after pool object interface i (Some n) h s = rw (class_name file after pool i n h s.2, s.1, s.3) refl
 
 -- the same of a record
-superclass_is : (c : ClassFacts) (x : Option Bytes) → super_fits (is_object c.name) (is_interface c.flags) x ≡ true → is_superclass c x ≡ true
+pub superclass_is : (c : ClassFacts) (x : Option Bytes) → super_fits (is_object c.name) (is_interface c.flags) x ≡ true → is_superclass c x ≡ true
 superclass_is c None h = h
 superclass_is c (Some s) h = h
 
 -- ---- members
 
-abbrev member_valid : Bool → ℕ → ℕ → Member → Bool
+abbrev pub member_valid : Bool → ℕ → ℕ → Member → Bool
 member_valid method major class m = is_member_name m.name method && is_text m.name && is_descriptor method m.name m.flags m.descriptor && is_text m.descriptor && are_flags method major class m.name m.flags
 
 member_is : (file after : Bytes) (method : Bool) (pool : PoolOf) (class : ℕ) (bytes : Bytes) (r : ReadMember) (rest : Bytes) → IsPool file pool after → IsMemberAt method pool class bytes r rest → member_valid method pool.major class r.member ≡ true
@@ -81,7 +81,7 @@ all_members : (p : Member → Bool) (rs : List ReadMember) → list_all (λ r. p
 all_members p [] h = refl
 all_members p (r ∷ rs) h = and_under (p r.member) (list_all (λ r. p r.member) rs) (list_all p (members_of rs)) (all_members p rs) h
 
-members_are : (file after : Bytes) (method : Bool) (pool : PoolOf) (class : ℕ) (bytes : Bytes) (rs : List ReadMember) (rest : Bytes) → IsPool file pool after → AreItems (IsMemberAt method pool class) bytes rs rest
+pub members_are : (file after : Bytes) (method : Bool) (pool : PoolOf) (class : ℕ) (bytes : Bytes) (rs : List ReadMember) (rest : Bytes) → IsPool file pool after → AreItems (IsMemberAt method pool class) bytes rs rest
     → list_all (member_valid method pool.major class) (members_of rs) ≡ true
 members_are file after method pool class bytes rs rest h a =
     all_members (member_valid method pool.major class) rs (all_items (IsMemberAt method pool class) (λ r. member_valid method pool.major class r.member) (λ bs y r m. member_is file after method pool class bs y r h m) bytes rs rest a)
