@@ -81,12 +81,12 @@ Apart-swap name xs i j hi hj a p q d n hp hq e =
 pub Apart-permutation : {A : Type 0} (name : A → Bytes) (xs ys : List A) → IsPermutation xs ys → Apart name xs → Apart name ys
 Apart-permutation name xs ys p a = IsPermutation-keeps xs (Apart name) a (λ l i j hi hj h. Apart-swap name l i j hi hj h) ys p
 
--- by recursion
-abbrev ApartRec : {A : Type 0} → (A → Bytes) → List A → Type 0
+-- the same by recursion
+abbrev pub ApartRec : {A : Type 0} → (A → Bytes) → List A → Type 0
 ApartRec name [] = Unit {0}
 ApartRec name (x ∷ xs) = EachOf (λ y. name x ≢ name y) xs × ApartRec name xs
 
-Apart-rec : {A : Type 0} (name : A → Bytes) (xs : List A) → Apart name xs → ApartRec name xs
+pub Apart-rec : {A : Type 0} (name : A → Bytes) (xs : List A) → Apart name xs → ApartRec name xs
 Apart-rec name [] a = tt
 Apart-rec {A} name (x ∷ xs) a = (
   recursion_from_All (λ y. name x ≢ name y) xs (λ k d h. a zero (suc k) d (omega arith) (omega arith) (omega arith)),

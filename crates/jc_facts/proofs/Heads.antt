@@ -1,21 +1,28 @@
 -- What clients of a release meet, from its findings of gone classes alone.
-use Rattle.std.proofs.Common.{◌≡◌, Bool, true, false, not, ◌||◌, ◌&&◌, cond, List, [], ◌∷◌, ◌++◌, Option, Some, None, refl, sym, ap, subst, ◌∙◌}
+use Rattle.std.proofs.Common.{◌≡◌, ◌≢◌, ◌==◌, ℕ, suc, Bool, true, false, not, ◌||◌, ◌&&◌, cond, List, [], ◌∷◌, ◌++◌, Option, Some, None, refl, sym, ap, subst, ◌∙◌, ◌⊎◌, inl, inr}
 use Rattle.std.specs.Prelude.{nat_le, IsTrue, length}
 use Rattle.std.specs.List.{Contains, All, list_any}
 use Rattle.std.specs.Str.{is_utf8}
-use Rattle.std.proofs.lemmas.List.Elements.{All-contains, Contains-append_right}
+use Rattle.std.proofs.lemmas.List.Elements.{All-contains, All-weaker, Contains-append_right}
 use Rattle.jc_facts.specs.declared.head.Head.{Head}
 use Rattle.jc_facts.specs.declared.finding.Finding.{Finding}
 use Rattle.jc_facts.specs.declared.link_error.LinkError.{LinkError}
 use Rattle.jc_facts.specs.declared.link_error.LinkError.TheVariants.{IllegalAccessError}
 use Rattle.jc_facts.specs.Names.{Bytes, same, same_package, package_of, object_name}
 use Rattle.jc_facts.specs.Flags.{is_public}
-use Rattle.jc_facts.specs.Types.{Element, Primitive, Class, TypeText, read_type}
-use Rattle.jc_facts.specs.Heads.{head_named, access_fault, element_fault, type_fault, class_outcome, is_allowed_beside, AreClients, KeepsClasses}
-use Rattle.jc_facts.specs.Gone.{gone_error, gone_class, gone_finding, IsGone}
+use Rattle.jc_desc.specs.Names.{is_class_name, is_rest_of_name}
+use Rattle.jc_facts.specs.Types.{Element, Primitive, Class, TypeText, read_type, read_array, read_element, brackets, after_brackets}
+use Rattle.jc_facts.specs.Heads.{head_named, access_fault, element_fault, type_fault, class_outcome, is_allowed_beside, AreClients, AreApart, KeepsClasses, BreaksClass}
+use Rattle.jc_facts.specs.Gone.{gone_error, gone_class, gone_finding, IsGone, NamesDiffer}
 use Rattle.jc_facts.specs.Exact.{IsExact}
 use Rattle.jc_facts.proofs.Same.{same_is, same_itself}
-use Rattle.jc_facts.proofs.Listed.{here, there, none, not_any}
+use Rattle.jc_facts.proofs.Listed.{here, there, none, cases, not_any, each_in}
+use Rattle.jc_facts.proofs.Apart.{ApartRec, Apart-rec}
+use Rattle.jc_facts.proofs.Exact.{sorted_exact}
+use Rattle.std.specs.List.{filter_map}
+use Rattle.std.specs.List.Sorted.{IsPermutation, IsSortedBy}
+use Rattle.std.specs.Ordering.{is_lt, nat_cmp}
+use Rattle.std.specs.Cmp.Lexicographic.{slice_cmp}
 
 -- the first of two where it is there, else the second
 abbrev pub or_else : Option Head → Option Head → Option Head
@@ -208,3 +215,140 @@ type_kept ps old new cs exact clients c is_in (Some t) e = go t.element e
 pub keeps_classes : (ps old new : List Head) → IsExact (λ f. f.class) (IsGone old new) [] → KeepsClasses ps old new
 unfolding class_outcome
 keeps_classes ps old new exact cs clients c t is_in e = type_kept ps old new cs exact clients c is_in (read_type t) e
+
+-- ---- what each finding means
+
+-- a head is found by its name, where names differ
+found_itself : (hs : List Head) (h : Head) → ApartRec (λ k. k.name) hs → Contains hs h → head_named hs h.name ≡ Some h
+unfolding head_named
+found_itself [] h apart c = absurd (none h c)
+found_itself (k ∷ hs) h apart c = go (cases k hs h c) (found_itself hs h apart.1)
+  where
+    differs : (b : Bool) → same k.name h.name ≡ b → (k.name ≡ h.name → ⊥) → b ≡ false
+    differs false q n = refl
+    differs true q n = absurd (n (same_is k.name h.name q))
+
+    go : (k ≡ h) ⊎ Contains hs h → (Contains hs h → head_named hs h.name ≡ Some h) → cond (same k.name h.name) (Some k) (head_named hs h.name) ≡ Some h
+    go (inl is) more =
+        let s : same k.name h.name ≡ true = rw is (same_itself h.name) in
+        rw s (ap (λ (g : Head). Some g) is)
+    go (inr c) more = rw (differs (same k.name h.name) refl (each_in (λ y. k.name ≢ y.name) hs h apart.0 c)) (more c)
+
+-- a finding tells of a class that was public, by its name
+record IsLost (old new : List Head) (f : Finding) : Type 0 where
+  head : Head
+  is_old : Contains old head
+  named : f.class ≡ head.name
+  public : is_public head.flags ≡ true
+  now : gone_error (head_named new f.class) ≡ Some f.error
+
+lost : (old new : List Head) (f : Finding) → IsGone old new f → IsLost old new f
+unfolding gone_finding
+lost old new f g = go (is_public g.head.flags) (gone_error (head_named new g.head.name)) refl refl g.finds
+  where
+    go : (b : Bool) (o : Option LinkError) → is_public g.head.flags ≡ b → gone_error (head_named new g.head.name) ≡ o → cond b (gone_class g.head.name o) None ≡ Some f → IsLost old new f
+    go true None p q e = absurd (cc)
+    go true (Some x) p q e =
+        let named : f.class ≡ g.head.name = cc in
+        let error : x ≡ f.error = cc in
+        record { head = g.head; is_old = g.is_old; named = named; public = p; now = rw named (q ∙ ap (λ (y : LinkError). Some y) error) }
+    go false o p q e = absurd (cc)
+
+-- what naming a lost class gives
+lost_now : (x : Bytes) (o : Option Head) (e : LinkError) → gone_error o ≡ Some e → ((h : Head) → o ≡ Some h → same_package x h.name ≡ false) → access_fault x o ≡ Some e
+lost_now x None e q far = q
+lost_now x (Some h) e q far = go (is_public h.flags) (same_package x h.name) (far h refl) q
+  where
+    go : (p s : Bool) → s ≡ false → cond p None (Some IllegalAccessError) ≡ Some e → cond (p || s) None (Some IllegalAccessError) ≡ Some e
+    go true s f q = absurd (cc)
+    go false true f q = absurd (cc)
+    go false false f q = q
+
+none_right : (p o c : Option Head) → p ≡ None → c ≡ None → or_else (or_else p o) c ≡ o
+none_right p o c q r = rw (q, r) (go o)
+  where
+    go : (o : Option Head) → or_else (or_else None o) None ≡ o
+    go None = refl
+    go (Some h) = refl
+
+-- a name that is no array text is that of its class
+plain_outcome : (world : List Head) (x t : Bytes) → read_type t ≡ Some (record { dims = 0; element = Class t }) → class_outcome world x t ≡ access_fault x (head_named world t)
+unfolding class_outcome
+plain_outcome world x t e = rw e refl
+
+-- a class name is no array text
+pub plain_name : (t : Bytes) → is_class_name t ≡ true → read_type t ≡ Some (record { dims = 0; element = Class t })
+unfolding read_type brackets
+plain_name [] e = refl
+plain_name (b ∷ bs) e = go (b == 91) (brackets bs) (first (b == 47) (b == 46) (b == 59) (b == 91) e)
+  where
+    first : (slash dot semicolon bracket : Bool)
+        → cond slash (not true && is_rest_of_name true bs) ((not dot && not semicolon && not bracket && not slash) && is_rest_of_name false bs) ≡ true → bracket ≡ false
+    first true dot semicolon bracket e = absurd (cc)
+    first false true semicolon bracket e = absurd (cc)
+    first false false true bracket e = absurd (cc)
+    first false false false true e = absurd (cc)
+    first false false false false e = refl
+
+    go : (c : Bool) (n : ℕ) → c ≡ false
+        → cond (cond c (suc n) 0 == 0) (Some (record { dims = 0; element = Class (b ∷ bs) })) (read_array (cond c (suc n) 0) (read_element (after_brackets (b ∷ bs))))
+        ≡ Some (record { dims = 0; element = Class (b ∷ bs) })
+    go true n q = absurd (cc)
+    go false n q = refl
+
+breaks_class : (ps old new : List Head) → NamesDiffer old → AreApart ps old → (f : Finding) → IsGone old new f
+    → read_type f.class ≡ Some (record { dims = 0; element = Class f.class }) → BreaksClass ps old new f.class f.error
+breaks_class ps old new differ apart f g plain cs clients c is_in = (
+  rw (plain_outcome (ps ++ old ++ cs) c.name f.class plain, split ps old cs f.class, none_right _ _ _ no_platform no_client) old_ok,
+  rw (plain_outcome (ps ++ new ++ cs) c.name f.class plain, split ps new cs f.class, none_right _ _ _ no_platform no_client) new_fails,
+)
+  where
+    l : IsLost old new f
+    l = lost old new f g
+
+    there_once : head_named old f.class ≡ Some l.head
+    there_once = ap (λ (n : Bytes). head_named old n) l.named ∙ found_itself old l.head (Apart-rec (λ k. k.name) old differ) l.is_old
+
+    no_platform : head_named ps f.class ≡ None
+    no_platform = ap (λ (n : Bytes). head_named ps n) l.named ∙ apart l.head l.is_old
+
+    no_client : head_named cs f.class ≡ None
+    no_client = go (head_named cs f.class) refl
+      where
+        go : (o : Option Head) → head_named cs f.class ≡ o → o ≡ None
+        go None q = refl
+        go (Some k) q = let gone : head_named old f.class ≡ None = (client_not_declared ps old cs clients.allowed_old f.class k q).1 in let is = there_once in absurd (cc)
+
+    old_ok : access_fault c.name (head_named old f.class) ≡ None
+    old_ok = rw there_once (rw l.public refl)
+
+    new_fails : access_fault c.name (head_named new f.class) ≡ Some f.error
+    new_fails = lost_now c.name (head_named new f.class) f.error l.now (λ h q. release_apart ps new cs clients.allowed_new c is_in f.class h q)
+
+pub breaks_classes : (ps old new : List Head) (fs : List Finding) → NamesDiffer old → All (IsGone old new) fs
+    → AreApart ps old → All (λ h. IsTrue (is_class_name h.name)) old → All (λ f. BreaksClass ps old new f.class f.error) fs
+breaks_classes ps old new fs differ sound apart named = All-weaker (IsGone old new) (λ f. BreaksClass ps old new f.class f.error) one fs sound
+  where
+    one : (f : Finding) → IsGone old new f → BreaksClass ps old new f.class f.error
+    one f g =
+        let l = lost old new f g in
+        let is : is_class_name f.class ≡ true = subst (λ (n : Bytes). is_class_name n ≡ true) (sym l.named) (All-contains (λ (h : Head). IsTrue (is_class_name h.name)) old l.head named l.is_old) in
+        breaks_class ps old new differ apart f g (plain_name f.class is)
+
+named_by : (new : List Head) (x : Head) (f : Finding) → gone_finding new x ≡ Some f → f.class ≡ x.name
+unfolding gone_finding
+named_by new x f e = go (is_public x.flags) (gone_error (head_named new x.name)) e
+  where
+    go : (b : Bool) (o : Option LinkError) → cond b (gone_class x.name o) None ≡ Some f → f.class ≡ x.name
+    go true None q = absurd (cc)
+    go true (Some r) q = cc
+    go false o q = absurd (cc)
+
+-- the findings of all old classes, sorted, are exact
+pub gone_exact : (old new : List Head) (before after : List Finding) → NamesDiffer old → before ≡ filter_map (gone_finding new) old → IsPermutation before after
+    → IsSortedBy (λ x y. is_lt (slice_cmp nat_cmp x.class y.class)) after → IsExact (λ f. f.class) (IsGone old new) after
+gone_exact old new before after differ is p s =
+    sorted_exact (gone_finding new) (λ h. h.name) (λ f. f.class) (named_by new) (IsGone old new) old
+    (λ f g. record { head = g.place; is_old = g.is_in; finds = g.gives })
+    (λ f g. record { place = g.head; is_in = g.is_old; gives = g.finds })
+    before after differ is p s

@@ -4,5 +4,13 @@ pub mod Apart
 pub mod Exact
 pub mod Heads
 pub mod Keys
+pub mod Front
+pub mod ClassIndices
+pub mod AttributeLists
+pub mod Contents
+pub mod ClassMembers
+pub mod ClassFiles
+pub mod ReadValid
+pub mod ReadLists
 pub mod Lists
 pub mod Tests

@@ -1,5 +1,5 @@
 -- What is in a list, and what holds of each of its elements.
-use Rattle.std.proofs.Common.{◌≡◌, ◌<◌, Bool, true, false, ◌||◌, List, [], ◌∷◌, refl, ◌⊎◌, inl, inr, arith}
+use Rattle.std.proofs.Common.{◌≡◌, ◌<◌, Bool, true, false, ◌||◌, List, [], ◌∷◌, refl, subst, ◌⊎◌, inl, inr, arith}
 use Rattle.std.specs.List.{Contains, list_any}
 use Rattle.std.proofs.lemmas.List.Elements.{Contains-append_left, Contains-append_right, Contains-append_cases, Contains-push, Contains-push_cases}
 pub use Rattle.std.specs.List.{AllByRecursion as EachOf}
@@ -37,3 +37,11 @@ not_any p (y ∷ ys) x e k = go (p y) refl e (cases y ys x k) (not_any p ys x)
     go true q e k more = absurd (cc)
     go false q e (inl same) more = rw (← same) q
     go false q e (inr c) more = more e c
+
+pub each_in : {A : Type 0} (P : A → Type 0) (xs : List A) (x : A) → EachOf P xs → Contains xs x → P x
+each_in P [] x h k = absurd (none x k)
+each_in P (y ∷ ys) x h k = go (cases y ys x k) (each_in P ys x h.1)
+  where
+    go : (y ≡ x) ⊎ Contains ys x → (Contains ys x → P x) → P x
+    go (inl is) more = subst P is h.0
+    go (inr c) more = more c

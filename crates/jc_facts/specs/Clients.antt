@@ -10,7 +10,8 @@ use Rattle.jc_facts.specs.declared.class_facts.ClassFacts.{ClassFacts}
 use Rattle.jc_facts.specs.declared.client.ClientClass.{ClientClass}
 use Rattle.jc_facts.specs.declared.client.Item.{Item}
 use Rattle.jc_facts.specs.declared.client.Item.TheVariants as item
-use Rattle.jc_facts.specs.Names.{Bytes, same, is_among, same_package, object_name, is_init, is_clinit}
+use Rattle.jc_facts.specs.Names.{Bytes, same, is_among, same_package, object_name}
+use Rattle.jc_desc.specs.Names.{is_init, is_clinit}
 use Rattle.jc_facts.specs.Flags.{is_public, is_interface}
 use Rattle.jc_facts.specs.Types.{Element, Primitive, Class, TypeText, read_type}
 use Rattle.jc_facts.specs.Options.{some_and}

@@ -9,7 +9,8 @@ use Rattle.jc_facts.specs.declared.act.Act.TheVariants as act
 use Rattle.jc_facts.specs.declared.finding.Finding.{Finding}
 use Rattle.jc_facts.specs.declared.link_error.LinkError.{LinkError}
 use Rattle.jc_facts.specs.declared.link_error.LinkError.TheVariants.{IllegalAccessError, IncompatibleClassChangeError, NoSuchMethodError, InstantiationError, VerifyError}
-use Rattle.jc_facts.specs.Names.{Bytes, is_init}
+use Rattle.jc_facts.specs.Names.{Bytes}
+use Rattle.jc_desc.specs.Names.{is_init}
 use Rattle.jc_facts.specs.Flags.{is_public, is_instance, is_interface, is_abstract}
 use Rattle.jc_facts.specs.Options.{or_else, and_then, some_and}
 use Rattle.jc_facts.specs.World.{World, find, Found, own_method}

@@ -49,6 +49,10 @@ pub record AreClients (platform old new clients : List Head) : Type 0 where
   pub allowed_old : All (λ c. IsTrue (is_allowed_beside (platform ++ old) c.name)) clients
   pub allowed_new : All (λ c. IsTrue (is_allowed_beside (platform ++ new) c.name)) clients
 
+-- no class of the release has the name of one of the platform
+abbrev pub AreApart : List Head → List Head → Type 0
+AreApart platform release = (h : Head) → Contains release h → head_named platform h.name ≡ None
+
 -- Whatever clients there are, each naming of a class that is Ok with the old release is Ok with the new.
 abbrev pub KeepsClasses : List Head → List Head → List Head → Type 0
 KeepsClasses platform old new = (clients : List Head) → AreClients platform old new clients

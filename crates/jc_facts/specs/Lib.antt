@@ -1,6 +1,10 @@
 pub mod Names
 pub mod Flags
 pub mod Types
+pub mod Pieces
+pub mod Pool
+pub mod ClassFile
+pub mod FirstForm
 pub mod Exact
 pub mod Heads
 pub mod Gone
@@ -9,7 +13,10 @@ pub mod Valid
 pub mod KeyOrder
 pub mod Seen
 pub mod Attributes
-pub mod ClassFile
+pub mod ClassParts
+pub mod ClassGrammar
+pub mod ClassSteps
+pub mod Text
 pub mod Options
 pub mod World
 pub mod Search

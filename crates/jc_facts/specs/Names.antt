@@ -5,6 +5,7 @@
 use Rattle.std.specs.Prelude.{ℕ, Bool, cond, List, [], ◌∷◌, ◌==◌, ◌&&◌, codes}
 use Rattle.std.specs.Str.{bytes_eq}
 use Rattle.std.specs.List.{list_any}
+pub use Rattle.jc_desc.specs.Names.{is_init, is_clinit}
 use Rattle.jc_facts.specs.declared.key.Key.{Key}
 use Rattle.jc_facts.specs.declared.class_facts.Member.{Member}
 
@@ -44,11 +45,3 @@ key_of m = record { name = m.name; descriptor = m.descriptor }
 -- the root of all classes (JVMS 4.1)
 abbrev pub object_name : Bytes
 object_name = codes "java/lang/Object"
-
--- the name of an instance initializer (JVMS 2.9.1)
-abbrev pub is_init : Bytes → Bool
-is_init x = same x (codes "<init>")
-
--- the name of a class initializer (JVMS 2.9.2)
-abbrev pub is_clinit : Bytes → Bool
-is_clinit x = same x (codes "<clinit>")

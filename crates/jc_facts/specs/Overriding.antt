@@ -6,7 +6,8 @@ use Rattle.std.specs.List.{list_any}
 use Rattle.jc_facts.specs.declared.class_facts.ClassFacts.{ClassFacts}
 use Rattle.jc_facts.specs.declared.class_facts.Member.{Member}
 use Rattle.jc_facts.specs.declared.key.Key.{Key}
-use Rattle.jc_facts.specs.Names.{Bytes, same_package, is_init, is_clinit, key_of}
+use Rattle.jc_facts.specs.Names.{Bytes, same_package, key_of}
+use Rattle.jc_desc.specs.Names.{is_init, is_clinit}
 use Rattle.jc_facts.specs.Flags.{is_public, is_private, is_protected, is_package_private, is_final, is_instance}
 use Rattle.jc_facts.specs.World.{Found, declares}
 

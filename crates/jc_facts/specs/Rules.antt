@@ -4,7 +4,7 @@
 --     are_method_flags major c name f      of a method (JVMS 4.6)
 --     is_method_descriptor name f descriptor      of a method of this name and these flags (JVMS 4.3.3, 4.6)
 -- No other rule on flags is made; bits that the rules don't name are kept and not judged.
-use Rattle.std.specs.Prelude.{ℕ, ◌+◌, Bool, false, not, Option, None, Some, is_some, ◌||◌, ◌&&◌, nat_le, nat_lt, if◌then◌else◌}
+use Rattle.std.specs.Prelude.{ℕ, ◌+◌, Bool, true, false, not, Option, None, Some, is_some, ◌||◌, ◌&&◌, nat_le, nat_lt, if◌then◌else◌}
 use Rattle.jc_desc.specs.Names.{is_init, is_clinit}
 use Rattle.jc_desc.specs.Reading.{field_of, method_of, slots_of_method}
 use Rattle.jc_desc.specs.Pool.{no_result}
@@ -64,3 +64,12 @@ slots_fit instance (Some n) = nat_le (n + (if instance then 1 else 0)) 255
 abbrev pub is_method_descriptor : Bytes → ℕ → Bytes → Bool
 is_method_descriptor name f descriptor =
     slots_fit (not (is_static f)) (slots_of_method descriptor) && implies (is_init name) (no_result (method_of descriptor))
+
+-- the descriptor and the flags of a method, or of a field, of this name, in a class of this major and with flags c
+abbrev pub is_descriptor : Bool → Bytes → ℕ → Bytes → Bool
+is_descriptor true name f descriptor = is_method_descriptor name f descriptor
+is_descriptor false name f descriptor = is_field_descriptor descriptor
+
+abbrev pub are_flags : Bool → ℕ → ℕ → Bytes → ℕ → Bool
+are_flags true major c name f = are_method_flags major c name f
+are_flags false major c name f = are_field_flags c f

@@ -4,7 +4,8 @@ use Rattle.std.specs.List.{list_any}
 use Rattle.jc_facts.specs.declared.class_facts.ClassFacts.{ClassFacts}
 use Rattle.jc_facts.specs.declared.class_facts.Member.{Member}
 use Rattle.jc_facts.specs.declared.key.Key.{Key}
-use Rattle.jc_facts.specs.Names.{Bytes, is_among, is_init, is_clinit}
+use Rattle.jc_facts.specs.Names.{Bytes, is_among}
+use Rattle.jc_desc.specs.Names.{is_init, is_clinit}
 use Rattle.jc_facts.specs.Flags.{is_public, is_private, is_protected, is_instance, is_final, is_interface}
 use Rattle.jc_facts.specs.Options.{some_and}
 use Rattle.jc_facts.specs.World.{World, find, own_method}

@@ -1,7 +1,8 @@
 //! Whether a client is valid.
 ghost use Rattle.std.specs.Prelude.{◌≡◌, ◌↔◌, ◌||◌, ◌&&◌, IfOk, IsTrue};
 ghost use Rattle.std.specs.List.{list_all};
-ghost use Rattle.jc_facts.specs.Names.{same, is_init, is_clinit};
+ghost use Rattle.jc_facts.specs.Names.{same};
+ghost use Rattle.jc_desc.specs.Names.{is_init, is_clinit};
 ghost use Rattle.jc_facts.specs.Acts.{is_field_act as field_act};
 ghost use Rattle.jc_facts.specs.Options.{some_and};
 ghost use Rattle.jc_facts.specs.Clients.{IsValidClient, is_valid_item as item_of};

@@ -4,7 +4,8 @@ use Rattle.jc_facts.specs.declared.class_facts.ClassFacts.{ClassFacts}
 use Rattle.jc_facts.specs.declared.act.Act.{Act}
 use Rattle.jc_facts.specs.declared.key.Key.{Key}
 use Rattle.jc_facts.specs.declared.client.Place.{Place}
-use Rattle.jc_facts.specs.Names.{Bytes, same_package, is_clinit}
+use Rattle.jc_facts.specs.Names.{Bytes, same_package}
+use Rattle.jc_desc.specs.Names.{is_clinit}
 use Rattle.jc_facts.specs.Flags.{is_public, is_protected}
 use Rattle.jc_facts.specs.World.{World, find, Found}
 use Rattle.jc_facts.specs.Access.{is_member_accessible}

@@ -6,7 +6,8 @@ use Rattle.jc_facts.specs.declared.class_facts.ClassFacts.{ClassFacts}
 use Rattle.jc_facts.specs.declared.class_facts.Member.{Member}
 use Rattle.jc_facts.specs.declared.key.Key.{Key}
 use Rattle.jc_facts.specs.declared.link_error.LinkError.TheVariants.{IncompatibleClassChangeError}
-use Rattle.jc_facts.specs.Names.{Bytes, same, same_package, is_init, is_clinit, is_key, key_of}
+use Rattle.jc_facts.specs.Names.{Bytes, same, same_package, is_key, key_of}
+use Rattle.jc_desc.specs.Names.{is_init, is_clinit}
 use Rattle.jc_facts.specs.Flags.{is_public, is_private, is_protected, is_package_private, is_final, is_instance, is_interface}
 use Rattle.jc_facts.specs.World.{World, Found, own_method, found_in, declares}
 use Rattle.jc_facts.specs.Search.{supers_of}

@@ -4,7 +4,8 @@ use Rattle.std.proofs.lemmas.Bool.{or_cases}
 use Rattle.jc_facts.specs.declared.class_facts.ClassFacts.{ClassFacts}
 use Rattle.jc_facts.specs.declared.class_facts.Member.{Member}
 use Rattle.jc_facts.specs.declared.link_error.LinkError.TheVariants.{IncompatibleClassChangeError}
-use Rattle.jc_facts.specs.Names.{Bytes, same, object_name, is_init, is_clinit}
+use Rattle.jc_facts.specs.Names.{Bytes, same, object_name}
+use Rattle.jc_desc.specs.Names.{is_init, is_clinit}
 use Rattle.jc_facts.specs.Flags.{is_public, is_interface}
 use Rattle.jc_facts.specs.World.{World, find, class_named, with_clients}
 use Rattle.jc_facts.specs.Search.{supers, supers_of}

@@ -5,7 +5,8 @@ use Rattle.std.specs.List.{list_all, filter, find as first_where}
 use Rattle.jc_facts.specs.declared.class_facts.ClassFacts.{ClassFacts}
 use Rattle.jc_facts.specs.declared.class_facts.Member.{Member}
 use Rattle.jc_facts.specs.declared.key.Key.{Key}
-use Rattle.jc_facts.specs.Names.{Bytes, same, is_clinit, is_key}
+use Rattle.jc_facts.specs.Names.{Bytes, same, is_key}
+use Rattle.jc_desc.specs.Names.{is_clinit}
 use Rattle.jc_facts.specs.Flags.{is_interface, is_public, is_private, is_protected, is_static}
 use Rattle.jc_facts.specs.World.{World, find, Found, own_method, found_in}
 use Rattle.jc_facts.specs.Hierarchy.{superinterfaces}

@@ -8,7 +8,8 @@ use Rattle.jc_facts.specs.declared.key.Key.{Key}
 use Rattle.jc_facts.specs.declared.client.Item.TheVariants as item
 use Rattle.jc_facts.specs.declared.link_error.LinkError.{LinkError}
 use Rattle.jc_facts.specs.declared.link_error.LinkError.TheVariants.{IllegalAccessError, NoSuchMethodError, IncompatibleClassChangeError}
-use Rattle.jc_facts.specs.Names.{Bytes, same, package_of, same_package, is_init, is_key}
+use Rattle.jc_facts.specs.Names.{Bytes, same, package_of, same_package, is_key}
+use Rattle.jc_desc.specs.Names.{is_init}
 use Rattle.jc_facts.specs.Flags.{is_public, is_private, is_protected, is_static, is_package_private}
 use Rattle.jc_facts.specs.World.{World, find, Found, own_method}
 use Rattle.jc_facts.specs.Hierarchy.{in_chain}

@@ -11,7 +11,8 @@ use Rattle.jc_facts.specs.declared.act.Act.TheVariants.{InvokeVirtual}
 use Rattle.jc_facts.specs.declared.key.Key.{Key}
 use Rattle.jc_facts.specs.declared.client.Place.{Place}
 use Rattle.jc_facts.specs.declared.client.Item.TheVariants as item
-use Rattle.jc_facts.specs.Names.{Bytes, same, object_name, is_init, is_clinit, is_key}
+use Rattle.jc_facts.specs.Names.{Bytes, same, object_name, is_key}
+use Rattle.jc_desc.specs.Names.{is_init, is_clinit}
 use Rattle.jc_facts.specs.Flags.{is_public, is_private, is_protected, is_static, is_instance, is_interface}
 use Rattle.jc_facts.specs.World.{World, find, Found, class_named, with_clients, own_method, found_in, declares, is_client}
 use Rattle.jc_facts.specs.Options.{or_else, and_then, some_and}

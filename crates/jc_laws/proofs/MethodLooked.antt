@@ -5,7 +5,8 @@ use Rattle.jc_facts.specs.declared.class_facts.ClassFacts.{ClassFacts}
 use Rattle.jc_facts.specs.declared.key.Key.{Key}
 use Rattle.jc_facts.specs.declared.act.Act.{Act}
 use Rattle.jc_facts.specs.declared.act.Act.TheVariants as act
-use Rattle.jc_facts.specs.Names.{Bytes, same, object_name, is_clinit, is_key}
+use Rattle.jc_facts.specs.Names.{Bytes, same, object_name, is_key}
+use Rattle.jc_desc.specs.Names.{is_clinit}
 use Rattle.jc_facts.specs.Flags.{is_public, is_protected, is_interface, is_instance}
 use Rattle.jc_facts.specs.World.{World, find, Found, own_method, class_named, with_clients, declares}
 use Rattle.jc_facts.specs.Options.{or_else, and_then, some_and}

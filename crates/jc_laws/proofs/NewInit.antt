@@ -10,7 +10,8 @@ use Rattle.jc_facts.specs.declared.key.Key.{Key}
 use Rattle.jc_facts.specs.declared.client.Item.TheVariants as item
 use Rattle.jc_facts.specs.declared.link_error.LinkError.{LinkError}
 use Rattle.jc_facts.specs.declared.link_error.LinkError.TheVariants.{IllegalAccessError, NoSuchMethodError, InstantiationError, VerifyError}
-use Rattle.jc_facts.specs.Names.{Bytes, same, package_of, same_package, object_name, is_init, is_clinit, is_key}
+use Rattle.jc_facts.specs.Names.{Bytes, same, package_of, same_package, object_name, is_key}
+use Rattle.jc_desc.specs.Names.{is_init, is_clinit}
 use Rattle.jc_facts.specs.Flags.{is_public, is_protected, is_static, is_interface, is_abstract}
 use Rattle.jc_facts.specs.Types.{Class, read_type, is_array}
 use Rattle.jc_facts.specs.World.{World, find, Found, class_named, with_clients, own_method, found_in}

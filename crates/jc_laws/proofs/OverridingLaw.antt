@@ -4,7 +4,8 @@ use Rattle.std.proofs.lemmas.Bool.{and_parts, and_from, not-true, or_cases}
 use Rattle.std.proofs.lemmas.List.Elements.{All-from_recursion, All-contains, Contains-append_right, Contains-append_left, Contains-push}
 use Rattle.jc_facts.specs.declared.class_facts.ClassFacts.{ClassFacts}
 use Rattle.jc_facts.specs.declared.class_facts.Member.{Member}
-use Rattle.jc_facts.specs.Names.{Bytes, key_of, is_init, is_clinit}
+use Rattle.jc_facts.specs.Names.{Bytes, key_of}
+use Rattle.jc_desc.specs.Names.{is_init, is_clinit}
 use Rattle.jc_facts.specs.Overriding.{meets_final, overrides_final}
 use Rattle.jc_laws.specs.Overriding.{SomeOverridesFinal, FinalsRefuse}
 use Rattle.jc_laws.proofs.Settles.{EachOf}

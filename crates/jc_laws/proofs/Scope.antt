@@ -7,7 +7,8 @@ use Rattle.jc_facts.specs.declared.class_facts.ClassFacts.{ClassFacts}
 use Rattle.jc_facts.specs.declared.client.ClientClass.{ClientClass}
 use Rattle.jc_facts.specs.declared.class_facts.Member.{Member}
 use Rattle.jc_facts.specs.declared.client.Item.TheVariants as item
-use Rattle.jc_facts.specs.Names.{Bytes, same, package_of, object_name, is_init, is_clinit}
+use Rattle.jc_facts.specs.Names.{Bytes, same, package_of, object_name}
+use Rattle.jc_desc.specs.Names.{is_init, is_clinit}
 use Rattle.jc_facts.specs.Flags.{is_interface}
 use Rattle.jc_facts.specs.World.{World, find, class_named, side, with_clients}
 use Rattle.jc_facts.specs.Search.{supers_of}

@@ -12,7 +12,8 @@ use Rattle.jc_facts.specs.declared.client.Item.TheVariants as item
 use Rattle.jc_facts.specs.declared.link_error.LinkError.TheVariants.{VerifyError}
 use Rattle.jc_facts.specs.declared.act.Act.{Act}
 use Rattle.jc_facts.specs.declared.client.Place.{Place}
-use Rattle.jc_facts.specs.Names.{Bytes, same, same_package, object_name, is_init, is_clinit, key_of}
+use Rattle.jc_facts.specs.Names.{Bytes, same, same_package, object_name, key_of}
+use Rattle.jc_desc.specs.Names.{is_init, is_clinit}
 use Rattle.jc_facts.specs.Flags.{is_private, is_instance, is_interface}
 use Rattle.jc_facts.specs.World.{World, find, Found, class_named, side, with_clients, own_method, is_client}
 use Rattle.jc_facts.specs.Search.{supers, supers_of}

@@ -10,7 +10,8 @@ use Rattle.jc_desc.specs.Utf8.{is_text}
 use Rattle.jc_facts.specs.declared.class_facts.ClassFacts.{ClassFacts}
 use Rattle.jc_facts.specs.declared.class_facts.Member.{Member}
 use Rattle.jc_facts.specs.declared.key.Key.{Key}
-use Rattle.jc_facts.specs.Names.{Bytes, same, is_init, is_clinit, is_key, key_of, same_key, object_name}
+use Rattle.jc_facts.specs.Names.{Bytes, same, is_key, key_of, same_key, object_name}
+use Rattle.jc_desc.specs.Names.{is_init, is_clinit}
 use Rattle.jc_facts.specs.Flags.{is_interface, is_public, is_private, is_protected, is_static, is_final, is_volatile, is_native, is_abstract}
 use Rattle.jc_facts.specs.Types.{is_array}
 use Rattle.jc_facts.specs.Options.{some_and}

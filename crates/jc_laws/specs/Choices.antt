@@ -5,7 +5,8 @@ use Rattle.jc_facts.specs.declared.act.Act.{Act}
 use Rattle.jc_facts.specs.declared.client.Place.{Place}
 use Rattle.jc_facts.specs.declared.link_error.LinkError.{LinkError}
 use Rattle.jc_facts.specs.declared.link_error.LinkError.TheVariants.{NoSuchMethodError}
-use Rattle.jc_facts.specs.Names.{Bytes, same, is_clinit}
+use Rattle.jc_facts.specs.Names.{Bytes, same}
+use Rattle.jc_desc.specs.Names.{is_clinit}
 use Rattle.jc_facts.specs.Flags.{is_public, is_protected, is_static}
 use Rattle.jc_facts.specs.World.{World, Found, classes}
 use Rattle.jc_facts.specs.Loading.{load_fault}

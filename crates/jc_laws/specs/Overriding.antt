@@ -3,7 +3,8 @@ use Rattle.std.specs.Prelude.{true, false, List, [], ◌∷◌, ◌≡◌, ◌||
 use Rattle.jc_facts.specs.declared.class_facts.ClassFacts.{ClassFacts}
 use Rattle.jc_facts.specs.declared.class_facts.Member.{Member}
 use Rattle.jc_facts.specs.declared.key.Key.{Key}
-use Rattle.jc_facts.specs.Names.{Bytes, key_of, is_init, is_clinit}
+use Rattle.jc_facts.specs.Names.{Bytes, key_of}
+use Rattle.jc_desc.specs.Names.{is_init, is_clinit}
 use Rattle.jc_facts.specs.World.{Found}
 use Rattle.jc_facts.specs.Overriding.{meets_final, overrides_final, OverridesFinal}
 

@@ -9,7 +9,8 @@ use Rattle.jc_facts.specs.declared.act.Act.{Act}
 use Rattle.jc_facts.specs.declared.key.Key.{Key}
 use Rattle.jc_facts.specs.declared.verdict.Collision.{Collision}
 use Rattle.jc_facts.specs.declared.verdict.Verdict.{Verdict}
-use Rattle.jc_facts.specs.Names.{Bytes, object_name, is_init, is_clinit}
+use Rattle.jc_facts.specs.Names.{Bytes, object_name}
+use Rattle.jc_desc.specs.Names.{is_init, is_clinit}
 use Rattle.jc_facts.specs.World.{World, class_named, side, with_clients}
 use Rattle.jc_facts.specs.Loading.{load_fault}
 use Rattle.jc_facts.specs.Outcome.{outcome}

@@ -1,0 +1,15 @@
+//! The constant pool of a class file (JVMS 4.4): entries found by their index in constant time,
+//! whose names, descriptors and texts are parts of the file's bytes and not copies.
+#![tactic(auto)]
+
+mod entry;
+pub mod laws;
+mod links;
+pub mod pool;
+mod start;
+pub mod tags;
+
+pub use jc_desc::fault::{Malformed, Reason};
+
+#[cfg(test)]
+mod tests;

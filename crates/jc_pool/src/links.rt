@@ -1,0 +1,313 @@
+//! What the entries of a pool name, and the first fault in it (JVMS 4.4).
+ghost use Rattle.std.specs.Prelude.{◌≡◌, ◌≤◌};
+ghost use Rattle.jc_desc.specs.Faults.{first_fault};
+ghost use Rattle.jc_desc.specs.Pool.{short_in as short_in_body, first as first_of, second as second_of, at as at_of, holds as holds_of, text_of as text_in, name_of as name_in, descriptor_of as descriptor_in, pair_of as pair_in, refers as refers_in, handle_fits as handle_fits_of, handle_names as handle_names_of, kind_of as kind_in, target_of as target_in, is_array as is_array_text, is_field as is_field_text, is_method as is_method_text, names_one_text as names_one, is_member_ref as is_ref};
+ghost use Rattle.jc_desc.specs.PoolSteps.{meaning_fault, class_fault as class_fault_of, field_fault as field_fault_of, shape_fault as shape_fault_of, pair_fault as pair_fault_of, method_fault as method_fault_of, handle_fault as handle_fault_of, reference_fault, sense_fault, links_fault as links_fault_of};
+ghost use Rattle.jc_pool.specs.Slots.{slot_of, slots_of};
+
+use crate::entry::{NOTHING, Slot};
+use crate::tags;
+use byteorder::{BigEndian, ByteOrder};
+use jc_desc::fault::{Fault, Reason};
+use jc_desc::field::field_type;
+use jc_desc::method::{returns_void, slots as method_slots};
+use jc_desc::names::{is_class_name, is_clinit, is_init, is_member_name};
+
+/// The number in the two bytes from place `i` on, or 0 where they aren't there.
+pub(crate) fn short_in(i: usize, body: &[u8]) -> u16
+    requires { i ≤ 8 }
+    ensures { result ≡ short_in_body i body.now }
+{
+    if body.len() < i + 2 {
+        return 0;
+    }
+    BigEndian::read_u16(&body[i..])
+}
+
+/// The first index of an entry.
+pub(crate) fn first(slot: Slot<'_>) -> u16
+    ensures { result ≡ first_of (slot_of slot.entry) }
+{
+    short_in(0, slot.body)
+}
+
+/// The second index of an entry.
+pub(crate) fn second(slot: Slot<'_>) -> u16
+    ensures { result ≡ second_of (slot_of slot.entry) }
+{
+    short_in(2, slot.body)
+}
+
+/// The index of the member that a MethodHandle uses.
+pub(crate) fn target(slot: Slot<'_>) -> u16
+    ensures { result ≡ target_in (slot_of slot.entry) }
+{
+    short_in(1, slot.body)
+}
+
+/// The kind of a MethodHandle.
+pub(crate) fn kind(slot: Slot<'_>) -> u8
+    ensures { result ≡ kind_in (slot_of slot.entry) }
+{
+    if slot.body.is_empty() {
+        0
+    } else {
+        slot.body[0]
+    }
+}
+
+/// What an index holds.
+pub(crate) fn at<'a>(slots: &[Slot<'a>], index: u16) -> Slot<'a>
+    ensures { slot_of result ≡ at_of (slots_of slots.now) index }
+{
+    if (index as usize) < slots.len() {
+        slots[index as usize]
+    } else {
+        NOTHING
+    }
+}
+
+fn holds(slots: &[Slot<'_>], tag: u8, index: u16) -> bool
+    ensures { result ≡ holds_of (slots_of slots.now) tag index }
+{
+    at(slots, index).tag == tag
+}
+
+/// The text that the first index leads to.
+pub(crate) fn text<'a>(slots: &[Slot<'a>], slot: Slot<'a>) -> &'a [u8]
+    ensures { result.now ≡ text_in (slots_of slots.now) (slot_of slot.entry) }
+{
+    at(slots, first(slot)).body
+}
+
+/// The text that the second index leads to.
+pub(crate) fn descriptor<'a>(slots: &[Slot<'a>], slot: Slot<'a>) -> &'a [u8]
+    ensures { result.now ≡ descriptor_in (slots_of slots.now) (slot_of slot.entry) }
+{
+    at(slots, second(slot)).body
+}
+
+/// What the second index leads to.
+pub(crate) fn pair<'a>(slots: &[Slot<'a>], slot: Slot<'a>) -> Slot<'a>
+    ensures { slot_of result ≡ pair_in (slots_of slots.now) (slot_of slot.entry) }
+{
+    at(slots, second(slot))
+}
+
+fn names_one_text(tag: u8) -> bool
+    ensures { result ≡ names_one tag }
+{
+    tag == tags::CLASS
+        || tag == tags::STRING
+        || tag == tags::METHOD_TYPE
+        || tag == tags::MODULE
+        || tag == tags::PACKAGE
+}
+
+/// Whether an entry refers to a member.
+pub(crate) fn is_member_ref(tag: u8) -> bool
+    ensures { result ≡ is_ref tag }
+{
+    tag == tags::FIELD_REF || tag == tags::METHOD_REF || tag == tags::INTERFACE_METHOD_REF
+}
+
+/// Whether each index of an entry holds an entry of its kind.
+#[tactic(auto, unfolding(jc_desc::specs::Pool::refers))]
+fn refers(slots: &[Slot<'_>], slot: Slot<'_>) -> bool
+    ensures { result ≡ refers_in (slots_of slots.now) (slot_of slot.entry) }
+{
+    if names_one_text(slot.tag) {
+        return holds(slots, tags::UTF8, first(slot));
+    }
+    if is_member_ref(slot.tag) {
+        return holds(slots, tags::CLASS, first(slot))
+            && holds(slots, tags::NAME_AND_TYPE, second(slot));
+    }
+    if slot.tag == tags::NAME_AND_TYPE {
+        return holds(slots, tags::UTF8, first(slot)) && holds(slots, tags::UTF8, second(slot));
+    }
+    if slot.tag == tags::DYNAMIC || slot.tag == tags::INVOKE_DYNAMIC {
+        return holds(slots, tags::NAME_AND_TYPE, second(slot));
+    }
+    true
+}
+
+fn is_field(bytes: &[u8]) -> bool
+    ensures { result ≡ is_field_text bytes.now }
+{
+    field_type(bytes).is_some()
+}
+
+#[tactic(auto, unfolding(jc_desc::specs::Reading::slots_of_method))]
+fn is_method(bytes: &[u8]) -> bool
+    ensures { result ≡ is_method_text bytes.now }
+{
+    method_slots(bytes).is_some()
+}
+
+fn is_array(bytes: &[u8]) -> bool
+    ensures { result ≡ is_array_text bytes.now }
+{
+    match bytes.split_first() {
+        None => false,
+        Some((first, _)) => *first == b'[' && is_field(bytes),
+    }
+}
+
+fn class_fault(text: &[u8]) -> Option<Reason>
+    ensures { result ≡ class_fault_of text.now }
+{
+    if is_class_name(text) || is_array(text) {
+        None
+    } else {
+        Some(Reason::BadName)
+    }
+}
+
+fn pair_fault(name: &[u8], descriptor: &[u8]) -> Option<Reason>
+    ensures { result ≡ pair_fault_of name.now descriptor.now }
+{
+    if !(is_member_name(name, false) || is_member_name(name, true)) {
+        return Some(Reason::BadName);
+    }
+    if !(is_field(descriptor) || is_method(descriptor)) {
+        return Some(Reason::BadDescriptor);
+    }
+    None
+}
+
+fn method_fault(interface: bool, name: &[u8], descriptor: &[u8]) -> Option<Reason>
+    ensures { result ≡ method_fault_of interface name.now descriptor.now }
+{
+    if !is_method(descriptor) {
+        return Some(Reason::BadDescriptor);
+    }
+    if !(is_member_name(name, true) && !is_clinit(name) && !(interface && is_init(name))) {
+        return Some(Reason::BadName);
+    }
+    if is_init(name) && !returns_void(descriptor) {
+        return Some(Reason::BadDescriptor);
+    }
+    None
+}
+
+fn handle_fits(kind: u8, tag: u8) -> bool
+    ensures { result ≡ handle_fits_of kind tag }
+{
+    match kind {
+        1 | 2 | 3 | 4 => tag == tags::FIELD_REF,
+        5 | 8 => tag == tags::METHOD_REF,
+        6 | 7 => tag == tags::METHOD_REF || tag == tags::INTERFACE_METHOD_REF,
+        9 => tag == tags::INTERFACE_METHOD_REF,
+        _ => false,
+    }
+}
+
+fn handle_names(kind: u8, name: &[u8]) -> bool
+    ensures { result ≡ handle_names_of kind name.now }
+{
+    match kind {
+        8 => is_init(name),
+        5 | 6 | 7 | 9 => !is_init(name),
+        _ => true,
+    }
+}
+
+fn handle_fault(kind: u8, tag: u8, name: &[u8]) -> Option<Reason>
+    ensures { result ≡ handle_fault_of kind tag name.now }
+{
+    if !handle_fits(kind, tag) {
+        return Some(Reason::BadIndex);
+    }
+    if !handle_names(kind, name) {
+        return Some(Reason::BadName);
+    }
+    None
+}
+
+fn field_fault(descriptor: &[u8]) -> Option<Reason>
+    ensures { result ≡ field_fault_of descriptor.now }
+{
+    if is_field(descriptor) {
+        None
+    } else {
+        Some(Reason::BadDescriptor)
+    }
+}
+
+fn shape_fault(descriptor: &[u8]) -> Option<Reason>
+    ensures { result ≡ shape_fault_of descriptor.now }
+{
+    if is_method(descriptor) {
+        None
+    } else {
+        Some(Reason::BadDescriptor)
+    }
+}
+
+/// The first reason against what an entry names.
+#[tactic(auto, unfolding(jc_desc::specs::PoolSteps::meaning_fault))]
+fn meaning(slots: &[Slot<'_>], slot: Slot<'_>) -> Option<Reason>
+    ensures { result ≡ meaning_fault (slots_of slots.now) (slot_of slot.entry) }
+{
+    match slot.tag {
+        tags::CLASS => class_fault(text(slots, slot)),
+        tags::NAME_AND_TYPE => pair_fault(text(slots, slot), descriptor(slots, slot)),
+        tags::FIELD_REF => field_fault(descriptor(slots, pair(slots, slot))),
+        tags::METHOD_REF => {
+            let named = pair(slots, slot);
+            method_fault(false, text(slots, named), descriptor(slots, named))
+        }
+        tags::INTERFACE_METHOD_REF => {
+            let named = pair(slots, slot);
+            method_fault(true, text(slots, named), descriptor(slots, named))
+        }
+        tags::METHOD_HANDLE => {
+            let member = at(slots, target(slot));
+            handle_fault(kind(slot), member.tag, text(slots, pair(slots, member)))
+        }
+        tags::METHOD_TYPE => shape_fault(text(slots, slot)),
+        tags::DYNAMIC => field_fault(descriptor(slots, pair(slots, slot))),
+        tags::INVOKE_DYNAMIC => shape_fault(descriptor(slots, pair(slots, slot))),
+        _ => None,
+    }
+}
+
+fn first_reference_fault(slots: &[Slot<'_>]) -> Option<Fault>
+    ensures { result ≡ first_fault (reference_fault (slots_of slots.now)) (slots_of slots.now) }
+{
+    for slot in slots {
+        if !refers(slots, *slot) {
+            return Some(Fault {
+                left: slot.left,
+                reason: Reason::BadIndex,
+            });
+        }
+    }
+    None
+}
+
+fn first_sense_fault(slots: &[Slot<'_>]) -> Option<Fault>
+    ensures { result ≡ first_fault (sense_fault (slots_of slots.now)) (slots_of slots.now) }
+{
+    for slot in slots {
+        if let Some(reason) = meaning(slots, *slot) {
+            return Some(Fault {
+                left: slot.left,
+                reason,
+            });
+        }
+    }
+    None
+}
+
+/// The first fault in what the entries name: references over all entries first, and only then
+/// names, descriptors and handles.
+pub(crate) fn links_fault(slots: &[Slot<'_>]) -> Option<Fault>
+    ensures { result ≡ links_fault_of (slots_of slots.now) }
+{
+    match first_reference_fault(slots) {
+        Some(fault) => Some(fault),
+        None => first_sense_fault(slots),
+    }
+}

@@ -1,0 +1,412 @@
+//! Pools byte by byte, by the steps of reading and JVMS 4.4.
+use crate::pool::{Pool, PoolConstant, PoolError};
+use crate::{Malformed, Reason};
+use std::alloc::{AllocError, Global};
+use std::test::Fail;
+
+/// The class `p/A` without members: its pool ends at 41.
+const PLAIN: [u8; 55] = [
+    0xca, 0xfe, 0xba, 0xbe, 0, 0, 0, 0x34, 0, 5, 7, 0, 2, 1, 0, 3, 0x70, 0x2f, 0x41, 7, 0, 4, 1, 0,
+    16, 0x6a, 0x61, 0x76, 0x61, 0x2f, 0x6c, 0x61, 0x6e, 0x67, 0x2f, 0x4f, 0x62, 0x6a, 0x65, 0x63,
+    0x74, 0, 0x21, 0, 1, 0, 3, 0, 0, 0, 0, 0, 0, 0, 0,
+];
+
+/// Entries 1 to 17, behind a count that is still to be written.
+const ENTRIES: &[u8] =
+    b"\x01\x00\x01A\x07\x00\x01\x01\x00\x01m\x01\x00\x03()V\x0c\x00\x03\x00\x04\x01\x00\x01I\x0c\x00\x03\x00\x06\x01\x00\x06<init>\x0c\x00\x08\x00\x04\x01\x00\x08<clinit>\x0c\x00\x0a\x00\x04\x01\x00\x03()I\x0c\x00\x08\x00\x0c\x0a\x00\x02\x00\x05\x0a\x00\x02\x00\x09\x0b\x00\x02\x00\x05\x09\x00\x02\x00\x07";
+
+fn fault_of(alloc: Global, bytes: &[u8]) -> Result<Option<Malformed>, AllocError> {
+    if bytes.len() > 4_194_304 {
+        return Ok(None);
+    }
+    match Pool::read(alloc, bytes) {
+        Ok(_) => Ok(None),
+        Err(PoolError::Malformed(fault)) => Ok(Some(fault)),
+        Err(PoolError::Memory) => Err(AllocError),
+    }
+}
+
+fn at(offset: u32, reason: Reason) -> Option<Malformed> {
+    Some(Malformed { offset, reason })
+}
+
+#[test]
+fn plain_class_cut_short(rt: HostRuntime) -> Result<(), Fail> {
+    for len in [0, 3, 5, 7, 9, 10, 12, 15, 18, 24, 40] {
+        let fault = fault_of(rt.alloc(), &PLAIN[..len])?;
+        assert_eq!(rt; fault, at(len as u32, Reason::Short), "the first {len}");
+    }
+    assert_eq!(rt; fault_of(rt.alloc(), &PLAIN[..41])?, None);
+    Ok(())
+}
+
+#[test]
+fn plain_class_with_one_byte_changed(rt: HostRuntime) -> Result<(), Fail> {
+    for (place, byte, want) in [
+        (0, 0, at(0, Reason::BadMagic)),
+        (7, 0x3e, at(4, Reason::BadVersion)),
+        (7, 0x2c, at(4, Reason::BadVersion)),
+        (7, 0x2d, None),
+        (19, 2, at(19, Reason::BadTag)),
+        (16, 0x80, at(13, Reason::BadUtf8)),
+        (16, 0, at(13, Reason::BadUtf8)),
+        (12, 1, at(10, Reason::BadIndex)),
+        (12, 0, at(10, Reason::BadIndex)),
+        (21, 5, at(19, Reason::BadIndex)),
+        (18, 0x2e, at(10, Reason::BadName)),
+        (16, 0x5b, at(10, Reason::BadName)),
+        (10, 8, None),
+    ] {
+        let mut bytes = PLAIN;
+        assert!(rt; place < 55);
+        bytes[place] = byte;
+        assert_eq!(rt; fault_of(rt.alloc(), &bytes)?, want, "{byte} at {place}");
+    }
+    Ok(())
+}
+
+#[test]
+fn minor_is_strict_from_major_56_on(rt: HostRuntime) -> Result<(), Fail> {
+    for (minor, major, want) in [
+        (1, 55, None),
+        (1, 56, at(4, Reason::BadVersion)),
+        (0, 61, None),
+        (255, 61, None),
+    ] {
+        let mut bytes = PLAIN;
+        bytes[4] = if minor == 255 { 255 } else { 0 };
+        bytes[5] = minor;
+        bytes[7] = major;
+        assert_eq!(rt; fault_of(rt.alloc(), &bytes)?, want, "{major}.{minor}");
+    }
+    Ok(())
+}
+
+fn with_entries(alloc: Global, count: u8, entries: &[u8]) -> Result<Vec<u8>, AllocError> {
+    let mut bytes = Vec::new(alloc);
+    bytes.extend_from_slice(b"\xca\xfe\xba\xbe\x00\x00\x00\x34\x00")?;
+    bytes.push(count)?;
+    bytes.extend_from_slice(ENTRIES)?;
+    bytes.extend_from_slice(entries)?;
+    Ok(bytes)
+}
+
+/// A count, entries from 18 on at offset 102, and the first fault.
+const ROWS: [(u8, &[u8], Option<Malformed>); 38] = [
+    (
+        19,
+        b"\x08\x00\x02",
+        Some(Malformed {
+            offset: 102,
+            reason: Reason::BadIndex,
+        }),
+    ),
+    (
+        19,
+        b"\x08\x00\x12",
+        Some(Malformed {
+            offset: 102,
+            reason: Reason::BadIndex,
+        }),
+    ),
+    (19, b"\x08\x00\x01", None),
+    (
+        19,
+        b"\x09\x00\x01\x00\x07",
+        Some(Malformed {
+            offset: 102,
+            reason: Reason::BadIndex,
+        }),
+    ),
+    (
+        19,
+        b"\x0a\x00\x02\x00\x02",
+        Some(Malformed {
+            offset: 102,
+            reason: Reason::BadIndex,
+        }),
+    ),
+    (
+        19,
+        b"\x09\x00\x02\x00\x05",
+        Some(Malformed {
+            offset: 102,
+            reason: Reason::BadDescriptor,
+        }),
+    ),
+    (
+        19,
+        b"\x0a\x00\x02\x00\x07",
+        Some(Malformed {
+            offset: 102,
+            reason: Reason::BadDescriptor,
+        }),
+    ),
+    (
+        19,
+        b"\x0a\x00\x02\x00\x0b",
+        Some(Malformed {
+            offset: 102,
+            reason: Reason::BadName,
+        }),
+    ),
+    (
+        19,
+        b"\x0b\x00\x02\x00\x0b",
+        Some(Malformed {
+            offset: 102,
+            reason: Reason::BadName,
+        }),
+    ),
+    (
+        19,
+        b"\x0b\x00\x02\x00\x09",
+        Some(Malformed {
+            offset: 102,
+            reason: Reason::BadName,
+        }),
+    ),
+    (
+        19,
+        b"\x0a\x00\x02\x00\x0d",
+        Some(Malformed {
+            offset: 102,
+            reason: Reason::BadDescriptor,
+        }),
+    ),
+    (
+        19,
+        b"\x0c\x00\x03\x00\x02",
+        Some(Malformed {
+            offset: 102,
+            reason: Reason::BadIndex,
+        }),
+    ),
+    (
+        19,
+        b"\x0c\x00\x03\x00\x01",
+        Some(Malformed {
+            offset: 102,
+            reason: Reason::BadDescriptor,
+        }),
+    ),
+    (
+        20,
+        b"\x01\x00\x03a/b\x0c\x00\x12\x00\x06",
+        Some(Malformed {
+            offset: 108,
+            reason: Reason::BadName,
+        }),
+    ),
+    (
+        19,
+        b"\x0f\x00\x00\x0e",
+        Some(Malformed {
+            offset: 102,
+            reason: Reason::BadIndex,
+        }),
+    ),
+    (
+        19,
+        b"\x0f\x0a\x00\x0e",
+        Some(Malformed {
+            offset: 102,
+            reason: Reason::BadIndex,
+        }),
+    ),
+    (
+        19,
+        b"\x0f\x01\x00\x0e",
+        Some(Malformed {
+            offset: 102,
+            reason: Reason::BadIndex,
+        }),
+    ),
+    (
+        19,
+        b"\x0f\x05\x00\x10",
+        Some(Malformed {
+            offset: 102,
+            reason: Reason::BadIndex,
+        }),
+    ),
+    (
+        19,
+        b"\x0f\x09\x00\x0e",
+        Some(Malformed {
+            offset: 102,
+            reason: Reason::BadIndex,
+        }),
+    ),
+    (
+        19,
+        b"\x0f\x08\x00\x0e",
+        Some(Malformed {
+            offset: 102,
+            reason: Reason::BadName,
+        }),
+    ),
+    (
+        19,
+        b"\x0f\x05\x00\x0f",
+        Some(Malformed {
+            offset: 102,
+            reason: Reason::BadName,
+        }),
+    ),
+    (19, b"\x0f\x06\x00\x10", None),
+    (19, b"\x0f\x08\x00\x0f", None),
+    (19, b"\x0f\x04\x00\x11", None),
+    (
+        19,
+        b"\x10\x00\x06",
+        Some(Malformed {
+            offset: 102,
+            reason: Reason::BadDescriptor,
+        }),
+    ),
+    (
+        19,
+        b"\x10\x00\x02",
+        Some(Malformed {
+            offset: 102,
+            reason: Reason::BadIndex,
+        }),
+    ),
+    (
+        19,
+        b"\x11\x00\x00\x00\x05",
+        Some(Malformed {
+            offset: 102,
+            reason: Reason::BadDescriptor,
+        }),
+    ),
+    (
+        19,
+        b"\x12\x00\x00\x00\x07",
+        Some(Malformed {
+            offset: 102,
+            reason: Reason::BadDescriptor,
+        }),
+    ),
+    (
+        19,
+        b"\x12\x00\x00\x00\x01",
+        Some(Malformed {
+            offset: 102,
+            reason: Reason::BadIndex,
+        }),
+    ),
+    (
+        19,
+        b"\x13\x00\x02",
+        Some(Malformed {
+            offset: 102,
+            reason: Reason::BadIndex,
+        }),
+    ),
+    (19, b"\x14\x00\x01", None),
+    (
+        19,
+        b"\x05\x00\x00\x00\x00\x00\x00\x00\x01",
+        Some(Malformed {
+            offset: 102,
+            reason: Reason::BadIndex,
+        }),
+    ),
+    (
+        19,
+        b"\x05\x00\x00\x00\x00\x00\x00\x00",
+        Some(Malformed {
+            offset: 110,
+            reason: Reason::Short,
+        }),
+    ),
+    (20, b"\x06\x00\x00\x00\x00\x00\x00\x00\x01", None),
+    (
+        20,
+        b"\x03\x00\x00\x00\x01",
+        Some(Malformed {
+            offset: 107,
+            reason: Reason::Short,
+        }),
+    ),
+    (
+        19,
+        b"\x02\x00\x00\x00\x01",
+        Some(Malformed {
+            offset: 102,
+            reason: Reason::BadTag,
+        }),
+    ),
+    (
+        19,
+        b"\x01\x00\x02\xc3\x28",
+        Some(Malformed {
+            offset: 102,
+            reason: Reason::BadUtf8,
+        }),
+    ),
+    (
+        20,
+        b"\x0c\x00\x03\x00\x01\x08\x00\x02",
+        Some(Malformed {
+            offset: 107,
+            reason: Reason::BadIndex,
+        }),
+    ),
+];
+
+#[test]
+fn entry_18_and_what_it_names(rt: HostRuntime) -> Result<(), Fail> {
+    for (count, entries, want) in ROWS {
+        let bytes = with_entries(rt.alloc(), count, entries)?;
+        assert_eq!(rt; fault_of(rt.alloc(), &bytes)?, want, "{count} {entries:?}");
+    }
+    Ok(())
+}
+
+#[test]
+fn plain_class_answers(rt: HostRuntime) -> Result<(), Fail> {
+    let (pool, offset) = Pool::read(rt.alloc(), &PLAIN)?;
+    assert_eq!(rt; offset, 41);
+    assert_eq!(rt; pool.major(), 52);
+    assert_eq!(rt; pool.class(1), Some(b"p/A".as_slice()));
+    assert_eq!(rt; pool.utf8(1), None);
+    assert_eq!(rt; pool.utf8(2), Some(b"p/A".as_slice()));
+    assert_eq!(rt; pool.class(2), None);
+    assert_eq!(rt; pool.tag(4), Some(1));
+    assert_eq!(rt; pool.tag(0), None);
+    assert_eq!(rt; pool.tag(5), None);
+    Ok(())
+}
+
+#[test]
+fn entries_answer_by_their_kind(rt: HostRuntime) -> Result<(), Fail> {
+    let bytes = with_entries(
+        rt.alloc(),
+        25,
+        b"\x05\x00\x00\x00\x01\x00\x00\x00\x02\x0f\x08\x00\x0f\x12\x00\x07\x00\x05\x03\x00\x00\x00\x40\x08\x00\x03\x04\x3f\x80\x00\x00",
+    )?;
+    assert!(rt; bytes.len() < 200);
+    let (pool, _) = Pool::read(rt.alloc(), &bytes)?;
+    let method = pool.member_ref(16).ok_or("a method")?;
+    assert_eq!(rt; method.tag, 11);
+    assert_eq!(rt; method.class, b"A".as_slice());
+    assert_eq!(rt; method.name, b"m".as_slice());
+    assert_eq!(rt; method.descriptor, b"()V".as_slice());
+    assert!(rt; pool.member_ref(5).is_none());
+    assert!(rt; matches!(pool.constant(18), Some(PoolConstant::Long(0x1_0000_0002))));
+    assert_eq!(rt; pool.tag(19), None);
+    let handle = pool.handle(20).ok_or("a handle")?;
+    assert_eq!(rt; handle.kind, 8);
+    assert_eq!(rt; handle.member.name, b"<init>".as_slice());
+    assert!(rt; pool.handle(18).is_none());
+    assert_eq!(rt; pool.dynamic(21), Some(7));
+    assert_eq!(rt; pool.dynamic(20), None);
+    assert!(rt; matches!(pool.constant(22), Some(PoolConstant::Int(64))));
+    assert!(rt; matches!(pool.constant(23), Some(PoolConstant::Text(b"m"))));
+    assert!(rt; matches!(pool.constant(24), Some(PoolConstant::Float(0x3f80_0000))));
+    assert!(rt; pool.constant(1).is_none());
+    Ok(())
+}

@@ -1,0 +1,4 @@
+pub mod Reading
+pub mod ReadPool
+pub mod ReadClass
+pub mod PoolView

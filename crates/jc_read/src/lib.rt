@@ -1,0 +1,14 @@
+//! Reads class files.
+//!
+//! By now it reads those of the first form: classes that extend `java/lang/Object`, name no interface
+//! and are not sealed, and `java/lang/Object` itself.
+#![tactic(auto)]
+
+mod bytes;
+mod class;
+mod entry;
+mod flags;
+mod members;
+mod pool;
+
+// pub use class::read_head;

@@ -1,0 +1,4 @@
+pub mod Tree
+pub mod Request
+pub mod RequestView
+pub mod Stop
