@@ -14,3 +14,4 @@ pub mod ReadValid
 pub mod ReadLists
 pub mod Lists
 pub mod Tests
+pub mod OneList

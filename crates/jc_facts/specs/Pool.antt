@@ -1,7 +1,6 @@
 -- The constant pool (JVMS 4.4), of which tags and lengths are judged, and nothing else.
-use Rattle.std.specs.Prelude.{◌≡◌, ◌≢◌, ℕ, ◌-◌, List, [], ◌∷◌, ◌++◌, length, get_or, Option, Some, None, ◌⊎◌, ◌==◌, ◌||◌, ◌&&◌, Bool, true, false, if◌then◌else◌}
+use Rattle.std.specs.Prelude.{◌≡◌, ℕ, ◌-◌, List, [], ◌∷◌, ◌++◌, length, get_or, Option, Some, None, ◌⊎◌, ◌==◌, ◌||◌, Bool, true, false, if◌then◌else◌}
 use Rattle.std.specs.Str.{bytes_eq}
-use Rattle.byteorder.specs.Endian.{big_number}
 use Rattle.jc_facts.specs.Pieces.{IsNumber}
 
 -- what an index of the pool holds
@@ -86,6 +85,6 @@ abbrev pub class_in : List Slot → ℕ → Option (List ℕ)
 class_in pool index = name_of pool (get_or pool index unusable)
 
 -- the bytes are there, and are this text
-abbrev pub is_text : List ℕ → Option (List ℕ) → Bool
-is_text text None = false
-is_text text (Some bytes) = bytes_eq bytes text
+abbrev pub is_the_text : List ℕ → Option (List ℕ) → Bool
+is_the_text text None = false
+is_the_text text (Some bytes) = bytes_eq bytes text
