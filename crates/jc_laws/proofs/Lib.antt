@@ -58,3 +58,5 @@ pub mod SoundnessLaws
 pub mod VerdictLaw
 pub mod UsableLaw
 pub mod ExactLists
+pub mod AboveKeys
+pub mod KeyLaws

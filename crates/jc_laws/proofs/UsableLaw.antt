@@ -42,35 +42,35 @@ module _ (O N : World) (x : Bytes) where
 
 -- ---- what is found needs P
 
-Needs : {X : Type 0} → Type 0 → Option X → Type 0
+unfoldable pub Needs : {X : Type 0} → Type 0 → Option X → Type 0
 Needs {X} P o = (f : X) → o ≡ Some f → P
 
-and_left : (a b : Bool) → (a && b) ≡ true → a ≡ true
+pub and_left : (a b : Bool) → (a && b) ≡ true → a ≡ true
 and_left a b h = let p = and_parts a b h in p.0
 
-and_right : (a b : Bool) → (a && b) ≡ true → b ≡ true
+pub and_right : (a b : Bool) → (a && b) ≡ true → b ≡ true
 and_right a b h = let p = and_parts a b h in p.1
 
-none_needs : (X P : Type 0) → Needs {X = X} P None
+pub none_needs : (X P : Type 0) → Needs {X = X} P None
 unfolding Needs
 none_needs X P f e = absurd (cc)
 
 module _ {X : Type 0} (P : Type 0) where
-  cond_needs : (b : Bool) (o : Option X) → (b ≡ true → P) → Needs P (cond b o None)
+  pub cond_needs : (b : Bool) (o : Option X) → (b ≡ true → P) → Needs P (cond b o None)
   unfolding Needs
   cond_needs true o h f e = h refl
   cond_needs false o h f e = absurd (cc)
 
-  either_needs : (b : Bool) (o p : Option X) → Needs P o → Needs P p → Needs P (cond b o p)
+  pub either_needs : (b : Bool) (o p : Option X) → Needs P o → Needs P p → Needs P (cond b o p)
   either_needs true o p x y = x
   either_needs false o p x y = y
 
-  or_else_needs : (o p : Option X) → Needs P o → Needs P p → Needs P (or_else o p)
+  pub or_else_needs : (o p : Option X) → Needs P o → Needs P p → Needs P (or_else o p)
   unfolding or_else
   or_else_needs None p x y = y
   or_else_needs (Some f) p x y = x
 
-  and_then_needs : (g : LinkError → Option X) (b : Bool) (o : Option LinkError) → (b ≡ true → P) → Needs P (and_then g (cond b o None))
+  pub and_then_needs : (g : LinkError → Option X) (b : Bool) (o : Option LinkError) → (b ≡ true → P) → Needs P (and_then g (cond b o None))
   unfolding and_then Needs
   and_then_needs g true o h f e = h refl
   and_then_needs g false o h f e = absurd (cc)
@@ -78,8 +78,11 @@ module _ {X : Type 0} (P : Type 0) where
 first_of_five : (a b c d e : Bool) → (a && b && c && d && e) ≡ true → a ≡ true
 first_of_five a b c d e h = and_left a b (and_left (a && b) c (and_left (a && b && c) d (and_left (a && b && c && d) e h)))
 
-second_of_five : (a b c d e : Bool) → (a && b && c && d && e) ≡ true → b ≡ true
+pub second_of_five : (a b c d e : Bool) → (a && b && c && d && e) ≡ true → b ≡ true
 second_of_five a b c d e h = and_right a b (and_left (a && b) c (and_left (a && b && c) d (and_left (a && b && c && d) e h)))
+
+pub third_of_five : (a b c d e : Bool) → (a && b && c && d && e) ≡ true → c ≡ true
+third_of_five a b c d e h = and_right (a && b) c (and_left (a && b && c) d (and_left (a && b && c && d) e h))
 
 by_needs : (O N : World) (s : Subject) (k : Option Key) (t : Option Bytes) → Needs (is_usable O s.class ≡ true) (finding_by O N s k t)
 unfolding rule_1 rule_2 rule_3 rule_4 rule_6 rule_7 rule_8 rule_9 init_finding

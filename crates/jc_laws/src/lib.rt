@@ -9,7 +9,7 @@ ghost use Rattle.jc_laws.specs.Sides.{SidesStay};
 ghost use Rattle.jc_laws.specs.Choices.{InheritedArePublic, EachChoiceGivesTheSame, EachInitGivesTheSame};
 ghost use Rattle.jc_laws.specs.Walks.{WalksOverClients, SeatEndsTheClients};
 ghost use Rattle.jc_laws.specs.Overriding.{WalkIsOverriding, FinalsRefuse};
-ghost use Rattle.jc_laws.specs.Findings.{FindingIsOnItsSubject, FindingsAreOfUsable, CollisionsAreOfUsable, VerdictIsOne, EmptyMeansNone, NothingBreaksItself};
+ghost use Rattle.jc_laws.specs.Findings.{FindingIsOnItsSubject, FindingsAreOfUsable, CollisionsAreOfUsable, KeysAreDeclared, CollisionKeysAreDeclared, VerdictIsOne, EmptyMeansNone, NothingBreaksItself};
 ghost use Rattle.jc_laws.specs.Soundness.{Soundness, SoundnessOfRules, LoadsAndTypesKept, FieldsKept, KeptWithoutMethods};
 
 /// The load fault of a class is the same at every sufficient depth (JVMS 5.3.5).
@@ -85,6 +85,16 @@ pub fn findings_are_of_usable()
 /// The class of a collision was usable on the old side.
 pub fn collisions_are_of_usable()
     ensures { CollisionsAreOfUsable }
+{}
+
+/// The key of a finding is declared by its class, or by a superclass or superinterface of it.
+pub fn keys_are_declared()
+    ensures { KeysAreDeclared }
+{}
+
+/// The key of a collision is declared so on the new side.
+pub fn collision_keys_are_declared()
+    ensures { CollisionKeysAreDeclared }
 {}
 
 /// Two sides have one verdict.
