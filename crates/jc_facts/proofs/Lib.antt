@@ -3,4 +3,15 @@ pub mod Listed
 pub mod Apart
 pub mod Exact
 pub mod Heads
+pub mod Keys
+pub mod Front
+pub mod ClassIndices
+pub mod AttributeLists
+pub mod Contents
+pub mod ClassMembers
+pub mod ClassFiles
+pub mod ReadValid
+pub mod ReadLists
+pub mod Lists
+pub mod Tests
 pub mod OneList
