@@ -3,3 +3,4 @@ pub mod Listed
 pub mod Apart
 pub mod Exact
 pub mod Heads
+pub mod OneList

@@ -1,3 +1,4 @@
+pub mod Ascents
 pub mod Puts
 pub mod Places
 pub mod Listings
@@ -5,3 +6,4 @@ pub mod FrontRead
 pub mod TreeRead
 pub mod ThreeTrees
 pub mod Events
+pub mod OneVerdict

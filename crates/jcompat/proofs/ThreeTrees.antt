@@ -25,7 +25,7 @@ use Rattle.jcompat.specs.Classes.{Told, is_class_path, IsClassFile, path_of, IsH
 use Rattle.jcompat.specs.Survey.{StopsIn}
 use Rattle.jcompat.specs.Answers.{Given, given, AreCleanBefore, AreClean, HasObject, IsRefused, HasCause, Sides, AreFindings, IsCompatible, IsIncompatible, IsVerdict}
 use Rattle.jcompat.specs.Check.{AreSides, StopsFor}
-use Rattle.jcompat.proofs.TreeRead.{not_self}
+use Rattle.jc_facts.proofs.OneList.{not_self}
 
 -- ---- names of one tree differ
 
@@ -89,54 +89,7 @@ sides_of words files roots platform old new is s = record {
   platform_is = s.platform_is; old_is = s.old_is; new_is = s.new_is; has_object = s.has_object;
 }
 
--- ---- why it stopped
-
-pub stops_platform : (content : Option (List FileOf)) (before after : Bytes → ℕ) (roots : Roots) (stop : Stop) → StopsIn content before after trees.Platform roots.platform stop
-    → StopsFor content before after roots stop
-stops_platform content before after roots (stops.Later t path) (is, later) = subst (λ (t : Tree). StopsFor content before after roots (stops.Later t path)) (sym is) (λ files told. (tt, later files told))
-stops_platform content before after roots (stops.ReadFault t) (is, rose) = subst (λ (t : Tree). StopsFor content before after roots (stops.ReadFault t)) (sym is) (rose, λ files told. tt)
-stops_platform content before after roots stops.Memory s = tt
-stops_platform content before after roots stops.Words s = absurd s
-stops_platform content before after roots stops.NoObject s = absurd s
-
-pub stops_old : (content : Option (List FileOf)) (before after : Bytes → ℕ) (roots : Roots) → Told content (λ files. IsClean files trees.Platform roots.platform)
-    → (stop : Stop) → StopsIn content before after trees.Old roots.old stop → StopsFor content before after roots stop
-stops_old content before after roots clean (stops.Later t path) (is, later) = subst (λ (t : Tree). StopsFor content before after roots (stops.Later t path)) (sym is) (λ files told. (clean files told, later files told))
-stops_old content before after roots clean (stops.ReadFault t) (is, rose) = subst (λ (t : Tree). StopsFor content before after roots (stops.ReadFault t)) (sym is) (rose, clean)
-stops_old content before after roots clean stops.Memory s = tt
-stops_old content before after roots clean stops.Words s = absurd s
-stops_old content before after roots clean stops.NoObject s = absurd s
-
-pub stops_new : (content : Option (List FileOf)) (before after : Bytes → ℕ) (roots : Roots) → Told content (λ files. IsClean files trees.Platform roots.platform)
-    → Told content (λ files. IsClean files trees.Old roots.old) → (stop : Stop) → StopsIn content before after trees.New roots.new stop → StopsFor content before after roots stop
-stops_new content before after roots platform old (stops.Later t path) (is, later) =
-    subst (λ (t : Tree). StopsFor content before after roots (stops.Later t path)) (sym is) (λ files told. ((platform files told, old files told), later files told))
-stops_new content before after roots platform old (stops.ReadFault t) (is, rose) =
-    subst (λ (t : Tree). StopsFor content before after roots (stops.ReadFault t)) (sym is) (rose, λ files told. (platform files told, old files told))
-stops_new content before after roots platform old stops.Memory s = tt
-stops_new content before after roots platform old stops.Words s = absurd s
-stops_new content before after roots platform old stops.NoObject s = absurd s
-
--- a count of the whole call
-pub stops_since : (content : Option (List FileOf)) (before middle after : Bytes → ℕ) (tree : Tree) (root : Bytes) → (Rose (middle root) (after root) → Rose (before root) (after root))
-    → (stop : Stop) → StopsIn content middle after tree root stop → StopsIn content before after tree root stop
-stops_since content before middle after tree root since (stops.Later t path) s = s
-stops_since content before middle after tree root since (stops.ReadFault t) s = (s.0, since s.1)
-stops_since content before middle after tree root since stops.Memory s = tt
-stops_since content before middle after tree root since stops.Words s = absurd s
-stops_since content before middle after tree root since stops.NoObject s = absurd s
-
-for_some : {A : Type 0} (o : Option A) (x : A) (P : A → Type 0) → Some x ≡ o → P x → IsSomeAnd o P
-for_some None x P e p = absurd (cc)
-for_some {A} (Some y) x P e p = let is : x ≡ y = cc in subst P is p
-
-pub has_cause : (words : List Bytes) (content : Option (List FileOf)) (before after : Bytes → ℕ) (roots : Roots) → Some roots ≡ asked words → (stop : Stop)
-    → StopsFor content before after roots stop → HasCause (given words content before after) stop
-has_cause words content before after roots is (stops.Later t path) s = λ files told. for_some (asked words) roots _ is (s files told)
-has_cause words content before after roots is stops.NoObject s = λ files told. for_some (asked words) roots _ is (s files told)
-has_cause words content before after roots is (stops.ReadFault t) s = for_some (asked words) roots _ is s
-has_cause words content before after roots is stops.Memory s = tt
-has_cause words content before after roots is stops.Words s = absurd s
+-- ---- a platform that is read
 
 pub object_if : (files : List FileOf) (root : Bytes) (hs : List Head) → AreHeads files trees.Platform root hs → 0 < length hs → HasFile files root (path_of object_name)
 object_if files root [] a long = absurd (omega arith)

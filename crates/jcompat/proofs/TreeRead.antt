@@ -12,6 +12,7 @@ use Rattle.jc_base.specs.Outside.{FileOf, IsFileAt, HasFile}
 use Rattle.jc_facts.specs.declared.head.Head.{Head}
 use Rattle.jc_facts.specs.Names.{Bytes}
 use Rattle.jc_facts.specs.Exact.{Before, NamesRise, IsExact}
+use Rattle.jc_facts.proofs.OneList.{not_both, not_self}
 use Rattle.jc_facts.proofs.Listed.{EachOf, EachOf-map, here, there, none, cases, each_in}
 use Rattle.jc_read.proofs.Heads.{one_head_of}
 use Rattle.jcompat.specs.declared.tree.Tree.{Tree}
@@ -21,15 +22,6 @@ use Rattle.jcompat.specs.Classes.{Told, IsClassFile, path_of, IsHeadOf, IsReadab
 use Rattle.jcompat.specs.Survey.{IsClassPathOf, AreClassPaths, IsReadAt, IsLaterAt, AreReadAt, IsFirstOf, StopsAt, StopsIn}
 
 -- ---- the order of paths
-
-less_not_greater : Less ≡ Greater → ⊥
-less_not_greater e = cc
-
-pub not_both : (x y : Bytes) → Before x y → Before y x → ⊥
-not_both x y h k = less_not_greater (sym h ∙ nat_list_cmp_total.antisymm x y ∙ ap ordering_reverse k)
-
-pub not_self : (x : Bytes) → Before x x → ⊥
-not_self x h = not_both x x h h
 
 -- of rising paths those before one stand in front of it
 in_front : (front back : List Bytes) (path other : Bytes) → NamesRise (λ p. p) (front ++ path ∷ back) → Contains (front ++ path ∷ back) other → Before other path → Contains front other

@@ -1,3 +1,4 @@
+pub mod Ascending
 pub mod Tree
 pub mod Request
 pub mod RequestView
