@@ -12,5 +12,6 @@ pub mod ClassMembers
 pub mod ClassFiles
 pub mod ReadValid
 pub mod ReadLists
+pub mod Codes
 pub mod Lists
 pub mod Tests

@@ -16,4 +16,5 @@ pub mod Attributes
 pub mod ClassParts
 pub mod ClassGrammar
 pub mod ClassSteps
+pub mod CodeGrammar
 pub mod Text
