@@ -6,7 +6,7 @@ pub mod mem_file;
 pub mod mem_sink;
 pub mod mem_trees;
 pub mod name;
-mod root_faults;
+pub mod root_faults;
 mod schedule;
 pub mod sink;
 pub mod sure_sink;

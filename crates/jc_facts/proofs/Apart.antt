@@ -98,7 +98,7 @@ each_at P [] i d h e = absurd (omega arith)
 each_at P (x ∷ xs) zero d h e = e.0
 each_at P (x ∷ xs) (suc i) d h e = each_at P xs i d (omega arith) e.1
 
-rec-Apart : {A : Type 0} (name : A → Bytes) (xs : List A) → ApartRec name xs → Apart name xs
+pub rec-Apart : {A : Type 0} (name : A → Bytes) (xs : List A) → ApartRec name xs → Apart name xs
 rec-Apart name [] a i j d n hi hj = absurd (omega arith)
 rec-Apart name (x ∷ xs) a zero zero d n hi hj = absurd (n refl)
 rec-Apart name (x ∷ xs) a zero (suc j) d n hi hj = each_at (λ y. name x ≢ name y) xs j d (omega arith) a.0

@@ -15,3 +15,4 @@ pub mod ReadLists
 pub mod Codes
 pub mod Lists
 pub mod Tests
+pub mod OneList

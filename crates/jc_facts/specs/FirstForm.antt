@@ -6,7 +6,7 @@ use Rattle.jc_desc.specs.Names.{is_class_name}
 use Rattle.jc_facts.specs.declared.head.Head.{Head}
 use Rattle.jc_facts.specs.Names.{object_name}
 use Rattle.jc_facts.specs.Flags.{is_public, is_final, is_interface}
-use Rattle.jc_facts.specs.Pool.{class_in, utf8_in, is_text}
+use Rattle.jc_facts.specs.Pool.{class_in, utf8_in, is_the_text}
 use Rattle.jc_facts.specs.ClassFile.{ClassFile, IsClassFile}
 
 -- what is asked of java/lang/Object: it has no superclass, every class may name and extend it, and no
@@ -31,4 +31,4 @@ pub record IsFirstForm (bytes : List ℕ) (head : Head) : Type 0 where
   pub extends : head.name ≢ object_name → class_in file.pool file.super_class ≡ Some object_name
   pub no_interfaces : file.interfaces ≡ []
   -- no attribute is PermittedSubclasses (JVMS 4.7.31)
-  pub not_sealed : list_any (λ name. is_text (codes "PermittedSubclasses") (utf8_in file.pool name)) file.attributes ≡ false
+  pub not_sealed : list_any (λ name. is_the_text (codes "PermittedSubclasses") (utf8_in file.pool name)) file.attributes ≡ false

@@ -85,6 +85,6 @@ abbrev pub class_in : List Slot → ℕ → Option (List ℕ)
 class_in pool index = name_of pool (get_or pool index unusable)
 
 -- the bytes are there, and are this text
-abbrev pub is_text : List ℕ → Option (List ℕ) → Bool
-is_text text None = false
-is_text text (Some bytes) = bytes_eq bytes text
+abbrev pub is_the_text : List ℕ → Option (List ℕ) → Bool
+is_the_text text None = false
+is_the_text text (Some bytes) = bytes_eq bytes text

@@ -10,7 +10,7 @@ use Rattle.jc_facts.specs.declared.head.Head.{Head}
 use Rattle.jc_facts.specs.Names.{object_name}
 use Rattle.jc_facts.specs.Flags.{is_public, is_final, is_interface}
 use Rattle.jc_facts.specs.Pieces.{IsNumber, IsCounted}
-use Rattle.jc_facts.specs.Pool.{Slot, class_in, is_text}
+use Rattle.jc_facts.specs.Pool.{Slot, class_in, is_the_text}
 use Rattle.jc_facts.specs.ClassFile.{ClassFile, IsClassFile, IsMember, IsAttribute}
 use Rattle.jc_facts.specs.FirstForm.{IsRoot, IsFirstForm}
 use Rattle.jc_read.specs.declared.class.Declaration.{Declaration}
@@ -36,11 +36,11 @@ not_true true h = absurd cc
 not_true false h = refl
 
 -- the text is there exactly where the test holds
-text_is : (text : List ℕ) (o : Option (List ℕ)) → is_text text o ≡ true → o ≡ Some text
+text_is : (text : List ℕ) (o : Option (List ℕ)) → is_the_text text o ≡ true → o ≡ Some text
 text_is text None h = absurd cc
 text_is text (Some bytes) h = ap (λ (x : List ℕ). Some x) ((bytes_eq-Decides bytes text).0 h)
 
-text_again : (text : List ℕ) (o : Option (List ℕ)) → o ≡ Some text → is_text text o ≡ true
+text_again : (text : List ℕ) (o : Option (List ℕ)) → o ≡ Some text → is_the_text text o ≡ true
 text_again text o h = rw h ((bytes_eq-Decides text text).1 refl)
 
 nil_is : (bytes : List ℕ) → is_nil bytes ≡ true → bytes ≡ []
@@ -230,17 +230,17 @@ record IsAllowed (pool : List Slot) (class : Declaration) (final_method : Bool) 
 
 allowed_is : (pool : List Slot) (class : Declaration) (final_method : Bool) (name : List ℕ) → is_allowed pool class final_method name ≡ true → IsAllowed pool class final_method name
 allowed_is pool class final_method name h = go (bytes_eq name object_name) refl h where
-  go : (b : Bool) → bytes_eq name object_name ≡ b → (is_class_name name && cond b (root_test class final_method) (is_text object_name (class_in pool class.super_class))) ≡ true → IsAllowed pool class final_method name
+  go : (b : Bool) → bytes_eq name object_name ≡ b → (is_class_name name && cond b (root_test class final_method) (is_the_text object_name (class_in pool class.super_class))) ≡ true → IsAllowed pool class final_method name
   go true e h =
       let parts = both (is_class_name name) (root_test class final_method) h in
       record { class_name = parts.0; root = λ is. root_is class final_method parts.1; extends = λ other. absurd (other ((bytes_eq-Decides name object_name).0 e)) }
   go false e h =
-      let parts = both (is_class_name name) (is_text object_name (class_in pool class.super_class)) h in
+      let parts = both (is_class_name name) (is_the_text object_name (class_in pool class.super_class)) h in
       record { class_name = parts.0; root = λ is. absurd (let wrong : false ≡ true = sym e ∙ (bytes_eq-Decides name object_name).1 is in cc); extends = λ other. text_is object_name _ parts.1 }
 
 allowed_again : (pool : List Slot) (class : Declaration) (final_method : Bool) (name : List ℕ) → IsAllowed pool class final_method name → is_allowed pool class final_method name ≡ true
 allowed_again pool class final_method name h = go (bytes_eq name object_name) refl where
-  go : (b : Bool) → bytes_eq name object_name ≡ b → (is_class_name name && cond b (root_test class final_method) (is_text object_name (class_in pool class.super_class))) ≡ true
+  go : (b : Bool) → bytes_eq name object_name ≡ b → (is_class_name name && cond b (root_test class final_method) (is_the_text object_name (class_in pool class.super_class))) ≡ true
   go true e = rw (h.class_name, root_again class final_method (h.root ((bytes_eq-Decides name object_name).0 e))) refl
   go false e =
       let differs : name ≢ object_name = λ is. (let wrong : false ≡ true = sym e ∙ (bytes_eq-Decides name object_name).1 is in cc) in

@@ -6,7 +6,7 @@ use Rattle.jc_desc.specs.Names.{is_class_name}
 use Rattle.jc_facts.specs.declared.head.Head.{Head}
 use Rattle.jc_facts.specs.Names.{object_name}
 use Rattle.jc_facts.specs.Flags.{is_public, is_final, is_interface}
-use Rattle.jc_facts.specs.Pool.{Slot, class_in, utf8_in, is_text}
+use Rattle.jc_facts.specs.Pool.{Slot, class_in, utf8_in, is_the_text}
 use Rattle.jc_read.specs.Reading.{◌>>=◌, number_at, part_at, counted}
 use Rattle.jc_read.specs.ReadPool.{pool_at}
 use Rattle.jc_read.specs.declared.class.Declaration.{Declaration}
@@ -56,7 +56,7 @@ is_nil (b ∷ bs) = false
 
 -- the index is that of the text PermittedSubclasses
 abbrev pub is_permitted : List Slot → ℕ → Bool
-is_permitted pool index = is_text (codes "PermittedSubclasses") (utf8_in pool index)
+is_permitted pool index = is_the_text (codes "PermittedSubclasses") (utf8_in pool index)
 
 -- interfaces, of which there are none, fields, methods and attributes up to the end: whether a method is final
 unfoldable pub members_at : List Slot → List ℕ → Option Bool
@@ -72,7 +72,7 @@ abbrev pub is_allowed : List Slot → Declaration → Bool → List ℕ → Bool
 is_allowed pool class final_method name =
     is_class_name name && (if bytes_eq name object_name
     then class.super_class == 0 && is_public class.flags && not (is_final class.flags) && not (is_interface class.flags) && not final_method
-    else is_text object_name (class_in pool class.super_class))
+    else is_the_text object_name (class_in pool class.super_class))
 
 -- the head of a class whose pool is read already
 unfoldable pub class_head_at : List Slot → List ℕ → Option Head

@@ -5,10 +5,10 @@
 #![tactic(auto)]
 
 mod bytes;
-mod class;
+pub mod class;
 mod entry;
 mod flags;
 mod members;
 mod pool;
-
-// pub use class::read_head;
+#[cfg(test)]
+mod tests;

@@ -1,1 +1,9 @@
+pub mod Ascents
 pub mod Puts
+pub mod Places
+pub mod Listings
+pub mod FrontRead
+pub mod TreeRead
+pub mod ThreeTrees
+pub mod Events
+pub mod OneVerdict

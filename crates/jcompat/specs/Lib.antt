@@ -1,4 +1,10 @@
+pub mod Ascending
 pub mod Tree
 pub mod Request
 pub mod RequestView
 pub mod Stop
+pub mod Classes
+pub mod Survey
+pub mod Answers
+pub mod Check
+pub mod Written

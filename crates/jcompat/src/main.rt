@@ -1,12 +1,59 @@
 //! Says whether clients that were compiled against an old release of a library link with a new one.
 #![tactic(auto)]
 
+mod check;
+mod classes;
+mod disk_trees;
+mod laws;
 mod put;
-mod words;
+mod report;
+mod run;
+mod std_sink;
 mod stop;
+mod survey;
 mod text;
 mod tree;
+mod words;
 
-fn main(rt: HostRuntime) {
-    let _rt = rt;
+use crate::disk_trees::DiskTrees;
+use crate::run::run;
+use crate::std_sink::StdSink;
+use jc_base::text::Text;
+use std::alloc::{AllocError, Global};
+use std::env;
+use std::env::Env;
+use std::io;
+use std::io::ErrorKind;
+use std::process::ExitCode;
+
+/// The status where there is no memory even for the words.
+const NO_MEMORY: u8 = 6;
+
+// The words after the program's name.
+fn words_after_name(rt: &(impl Env + AllocGlobal)) -> io::Result<Vec<Text>> {
+    let alloc = rt.alloc();
+    let mut words = Vec::new(alloc);
+    for word in env::args(rt)?.skip(1) {
+        words.push(Text::from_str(alloc, word.as_str())?)?;
+    }
+    Ok(words)
 }
+
+fn main(rt: HostRuntime) -> ExitCode {
+    let alloc = rt.alloc();
+    let words = match words_after_name(&rt) {
+        Ok(words) => words,
+        Err(error) if error.kind() == ErrorKind::OutOfMemory => return ExitCode::from(NO_MEMORY),
+        // Words that aren't UTF-8 are no words of a command.
+        Err(_) => Vec::new(alloc),
+    };
+    let mut out = StdSink::new(rt.stdout());
+    let mut err = StdSink::new(rt.stderr());
+    let mut trees = DiskTrees::new(rt);
+    ExitCode::from(run(alloc, words.as_slice(), &mut trees, &mut out, &mut err))
+}
+
+#[cfg(test)]
+mod outside_tests;
+#[cfg(test)]
+mod tests;

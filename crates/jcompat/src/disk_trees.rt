@@ -1,0 +1,224 @@
+//! Real folders as trees.
+ghost use Rattle.std.specs.Prelude.{◌≡◌, ◌≤◌, ◌<◌, ◌+◌, ◌^◌, ℕ, List, length, Option, None, IfOk, IsErrOf, IsTrue};
+ghost use Rattle.jc_base.specs.Causes.{Rose};
+ghost use Rattle.jc_base.specs.RootFaults.{count_at};
+ghost use Rattle.jc_base.specs.Outside.{are_distinct};
+ghost use Rattle.jcompat.specs.Ascending.{ascends};
+
+use jc_base::root_faults::RootFaults;
+use jc_base::text::Text;
+use jc_base::trees::{TreeError, Trees};
+use std::alloc::{AllocError, Global};
+use std::fs::{DirEntry, metadata, open, read_dir};
+use std::io;
+use std::io::{ErrorKind, Read};
+use std::path::Path;
+use std::rt::Files;
+
+/// A root with more entries below it isn't listed.
+const MAX_ENTRIES: u32 = 1_000_000;
+
+/// How many bytes are asked for at once.
+const BUFFER_LEN: usize = 65536;
+
+/// Real folders. A root is the path of a folder, and its files are what stands below it and is no
+/// folder. What they are isn't told.
+///
+/// Folders are followed, links to folders are passed over, and a link to anything else is a file,
+/// also one that leads nowhere: to read it is a fault.
+///
+/// A call on a root fails where the system fails, and a listing also where the root isn't a folder,
+/// where a name isn't UTF-8, where there are more than 1,000,000 entries, folders among them, and
+/// where a path came twice. The count of failed calls on a root stops at `u64::MAX`.
+#[derive(Drop)]
+pub struct DiskTrees<R: Files + AllocGlobal + Clone + Drop> {
+    rt: R,
+    failed: RootFaults,
+}
+
+// A path below a folder, or the name itself where the folder is "".
+fn joined(alloc: Global, folder: &str, name: &str) -> Result<String, AllocError> {
+    let mut path = String::from_str(alloc, folder)?;
+    if !folder.is_empty() {
+        path.push('/')?;
+    }
+    path.push_str(name)?;
+    Ok(path)
+}
+
+// Whether the link at the path leads to a folder.
+fn leads_to_folder(files: &impl Files, path: Path<'_>) -> io::Result<bool> {
+    match metadata(files, path) {
+        Ok(target) => Ok(target.is_dir()),
+        Err(error) if error.kind() == ErrorKind::OutOfMemory => Err(error),
+        Err(_) => Ok(false),
+    }
+}
+
+/// What a walk below a root has met. Paths are below the root.
+#[derive(Drop)]
+struct Walk {
+    files: Vec<Text>,
+    /// The folders that are still to be visited.
+    folders: Vec<String>,
+    /// How many more entries may come.
+    left: u32,
+}
+
+impl Walk {
+    fn new(alloc: Global) -> Walk {
+        Walk {
+            files: Vec::new(alloc),
+            folders: Vec::new(alloc),
+            left: MAX_ENTRIES,
+        }
+    }
+
+    // Takes the entries of a folder.
+    fn visit<R: Files + AllocGlobal + Clone + Drop>(
+        &mut self,
+        rt: &R,
+        root: &str,
+        folder: &str,
+    ) -> io::Result<()> {
+        let place = joined(rt.alloc(), root, folder)?;
+        for entry in read_dir(rt, place.as_str())? {
+            self.take(rt, folder, &entry?)?;
+        }
+        Ok(())
+    }
+
+    // Takes an entry of a folder.
+    fn take<R: Files + AllocGlobal + Clone + Drop>(
+        &mut self,
+        rt: &R,
+        folder: &str,
+        entry: &DirEntry<R, Global>,
+    ) -> io::Result<()> {
+        if self.left == 0 {
+            return Err(io::Error::from(ErrorKind::QuotaExceeded));
+        }
+        self.left -= 1;
+        let path = joined(rt.alloc(), folder, entry.file_name())?;
+        let kind = entry.file_type()?;
+        if kind.is_dir() {
+            self.folders.push(path)?;
+        } else if !kind.is_symlink() || !leads_to_folder(rt, entry.path())? {
+            self.files.push(Text::from_str(rt.alloc(), path.as_str())?)?;
+        }
+        Ok(())
+    }
+}
+
+// The paths of the files below a root.
+fn files_below<R: Files + AllocGlobal + Clone + Drop>(rt: &R, root: &str) -> io::Result<Vec<Text>> {
+    let mut walk = Walk::new(rt.alloc());
+    walk.visit(rt, root, "")?;
+    // There are no more folders than entries, so one turn more than entries finds none left.
+    for _ in 0..MAX_ENTRIES + 1 {
+        match walk.folders.pop() {
+            Some(folder) => walk.visit(rt, root, folder.as_str())?,
+            None => return Ok(walk.files),
+        }
+    }
+    Err(io::Error::from(ErrorKind::QuotaExceeded))
+}
+
+// Whether each text is below the next.
+fn is_ascending(texts: &[Text]) -> bool
+    ensures { result ≡ ascends texts.now }
+{
+    for i in 1..texts.len() {
+        if texts[i - 1] >= texts[i] {
+            return false;
+        }
+    }
+    true
+}
+
+// The paths of the files below a root, in order, none of them twice.
+#[tactic(auto, using(crate::proofs::Ascents::distinct_ascending))]
+fn sorted_files<R: Files + AllocGlobal + Clone + Drop>(rt: &R, root: &str) -> io::Result<Vec<Text>>
+    ensures { IfOk result (λ paths. IsTrue (are_distinct paths.items)) }
+{
+    let mut paths = files_below(rt, root)?;
+    paths.sort()?;
+    if is_ascending(paths.as_slice()) {
+        Ok(paths)
+    } else {
+        Err(io::Error::from(ErrorKind::AlreadyExists))
+    }
+}
+
+// The first bytes of a file, at most as many as given. A read that gives nothing is the file's end.
+fn front_of<R: Files + AllocGlobal + Clone + Drop>(
+    rt: &R,
+    path: &str,
+    most: usize,
+) -> io::Result<Vec<u8>>
+    ensures { IfOk result (λ bytes. length bytes.items ≤ most) }
+{
+    let mut file = open(rt, path)?;
+    let mut buffer = vec![in rt.alloc(); 0u8; BUFFER_LEN]?;
+    let mut bytes = Vec::new(rt.alloc());
+    while bytes.len() < most {
+        let want = (most - bytes.len()).min(buffer.len());
+        let count = file.read(&mut buffer[..want])?;
+        if count == 0 {
+            break;
+        }
+        bytes.extend_from_slice(&buffer[..count])?;
+    }
+    Ok(bytes)
+}
+
+impl<R: Files + AllocGlobal + Clone + Drop> DiskTrees<R> {
+    /// No call has failed yet.
+    pub fn new(rt: R) -> DiskTrees<R> {
+        let failed = RootFaults::new(rt.alloc());
+        DiskTrees { rt, failed }
+    }
+
+    // What a call on the root answers at this error, which is counted where it isn't want of memory.
+    fn fault(&mut self, alloc: Global, root: &str, error: io::Error) -> TreeError
+        ensures never_falls { (r : List ℕ) → count_at self.old.failed r ≤ count_at self.new.failed r }
+        ensures cause { result ≡ TreeError.Fault → Rose (count_at self.old.failed root.now) (count_at self.new.failed root.now) }
+    {
+        if error.kind() == ErrorKind::OutOfMemory {
+            return TreeError::Memory;
+        }
+        match self.failed.raise(alloc, root) {
+            Ok(()) => TreeError::Fault,
+            Err(_) => TreeError::Memory,
+        }
+    }
+}
+
+impl<R: Files + AllocGlobal + Clone + Drop> Trees for DiskTrees<R> {
+    ghost content = { λ _. None };
+
+    ghost faults = { λ t. count_at t.failed };
+
+    fn list(&mut self, alloc: Global, root: &str) -> Result<Vec<Text>, TreeError> {
+        match sorted_files(&self.rt, root) {
+            Ok(paths) => Ok(paths),
+            Err(error) => Err(self.fault(alloc, root, error)),
+        }
+    }
+
+    fn read(
+        &mut self,
+        alloc: Global,
+        root: &str,
+        path: &str,
+        limit: u32,
+    ) -> Result<Vec<u8>, TreeError> {
+        let Ok(place) = joined(alloc, root, path) else {
+            return Err(TreeError::Memory);
+        };
+        match front_of(&self.rt, place.as_str(), limit as usize + 1) {
+            Ok(bytes) => Ok(bytes),
+            Err(error) => Err(self.fault(alloc, root, error)),
+        }
+    }
+}

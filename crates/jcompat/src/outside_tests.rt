@@ -1,0 +1,132 @@
+use crate::disk_trees::DiskTrees;
+use crate::std_sink::StdSink;
+use jc_base::sink::{Sink, SinkError};
+use jc_base::trees::{TreeError, Trees};
+use std::alloc::Global;
+use std::io::Write;
+use std::os::unix::fs::symlink;
+use std::test::Fail;
+use std::{fs, io, process};
+
+// A new folder of this test's own.
+fn new_folder(rt: &HostRuntime, name: &str) -> Result<String, Fail> {
+    let id = process::id(rt.process());
+    let folder = format!(in rt.alloc(); "/tmp/jcompat_{name}_{id}")?;
+    if fs::exists(rt, folder.as_str())? {
+        fs::remove_dir_all(rt, folder.as_str())?;
+    }
+    fs::create_dir(rt, folder.as_str())?;
+    Ok(folder)
+}
+
+// A folder with nested folders, a file that is no class file, and links to a folder, to a file and to nothing.
+fn make_tree(rt: &HostRuntime, root: &str) -> Result<(), Fail> {
+    let alloc = rt.alloc();
+    fs::create_dir_all(rt, format!(in alloc; "{root}/p/q")?.as_str())?;
+    for file in ["A.class", "notes.txt", "p/B.class", "p/q/C.class"] {
+        fs::write(rt, format!(in alloc; "{root}/{file}")?.as_str(), file)?;
+    }
+    for (link, original) in [
+        ("D.class", "A.class"),
+        ("r", "p"),
+        ("gone.class", "nowhere"),
+    ] {
+        symlink(rt, original, format!(in alloc; "{root}/{link}")?.as_str())?;
+    }
+    Ok(())
+}
+
+// Whether the root's files are these, in order.
+fn lists(
+    alloc: Global,
+    trees: &mut DiskTrees<HostRuntime>,
+    root: &str,
+    wanted: &[&str],
+) -> Result<bool, TreeError> {
+    let paths = trees.list(alloc, root)?;
+    Ok(
+        paths.len() == wanted.len()
+            && paths
+                .iter()
+                .zip(wanted.iter())
+                .all(|(path, want)| path.as_str() == *want),
+    )
+}
+
+#[test]
+fn real_folders_are_listed_and_read(rt: HostRuntime) -> Result<(), Fail> {
+    let alloc = rt.alloc();
+    let root = new_folder(&rt, "trees")?;
+    make_tree(&rt, root.as_str())?;
+    let mut trees = DiskTrees::new(rt.clone()?);
+    let all = [
+        "A.class",
+        "D.class",
+        "gone.class",
+        "notes.txt",
+        "p/B.class",
+        "p/q/C.class",
+    ];
+    assert!(rt; lists(alloc, &mut trees, root.as_str(), &all)?);
+    let linked = format!(in alloc; "{root}/r")?;
+    assert!(rt;
+        lists(
+            alloc,
+            &mut trees,
+            linked.as_str(),
+            &["B.class", "q/C.class"]
+        )?
+    );
+
+    let whole = trees.read(alloc, root.as_str(), "p/q/C.class", 4_194_304)?;
+    assert!(rt; whole.as_slice() == b"p/q/C.class".as_slice());
+    let front = trees.read(alloc, root.as_str(), "D.class", 2)?;
+    assert!(rt; front.as_slice() == b"A.c".as_slice());
+
+    assert!(rt;
+        matches!(
+            trees.read(alloc, root.as_str(), "gone.class", 9),
+            Err(TreeError::Fault)
+        )
+    );
+    let no_folder = format!(in alloc; "{root}/notes.txt")?;
+    assert!(rt; matches!(trees.list(alloc, no_folder.as_str()), Err(TreeError::Fault)));
+    fs::remove_dir_all(&rt, root.as_str())?;
+    Ok(())
+}
+
+// A writer that takes one byte at a time, and nothing once it is full.
+#[derive(Drop)]
+struct Narrow {
+    room: usize,
+}
+
+impl Write for Narrow {
+    fn write(&mut self, buf: &[u8]) -> io::Result<usize> {
+        let count = buf.len().min(self.room).min(1);
+        self.room -= count;
+        Ok(count)
+    }
+
+    fn flush(&mut self) -> io::Result<()> {
+        Ok(())
+    }
+}
+
+#[test]
+fn real_files_take_what_is_put(rt: HostRuntime) -> Result<(), Fail> {
+    let folder = new_folder(&rt, "sink")?;
+    let path = format!(in rt.alloc(); "{folder}/out")?;
+    let mut sink = StdSink::new(fs::create(&rt, path.as_str())?);
+    for piece in ["p/A\n", "", "p/B\n"] {
+        sink.put(piece.as_bytes())?;
+    }
+    let taken = fs::read_to_string(&rt, path.as_str())?;
+    assert!(rt; taken.as_str() == "p/A\np/B\n");
+    fs::remove_dir_all(&rt, folder.as_str())?;
+
+    let mut narrow = StdSink::new(Narrow { room: 3 });
+    narrow.put(b"abc")?;
+    assert!(rt; matches!(narrow.put(b"d"), Err(SinkError::Fault)));
+    Ok(())
+}

@@ -1,0 +1,66 @@
+//! The one top call.
+ghost use Rattle.std.specs.Prelude.{◌≡◌, ◌≢◌, ◌⊎◌, ℕ, List, []};
+ghost use Rattle.jc_facts.specs.declared.finding.Finding.{Finding};
+ghost use Rattle.jcompat.specs.Classes.{Told};
+ghost use Rattle.jcompat.specs.Stop.{status_of};
+ghost use Rattle.jcompat.specs.Answers.{given, took, Reports, Refuses, IsCutShort, IsCompatible, IsIncompatible, IsRefused, IsAccepted, HasFailed};
+ghost use Rattle.jcompat.specs.declared.tree.Tree.{Tree};
+ghost use Rattle.jcompat.specs.declared.stop.Stop.{Stop};
+
+use crate::check::check;
+use crate::report::{refuse, report};
+use jc_base::sink::Sink;
+use jc_base::text::Text;
+use jc_base::trees::Trees;
+use std::alloc::Global;
+
+/// Does what the words ask for, writes what there is to say, and answers the exit status:
+///
+/// - 0: no public class is gone; 1: some are. The verdict was put to `out`.
+/// - 2: the words ask for nothing that is built. 3: a class file or the platform isn't built yet.
+///   4: a call on a tree failed. A line was put to `err`.
+/// - 5: a put failed. 6: there was no memory.
+pub fn run<T: Trees, O: Sink, E: Sink>(
+    alloc: Global,
+    words: &[Text],
+    trees: &mut T,
+    out: &mut O,
+    err: &mut E,
+) -> u8
+    ensures known { (result ≡ 0) ⊎ (result ≡ 1) ⊎ (result ≡ 2) ⊎ (result ≡ 3) ⊎ (result ≡ 4) ⊎ (result ≡ 5) ⊎ (result ≡ 6) }
+
+    // No public class is gone, and each client's naming of a class that was Ok is Ok.
+    ensures compatible { result ≡ 0 → Told (T.content trees.old) (IsCompatible words.now)
+        × Reports [] (took (O.taken out.old) (O.taken out.new) (O.faults out.old) (O.faults out.new)) (took (E.taken err.old) (E.taken err.new) (E.faults err.old) (E.faults err.new)) }
+
+    // Some public classes are gone, and whoever names one has the printed error.
+    ensures incompatible { result ≡ 1 → (findings : List Finding) × Told (T.content trees.old) (λ files. IsIncompatible words.now files findings)
+        × Reports findings (took (O.taken out.old) (O.taken out.new) (O.faults out.old) (O.faults out.new)) (took (E.taken err.old) (E.taken err.new) (E.faults err.old) (E.faults err.new)) }
+
+    // The words ask for nothing that is built.
+    ensures usage { result ≡ 2 → Refuses (given words.now (T.content trees.old) (T.faults trees.old) (T.faults trees.new)) Stop.Words
+        (took (O.taken out.old) (O.taken out.new) (O.faults out.old) (O.faults out.new)) (took (E.taken err.old) (E.taken err.new) (E.faults err.old) (E.faults err.new)) }
+
+    // The first class file that isn't read yet, or a platform without java/lang/Object.
+    ensures later { result ≡ 3 → (stop : Stop) × (status_of stop ≡ 3) × Refuses (given words.now (T.content trees.old) (T.faults trees.old) (T.faults trees.new)) stop
+        (took (O.taken out.old) (O.taken out.new) (O.faults out.old) (O.faults out.new)) (took (E.taken err.old) (E.taken err.new) (E.faults err.old) (E.faults err.new)) }
+
+    // A call on the tree failed.
+    ensures read_fault { result ≡ 4 → (tree : Tree) × Refuses (given words.now (T.content trees.old) (T.faults trees.old) (T.faults trees.new)) (Stop.ReadFault tree)
+        (took (O.taken out.old) (O.taken out.new) (O.faults out.old) (O.faults out.new)) (took (E.taken err.old) (E.taken err.new) (E.faults err.old) (E.faults err.new)) }
+
+    // A put failed, or there was no memory.
+    ensures cut_short { (result ≡ 5) ⊎ (result ≡ 6) → IsCutShort (given words.now (T.content trees.old) (T.faults trees.old) (T.faults trees.new))
+        (took (O.taken out.old) (O.taken out.new) (O.faults out.old) (O.faults out.new)) (took (E.taken err.old) (E.taken err.new) (E.faults err.old) (E.faults err.new)) result }
+
+    // What is refused has the status of its first cause, and what isn't has a verdict, unless a call failed or there was no memory.
+    ensures refused { Told (T.content trees.old) (λ files. (stop : Stop) → IsRefused words.now files stop → (result ≡ status_of stop) ⊎ HasFailed result) }
+    ensures accepted { Told (T.content trees.old) (λ files. IsAccepted words.now files → (result ≡ 0) ⊎ (result ≡ 1) ⊎ HasFailed result) }
+
+    ensures content { T.content trees.new ≡ T.content trees.old }
+{
+    match check(alloc, words, trees) {
+        Ok(findings) => report(alloc, findings.as_slice(), out),
+        Err(stop) => refuse(alloc, &stop, err),
+    }
+}
