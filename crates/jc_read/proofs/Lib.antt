@@ -4,3 +4,6 @@ pub mod Parts
 pub mod Entries
 pub mod Counted
 pub mod Heads
+pub mod Taking
+pub mod EachMember
+pub mod OneRecord

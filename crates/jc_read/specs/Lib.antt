@@ -2,3 +2,9 @@ pub mod Reading
 pub mod ReadPool
 pub mod ReadClass
 pub mod PoolView
+pub mod ClassViews
+pub mod OnMemberView
+pub mod OnClassView
+pub mod MemberViews
+pub mod Fails
+pub mod ClassLaw

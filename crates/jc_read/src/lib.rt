@@ -6,9 +6,16 @@
 
 mod bytes;
 pub mod class;
+mod class_head;
 mod entry;
 mod flags;
+pub mod laws;
+mod lists;
+mod member_list;
 mod members;
+mod on_class;
+mod on_member;
 mod pool;
+pub mod read;
 #[cfg(test)]
 mod tests;

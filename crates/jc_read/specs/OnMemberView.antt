@@ -1,0 +1,6 @@
+-- What the attributes of a member say.
+use Rattle.jc_facts.specs.ClassParts as parts
+use Rattle.jc_read.specs.declared.on_member.OnMember.{OnMember}
+
+abbrev pub on_member_view : OnMember → parts.OnMember
+on_member_view f = record { constant = f.constant; signature = f.signature }

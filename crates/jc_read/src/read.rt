@@ -1,0 +1,153 @@
+//! A whole class file (JVMS 4.1).
+ghost use Rattle.std.specs.Prelude.{◌≡◌, ◌≤◌, length, IfOk, MatchResult, OnOk, ◌++◌, None};
+ghost use Rattle.std.specs.Option.{option_map};
+ghost use Rattle.std.specs.Result.{result_map_both};
+ghost use Rattle.jc_facts.specs.Valid.{IsValidClass};
+ghost use Rattle.jc_facts.specs.ClassParts.{record_of as record_from, or_empty, signed_of};
+ghost use Rattle.jc_facts.specs.ClassGrammar.{Reads};
+ghost use Rattle.jc_facts.specs.ClassSteps.{class_of};
+ghost use Rattle.jc_read.specs.Fails.{ReadFails};
+ghost use Rattle.jc_read.specs.ClassViews.{head_view};
+ghost use Rattle.jc_read.specs.MemberViews.{members_view};
+ghost use Rattle.jc_read.specs.OnClassView.{on_class_view};
+
+use crate::class_head::{ClassHead, head_at};
+use crate::lists::split;
+use crate::member_list::{ReadMember, members};
+use crate::on_class::{OnClass, on_class};
+use jc_attr::classes::classes_at;
+use jc_base::items::Items;
+use jc_base::name::Name;
+use jc_desc::bytes::malformed;
+use jc_desc::fault::{Fault, Malformed, Reason};
+use jc_facts::class_facts::{ClassFacts, Signed};
+use jc_pool::pool::Pool;
+use std::alloc::{AllocError, Global};
+
+fn names(found: Option<Items<Name>>, alloc: Global) -> Items<Name>
+    ensures { result ≡ or_empty found }
+{
+    match found {
+        None => Items::from_vec(Vec::new(alloc)),
+        Some(names) => names,
+    }
+}
+
+fn superclass(alloc: Global, name: Option<&[u8]>) -> Result<Option<Name>, AllocError>
+    ensures { IfOk result (λ r. r ≡ option_map (λ x. x.now) name.entry) }
+{
+    match name {
+        None => Ok(None),
+        Some(name) => Ok(Some(Name::from_bytes(alloc, name)?)),
+    }
+}
+
+fn add_class(
+    signatures: &mut Vec<Signed>,
+    signature: Option<Name>,
+) -> Result<(), AllocError>
+    ensures { OnOk result (signatures.new.items ≡ signatures.old.items ++ signed_of None signature) }
+{
+    match signature {
+        None => Ok(()),
+        Some(text) => {
+            signatures.push(Signed { key: None, text })?;
+            Ok(())
+        }
+    }
+}
+
+fn record(
+    alloc: Global,
+    major: u16,
+    head: ClassHead<'_>,
+    interfaces: Vec<Name>,
+    fields: Vec<ReadMember>,
+    methods: Vec<ReadMember>,
+    found: OnClass,
+) -> Result<ClassFacts, AllocError>
+    ensures { IfOk result (λ r. r ≡ record_from major (head_view head.entry) interfaces.items (members_view fields.items) (members_view methods.items) (on_class_view found)) }
+{
+    let mut constants = Vec::new(alloc);
+    let mut none = Vec::new(alloc);
+    let mut signatures = Vec::new(alloc);
+    let fields = split(alloc, fields, &mut constants, &mut signatures)?;
+    let methods = split(alloc, methods, &mut none, &mut signatures)?;
+    let OnClass { permits, nest_host, nest_members, signature } = found;
+    add_class(&mut signatures, signature)?;
+    Ok(ClassFacts {
+        name: Name::from_bytes(alloc, head.name)?,
+        major,
+        flags: head.flags,
+        superclass: superclass(alloc, head.superclass)?,
+        interfaces: Items::from_vec(interfaces),
+        fields: Items::from_vec(fields),
+        methods: Items::from_vec(methods),
+        permits,
+        nest_host,
+        nest_members: names(nest_members, alloc),
+        constants: Items::from_vec(constants),
+        signatures: Items::from_vec(signatures),
+    })
+}
+
+#[tactic(auto, unfolding(jc_facts::specs::ClassSteps::class_of))]
+fn read(alloc: Global, bytes: &[u8]) -> Result<Result<ClassFacts, Fault>, AllocError>
+    ensures { IfOk result (λ r. r ≡ class_of bytes.now) }
+{
+    let (pool, rest) = match Pool::read_front(alloc, bytes)? {
+        Ok(read) => read,
+        Err(fault) => return Ok(Err(fault)),
+    };
+    let (head, rest) = match head_at(&pool, rest) {
+        Ok(read) => read,
+        Err(fault) => return Ok(Err(fault)),
+    };
+    let (interfaces, rest) = match classes_at(alloc, &pool, rest)? {
+        Ok(read) => read,
+        Err(fault) => return Ok(Err(fault)),
+    };
+    let (fields, rest) = match members(alloc, false, &pool, head.flags, rest)? {
+        Ok(read) => read,
+        Err(fault) => return Ok(Err(fault)),
+    };
+    let (methods, rest) = match members(alloc, true, &pool, head.flags, rest)? {
+        Ok(read) => read,
+        Err(fault) => return Ok(Err(fault)),
+    };
+    let (found, rest) = match on_class(alloc, &pool, rest)? {
+        Ok(read) => read,
+        Err(fault) => return Ok(Err(fault)),
+    };
+    if !rest.is_empty() {
+        return Ok(Err(Fault { left: rest.len(), reason: Reason::Trailing }));
+    }
+    Ok(Ok(record(alloc, pool.major(), head, interfaces, fields, methods, found)?))
+}
+
+/// Why a class file isn't read.
+#[derive(Clone, Copy, Debug, PartialEq, Eq)]
+pub enum ReadError {
+    /// The first fault of the file.
+    Malformed(Malformed),
+    /// Memory ran out.
+    Memory,
+}
+
+/// The record of a class file, or its first fault. The bytes are at most 4,194,304.
+///
+/// # Errors
+///
+/// `Malformed` exactly where the bytes are no class file, with the first fault of the steps; where
+/// memory runs out, `Memory`, about which nothing is said.
+pub fn read_class(alloc: Global, bytes: &[u8]) -> Result<ClassFacts, ReadError>
+    requires { length bytes.now ≤ 4194304 }
+    ensures exact { MatchResult result (λ facts. Reads bytes.now facts) (ReadFails bytes.now) }
+    ensures valid { IfOk result (λ facts. IsValidClass facts) }
+{
+    match read(alloc, bytes) {
+        Ok(Ok(facts)) => Ok(facts),
+        Ok(Err(fault)) => Err(ReadError::Malformed(malformed(bytes, fault))),
+        Err(_) => Err(ReadError::Memory),
+    }
+}
