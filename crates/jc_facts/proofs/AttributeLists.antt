@@ -118,9 +118,9 @@ filtered : {A : Type 0} (form : Bytes → Option A) (name : Bytes) (o : Option A
 filtered {A} form name o a ats true e ih =
     let go : (r : Option (Option A)) → (r |>> λ t. taken (of_name form true name) t ats) ≡ (r |>> λ p. all_of form p (filter (λ a. same a.name name) ats)) = after ih in
     rw e (go (kept (once o (form a.body)))) where
-      after : ((p : Option A) → taken (of_name form true name) p ats ≡ all_of form p (filter (λ a. same a.name name) ats)) → (r : Option (Option A)) → (r |>> λ t. taken (of_name form true name) t ats) ≡ (r |>> λ p. all_of form p (filter (λ a. same a.name name) ats))
-      after ih None = refl
-      after ih (Some p) = ih p
+  after : ((p : Option A) → taken (of_name form true name) p ats ≡ all_of form p (filter (λ a. same a.name name) ats)) → (r : Option (Option A)) → (r |>> λ t. taken (of_name form true name) t ats) ≡ (r |>> λ p. all_of form p (filter (λ a. same a.name name) ats))
+  after ih None = refl
+  after ih (Some p) = ih p
 filtered {A} form name o a ats false e ih = rw e (ih o)
 
 taken_is : {A : Type 0} (form : Bytes → Option A) (name : Bytes) (ats : List Attribute) (o : Option A) → taken (of_name form true name) o ats ≡ all_of form o (filter (λ a. same a.name name) ats)

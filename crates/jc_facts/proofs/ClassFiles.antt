@@ -76,15 +76,12 @@ class_file_stands bytes c e =
 pub class_file_read : (bytes : Bytes) (c : ClassFacts) → IsClassFile bytes c → class_of bytes ≡ Ok c
 unfolding class_of
 class_file_read bytes c h =
-    rw (
-      pool_again bytes h.pool h.after_pool h.pool_is,
-      head_read h.pool h.after_pool h.head h.after_head h.head_is,
-      counted_read (class_at h.pool) (IsClassAt h.pool) (class_read h.pool) h.after_head h.interfaces h.after_interfaces h.interfaces_are,
-      counted_members_read false h.pool h.head.flags h.after_interfaces h.fields h.after_fields h.fields_are,
-      counted_members_read true h.pool h.head.flags h.after_fields h.methods h.after_methods h.methods_are,
-      counted_attributes_read (take_on_class h.pool) h.pool nothing_on_class h.found h.after_methods h.attributes [] h.attributes_are (class_said h.pool h.attributes h.found h.found_is),
-    )
-    (ap (λ (d : ClassFacts). Ok d) (sym h.record_is))
+    rw (pool_again bytes h.pool h.after_pool h.pool_is, head_read h.pool h.after_pool h.head h.after_head h.head_is,
+        counted_read (class_at h.pool) (IsClassAt h.pool) (class_read h.pool) h.after_head h.interfaces h.after_interfaces h.interfaces_are,
+        counted_members_read false h.pool h.head.flags h.after_interfaces h.fields h.after_fields h.fields_are,
+        counted_members_read true h.pool h.head.flags h.after_fields h.methods h.after_methods h.methods_are,
+        counted_attributes_read (take_on_class h.pool) h.pool nothing_on_class h.found h.after_methods h.attributes [] h.attributes_are (class_said h.pool h.attributes h.found h.found_is))
+      (ap (λ (d : ClassFacts). Ok d) (sym h.record_is))
 
 -- ---- one record, or one first fault
 

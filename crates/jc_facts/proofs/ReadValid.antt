@@ -149,21 +149,17 @@ value_ok (text t) h = h
 
 entry_of : (slots : List Slot) (s : Slot) (c : ConstantOf) → (s.tag ≡ 8 → is_text (text_of slots s) ≡ true) → constant_of slots s ≡ Some c → entry_ok c ≡ true
 entry_of slots s c h e = elim (chosen (nat_eq s.tag 3) _ _ _ e) [
-  | inl a ↦ (let q : int (word_in s.body) ≡ c = (let g = a.1 in cc) in subst (λ (d : ConstantOf). entry_ok d ≡ true) q refl)
-  | inr a ↦ elim (chosen (nat_eq s.tag 4) _ _ _ a.1) [
+    | inl a ↦ (let q : int (word_in s.body) ≡ c = (let g = a.1 in cc) in subst (λ (d : ConstantOf). entry_ok d ≡ true) q refl)
+    | inr a ↦ elim (chosen (nat_eq s.tag 4) _ _ _ a.1) [
     | inl b ↦ (let q : float (word_in s.body) ≡ c = (let g = b.1 in cc) in subst (λ (d : ConstantOf). entry_ok d ≡ true) q refl)
     | inr b ↦ elim (chosen (nat_eq s.tag 5) _ _ _ b.1) [
-      | inl d ↦ (let q : long (double_word_in s.body) ≡ c = (let g = d.1 in cc) in subst (λ (d : ConstantOf). entry_ok d ≡ true) q refl)
-      | inr d ↦ elim (chosen (nat_eq s.tag 6) _ _ _ d.1) [
-        | inl f ↦ (let q : double (double_word_in s.body) ≡ c = (let g = f.1 in cc) in subst (λ (d : ConstantOf). entry_ok d ≡ true) q refl)
-        | inr f ↦ elim (chosen (nat_eq s.tag 8) _ _ _ f.1) [
-          | inl g ↦ (let q : text (text_of slots s) ≡ c = (let k = g.1 in cc) in subst (λ (d : ConstantOf). entry_ok d ≡ true) q (h (eqb-true s.tag 8 g.0)))
-          | inr g ↦ absurd (let k : None ≡ Some c = g.1 in cc)
-        ]
-      ]
-    ]
-  ]
-]
+    | inl d ↦ (let q : long (double_word_in s.body) ≡ c = (let g = d.1 in cc) in subst (λ (d : ConstantOf). entry_ok d ≡ true) q refl)
+    | inr d ↦ elim (chosen (nat_eq s.tag 6) _ _ _ d.1) [
+    | inl f ↦ (let q : double (double_word_in s.body) ≡ c = (let g = f.1 in cc) in subst (λ (d : ConstantOf). entry_ok d ≡ true) q refl)
+    | inr f ↦ elim (chosen (nat_eq s.tag 8) _ _ _ f.1) [
+    | inl g ↦ (let q : text (text_of slots s) ≡ c = (let k = g.1 in cc) in subst (λ (d : ConstantOf). entry_ok d ≡ true) q (h (eqb-true s.tag 8 g.0)))
+    | inr g ↦ absurd (let k : None ≡ Some c = g.1 in cc)
+    ] ] ] ] ]
 
 -- the text of a String in a pool that is read
 string_text : (file after : Bytes) (pool : PoolOf) (i : ℕ) → IsPool file pool after → (at pool.slots i).tag ≡ 8 → is_text (text_of pool.slots (at pool.slots i)) ≡ true

@@ -25,7 +25,12 @@ fn plain(alloc: Global, major: u16, flags: u16) -> Result<ClassFacts, AllocError
     })
 }
 
-fn member(alloc: Global, name: &[u8], descriptor: &[u8], flags: u16) -> Result<Member, AllocError> {
+fn member(
+    alloc: Global,
+    name: &[u8],
+    descriptor: &[u8],
+    flags: u16,
+) -> Result<Member, AllocError> {
     Ok(Member {
         name: Name::from_bytes(alloc, name)?,
         descriptor: Name::from_bytes(alloc, descriptor)?,
@@ -67,11 +72,7 @@ fn flags_of_classes(rt: HostRuntime) -> Result<(), Fail> {
         (49, 0x0211, false),
     ] {
         let facts = plain(alloc, major, flags)?;
-        assert_eq!(rt;
-            is_valid(alloc, &facts)?,
-            want,
-            "major {major} flags {flags}"
-        );
+        assert_eq!(rt; is_valid(alloc, &facts)?, want, "major {major} flags {flags}");
     }
     Ok(())
 }
@@ -101,11 +102,7 @@ fn names_of_classes(rt: HostRuntime) -> Result<(), Fail> {
             facts.superclass = Some(Name::from_bytes(alloc, superclass)?);
         }
         facts.interfaces = list(alloc, Name::from_bytes(alloc, interface)?)?;
-        assert_eq!(rt;
-            is_valid(alloc, &facts)?,
-            want,
-            "{name:?} {superclass:?} {interface:?}"
-        );
+        assert_eq!(rt; is_valid(alloc, &facts)?, want, "{name:?} {superclass:?} {interface:?}");
     }
     Ok(())
 }
@@ -118,13 +115,7 @@ fn one_field(rt: HostRuntime) -> Result<(), Fail> {
         (0x0021, b"f/g".as_slice(), b"I".as_slice(), 0x0001, false),
         (0x0021, b"f\x80".as_slice(), b"I".as_slice(), 0x0001, false),
         (0x0021, b"f".as_slice(), b"()V".as_slice(), 0x0001, false),
-        (
-            0x0021,
-            b"f".as_slice(),
-            b"Lp/\xc0;".as_slice(),
-            0x0001,
-            false,
-        ),
+        (0x0021, b"f".as_slice(), b"Lp/\xc0;".as_slice(), 0x0001, false),
         (0x0021, b"f".as_slice(), b"I".as_slice(), 0x0003, false),
         (0x0021, b"f".as_slice(), b"I".as_slice(), 0x0005, false),
         (0x0021, b"f".as_slice(), b"I".as_slice(), 0x0006, false),
@@ -136,11 +127,7 @@ fn one_field(rt: HostRuntime) -> Result<(), Fail> {
     ] {
         let mut facts = plain(alloc, 52, class)?;
         facts.fields = list(alloc, member(alloc, name, descriptor, flags)?)?;
-        assert_eq!(rt;
-            is_valid(alloc, &facts)?,
-            want,
-            "{class} {name:?} {descriptor:?} {flags}"
-        );
+        assert_eq!(rt; is_valid(alloc, &facts)?, want, "{class} {name:?} {descriptor:?} {flags}");
     }
     Ok(())
 }
@@ -175,11 +162,7 @@ fn one_method(rt: HostRuntime) -> Result<(), Fail> {
     ] {
         let mut facts = plain(alloc, major, class)?;
         facts.methods = list(alloc, member(alloc, name, descriptor, flags)?)?;
-        assert_eq!(rt;
-            is_valid(alloc, &facts)?,
-            want,
-            "{major} {class} {name:?} {descriptor:?} {flags}"
-        );
+        assert_eq!(rt; is_valid(alloc, &facts)?, want, "{major} {class} {name:?} {descriptor:?} {flags}");
     }
     Ok(())
 }
@@ -196,10 +179,7 @@ fn slots_of_a_method(rt: HostRuntime) -> Result<(), Fail> {
     descriptor.extend_from_slice(b"I)V".as_slice())?;
     for (flags, want) in [(0x0009, true), (0x0001, false)] {
         let mut facts = plain(alloc, 52, 0x0021)?;
-        facts.methods = list(
-            alloc,
-            member(alloc, b"m".as_slice(), descriptor.as_slice(), flags)?,
-        )?;
+        facts.methods = list(alloc, member(alloc, b"m".as_slice(), descriptor.as_slice(), flags)?)?;
         assert_eq!(rt; is_valid(alloc, &facts)?, want, "255 slots, flags {flags}");
     }
     Ok(())
@@ -218,22 +198,14 @@ fn keys_that_stand_twice(rt: HostRuntime) -> Result<(), Fail> {
             member(alloc, first, b"I".as_slice(), 0)?,
             member(alloc, second, b"I".as_slice(), 0)?,
         )?;
-        assert_eq!(rt;
-            is_valid(alloc, &facts)?,
-            want,
-            "fields {first:?} {second:?}"
-        );
+        assert_eq!(rt; is_valid(alloc, &facts)?, want, "fields {first:?} {second:?}");
         let mut facts = plain(alloc, 52, 0x0021)?;
         facts.methods = pair(
             alloc,
             member(alloc, first, b"()V".as_slice(), 0)?,
             member(alloc, second, b"()V".as_slice(), 1)?,
         )?;
-        assert_eq!(rt;
-            is_valid(alloc, &facts)?,
-            want,
-            "methods {first:?} {second:?}"
-        );
+        assert_eq!(rt; is_valid(alloc, &facts)?, want, "methods {first:?} {second:?}");
     }
     Ok(())
 }
@@ -250,25 +222,13 @@ fn nest_and_permitted_subclasses(rt: HostRuntime) -> Result<(), Fail> {
     ] {
         let mut facts = plain(alloc, major, 0x0021)?;
         facts.permits = Some(list(alloc, Name::from_bytes(alloc, name)?)?);
-        assert_eq!(rt;
-            is_valid(alloc, &facts)?,
-            permits,
-            "permits {major} {name:?}"
-        );
+        assert_eq!(rt; is_valid(alloc, &facts)?, permits, "permits {major} {name:?}");
         let mut facts = plain(alloc, major, 0x0021)?;
         facts.nest_host = Some(Name::from_bytes(alloc, name)?);
-        assert_eq!(rt;
-            is_valid(alloc, &facts)?,
-            nest,
-            "nest host {major} {name:?}"
-        );
+        assert_eq!(rt; is_valid(alloc, &facts)?, nest, "nest host {major} {name:?}");
         let mut facts = plain(alloc, major, 0x0021)?;
         facts.nest_members = list(alloc, Name::from_bytes(alloc, name)?)?;
-        assert_eq!(rt;
-            is_valid(alloc, &facts)?,
-            nest,
-            "nest members {major} {name:?}"
-        );
+        assert_eq!(rt; is_valid(alloc, &facts)?, nest, "nest members {major} {name:?}");
     }
     Ok(())
 }
@@ -277,41 +237,11 @@ fn nest_and_permitted_subclasses(rt: HostRuntime) -> Result<(), Fail> {
 fn constants_of_static_fields(rt: HostRuntime) -> Result<(), Fail> {
     let alloc = rt.alloc();
     for (flags, first, second, text, want) in [
-        (
-            0x0008,
-            b"f".as_slice(),
-            b"g".as_slice(),
-            b"x".as_slice(),
-            true,
-        ),
-        (
-            0x0000,
-            b"f".as_slice(),
-            b"g".as_slice(),
-            b"x".as_slice(),
-            false,
-        ),
-        (
-            0x0008,
-            b"f".as_slice(),
-            b"f".as_slice(),
-            b"x".as_slice(),
-            false,
-        ),
-        (
-            0x0008,
-            b"f".as_slice(),
-            b"h".as_slice(),
-            b"x".as_slice(),
-            false,
-        ),
-        (
-            0x0008,
-            b"f".as_slice(),
-            b"g".as_slice(),
-            b"\x00".as_slice(),
-            false,
-        ),
+        (0x0008, b"f".as_slice(), b"g".as_slice(), b"x".as_slice(), true),
+        (0x0000, b"f".as_slice(), b"g".as_slice(), b"x".as_slice(), false),
+        (0x0008, b"f".as_slice(), b"f".as_slice(), b"x".as_slice(), false),
+        (0x0008, b"f".as_slice(), b"h".as_slice(), b"x".as_slice(), false),
+        (0x0008, b"f".as_slice(), b"g".as_slice(), b"\x00".as_slice(), false),
     ] {
         let mut facts = plain(alloc, 52, 0x0021)?;
         facts.fields = pair(
@@ -322,20 +252,10 @@ fn constants_of_static_fields(rt: HostRuntime) -> Result<(), Fail> {
         let text = Constant::Text(Name::from_bytes(alloc, text)?);
         facts.constants = pair(
             alloc,
-            Fixed {
-                key: key(alloc, first, b"I".as_slice())?,
-                value: Constant::Int(64),
-            },
-            Fixed {
-                key: key(alloc, second, b"I".as_slice())?,
-                value: text,
-            },
+            Fixed { key: key(alloc, first, b"I".as_slice())?, value: Constant::Int(64) },
+            Fixed { key: key(alloc, second, b"I".as_slice())?, value: text },
         )?;
-        assert_eq!(rt;
-            is_valid(alloc, &facts)?,
-            want,
-            "{flags} {first:?} {second:?}"
-        );
+        assert_eq!(rt; is_valid(alloc, &facts)?, want, "{flags} {first:?} {second:?}");
     }
     Ok(())
 }
@@ -358,11 +278,7 @@ fn signatures_of_members_and_the_class(rt: HostRuntime) -> Result<(), Fail> {
             signed(alloc, first, text)?,
             signed(alloc, second, b"TT;".as_slice())?,
         )?;
-        assert_eq!(rt;
-            is_valid(alloc, &facts)?,
-            want,
-            "{first:?} {second:?} {text:?}"
-        );
+        assert_eq!(rt; is_valid(alloc, &facts)?, want, "{first:?} {second:?} {text:?}");
     }
     Ok(())
 }
@@ -372,8 +288,5 @@ fn signed(alloc: Global, name: &[u8], text: &[u8]) -> Result<Signed, AllocError>
     if name.is_empty() {
         return Ok(Signed { key: None, text });
     }
-    Ok(Signed {
-        key: Some(key(alloc, name, b"I".as_slice())?),
-        text,
-    })
+    Ok(Signed { key: Some(key(alloc, name, b"I".as_slice())?), text })
 }
