@@ -13,3 +13,6 @@ pub mod sure_sink;
 pub mod sure_trees;
 pub mod text;
 pub mod trees;
+
+#[cfg(test)]
+mod tests;
