@@ -1,5 +1,5 @@
 -- Attributes of a list: what is found with each of them in turn is what the attributes of each name say.
-use Rattle.std.proofs.Common.{◌≡◌, ℕ, suc, zero, Bool, true, false, cond, not, ◌&&◌, List, [], ◌∷◌, length, Option, Some, None, Result, Ok, Err, ◌⊎◌, inl, inr, refl, sym, ap, subst, ◌∙◌}
+use Rattle.std.proofs.Common.{◌≡◌, ℕ, suc, zero, Bool, true, false, cond, ◌&&◌, List, [], ◌∷◌, length, Option, Some, None, Result, Ok, refl, sym, ap, subst, ◌∙◌}
 use Rattle.std.specs.Prelude.{filter}
 use Rattle.jc_desc.specs.declared.fault.Fault.{Fault}
 use Rattle.jc_desc.specs.declared.fault.Reason.TheVariants as reasons
@@ -8,7 +8,7 @@ use Rattle.jc_desc.specs.Pool.{PoolOf}
 use Rattle.jc_desc.specs.PoolAnswers.{utf8_in}
 use Rattle.jc_desc.proofs.Parts.{bind_ok, part_is, part_again}
 use Rattle.jc_facts.specs.Names.{Bytes, same}
-use Rattle.jc_facts.specs.Attributes.{need, ◌|>>◌, list_at}
+use Rattle.jc_facts.specs.Attributes.{need, ◌|>>◌}
 use Rattle.jc_facts.specs.ClassParts.{Attribute}
 use Rattle.jc_facts.specs.ClassGrammar.{IsNumberAt, AreItems, AreCounted, IsAttributeAt, named, SayOnce}
 use Rattle.jc_facts.specs.ClassSteps.{attribute_at, attributes_at, counted_attributes_at, once, is_named}
@@ -118,9 +118,9 @@ filtered : {A : Type 0} (form : Bytes → Option A) (name : Bytes) (o : Option A
 filtered {A} form name o a ats true e ih =
     let go : (r : Option (Option A)) → (r |>> λ t. taken (of_name form true name) t ats) ≡ (r |>> λ p. all_of form p (filter (λ a. same a.name name) ats)) = after ih in
     rw e (go (kept (once o (form a.body)))) where
-  after : ((p : Option A) → taken (of_name form true name) p ats ≡ all_of form p (filter (λ a. same a.name name) ats)) → (r : Option (Option A)) → (r |>> λ t. taken (of_name form true name) t ats) ≡ (r |>> λ p. all_of form p (filter (λ a. same a.name name) ats))
-  after ih None = refl
-  after ih (Some p) = ih p
+      after : ((p : Option A) → taken (of_name form true name) p ats ≡ all_of form p (filter (λ a. same a.name name) ats)) → (r : Option (Option A)) → (r |>> λ t. taken (of_name form true name) t ats) ≡ (r |>> λ p. all_of form p (filter (λ a. same a.name name) ats))
+      after ih None = refl
+      after ih (Some p) = ih p
 filtered {A} form name o a ats false e ih = rw e (ih o)
 
 taken_is : {A : Type 0} (form : Bytes → Option A) (name : Bytes) (ats : List Attribute) (o : Option A) → taken (of_name form true name) o ats ≡ all_of form o (filter (λ a. same a.name name) ats)

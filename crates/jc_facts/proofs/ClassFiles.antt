@@ -1,5 +1,5 @@
 -- A class file that is read stands in the grammar, and one that stands there is read; bytes have one record or one first fault.
-use Rattle.std.proofs.Common.{◌≡◌, ℕ, ◌-◌, Bool, true, false, List, [], ◌∷◌, length, Option, Some, None, Result, Ok, Err, ◌⊎◌, inl, inr, refl, sym, ap, subst, ◌∙◌}
+use Rattle.std.proofs.Common.{◌≡◌, ℕ, ◌-◌, true, false, List, [], ◌∷◌, length, Result, Ok, Err, ◌⊎◌, inl, inr, refl, sym, ap, subst, ◌∙◌}
 use Rattle.jc_desc.specs.declared.fault.Fault.{Fault}
 use Rattle.jc_desc.specs.declared.fault.Reason.{Reason}
 use Rattle.jc_desc.specs.Faults.{◌>>=◌}
@@ -76,12 +76,15 @@ class_file_stands bytes c e =
 pub class_file_read : (bytes : Bytes) (c : ClassFacts) → IsClassFile bytes c → class_of bytes ≡ Ok c
 unfolding class_of
 class_file_read bytes c h =
-    rw (pool_again bytes h.pool h.after_pool h.pool_is, head_read h.pool h.after_pool h.head h.after_head h.head_is,
-        counted_read (class_at h.pool) (IsClassAt h.pool) (class_read h.pool) h.after_head h.interfaces h.after_interfaces h.interfaces_are,
-        counted_members_read false h.pool h.head.flags h.after_interfaces h.fields h.after_fields h.fields_are,
-        counted_members_read true h.pool h.head.flags h.after_fields h.methods h.after_methods h.methods_are,
-        counted_attributes_read (take_on_class h.pool) h.pool nothing_on_class h.found h.after_methods h.attributes [] h.attributes_are (class_said h.pool h.attributes h.found h.found_is))
-      (ap (λ (d : ClassFacts). Ok d) (sym h.record_is))
+    rw (
+      pool_again bytes h.pool h.after_pool h.pool_is,
+      head_read h.pool h.after_pool h.head h.after_head h.head_is,
+      counted_read (class_at h.pool) (IsClassAt h.pool) (class_read h.pool) h.after_head h.interfaces h.after_interfaces h.interfaces_are,
+      counted_members_read false h.pool h.head.flags h.after_interfaces h.fields h.after_fields h.fields_are,
+      counted_members_read true h.pool h.head.flags h.after_fields h.methods h.after_methods h.methods_are,
+      counted_attributes_read (take_on_class h.pool) h.pool nothing_on_class h.found h.after_methods h.attributes [] h.attributes_are (class_said h.pool h.attributes h.found h.found_is),
+    )
+    (ap (λ (d : ClassFacts). Ok d) (sym h.record_is))
 
 -- ---- one record, or one first fault
 

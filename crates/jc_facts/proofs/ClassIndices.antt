@@ -1,5 +1,5 @@
 -- Indices of classes, and the class itself, both ways.
-use Rattle.std.proofs.Common.{◌≡◌, ◌≢◌, ℕ, Bool, true, false, cond, not, ◌||◌, List, length, Result, Ok, Err, Option, Some, None, ◌⊎◌, inl, inr, refl, sym, ap, subst, ◌∙◌, nat_eq}
+use Rattle.std.proofs.Common.{◌≡◌, ◌≢◌, ℕ, Bool, true, false, not, length, Result, Ok, Option, Some, None, inl, inr, refl, subst, nat_eq}
 use Rattle.std.proofs.lemmas.Bool.{eqb-true, eqb-false}
 use Rattle.jc_desc.specs.declared.fault.Fault.{Fault}
 use Rattle.jc_desc.specs.declared.fault.Reason.TheVariants as reasons
@@ -13,7 +13,7 @@ use Rattle.jc_facts.specs.Names.{Bytes}
 use Rattle.jc_facts.specs.Rules.{is_object, implies, are_class_flags}
 use Rattle.jc_facts.specs.Attributes.{need, is_bracketed, plain_class_at, class_at}
 use Rattle.jc_facts.specs.ClassParts.{ClassHead}
-use Rattle.jc_facts.specs.ClassGrammar.{IsNumberAt, NamesClass, IsClassAt, IsSuperclass, IsHeadAt}
+use Rattle.jc_facts.specs.ClassGrammar.{NamesClass, IsClassAt, IsSuperclass, IsHeadAt}
 use Rattle.jc_facts.specs.ClassSteps.{some_superclass_at, superclass_at, head_at}
 use Rattle.jc_facts.proofs.Front.{need_ok, not_true, number_stands, number_read, Stands, IsRead}
 
@@ -43,17 +43,17 @@ class_read pool bytes name rest h = rw (number_read 2 bytes h.index rest h.index
 
 super_stands : (pool : PoolOf) (left : ℕ) (object interface : Bool) (i : ℕ) (x : Option Bytes) → superclass_at pool left object interface i ≡ Ok x → IsSuperclass pool object interface i x
 super_stands pool left object interface i x e = elim (chosen (nat_eq i 0) _ _ _ e) [
-    | inl a ↦
-        (let k = check_ok object left reasons.BadIndex (Ok None) x a.1 in
-        let q : None ≡ x = (let g = k.1 in cc) in
-        subst (IsSuperclass pool object interface i) q (eqb-true i 0 a.0, k.0))
-    | inr a ↦
-        (let k = check_ok (not object) left reasons.BadIndex (some_superclass_at pool left interface i) x a.1 in
-        let n = bind_ok (plain_class_at pool left i) (λ (name : Bytes). check (implies interface (is_object name)) left reasons.BadName (Ok (Some name))) x k.1 in
-        let o = check_ok (implies interface (is_object n.0)) left reasons.BadName (Ok (Some n.0)) x n.2 in
-        let q : Some n.0 ≡ x = (let g = o.1 in cc) in
-        subst (IsSuperclass pool object interface i) q (eqb-false i 0 a.0, k.0, plain_stands pool left i n.0 n.1, o.0))
-    ]
+  | inl a ↦
+      (let k = check_ok object left reasons.BadIndex (Ok None) x a.1 in
+      let q : None ≡ x = (let g = k.1 in cc) in
+      subst (IsSuperclass pool object interface i) q (eqb-true i 0 a.0, k.0))
+  | inr a ↦
+      (let k = check_ok (not object) left reasons.BadIndex (some_superclass_at pool left interface i) x a.1 in
+      let n = bind_ok (plain_class_at pool left i) (λ (name : Bytes). check (implies interface (is_object name)) left reasons.BadName (Ok (Some name))) x k.1 in
+      let o = check_ok (implies interface (is_object n.0)) left reasons.BadName (Ok (Some n.0)) x n.2 in
+      let q : Some n.0 ≡ x = (let g = o.1 in cc) in
+      subst (IsSuperclass pool object interface i) q (eqb-false i 0 a.0, k.0, plain_stands pool left i n.0 n.1, o.0))
+]
 
 not_zero : (i : ℕ) → i ≢ 0 → nat_eq i 0 ≡ false
 not_zero i h = go (nat_eq i 0) refl where
@@ -101,6 +101,11 @@ head_stands pool bytes x e =
 pub head_read : (pool : PoolOf) → IsRead (head_at pool) (IsHeadAt pool)
 unfolding head_at
 head_read pool bytes x rest h =
-    rw (number_read 2 bytes x.flags h.after_flags h.flags_is, h.flags_fit, number_read 2 h.after_flags h.this h.after_this h.this_is,
-        plain_read pool (length h.after_flags) h.this x.name h.this_names, number_read 2 h.after_this h.super rest h.super_is,
-        super_read pool (length h.after_this) (is_object x.name) (is_interface x.flags) h.super x.superclass h.super_names) refl
+    rw (
+      number_read 2 bytes x.flags h.after_flags h.flags_is,
+      h.flags_fit,
+      number_read 2 h.after_flags h.this h.after_this h.this_is,
+      plain_read pool (length h.after_flags) h.this x.name h.this_names,
+      number_read 2 h.after_this h.super rest h.super_is,
+      super_read pool (length h.after_this) (is_object x.name) (is_interface x.flags) h.super x.superclass h.super_names,
+    ) refl

@@ -1,5 +1,5 @@
 -- Fields and methods, both ways.
-use Rattle.std.proofs.Common.{◌≡◌, ℕ, suc, zero, Bool, true, false, not, ◌&&◌, List, [], ◌∷◌, ◌++◌, length, Option, Some, None, Result, Ok, Err, refl, sym, ap, subst, ◌∙◌}
+use Rattle.std.proofs.Common.{◌≡◌, ℕ, suc, zero, Bool, true, false, not, ◌&&◌, List, [], ◌∷◌, ◌++◌, length, Some, Result, Ok, refl, sym, ap, subst, ◌∙◌}
 use Rattle.jc_desc.specs.declared.fault.Fault.{Fault}
 use Rattle.jc_desc.specs.declared.fault.Reason.TheVariants as reasons
 use Rattle.jc_desc.specs.Faults.{◌>>=◌, number_at, check}
@@ -11,7 +11,7 @@ use Rattle.jc_facts.specs.declared.class_facts.Member.{Member}
 use Rattle.jc_facts.specs.declared.key.Key.{Key}
 use Rattle.jc_facts.specs.Names.{Bytes, key_of}
 use Rattle.jc_facts.specs.Rules.{is_descriptor, are_flags}
-use Rattle.jc_facts.specs.Valid.{has_key, keys_of, keys_differ}
+use Rattle.jc_facts.specs.Valid.{has_key, keys_of}
 use Rattle.jc_facts.specs.Attributes.{need}
 use Rattle.jc_facts.specs.ClassParts.{Attribute, OnMember, ReadMember, members_of}
 use Rattle.jc_facts.specs.ClassGrammar.{IsNumberAt, AreItems, AreCounted, IsAttributeAt, SayOnMember, IsMemberAt, AreMembersAt}
@@ -43,8 +43,8 @@ pub record IsMemberHead (method : Bool) (pool : PoolOf) (class : ℕ) (bytes : B
 abbrev judged : Bool → PoolOf → ℕ → Bytes → ℕ → Number → Bytes → Bytes → Bytes → Result (Member × Bytes) Fault
 judged method pool class bytes flags first rest name text =
     check (is_descriptor method name flags text) (length first.1) reasons.BadDescriptor
-      (check (are_flags method pool.major class name flags) (length bytes) reasons.BadFlags
-        (Ok (record { name = name; descriptor = text; flags = flags }, rest)))
+    (check (are_flags method pool.major class name flags) (length bytes) reasons.BadFlags
+    (Ok (record { name = name; descriptor = text; flags = flags }, rest)))
 
 abbrev texts : Bool → PoolOf → ℕ → Bytes → Number → Number → Number → Bytes → Result (Member × Bytes) Fault
 texts method pool class bytes flags first second name =
@@ -84,8 +84,16 @@ head_stands method pool class bytes x e =
 head_read : (method : Bool) (pool : PoolOf) (class : ℕ) → IsRead (member_head_at method pool class) (IsMemberHead method pool class)
 unfolding member_head_at
 head_read method pool class bytes m rest h =
-    rw (number_read 2 bytes m.flags h.after_flags h.flags_is, number_read 2 h.after_flags h.name h.after_name h.name_is, number_read 2 h.after_name h.descriptor rest h.descriptor_is,
-        h.name_text, h.name_fits, h.descriptor_text, h.descriptor_fits, h.flags_fit) refl
+    rw (
+      number_read 2 bytes m.flags h.after_flags h.flags_is,
+      number_read 2 h.after_flags h.name h.after_name h.name_is,
+      number_read 2 h.after_name h.descriptor rest h.descriptor_is,
+      h.name_text,
+      h.name_fits,
+      h.descriptor_text,
+      h.descriptor_fits,
+      h.flags_fit,
+    ) refl
 
 -- ---- a member
 
@@ -123,7 +131,7 @@ member_stands method pool class seen bytes x e =
     let t = counted_attributes_stand (take_on_member method pool) pool nothing_on_member a.0.1 b.0 k.1 in
     let q : (record { member = a.0.0; found = b.0.0 }, b.0.1) ≡ x = (let g = b.2 in cc) in
     subst (IsNewMember method pool class seen bytes) q
-      (member_of_parts method pool class bytes a.0.0 b.0.0 a.0.1 b.0.1 t.0 (head_stands method pool class bytes a.0 a.1) t.1 (member_says method pool t.0 b.0.0 t.2), not_true (has_key (key_of a.0.0) seen) k.0)
+    (member_of_parts method pool class bytes a.0.0 b.0.0 a.0.1 b.0.1 t.0 (head_stands method pool class bytes a.0 a.1) t.1 (member_says method pool t.0 b.0.0 t.2), not_true (has_key (key_of a.0.0) seen) k.0)
 
 member_read : (method : Bool) (pool : PoolOf) (class : ℕ) (seen : List Key) (bytes : Bytes) (r : ReadMember) (rest : Bytes) → IsMemberAt method pool class bytes r rest → has_key (key_of r.member) seen ≡ false → member_at method pool class seen bytes ≡ Ok (r, rest)
 unfolding member_at
@@ -165,9 +173,11 @@ members_stand method pool class seen (suc n) bytes x e =
     let m = member_stands method pool class seen bytes a.0 a.1 in
     let ih = members_stand method pool class (seen ++ key_of a.0.0.member ∷ []) n a.0.1 b.0 b.1 in
     let q : (a.0.0 ∷ b.0.0, b.0.1) ≡ x = (let g = b.2 in cc) in
-    subst (AreNewMembers method pool class seen (suc n) bytes) q
-      (ap (λ (k : ℕ). suc k) ih.0, (a.0.1, m.0, ih.1),
-       both_true (not (has_key (key_of a.0.0.member) seen)) (differ_from (seen ++ key_of a.0.0.member ∷ []) (keys_of (members_of b.0.0))) (ap not m.1) ih.2)
+    subst (AreNewMembers method pool class seen (suc n) bytes) q (
+      ap (λ (k : ℕ). suc k) ih.0,
+      (a.0.1, m.0, ih.1),
+      both_true (not (has_key (key_of a.0.0.member) seen)) (differ_from (seen ++ key_of a.0.0.member ∷ []) (keys_of (members_of b.0.0))) (ap not m.1) ih.2,
+    )
 
 members_read : (method : Bool) (pool : PoolOf) (class : ℕ) (seen : List Key) (bytes : Bytes) (rs : List ReadMember) (rest : Bytes) → AreItems (IsMemberAt method pool class) bytes rs rest → differ_from seen (keys_of (members_of rs)) ≡ true
     → members_at method pool class seen (length rs) bytes ≡ Ok (rs, rest)

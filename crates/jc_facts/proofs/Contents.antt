@@ -3,7 +3,7 @@ use Rattle.std.proofs.Common.{◌≡◌, ℕ, Bool, true, false, cond, not, ◌&
 use Rattle.std.proofs.lemmas.List.{append-nil}
 use Rattle.std.specs.Prelude.{codes, nat_le}
 use Rattle.jc_desc.specs.declared.fault.Fault.{Fault}
-use Rattle.jc_desc.specs.Faults.{◌>>=◌, number_at}
+use Rattle.jc_desc.specs.Faults.{number_at}
 use Rattle.jc_desc.specs.Pool.{PoolOf}
 use Rattle.jc_desc.specs.PoolAnswers.{utf8_in, constant_in, ConstantOf}
 use Rattle.jc_desc.specs.PoolGrammar.{IsNumber}
@@ -11,10 +11,10 @@ use Rattle.jc_facts.specs.declared.class_facts.Constant.{Constant}
 use Rattle.jc_facts.specs.Names.{Bytes, same}
 use Rattle.jc_facts.specs.Attributes.{◌|>>◌, whole, counted_at, class_at, class_list_of, nest_host_of, index_of, signature_of, constant_value_of, constant_from}
 use Rattle.jc_facts.specs.ClassParts.{Attribute, OnMember, OnClass}
-use Rattle.jc_facts.specs.ClassGrammar.{IsNumberAt, IsClassAt, AreClasses, IsHost, IsSignature, IsConstantValue, SayOnMember, SayOnClass}
+use Rattle.jc_facts.specs.ClassGrammar.{IsClassAt, AreClasses, IsHost, IsSignature, IsConstantValue, SayOnMember, SayOnClass}
 use Rattle.jc_facts.specs.ClassSteps.{once, is_named, put_constant, put_signature, take_on_member, put_permits, put_nest_host, put_nest_members, put_class_signature, take_on_class, nothing_on_member, nothing_on_class}
 use Rattle.jc_facts.proofs.Same.{same_is}
-use Rattle.jc_facts.proofs.Front.{number_stands, number_read, Stands, IsRead, counted_stands, counted_read}
+use Rattle.jc_facts.proofs.Front.{number_stands, number_read, counted_stands, counted_read}
 use Rattle.jc_facts.proofs.ClassIndices.{class_stands, class_read}
 use Rattle.jc_facts.proofs.AttributeLists.{some_then, taken, kept, one_of, of_name, AreOne, once_say, once_said}
 
@@ -121,7 +121,7 @@ take_member_is : (method : Bool) (pool : PoolOf) (f : OnMember) (a : Attribute) 
 unfolding take_on_member
 take_member_is method pool f a =
     member_chain (not method && is_named a (codes "ConstantValue")) (nat_le 49 pool.major && is_named a (codes "Signature")) f (constant_value_of pool a.body) (signature_of pool a.body)
-      (tests_apart (not method) (nat_le 49 pool.major) a.name (codes "ConstantValue") (codes "Signature") refl)
+    (tests_apart (not method) (nat_le 49 pool.major) a.name (codes "ConstantValue") (codes "Signature") refl)
 
 member_parts : (c : Option (Option Constant)) (s : Option (Option Bytes)) (t : OnMember) → gather_member c s ≡ Some t → (c ≡ Some t.constant) × (s ≡ Some t.signature)
 member_parts None s t e = absurd cc
@@ -140,9 +140,10 @@ taken_member_parts method pool [] f t e = let q : f ≡ t = cc in (ap (λ (u : O
 taken_member_parts method pool (a ∷ ats) f t e =
     let k = some_then (take_on_member method pool f a) (λ (u : OnMember). taken (take_on_member method pool) u ats) t e in
     let p = member_parts (member_constant method pool f.constant a) (member_signature pool f.signature a) k.0 (sym (take_member_is method pool f a) ∙ k.1) in
-    let ih = taken_member_parts method pool ats k.0 t k.2 in
-    (ap (λ (o : Option (Option Constant)). o |>> λ u. taken (member_constant method pool) u ats) p.0 ∙ ih.0,
-     ap (λ (o : Option (Option Bytes)). o |>> λ u. taken (member_signature pool) u ats) p.1 ∙ ih.1)
+    let ih = taken_member_parts method pool ats k.0 t k.2 in (
+      ap (λ (o : Option (Option Constant)). o |>> λ u. taken (member_constant method pool) u ats) p.0 ∙ ih.0,
+      ap (λ (o : Option (Option Bytes)). o |>> λ u. taken (member_signature pool) u ats) p.1 ∙ ih.1,
+    )
 
 taken_member : (method : Bool) (pool : PoolOf) (ats : List Attribute) (f t : OnMember)
     → taken (member_constant method pool) f.constant ats ≡ Some t.constant → taken (member_signature pool) f.signature ats ≡ Some t.signature → taken (take_on_member method pool) f ats ≡ Some t
@@ -167,8 +168,8 @@ member_says method pool ats t e =
 pub member_said : (method : Bool) (pool : PoolOf) (ats : List Attribute) (t : OnMember) → SayOnMember method pool ats t → taken (take_on_member method pool) nothing_on_member ats ≡ Some t
 member_said method pool ats t h =
     taken_member method pool ats nothing_on_member t
-      (once_said (constant_value_of pool) (IsConstantValue pool) (constant_is_one pool) (not method) (codes "ConstantValue") ats t.constant h.constant)
-      (once_said (signature_of pool) (IsSignature pool) (signature_is_one pool) (nat_le 49 pool.major) (codes "Signature") ats t.signature h.signature)
+    (once_said (constant_value_of pool) (IsConstantValue pool) (constant_is_one pool) (not method) (codes "ConstantValue") ats t.constant h.constant)
+    (once_said (signature_of pool) (IsSignature pool) (signature_is_one pool) (nat_le 49 pool.major) (codes "Signature") ats t.signature h.signature)
 
 -- ---- the class
 
@@ -197,7 +198,7 @@ signature_kept f (Some p) = refl
 
 class_chain : (a b c d : Bool) (f : OnClass) (v : Option (List Bytes)) (w : Option Bytes) (x : Option (List Bytes)) (y : Option Bytes) → Apart a b → Apart a c → Apart a d → Apart b c → Apart b d → Apart c d
     → cond a (put_permits f (once f.permits v)) (cond b (put_nest_host f (once f.nest_host w)) (cond c (put_nest_members f (once f.nest_members x)) (cond d (put_class_signature f (once f.signature y)) (Some f))))
-      ≡ gather_class (one_of a f.permits v) (one_of b f.nest_host w) (one_of c f.nest_members x) (one_of d f.signature y)
+    ≡ gather_class (one_of a f.permits v) (one_of b f.nest_host w) (one_of c f.nest_members x) (one_of d f.signature y)
 class_chain true b c d f v w x y ab ac ad bc bd ce = rw (ab refl, ac refl, ad refl) (permits_kept f (once f.permits v))
 class_chain false true c d f v w x y ab ac ad bc bd ce = rw (bc refl, bd refl) (host_kept f (once f.nest_host w))
 class_chain false false true d f v w x y ab ac ad bc bd ce = rw (ce refl) (members_kept f (once f.nest_members x))
@@ -220,13 +221,13 @@ take_class_is : (pool : PoolOf) (f : OnClass) (a : Attribute) → take_on_class 
 unfolding take_on_class
 take_class_is pool f a =
     class_chain (nat_le 61 pool.major && is_named a (codes "PermittedSubclasses")) (nat_le 55 pool.major && is_named a (codes "NestHost")) (nat_le 55 pool.major && is_named a (codes "NestMembers")) (nat_le 49 pool.major && is_named a (codes "Signature"))
-      f (class_list_of pool a.body) (nest_host_of pool a.body) (class_list_of pool a.body) (signature_of pool a.body)
-      (tests_apart (nat_le 61 pool.major) (nat_le 55 pool.major) a.name (codes "PermittedSubclasses") (codes "NestHost") refl)
-      (tests_apart (nat_le 61 pool.major) (nat_le 55 pool.major) a.name (codes "PermittedSubclasses") (codes "NestMembers") refl)
-      (tests_apart (nat_le 61 pool.major) (nat_le 49 pool.major) a.name (codes "PermittedSubclasses") (codes "Signature") refl)
-      (tests_apart (nat_le 55 pool.major) (nat_le 55 pool.major) a.name (codes "NestHost") (codes "NestMembers") refl)
-      (tests_apart (nat_le 55 pool.major) (nat_le 49 pool.major) a.name (codes "NestHost") (codes "Signature") refl)
-      (tests_apart (nat_le 55 pool.major) (nat_le 49 pool.major) a.name (codes "NestMembers") (codes "Signature") refl)
+    f (class_list_of pool a.body) (nest_host_of pool a.body) (class_list_of pool a.body) (signature_of pool a.body)
+    (tests_apart (nat_le 61 pool.major) (nat_le 55 pool.major) a.name (codes "PermittedSubclasses") (codes "NestHost") refl)
+    (tests_apart (nat_le 61 pool.major) (nat_le 55 pool.major) a.name (codes "PermittedSubclasses") (codes "NestMembers") refl)
+    (tests_apart (nat_le 61 pool.major) (nat_le 49 pool.major) a.name (codes "PermittedSubclasses") (codes "Signature") refl)
+    (tests_apart (nat_le 55 pool.major) (nat_le 55 pool.major) a.name (codes "NestHost") (codes "NestMembers") refl)
+    (tests_apart (nat_le 55 pool.major) (nat_le 49 pool.major) a.name (codes "NestHost") (codes "Signature") refl)
+    (tests_apart (nat_le 55 pool.major) (nat_le 49 pool.major) a.name (codes "NestMembers") (codes "Signature") refl)
 
 -- four parts that are all there
 pub record AreParts (p : Option (Option (List Bytes))) (h : Option (Option Bytes)) (m : Option (Option (List Bytes))) (s : Option (Option Bytes)) (t : OnClass) : Type 0 where

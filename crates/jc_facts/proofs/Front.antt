@@ -1,8 +1,8 @@
 -- Numbers and lists: what is read stands in the grammar, and what stands there is read.
-use Rattle.std.proofs.Common.{◌≡◌, ℕ, suc, zero, List, [], ◌∷◌, ◌++◌, length, Result, Ok, Err, Option, Some, None, Bool, true, false, not, ◌&&◌, refl, sym, ap, subst, ◌∙◌}
+use Rattle.std.proofs.Common.{◌≡◌, ℕ, suc, zero, List, [], ◌∷◌, length, Result, Ok, Option, Some, None, Bool, true, false, not, ◌&&◌, refl, sym, ap, subst, ◌∙◌}
 use Rattle.jc_desc.specs.declared.fault.Fault.{Fault}
 use Rattle.jc_desc.specs.declared.fault.Reason.{Reason}
-use Rattle.jc_desc.specs.Faults.{◌>>=◌, number_at, part_at}
+use Rattle.jc_desc.specs.Faults.{◌>>=◌, number_at}
 use Rattle.jc_desc.proofs.Parts.{bind_ok, number_is, number_again}
 use Rattle.jc_facts.specs.Names.{Bytes}
 use Rattle.jc_facts.specs.Attributes.{need, list_at, counted_at}

@@ -12,6 +12,7 @@ pub mod ClassMembers
 pub mod ClassFiles
 pub mod ReadValid
 pub mod ReadLists
+pub mod Codes
 pub mod Lists
 pub mod Tests
 pub mod OneList

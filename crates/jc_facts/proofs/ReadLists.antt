@@ -1,6 +1,6 @@
 -- The constants and the signatures of a record that is read are valid, and so is the record.
-use Rattle.std.proofs.Common.{◌≡◌, ◌≢◌, ℕ, suc, zero, ◌+◌, ◌≤◌, Bool, true, false, cond, not, ◌&&◌, ◌||◌, List, [], ◌∷◌, ◌++◌, length, map, Option, Some, None, refl, sym, ap, subst, ◌∙◌, append_assoc, arith}
-use Rattle.std.specs.List.{list_all, list_any}
+use Rattle.std.proofs.Common.{◌≡◌, ℕ, ◌≤◌, Bool, true, false, cond, not, ◌&&◌, ◌||◌, List, [], ◌∷◌, ◌++◌, Option, Some, None, refl, sym, ap, subst, ◌∙◌, append_assoc, arith}
+use Rattle.std.specs.List.{list_all}
 use Rattle.std.specs.Prelude.{nat_le, codes, count_by, is_some, min}
 use Rattle.std.proofs.lemmas.Bool.{le-leb}
 use Rattle.std.proofs.lemmas.List.{append-nil}
@@ -10,7 +10,7 @@ use Rattle.jc_desc.specs.Utf8.{is_text}
 use Rattle.jc_desc.specs.Pool.{PoolOf}
 use Rattle.jc_desc.specs.PoolGrammar.{IsPool}
 use Rattle.jc_desc.specs.Reading.{◌>>=◌, field_of, method_of, slots_of_method}
-use Rattle.jc_desc.specs.Types.{TypeOf, Method, type_text, method_text, slots_of}
+use Rattle.jc_desc.specs.Types.{TypeOf, Method, slots_of}
 use Rattle.jc_desc.proofs.Apart.{apart}
 use Rattle.jc_desc.proofs.Grammar.{field_is}
 use Rattle.jc_desc.proofs.Methods.{method_is}
@@ -23,7 +23,7 @@ use Rattle.jc_facts.specs.declared.key.Key.{Key}
 use Rattle.jc_facts.specs.Flags.{is_static, is_interface}
 use Rattle.jc_facts.specs.Names.{Bytes, same, same_key, key_of}
 use Rattle.jc_facts.specs.Rules.{is_object, is_field_descriptor, is_method_descriptor, slots_fit}
-use Rattle.jc_facts.specs.Valid.{IsValidClass, has_key, keys_differ, keys_of, is_value, static_keys, is_valid_constant, fixed_keys, is_owner, keys_in, is_valid_signature, signed_keys, is_of_class}
+use Rattle.jc_facts.specs.Valid.{IsValidClass, has_key, keys_differ, keys_of, is_value, static_keys, fixed_keys, is_owner, keys_in, is_valid_signature, signed_keys, is_of_class}
 use Rattle.jc_facts.specs.ClassParts.{ReadMember, members_of, fixed_of, constants_of, signed_of, signatures_of, record_of}
 use Rattle.jc_facts.specs.ClassGrammar.{AreItems, IsMemberAt, IsClassFile}
 use Rattle.jc_facts.proofs.Front.{both_true, not_true}
@@ -69,7 +69,7 @@ fixed_differ (r ∷ rs) h =
     let k : Key = key_of r.member in
     let p = parts (not (has_key k (keys_of (members_of rs)))) (keys_differ (keys_of (members_of rs))) h in
     fixed_new k (is_static r.member.flags) r.found.constant (constants_of rs)
-      (not_within (has_key k (fixed_keys (constants_of rs))) (has_key k (keys_of (members_of rs))) (fixed_within k rs) p.0) (fixed_differ rs p.1)
+    (not_within (has_key k (fixed_keys (constants_of rs))) (has_key k (keys_of (members_of rs))) (fixed_within k rs) p.0) (fixed_differ rs p.1)
 
 -- each key of a list is in another
 abbrev Within : List Key → List Key → Type 0
@@ -103,7 +103,7 @@ fixed_all all [] w v = refl
 fixed_all all (r ∷ rs) w v =
     let p = parts (constant_ok r.found.constant) (list_all (λ r. constant_ok r.found.constant) rs) v in
     fixed_good all (key_of r.member) (is_static r.member.flags) r.found.constant (constants_of rs) (static_here r.member (members_of rs) all w) p.0
-      (fixed_all all rs (static_rest r.member (members_of rs) all (is_static r.member.flags) refl w) p.1)
+    (fixed_all all rs (static_rest r.member (members_of rs) all (is_static r.member.flags) refl w) p.1)
 
 -- ---- signatures
 
@@ -125,7 +125,7 @@ signed_differ (r ∷ rs) h =
     let k : Key = key_of r.member in
     let p = parts (not (has_key k (keys_of (members_of rs)))) (keys_differ (keys_of (members_of rs))) h in
     signed_new k r.found.signature (signatures_of rs)
-      (not_within (has_key k (signed_keys (signatures_of rs))) (has_key k (keys_of (members_of rs))) (signed_within k rs) p.0) (signed_differ rs p.1)
+    (not_within (has_key k (signed_keys (signatures_of rs))) (has_key k (keys_of (members_of rs))) (signed_within k rs) p.0) (signed_differ rs p.1)
 
 -- a test of all keys of members is one of those that have a signature
 signed_pass : (p : Key → Bool) (k : Key) (o : Option Bytes) (others : List Signed) → p k ≡ true → list_all p (signed_keys others) ≡ true → list_all p (signed_keys (signed_of (Some k) o ++ others)) ≡ true
@@ -176,8 +176,8 @@ both_differ (k ∷ ks) ls d e p n =
     let a = parts (not (has_key k ks)) (keys_differ ks) d in
     let b = parts (has_field k) (list_all has_field ks) p in
     both_true (not (has_key k (ks ++ ls))) (keys_differ (ks ++ ls))
-      (ap (λ (x : Bool). not x) (list_any-append (same_key k) ks ls) ∙ apart_new (has_key k ks) (has_key k ls) a.0 (none_of_other_kind k ls b.0 n))
-      (both_differ ks ls a.1 e b.1 n)
+    (ap (λ (x : Bool). not x) (list_any-append (same_key k) ks ls) ∙ apart_new (has_key k ks) (has_key k ls) a.0 (none_of_other_kind k ls b.0 n))
+    (both_differ ks ls a.1 e b.1 n)
 
 fits_some : (instance : Bool) (o : Option Method) → slots_fit instance (o >>= λ m. Some (min (slots_of m.params) 4294967295)) ≡ true → (m : Method) × (o ≡ Some m)
 fits_some instance None h = absurd (let q : false ≡ true = h in cc)
@@ -191,6 +191,7 @@ no_field : (name : Bytes) (f : ℕ) (d : Bytes) → is_method_descriptor name f 
 no_field name f d h = go (field_of d) refl where
   m : (m : Method) × (method_of d ≡ Some m)
   m = some_slots (not (is_static f)) d (parts _ _ h).0
+
   go : (o : Option TypeOf) → field_of d ≡ o → is_some o ≡ false
   go None e = refl
   go (Some t) e = absurd (apart t m.0 (sym (field_is d t e).1 ∙ (method_is d m.0 m.1).1))
@@ -230,7 +231,7 @@ signed_list own (r ∷ rs) f t =
     let a = parts (signature_ok r.found.signature) (list_all (λ r. signature_ok r.found.signature) rs) t in
     let here : has_key k (k ∷ keys_of (members_of rs)) ≡ true = rw (key_itself k) refl in
     signed_good own k r.found.signature (signatures_of rs) (f k here) a.0
-      (signed_list own rs (λ q h. f q (or_right (same_key q k) (has_key q (keys_of (members_of rs))) h)) a.1)
+    (signed_list own rs (λ q h. f q (or_right (same_key q k) (has_key q (keys_of (members_of rs))) h)) a.1)
 
 class_signed : (own : Key → Bool) (o : Option Bytes) → signature_ok o ≡ true → list_all (signed_ok own) (signed_of None o) ≡ true
 class_signed own None h = refl
@@ -294,10 +295,10 @@ signatures_good c major class fields methods o fs ms fv mv fd md ft mt ot =
     let of_methods = signed_list own methods (λ q h. or_right (has_key q (keys_of c.fields)) (has_key q (keys_of c.methods)) (ap (λ (xs : List Member). has_key q (keys_of xs)) ms ∙ h)) mt in
     record {
       all_valid = all_owners c (signatures_of fields ++ signatures_of methods ++ signed_of None o)
-        (three (signed_ok own) (signatures_of fields) (signatures_of methods) (signed_of None o) of_fields of_methods (class_signed own o ot));
+          (three (signed_ok own) (signatures_of fields) (signatures_of methods) (signed_of None o) of_fields of_methods (class_signed own o ot));
       differ = ap (λ (ks : List Key). keys_differ ks) (keys_of_three (signatures_of fields) (signatures_of methods) (signed_of None o) (no_class_key o))
-        ∙ both_differ (signed_keys (signatures_of fields)) (signed_keys (signatures_of methods)) (signed_differ fields fd) (signed_differ methods md)
-            (signed_all has_field fields (fields_have major class (members_of fields) fv)) (signed_all (λ k. not (has_field k)) methods (methods_have_none major class (members_of methods) mv));
+          ∙ both_differ (signed_keys (signatures_of fields)) (signed_keys (signatures_of methods)) (signed_differ fields fd) (signed_differ methods md)
+          (signed_all has_field fields (fields_have major class (members_of fields) fv)) (signed_all (λ k. not (has_field k)) methods (methods_have_none major class (members_of methods) mv));
       one_of_class = le-leb _ _ (count_three (signatures_of fields) (signatures_of methods) (signed_of None o) (members_no_class fields) (members_no_class methods) (class_once o));
     }
 
@@ -315,9 +316,9 @@ record_valid bytes c h =
     let fields = members_are bytes h.after_pool false h.pool h.head.flags h.fields_are.members_are.after_count h.fields h.after_fields h.pool_is h.fields_are.members_are.items_are in
     let methods = members_are bytes h.after_pool true h.pool h.head.flags h.methods_are.members_are.after_count h.methods h.after_methods h.pool_is h.methods_are.members_are.items_are in
     let signatures = signatures_good d h.pool.major h.head.flags h.fields h.methods h.found.signature refl refl fields methods h.fields_are.keys_are h.methods_are.keys_are
-      (member_signature_ok bytes h.after_pool false h.pool h.head.flags h.fields_are.members_are.after_count h.fields h.after_fields h.pool_is h.fields_are.members_are.items_are)
-      (member_signature_ok bytes h.after_pool true h.pool h.head.flags h.methods_are.members_are.after_count h.methods h.after_methods h.pool_is h.methods_are.members_are.items_are)
-      (signature_text bytes h.after_pool h.pool (nat_le 49 h.pool.major) (codes "Signature") h.attributes h.found.signature h.pool_is h.found_is.signature) in
+    (member_signature_ok bytes h.after_pool false h.pool h.head.flags h.fields_are.members_are.after_count h.fields h.after_fields h.pool_is h.fields_are.members_are.items_are)
+    (member_signature_ok bytes h.after_pool true h.pool h.head.flags h.methods_are.members_are.after_count h.methods h.after_methods h.pool_is h.methods_are.members_are.items_are)
+    (signature_text bytes h.after_pool h.pool (nat_le 49 h.pool.major) (codes "Signature") h.attributes h.found.signature h.pool_is h.found_is.signature) in
     record {
       name = class_name bytes h.after_pool h.pool h.head_is.this h.head.name h.pool_is h.head_is.this_names;
       flags = h.head_is.flags_fit;
@@ -331,7 +332,7 @@ record_valid bytes c h =
       nest_host = host_is bytes h.after_pool h.pool (codes "NestHost") h.attributes h.found.nest_host h.pool_is h.found_is.nest_host;
       nest_members = nest_members_are bytes h.after_pool h.pool (codes "NestMembers") h.attributes h.found.nest_members h.pool_is h.found_is.nest_members;
       constants = fixed_all (static_keys (members_of h.fields)) h.fields (λ q e. e)
-        (member_constant_ok bytes h.after_pool false h.pool h.head.flags h.fields_are.members_are.after_count h.fields h.after_fields h.pool_is h.fields_are.members_are.items_are);
+          (member_constant_ok bytes h.after_pool false h.pool h.head.flags h.fields_are.members_are.after_count h.fields h.after_fields h.pool_is h.fields_are.members_are.items_are);
       constants_differ = fixed_differ h.fields h.fields_are.keys_are;
       signatures = signatures.all_valid;
       signatures_differ = signatures.differ;

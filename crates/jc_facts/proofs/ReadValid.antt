@@ -1,31 +1,26 @@
 -- A record that is read is valid.
-use Rattle.std.proofs.Common.{◌≡◌, ◌≢◌, ℕ, suc, zero, ◌+◌, ◌≤◌, Bool, true, false, cond, not, ◌&&◌, ◌||◌, List, [], ◌∷◌, ◌++◌, length, map, Option, Some, None, ◌⊎◌, inl, inr, refl, sym, ap, subst, ◌∙◌, nat_eq, arith}
-use Rattle.std.specs.List.{list_all, list_any}
-use Rattle.std.specs.Prelude.{filter, nat_le, codes, count_by}
+use Rattle.std.proofs.Common.{◌≡◌, ℕ, Bool, true, false, not, ◌&&◌, ◌||◌, List, [], ◌∷◌, Option, Some, None, inl, inr, refl, sym, subst, ◌∙◌, nat_eq, arith}
+use Rattle.std.specs.List.{list_all}
+use Rattle.std.specs.Prelude.{nat_le}
 use Rattle.std.proofs.lemmas.Bool.{eqb-true}
-use Rattle.std.proofs.lemmas.List.Folds.{list_any-append}
 use Rattle.jc_desc.specs.Names.{is_class_name, is_member_name}
 use Rattle.jc_desc.specs.Utf8.{is_text}
 use Rattle.jc_desc.specs.Pool.{Slot, PoolOf, at, first, holds, text_of, refers, is_array, is_field}
-use Rattle.jc_desc.specs.PoolAnswers.{class_in, utf8_in, constant_in, constant_of, word_in, double_word_in, ConstantOf, int, float, long, double, text}
+use Rattle.jc_desc.specs.PoolAnswers.{constant_of, word_in, double_word_in, ConstantOf, int, float, long, double, text}
 use Rattle.jc_desc.specs.PoolGrammar.{IsPool, IsLinked}
 use Rattle.jc_desc.proofs.Sound.{class_sound, utf8_sound, linked_at, pool_texts}
 use Rattle.jc_desc.proofs.Grammar.{chosen}
 use Rattle.jc_facts.specs.declared.class_facts.ClassFacts.{ClassFacts}
 use Rattle.jc_facts.specs.declared.class_facts.Member.{Member}
-use Rattle.jc_facts.specs.declared.class_facts.Fixed.{Fixed}
-use Rattle.jc_facts.specs.declared.class_facts.Signed.{Signed}
 use Rattle.jc_facts.specs.declared.class_facts.Constant.{Constant}
-use Rattle.jc_facts.specs.declared.key.Key.{Key}
-use Rattle.jc_facts.specs.Flags.{is_static, is_interface}
-use Rattle.jc_facts.specs.Names.{Bytes, same, same_key, key_of}
+use Rattle.jc_facts.specs.Flags.{is_interface}
+use Rattle.jc_facts.specs.Names.{Bytes}
 use Rattle.jc_facts.specs.Rules.{is_object, implies, is_descriptor, are_flags}
-use Rattle.jc_facts.specs.Valid.{IsValidClass, has_key, keys_differ, keys_of, is_name, is_superclass, is_valid_field, is_valid_method, are_permits, is_nest_host, are_nest_members, is_value, static_keys, is_valid_constant, fixed_keys}
+use Rattle.jc_facts.specs.Valid.{is_name, is_superclass, are_permits, is_nest_host, are_nest_members, is_value}
 use Rattle.jc_facts.specs.Attributes.{is_bracketed, constant_from}
-use Rattle.jc_facts.specs.ClassParts.{ClassHead, Attribute, OnMember, ReadMember, OnClass, members_of, fixed_of, constants_of, or_empty, record_of}
+use Rattle.jc_facts.specs.ClassParts.{Attribute, ReadMember, members_of, or_empty}
 use Rattle.jc_facts.specs.ClassGrammar.{AreItems, AreCounted, NamesClass, IsClassAt, IsSuperclass, IsMemberAt, named, SayOnce, AreClasses, IsHost, IsSignature, IsConstantValue}
 use Rattle.jc_facts.proofs.Front.{both_true}
-use Rattle.jc_facts.proofs.Same.{same_itself}
 
 -- ---- names of classes
 
@@ -149,17 +144,21 @@ value_ok (text t) h = h
 
 entry_of : (slots : List Slot) (s : Slot) (c : ConstantOf) → (s.tag ≡ 8 → is_text (text_of slots s) ≡ true) → constant_of slots s ≡ Some c → entry_ok c ≡ true
 entry_of slots s c h e = elim (chosen (nat_eq s.tag 3) _ _ _ e) [
-    | inl a ↦ (let q : int (word_in s.body) ≡ c = (let g = a.1 in cc) in subst (λ (d : ConstantOf). entry_ok d ≡ true) q refl)
-    | inr a ↦ elim (chosen (nat_eq s.tag 4) _ _ _ a.1) [
+  | inl a ↦ (let q : int (word_in s.body) ≡ c = (let g = a.1 in cc) in subst (λ (d : ConstantOf). entry_ok d ≡ true) q refl)
+  | inr a ↦ elim (chosen (nat_eq s.tag 4) _ _ _ a.1) [
     | inl b ↦ (let q : float (word_in s.body) ≡ c = (let g = b.1 in cc) in subst (λ (d : ConstantOf). entry_ok d ≡ true) q refl)
     | inr b ↦ elim (chosen (nat_eq s.tag 5) _ _ _ b.1) [
-    | inl d ↦ (let q : long (double_word_in s.body) ≡ c = (let g = d.1 in cc) in subst (λ (d : ConstantOf). entry_ok d ≡ true) q refl)
-    | inr d ↦ elim (chosen (nat_eq s.tag 6) _ _ _ d.1) [
-    | inl f ↦ (let q : double (double_word_in s.body) ≡ c = (let g = f.1 in cc) in subst (λ (d : ConstantOf). entry_ok d ≡ true) q refl)
-    | inr f ↦ elim (chosen (nat_eq s.tag 8) _ _ _ f.1) [
-    | inl g ↦ (let q : text (text_of slots s) ≡ c = (let k = g.1 in cc) in subst (λ (d : ConstantOf). entry_ok d ≡ true) q (h (eqb-true s.tag 8 g.0)))
-    | inr g ↦ absurd (let k : None ≡ Some c = g.1 in cc)
-    ] ] ] ] ]
+      | inl d ↦ (let q : long (double_word_in s.body) ≡ c = (let g = d.1 in cc) in subst (λ (d : ConstantOf). entry_ok d ≡ true) q refl)
+      | inr d ↦ elim (chosen (nat_eq s.tag 6) _ _ _ d.1) [
+        | inl f ↦ (let q : double (double_word_in s.body) ≡ c = (let g = f.1 in cc) in subst (λ (d : ConstantOf). entry_ok d ≡ true) q refl)
+        | inr f ↦ elim (chosen (nat_eq s.tag 8) _ _ _ f.1) [
+          | inl g ↦ (let q : text (text_of slots s) ≡ c = (let k = g.1 in cc) in subst (λ (d : ConstantOf). entry_ok d ≡ true) q (h (eqb-true s.tag 8 g.0)))
+          | inr g ↦ absurd (let k : None ≡ Some c = g.1 in cc)
+        ]
+      ]
+    ]
+  ]
+]
 
 -- the text of a String in a pool that is read
 string_text : (file after : Bytes) (pool : PoolOf) (i : ℕ) → IsPool file pool after → (at pool.slots i).tag ≡ 8 → is_text (text_of pool.slots (at pool.slots i)) ≡ true

@@ -99,15 +99,19 @@ pub record CodeOf : Type 0 where
   pub bytes : Bytes
   pub catches : Bytes
 
--- what follows n attributes
-unfoldable pub skip_at : ℕ → Bytes → Result Bytes Fault
-skip_at zero bytes = Ok bytes
-skip_at (suc n) bytes = do
+-- an attribute of whatever name: its contents
+unfoldable pub skipped_at : Bytes → Result (Bytes × Bytes) Fault
+skipped_at bytes = do
   name ← number_at 2 bytes
   len ← number_at 4 name.1
-  body ← part_at len.0 len.1
-  skip_at n body.1
+  part_at len.0 len.1
 
+-- what comes behind that which is read
+abbrev pub behind : {A : Type 0} → Result (A × Bytes) Fault → Result Bytes Fault
+behind (Err f) = Err f
+behind (Ok x) = Ok x.1
+
+-- max_stack, max_locals, the code, the exception table, and attributes, which are skipped
 unfoldable pub code_at : Bytes → Result (CodeOf × Bytes) Fault
 code_at body = do
   stack ← number_at 2 body
@@ -116,8 +120,7 @@ code_at body = do
   code ← part_at size.0 size.1
   count ← number_at 2 code.1
   catches ← part_at (8 * count.0) count.1
-  attributes ← number_at 2 catches.1
-  rest ← skip_at attributes.0 attributes.1
+  rest ← behind (counted_at skipped_at catches.1)
   Ok (record { start = 8; bytes = code.0; catches = catches.0 }, rest)
 
 unfoldable pub code_of : Bytes → Option CodeOf

@@ -1,7 +1,7 @@
 -- What a class file is (JVMS 4.1): which bytes stand for which record. Each relation says what stands in front of the bytes, and
 -- what comes behind it.
 --     Reads bytes c      the bytes are a class file whose record is c
-use Rattle.std.specs.Prelude.{◌≡◌, ◌≢◌, ℕ, List, [], ◌∷◌, ◌++◌, length, filter, Option, Some, None, Bool, true, false, ◌||◌, not, nat_le, codes, IsTrue, if◌then◌else◌}
+use Rattle.std.specs.Prelude.{◌≡◌, ◌≢◌, ℕ, List, [], ◌∷◌, ◌++◌, length, filter, Option, Some, None, Bool, true, false, not, nat_le, codes, IsTrue, if◌then◌else◌}
 use Rattle.jc_desc.specs.Names.{is_member_name}
 use Rattle.jc_desc.specs.Pool.{PoolOf}
 use Rattle.jc_desc.specs.PoolAnswers.{class_in, utf8_in, constant_in, ConstantOf}

@@ -135,7 +135,7 @@ member_head_at method pool class bytes = do
   name ← need (utf8_in pool first.0) (length flags.1) reasons.BadIndex
   text ← check (is_member_name name method) (length flags.1) reasons.BadName (need (utf8_in pool second.0) (length first.1) reasons.BadIndex)
   check (is_descriptor method name flags.0 text) (length first.1) reasons.BadDescriptor
-    (check (are_flags method pool.major class name flags.0) (length bytes) reasons.BadFlags
+      (check (are_flags method pool.major class name flags.0) (length bytes) reasons.BadFlags
       (Ok (record { name = name; descriptor = text; flags = flags.0 }, second.1)))
 
 -- then Duplicate at the first byte, and only then the attributes; `seen` are the keys of the members before it in its list

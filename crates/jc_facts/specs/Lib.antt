@@ -16,6 +16,7 @@ pub mod Attributes
 pub mod ClassParts
 pub mod ClassGrammar
 pub mod ClassSteps
+pub mod CodeGrammar
 pub mod Text
 pub mod Options
 pub mod World
