@@ -7,7 +7,6 @@ ghost use Rattle.jc_facts.specs.Orders.{finding_order, collision_order};
 
 use crate::finding::Finding;
 use crate::verdict::Collision;
-use std::cmp::Ordering;
 
 /// `Ord` orders findings by rule, then class, then key or target. Findings of one rule, class and
 /// key or target, of which a verdict has one at most, it orders by act, seat and error.

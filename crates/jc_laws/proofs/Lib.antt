@@ -60,3 +60,4 @@ pub mod UsableLaw
 pub mod ExactLists
 pub mod AboveKeys
 pub mod KeyLaws
+pub mod Interfaces

@@ -1,3 +1,4 @@
+pub mod Hierarchy
 pub mod Loading
 pub mod Agreement
 pub mod Sides

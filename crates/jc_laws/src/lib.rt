@@ -3,6 +3,7 @@
 //! Each law is the contract of a function that does nothing.
 #![tactic(auto)]
 
+ghost use Rattle.jc_laws.specs.Hierarchy.{LevelsSuffice, AboveIsOneStep};
 ghost use Rattle.jc_laws.specs.Loading.{FaultIsOne, LoadsWithSupers, AllAboveLoads};
 ghost use Rattle.jc_laws.specs.Agreement.{WorldsAgree};
 ghost use Rattle.jc_laws.specs.Sides.{SidesStay};
@@ -11,6 +12,16 @@ ghost use Rattle.jc_laws.specs.Walks.{WalksOverClients, SeatEndsTheClients};
 ghost use Rattle.jc_laws.specs.Overriding.{WalkIsOverriding, FinalsRefuse};
 ghost use Rattle.jc_laws.specs.Findings.{FindingIsOnItsSubject, FindingsAreOfUsable, CollisionsAreOfUsable, KeysAreDeclared, CollisionKeysAreDeclared, VerdictIsOne, EmptyMeansNone, NothingBreaksItself};
 ghost use Rattle.jc_laws.specs.Soundness.{Soundness, SoundnessOfRules, LoadsAndTypesKept, FieldsKept, KeptWithoutMethods};
+
+/// Who stands above a class is the same at every sufficient depth, also for a class on a cycle.
+pub fn levels_suffice()
+    ensures { LevelsSuffice }
+{}
+
+/// Who stands above a class is the class, and who stands above what it names.
+pub fn above_is_one_step()
+    ensures { AboveIsOneStep }
+{}
 
 /// The load fault of a class is the same at every sufficient depth (JVMS 5.3.5).
 pub fn fault_is_one()
