@@ -11,8 +11,7 @@ mod schedule;
 pub mod sink;
 pub mod sure_sink;
 pub mod sure_trees;
-pub mod text;
-pub mod trees;
-
 #[cfg(test)]
 mod tests;
+pub mod text;
+pub mod trees;

@@ -77,7 +77,11 @@ fn front(alloc: Global, files: Vec<MemFile>, limit: u32) -> Result<Option<Vec<u8
 #[test]
 fn trees_give_the_front_of_a_file(rt: HostRuntime) -> Result<(), Fail> {
     let alloc = rt.alloc();
-    for (limit, wanted) in [(1, b"ab".as_slice()), (2, b"abc".as_slice()), (4_194_304, b"abc".as_slice())] {
+    for (limit, wanted) in [
+        (1, b"ab".as_slice()),
+        (2, b"abc".as_slice()),
+        (4_194_304, b"abc".as_slice()),
+    ] {
         let files = two_files(alloc)?;
         assert!(rt; is_file_list(files.as_slice()));
         let read = front(alloc, files, limit)?.ok_or("no file")?;
