@@ -14,8 +14,7 @@ use Rattle.jc_facts.specs.Names.{Bytes}
 use Rattle.jc_facts.specs.Exact.{Before, NamesRise, IsExact}
 use Rattle.jc_facts.proofs.Apart.{Apart, ApartRec, rec-Apart, Apart-permutation, NamesRise-sorted}
 use Rattle.jc_facts.proofs.Listed.{EachOf, here, there, none, cases}
-use Rattle.jcompat.specs.Classes.{is_class_path}
-use Rattle.jcompat.specs.Survey.{IsClassPathOf, AreClassPaths}
+use Rattle.jcompat.specs.Classes.{is_class_path, IsClassPathOf, AreClassPaths}
 
 both : (a b : Bool) → (a && b) ≡ true → (a ≡ true) × (b ≡ true)
 both true b h = (refl, h)

@@ -1,14 +1,17 @@
 -- Whether a path is a name with a tail behind it.
-use Rattle.std.proofs.Common.{◌≡◌, ◌↔◌, ℕ, List, ◌++◌, length, take, drop, Bool, true, false, sym, ap, subst, ◌∙◌, refl}
+use Rattle.std.proofs.Common.{◌≤◌, ◌≡◌, ◌↔◌, ℕ, List, ◌++◌, length, take, drop, Bool, true, false, sym, ap, subst, ◌∙◌, refl}
 use Rattle.std.specs.Prelude.{IsTrue}
-use Rattle.jc_facts.specs.declared.head.Head.{Head}
-use Rattle.jc_facts.specs.FirstForm.{IsFirstForm}
-use Rattle.jc_read.proofs.Heads.{one_head_of}
-use Rattle.jcompat.specs.declared.tree.Tree.{Tree}
-use Rattle.jcompat.specs.Classes.{path_of, is_expected, IsLater}
 use Rattle.std.specs.Str.{bytes_eq}
 use Rattle.std.proofs.lemmas.List.{take-append-drop, take_at, drop_at}
 use Rattle.std.proofs.lemmas.Slice.Eq.{bytes_eq-Decides}
+use Rattle.jc_facts.specs.declared.class_facts.ClassFacts.{ClassFacts}
+use Rattle.jc_facts.specs.Names.{Bytes}
+use Rattle.jc_facts.specs.ClassGrammar.{Reads}
+use Rattle.jcompat.specs.declared.tree.Tree.{Tree}
+use Rattle.jcompat.specs.declared.file_fault.FileFault.{FileFault}
+use Rattle.jcompat.specs.declared.file_fault.FileFault.TheVariants as faults
+use Rattle.jcompat.specs.Classes.{IsFileFault}
+use Rattle.jcompat.specs.Placed.{IsNotPlaced}
 
 pub place_then : (path name tail : List ℕ) (r : Bool) → take (length name) path ≡ name → r ≡ bytes_eq (drop (length name) path) tail → IsTrue r ↔ (path ≡ name ++ tail)
 place_then path name tail r front back = (
@@ -19,8 +22,9 @@ place_then path name tail r front back = (
 pub place_else : (path name tail : List ℕ) (r : Bool) → r ≡ false → (take (length name) path ≡ name → ⊥) → IsTrue r ↔ (path ≡ name ++ tail)
 place_else path name tail r differs front = ((λ yes. absurd (let clash : true ≡ false = sym yes ∙ differs in cc)), (λ is. absurd (front (ap (take (length name)) is ∙ take_at name tail (length name) refl))))
 
--- what isn't at its place isn't read yet
-pub later_place : (tree : Tree) (path bytes : List ℕ) (head : Head) → IsFirstForm bytes head → (path ≡ path_of head.name → IsTrue (is_expected tree head.name) → ⊥) → IsLater tree path bytes
-later_place tree path bytes head form misplaced h k =
-    let is : h ≡ head = one_head_of bytes h head k.form form in
-    misplaced (subst (λ (g : Head). path ≡ path_of g.name) is k.place) (subst (λ (g : Head). IsTrue (is_expected tree g.name)) is k.expected)
+-- why a record that was read isn't compared
+pub not_placed : (tree : Tree) (path bytes : Bytes) (facts : ClassFacts) → length bytes ≤ 4194304 → Reads bytes facts → (fault : FileFault) → IsNotPlaced tree path facts fault → IsFileFault tree path bytes fault
+not_placed tree path bytes facts short reads (faults.Misplaced name) n = (short, (facts, reads, n.0, n.1))
+not_placed tree path bytes facts short reads faults.Later n = (short, (facts, reads, n.0, n.1))
+not_placed tree path bytes facts short reads faults.TooLong n = absurd n
+not_placed tree path bytes facts short reads (faults.Malformed m) n = absurd n

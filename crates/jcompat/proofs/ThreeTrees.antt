@@ -1,6 +1,6 @@
 -- The three trees together.
-use Rattle.std.proofs.Common.{◌≡◌, ◌≢◌, ◌<◌, length, ℕ, List, [], ◌∷◌, ◌++◌, Option, Some, None, Bool, true, false, not, refl, sym, ap, subst, ◌∙◌, arith}
-use Rattle.std.specs.Prelude.{IsTrue, IsSomeAnd}
+use Rattle.std.proofs.Common.{◌≡◌, ◌≢◌, ◌<◌, ◌≤◌, length, ℕ, List, [], ◌∷◌, ◌++◌, Option, Some, None, Bool, true, false, not, ◌&&◌, ◌==◌, refl, sym, ap, subst, ◌∙◌, arith}
+use Rattle.std.specs.Prelude.{IsTrue, IsSomeAnd, is_none}
 use Rattle.std.specs.List.{All, Contains}
 use Rattle.std.proofs.lemmas.List.Elements.{All-contains, All-weaker}
 use Rattle.jc_base.specs.Causes.{Rose}
@@ -21,11 +21,23 @@ use Rattle.jcompat.specs.declared.tree.Tree.TheVariants as trees
 use Rattle.jcompat.specs.declared.stop.Stop.{Stop}
 use Rattle.jcompat.specs.declared.stop.Stop.TheVariants as stops
 use Rattle.jcompat.specs.Request.{Roots, root_of, asked}
-use Rattle.jcompat.specs.Classes.{Told, is_class_path, IsClassFile, path_of, IsHeadOf, IsClean, IsFirstLater, IsHeadIn, AreHeads}
+use Rattle.jc_facts.specs.declared.class_facts.ClassFacts.{ClassFacts}
+use Rattle.jc_facts.proofs.ReadLists.{read_valid}
+use Rattle.jc_desc.specs.Utf8.{is_text}
+use Rattle.jcompat.specs.Classes.{Told, is_class_path, IsClassFile, path_of, head_of, extends_object, is_plain_root, is_expected, is_built, IsReadAs, IsClean, IsHeadIn, AreHeads}
 use Rattle.jcompat.specs.Survey.{StopsIn}
 use Rattle.jcompat.specs.Answers.{Given, given, AreCleanBefore, AreClean, HasObject, IsRefused, HasCause, Sides, AreFindings, IsCompatible, IsIncompatible, IsVerdict}
 use Rattle.jcompat.specs.Check.{AreSides, StopsFor}
 use Rattle.jc_facts.proofs.OneList.{not_self}
+use Rattle.jcompat.proofs.TreeRead.{rose_since}
+
+and_left : (a b : Bool) → (a && b) ≡ true → a ≡ true
+and_left true b e = refl
+and_left false b e = absurd (cc)
+
+and_right : (a b : Bool) → (a && b) ≡ true → b ≡ true
+and_right true b e = e
+and_right false b e = absurd (cc)
 
 -- ---- names of one tree differ
 
@@ -43,21 +55,30 @@ names_differ hs r = rec-Apart (λ h. h.name) hs (apart_heads hs r)
 
 -- ---- java/lang/Object
 
+-- the tree may have what is compared
+expected_of : (tree : Tree) (c : ClassFacts) → is_built tree c ≡ true → is_expected tree c ≡ true
+expected_of tree c e = and_right (extends_object c.superclass && length c.interfaces == 0 && is_none c.permits) (is_expected tree c) e
+
+name_of : (files : List FileOf) (tree : Tree) (root : Bytes) (h : Head) (i : IsHeadIn files tree root h) → h.name ≡ i.facts.name
+name_of files tree root h i = ap (λ (k : Head). k.name) i.head_is
+
 -- the only class of the platform
 object_of : (files : List FileOf) (root : Bytes) (h : Head) → IsHeadIn files trees.Platform root h → h.name ≡ object_name
-object_of files root h i = same_is h.name object_name i.is_head.expected
+object_of files root h i =
+    name_of files trees.Platform root h i
+    ∙ same_is i.facts.name object_name (and_left (same i.facts.name object_name) (is_plain_root i.facts) (expected_of trees.Platform i.facts i.is_read.built))
 
 pub object_there : (files : List FileOf) (root : Bytes) (h : Head) (hs : List Head) → AreHeads files trees.Platform root (h ∷ hs) → HasFile files root (path_of object_name)
 object_there files root h hs a =
     let i : IsHeadIn files trees.Platform root h = All-contains (IsHeadIn files trees.Platform root) (h ∷ hs) h a.exact.sound (here h hs) in
-    let place : i.path ≡ path_of object_name = i.is_head.place ∙ ap path_of (object_of files root h i) in
+    let place : i.path ≡ path_of object_name = i.is_read.place ∙ sym (ap path_of (name_of files trees.Platform root h i)) ∙ ap path_of (object_of files root h i) in
     (i.bytes, subst (λ (p : Bytes). IsFileAt files root p i.bytes) place i.is_file.is_file)
 
 pub object_gone : (files : List FileOf) (root : Bytes) → AreHeads files trees.Platform root [] → HasFile files root (path_of object_name) → ⊥
 object_gone files root a o =
     let f : IsClassFile files root (path_of object_name) o.0 = record { is_file = o.1; named = refl } in
-    let r = a.clean (path_of object_name) o.0 f in
-    none r.0 (a.exact.complete r.0 (record { path = path_of object_name; bytes = o.0; is_file = f; is_head = r.1 }))
+    let r = a.clean.read (path_of object_name) o.0 f in
+    none (head_of r.0) (a.exact.complete (head_of r.0) (record { path = path_of object_name; bytes = o.0; facts = r.0; is_file = f; is_read = r.1; head_is = refl }))
 
 not_true : (b : Bool) → not b ≡ true → b ≡ false
 not_true true e = absurd (cc)
@@ -69,17 +90,21 @@ apart_sides files roots platform old new s h is_in = go (head_named platform h.n
     i : IsHeadIn files trees.Old roots.old h
     i = All-contains (IsHeadIn files trees.Old roots.old) old h s.old_is.exact.sound is_in
 
+    no_object : same h.name object_name ≡ false
+    no_object = subst (λ (n : Bytes). same n object_name ≡ false) (sym (name_of files trees.Old roots.old h i)) (not_true (same i.facts.name object_name) (expected_of trees.Old i.facts i.is_read.built))
+
     go : (o : Option Head) → head_named platform h.name ≡ o → o ≡ None
     go None q = refl
     go (Some k) q =
         let f = head_named-found platform h.name k q in
         let object : k.name ≡ object_name = object_of files roots.platform k (All-contains (IsHeadIn files trees.Platform roots.platform) platform k s.platform_is.exact.sound f.is_in) in
-        let no_object : same h.name object_name ≡ false = not_true (same h.name object_name) i.is_head.expected in
         let is_object : same h.name object_name ≡ true = rw (sym f.named ∙ object) (same_itself object_name) in
         absurd (let clash : true ≡ false = sym is_object ∙ no_object in cc)
 
 pub class_names : (files : List FileOf) (tree : Tree) (root : Bytes) (heads : List Head) → AreHeads files tree root heads → All (λ h. IsTrue (is_class_name h.name)) heads
-class_names files tree root heads a = All-weaker (IsHeadIn files tree root) (λ h. IsTrue (is_class_name h.name)) (λ h i. i.is_head.form.class_name) heads a.exact.sound
+class_names files tree root heads a =
+    All-weaker (IsHeadIn files tree root) (λ h. IsTrue (is_class_name h.name)) (λ h i. subst (λ (n : Bytes). is_class_name n ≡ true) (sym (name_of files tree root h i))
+        (and_left (is_class_name i.facts.name) (is_text i.facts.name) (read_valid i.bytes i.facts i.is_read.reads).name)) heads a.exact.sound
 
 -- ---- the verdict
 
@@ -126,3 +151,41 @@ incompatible_of words files sides findings exact breaks some = record {
   where
     together : AreSides files sides.roots sides.platform sides.old sides.new
     together = record { platform_is = sides.platform_is; old_is = sides.old_is; new_is = sides.new_is; has_object = sides.has_object }
+
+-- ---- why it stopped
+
+pub stops_platform : (content : Option (List FileOf)) (before after : Bytes → ℕ) (roots : Roots) (stop : Stop) → StopsIn content before after trees.Platform roots.platform stop
+    → StopsFor content before after roots stop
+stops_platform content before after roots (stops.Unread t fault) (is, refused) = subst (λ (t : Tree). StopsFor content before after roots (stops.Unread t fault)) (sym is) (λ files told. (tt, refused files told))
+stops_platform content before after roots (stops.ReadFault t) (is, rose) = subst (λ (t : Tree). StopsFor content before after roots (stops.ReadFault t)) (sym is) (rose, λ files told. tt)
+stops_platform content before after roots stops.Memory s = tt
+stops_platform content before after roots stops.Words s = absurd s
+stops_platform content before after roots stops.NoObject s = absurd s
+
+pub stops_old : (content : Option (List FileOf)) (before after : Bytes → ℕ) (roots : Roots) → Told content (λ files. IsClean files trees.Platform roots.platform)
+    → (stop : Stop) → StopsIn content before after trees.Old roots.old stop → StopsFor content before after roots stop
+stops_old content before after roots clean (stops.Unread t fault) (is, refused) =
+    subst (λ (t : Tree). StopsFor content before after roots (stops.Unread t fault)) (sym is) (λ files told. (clean files told, refused files told))
+stops_old content before after roots clean (stops.ReadFault t) (is, rose) = subst (λ (t : Tree). StopsFor content before after roots (stops.ReadFault t)) (sym is) (rose, clean)
+stops_old content before after roots clean stops.Memory s = tt
+stops_old content before after roots clean stops.Words s = absurd s
+stops_old content before after roots clean stops.NoObject s = absurd s
+
+pub stops_new : (content : Option (List FileOf)) (before after : Bytes → ℕ) (roots : Roots) → Told content (λ files. IsClean files trees.Platform roots.platform)
+    → Told content (λ files. IsClean files trees.Old roots.old) → (stop : Stop) → StopsIn content before after trees.New roots.new stop → StopsFor content before after roots stop
+stops_new content before after roots platform old (stops.Unread t fault) (is, refused) =
+    subst (λ (t : Tree). StopsFor content before after roots (stops.Unread t fault)) (sym is) (λ files told. ((platform files told, old files told), refused files told))
+stops_new content before after roots platform old (stops.ReadFault t) (is, rose) =
+    subst (λ (t : Tree). StopsFor content before after roots (stops.ReadFault t)) (sym is) (rose, λ files told. (platform files told, old files told))
+stops_new content before after roots platform old stops.Memory s = tt
+stops_new content before after roots platform old stops.Words s = absurd s
+stops_new content before after roots platform old stops.NoObject s = absurd s
+
+-- of a later call on the same trees
+pub stops_since : (content now : Option (List FileOf)) (before middle after : Bytes → ℕ) (tree : Tree) (root : Bytes) → now ≡ content
+    → ((r : Bytes) → before r ≤ middle r) → (stop : Stop) → StopsIn now middle after tree root stop → StopsIn content before after tree root stop
+stops_since content now before middle after tree root same le (stops.Unread t fault) s = (s.0, λ files told. s.1 files (same ∙ told))
+stops_since content now before middle after tree root same le (stops.ReadFault t) s = (s.0, rose_since (before root) (middle root) (after root) (le root) s.1)
+stops_since content now before middle after tree root same le stops.Memory s = tt
+stops_since content now before middle after tree root same le stops.Words s = absurd s
+stops_since content now before middle after tree root same le stops.NoObject s = absurd s

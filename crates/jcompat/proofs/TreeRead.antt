@@ -1,8 +1,8 @@
 -- A tree that was read file by file.
 use Rattle.jc_base.specs.Causes.{Rose}
 use Rattle.std.proofs.Common.{◌≡◌, ◌≤◌, ◌⊎◌, inl, inr, arith, ℕ, List, [], ◌∷◌, ◌++◌, Option, Some, None, refl, sym, ap, subst, ◌∙◌}
-use Rattle.std.specs.Prelude.{map, IsTrue}
-use Rattle.std.specs.List.{All, Contains}
+use Rattle.std.specs.Prelude.{map, IsTrue, nat_lt, length, Bool, true, false, ◌||◌}
+use Rattle.std.specs.List.{All, Contains, list_any}
 use Rattle.std.specs.Ordering.{nat_cmp, ordering_reverse}
 use Rattle.std.specs.Cmp.Lexicographic.{slice_cmp, nat_list_cmp_total}
 use Rattle.std.specs.declared.cmp.Ordering.{Ordering}
@@ -13,13 +13,16 @@ use Rattle.jc_facts.specs.declared.head.Head.{Head}
 use Rattle.jc_facts.specs.Names.{Bytes}
 use Rattle.jc_facts.specs.Exact.{Before, NamesRise, IsExact}
 use Rattle.jc_facts.proofs.OneList.{not_both, not_self}
-use Rattle.jc_facts.proofs.Listed.{EachOf, EachOf-map, here, there, none, cases, each_in}
-use Rattle.jc_read.proofs.Heads.{one_head_of}
+use Rattle.jc_facts.proofs.Listed.{EachOf, here, there, none, cases, each_in, not_any}
+use Rattle.jc_facts.proofs.ClassFiles.{one_record}
+use Rattle.std.proofs.lemmas.Bool.{ltb-false, ltb-true}
 use Rattle.jcompat.specs.declared.tree.Tree.{Tree}
 use Rattle.jcompat.specs.declared.stop.Stop.{Stop}
 use Rattle.jcompat.specs.declared.stop.Stop.TheVariants as stops
-use Rattle.jcompat.specs.Classes.{Told, IsClassFile, path_of, IsHeadOf, IsReadable, IsLater, IsClean, IsFirstLater, IsHeadIn, AreHeads}
-use Rattle.jcompat.specs.Survey.{IsClassPathOf, AreClassPaths, IsReadAt, IsLaterAt, AreReadAt, IsFirstOf, StopsAt, StopsIn}
+use Rattle.jcompat.specs.declared.file_fault.FileFault.{FileFault}
+use Rattle.jcompat.specs.declared.file_fault.TreeFault.TheVariants as tree_faults
+use Rattle.jcompat.specs.Classes.{Told, IsClassFile, IsClassPathOf, AreClassPaths, path_of, head_of, IsReadAs, HasFewFiles, HasShortPaths, HasLongPath, IsFirstFault, IsTreeFault, IsHeadIn, AreHeads}
+use Rattle.jcompat.specs.Survey.{IsHeadOf, IsReadAt, IsFaultAt, AreReadAt, IsFirstOf, StopsAt, StopsIn}
 
 -- ---- the order of paths
 
@@ -80,38 +83,72 @@ readable files tree root path bytes head is_file r = subst (λ (b : Bytes). IsHe
 heads_in : (files : List FileOf) (tree : Tree) (root : Bytes) (paths : List Bytes) (heads : List Head) → EachOf (IsClassPathOf files root) paths → AreReadAt files tree root paths heads
     → EachOf (IsHeadIn files tree root) heads
 heads_in files tree root [] [] c r = tt
-heads_in files tree root (p ∷ ps) (h ∷ hs) c r = (record { path = p; bytes = r.0.bytes; is_file = record { is_file = r.0.is_file; named = c.0.named }; is_head = r.0.is_head }, heads_in files tree root ps hs c.1 r.1)
+heads_in files tree root (p ∷ ps) (h ∷ hs) c r = (
+  record {
+    path = p; bytes = r.0.bytes; facts = r.0.is_head.facts; is_file = record { is_file = r.0.is_file; named = c.0.named };
+    is_read = r.0.is_head.is_read; head_is = r.0.is_head.head_is;
+  },
+  heads_in files tree root ps hs c.1 r.1)
 heads_in files tree root [] (h ∷ hs) c r = absurd r
 heads_in files tree root (p ∷ ps) [] c r = absurd r
 
-pub heads_are : (files : List FileOf) (tree : Tree) (root : Bytes) (paths : List Bytes) (heads : List Head) → AreClassPaths files root paths → AreReadAt files tree root paths heads
-    → map (λ h. path_of h.name) heads ≡ paths → AreHeads files tree root heads
-heads_are files tree root paths heads exact r named = record {
-  clean = λ path bytes f.
-      let t = read_there files tree root paths heads path r (exact.complete path (record { held = (bytes, f.is_file); named = f.named })) in
-      (t.head, readable files tree root path bytes t.head f.is_file t.read);
+-- no path of the list is too long
+pub short_paths : (files : List FileOf) (root : Bytes) (paths : List Bytes) → AreClassPaths files root paths → list_any (λ p. nat_lt 4096 (length p)) paths ≡ false → HasShortPaths files root
+short_paths files root paths are short path is_path = ltb-false _ _ (not_any (λ p. nat_lt 4096 (length p)) paths path short (are.complete path is_path))
+
+record Long (paths : List Bytes) : Type 0 where
+  path : Bytes
+  is_in : Contains paths path
+  long : nat_lt 4096 (length path) ≡ true
+
+some_long : (paths : List Bytes) → list_any (λ p. nat_lt 4096 (length p)) paths ≡ true → Long paths
+some_long [] e = absurd (cc)
+some_long (p ∷ ps) e = go (nat_lt 4096 (length p)) refl e (some_long ps)
+  where
+    go : (b : Bool) → nat_lt 4096 (length p) ≡ b → (b || list_any (λ q. nat_lt 4096 (length q)) ps) ≡ true → (list_any (λ q. nat_lt 4096 (length q)) ps ≡ true → Long ps) → Long (p ∷ ps)
+    go true q e more = record { path = p; is_in = here p ps; long = q }
+    go false q e more = let l = more e in record { path = l.path; is_in = there l.path p ps l.is_in; long = l.long }
+
+pub long_path : (files : List FileOf) (root : Bytes) (paths : List Bytes) → AreClassPaths files root paths → list_any (λ p. nat_lt 4096 (length p)) paths ≡ true → HasLongPath files root
+long_path files root paths are e =
+    let l = some_long paths e in
+    record { path = l.path; is_path = each_in (IsClassPathOf files root) paths l.path (recursion_from_All (IsClassPathOf files root) paths are.sound) l.is_in; long = ltb-true _ _ l.long }
+
+pub heads_are : (files : List FileOf) (tree : Tree) (root : Bytes) (paths : List Bytes) (heads : List Head) → AreClassPaths files root paths → length paths ≤ 40000
+    → list_any (λ p. nat_lt 4096 (length p)) paths ≡ false → AreReadAt files tree root paths heads → map (λ h. path_of h.name) heads ≡ paths → AreHeads files tree root heads
+heads_are files tree root paths heads exact few short r named = record {
+  clean = record {
+    few = record { paths = paths; are = exact; few = few };
+    short = short_paths files root paths exact short;
+    read = λ path bytes f.
+        let t = read_there files tree root paths heads path r (exact.complete path (record { held = (bytes, f.is_file); named = f.named })) in
+        let h = readable files tree root path bytes t.head f.is_file t.read in
+        (h.facts, h.is_read);
+  };
   exact = record {
     in_order = rising_heads heads paths named exact.in_order;
     sound = All-from_recursion (IsHeadIn files tree root) heads (heads_in files tree root paths heads (recursion_from_All (IsClassPathOf files root) paths exact.sound) r);
     complete = λ head i.
         let t = read_there files tree root paths heads i.path r (exact.complete i.path (record { held = (i.bytes, i.is_file.is_file); named = i.is_file.named })) in
         let h = readable files tree root i.path i.bytes t.head i.is_file.is_file t.read in
-        let is : t.head ≡ head = one_head_of i.bytes t.head head h.form i.is_head.form in
+        let same : h.facts ≡ i.facts = one_record i.bytes h.facts i.facts h.is_read.reads i.is_read.reads in
+        let is : t.head ≡ head = h.head_is ∙ ap head_of same ∙ sym i.head_is in
         subst (λ (k : Head). Contains heads k) is t.is_in;
   };
 }
 
-pub first_later : (files : List FileOf) (tree : Tree) (root : Bytes) (paths : List Bytes) (path : Bytes) → AreClassPaths files root paths → IsFirstOf files tree root paths path
-    → IsFirstLater files tree root path
-first_later files tree root paths path exact f = record {
-  bytes = f.is_later.bytes;
-  is_file = record { is_file = f.is_later.is_file; named = (each_in (IsClassPathOf files root) paths path (recursion_from_All (IsClassPathOf files root) paths exact.sound) is_in).named };
-  is_later = f.is_later.is_later;
+pub first_fault : (files : List FileOf) (tree : Tree) (root : Bytes) (paths : List Bytes) (path : Bytes) (fault : FileFault) → AreClassPaths files root paths → IsFirstOf files tree root paths path fault
+    → IsFirstFault files tree root path fault
+first_fault files tree root paths path fault exact f = record {
+  bytes = f.fault_is.bytes;
+  is_file = record { is_file = f.fault_is.is_file; named = (each_in (IsClassPathOf files root) paths path (recursion_from_All (IsClassPathOf files root) paths exact.sound) is_in).named };
+  is_fault = f.fault_is.is_fault;
   before = λ other bytes k b.
       let listed : Contains paths other = exact.complete other (record { held = (bytes, k.is_file); named = k.named }) in
       let t = read_there files tree root f.front f.heads other f.read
-      (in_front f.front f.back path other (subst (λ (ps : List Bytes). NamesRise (λ (p : Bytes). p) ps) f.whole exact.in_order) (subst (λ (ps : List Bytes). Contains ps other) f.whole listed) b) in
-      (t.head, readable files tree root other bytes t.head k.is_file t.read);
+          (in_front f.front f.back path other (subst (λ (ps : List Bytes). NamesRise (λ (p : Bytes). p) ps) f.whole exact.in_order) (subst (λ (ps : List Bytes). Contains ps other) f.whole listed) b) in
+      let h = readable files tree root other bytes t.head k.is_file t.read in
+      (h.facts, h.is_read);
 }
   where
     behind : (front : List Bytes) → Contains (front ++ path ∷ f.back) path
@@ -123,19 +160,27 @@ first_later files tree root paths path exact f = record {
 
 -- ---- why it stopped
 
-pub stops_later : (content : Option (List FileOf)) (before after : Bytes → ℕ) (tree : Tree) (root : Bytes) (paths : List Bytes) (path : Bytes) (stop : Stop)
-    → (stop ≡ stops.Later tree path) ⊎ (stop ≡ stops.Memory) → Told content (λ files. IsFirstOf files tree root paths path) → StopsAt content before after tree root paths stop
-stops_later content before after tree root paths path stop (inl is) f = subst (λ (s : Stop). StopsAt content before after tree root paths s) (sym is) (refl, f)
-stops_later content before after tree root paths path stop (inr is) f = subst (λ (s : Stop). StopsAt content before after tree root paths s) (sym is) tt
+pub stops_file : (content : Option (List FileOf)) (before after : Bytes → ℕ) (tree : Tree) (root : Bytes) (paths : List Bytes) (path : Bytes) (fault : FileFault) (stop : Stop)
+    → (stop ≡ stops.Unread tree (tree_faults.File path fault)) ⊎ (stop ≡ stops.Memory) → Told content (λ files. IsFirstOf files tree root paths path fault)
+    → StopsAt content before after tree root paths stop
+stops_file content before after tree root paths path fault stop (inl is) f = subst (λ (s : Stop). StopsAt content before after tree root paths s) (sym is) (refl, f)
+stops_file content before after tree root paths path fault stop (inr is) f = subst (λ (s : Stop). StopsAt content before after tree root paths s) (sym is) tt
 
 pub stops_in : (content : Option (List FileOf)) (before middle after : Bytes → ℕ) (tree : Tree) (root : Bytes) (paths : List Bytes) → Told content (λ files. AreClassPaths files root paths)
-    → (Rose (middle root) (after root) → Rose (before root) (after root))
+    → length paths ≤ 40000 → list_any (λ p. nat_lt 4096 (length p)) paths ≡ false → (Rose (middle root) (after root) → Rose (before root) (after root))
     → (stop : Stop) → StopsAt content middle after tree root paths stop → StopsIn content before after tree root stop
-stops_in content before middle after tree root paths exact rose (stops.Later t path) s = (s.0, λ files told. first_later files tree root paths path (exact files told) (s.1 files told))
-stops_in content before middle after tree root paths exact rose (stops.ReadFault t) s = (s.0, rose s.1)
-stops_in content before middle after tree root paths exact rose stops.Memory s = tt
-stops_in content before middle after tree root paths exact rose stops.Words s = absurd s
-stops_in content before middle after tree root paths exact rose stops.NoObject s = absurd s
+stops_in content before middle after tree root paths exact few short rose (stops.Unread t (tree_faults.File path fault)) s = (
+  s.0,
+  λ files told. (
+    record { paths = paths; are = exact files told; few = few },
+    short_paths files root paths (exact files told) short,
+    first_fault files tree root paths path fault (exact files told) (s.1 files told)))
+stops_in content before middle after tree root paths exact few short rose (stops.Unread t tree_faults.TooManyFiles) s = absurd s
+stops_in content before middle after tree root paths exact few short rose (stops.Unread t tree_faults.LongPath) s = absurd s
+stops_in content before middle after tree root paths exact few short rose (stops.ReadFault t) s = (s.0, rose s.1)
+stops_in content before middle after tree root paths exact few short rose stops.Memory s = tt
+stops_in content before middle after tree root paths exact few short rose stops.Words s = absurd s
+stops_in content before middle after tree root paths exact few short rose stops.NoObject s = absurd s
 
 -- a count that rose later rose
 pub rose_since : (before middle after : ℕ) → before ≤ middle → Rose middle after → Rose before after

@@ -11,7 +11,7 @@ use Rattle.jc_facts.specs.Heads.{KeepsClasses, BreaksClass}
 use Rattle.jc_facts.specs.Gone.{IsGone}
 use Rattle.jc_facts.specs.Text.{findings_text}
 use Rattle.jcompat.specs.Request.{Roots, root_of, asked}
-use Rattle.jcompat.specs.Classes.{Told, path_of, IsClean, IsFirstLater, AreHeads}
+use Rattle.jcompat.specs.Classes.{Told, path_of, IsClean, IsTreeFault, AreHeads}
 use Rattle.jcompat.specs.Stop.{line_of, status_of}
 use Rattle.jcompat.specs.declared.tree.Tree.{Tree}
 use Rattle.jcompat.specs.declared.tree.Tree.TheVariants as trees
@@ -38,15 +38,16 @@ given words content before after = record { words = words; content = content; fa
 abbrev pub took : Option Bytes → Option Bytes → ℕ → ℕ → Took
 took before after faults_before faults_after = record { before = before; after = after; faults_before = faults_before; faults_after = faults_after }
 
--- ---- events, in their order: the words; the trees in order, each file by file; the root of the platform
+-- ---- events, in their order: the words; the trees in order, each by the number of its class files, their paths, and then file by file;
+-- the root of the platform
 
--- each class file of the trees before this one is read
+-- the trees before this one are compared
 abbrev pub AreCleanBefore : List FileOf → Roots → Tree → Type 0
 AreCleanBefore files roots trees.Platform = Unit {0}
 AreCleanBefore files roots trees.Old = IsClean files trees.Platform roots.platform
 AreCleanBefore files roots trees.New = IsClean files trees.Platform roots.platform × IsClean files trees.Old roots.old
 
--- each class file of all trees is read
+-- all trees are compared
 pub record AreClean (files : List FileOf) (roots : Roots) : Type 0 where
   pub platform : IsClean files trees.Platform roots.platform
   pub old : IsClean files trees.Old roots.old
@@ -59,7 +60,7 @@ HasObject files roots = HasFile files roots.platform (path_of object_name)
 -- the words and the files are refused, and this is the first cause
 abbrev pub IsRefused : List Bytes → List FileOf → Stop → Type 0
 IsRefused words files stops.Words = asked words ≡ None
-IsRefused words files (stops.Later tree path) = IsSomeAnd (asked words) (λ roots. AreCleanBefore files roots tree × IsFirstLater files tree (root_of roots tree) path)
+IsRefused words files (stops.Unread tree fault) = IsSomeAnd (asked words) (λ roots. AreCleanBefore files roots tree × IsTreeFault files tree (root_of roots tree) fault)
 IsRefused words files stops.NoObject = IsSomeAnd (asked words) (λ roots. AreClean files roots × (HasObject files roots → ⊥))
 IsRefused words files (stops.ReadFault tree) = ⊥
 IsRefused words files stops.Memory = ⊥
@@ -71,7 +72,7 @@ IsAccepted words files = IsSomeAnd (asked words) (λ roots. AreClean files roots
 -- why there is no verdict; a call on a tree fails only where the count of its root rose, and no refusal stands in an earlier tree
 abbrev pub HasCause : Given → Stop → Type 0
 HasCause g stops.Words = asked g.words ≡ None
-HasCause g (stops.Later tree path) = Told g.content (λ files. IsRefused g.words files (stops.Later tree path))
+HasCause g (stops.Unread tree fault) = Told g.content (λ files. IsRefused g.words files (stops.Unread tree fault))
 HasCause g stops.NoObject = Told g.content (λ files. IsRefused g.words files stops.NoObject)
 HasCause g (stops.ReadFault tree) = IsSomeAnd (asked g.words) (λ roots. Rose (g.faults_before (root_of roots tree)) (g.faults_after (root_of roots tree))
     × Told g.content (λ files. AreCleanBefore files roots tree))

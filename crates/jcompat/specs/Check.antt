@@ -6,7 +6,7 @@ use Rattle.jc_facts.specs.declared.head.Head.{Head}
 use Rattle.jc_facts.specs.declared.finding.Finding.{Finding}
 use Rattle.jc_facts.specs.Names.{Bytes}
 use Rattle.jcompat.specs.Request.{Roots, root_of}
-use Rattle.jcompat.specs.Classes.{Told, IsFirstLater, AreHeads}
+use Rattle.jcompat.specs.Classes.{Told, IsTreeFault, AreHeads}
 use Rattle.jcompat.specs.Answers.{AreCleanBefore, AreClean, HasObject}
 use Rattle.jcompat.specs.declared.tree.Tree.{Tree}
 use Rattle.jcompat.specs.declared.tree.Tree.TheVariants as trees
@@ -22,7 +22,7 @@ pub record AreSides (files : List FileOf) (roots : Roots) (platform old new : Li
 
 -- why reading the three trees stopped
 abbrev pub StopsFor : Option (List FileOf) → (Bytes → ℕ) → (Bytes → ℕ) → Roots → Stop → Type 0
-StopsFor content before after roots (stops.Later tree path) = Told content (λ files. AreCleanBefore files roots tree × IsFirstLater files tree (root_of roots tree) path)
+StopsFor content before after roots (stops.Unread tree fault) = Told content (λ files. AreCleanBefore files roots tree × IsTreeFault files tree (root_of roots tree) fault)
 StopsFor content before after roots stops.NoObject = Told content (λ files. AreClean files roots × (HasObject files roots → ⊥))
 StopsFor content before after roots (stops.ReadFault tree) = Rose (before (root_of roots tree)) (after (root_of roots tree)) × Told content (λ files. AreCleanBefore files roots tree)
 StopsFor content before after roots stops.Memory = Unit {0}

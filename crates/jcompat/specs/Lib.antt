@@ -4,6 +4,7 @@ pub mod Request
 pub mod RequestView
 pub mod Stop
 pub mod Classes
+pub mod Placed
 pub mod Survey
 pub mod Answers
 pub mod Check

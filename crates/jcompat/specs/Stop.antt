@@ -1,21 +1,67 @@
 -- Why there is no verdict: the line on standard error and the exit status.
 use Rattle.std.specs.Prelude.{ℕ, [], ◌++◌, codes}
+use Rattle.std.specs.Fmt.{decimal}
+use Rattle.jc_desc.specs.declared.fault.Reason.{Reason}
+use Rattle.jc_desc.specs.declared.fault.Reason.TheVariants as reasons
 use Rattle.jc_facts.specs.Names.{Bytes}
 use Rattle.jc_facts.specs.Text.{printed}
 use Rattle.jcompat.specs.Tree.{tree_word}
+use Rattle.jcompat.specs.declared.file_fault.FileFault.{FileFault}
+use Rattle.jcompat.specs.declared.file_fault.FileFault.TheVariants as faults
+use Rattle.jcompat.specs.declared.file_fault.TreeFault.{TreeFault}
+use Rattle.jcompat.specs.declared.file_fault.TreeFault.TheVariants as tree_faults
 use Rattle.jcompat.specs.declared.stop.Stop.{Stop}
 use Rattle.jcompat.specs.declared.stop.Stop.TheVariants as stops
 
+abbrev pub reason_name : Reason → Bytes
+reason_name reasons.BadMagic = codes "BadMagic"
+reason_name reasons.BadVersion = codes "BadVersion"
+reason_name reasons.Short = codes "Short"
+reason_name reasons.BadTag = codes "BadTag"
+reason_name reasons.BadUtf8 = codes "BadUtf8"
+reason_name reasons.BadIndex = codes "BadIndex"
+reason_name reasons.BadName = codes "BadName"
+reason_name reasons.BadDescriptor = codes "BadDescriptor"
+reason_name reasons.BadFlags = codes "BadFlags"
+reason_name reasons.Duplicate = codes "Duplicate"
+reason_name reasons.BadAttribute = codes "BadAttribute"
+reason_name reasons.Trailing = codes "Trailing"
+
+-- what is said of a class file
+abbrev pub file_words : FileFault → Bytes
+file_words faults.TooLong = codes "limit bytes"
+file_words (faults.Malformed m) = reason_name m.reason ++ codes " at " ++ decimal m.offset
+file_words (faults.Misplaced name) = codes "misplaced " ++ printed name
+file_words faults.Later = codes "later"
+
+-- what is said of a tree
+abbrev pub tree_words : TreeFault → Bytes
+tree_words tree_faults.TooManyFiles = codes "limit files"
+tree_words tree_faults.LongPath = codes "limit path"
+tree_words (tree_faults.File path fault) = printed path ++ codes ": " ++ file_words fault
+
 abbrev pub line_of : Stop → Bytes
 line_of stops.Words = codes "jcompat: usage: words\n"
-line_of (stops.Later tree path) = codes "jcompat: " ++ tree_word tree ++ codes ": " ++ printed path ++ codes ": later\n"
+line_of (stops.Unread tree fault) = codes "jcompat: " ++ tree_word tree ++ codes ": " ++ tree_words fault ++ codes "\n"
 line_of stops.NoObject = codes "jcompat: platform: later\n"
 line_of (stops.ReadFault tree) = codes "jcompat: " ++ tree_word tree ++ codes ": read fault\n"
 line_of stops.Memory = []
 
+-- a limit, or something that isn't read or not yet
+abbrev pub file_status : FileFault → ℕ
+file_status faults.TooLong = 7
+file_status (faults.Malformed m) = 3
+file_status (faults.Misplaced name) = 3
+file_status faults.Later = 3
+
+abbrev pub tree_status : TreeFault → ℕ
+tree_status tree_faults.TooManyFiles = 7
+tree_status tree_faults.LongPath = 7
+tree_status (tree_faults.File path fault) = file_status fault
+
 abbrev pub status_of : Stop → ℕ
 status_of stops.Words = 2
-status_of (stops.Later tree path) = 3
+status_of (stops.Unread tree fault) = tree_status fault
 status_of stops.NoObject = 3
 status_of (stops.ReadFault tree) = 4
 status_of stops.Memory = 6

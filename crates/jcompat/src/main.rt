@@ -4,6 +4,7 @@
 mod check;
 mod classes;
 mod disk_trees;
+mod file_fault;
 mod laws;
 mod put;
 mod report;

@@ -17,8 +17,10 @@ use std::alloc::Global;
 /// Does what the words ask for, writes what there is to say, and answers the exit status:
 ///
 /// - 0: no public class is gone; 1: some are. The verdict was put to `out`.
-/// - 2: the words ask for nothing that is built. 3: a class file or the platform isn't built yet.
-///   4: a call on a tree failed. A line was put to `err`.
+/// - 2: the words ask for nothing that is built. 3: a class file is malformed, misplaced or not
+///   compared yet, or the platform has no `java/lang/Object`. 4: a call on a tree failed. 7: a tree
+///   has more than 40,000 class files, a class file's path more than 4,096 bytes, or a class file
+///   more than 4,194,304 bytes. A line was put to `err`.
 /// - 5: a put failed. 6: there was no memory.
 pub fn run<T: Trees, O: Sink, E: Sink>(
     alloc: Global,
@@ -27,7 +29,7 @@ pub fn run<T: Trees, O: Sink, E: Sink>(
     out: &mut O,
     err: &mut E,
 ) -> u8
-    ensures known { (result ≡ 0) ⊎ (result ≡ 1) ⊎ (result ≡ 2) ⊎ (result ≡ 3) ⊎ (result ≡ 4) ⊎ (result ≡ 5) ⊎ (result ≡ 6) }
+    ensures known { (result ≡ 0) ⊎ (result ≡ 1) ⊎ (result ≡ 2) ⊎ (result ≡ 3) ⊎ (result ≡ 4) ⊎ (result ≡ 5) ⊎ (result ≡ 6) ⊎ (result ≡ 7) }
 
     // No public class is gone, and each client's naming of a class that was Ok is Ok.
     ensures compatible { result ≡ 0 → Told (T.content trees.old) (IsCompatible words.now)
@@ -41,8 +43,12 @@ pub fn run<T: Trees, O: Sink, E: Sink>(
     ensures usage { result ≡ 2 → Refuses (given words.now (T.content trees.old) (T.faults trees.old) (T.faults trees.new)) Stop.Words
         (took (O.taken out.old) (O.taken out.new) (O.faults out.old) (O.faults out.new)) (took (E.taken err.old) (E.taken err.new) (E.faults err.old) (E.faults err.new)) }
 
-    // The first class file that isn't read yet, or a platform without java/lang/Object.
-    ensures later { result ≡ 3 → (stop : Stop) × (status_of stop ≡ 3) × Refuses (given words.now (T.content trees.old) (T.faults trees.old) (T.faults trees.new)) stop
+    // The first class file that is malformed, misplaced or not compared yet, or a platform without java/lang/Object.
+    ensures unread { result ≡ 3 → (stop : Stop) × (status_of stop ≡ 3) × Refuses (given words.now (T.content trees.old) (T.faults trees.old) (T.faults trees.new)) stop
+        (took (O.taken out.old) (O.taken out.new) (O.faults out.old) (O.faults out.new)) (took (E.taken err.old) (E.taken err.new) (E.faults err.old) (E.faults err.new)) }
+
+    // A tree or a class file past a limit.
+    ensures limit { result ≡ 7 → (stop : Stop) × (status_of stop ≡ 7) × Refuses (given words.now (T.content trees.old) (T.faults trees.old) (T.faults trees.new)) stop
         (took (O.taken out.old) (O.taken out.new) (O.faults out.old) (O.faults out.new)) (took (E.taken err.old) (E.taken err.new) (E.faults err.old) (E.faults err.new)) }
 
     // A call on the tree failed.

@@ -1,20 +1,28 @@
-//! What stands in the trees.
-ghost use Rattle.std.specs.Prelude.{◌≡◌, ◌≤◌, ◌⊎◌, ℕ, List, map, IfOk, IfErr, IfSome, IfNone, IsErrOf, IsTrue};
-ghost use Rattle.std.specs.List.{All, filter};
+//! What stands in a tree.
+ghost use Rattle.std.specs.Prelude.{◌≡◌, ◌≤◌, ◌⊎◌, ℕ, List, map, length, nat_lt, IfOk, IfErr, IsErrOf};
+ghost use Rattle.std.specs.List.{All, filter, list_any};
 ghost use Rattle.jc_base.specs.Causes.{Rose};
 ghost use Rattle.jc_base.specs.Outside.{Holds};
 ghost use Rattle.jc_facts.specs.Exact.{NamesRise};
-ghost use Rattle.jcompat.specs.Classes.{Told, is_class_path as is_class, path_of, AreHeads};
-ghost use Rattle.jcompat.specs.Survey.{AreClassPaths, IsReadAt, IsLaterAt, AreReadAt, StopsAt, StopsIn, stop_by};
+ghost use Rattle.jcompat.specs.Classes.{Told, is_class_path as is_class, path_of, AreClassPaths, AreHeads};
+ghost use Rattle.jcompat.specs.Survey.{IsReadAt, IsFaultAt, AreReadAt, StopsAt, StopsIn, stop_by};
 ghost use Rattle.jcompat.specs.declared.stop.Stop.{Stop};
+ghost use Rattle.jcompat.specs.declared.file_fault.TreeFault.{TreeFault};
 
 use crate::classes::{MAX_BYTES, head_of, is_class_path};
+use crate::file_fault::{FileFault, TreeFault};
 use crate::stop::Stop;
 use crate::tree::Tree;
 use jc_base::text::Text;
 use jc_base::trees::{TreeError, Trees};
 use jc_facts::head::Head;
 use std::alloc::Global;
+
+/// The most class files of a tree.
+const MAX_FILES: usize = 40_000;
+
+/// The most bytes of a class file's path.
+const MAX_PATH: usize = 4_096;
 
 fn stop_of(tree: Tree, error: TreeError) -> Stop
     ensures { result ≡ stop_by tree error }
@@ -50,35 +58,36 @@ fn class_paths<T: Trees>(alloc: Global, root: &str, trees: &mut T) -> Result<Vec
     Ok(paths)
 }
 
-// The head of a class file that is read. None where it isn't yet.
+// The head of a class file that is compared, or why it isn't.
 fn read_one<T: Trees>(
     alloc: Global,
     tree: Tree,
     root: &str,
     path: &str,
     trees: &mut T,
-) -> Result<Option<Head>, TreeError>
+) -> Result<Result<Head, FileFault>, TreeError>
     requires { Holds (T.content trees.old) root.now path.now }
-    ensures read { IfOk result (λ found. IfSome found (λ head. Told (T.content trees.old) (λ files. IsReadAt files tree root.now path.now head))) }
-    ensures named { IfOk result (λ found. IfSome found (λ head. path.now ≡ path_of head.name)) }
-    ensures later { IfOk result (λ found. IfNone found (Told (T.content trees.old) (λ files. IsLaterAt files tree root.now path.now))) }
+    ensures read { IfOk result (λ found. IfOk found (λ head. Told (T.content trees.old) (λ files. IsReadAt files tree root.now path.now head))) }
+    ensures named { IfOk result (λ found. IfOk found (λ head. path.now ≡ path_of head.name)) }
+    ensures fault { IfOk result (λ found. IfErr found (λ fault. Told (T.content trees.old) (λ files. IsFaultAt files tree root.now path.now fault))) }
     ensures content { T.content trees.new ≡ T.content trees.old }
     ensures never_falls { (r : List ℕ) → T.faults trees.old r ≤ T.faults trees.new r }
     ensures cause { IsErrOf result TreeError.Fault → Rose (T.faults trees.old root.now) (T.faults trees.new root.now) }
 {
     let bytes = trees.read(alloc, root, path, MAX_BYTES)?;
     match head_of(alloc, tree, path, bytes.as_slice()) {
-        Ok(Some(head)) => Ok(Some(head)),
-        Ok(None) => Ok(None),
+        Ok(Ok(head)) => Ok(Ok(head)),
+        Ok(Err(fault)) => Ok(Err(fault)),
         Err(_) => Err(TreeError::Memory),
     }
 }
 
-fn later(alloc: Global, tree: Tree, path: &Text) -> Stop
-    ensures { (result ≡ Stop.Later tree path.now) ⊎ (result ≡ Stop.Memory) }
+// The stop at a class file that isn't compared.
+fn stop_at(alloc: Global, tree: Tree, path: &Text, fault: FileFault) -> Stop
+    ensures { (result ≡ Stop.Unread tree (TreeFault.File path.now fault)) ⊎ (result ≡ Stop.Memory) }
 {
     match Text::from_str(alloc, path.as_str()) {
-        Ok(path) => Stop::Later(tree, path),
+        Ok(path) => Stop::Unread(tree, TreeFault::File(path, fault)),
         Err(_) => Stop::Memory,
     }
 }
@@ -101,18 +110,25 @@ fn read_all<T: Trees>(
     let mut heads = Vec::new(alloc);
     for path in paths {
         match read_one(alloc, tree, root, path.as_str(), trees) {
-            Ok(Some(head)) => match heads.push(head) {
+            Ok(Ok(head)) => match heads.push(head) {
                 Ok(()) => {}
                 Err(_) => return Err(Stop::Memory),
             },
-            Ok(None) => return Err(later(alloc, tree, path)),
+            Ok(Err(fault)) => return Err(stop_at(alloc, tree, path, fault)),
             Err(error) => return Err(stop_of(tree, error)),
         }
     }
     Ok(heads)
 }
 
-/// The heads of a tree's class files, in the order of their paths, or why reading it stopped.
+// Whether one of the paths has too many bytes.
+fn has_long_path(paths: &[Text]) -> bool
+    ensures { result ≡ list_any (λ path. nat_lt 4096 (length path)) paths.now }
+{
+    paths.iter().any(|path| path.as_str().len() > MAX_PATH)
+}
+
+/// The heads of a tree's class files, in the order of their paths, or why it isn't read.
 pub fn read_tree<T: Trees>(
     alloc: Global,
     tree: Tree,
@@ -129,6 +145,12 @@ pub fn read_tree<T: Trees>(
         Ok(paths) => paths,
         Err(error) => return Err(stop_of(tree, error)),
     };
+    if paths.len() > MAX_FILES {
+        return Err(Stop::Unread(tree, TreeFault::TooManyFiles));
+    }
+    if has_long_path(paths.as_slice()) {
+        return Err(Stop::Unread(tree, TreeFault::LongPath));
+    }
     match read_all(alloc, tree, root, paths.as_slice(), trees) {
         Ok(heads) => Ok(heads),
         Err(stop) => Err(stop),

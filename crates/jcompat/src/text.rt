@@ -44,8 +44,8 @@ pub fn push_printed(text: &mut Vec<u8>, bytes: &[u8]) -> Result<(), AllocError>
     Ok(())
 }
 
-// The decimal digits of a number at the end of the text.
-fn push_decimal(alloc: Global, text: &mut Vec<u8>, number: usize) -> Result<(), AllocError>
+/// The decimal digits of a number at the end of the text.
+pub fn push_decimal(alloc: Global, text: &mut Vec<u8>, number: usize) -> Result<(), AllocError>
     ensures { OnOk result (text.new.items ≡ text.old.items ++ decimal number) }
 {
     let digits = format!(in alloc; "{number}")?;

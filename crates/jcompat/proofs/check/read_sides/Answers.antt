@@ -1,6 +1,8 @@
-use Rattle.std.proofs.Common.{◌≡◌, ◌<◌, ◌∙◌, length, rules}
+use Rattle.std.proofs.Common.{◌≡◌, ◌<◌, ◌≤◌, ◌∙◌, length, rules, arith}
 use Rattle.jcompat.specs.Answers.{AreClean}
-use Rattle.jcompat.proofs.ThreeTrees.{object_if, no_object_if}
+use Rattle.jcompat.specs.RequestView.{roots_of}
+use Rattle.jcompat.specs.declared.tree.Tree.TheVariants as trees
+use Rattle.jcompat.proofs.ThreeTrees.{object_if, no_object_if, stops_platform, stops_old, stops_new, stops_since}
 use Rattle.jcompat.proofs.check.read_sides.Goals as goal
 
 pub returns-then-is_empty-clause-stopped : goal.returns-then-is_empty-clause-stopped
@@ -18,3 +20,29 @@ returns-clause-read g c = λ files told.
     let new = c.in-Ok-read_tree-2.ensures.read files (c.in-Ok-read_tree.ensures.content ∙ c.in-Ok.ensures.content ∙ told) in
     let some : 0 < length c.in-Ok.heads.items = search rules in
     record { platform_is = platform; old_is = old; new_is = new; has_object = object_if files _ _ platform some }
+
+pub returns-in-Err-clause-stopped : goal.returns-in-Err-clause-stopped
+returns-in-Err-clause-stopped g c =
+    stops_platform (g.T.Trees.content c.args.trees.now) (g.T.Trees.faults c.args.trees.now) (g.T.Trees.faults c.read_tree.new.trees) (roots_of c.args.request) c.in-Err.stop c.in-Err.ensures.stopped
+
+pub returns-in-Err-read_tree-clause-stopped : goal.returns-in-Err-read_tree-clause-stopped
+returns-in-Err-read_tree-clause-stopped g c =
+    let content = g.T.Trees.content c.args.trees.now in
+    let before = g.T.Trees.faults c.args.trees.now in
+    let after = g.T.Trees.faults c.read_tree-2.new.trees in
+    let roots = roots_of c.args.request in
+    stops_old content before after roots (λ files told. (c.in-Ok.ensures.read files told).clean) c.in-Err-read_tree.stop
+    (stops_since content (g.T.Trees.content c.read_tree.new.trees) before (g.T.Trees.faults c.read_tree.new.trees) after trees.Old roots.old
+        c.in-Ok.ensures.content c.in-Ok.ensures.never_falls c.in-Err-read_tree.stop c.in-Err-read_tree.ensures.stopped)
+
+pub returns-in-Err-read_tree-2-clause-stopped : goal.returns-in-Err-read_tree-2-clause-stopped
+returns-in-Err-read_tree-2-clause-stopped g c =
+    let content = g.T.Trees.content c.args.trees.now in
+    let before = g.T.Trees.faults c.args.trees.now in
+    let after = g.T.Trees.faults c.read_tree-3.new.trees in
+    let roots = roots_of c.args.request in
+    stops_new content before after roots (λ files told. (c.in-Ok.ensures.read files told).clean)
+    (λ files told. (c.in-Ok-read_tree.ensures.read files (c.in-Ok.ensures.content ∙ told)).clean) c.in-Err-read_tree-2.stop
+    (stops_since content (g.T.Trees.content c.read_tree-2.new.trees) before (g.T.Trees.faults c.read_tree-2.new.trees) after trees.New roots.new
+        (c.in-Ok-read_tree.ensures.content ∙ c.in-Ok.ensures.content)
+        (λ r. omega (arith, c.in-Ok.ensures.never_falls r, c.in-Ok-read_tree.ensures.never_falls r)) c.in-Err-read_tree-2.stop c.in-Err-read_tree-2.ensures.stopped)

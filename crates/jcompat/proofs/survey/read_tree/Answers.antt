@@ -1,18 +1,31 @@
-use Rattle.std.proofs.Common.{◌∙◌, rules, arith}
-use Rattle.jcompat.proofs.TreeRead.{heads_are, rising_heads, stops_in, rose_since}
+use Rattle.std.proofs.Common.{◌≡◌, ◌∙◌, refl, rules, arith, length, ◌≤◌, ◌<◌, false, true, sym}
+use Rattle.std.specs.Prelude.{nat_lt}
+use Rattle.std.specs.List.{list_any}
+use Rattle.jcompat.proofs.TreeRead.{heads_are, rising_heads, long_path, stops_in, rose_since}
 use Rattle.jcompat.proofs.survey.read_tree.Goals as goal
 
 pub returns-in-Ok-read_all-clause-read : goal.returns-in-Ok-read_all-clause-read
 returns-in-Ok-read_all-clause-read g c = λ files told.
-    heads_are files _ _ _ _ (c.in-Ok.ensures.exact files told) ((rw c.as_slice.ensures.value at c.in-Ok-read_all.ensures.read) files (c.in-Ok.ensures.content ∙ told))
-    (rw c.as_slice.ensures.value at c.in-Ok-read_all.ensures.named)
+    let few : length c.in-Ok.paths.items ≤ 40000 = search rules in
+    let short : list_any (λ p. nat_lt 4096 (length p)) c.in-Ok.paths.items ≡ false = search rules in
+    heads_are files _ _ _ _ (c.in-Ok.ensures.exact files told) few short
+    ((rw c.as_slice-2.ensures.value at c.in-Ok-read_all.ensures.read) files (c.in-Ok.ensures.content ∙ told))
+    (rw c.as_slice-2.ensures.value at c.in-Ok-read_all.ensures.named)
 
 pub returns-in-Ok-read_all-clause-rising : goal.returns-in-Ok-read_all-clause-rising
-returns-in-Ok-read_all-clause-rising g c = rising_heads _ _ (rw c.as_slice.ensures.value at c.in-Ok-read_all.ensures.named) c.in-Ok.ensures.rising
+returns-in-Ok-read_all-clause-rising g c = rising_heads _ _ (rw c.as_slice-2.ensures.value at c.in-Ok-read_all.ensures.named) c.in-Ok.ensures.rising
 
 pub returns-clause-stopped : goal.returns-clause-stopped
 returns-clause-stopped g c =
+    let few : length c.in-Ok.paths.items ≤ 40000 = search rules in
+    let short : list_any (λ p. nat_lt 4096 (length p)) c.in-Ok.paths.items ≡ false = search rules in
     stops_in (g.T.Trees.content c.args.trees.now) (g.T.Trees.faults c.args.trees.now) (g.T.Trees.faults c.class_paths.new.trees) (g.T.Trees.faults c.read_all.new.trees)
-    c.args.tree c.args.root.now c.in-Ok.paths.items c.in-Ok.ensures.exact
+    c.args.tree c.args.root.now c.in-Ok.paths.items c.in-Ok.ensures.exact few short
     (rose_since _ _ _ (c.in-Ok.ensures.never_falls c.args.root.now))
-    c.in-Err-read_all.stop (rw (c.as_slice.ensures.value, c.in-Ok.ensures.content) at c.in-Err-read_all.ensures.stopped)
+    c.in-Err-read_all.stop (rw (c.as_slice-2.ensures.value, c.in-Ok.ensures.content) at c.in-Err-read_all.ensures.stopped)
+
+pub returns-then-has_long_path-clause-stopped : goal.returns-then-has_long_path-clause-stopped
+returns-then-has_long_path-clause-stopped g c =
+    let few : length c.in-Ok.paths.items ≤ 40000 = search rules in
+    let long : list_any (λ p. nat_lt 4096 (length p)) c.in-Ok.paths.items ≡ true = search rules in
+    (refl, λ files told. let are = c.in-Ok.ensures.exact files told in (record { paths = c.in-Ok.paths.items; are = are; few = few }, long_path files _ _ are long))
