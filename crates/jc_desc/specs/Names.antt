@@ -52,6 +52,7 @@ is_init name = bytes_eq name (codes "<init>")
 abbrev pub is_clinit : List ℕ → Bool
 is_clinit name = bytes_eq name (codes "<clinit>")
 
+-- either of them
 abbrev pub is_initializer : List ℕ → Bool
 is_initializer name = is_init name || is_clinit name
 

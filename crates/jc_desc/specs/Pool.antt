@@ -47,10 +47,11 @@ is_wide tag = tag == tags.long || tag == tags.double
 abbrev pub short_in : ℕ → List ℕ → ℕ
 short_in i body = if nat_lt (length body) (i + 2) then 0 else big_number 2 (drop i body)
 
--- the two indices of an entry
+-- the first index of an entry
 abbrev pub first : Slot → ℕ
 first s = short_in 0 s.body
 
+-- the second index of an entry
 abbrev pub second : Slot → ℕ
 second s = short_in 2 s.body
 
@@ -66,10 +67,11 @@ holds slots tag i = (at slots i).tag == tag
 abbrev pub text_of : List Slot → Slot → List ℕ
 text_of slots s = (at slots (first s)).body
 
--- name and descriptor of a NameAndType
+-- the name of a NameAndType
 abbrev pub name_of : List Slot → Slot → List ℕ
 name_of slots s = (at slots (first s)).body
 
+-- the descriptor of a NameAndType
 abbrev pub descriptor_of : List Slot → Slot → List ℕ
 descriptor_of slots s = (at slots (second s)).body
 
@@ -77,18 +79,21 @@ descriptor_of slots s = (at slots (second s)).body
 abbrev pub pair_of : List Slot → Slot → Slot
 pair_of slots s = at slots (second s)
 
--- the kind of a MethodHandle, and the index of the member that it uses
+-- the kind of a MethodHandle
 abbrev pub kind_of : Slot → ℕ
 kind_of s = get_or s.body 0 0
 
+-- the index of the member that a MethodHandle uses
 abbrev pub target_of : Slot → ℕ
 target_of s = short_in 1 s.body
 
 -- ---- what is asked of an entry's indices
 
+-- the entries whose one index is that of a Utf8
 abbrev pub names_one_text : ℕ → Bool
 names_one_text tag = tag == tags.class || tag == tags.string || tag == tags.method_type || tag == tags.module_name || tag == tags.package_name
 
+-- a Fieldref, Methodref or InterfaceMethodref
 abbrev pub is_member_ref : ℕ → Bool
 is_member_ref tag = tag == tags.field_ref || tag == tags.method_ref || tag == tags.interface_method_ref
 
@@ -103,9 +108,11 @@ refers slots s =
 
 -- ---- what is asked of names, descriptors and handles
 
+-- the descriptor of a field
 abbrev pub is_field : List ℕ → Bool
 is_field bytes = is_some (field_of bytes)
 
+-- the descriptor of a method
 abbrev pub is_method : List ℕ → Bool
 is_method bytes = is_some (method_of bytes)
 

@@ -29,6 +29,7 @@ pub record MemberRefOf : Type 0 where
   pub name : List ℕ
   pub descriptor : List ℕ
 
+-- the member that this entry names
 abbrev pub member_of : List Slot → Slot → MemberRefOf
 member_of slots s = record {
   tag = s.tag;
@@ -37,6 +38,7 @@ member_of slots s = record {
   descriptor = descriptor_of slots (pair_of slots s);
 }
 
+-- the member of a Fieldref, Methodref or InterfaceMethodref
 abbrev pub member_ref_in : PoolOf → ℕ → Option MemberRefOf
 member_ref_in pool i = some_if (is_member_ref (at pool.slots i).tag) (member_of pool.slots (at pool.slots i))
 
@@ -45,6 +47,7 @@ pub record HandleRefOf : Type 0 where
   pub kind : ℕ
   pub member : MemberRefOf
 
+-- the use of a member by a MethodHandle
 abbrev pub handle_in : PoolOf → ℕ → Option HandleRefOf
 handle_in pool i = some_if (holds pool.slots tags.method_handle i) (record { kind = kind_of (at pool.slots i); member = member_of pool.slots (at pool.slots (target_of (at pool.slots i))) })
 
@@ -60,13 +63,15 @@ pub data ConstantOf : Type 0 where
   double : ℕ → ConstantOf
   text : List ℕ → ConstantOf
 
--- the number of four bytes, and of eight
+-- the number of four bytes
 abbrev pub word_in : List ℕ → ℕ
 word_in body = if nat_lt (length body) 4 then 0 else big_number 4 body
 
+-- the number of eight bytes
 abbrev pub double_word_in : List ℕ → ℕ
 double_word_in body = if nat_lt (length body) 8 then 0 else big_number 8 body
 
+-- the constant of an entry
 abbrev pub constant_of : List Slot → Slot → Option ConstantOf
 constant_of slots s =
     if s.tag == tags.integer then Some (int (word_in s.body))
@@ -76,5 +81,6 @@ constant_of slots s =
     else if s.tag == tags.string then Some (text (text_of slots s))
     else None
 
+-- the constant of an Integer, Float, Long, Double or String
 abbrev pub constant_in : PoolOf → ℕ → Option ConstantOf
 constant_in pool i = constant_of pool.slots (at pool.slots i)

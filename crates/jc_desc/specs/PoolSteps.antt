@@ -65,17 +65,21 @@ abbrev pub want : Bool → Reason → Option Reason → Option Reason
 want true reason next = next
 want false reason next = Some reason
 
+-- of the name of a Class
 abbrev pub class_fault : List ℕ → Option Reason
 class_fault text = want (is_class_name text || is_array text) reasons.BadName None
 
+-- of name and descriptor of a NameAndType
 abbrev pub pair_fault : List ℕ → List ℕ → Option Reason
 pair_fault name descriptor =
     want (is_member_name name false || is_member_name name true) reasons.BadName
     (want (is_field descriptor || is_method descriptor) reasons.BadDescriptor None)
 
+-- of the descriptor of a field
 abbrev pub field_fault : List ℕ → Option Reason
 field_fault descriptor = want (is_field descriptor) reasons.BadDescriptor None
 
+-- of the descriptor of a method
 abbrev pub shape_fault : List ℕ → Option Reason
 shape_fault descriptor = want (is_method descriptor) reasons.BadDescriptor None
 
@@ -111,9 +115,11 @@ abbrev pub stands : Slot → Option Reason → Option Fault
 stands s None = None
 stands s (Some reason) = Some (record { left = s.left; reason = reason })
 
+-- an index that does not hold an entry of its kind
 abbrev pub reference_fault : List Slot → Slot → Option Fault
 reference_fault slots s = stands s (want (refers slots s) reasons.BadIndex None)
 
+-- a name, descriptor or handle that is not of its form
 abbrev pub sense_fault : List Slot → Slot → Option Fault
 sense_fault slots s = stands s (meaning_fault slots s)
 
@@ -123,6 +129,7 @@ links_fault slots = or_fault (first_fault (reference_fault slots) slots) (first_
 
 -- ---- the whole of it
 
+-- the pool of these entries, if what they name has no fault
 abbrev pub linked : ℕ → List Slot → List ℕ → Result (PoolOf × List ℕ) Fault
 linked major slots rest = unless (links_fault slots) (Ok (record { major = major; slots = slots }, rest))
 

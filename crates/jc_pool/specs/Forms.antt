@@ -6,6 +6,7 @@ use Rattle.jc_desc.specs.Pool.{is_class_text, is_field, is_method, no_result}
 use Rattle.jc_desc.specs.Reading.{method_of}
 use Rattle.jc_pool.specs.declared.forms.Forms.{Forms}
 
+-- of a text
 abbrev pub forms_in : List ℕ → Forms
 forms_in text = record {
   class = is_class_text text;
@@ -21,5 +22,6 @@ forms_in text = record {
 abbrev pub forms_at : pool.Slot → Forms
 forms_at s = forms_in s.body
 
+-- of what each index holds
 abbrev pub all_forms : List pool.Slot → List Forms
 all_forms = map forms_at

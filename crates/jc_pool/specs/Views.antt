@@ -9,12 +9,15 @@ use Rattle.jc_pool.specs.declared.pool.PoolConstant.TheVariants as constants
 use Rattle.jc_pool.specs.declared.pool.PoolError.{PoolError}
 use Rattle.jc_pool.specs.declared.pool.PoolError.TheVariants as errors
 
+-- a member that is referred to
 abbrev pub member_view : MemberRef → MemberRefOf
 member_view m = record { tag = m.tag; class = m.class.now; name = m.name.now; descriptor = m.descriptor.now }
 
+-- a use of a member
 abbrev pub handle_view : HandleRef → HandleRefOf
 handle_view h = record { kind = h.kind; member = member_view h.member }
 
+-- a constant
 abbrev pub constant_view : PoolConstant → ConstantOf
 constant_view (constants.Int n) = int n
 constant_view (constants.Float n) = float n

@@ -49,7 +49,7 @@ pub enum PoolError {
 }
 
 /// A reference to a member. The tag is `FIELD_REF`, `METHOD_REF` or `INTERFACE_METHOD_REF`.
-#[derive(Clone, Copy, Debug)]
+#[derive(Clone, Copy, Debug, PartialEq, Eq)]
 pub struct MemberRef<'a> {
     pub tag: u8,
     pub class: &'a [u8],
@@ -58,14 +58,14 @@ pub struct MemberRef<'a> {
 }
 
 /// A use of a member by a MethodHandle, of a kind from 1 to 9 (JVMS 4.4.8).
-#[derive(Clone, Copy, Debug)]
+#[derive(Clone, Copy, Debug, PartialEq, Eq)]
 pub struct HandleRef<'a> {
     pub kind: u8,
     pub member: MemberRef<'a>,
 }
 
 /// A constant. Numbers are bit patterns; a text is modified UTF-8.
-#[derive(Clone, Copy, Debug)]
+#[derive(Clone, Copy, Debug, PartialEq, Eq)]
 pub enum PoolConstant<'a> {
     Int(u32),
     Float(u32),

@@ -1,6 +1,6 @@
 //! Pools byte by byte, by the steps of reading and JVMS 4.4.
-use crate::pool::{Pool, PoolConstant, PoolError};
-use crate::{Malformed, Reason};
+use crate::pool::{HandleRef, MemberRef, Pool, PoolConstant, PoolError};
+use crate::{Malformed, Reason, tags};
 use std::alloc::{AllocError, Global};
 use std::test::Fail;
 
@@ -390,23 +390,50 @@ fn entries_answer_by_their_kind(rt: HostRuntime) -> Result<(), Fail> {
     )?;
     assert!(rt; bytes.len() < 200);
     let (pool, _) = Pool::read(rt.alloc(), &bytes)?;
-    let method = pool.member_ref(16).ok_or("a method")?;
-    assert_eq!(rt; method.tag, 11);
-    assert_eq!(rt; method.class, b"A".as_slice());
-    assert_eq!(rt; method.name, b"m".as_slice());
-    assert_eq!(rt; method.descriptor, b"()V".as_slice());
-    assert!(rt; pool.member_ref(5).is_none());
-    assert!(rt; matches!(pool.constant(18), Some(PoolConstant::Long(0x1_0000_0002))));
-    assert_eq!(rt; pool.tag(19), None);
-    let handle = pool.handle(20).ok_or("a handle")?;
-    assert_eq!(rt; handle.kind, 8);
-    assert_eq!(rt; handle.member.name, b"<init>".as_slice());
-    assert!(rt; pool.handle(18).is_none());
-    assert_eq!(rt; pool.dynamic(21), Some(7));
-    assert_eq!(rt; pool.dynamic(20), None);
-    assert!(rt; matches!(pool.constant(22), Some(PoolConstant::Int(64))));
-    assert!(rt; matches!(pool.constant(23), Some(PoolConstant::Text(b"m"))));
-    assert!(rt; matches!(pool.constant(24), Some(PoolConstant::Float(0x3f80_0000))));
-    assert!(rt; pool.constant(1).is_none());
+    for (index, tag, dynamic, constant) in [
+        (1, Some(1), None, None),
+        (18, Some(5), None, Some(PoolConstant::Long(0x1_0000_0002))),
+        (19, None, None, None),
+        (20, Some(15), None, None),
+        (21, Some(18), Some(7), None),
+        (22, Some(3), None, Some(PoolConstant::Int(64))),
+        (23, Some(8), None, Some(PoolConstant::Text(b"m"))),
+        (24, Some(4), None, Some(PoolConstant::Float(0x3f80_0000))),
+        (25, None, None, None),
+    ] {
+        assert_eq!(rt; pool.tag(index), tag, "tag of {index}");
+        assert_eq!(rt; pool.dynamic(index), dynamic, "bootstrap of {index}");
+        assert_eq!(rt; pool.constant(index), constant, "constant of {index}");
+    }
+    Ok(())
+}
+
+#[test]
+fn members_and_handles(rt: HostRuntime) -> Result<(), Fail> {
+    let bytes = with_entries(rt.alloc(), 19, b"\x0f\x08\x00\x0f")?;
+    assert!(rt; bytes.len() < 200);
+    let (pool, _) = Pool::read(rt.alloc(), &bytes)?;
+    let method = MemberRef {
+        tag: tags::INTERFACE_METHOD_REF,
+        class: b"A",
+        name: b"m",
+        descriptor: b"()V",
+    };
+    let constructor = MemberRef {
+        tag: tags::METHOD_REF,
+        class: b"A",
+        name: b"<init>",
+        descriptor: b"()V",
+    };
+    assert_eq!(rt; pool.member_ref(16), Some(method));
+    assert_eq!(rt; pool.member_ref(18), None);
+    assert_eq!(rt;
+        pool.handle(18),
+        Some(HandleRef {
+            kind: 8,
+            member: constructor
+        })
+    );
+    assert_eq!(rt; pool.handle(16), None);
     Ok(())
 }
