@@ -28,7 +28,6 @@ member_good method pool class seen bytes h rest new f after r e n t a m =
     let k : has_key (key_of h) seen ≡ false = new_key new (has_key (key_of h) seen) n t in
     rw (e, k, a, m) refl
 
-
 pub step_keys : (front : List ReadMember) (x : ReadMember) → read_keys (front ++ x ∷ []) ≡ read_keys front ++ key_of x.member ∷ []
 step_keys front x = map_push (λ (r : ReadMember). key_of r.member) front x
 

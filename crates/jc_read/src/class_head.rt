@@ -31,16 +31,25 @@ fn superclass_at<'a>(
 {
     if index == 0 {
         if !object {
-            return Err(Fault { left, reason: Reason::BadIndex });
+            return Err(Fault {
+                left,
+                reason: Reason::BadIndex,
+            });
         }
         return Ok(None);
     }
     if object {
-        return Err(Fault { left, reason: Reason::BadIndex });
+        return Err(Fault {
+            left,
+            reason: Reason::BadIndex,
+        });
     }
     let name = plain_class(pool, left, index)?;
     if interface && !is_object(name) {
-        return Err(Fault { left, reason: Reason::BadName });
+        return Err(Fault {
+            left,
+            reason: Reason::BadName,
+        });
     }
     Ok(Some(name))
 }
@@ -54,11 +63,27 @@ pub(crate) fn head_at<'a, 'b>(
 {
     let (flags, after_flags) = u16_at(bytes)?;
     if !are_class_flags(pool.major(), flags) {
-        return Err(Fault { left: bytes.len(), reason: Reason::BadFlags });
+        return Err(Fault {
+            left: bytes.len(),
+            reason: Reason::BadFlags,
+        });
     }
     let (this, after_this) = u16_at(after_flags)?;
     let name = plain_class(pool, after_flags.len(), this)?;
     let (index, rest) = u16_at(after_this)?;
-    let superclass = superclass_at(pool, after_this.len(), is_object(name), is_interface(flags), index)?;
-    Ok((ClassHead { flags, name, superclass }, rest))
+    let superclass = superclass_at(
+        pool,
+        after_this.len(),
+        is_object(name),
+        is_interface(flags),
+        index,
+    )?;
+    Ok((
+        ClassHead {
+            flags,
+            name,
+            superclass,
+        },
+        rest,
+    ))
 }

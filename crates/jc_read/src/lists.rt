@@ -34,7 +34,10 @@ fn add_constant(
         None => Ok(()),
         Some(value) => {
             if is_static(member.flags) {
-                constants.push(Fixed { key: key(alloc, member)?, value })?;
+                constants.push(Fixed {
+                    key: key(alloc, member)?,
+                    value,
+                })?;
             }
             Ok(())
         }
@@ -52,7 +55,10 @@ fn add_signature(
     match signature {
         None => Ok(()),
         Some(text) => {
-            signatures.push(Signed { key: Some(key(alloc, member)?), text })?;
+            signatures.push(Signed {
+                key: Some(key(alloc, member)?),
+                text,
+            })?;
             Ok(())
         }
     }
@@ -72,7 +78,10 @@ pub(crate) fn split(
     let mut members = Vec::new(alloc);
     for read in reads {
         let ReadMember { member, found } = read;
-        let OnMember { constant, signature } = found;
+        let OnMember {
+            constant,
+            signature,
+        } = found;
         add_constant(alloc, constants, &member, constant)?;
         add_signature(alloc, signatures, &member, signature)?;
         members.push(member)?;

@@ -16,7 +16,9 @@ use jc_desc::fault::{Fault, Reason};
 use jc_desc::names::is_member_name;
 use jc_facts::class_facts::Member;
 use jc_facts::key_set::{KeyRef, put};
-use jc_facts::rules::{are_field_flags, are_method_flags, is_field_descriptor, is_method_descriptor};
+use jc_facts::rules::{
+    are_field_flags, are_method_flags, is_field_descriptor, is_method_descriptor,
+};
 use jc_pool::pool::Pool;
 use std::alloc::{AllocError, Global};
 use std::collections::BTreeSet;
@@ -39,13 +41,21 @@ pub(crate) struct ReadMember {
 fn is_descriptor(method: bool, name: &[u8], flags: u16, descriptor: &[u8]) -> bool
     ensures { result ≡ descriptor_fits method name.now flags descriptor.now }
 {
-    if method { is_method_descriptor(name, flags, descriptor) } else { is_field_descriptor(descriptor) }
+    if method {
+        is_method_descriptor(name, flags, descriptor)
+    } else {
+        is_field_descriptor(descriptor)
+    }
 }
 
 fn are_flags(method: bool, major: u16, class: u16, name: &[u8], flags: u16) -> bool
     ensures { result ≡ flags_fit method major class name.now flags }
 {
-    if method { are_method_flags(major, class, name, flags) } else { are_field_flags(class, flags) }
+    if method {
+        are_method_flags(major, class, name, flags)
+    } else {
+        are_field_flags(class, flags)
+    }
 }
 
 #[tactic(auto, unfolding(jc_facts::specs::ClassSteps::member_head_at))]
@@ -61,21 +71,43 @@ fn member_head_at<'a, 'b>(
     let (first, after_first) = u16_at(after_flags)?;
     let (second, rest) = u16_at(after_first)?;
     let Some(name) = pool.utf8(first) else {
-        return Err(Fault { left: after_flags.len(), reason: Reason::BadIndex });
+        return Err(Fault {
+            left: after_flags.len(),
+            reason: Reason::BadIndex,
+        });
     };
     if !is_member_name(name, method) {
-        return Err(Fault { left: after_flags.len(), reason: Reason::BadName });
+        return Err(Fault {
+            left: after_flags.len(),
+            reason: Reason::BadName,
+        });
     }
     let Some(descriptor) = pool.utf8(second) else {
-        return Err(Fault { left: after_first.len(), reason: Reason::BadIndex });
+        return Err(Fault {
+            left: after_first.len(),
+            reason: Reason::BadIndex,
+        });
     };
     if !is_descriptor(method, name, flags, descriptor) {
-        return Err(Fault { left: after_first.len(), reason: Reason::BadDescriptor });
+        return Err(Fault {
+            left: after_first.len(),
+            reason: Reason::BadDescriptor,
+        });
     }
     if !are_flags(method, pool.major(), class, name, flags) {
-        return Err(Fault { left: bytes.len(), reason: Reason::BadFlags });
+        return Err(Fault {
+            left: bytes.len(),
+            reason: Reason::BadFlags,
+        });
     }
-    Ok((MemberHead { name, descriptor, flags }, rest))
+    Ok((
+        MemberHead {
+            name,
+            descriptor,
+            flags,
+        },
+        rest,
+    ))
 }
 
 fn made(alloc: Global, head: MemberHead<'_>, found: OnMember) -> Result<ReadMember, AllocError>
@@ -107,7 +139,10 @@ fn member_at<'a, 'b>(
         Err(fault) => return Ok(Err(fault)),
     };
     if !put(keys, KeyRef::new(head.name, head.descriptor))? {
-        return Ok(Err(Fault { left: bytes.len(), reason: Reason::Duplicate }));
+        return Ok(Err(Fault {
+            left: bytes.len(),
+            reason: Reason::Duplicate,
+        }));
     }
     let (found, rest) = match on_member(alloc, method, pool, rest)? {
         Ok(read) => read,

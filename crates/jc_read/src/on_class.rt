@@ -160,7 +160,10 @@ fn some_on_class<'b>(
         };
         found = match take_on_class(alloc, pool, found, attribute)? {
             Some(next) => next,
-            None => return Ok(Err(Fault { left: rest.len(), reason: Reason::BadAttribute })),
+            None => return Ok(Err(Fault {
+                left: rest.len(),
+                reason: Reason::BadAttribute,
+            })),
         };
         rest = after;
     }

@@ -36,7 +36,10 @@ fn with_constant(
     }
     match constant_value(alloc, pool, body)? {
         None => Ok(None),
-        Some(value) => Ok(Some(OnMember { constant: Some(value), signature: found.signature })),
+        Some(value) => Ok(Some(OnMember {
+            constant: Some(value),
+            signature: found.signature,
+        })),
     }
 }
 
@@ -53,7 +56,10 @@ fn with_signature(
     }
     match signature(alloc, pool, body)? {
         None => Ok(None),
-        Some(text) => Ok(Some(OnMember { constant: found.constant, signature: Some(text) })),
+        Some(text) => Ok(Some(OnMember {
+            constant: found.constant,
+            signature: Some(text),
+        })),
     }
 }
 
@@ -86,7 +92,10 @@ fn some_on_member<'b>(
 ) -> Result<Result<(OnMember, &'b [u8]), Fault>, AllocError>
     ensures { IfOk result (λ r. result_map_both (λ x. (on_member_view x.0, x.1.now)) (λ e. e) r ≡ attributes_at (member_takes method pool.now) pool.now count nothing_on_member bytes.now) }
 {
-    let mut found = OnMember { constant: None, signature: None };
+    let mut found = OnMember {
+        constant: None,
+        signature: None,
+    };
     let mut rest = bytes;
     for _ in 0..count {
         let (attribute, after) = match attribute_at(pool, rest) {
@@ -95,7 +104,10 @@ fn some_on_member<'b>(
         };
         found = match take_on_member(alloc, method, pool, found, attribute)? {
             Some(next) => next,
-            None => return Ok(Err(Fault { left: rest.len(), reason: Reason::BadAttribute })),
+            None => return Ok(Err(Fault {
+                left: rest.len(),
+                reason: Reason::BadAttribute,
+            })),
         };
         rest = after;
     }

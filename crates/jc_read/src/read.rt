@@ -42,10 +42,7 @@ fn superclass(alloc: Global, name: Option<&[u8]>) -> Result<Option<Name>, AllocE
     }
 }
 
-fn add_class(
-    signatures: &mut Vec<Signed>,
-    signature: Option<Name>,
-) -> Result<(), AllocError>
+fn add_class(signatures: &mut Vec<Signed>, signature: Option<Name>) -> Result<(), AllocError>
     ensures { OnOk result (signatures.new.items ≡ signatures.old.items ++ signed_of None signature) }
 {
     match signature {
@@ -73,7 +70,12 @@ fn record(
     let mut signatures = Vec::new(alloc);
     let fields = split(alloc, fields, &mut constants, &mut signatures)?;
     let methods = split(alloc, methods, &mut none, &mut signatures)?;
-    let OnClass { permits, nest_host, nest_members, signature } = found;
+    let OnClass {
+        permits,
+        nest_host,
+        nest_members,
+        signature,
+    } = found;
     add_class(&mut signatures, signature)?;
     Ok(ClassFacts {
         name: Name::from_bytes(alloc, head.name)?,
@@ -120,9 +122,20 @@ fn read(alloc: Global, bytes: &[u8]) -> Result<Result<ClassFacts, Fault>, AllocE
         Err(fault) => return Ok(Err(fault)),
     };
     if !rest.is_empty() {
-        return Ok(Err(Fault { left: rest.len(), reason: Reason::Trailing }));
+        return Ok(Err(Fault {
+            left: rest.len(),
+            reason: Reason::Trailing,
+        }));
     }
-    Ok(Ok(record(alloc, pool.major(), head, interfaces, fields, methods, found)?))
+    Ok(Ok(record(
+        alloc,
+        pool.major(),
+        head,
+        interfaces,
+        fields,
+        methods,
+        found,
+    )?))
 }
 
 /// Why a class file isn't read.

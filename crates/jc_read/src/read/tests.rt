@@ -26,39 +26,161 @@ type Row = (&'static str, &'static [Edit], Option<(u32, Reason)>);
 
 const PLAIN_ROWS: &[Row] = &[
     ("nothing", &[], None),
-    ("a byte too many", &[(55, 0, b"\0")], Some((55, Reason::Trailing))),
-    ("the last byte missing", &[(54, 1, b"")], Some((54, Reason::Short))),
+    (
+        "a byte too many",
+        &[(55, 0, b"\0")],
+        Some((55, Reason::Trailing)),
+    ),
+    (
+        "the last byte missing",
+        &[(54, 1, b"")],
+        Some((54, Reason::Short)),
+    ),
     ("the magic", &[(0, 1, b"\0")], Some((0, Reason::BadMagic))),
-    ("major 62", &[(7, 1, b"\x3e")], Some((4, Reason::BadVersion))),
-    ("an entry of tag 2", &[(19, 1, b"\x02")], Some((19, Reason::BadTag))),
-    ("a byte that begins no character", &[(16, 1, b"\x80")], Some((13, Reason::BadUtf8))),
-    ("a dot in the name", &[(18, 1, b".")], Some((10, Reason::BadName))),
-    ("this_class is a Utf8", &[(44, 1, b"\x02")], Some((43, Reason::BadIndex))),
-    ("final and abstract", &[(41, 2, b"\x04\x30")], Some((41, Reason::BadFlags))),
-    ("half of the flags", &[(41, 14, b"\x04")], Some((42, Reason::Short))),
-    ("a module", &[(41, 2, b"\x80\x00")], Some((41, Reason::BadFlags))),
-    ("an interface that extends p/A", &[(41, 2, b"\x06\x01"), (46, 1, b"\x01")], Some((45, Reason::BadName))),
-    ("no superclass", &[(46, 1, b"\0")], Some((45, Reason::BadIndex))),
-    ("an interface of index 2", &[(48, 1, b"\x01\0\x02")], Some((49, Reason::BadIndex))),
-    ("too few permitted names", &[(7, 1, b"\x3d"), (9, 1, b"\x06"), (41, 0, b"\x01\0\x13PermittedSubclasses"), (54, 1, b"\x01\0\x05\0\0\0\x03\0\x01\0")], Some((77, Reason::BadAttribute))),
-    ("the same below major 61", &[(7, 1, b"\x3c"), (9, 1, b"\x06"), (41, 0, b"\x01\0\x13PermittedSubclasses"), (54, 1, b"\x01\0\x05\0\0\0\x03\0\x01\0")], None),
-    ("permitted names twice", &[(7, 1, b"\x3d"), (9, 1, b"\x06"), (41, 0, b"\x01\0\x13PermittedSubclasses"), (54, 1, b"\x02\0\x05\0\0\0\x04\0\x01\0\x01\0\x05\0\0\0\x04\0\x01\0\x01")], Some((87, Reason::BadAttribute))),
+    (
+        "major 62",
+        &[(7, 1, b"\x3e")],
+        Some((4, Reason::BadVersion)),
+    ),
+    (
+        "an entry of tag 2",
+        &[(19, 1, b"\x02")],
+        Some((19, Reason::BadTag)),
+    ),
+    (
+        "a byte that begins no character",
+        &[(16, 1, b"\x80")],
+        Some((13, Reason::BadUtf8)),
+    ),
+    (
+        "a dot in the name",
+        &[(18, 1, b".")],
+        Some((10, Reason::BadName)),
+    ),
+    (
+        "this_class is a Utf8",
+        &[(44, 1, b"\x02")],
+        Some((43, Reason::BadIndex)),
+    ),
+    (
+        "final and abstract",
+        &[(41, 2, b"\x04\x30")],
+        Some((41, Reason::BadFlags)),
+    ),
+    (
+        "half of the flags",
+        &[(41, 14, b"\x04")],
+        Some((42, Reason::Short)),
+    ),
+    (
+        "a module",
+        &[(41, 2, b"\x80\x00")],
+        Some((41, Reason::BadFlags)),
+    ),
+    (
+        "an interface that extends p/A",
+        &[(41, 2, b"\x06\x01"), (46, 1, b"\x01")],
+        Some((45, Reason::BadName)),
+    ),
+    (
+        "no superclass",
+        &[(46, 1, b"\0")],
+        Some((45, Reason::BadIndex)),
+    ),
+    (
+        "an interface of index 2",
+        &[(48, 1, b"\x01\0\x02")],
+        Some((49, Reason::BadIndex)),
+    ),
+    (
+        "too few permitted names",
+        &[
+            (7, 1, b"\x3d"),
+            (9, 1, b"\x06"),
+            (41, 0, b"\x01\0\x13PermittedSubclasses"),
+            (54, 1, b"\x01\0\x05\0\0\0\x03\0\x01\0"),
+        ],
+        Some((77, Reason::BadAttribute)),
+    ),
+    (
+        "the same below major 61",
+        &[
+            (7, 1, b"\x3c"),
+            (9, 1, b"\x06"),
+            (41, 0, b"\x01\0\x13PermittedSubclasses"),
+            (54, 1, b"\x01\0\x05\0\0\0\x03\0\x01\0"),
+        ],
+        None,
+    ),
+    (
+        "permitted names twice",
+        &[
+            (7, 1, b"\x3d"),
+            (9, 1, b"\x06"),
+            (41, 0, b"\x01\0\x13PermittedSubclasses"),
+            (
+                54,
+                1,
+                b"\x02\0\x05\0\0\0\x04\0\x01\0\x01\0\x05\0\0\0\x04\0\x01\0\x01",
+            ),
+        ],
+        Some((87, Reason::BadAttribute)),
+    ),
 ];
 
 const USER_ROWS: &[Row] = &[
     ("nothing", &[], None),
-    ("no descriptor", &[(52, 1, b"X")], Some((76, Reason::BadDescriptor))),
-    ("the method twice", &[(71, 1, b"\x02"), (99, 0, b"\0\x09\0\x05\0\x06\0\x01\0\x07\0\0\0\x0d\0\0\0\0\0\0\0\x01\xb1\0\0\0\0")], Some((99, Reason::Duplicate))),
-    ("public and private", &[(73, 1, b"\x03")], Some((72, Reason::BadFlags))),
-    ("the name's index is a Class", &[(75, 1, b"\x01")], Some((74, Reason::BadIndex))),
+    (
+        "no descriptor",
+        &[(52, 1, b"X")],
+        Some((76, Reason::BadDescriptor)),
+    ),
+    (
+        "the method twice",
+        &[
+            (71, 1, b"\x02"),
+            (
+                99,
+                0,
+                b"\0\x09\0\x05\0\x06\0\x01\0\x07\0\0\0\x0d\0\0\0\0\0\0\0\x01\xb1\0\0\0\0",
+            ),
+        ],
+        Some((99, Reason::Duplicate)),
+    ),
+    (
+        "public and private",
+        &[(73, 1, b"\x03")],
+        Some((72, Reason::BadFlags)),
+    ),
+    (
+        "the name's index is a Class",
+        &[(75, 1, b"\x01")],
+        Some((74, Reason::BadIndex)),
+    ),
 ];
 
 const HOLDER_ROWS: &[Row] = &[
     ("nothing", &[], None),
-    ("a field that isn't static in an interface", &[(82, 2, b"\x06\x01"), (92, 2, b"\0\x11")], Some((92, Reason::BadFlags))),
-    ("a constant of a Class", &[(107, 1, b"\x01")], Some((100, Reason::BadAttribute))),
-    ("a constant a byte too long", &[(105, 1, b"\x03"), (108, 0, b"\0")], Some((100, Reason::BadAttribute))),
-    ("a signature of a Class", &[(115, 1, b"\x01")], Some((108, Reason::BadAttribute))),
+    (
+        "a field that isn't static in an interface",
+        &[(82, 2, b"\x06\x01"), (92, 2, b"\0\x11")],
+        Some((92, Reason::BadFlags)),
+    ),
+    (
+        "a constant of a Class",
+        &[(107, 1, b"\x01")],
+        Some((100, Reason::BadAttribute)),
+    ),
+    (
+        "a constant a byte too long",
+        &[(105, 1, b"\x03"), (108, 0, b"\0")],
+        Some((100, Reason::BadAttribute)),
+    ),
+    (
+        "a signature of a Class",
+        &[(115, 1, b"\x01")],
+        Some((108, Reason::BadAttribute)),
+    ),
 ];
 
 fn changed(alloc: Global, bytes: &[u8], edits: &[Edit]) -> Result<Vec<u8>, AllocError> {

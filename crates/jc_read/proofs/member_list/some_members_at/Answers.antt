@@ -20,9 +20,10 @@ loop-preserved c =
     let front : List files.ReadMember = members_view c.loop.reads.items in
     let x : files.ReadMember = member_view c.in-Ok.member.0 in
     let e = rw c.in-Ok.is at (c.in_ok-member.ensures (read_keys front) c.loop.invariant.0) in
-    rw (c.in_ok-push.ensures.items, map_push member_view c.loop.reads.items c.in-Ok.member.0)
-    (subst (λ (ks : List Key). Holds c.member_at.new.keys ks) (sym (step_keys front x)) e.1,
-    members_step c.args.method c.args.pool.now c.args.class front (c.args.count - c.loop.counter) (c.args.count - (c.loop.counter + 1)) c.loop.rest.now x c.in-Ok.member.1.now (members_at c.args.method c.args.pool.now c.args.class [] c.args.count c.args.bytes.now) (omega arith) (sym e.0) c.loop.invariant.1)
+    rw (c.in_ok-push.ensures.items, map_push member_view c.loop.reads.items c.in-Ok.member.0) (
+      subst (λ (ks : List Key). Holds c.member_at.new.keys ks) (sym (step_keys front x)) e.1,
+      members_step c.args.method c.args.pool.now c.args.class front (c.args.count - c.loop.counter) (c.args.count - (c.loop.counter + 1)) c.loop.rest.now x c.in-Ok.member.1.now (members_at c.args.method c.args.pool.now c.args.class [] c.args.count c.args.bytes.now) (omega arith) (sym e.0) c.loop.invariant.1,
+    )
 
 pub returns : goal.returns
 returns c =
