@@ -164,3 +164,6 @@ pub fn read_class(alloc: Global, bytes: &[u8]) -> Result<ClassFacts, ReadError>
         Err(_) => Err(ReadError::Memory),
     }
 }
+
+#[cfg(test)]
+mod tests;
