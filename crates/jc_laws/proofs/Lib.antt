@@ -61,3 +61,4 @@ pub mod ExactLists
 pub mod AboveKeys
 pub mod KeyLaws
 pub mod Interfaces
+pub mod WorkedVerdict

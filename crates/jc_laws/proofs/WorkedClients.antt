@@ -19,7 +19,7 @@ use Rattle.jc_facts.specs.Valid.{IsValidClass}
 use Rattle.jc_facts.specs.Clients.{IsInScope, IsValidClient, CallsSuper, facts_of, is_allowed, is_in_reach, seat}
 use Rattle.jc_laws.proofs.Examples.{computes, init, key, member, a_class, plain, public_class, object, over, ascii}
 
-abbrev p_A : Bytes
+abbrev pub p_A : Bytes
 p_A = codes "p/A"
 
 abbrev run : ℕ → Member
@@ -35,7 +35,7 @@ J = codes "w0/J"
 abbrev Y : Bytes
 Y = codes "w0/Y"
 
-abbrev U : Bytes
+abbrev pub U : Bytes
 U = codes "w0/U"
 
 abbrev clients : List ClassFacts
@@ -97,7 +97,7 @@ arrays_have_no_methods = refl
 
 -- ---- validity and scope
 
-root_is_valid : IsValidClass object
+pub root_is_valid : IsValidClass object
 unfolding computes
 root_is_valid = record {
   name = refl;
@@ -144,13 +144,13 @@ unfolding computes
 longs_and_doubles_take_two_slots = refl
 
 -- a client that calls java/lang/Object's initializer and names p/A
-abbrev user : ClientClass
+abbrev pub user : ClientClass
 user = record { facts = plain U; items = item.Init object_name (codes "()V") ∷ item.Class p_A ∷ [] }
 
 utf8_U : is_utf8 U ≡ true
 utf8_U = ascii U (lit< tt, (lit< tt, (lit< tt, (lit< tt, tt))))
 
-a_client_world_in_scope : IsInScope (over (plain p_A ∷ [])) (over (plain p_A ∷ [])) (user ∷ [])
+pub a_client_world_in_scope : IsInScope (over (plain p_A ∷ [])) (over (plain p_A ∷ [])) (user ∷ [])
 unfolding computes
 a_client_world_in_scope =
     let was = over (plain p_A ∷ []) in
