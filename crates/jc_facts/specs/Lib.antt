@@ -1,10 +1,6 @@
 pub mod Names
 pub mod Flags
 pub mod Types
-pub mod Pieces
-pub mod Pool
-pub mod ClassFile
-pub mod FirstForm
 pub mod Exact
 pub mod Heads
 pub mod Gone

@@ -1,9 +1,3 @@
-pub mod SlotLoop
-pub mod Skips
-pub mod Parts
-pub mod Entries
-pub mod Counted
-pub mod Heads
 pub mod Taking
 pub mod EachMember
 pub mod OneRecord

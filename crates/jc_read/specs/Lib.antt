@@ -1,7 +1,3 @@
-pub mod Reading
-pub mod ReadPool
-pub mod ReadClass
-pub mod PoolView
 pub mod ClassViews
 pub mod OnMemberView
 pub mod OnClassView

@@ -104,7 +104,7 @@ apart_sides files roots platform old new s h is_in = go (head_named platform h.n
 pub class_names : (files : List FileOf) (tree : Tree) (root : Bytes) (heads : List Head) → AreHeads files tree root heads → All (λ h. IsTrue (is_class_name h.name)) heads
 class_names files tree root heads a =
     All-weaker (IsHeadIn files tree root) (λ h. IsTrue (is_class_name h.name)) (λ h i. subst (λ (n : Bytes). is_class_name n ≡ true) (sym (name_of files tree root h i))
-        (and_left (is_class_name i.facts.name) (is_text i.facts.name) (read_valid i.bytes i.facts i.is_read.reads).name)) heads a.exact.sound
+    (and_left (is_class_name i.facts.name) (is_text i.facts.name) (read_valid i.bytes i.facts i.is_read.reads).name)) heads a.exact.sound
 
 -- ---- the verdict
 

@@ -85,10 +85,15 @@ heads_in : (files : List FileOf) (tree : Tree) (root : Bytes) (paths : List Byte
 heads_in files tree root [] [] c r = tt
 heads_in files tree root (p ∷ ps) (h ∷ hs) c r = (
   record {
-    path = p; bytes = r.0.bytes; facts = r.0.is_head.facts; is_file = record { is_file = r.0.is_file; named = c.0.named };
-    is_read = r.0.is_head.is_read; head_is = r.0.is_head.head_is;
+    path = p;
+    bytes = r.0.bytes;
+    facts = r.0.is_head.facts;
+    is_file = record { is_file = r.0.is_file; named = c.0.named };
+    is_read = r.0.is_head.is_read;
+    head_is = r.0.is_head.head_is;
   },
-  heads_in files tree root ps hs c.1 r.1)
+  heads_in files tree root ps hs c.1 r.1,
+)
 heads_in files tree root [] (h ∷ hs) c r = absurd r
 heads_in files tree root (p ∷ ps) [] c r = absurd r
 
@@ -146,7 +151,7 @@ first_fault files tree root paths path fault exact f = record {
   before = λ other bytes k b.
       let listed : Contains paths other = exact.complete other (record { held = (bytes, k.is_file); named = k.named }) in
       let t = read_there files tree root f.front f.heads other f.read
-          (in_front f.front f.back path other (subst (λ (ps : List Bytes). NamesRise (λ (p : Bytes). p) ps) f.whole exact.in_order) (subst (λ (ps : List Bytes). Contains ps other) f.whole listed) b) in
+      (in_front f.front f.back path other (subst (λ (ps : List Bytes). NamesRise (λ (p : Bytes). p) ps) f.whole exact.in_order) (subst (λ (ps : List Bytes). Contains ps other) f.whole listed) b) in
       let h = readable files tree root other bytes t.head k.is_file t.read in
       (h.facts, h.is_read);
 }
@@ -174,7 +179,9 @@ stops_in content before middle after tree root paths exact few short rose (stops
   λ files told. (
     record { paths = paths; are = exact files told; few = few },
     short_paths files root paths (exact files told) short,
-    first_fault files tree root paths path fault (exact files told) (s.1 files told)))
+    first_fault files tree root paths path fault (exact files told) (s.1 files told),
+  ),
+)
 stops_in content before middle after tree root paths exact few short rose (stops.Unread t tree_faults.TooManyFiles) s = absurd s
 stops_in content before middle after tree root paths exact few short rose (stops.Unread t tree_faults.LongPath) s = absurd s
 stops_in content before middle after tree root paths exact few short rose (stops.ReadFault t) s = (s.0, rose s.1)

@@ -125,7 +125,7 @@ fn files_below<R: Files + AllocGlobal + Clone + Drop>(rt: &R, root: &str) -> io:
 }
 
 // Whether each text is below the next.
-fn is_ascending(texts: &[Text]) -> bool
+pub(crate) fn is_ascending(texts: &[Text]) -> bool
     ensures { result ≡ ascends texts.now }
 {
     for i in 1..texts.len() {

@@ -9,7 +9,7 @@ use std::test::Fail;
 use std::{fs, io, process};
 
 // A new folder of this test's own.
-fn new_folder(rt: &HostRuntime, name: &str) -> Result<String, Fail> {
+pub(crate) fn new_folder(rt: &HostRuntime, name: &str) -> Result<String, Fail> {
     let id = process::id(rt.process());
     let folder = format!(in rt.alloc(); "/tmp/jcompat_{name}_{id}")?;
     if fs::exists(rt, folder.as_str())? {

@@ -33,7 +33,7 @@ returns-in-Err-read_tree-clause-stopped g c =
     let roots = roots_of c.args.request in
     stops_old content before after roots (λ files told. (c.in-Ok.ensures.read files told).clean) c.in-Err-read_tree.stop
     (stops_since content (g.T.Trees.content c.read_tree.new.trees) before (g.T.Trees.faults c.read_tree.new.trees) after trees.Old roots.old
-        c.in-Ok.ensures.content c.in-Ok.ensures.never_falls c.in-Err-read_tree.stop c.in-Err-read_tree.ensures.stopped)
+    c.in-Ok.ensures.content c.in-Ok.ensures.never_falls c.in-Err-read_tree.stop c.in-Err-read_tree.ensures.stopped)
 
 pub returns-in-Err-read_tree-2-clause-stopped : goal.returns-in-Err-read_tree-2-clause-stopped
 returns-in-Err-read_tree-2-clause-stopped g c =
@@ -44,5 +44,5 @@ returns-in-Err-read_tree-2-clause-stopped g c =
     stops_new content before after roots (λ files told. (c.in-Ok.ensures.read files told).clean)
     (λ files told. (c.in-Ok-read_tree.ensures.read files (c.in-Ok.ensures.content ∙ told)).clean) c.in-Err-read_tree-2.stop
     (stops_since content (g.T.Trees.content c.read_tree-2.new.trees) before (g.T.Trees.faults c.read_tree-2.new.trees) after trees.New roots.new
-        (c.in-Ok-read_tree.ensures.content ∙ c.in-Ok.ensures.content)
-        (λ r. omega (arith, c.in-Ok.ensures.never_falls r, c.in-Ok-read_tree.ensures.never_falls r)) c.in-Err-read_tree-2.stop c.in-Err-read_tree-2.ensures.stopped)
+    (c.in-Ok-read_tree.ensures.content ∙ c.in-Ok.ensures.content)
+    (λ r. omega (arith, c.in-Ok.ensures.never_falls r, c.in-Ok-read_tree.ensures.never_falls r)) c.in-Err-read_tree-2.stop c.in-Err-read_tree-2.ensures.stopped)

@@ -11,8 +11,8 @@ pub returns-in-Ok-Err-clause-stopped : goal.returns-in-Ok-Err-clause-stopped
 returns-in-Ok-Err-clause-stopped g c =
     stops_file (g.T.Trees.content c.args.trees.now) (g.T.Trees.faults c.args.trees.now) (g.T.Trees.faults c.read_one.new.trees) c.args.tree c.args.root.now c.args.paths.now
     c.path-item.result c.in-Ok-Err.fault c.stop_at.result c.stop_at.ensures (λ files told.
-        first_of files _ _ _ c.loop-path.path-index _ c.loop-path.heads.items _ c.loop-path-test.true c.path-item.is (c.loop-path.invariant.read files told)
-        ((rw (c.in-Ok-Err.field-0-is, c.as_str.ensures) at c.in-Ok-Err.ensures.fault) files (c.loop-path.invariant.content ∙ told)))
+    first_of files _ _ _ c.loop-path.path-index _ c.loop-path.heads.items _ c.loop-path-test.true c.path-item.is (c.loop-path.invariant.read files told)
+    ((rw (c.in-Ok-Err.field-0-is, c.as_str.ensures) at c.in-Ok-Err.ensures.fault) files (c.loop-path.invariant.content ∙ told)))
 
 pub loop-path-preserved : goal.loop-path-preserved
 loop-path-preserved g c =
