@@ -1,4 +1,4 @@
-ghost use Rattle.std.specs.Prelude.{None, IfOk, IsTrue};
+ghost use Rattle.std.specs.Prelude.{None, IfOk, IsTrue, ◌^◌, ◌-◌};
 ghost use Rattle.jc_base.specs.Outside.{are_distinct};
 
 use crate::disk_trees::{DiskTrees, is_ascending};
@@ -385,7 +385,8 @@ fn object_alone(alloc: Global) -> Result<Vec<Text>, TreeError>
 impl Trees for Numbered {
     ghost content = { λ _. None };
 
-    ghost faults = { λ _ _. 0 };
+    // Each count stands at its last value, so that any call may fail.
+    ghost faults = { λ _ _. 2 ^ 64 - 1 };
 
     fn list(&mut self, alloc: Global, root: &str) -> Result<Vec<Text>, TreeError> {
         if root == "O" {
