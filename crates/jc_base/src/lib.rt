@@ -11,5 +11,7 @@ mod schedule;
 pub mod sink;
 pub mod sure_sink;
 pub mod sure_trees;
+#[cfg(test)]
+mod tests;
 pub mod text;
 pub mod trees;

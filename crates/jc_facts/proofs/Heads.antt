@@ -11,7 +11,7 @@ use Rattle.jc_facts.specs.declared.link_error.LinkError.TheVariants.{IllegalAcce
 use Rattle.jc_facts.specs.Names.{Bytes, same, same_package, package_of, object_name}
 use Rattle.jc_facts.specs.Flags.{is_public}
 use Rattle.jc_desc.specs.Names.{is_class_name, is_rest_of_name}
-use Rattle.jc_facts.specs.Types.{Element, Primitive, Class, TypeText, read_type, read_array, read_element, brackets, after_brackets}
+use Rattle.jc_facts.specs.Types.{Element, Primitive, Class, TypeText, read_type}
 use Rattle.jc_facts.specs.Heads.{head_named, access_fault, element_fault, type_fault, class_outcome, is_allowed_beside, AreClients, AreApart, KeepsClasses, BreaksClass}
 use Rattle.jc_facts.specs.Gone.{gone_error, gone_class, gone_finding, IsGone, NamesDiffer}
 use Rattle.jc_facts.specs.Exact.{IsExact}
@@ -278,9 +278,9 @@ plain_outcome world x t e = rw e refl
 
 -- a class name is no array text
 pub plain_name : (t : Bytes) → is_class_name t ≡ true → read_type t ≡ Some (record { dims = 0; element = Class t })
-unfolding read_type brackets
+unfolding read_type
 plain_name [] e = refl
-plain_name (b ∷ bs) e = go (b == 91) (brackets bs) (first (b == 47) (b == 46) (b == 59) (b == 91) e)
+plain_name (b ∷ bs) e = let n : (b == 91) ≡ false = first (b == 47) (b == 46) (b == 59) (b == 91) e in rw n refl
   where
     first : (slash dot semicolon bracket : Bool)
         → cond slash (not true && is_rest_of_name true bs) ((not dot && not semicolon && not bracket && not slash) && is_rest_of_name false bs) ≡ true → bracket ≡ false
@@ -289,12 +289,6 @@ plain_name (b ∷ bs) e = go (b == 91) (brackets bs) (first (b == 47) (b == 46) 
     first false false true bracket e = absurd (cc)
     first false false false true e = absurd (cc)
     first false false false false e = refl
-
-    go : (c : Bool) (n : ℕ) → c ≡ false
-        → cond (cond c (suc n) 0 == 0) (Some (record { dims = 0; element = Class (b ∷ bs) })) (read_array (cond c (suc n) 0) (read_element (after_brackets (b ∷ bs))))
-        ≡ Some (record { dims = 0; element = Class (b ∷ bs) })
-    go true n q = absurd (cc)
-    go false n q = refl
 
 breaks_class : (ps old new : List Head) → NamesDiffer old → AreApart ps old → (f : Finding) → IsGone old new f
     → read_type f.class ≡ Some (record { dims = 0; element = Class f.class }) → BreaksClass ps old new f.class f.error

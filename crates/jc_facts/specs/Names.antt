@@ -9,9 +9,11 @@ pub use Rattle.jc_desc.specs.Names.{is_init, is_clinit}
 use Rattle.jc_facts.specs.declared.key.Key.{Key}
 use Rattle.jc_facts.specs.declared.class_facts.Member.{Member}
 
+-- names are lists of bytes, each below 256
 abbrev pub Bytes : Type 0
 Bytes = List ℕ
 
+-- the two names are equal
 abbrev pub same : Bytes → Bytes → Bool
 same = bytes_eq
 
@@ -19,22 +21,27 @@ same = bytes_eq
 abbrev pub is_among : List Bytes → Bytes → Bool
 is_among xs x = list_any (λ y. same y x) xs
 
--- the name up to its last '/', or nothing
+-- the package: the name up to its last '/', or nothing (JVMS 4.2.1, 5.3)
 unfoldable pub package_of : Bytes → Bytes
 package_of [] = []
 package_of (x ∷ xs) = cond (list_any (λ y. y == 47) xs) (x ∷ package_of xs) []
 
+-- the two classes are in one run-time package, since one loader finds all (JVMS 5.3)
 abbrev pub same_package : Bytes → Bytes → Bool
 same_package x y = same (package_of x) (package_of y)
 
+-- the member has this name and descriptor
 abbrev pub is_key : Key → Member → Bool
 is_key k m = same m.name k.name && same m.descriptor k.descriptor
 
+-- the two keys are equal
 abbrev pub same_key : Key → Key → Bool
 same_key k l = same k.name l.name && same k.descriptor l.descriptor
 
+-- the name and the descriptor of the member
 abbrev pub key_of : Member → Key
 key_of m = record { name = m.name; descriptor = m.descriptor }
 
+-- the root of all classes (JVMS 4.1)
 abbrev pub object_name : Bytes
 object_name = codes "java/lang/Object"

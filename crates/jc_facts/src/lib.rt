@@ -3,11 +3,16 @@
 
 pub mod act;
 pub mod class_facts;
+pub mod client;
+pub mod client_validity;
 pub mod finding;
 pub mod flags;
 pub mod head;
 pub mod key;
 pub mod key_set;
 pub mod link_error;
+pub mod orders;
+pub mod outcome;
 pub mod rules;
 pub mod validity;
+pub mod verdict;

@@ -3,6 +3,7 @@
 #![tactic(auto)]
 
 mod entry;
+mod forms;
 pub mod laws;
 mod links;
 pub mod pool;

@@ -1,17 +1,17 @@
 //! What the entries of a pool name, and the first fault in it (JVMS 4.4).
-ghost use Rattle.std.specs.Prelude.{◌≡◌, ◌≤◌};
+ghost use Rattle.std.specs.Prelude.{◌≡◌, ◌≤◌, ◌&&◌, ◌||◌, not, List, ℕ, IfOk};
 ghost use Rattle.jc_desc.specs.Faults.{first_fault};
-ghost use Rattle.jc_desc.specs.Pool.{short_in as short_in_body, first as first_of, second as second_of, at as at_of, holds as holds_of, text_of as text_in, name_of as name_in, descriptor_of as descriptor_in, pair_of as pair_in, refers as refers_in, handle_fits as handle_fits_of, handle_names as handle_names_of, kind_of as kind_in, target_of as target_in, is_array as is_array_text, is_field as is_field_text, is_method as is_method_text, names_one_text as names_one, is_member_ref as is_ref};
-ghost use Rattle.jc_desc.specs.PoolSteps.{meaning_fault, class_fault as class_fault_of, field_fault as field_fault_of, shape_fault as shape_fault_of, pair_fault as pair_fault_of, method_fault as method_fault_of, handle_fault as handle_fault_of, reference_fault, sense_fault, links_fault as links_fault_of};
+ghost use Rattle.jc_desc.specs.Pool.{short_in as short_in_body, first as first_of, second as second_of, at as at_of, holds as holds_of, text_of as text_in, name_of as name_in, descriptor_of as descriptor_in, pair_of as pair_in, refers as refers_in, handle_fits as handle_fits_of, handle_names as handle_names_of, kind_of as kind_in, target_of as target_in, names_one_text as names_one, is_member_ref as is_ref};
+ghost use Rattle.jc_desc.specs.PoolSteps.{want, meaning_fault, handle_fault as handle_fault_of, reference_fault, sense_fault, links_fault as links_fault_of};
+ghost use Rattle.jc_pool.specs.Forms.{forms_in, all_forms as all_forms_of};
 ghost use Rattle.jc_pool.specs.Slots.{slot_of, slots_of};
 
 use crate::entry::{NOTHING, Slot};
+use crate::forms::{Forms, all_forms, form};
 use crate::tags;
 use byteorder::{BigEndian, ByteOrder};
 use jc_desc::fault::{Fault, Reason};
-use jc_desc::field::field_type;
-use jc_desc::method::{returns_void, slots as method_slots};
-use jc_desc::names::{is_class_name, is_clinit, is_init, is_member_name};
+use std::alloc::{AllocError, Global};
 
 /// The number in the two bytes from place `i` on, or 0 where they aren't there.
 pub(crate) fn short_in(i: usize, body: &[u8]) -> u16
@@ -132,60 +132,38 @@ fn refers(slots: &[Slot<'_>], slot: Slot<'_>) -> bool
     true
 }
 
-fn is_field(bytes: &[u8]) -> bool
-    ensures { result ≡ is_field_text bytes.now }
+fn class_fault(text: Forms) -> Option<Reason>
+    ensures { result ≡ want text.class Reason.BadName None }
 {
-    field_type(bytes).is_some()
-}
-
-#[tactic(auto, unfolding(jc_desc::specs::Reading::slots_of_method))]
-fn is_method(bytes: &[u8]) -> bool
-    ensures { result ≡ is_method_text bytes.now }
-{
-    method_slots(bytes).is_some()
-}
-
-fn is_array(bytes: &[u8]) -> bool
-    ensures { result ≡ is_array_text bytes.now }
-{
-    match bytes.split_first() {
-        None => false,
-        Some((first, _)) => *first == b'[' && is_field(bytes),
-    }
-}
-
-fn class_fault(text: &[u8]) -> Option<Reason>
-    ensures { result ≡ class_fault_of text.now }
-{
-    if is_class_name(text) || is_array(text) {
+    if text.class {
         None
     } else {
         Some(Reason::BadName)
     }
 }
 
-fn pair_fault(name: &[u8], descriptor: &[u8]) -> Option<Reason>
-    ensures { result ≡ pair_fault_of name.now descriptor.now }
+fn pair_fault(name: Forms, descriptor: Forms) -> Option<Reason>
+    ensures { result ≡ want name.member_name Reason.BadName (want (descriptor.field || descriptor.method) Reason.BadDescriptor None) }
 {
-    if !(is_member_name(name, false) || is_member_name(name, true)) {
+    if !name.member_name {
         return Some(Reason::BadName);
     }
-    if !(is_field(descriptor) || is_method(descriptor)) {
+    if !(descriptor.field || descriptor.method) {
         return Some(Reason::BadDescriptor);
     }
     None
 }
 
-fn method_fault(interface: bool, name: &[u8], descriptor: &[u8]) -> Option<Reason>
-    ensures { result ≡ method_fault_of interface name.now descriptor.now }
+fn method_fault(interface: bool, name: Forms, descriptor: Forms) -> Option<Reason>
+    ensures { result ≡ want descriptor.method Reason.BadDescriptor (want (name.method_name && not (interface && name.init)) Reason.BadName (want (not name.init || descriptor.void) Reason.BadDescriptor None)) }
 {
-    if !is_method(descriptor) {
+    if !descriptor.method {
         return Some(Reason::BadDescriptor);
     }
-    if !(is_member_name(name, true) && !is_clinit(name) && !(interface && is_init(name))) {
+    if !(name.method_name && !(interface && name.init)) {
         return Some(Reason::BadName);
     }
-    if is_init(name) && !returns_void(descriptor) {
+    if name.init && !descriptor.void {
         return Some(Reason::BadDescriptor);
     }
     None
@@ -203,18 +181,18 @@ fn handle_fits(kind: u8, tag: u8) -> bool
     }
 }
 
-fn handle_names(kind: u8, name: &[u8]) -> bool
-    ensures { result ≡ handle_names_of kind name.now }
+fn handle_names(kind: u8, name: Forms) -> bool
+    ensures { (text : List ℕ) → name ≡ forms_in text → result ≡ handle_names_of kind text }
 {
     match kind {
-        8 => is_init(name),
-        5 | 6 | 7 | 9 => !is_init(name),
+        8 => name.init,
+        5 | 6 | 7 | 9 => !name.init,
         _ => true,
     }
 }
 
-fn handle_fault(kind: u8, tag: u8, name: &[u8]) -> Option<Reason>
-    ensures { result ≡ handle_fault_of kind tag name.now }
+fn handle_fault(kind: u8, tag: u8, name: Forms) -> Option<Reason>
+    ensures { (text : List ℕ) → name ≡ forms_in text → result ≡ handle_fault_of kind tag text }
 {
     if !handle_fits(kind, tag) {
         return Some(Reason::BadIndex);
@@ -225,20 +203,20 @@ fn handle_fault(kind: u8, tag: u8, name: &[u8]) -> Option<Reason>
     None
 }
 
-fn field_fault(descriptor: &[u8]) -> Option<Reason>
-    ensures { result ≡ field_fault_of descriptor.now }
+fn field_fault(descriptor: Forms) -> Option<Reason>
+    ensures { result ≡ want descriptor.field Reason.BadDescriptor None }
 {
-    if is_field(descriptor) {
+    if descriptor.field {
         None
     } else {
         Some(Reason::BadDescriptor)
     }
 }
 
-fn shape_fault(descriptor: &[u8]) -> Option<Reason>
-    ensures { result ≡ shape_fault_of descriptor.now }
+fn shape_fault(descriptor: Forms) -> Option<Reason>
+    ensures { result ≡ want descriptor.method Reason.BadDescriptor None }
 {
-    if is_method(descriptor) {
+    if descriptor.method {
         None
     } else {
         Some(Reason::BadDescriptor)
@@ -247,28 +225,35 @@ fn shape_fault(descriptor: &[u8]) -> Option<Reason>
 
 /// The first reason against what an entry names.
 #[tactic(auto, unfolding(jc_desc::specs::PoolSteps::meaning_fault))]
-fn meaning(slots: &[Slot<'_>], slot: Slot<'_>) -> Option<Reason>
+fn meaning(slots: &[Slot<'_>], forms: &[Forms], slot: Slot<'_>) -> Option<Reason>
+    requires { forms.now ≡ all_forms_of (slots_of slots.now) }
     ensures { result ≡ meaning_fault (slots_of slots.now) (slot_of slot.entry) }
 {
     match slot.tag {
-        tags::CLASS => class_fault(text(slots, slot)),
-        tags::NAME_AND_TYPE => pair_fault(text(slots, slot), descriptor(slots, slot)),
-        tags::FIELD_REF => field_fault(descriptor(slots, pair(slots, slot))),
+        tags::CLASS => class_fault(form(slots, forms, first(slot))),
+        tags::NAME_AND_TYPE => {
+            let name = form(slots, forms, first(slot));
+            pair_fault(name, form(slots, forms, second(slot)))
+        }
+        tags::FIELD_REF => field_fault(form(slots, forms, second(pair(slots, slot)))),
         tags::METHOD_REF => {
             let named = pair(slots, slot);
-            method_fault(false, text(slots, named), descriptor(slots, named))
+            let name = form(slots, forms, first(named));
+            method_fault(false, name, form(slots, forms, second(named)))
         }
         tags::INTERFACE_METHOD_REF => {
             let named = pair(slots, slot);
-            method_fault(true, text(slots, named), descriptor(slots, named))
+            let name = form(slots, forms, first(named));
+            method_fault(true, name, form(slots, forms, second(named)))
         }
         tags::METHOD_HANDLE => {
             let member = at(slots, target(slot));
-            handle_fault(kind(slot), member.tag, text(slots, pair(slots, member)))
+            let name = form(slots, forms, first(pair(slots, member)));
+            handle_fault(kind(slot), member.tag, name)
         }
-        tags::METHOD_TYPE => shape_fault(text(slots, slot)),
-        tags::DYNAMIC => field_fault(descriptor(slots, pair(slots, slot))),
-        tags::INVOKE_DYNAMIC => shape_fault(descriptor(slots, pair(slots, slot))),
+        tags::METHOD_TYPE => shape_fault(form(slots, forms, first(slot))),
+        tags::DYNAMIC => field_fault(form(slots, forms, second(pair(slots, slot)))),
+        tags::INVOKE_DYNAMIC => shape_fault(form(slots, forms, second(pair(slots, slot)))),
         _ => None,
     }
 }
@@ -287,11 +272,12 @@ fn first_reference_fault(slots: &[Slot<'_>]) -> Option<Fault>
     None
 }
 
-fn first_sense_fault(slots: &[Slot<'_>]) -> Option<Fault>
+fn first_sense_fault(slots: &[Slot<'_>], forms: &[Forms]) -> Option<Fault>
+    requires { forms.now ≡ all_forms_of (slots_of slots.now) }
     ensures { result ≡ first_fault (sense_fault (slots_of slots.now)) (slots_of slots.now) }
 {
     for slot in slots {
-        if let Some(reason) = meaning(slots, *slot) {
+        if let Some(reason) = meaning(slots, forms, *slot) {
             return Some(Fault {
                 left: slot.left,
                 reason,
@@ -302,12 +288,13 @@ fn first_sense_fault(slots: &[Slot<'_>]) -> Option<Fault>
 }
 
 /// The first fault in what the entries name: references over all entries first, and only then
-/// names, descriptors and handles.
-pub(crate) fn links_fault(slots: &[Slot<'_>]) -> Option<Fault>
-    ensures { result ≡ links_fault_of (slots_of slots.now) }
+/// names, descriptors and handles. Takes memory for what the texts are.
+pub(crate) fn links_fault(alloc: Global, slots: &[Slot<'_>]) -> Result<Option<Fault>, AllocError>
+    ensures { IfOk result (λ fault. fault ≡ links_fault_of (slots_of slots.now)) }
 {
-    match first_reference_fault(slots) {
-        Some(fault) => Some(fault),
-        None => first_sense_fault(slots),
+    if let Some(fault) = first_reference_fault(slots) {
+        return Ok(Some(fault));
     }
+    let forms = all_forms(alloc, slots)?;
+    Ok(first_sense_fault(slots, forms.as_slice()))
 }

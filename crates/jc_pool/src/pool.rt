@@ -129,7 +129,7 @@ impl<'a> Pool<'a> {
             Ok(entries) => entries,
             Err(fault) => return Ok(Err(fault)),
         };
-        match links_fault(slots.as_slice()) {
+        match links_fault(alloc, slots.as_slice())? {
             Some(fault) => Ok(Err(fault)),
             None => Ok(Ok((Pool { major, slots }, rest))),
         }

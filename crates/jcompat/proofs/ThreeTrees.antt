@@ -85,8 +85,15 @@ class_names files tree root heads a = All-weaker (IsHeadIn files tree root) (λ 
 
 abbrev pub sides_of : (words : List Bytes) (files : List FileOf) (roots : Roots) (platform old new : List Head) → Some roots ≡ asked words → AreSides files roots platform old new → Sides words files
 sides_of words files roots platform old new is s = record {
-  roots = roots; asked_for = sym is; platform = platform; old = old; new = new;
-  platform_is = s.platform_is; old_is = s.old_is; new_is = s.new_is; has_object = s.has_object;
+  roots = roots;
+  asked_for = sym is;
+  platform = platform;
+  old = old;
+  new = new;
+  platform_is = s.platform_is;
+  old_is = s.old_is;
+  new_is = s.new_is;
+  has_object = s.has_object;
 }
 
 -- ---- a platform that is read
@@ -111,7 +118,9 @@ pub incompatible_of : (words : List Bytes) (files : List FileOf) (sides : Sides 
     → (AreApart sides.platform sides.old → All (λ h. IsTrue (is_class_name h.name)) sides.old → All (λ f. BreaksClass sides.platform sides.old sides.new f.class f.error) findings)
     → findings ≢ [] → IsIncompatible words files findings
 incompatible_of words files sides findings exact breaks some = record {
-  sides = sides; exact = exact; some = some;
+  sides = sides;
+  exact = exact;
+  some = some;
   breaks = breaks (apart_sides files sides.roots sides.platform sides.old sides.new together) (class_names files trees.Old sides.roots.old sides.old sides.old_is);
 }
   where

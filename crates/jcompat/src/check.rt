@@ -26,11 +26,7 @@ struct Sides {
 }
 
 // The heads of the three trees, or the first event that keeps them from being read.
-fn read_sides<T: Trees>(
-    alloc: Global,
-    request: Request<'_>,
-    trees: &mut T,
-) -> Result<Sides, Stop>
+fn read_sides<T: Trees>(alloc: Global, request: Request<'_>, trees: &mut T) -> Result<Sides, Stop>
     ensures read { IfOk result (λ s. Told (T.content trees.old) (λ files. AreSides files (roots_of request.entry) s.platform.items s.old.items s.new.items)) }
     ensures rising { IfOk result (λ s. NamesRise (λ h. path_of h.name) s.old.items) }
     ensures stopped { IfErr result (StopsFor (T.content trees.old) (T.faults trees.old) (T.faults trees.new) (roots_of request.entry)) }
@@ -55,11 +51,7 @@ fn read_sides<T: Trees>(
 }
 
 /// The findings of the check that the words ask for, or why there is no verdict.
-pub fn check<T: Trees>(
-    alloc: Global,
-    words: &[Text],
-    trees: &mut T,
-) -> Result<Vec<Finding>, Stop>
+pub fn check<T: Trees>(alloc: Global, words: &[Text], trees: &mut T) -> Result<Vec<Finding>, Stop>
     ensures compatible { IfOk result (λ found. found.items ≡ [] → Told (T.content trees.old) (IsCompatible words.now)) }
     ensures incompatible { IfOk result (λ found. found.items ≢ [] → Told (T.content trees.old) (λ files. IsIncompatible words.now files found.items)) }
     ensures verdict { IfOk result (λ found. Told (T.content trees.old) (λ files. IsVerdict words.now files found.items)) }

@@ -174,7 +174,9 @@ fn front_of<R: Files + AllocGlobal + Clone + Drop>(
 
 impl<R: Files + AllocGlobal + Clone + Drop> DiskTrees<R> {
     /// No call has failed yet.
-    pub fn new(rt: R) -> DiskTrees<R> {
+    pub fn new(rt: R) -> DiskTrees<R>
+        ensures { (root : List ℕ) → ⟦<DiskTrees<R> as Trees>⟧.faults result root ≡ 0 }
+    {
         let failed = RootFaults::new(rt.alloc());
         DiskTrees { rt, failed }
     }

@@ -15,20 +15,17 @@ use std::alloc::Global;
 /// Words and files have at most one first refusal.
 pub fn one_refusal()
     ensures { (words : List (List ℕ)) (files : List FileOf) (a b : Stop) → IsRefused words files a → IsRefused words files b → a ≡ b }
-{
-}
+{}
 
 /// What is accepted isn't refused.
 pub fn refused_or_accepted()
     ensures { (words : List (List ℕ)) (files : List FileOf) (stop : Stop) → IsAccepted words files → IsRefused words files stop → ⊥ }
-{
-}
+{}
 
 /// Words and files have at most one verdict.
 pub fn one_verdict()
     ensures { (words : List (List ℕ)) (files : List FileOf) (a b : List Finding) → IsVerdict words files a → IsVerdict words files b → a ≡ b }
-{
-}
+{}
 
 /// The top call over trees and sinks that don't fail never answers that a call failed.
 pub fn run_surely(

@@ -20,11 +20,10 @@ use crate::run::run;
 use crate::std_sink::StdSink;
 use jc_base::text::Text;
 use std::alloc::{AllocError, Global};
-use std::env;
 use std::env::Env;
-use std::io;
 use std::io::ErrorKind;
 use std::process::ExitCode;
+use std::{env, io};
 
 /// The status where there is no memory even for the words.
 const NO_MEMORY: u8 = 6;

@@ -17,7 +17,9 @@ pub struct StdSink<W: Write + Drop> {
 
 impl<W: Write + Drop> StdSink<W> {
     /// No call has failed yet.
-    pub fn new(writer: W) -> StdSink<W> {
+    pub fn new(writer: W) -> StdSink<W>
+        ensures { ⟦<StdSink<W> as Sink>⟧.faults result ≡ 0 }
+    {
         StdSink { writer, faults: 0 }
     }
 

@@ -33,11 +33,7 @@ fn keep_class_files(paths: &mut Vec<Text>)
 }
 
 // The paths of a root's class files, in order.
-fn class_paths<T: Trees>(
-    alloc: Global,
-    root: &str,
-    trees: &mut T,
-) -> Result<Vec<Text>, TreeError>
+fn class_paths<T: Trees>(alloc: Global, root: &str, trees: &mut T) -> Result<Vec<Text>, TreeError>
     ensures held { IfOk result (λ paths. All (Holds (T.content trees.old) root.now) paths.items) }
     ensures rising { IfOk result (λ paths. NamesRise (λ p. p) paths.items) }
     ensures exact { IfOk result (λ paths. Told (T.content trees.old) (λ files. AreClassPaths files root.now paths.items)) }

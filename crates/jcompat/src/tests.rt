@@ -10,7 +10,9 @@ use std::test::Fail;
 const WORDS: &[&str] = &["check", "--platform", "P", "--old", "O", "--new", "N"];
 
 const OBJECT: &[u8] = b"java/lang/Object";
+
 const SUPER: u16 = 0x20;
+
 const PUBLIC: u16 = 0x21;
 
 /// What stands in a file: a class of this name and these flags without members, or other bytes.
@@ -28,7 +30,13 @@ type File = (&'static str, &'static str, Content);
 const ROOT: File = ("P", "java/lang/Object.class", Class(OBJECT, PUBLIC));
 
 /// What is shown, the files, the exit status, the output and the line on the error stream.
-type Row = (&'static str, &'static [File], u8, &'static str, &'static str);
+type Row = (
+    &'static str,
+    &'static [File],
+    u8,
+    &'static str,
+    &'static str,
+);
 
 // A class file without members, which extends `java/lang/Object` (JVMS 4.1).
 fn class_file(alloc: Global, name: &[u8], flags: u16) -> Result<Vec<u8>, AllocError> {
@@ -54,7 +62,12 @@ fn made(alloc: Global, file: &File) -> Result<MemFile, AllocError> {
     })
 }
 
-fn trees_of(rt: &impl Abort, alloc: Global, files: &[File], failing: Vec<u64>) -> Result<MemTrees, AllocError> {
+fn trees_of(
+    rt: &impl Abort,
+    alloc: Global,
+    files: &[File],
+    failing: Vec<u64>,
+) -> Result<MemTrees, AllocError> {
     let mut all = Vec::new(alloc);
     for file in files {
         all.push(made(alloc, file)?)?;
@@ -196,7 +209,16 @@ fn other_words_are_refused(rt: HostRuntime) -> Result<(), Fail> {
         &[],
         &["check"],
         &["check", "--old", "O", "--platform", "P", "--new", "N"],
-        &["check", "--platform", "P", "--old", "O", "--new", "N", "--json"],
+        &[
+            "check",
+            "--platform",
+            "P",
+            "--old",
+            "O",
+            "--new",
+            "N",
+            "--json",
+        ],
     ];
     for table in tables {
         let words = texts(alloc, table)?;
@@ -212,13 +234,37 @@ fn other_words_are_refused(rt: HostRuntime) -> Result<(), Fail> {
 }
 
 /// Which call on the trees, the output and the error stream fails, if any, and what is answered.
-type Failure = (&'static [File], [&'static [u64]; 3], u8, &'static str, &'static str);
+type Failure = (
+    &'static [File],
+    [&'static [u64]; 3],
+    u8,
+    &'static str,
+    &'static str,
+);
 
 const FAILURES: &[Failure] = &[
-    (&[ROOT], [&[2], &[], &[]], 4, "", "jcompat: platform: read fault\n"),
-    (&[ROOT], [&[4], &[], &[]], 4, "", "jcompat: new: read fault\n"),
+    (
+        &[ROOT],
+        [&[2], &[], &[]],
+        4,
+        "",
+        "jcompat: platform: read fault\n",
+    ),
+    (
+        &[ROOT],
+        [&[4], &[], &[]],
+        4,
+        "",
+        "jcompat: new: read fault\n",
+    ),
     (&[ROOT], [&[], &[1], &[]], 5, "rules", ""),
-    (&[ROOT], [&[], &[2], &[]], 5, "rules: H1\ncompatible: 0 findings,", ""),
+    (
+        &[ROOT],
+        [&[], &[2], &[]],
+        5,
+        "rules: H1\ncompatible: 0 findings,",
+        "",
+    ),
     (&[], [&[], &[], &[1]], 5, "", "jcompat: pla"),
 ];
 

@@ -15,7 +15,11 @@ fn hex_digit(digit: u8) -> u8
     requires { digit < 16 }
     ensures { result ≡ hex_digit_of digit }
 {
-    if digit < 10 { b'0' + digit } else { b'a' - 10 + digit }
+    if digit < 10 {
+        b'0' + digit
+    } else {
+        b'a' - 10 + digit
+    }
 }
 
 fn push_printed_byte(text: &mut Vec<u8>, byte: u8) -> Result<(), AllocError>

@@ -38,7 +38,11 @@ fn after_word<'a>(word: &str, words: &'a [Text]) -> Option<&'a [Text]>
     ensures { option_map (λ x. x.now) result ≡ after_word_of word.now words.now }
 {
     let (first, rest) = words.split_first()?;
-    if first.as_str() == word { Some(rest) } else { None }
+    if first.as_str() == word {
+        Some(rest)
+    } else {
+        None
+    }
 }
 
 // The value of this flag, and the words after it.

@@ -11,8 +11,8 @@ pub returns-in-Ok-None-clause-stopped : goal.returns-in-Ok-None-clause-stopped
 returns-in-Ok-None-clause-stopped g c =
     stops_later (g.T.Trees.content c.args.trees.now) (g.T.Trees.faults c.args.trees.now) (g.T.Trees.faults c.read_one.new.trees) c.args.tree c.args.root.now c.args.paths.now
     c.path-item.result c.later.result c.later.ensures (λ files told.
-        first_of files _ _ _ c.loop-path.path-index _ c.loop-path.heads.items c.loop-path-test.true c.path-item.is (c.loop-path.invariant.read files told)
-        ((rw (c.in-Ok-None.field-0-is, c.as_str.ensures) at c.in-Ok-None.ensures.later) files (c.loop-path.invariant.content ∙ told)))
+    first_of files _ _ _ c.loop-path.path-index _ c.loop-path.heads.items c.loop-path-test.true c.path-item.is (c.loop-path.invariant.read files told)
+    ((rw (c.in-Ok-None.field-0-is, c.as_str.ensures) at c.in-Ok-None.ensures.later) files (c.loop-path.invariant.content ∙ told)))
 
 pub loop-path-preserved : goal.loop-path-preserved
 loop-path-preserved g c =

@@ -1,0 +1,55 @@
+-- Access to classes and members (JVMS 5.4.4).
+--     is_class_accessible W x d      the class d, from the class named x
+--     is_member_accessible W x n m      the member m, named through the class named n, from the class named x
+use Rattle.std.specs.Prelude.{Bool, cond, Option, None, Some, ◌||◌, ◌&&◌}
+use Rattle.jc_facts.specs.declared.class_facts.ClassFacts.{ClassFacts}
+use Rattle.jc_facts.specs.Names.{Bytes, same, is_among, same_package}
+use Rattle.jc_facts.specs.Flags.{is_public, is_private, is_protected, is_package_private, is_static}
+use Rattle.jc_facts.specs.World.{World, find, Found}
+use Rattle.jc_facts.specs.Hierarchy.{in_chain}
+
+-- the class d is accessible from the class named x: it is public or of the same package (JVMS 5.4.4)
+abbrev pub is_class_accessible : World → Bytes → ClassFacts → Bool
+is_class_accessible W x d = is_public d.flags || same_package x d.name
+
+-- ---- nests
+
+-- h, where it is of x's package and names x back, else x itself
+abbrev pub host_if : Bytes → Bytes → Option ClassFacts → Bytes
+host_if x h None = x
+host_if x h (Some d) = cond (same_package x h && is_among d.nest_members x) h x
+
+-- the host that x's NestHost attribute leads to, where there is one (JVMS 4.7.28)
+abbrev pub named_host : World → Bytes → Option Bytes → Bytes
+named_host W x None = x
+named_host W x (Some h) = host_if x h (find W h)
+
+-- the same, of the class record of x
+abbrev pub host_by : World → Bytes → Option ClassFacts → Bytes
+host_by W x None = x
+host_by W x (Some c) = named_host W x c.nest_host
+
+-- the nest host: the class that NestHost names, where it is of the package and names x back, else x itself
+-- (JVMS 5.4.4; that it need not load is this project's)
+unfoldable pub host_of : World → Bytes → Bytes
+host_of W x = host_by W x (find W x)
+
+-- the two classes have one nest host
+abbrev pub same_nest : World → Bytes → Bytes → Bool
+same_nest W x y = same (host_of W x) (host_of W y)
+
+-- ---- members
+
+-- a protected member of a superclass of x: a static one, or one named through a class in line with x
+abbrev pub is_inherited_access : World → Bytes → Bytes → Found → Bool
+is_inherited_access W x n m = is_protected m.member.flags && in_chain W x m.owner
+    && (is_static m.member.flags || in_chain W x n || in_chain W n x)
+
+-- the member found, named through the class named n, is accessible from the class named x: it is public; or protected or
+-- package-private in x's package; or protected in a superclass of x; or private in x's nest (JVMS 5.4.4)
+unfoldable pub is_member_accessible : World → Bytes → Bytes → Found → Bool
+is_member_accessible W x n m =
+    is_public m.member.flags
+    || (same_package x m.owner && (is_protected m.member.flags || is_package_private m.member.flags))
+    || is_inherited_access W x n m
+    || (is_private m.member.flags && same_nest W x m.owner)

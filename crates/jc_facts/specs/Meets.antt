@@ -1,0 +1,52 @@
+-- How a client world meets a collision. Only a client that loads in the old world meets one.
+--     MeetsConstant W cs i k, MeetsCapture W cs a k, MeetsFinal W cs a k      some client of cs does, in the old world W
+use Rattle.std.specs.Prelude.{Bool, List, ◌++◌, Option, None, Some, ◌&&◌, IsTrue, IsFalse, ◌≡◌, ◌⊎◌}
+use Rattle.std.specs.List.{list_any, Contains}
+use Rattle.jc_facts.specs.declared.class_facts.Member.{Member}
+use Rattle.jc_facts.specs.declared.client.ClientClass.{ClientClass}
+use Rattle.jc_facts.specs.declared.client.Item.TheVariants as item
+use Rattle.jc_facts.specs.declared.key.Key.{Key}
+use Rattle.jc_facts.specs.declared.verdict.Collision.{Collision}
+use Rattle.jc_facts.specs.declared.act.Act.TheVariants.{PutStatic}
+use Rattle.jc_facts.specs.Names.{Bytes, is_among}
+use Rattle.jc_facts.specs.Flags.{is_private, is_instance, is_interface}
+use Rattle.jc_facts.specs.World.{World, is_client, Found, own_method}
+use Rattle.jc_facts.specs.Hierarchy.{chain, superinterfaces, has_superinterface}
+use Rattle.jc_facts.specs.Loading.{load_fault}
+use Rattle.jc_facts.specs.Lookup.{field_found, MethodFound}
+use Rattle.jc_facts.specs.Assignment.{is_interface_of}
+use Rattle.jc_facts.specs.Clients.{seat}
+
+-- the client y, a client of its chain or a client among its superinterfaces names i as an interface
+abbrev pub may_name : World → Bytes → Bytes → Bool
+may_name W y i = list_any (λ c. is_client W c.name && is_among c.interfaces i) (chain W y ++ superinterfaces W y)
+
+-- the field is of a class, or of a client interface that puts it through y
+abbrev pub ConstantHits : World → List ClientClass → Bytes → Key → Found → Type 0
+ConstantHits W cs y k m = IsFalse (is_interface_of W m.owner)
+    ⊎ ((c : ClientClass) × Contains cs c × (c.facts.name ≡ m.owner)
+    × ((r : Option Bytes) × (place : _) × Contains c.items (item.Access PutStatic y k r place)))
+
+-- a new field of the key in the interface i: the lookup of the key from a client below i finds a field of a class,
+-- or one of a client interface that puts it
+abbrev pub MeetsConstant : World → List ClientClass → Bytes → Key → Type 0
+MeetsConstant W cs i k = (y : ClientClass) × Contains cs y × (load_fault W y.facts.name ≡ None) × IsTrue (may_name W y.facts.name i)
+    × ((m : Found) × (field_found W y.facts.name k ≡ Some m) × ConstantHits W cs y.facts.name k m)
+
+-- a new method of the key in the chain of the seat a: the lookup of the key from a client class of this seat finds a method
+-- of a superinterface
+abbrev pub MeetsCapture : World → List ClientClass → Bytes → Key → Type 0
+MeetsCapture W cs a k = (y : ClientClass) × Contains cs y × (load_fault W y.facts.name ≡ None) × IsFalse (is_interface y.facts.flags) × (seat W y.facts.name ≡ Some a)
+    × ((m : Found) × MethodFound W y.facts.name k m × IsTrue (has_superinterface W y.facts.name m.owner))
+
+-- a new final method of the key in the chain of the seat a: a client class of this seat declares the key as an instance method
+-- that isn't private
+abbrev pub MeetsFinal : World → List ClientClass → Bytes → Key → Type 0
+MeetsFinal W cs a k = (y : ClientClass) × Contains cs y × (load_fault W y.facts.name ≡ None) × IsFalse (is_interface y.facts.flags) × (seat W y.facts.name ≡ Some a)
+    × ((m : Member) × (own_method y.facts k ≡ Some m) × IsTrue (is_instance m.flags) × IsFalse (is_private m.flags))
+
+-- the client world meets the collision: Constant is rule 10, Capture 11, Final 12
+abbrev pub Meets : World → List ClientClass → Collision → Type 0
+Meets W cs c = ((c.rule ≡ 10) × MeetsConstant W cs c.«class» c.key)
+    ⊎ (((c.rule ≡ 11) × MeetsCapture W cs c.«class» c.key)
+    ⊎ ((c.rule ≡ 12) × MeetsFinal W cs c.«class» c.key))

@@ -1,0 +1,52 @@
+-- Notes: what is worth telling and breaks no client's linking, over the old side O and the new side N alone.
+--     NoteStands O N n      the note is one of theirs
+use Rattle.std.specs.Prelude.{Bool, false, not, Option, Some, is_some, ◌==◌, ◌&&◌, ◌≡◌, IsTrue, if◌then◌else◌}
+use Rattle.std.specs.List.{find as first_where}
+use Rattle.jc_facts.specs.declared.class_facts.ClassFacts.{ClassFacts}
+use Rattle.jc_facts.specs.declared.class_facts.Member.{Member}
+use Rattle.jc_facts.specs.declared.class_facts.Fixed.{Fixed}
+use Rattle.jc_facts.specs.declared.class_facts.Constant.{Constant}
+use Rattle.jc_facts.specs.declared.class_facts.Constant.TheVariants.{Int, Float, Long, Double, Text}
+use Rattle.jc_facts.specs.declared.key.Key.{Key}
+use Rattle.jc_facts.specs.declared.verdict.Note.{Note}
+use Rattle.jc_facts.specs.declared.verdict.Note.TheVariants as note
+use Rattle.jc_facts.specs.Names.{Bytes, same, same_key}
+use Rattle.jc_facts.specs.Flags.{is_static, is_final}
+use Rattle.jc_facts.specs.Options.{and_then, some_and}
+use Rattle.jc_facts.specs.World.{World, class_named, own_field}
+use Rattle.jc_facts.specs.Loading.{load_fault}
+use Rattle.jc_facts.specs.Words.{is_kept}
+
+-- the two constants are of one kind and equal, floating-point ones by their bits
+abbrev pub same_constant : Constant → Constant → Bool
+same_constant (Int m) (Int n) = m == n
+same_constant (Float m) (Float n) = m == n
+same_constant (Long m) (Long n) = m == n
+same_constant (Double m) (Double n) = m == n
+same_constant (Text s) (Text t) = same s t
+same_constant _ _ = false
+
+-- the constant value of the class's field of the key, where it has one (JVMS 4.7.2)
+abbrev pub constant_of : ClassFacts → Key → Option Constant
+constant_of c k = and_then (λ f. Some f.value) (first_where (λ (f : Fixed). same_key f.key k) c.constants)
+
+-- the field of the key that the class declares is static and final
+abbrev pub has_static_final : ClassFacts → Key → Bool
+has_static_final c k = some_and (λ (m : Member). is_static m.flags && is_final m.flags) (own_field c k)
+
+-- both classes declare a field of the key, the old one static and final with a constant value, and the new one has none or another
+unfoldable pub loses_constant : ClassFacts → ClassFacts → Key → Bool
+loses_constant c d k = has_static_final c k && is_some (own_field d k)
+    && some_and (λ v. not (some_and (same_constant v) (constant_of d k))) (constant_of c k)
+
+-- the class of this name in the release of the one side, or of the other
+abbrev pub in_release : World → Bytes → Option ClassFacts
+in_release W x = class_named W.release x
+
+-- the note is one of these sides: a class of the old or the new release with its load fault;
+-- or a kept class of both releases that loses the constant of the key. The platform gives none
+abbrev pub NoteStands : World → World → Note → Type 0
+NoteStands O N (note.Unloadable old x e) =
+    let W = if old then O else N in
+    IsTrue (is_some (in_release W x)) × (load_fault W x ≡ Some e)
+NoteStands O N (note.Fixed x k) = IsTrue (is_kept O N x && some_and (λ c. some_and (λ d. loses_constant c d k) (in_release N x)) (in_release O x))

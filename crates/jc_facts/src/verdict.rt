@@ -1,0 +1,51 @@
+//! The verdict on a new release.
+use crate::act::Act;
+use crate::finding::Finding;
+use crate::key::Key;
+use crate::link_error::LinkError;
+use jc_base::items::Items;
+use jc_base::name::Name;
+
+/// A change that breaks only clients which already stand in its way.
+///
+/// The rule is 10 for `Constant`, 11 for `Capture` and 12 for `Final`.
+/// Collisions are ordered by rule, then class, then key, then act, then error.
+#[derive(PartialEq, Eq, PartialOrd, Ord, Debug, Drop)]
+pub struct Collision {
+    pub rule: u8,
+    pub class: Name,
+    pub key: Key,
+    pub act: Act,
+    pub error: LinkError,
+}
+
+/// What a witness is made for.
+#[derive(PartialEq, Eq, Debug, Drop)]
+pub enum Cause {
+    Finding(Finding),
+    Collision(Collision),
+}
+
+/// What is worth telling and breaks no client's linking.
+#[derive(PartialEq, Eq, Debug, Drop)]
+pub enum Note {
+    /// A class of the old or the new release that doesn't load.
+    Unloadable {
+        old: bool,
+        class: Name,
+        error: LinkError,
+    },
+    /// A constant field whose value has changed or is there no more.
+    Fixed {
+        class: Name,
+        key: Key,
+    },
+}
+
+/// What a new release breaks: the findings in their order, the collisions in theirs, and the notes.
+#[derive(PartialEq, Eq, Debug, Drop)]
+pub struct Verdict {
+    pub findings: Items<Finding>,
+    pub collisions: Items<Collision>,
+    pub notes: Items<Note>,
+}

@@ -1,0 +1,116 @@
+-- Soundness, from a verdict and from the rules alone, whole and with fewer rules.
+use Rattle.std.proofs.Common.{◌≡◌, ◌≤◌, ℕ, Bool, true, false, not, List, refl, ◌||◌, ◌==◌, nat_le, inl, inr, arith}
+use Rattle.std.specs.List.{All}
+use Rattle.std.proofs.lemmas.List.Elements.{recursion_from_All, All-contains}
+use Rattle.std.proofs.lemmas.Bool.{le-leb}
+use Rattle.std.proofs.lemmas.Map.Views.{exact_unsigned_eq}
+use Rattle.jc_facts.specs.declared.class_facts.Member.{Member}
+use Rattle.jc_facts.specs.declared.client.ClientClass.{ClientClass}
+use Rattle.jc_facts.specs.declared.key.Key.{Key}
+use Rattle.jc_facts.specs.declared.act.Act.TheVariants.{GetField, InvokeVirtual, Override}
+use Rattle.jc_facts.specs.declared.link_error.LinkError.TheVariants.{IncompatibleClassChangeError}
+use Rattle.jc_facts.specs.declared.verdict.Collision.{Collision}
+use Rattle.jc_facts.specs.Names.{Bytes}
+use Rattle.jc_desc.specs.Names.{is_init, is_clinit}
+use Rattle.jc_facts.specs.World.{World, side, with_clients}
+use Rattle.jc_facts.specs.Valid.{IsValidClass}
+use Rattle.jc_facts.specs.Clients.{facts_of}
+use Rattle.jc_facts.specs.Meets.{Meets, MeetsConstant, MeetsCapture, MeetsFinal}
+use Rattle.jc_facts.specs.Words.{is_inheritable}
+use Rattle.jc_facts.specs.Collisions.{collision, collision_at, CollisionStands, constant_stands, capture_stands, final_stands, capture_error}
+use Rattle.jc_laws.specs.Soundness.{Soundness, SoundnessOfRules, FindNothing, DeclareNone, MeetsNone, LoadsAndTypesKept, FieldsKept, KeptWithoutMethods}
+use Rattle.jc_laws.proofs.Settles.{EachOf, EachOf-map}
+use Rattle.jc_laws.proofs.Allowed.{or_first}
+use Rattle.jc_laws.proofs.Standing.{Quiet, all_quiet}
+use Rattle.jc_laws.proofs.Scope.{DeclaresNone, scope_loads, scope_class, scope_assign}
+use Rattle.jc_laws.proofs.Sound.{loads_kept, keeps_all, field_kept}
+use Rattle.jc_laws.proofs.Staged.{loads_of, keeps_without_methods}
+use Rattle.jc_laws.proofs.FindingLaws.{empty_means_none}
+
+-- ---- a collision that stands, of each kind
+
+constant_is : (O N : World) (i : Bytes) (k : Key) → constant_stands O N i k ≡ true → CollisionStands O N (collision 10 i k GetField IncompatibleClassChangeError)
+unfolding collision_at
+constant_is O N i k e = rw e refl
+
+capture_is : (O N : World) (a : Bytes) (k : Key) → capture_stands O N a k ≡ true → CollisionStands O N (collision 11 a k InvokeVirtual (capture_error N a k))
+unfolding collision_at
+capture_is O N a k e = rw e refl
+
+final_is : (O N : World) (a : Bytes) (k : Key) → final_stands O N a k ≡ true → CollisionStands O N (collision 12 a k Override IncompatibleClassChangeError)
+unfolding collision_at
+final_is O N a k e = rw e refl
+
+-- ---- whole
+
+pub rules_keep : SoundnessOfRules
+rules_keep platform old new cs root vp vo vn quiet scope met =
+    let O = side platform old in
+    let N = side platform new in
+    let W = with_clients O (facts_of cs) in
+    let p = recursion_from_All IsValidClass platform vp in
+    let o = recursion_from_All IsValidClass old vo in
+    let n = recursion_from_All IsValidClass new vn in
+    let q = all_quiet O N quiet in
+    let final : (a : Bytes) (k : Key) → final_stands O N a k ≡ true → MeetsFinal W cs a k → ⊥ = λ a k e m. met (collision 12 a k Override IncompatibleClassChangeError) (final_is O N a k e) (inr (inr (refl, m))) in
+    let constant : (i : Bytes) (k : Key) → constant_stands O N i k ≡ true → MeetsConstant W cs i k → ⊥ = λ i k e m. met (collision 10 i k GetField IncompatibleClassChangeError) (constant_is O N i k e) (inl (refl, m)) in
+    let capture : (a : Bytes) (k : Key) → capture_stands O N a k ≡ true → MeetsCapture W cs a k → ⊥ = λ a k e m. met (collision 11 a k InvokeVirtual (capture_error N a k)) (capture_is O N a k e) (inr (inl (refl, m))) in
+    keeps_all platform old new cs root p o n q scope (loads_kept platform old new cs root p o n q scope refl final) refl refl refl refl constant capture
+
+pub keeps : Soundness
+keeps platform old new v cs root vp vo vn verdict empty scope met =
+    let O = side platform old in
+    let N = side platform new in
+    let W = with_clients O (facts_of cs) in
+    rules_keep platform old new cs root vp vo vn (empty_means_none O N v verdict empty) scope
+    (λ c stands. All-contains (λ (c : Collision). Meets W cs c → ⊥) v.collisions c met (verdict.collisions.complete c stands))
+
+-- ---- with fewer rules
+
+abbrev quiet_of : (rules : ℕ → Bool) → ((n : ℕ) → n ≤ 4 → rules n ≡ true) → (O N : World) → FindNothing rules O N → Quiet O N
+quiet_of rules first O N q = record { rules = rules; first = first; none = q }
+
+up_to_4 : (n : ℕ) → n ≤ 4 → nat_le n 4 ≡ true
+up_to_4 n h = le-leb n 4 h
+
+never_6 : (n : ℕ) → n ≤ 4 → not (n == 6) ≡ true
+never_6 n h = go (n == 6) refl
+  where
+    go : (b : Bool) → (n == 6) ≡ b → not b ≡ true
+    go false e = refl
+    go true e = absurd (let z : n ≡ 6 = exact_unsigned_eq n 6 e in omega arith)
+
+declare_none : (cs : List ClientClass) → DeclareNone cs → EachOf (λ (c : ClientClass). DeclaresNone c.facts) cs
+declare_none cs h =
+    EachOf-map (λ (c : ClientClass) a. recursion_from_All (λ (m : Member). (is_init m.name || is_clinit m.name || not (is_inheritable m)) ≡ true) c.facts.methods a) cs
+    (recursion_from_All (λ (c : ClientClass). All (λ (m : Member). (is_init m.name || is_clinit m.name || not (is_inheritable m)) ≡ true) c.facts.methods) cs h)
+
+no_constant : (O N : World) (cs : List ClientClass) → MeetsNone 10 O N cs → (i : Bytes) (k : Key) → constant_stands O N i k ≡ true → MeetsConstant (with_clients O (facts_of cs)) cs i k → ⊥
+no_constant O N cs met i k e m = met (collision 10 i k GetField IncompatibleClassChangeError) refl (constant_is O N i k e) (inl (refl, m))
+
+no_capture : (O N : World) (cs : List ClientClass) → MeetsNone 11 O N cs → (a : Bytes) (k : Key) → capture_stands O N a k ≡ true → MeetsCapture (with_clients O (facts_of cs)) cs a k → ⊥
+no_capture O N cs met a k e m = met (collision 11 a k InvokeVirtual (capture_error N a k)) refl (capture_is O N a k e) (inr (inl (refl, m)))
+
+pub loads_and_types_kept : LoadsAndTypesKept
+loads_and_types_kept platform old new cs root find_nothing scope none x c e =
+    let q = quiet_of (λ r. nat_le r 4) up_to_4 (side platform old) (side platform new) find_nothing in
+    let d = declare_none cs none in
+    (scope_loads platform old new cs root q scope d x c e, scope_class platform old new cs root q scope d x c e, scope_assign platform old new cs root q scope d x c e)
+
+pub fields_kept : FieldsKept
+fields_kept platform old new cs root vp vo vn find_nothing scope none met c act t k r place is_in loaded form item reach ok =
+    let O = side platform old in
+    let N = side platform new in
+    let q = quiet_of (λ r. nat_le r 4 || r == 7) (λ n h. or_first (nat_le n 4) (n == 7) (up_to_4 n h)) O N find_nothing in
+    let p = recursion_from_All IsValidClass platform vp in
+    let o = recursion_from_All IsValidClass old vo in
+    let n = recursion_from_All IsValidClass new vn in
+    field_kept platform old new cs root p o n q scope (loads_of platform old new cs root p o n q scope (declare_none cs none)) refl (no_constant O N cs met) c act t k r place form is_in loaded item reach ok
+
+pub kept_without_methods : KeptWithoutMethods
+kept_without_methods platform old new cs root vp vo vn find_nothing scope none constant capture =
+    let O = side platform old in
+    let N = side platform new in
+    let q = quiet_of (λ r. not (r == 6)) never_6 O N find_nothing in
+    keeps_without_methods platform old new cs root (recursion_from_All IsValidClass platform vp) (recursion_from_All IsValidClass old vo) (recursion_from_All IsValidClass new vn) q scope (declare_none cs none)
+    refl refl refl refl (no_constant O N cs constant) (no_capture O N cs capture)

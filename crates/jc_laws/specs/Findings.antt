@@ -1,0 +1,63 @@
+-- Laws of findings and of verdicts.
+use Rattle.std.specs.Prelude.{[], ◌≡◌, false, Some, None, ℕ, true, List, Bool, All, is_some, ◌||◌, ◌++◌}
+use Rattle.std.specs.List.{list_any}
+use Rattle.jc_facts.specs.declared.class_facts.ClassFacts.{ClassFacts}
+use Rattle.jc_facts.specs.declared.key.Key.{Key}
+use Rattle.jc_facts.specs.declared.finding.Finding.{Finding}
+use Rattle.jc_facts.specs.declared.verdict.Collision.{Collision}
+use Rattle.jc_facts.specs.declared.verdict.Verdict.{Verdict}
+use Rattle.jc_facts.specs.Names.{Bytes}
+use Rattle.jc_facts.specs.World.{World, find, side, own_field, own_method}
+use Rattle.jc_facts.specs.Hierarchy.{chain, superinterfaces}
+use Rattle.jc_facts.specs.Clients.{HasRoot}
+use Rattle.jc_facts.specs.Valid.{IsValidClass}
+use Rattle.jc_facts.specs.Findings.{Subject, finding_at, subject_of}
+use Rattle.jc_facts.specs.Collisions.{constant_stands, capture_stands, final_stands, collision_at}
+use Rattle.jc_facts.specs.Words.{is_usable}
+use Rattle.jc_facts.specs.Verdict.{IsVerdict}
+
+-- the finding on a subject speaks of that subject: there is at most one for each rule, class and key or target
+abbrev pub FindingIsOnItsSubject : Type 0
+FindingIsOnItsSubject = (O N : World) (s : Subject) (f : Finding) → finding_at O N s ≡ Some f → subject_of f ≡ s
+
+-- the class of a finding was usable on the old side
+abbrev pub FindingsAreOfUsable : Type 0
+FindingsAreOfUsable = (O N : World) (s : Subject) (f : Finding) → finding_at O N s ≡ Some f → is_usable O s.class ≡ true
+
+-- and so was the class of a collision
+abbrev pub CollisionsAreOfUsable : Type 0
+CollisionsAreOfUsable = (O N : World) (rule : ℕ) (x : Bytes) (k : Key) (c : Collision) → collision_at O N rule x k ≡ Some c → is_usable O x ≡ true
+
+-- the class declares a field or a method of the key
+abbrev pub declares_key : Key → ClassFacts → Bool
+declares_key k c = is_some (own_field c k) || is_some (own_method c k)
+
+-- the class, its superclasses and its superinterfaces
+abbrev pub above : World → Bytes → List ClassFacts
+above W x = chain W x ++ superinterfaces W x
+
+-- the key of a finding is declared by its class or above it, on one of the sides
+abbrev pub KeysAreDeclared : Type 0
+KeysAreDeclared = (platform old new : List ClassFacts) → HasRoot platform → All IsValidClass platform → All IsValidClass old → All IsValidClass new
+    → (s : Subject) (k : Key) (f : Finding) → s.key ≡ Some k → finding_at (side platform old) (side platform new) s ≡ Some f
+    → list_any (declares_key k) (above (side platform old) s.class ++ above (side platform new) s.class) ≡ true
+
+-- the key of a collision is declared by its class or above it on the new side
+abbrev pub CollisionKeysAreDeclared : Type 0
+CollisionKeysAreDeclared = (platform old new : List ClassFacts) → HasRoot platform → All IsValidClass platform → All IsValidClass old → All IsValidClass new
+    → (rule : ℕ) (x : Bytes) (k : Key) (c : Collision) → collision_at (side platform old) (side platform new) rule x k ≡ Some c
+    → list_any (declares_key k) (above (side platform new) x) ≡ true
+
+-- there is at most one verdict
+abbrev pub VerdictIsOne : Type 0
+VerdictIsOne = (O N : World) (v w : Verdict) → IsVerdict O N v → IsVerdict O N w → v ≡ w
+
+-- where a verdict lists no finding, no rule stands anywhere
+abbrev pub EmptyMeansNone : Type 0
+EmptyMeansNone = (O N : World) (v : Verdict) → IsVerdict O N v → v.findings ≡ [] → (s : Subject) → finding_at O N s ≡ None
+
+-- nothing stands between a side of valid classes and itself
+abbrev pub NothingBreaksItself : Type 0
+NothingBreaksItself = (O : World) → ((x : Bytes) (c : ClassFacts) → find O x ≡ Some c → IsValidClass c)
+    → ((s : Subject) → finding_at O O s ≡ None)
+    × ((x : Bytes) (k : Key) → (constant_stands O O x k ≡ false) × (capture_stands O O x k ≡ false) × (final_stands O O x k ≡ false))

@@ -1,0 +1,14 @@
+package shapes;
+
+/** A circle. */
+public class Circle {
+    private final double radius;
+
+    public Circle(double radius) {
+        this.radius = radius < 0 ? 0 : radius;
+    }
+
+    public double area() {
+        return 3.141592653589793 * radius * radius;
+    }
+}

@@ -1,0 +1,6 @@
+package p;
+
+public class A {
+    public A() {
+    }
+}
