@@ -1,9 +1,7 @@
 -- A member, and a loop over members.
-use Rattle.std.proofs.Common.{◌≡◌, ℕ, suc, zero, ◌-◌, ◌+◌, ◌<◌, Bool, true, false, not, List, [], ◌∷◌, ◌++◌, length, map, Option, Some, None, Result, Ok, Err, refl, sym, ap, ◌∙◌, append_assoc, arith}
+use Rattle.std.proofs.Common.{◌≡◌, ℕ, suc, ◌-◌, ◌<◌, Bool, true, false, not, List, [], ◌∷◌, ◌++◌, Result, Ok, Err, refl, sym, ap, ◌∙◌, arith}
 use Rattle.std.proofs.lemmas.List.{append-nil, map_push}
 use Rattle.jc_desc.specs.declared.fault.Fault.{Fault}
-use Rattle.jc_desc.specs.declared.fault.Reason.TheVariants as reasons
-use Rattle.jc_desc.specs.Faults.{◌>>=◌}
 use Rattle.jc_desc.specs.Pool.{PoolOf}
 use Rattle.jc_facts.specs.declared.key.Key.{Key}
 use Rattle.jc_facts.specs.declared.class_facts.Member.{Member}

@@ -1,5 +1,5 @@
 -- Bytes are the class file of one record, or have one first fault.
-use Rattle.std.proofs.Common.{◌≡◌, ℕ, List, ◌⊎◌, inl, inr}
+use Rattle.std.proofs.Common.{ℕ, List, ◌⊎◌, inl, inr}
 use Rattle.jc_desc.specs.declared.fault.Reason.{Reason}
 use Rattle.jc_facts.specs.declared.class_facts.ClassFacts.{ClassFacts}
 use Rattle.jc_facts.specs.ClassGrammar.{Reads}

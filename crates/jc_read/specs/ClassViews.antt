@@ -1,5 +1,4 @@
 -- What is read of a class file, without where it lies in memory.
-use Rattle.std.specs.Prelude.{ℕ, List}
 use Rattle.std.specs.Option.{option_map}
 use Rattle.jc_facts.specs.declared.class_facts.Member.{Member}
 use Rattle.jc_facts.specs.ClassParts as parts

@@ -1,7 +1,6 @@
-use Rattle.std.proofs.Common.{◌≡◌, List, [], ◌∷◌, ◌++◌, ◌-◌, ◌+◌, ℕ, suc, Ok, arith, ap, sym, subst, ◌∙◌, refl}
+use Rattle.std.proofs.Common.{List, [], ◌-◌, ◌+◌, arith, sym, subst}
 use Rattle.std.proofs.lemmas.List.{map_push}
 use Rattle.jc_facts.specs.declared.key.Key.{Key}
-use Rattle.jc_facts.specs.Names.{key_of}
 use Rattle.jc_facts.specs.ClassParts as files
 use Rattle.jc_facts.specs.ClassSteps.{members_at}
 use Rattle.jc_facts.specs.Seen.{Holds}

@@ -1,4 +1,4 @@
-use Rattle.std.proofs.Common.{◌≡◌, ◌-◌, ◌+◌, suc, Option, Some, arith, refl, sym, ap, ◌∙◌}
+use Rattle.std.proofs.Common.{◌≡◌, ◌-◌, ◌+◌, Option, Some, arith, sym, ap, ◌∙◌}
 use Rattle.std.specs.Option.{option_map}
 use Rattle.jc_facts.specs.ClassSteps.{attributes_at, take_on_class, nothing_on_class}
 use Rattle.jc_read.specs.declared.on_class.OnClass.{OnClass}

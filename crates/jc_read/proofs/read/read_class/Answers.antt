@@ -1,4 +1,4 @@
-use Rattle.std.proofs.Common.{◌≡◌, sym}
+use Rattle.std.proofs.Common.{sym}
 use Rattle.jc_facts.proofs.ClassFiles.{class_file_stands}
 use Rattle.jc_facts.proofs.ReadLists.{read_valid}
 use Rattle.jc_read.proofs.read.read_class.Goals as goal
