@@ -7,3 +7,5 @@ pub mod bootstrap;
 pub mod classes;
 pub mod code;
 pub mod contents;
+#[cfg(test)]
+mod tests;

@@ -292,3 +292,6 @@ pub fn is_valid(alloc: Global, facts: &ClassFacts) -> Result<bool, AllocError>
     let valid = passes(alloc, facts)?;
     Ok(valid)
 }
+
+#[cfg(test)]
+mod tests;
