@@ -2,7 +2,6 @@ pub mod Same
 pub mod Listed
 pub mod Apart
 pub mod Exact
-pub mod Heads
 pub mod Keys
 pub mod Front
 pub mod ClassIndices

@@ -2,8 +2,6 @@ pub mod Names
 pub mod Flags
 pub mod Types
 pub mod Exact
-pub mod Heads
-pub mod Gone
 pub mod Rules
 pub mod Valid
 pub mod KeyOrder
@@ -34,3 +32,4 @@ pub mod Collisions
 pub mod Notes
 pub mod Orders
 pub mod Verdict
+pub mod Kept

@@ -1,4 +1,4 @@
--- The printed form of names and findings, as bytes.
+-- The printed forms of names and verdicts, as bytes.
 use Rattle.std.specs.Prelude.{ℕ, Bool, List, [], ◌∷◌, ◌++◌, ◌+◌, ◌/◌, ◌%◌, ◌==◌, ◌&&◌, false, nat_le, nat_lt, length, Option, Some, None, codes, if◌then◌else◌}
 use Rattle.std.specs.List.{flat_map}
 use Rattle.std.specs.Fmt.{decimal}
@@ -8,6 +8,10 @@ use Rattle.jc_facts.specs.declared.act.Act.TheVariants as acts
 use Rattle.jc_facts.specs.declared.link_error.LinkError.{LinkError}
 use Rattle.jc_facts.specs.declared.link_error.LinkError.TheVariants as errors
 use Rattle.jc_facts.specs.declared.finding.Finding.{Finding}
+use Rattle.jc_facts.specs.declared.verdict.Collision.{Collision}
+use Rattle.jc_facts.specs.declared.verdict.Note.{Note}
+use Rattle.jc_facts.specs.declared.verdict.Note.TheVariants as notes
+use Rattle.jc_facts.specs.declared.verdict.Verdict.{Verdict}
 use Rattle.jc_facts.specs.Names.{Bytes}
 
 -- a lower-case hexadecimal digit
@@ -95,11 +99,44 @@ abbrev pub finding_lines : ℕ → List Finding → Bytes
 finding_lines number [] = []
 finding_lines number (f ∷ fs) = finding_line number f ++ finding_lines (number + 1) fs
 
+-- ---- verdicts
+
+-- the line of a collision: number, rule, class, member, act, no seat, and error, with single spaces
+unfoldable pub collision_line : ℕ → Collision → Bytes
+collision_line number c =
+    decimal number ++ codes " " ++ rule_name c.rule ++ codes " " ++ printed c.class ++ codes " " ++ printed_key c.key ++ codes " "
+    ++ act_word c.act ++ codes " - " ++ error_name c.error ++ codes "\n"
+
+-- the lines of collisions, numbered from a first number on
+abbrev pub collision_lines : ℕ → List Collision → Bytes
+collision_lines number [] = []
+collision_lines number (c ∷ cs) = collision_line number c ++ collision_lines (number + 1) cs
+
+-- a release
+abbrev pub side_word : Bool → Bytes
+side_word old = if old then codes "old" else codes "new"
+
+-- the line of a note: a class of a release that doesn't load, with its load fault, or a constant that has changed
+unfoldable pub note_line : Note → Bytes
+note_line (notes.Unloadable old x e) = codes "note unloadable " ++ side_word old ++ codes " " ++ printed x ++ codes " " ++ error_name e ++ codes "\n"
+note_line (notes.Fixed x k) = codes "note constant " ++ printed x ++ codes " " ++ printed_key k ++ codes "\n"
+
+-- the lines of notes
+abbrev pub note_lines : List Note → Bytes
+note_lines [] = []
+note_lines (n ∷ ns) = note_line n ++ note_lines ns
+
 -- incompatible exactly where there is a finding
 abbrev pub verdict_word : List Finding → Bytes
 verdict_word [] = codes "compatible"
 verdict_word (f ∷ fs) = codes "incompatible"
 
--- the text of a verdict that has these findings and nothing else
-unfoldable pub findings_text : List Finding → Bytes
-findings_text fs = finding_lines 1 fs ++ verdict_word fs ++ codes ": " ++ decimal (length fs) ++ codes " findings, 0 collisions, 0 notes\n"
+-- the last line: the word, and how many findings, collisions and notes there are
+abbrev pub last_line : Verdict → Bytes
+last_line v =
+    verdict_word v.findings ++ codes ": " ++ decimal (length v.findings) ++ codes " findings, " ++ decimal (length v.collisions) ++ codes " collisions, "
+    ++ decimal (length v.notes) ++ codes " notes\n"
+
+-- the text of a verdict: a line for each finding, then for each collision, with numbers that go on, then for each note, and the last line
+unfoldable pub text_of : Verdict → Bytes
+text_of v = finding_lines 1 v.findings ++ collision_lines (length v.findings + 1) v.collisions ++ note_lines v.notes ++ last_line v
