@@ -61,4 +61,6 @@ pub mod ExactLists
 pub mod AboveKeys
 pub mod KeyLaws
 pub mod Interfaces
+pub mod GoneLaw
+pub mod InOrder
 pub mod WorkedVerdict

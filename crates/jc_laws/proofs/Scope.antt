@@ -55,7 +55,7 @@ client_of (d ∷ cs) x c e = go (same d.facts.name x) e (client_of cs x c)
     go true q r = let k : d.facts ≡ c = cc in record { client = d; is_in = Contains-append_left (d ∷ []) cs d (Contains-push [] d); facts = k }
     go false q r = let w = r q in record { client = w.client; is_in = Contains-append_right (d ∷ []) cs w.client w.is_in; facts = w.facts }
 
-allowed_names : (W : World) (cs : List ClientClass) → EachOf (λ c. is_allowed W c.facts.name ≡ true) cs → EachOf (λ n. is_allowed W n ≡ true) (names (facts_of cs))
+pub allowed_names : (W : World) (cs : List ClientClass) → EachOf (λ c. is_allowed W c.facts.name ≡ true) cs → EachOf (λ n. is_allowed W n ≡ true) (names (facts_of cs))
 allowed_names W [] h = tt
 allowed_names W (c ∷ cs) h = (h.0, allowed_names W cs h.1)
 

@@ -1,24 +1,28 @@
 -- Soundness, from a verdict and from the rules alone, whole and with fewer rules.
-use Rattle.std.proofs.Common.{◌≡◌, ◌≤◌, ℕ, Bool, true, false, not, List, refl, ◌||◌, ◌==◌, nat_le, inl, inr, arith}
-use Rattle.std.specs.List.{All}
+use Rattle.std.proofs.Common.{◌≡◌, ◌≤◌, ℕ, Bool, true, false, not, cond, List, [], ◌∷◌, refl, ◌∙◌, ap, Some, ◌||◌, ◌==◌, nat_le, ◌⊎◌, inl, inr, arith}
+use Rattle.std.specs.List.{All, Contains}
 use Rattle.std.proofs.lemmas.List.Elements.{recursion_from_All, All-contains}
-use Rattle.std.proofs.lemmas.Bool.{le-leb}
+use Rattle.std.proofs.lemmas.Bool.{le-leb, both_ways}
 use Rattle.std.proofs.lemmas.Map.Views.{exact_unsigned_eq}
+use Rattle.jc_facts.specs.declared.class_facts.ClassFacts.{ClassFacts}
 use Rattle.jc_facts.specs.declared.class_facts.Member.{Member}
 use Rattle.jc_facts.specs.declared.client.ClientClass.{ClientClass}
 use Rattle.jc_facts.specs.declared.key.Key.{Key}
 use Rattle.jc_facts.specs.declared.act.Act.TheVariants.{GetField, InvokeVirtual, Override}
 use Rattle.jc_facts.specs.declared.link_error.LinkError.TheVariants.{IncompatibleClassChangeError}
 use Rattle.jc_facts.specs.declared.verdict.Collision.{Collision}
-use Rattle.jc_facts.specs.Names.{Bytes}
+use Rattle.jc_facts.specs.Names.{Bytes, same}
 use Rattle.jc_desc.specs.Names.{is_init, is_clinit}
-use Rattle.jc_facts.specs.World.{World, side, with_clients}
+use Rattle.jc_facts.specs.World.{World, class_named, side, with_clients}
 use Rattle.jc_facts.specs.Valid.{IsValidClass}
 use Rattle.jc_facts.specs.Clients.{facts_of}
 use Rattle.jc_facts.specs.Meets.{Meets, MeetsConstant, MeetsCapture, MeetsFinal}
 use Rattle.jc_facts.specs.Words.{is_inheritable}
 use Rattle.jc_facts.specs.Collisions.{collision, collision_at, CollisionStands, constant_stands, capture_stands, final_stands, capture_error}
-use Rattle.jc_laws.specs.Soundness.{Soundness, SoundnessOfRules, FindNothing, DeclareNone, MeetsNone, LoadsAndTypesKept, FieldsKept, KeptWithoutMethods}
+use Rattle.jc_laws.specs.Soundness.{Soundness, SoundnessOfRules, FindNothing, MeetsNone, TypesKept, FieldsKept, KeptWithoutMethods}
+use Rattle.jc_facts.specs.Kept.{DeclareNone}
+use Rattle.jc_facts.proofs.Listed.{none, cases}
+use Rattle.jc_facts.proofs.Same.{same_itself}
 use Rattle.jc_laws.proofs.Settles.{EachOf, EachOf-map}
 use Rattle.jc_laws.proofs.Allowed.{or_first}
 use Rattle.jc_laws.proofs.Standing.{Quiet, all_quiet}
@@ -91,11 +95,30 @@ no_constant O N cs met i k e m = met (collision 10 i k GetField IncompatibleClas
 no_capture : (O N : World) (cs : List ClientClass) → MeetsNone 11 O N cs → (a : Bytes) (k : Key) → capture_stands O N a k ≡ true → MeetsCapture (with_clients O (facts_of cs)) cs a k → ⊥
 no_capture O N cs met a k e m = met (collision 11 a k InvokeVirtual (capture_error N a k)) refl (capture_is O N a k e) (inr (inl (refl, m)))
 
-pub loads_and_types_kept : LoadsAndTypesKept
-loads_and_types_kept platform old new cs root find_nothing scope none x c e =
-    let q = quiet_of (λ r. nat_le r 4) up_to_4 (side platform old) (side platform new) find_nothing in
-    let d = declare_none cs none in
-    (scope_loads platform old new cs root q scope d x c e, scope_class platform old new cs root q scope d x c e, scope_assign platform old new cs root q scope d x c e)
+-- a client's record is found by its name
+pub client_there : (cs : List ClientClass) (c : ClientClass) → Contains cs c → (d : ClassFacts) × (class_named (facts_of cs) c.facts.name ≡ Some d)
+unfolding class_named
+client_there [] c h = absurd (none c h)
+client_there (d ∷ cs) c h = go (same d.facts.name c.facts.name) refl (cases d cs c h) (client_there cs c)
+  where
+    go : (b : Bool) → same d.facts.name c.facts.name ≡ b → (d ≡ c) ⊎ Contains cs c → (Contains cs c → (e : ClassFacts) × (class_named (facts_of cs) c.facts.name ≡ Some e))
+        → (e : ClassFacts) × (cond b (Some d.facts) (class_named (facts_of cs) c.facts.name) ≡ Some e)
+    go true e w r = (d.facts, refl)
+    go false e (inl is) r = absurd (both_ways (same d.facts.name c.facts.name) e (ap (λ (z : ClientClass). same z.facts.name c.facts.name) is ∙ same_itself c.facts.name))
+    go false e (inr k) r = r k
+
+pub types_kept : TypesKept
+types_kept platform old new cs root find_nothing scope none_declared = record {
+  loading = λ c h. let t = client_there cs c h in scope_loads platform old new cs root q scope d c.facts.name t.0 t.1;
+  classes = λ c h. let t = client_there cs c h in scope_class platform old new cs root q scope d c.facts.name t.0 t.1;
+  assignments = λ c h. let t = client_there cs c h in scope_assign platform old new cs root q scope d c.facts.name t.0 t.1;
+}
+  where
+    q : Quiet (side platform old) (side platform new)
+    q = quiet_of (λ r. nat_le r 4) up_to_4 (side platform old) (side platform new) find_nothing
+
+    d : EachOf (λ (c : ClientClass). DeclaresNone c.facts) cs
+    d = declare_none cs none_declared
 
 pub fields_kept : FieldsKept
 fields_kept platform old new cs root vp vo vn find_nothing scope none met c act t k r place is_in loaded form item reach ok =

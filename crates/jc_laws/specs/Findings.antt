@@ -15,6 +15,7 @@ use Rattle.jc_facts.specs.Findings.{Subject, finding_at, subject_of}
 use Rattle.jc_facts.specs.Collisions.{constant_stands, capture_stands, final_stands, collision_at}
 use Rattle.jc_facts.specs.Words.{is_usable}
 use Rattle.jc_facts.specs.Verdict.{IsVerdict}
+use Rattle.jc_facts.specs.Kept.{BreaksClass}
 
 -- the finding on a subject speaks of that subject: there is at most one for each rule, class and key or target
 abbrev pub FindingIsOnItsSubject : Type 0
@@ -61,3 +62,9 @@ abbrev pub NothingBreaksItself : Type 0
 NothingBreaksItself = (O : World) → ((x : Bytes) (c : ClassFacts) → find O x ≡ Some c → IsValidClass c)
     → ((s : Subject) → finding_at O O s ≡ None)
     × ((x : Bytes) (k : Key) → (constant_stands O O x k ≡ false) × (capture_stands O O x k ≡ false) × (final_stands O O x k ≡ false))
+
+-- where rule 1 stands on a side of valid classes, each client's naming of the class breaks by the printed error
+abbrev pub GoneBreaks : Type 0
+GoneBreaks = (platform old new : List ClassFacts) → All IsValidClass platform → All IsValidClass old
+    → (s : Subject) (f : Finding) → s.rule ≡ 1 → finding_at (side platform old) (side platform new) s ≡ Some f
+    → BreaksClass (side platform old) (side platform new) f.class f.error

@@ -1,7 +1,6 @@
 -- Soundness: what the rules find nothing about, clients keep.
-use Rattle.std.specs.Prelude.{ℕ, Bool, true, not, List, [], ◌≡◌, ◌==◌, ◌||◌, nat_le, Option, Some, None, is_some, All, Contains, IsTrue}
+use Rattle.std.specs.Prelude.{ℕ, Bool, true, not, List, [], ◌≡◌, ◌==◌, ◌||◌, nat_le, Option, None, is_some, All, Contains, IsTrue}
 use Rattle.jc_facts.specs.declared.class_facts.ClassFacts.{ClassFacts}
-use Rattle.jc_facts.specs.declared.class_facts.Member.{Member}
 use Rattle.jc_facts.specs.declared.client.ClientClass.{ClientClass}
 use Rattle.jc_facts.specs.declared.client.Item.TheVariants as item
 use Rattle.jc_facts.specs.declared.client.Place.{Place}
@@ -10,7 +9,6 @@ use Rattle.jc_facts.specs.declared.key.Key.{Key}
 use Rattle.jc_facts.specs.declared.verdict.Collision.{Collision}
 use Rattle.jc_facts.specs.declared.verdict.Verdict.{Verdict}
 use Rattle.jc_facts.specs.Names.{Bytes, object_name}
-use Rattle.jc_desc.specs.Names.{is_init, is_clinit}
 use Rattle.jc_facts.specs.World.{World, class_named, side, with_clients}
 use Rattle.jc_facts.specs.Loading.{load_fault}
 use Rattle.jc_facts.specs.Outcome.{outcome}
@@ -18,7 +16,7 @@ use Rattle.jc_facts.specs.Acts.{FieldForm, form_of}
 use Rattle.jc_facts.specs.Valid.{IsValidClass}
 use Rattle.jc_facts.specs.Clients.{IsInScope, facts_of, is_in_reach, HasRoot, Keeps}
 use Rattle.jc_facts.specs.Meets.{Meets}
-use Rattle.jc_facts.specs.Words.{is_inheritable}
+use Rattle.jc_facts.specs.Kept.{DeclareNone, KeepsTypes}
 use Rattle.jc_facts.specs.Findings.{Subject, finding_at}
 use Rattle.jc_facts.specs.Collisions.{CollisionStands}
 use Rattle.jc_facts.specs.Verdict.{IsVerdict}
@@ -50,26 +48,17 @@ SoundnessOfRules = (platform old new : List ClassFacts) (cs : List ClientClass)
 abbrev pub FindNothing : (ℕ → Bool) → World → World → Type 0
 FindNothing rules O N = (s : Subject) → IsTrue (rules s.rule) → finding_at O N s ≡ None
 
--- each method of the clients is an initializer, static or private: no class below could override by it
-abbrev pub DeclareNone : List ClientClass → Type 0
-DeclareNone cs = All (λ c. All (λ (m : Member). IsTrue (is_init m.name || is_clinit m.name || not (is_inheritable m))) c.facts.methods) cs
-
 -- the collision of this rule is not met
 abbrev pub MeetsNone : ℕ → World → World → List ClientClass → Type 0
 MeetsNone rule O N cs = (c : Collision) → c.rule ≡ rule → CollisionStands O N c → ¬ (Meets (with_clients O (facts_of cs)) cs c)
 
 -- Rules 1 to 4 keep the loads of such clients, the classes that they name and their assignments in reach.
-abbrev pub LoadsAndTypesKept : Type 0
-LoadsAndTypesKept = (platform old new : List ClassFacts) (cs : List ClientClass)
+abbrev pub TypesKept : Type 0
+TypesKept = (platform old new : List ClassFacts) (cs : List ClientClass)
     → is_some (class_named platform object_name) ≡ true
     → FindNothing (λ r. nat_le r 4) (side platform old) (side platform new)
     → IsInScope (side platform old) (side platform new) cs → DeclareNone cs
-    → let before = with_clients (side platform old) (facts_of cs) in
-    let after = with_clients (side platform new) (facts_of cs) in
-    (x : Bytes) (c : ClassFacts) → class_named (facts_of cs) x ≡ Some c
-    → (load_fault before x ≡ None → load_fault after x ≡ None)
-    × ((t : Bytes) → outcome before x (item.Class t) ≡ None → outcome after x (item.Class t) ≡ None)
-    × ((s t : Bytes) → IsTrue (is_in_reach before x (item.Assign s t)) → outcome before x (item.Assign s t) ≡ None → outcome after x (item.Assign s t) ≡ None)
+    → KeepsTypes (side platform old) (side platform new) cs
 
 -- With rule 7 they keep the acts on fields too, where no Constant collision is met.
 abbrev pub FieldsKept : Type 0

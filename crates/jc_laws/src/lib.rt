@@ -10,8 +10,8 @@ ghost use Rattle.jc_laws.specs.Sides.{SidesStay};
 ghost use Rattle.jc_laws.specs.Choices.{InheritedArePublic, EachChoiceGivesTheSame, EachInitGivesTheSame};
 ghost use Rattle.jc_laws.specs.Walks.{WalksOverClients, SeatEndsTheClients};
 ghost use Rattle.jc_laws.specs.Overriding.{WalkIsOverriding, FinalsRefuse};
-ghost use Rattle.jc_laws.specs.Findings.{FindingIsOnItsSubject, FindingsAreOfUsable, CollisionsAreOfUsable, KeysAreDeclared, CollisionKeysAreDeclared, VerdictIsOne, EmptyMeansNone, NothingBreaksItself};
-ghost use Rattle.jc_laws.specs.Soundness.{Soundness, SoundnessOfRules, LoadsAndTypesKept, FieldsKept, KeptWithoutMethods};
+ghost use Rattle.jc_laws.specs.Findings.{FindingIsOnItsSubject, FindingsAreOfUsable, CollisionsAreOfUsable, KeysAreDeclared, CollisionKeysAreDeclared, VerdictIsOne, EmptyMeansNone, NothingBreaksItself, GoneBreaks};
+ghost use Rattle.jc_laws.specs.Soundness.{Soundness, SoundnessOfRules, TypesKept, FieldsKept, KeptWithoutMethods};
 
 /// Who stands above a class is the same at every sufficient depth, also for a class on a cycle.
 pub fn levels_suffice()
@@ -123,6 +123,11 @@ pub fn nothing_breaks_itself()
     ensures { NothingBreaksItself }
 {}
 
+/// A class of which rule 1 stands breaks each client in scope that names it, by the printed error.
+pub fn gone_breaks()
+    ensures { GoneBreaks }
+{}
+
 /// Soundness: where the verdict lists no finding, all clients in scope that meet none of its collisions keep what they had.
 pub fn keeps()
     ensures { Soundness }
@@ -134,8 +139,8 @@ pub fn rules_keep()
 {}
 
 /// Rules 1 to 4 keep loading, named classes and assignments of clients that declare no method to override by.
-pub fn loads_and_types_kept()
-    ensures { LoadsAndTypesKept }
+pub fn types_kept()
+    ensures { TypesKept }
 {}
 
 /// Rules 1 to 4 and 7 keep the acts on fields of such clients.
