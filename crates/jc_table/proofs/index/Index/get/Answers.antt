@@ -1,0 +1,32 @@
+use Rattle.std.proofs.Common.{◌≡◌, ◌<◌, ℕ, List, Some, arith, ◌∙◌, sym, ap, subst}
+use Rattle.jc_facts.specs.declared.class_facts.ClassFacts.{ClassFacts}
+use Rattle.jc_facts.specs.World.{size}
+use Rattle.jc_table.specs.Ids.{names_of, place_of, id_of}
+use Rattle.jc_table.proofs.Indexed.{id_is, size_is}
+use Rattle.jc_table.proofs.Numbers.{id_of-Some}
+use Rattle.jc_table.proofs.index.Index.get.Goals as goal
+
+pub overflow_cast-place : goal.overflow_cast-place
+overflow_cast-place c =
+    let is : Some c.in-Some.place ≡ id_of c.args.self.now c.args.name.now =
+    c.in-Some.ensures ∙ ap (λ (cs : List ClassFacts). place_of (names_of cs) c.args.name.now) c.as_slice.ensures.value
+    ∙ id_is c.self.inside c.self.invariant c.args.self.now c.self.view_is c.args.name.now
+    in
+    let below : c.in-Some.place < size c.args.self.now = (id_of-Some c.args.self.now c.args.name.now c.in-Some.place (sym is)).0 in
+    let all = size_is c.self.inside c.self.invariant c.args.self.now c.self.view_is in
+    omega (arith, c.self.invariant.few)
+
+pub returns-in-Some-clause-value : goal.returns-in-Some-clause-value
+returns-in-Some-clause-value c =
+    ap Some c.new.ensures ∙ c.in-Some.ensures ∙ ap (λ (cs : List ClassFacts). place_of (names_of cs) c.args.name.now) c.as_slice.ensures.value
+    ∙ id_is c.self.inside c.self.invariant c.args.self.now c.self.view_is c.args.name.now
+
+pub returns-in-None-clause-value : goal.returns-in-None-clause-value
+returns-in-None-clause-value c =
+    c.in-None.ensures ∙ ap (λ (cs : List ClassFacts). place_of (names_of cs) c.args.name.now) c.as_slice.ensures.value
+    ∙ id_is c.self.inside c.self.invariant c.args.self.now c.self.view_is c.args.name.now
+
+pub returns-in-Some-clause-of_table : goal.returns-in-Some-clause-of_table
+returns-in-Some-clause-of_table c = subst (λ (n : ℕ). n < size c.args.self.now) (sym c.new.ensures)
+    (id_of-Some c.args.self.now c.args.name.now c.in-Some.place
+    (sym (c.in-Some.ensures ∙ ap (λ (cs : List ClassFacts). place_of (names_of cs) c.args.name.now) c.as_slice.ensures.value ∙ id_is c.self.inside c.self.invariant c.args.self.now c.self.view_is c.args.name.now))).0

@@ -1,0 +1,12 @@
+use Rattle.std.proofs.Common.{◌≡◌, ◌<◌, ◌-◌}
+use Rattle.jc_facts.specs.World.{size}
+use Rattle.jc_facts.specs.Hierarchy.{in_chain}
+use Rattle.jc_table.specs.Ids.{name_at}
+use Rattle.jc_table.proofs.Upwards.{is_up}
+use Rattle.jc_table.proofs.index.Index.has_super.Given as goal
+
+abbrev pub invariant-loop : goal.invariant-loop
+invariant-loop l = record {
+  within : l.class < size l.self;
+  same : in_chain l.self (name_at l.self l.fn.id) (name_at l.self l.of) ≡ is_up l.self (size l.self - l.counter) (name_at l.self l.class) (name_at l.self l.of);
+}

@@ -1,0 +1,11 @@
+use Rattle.std.proofs.Common.{◌≡◌, Some, sym, ◌∙◌, refl}
+use Rattle.jc_facts.specs.World.{find}
+use Rattle.jc_facts.specs.Options.{and_then}
+use Rattle.jc_facts.specs.Loading.{superclass_fault}
+use Rattle.jc_table.proofs.refusal.superclass_fault.Goals as goal
+
+pub returns-in-Some : goal.returns-in-Some
+unfolding superclass_fault and_then
+returns-in-Some c =
+    let e : find c.args.index.now c.args.name.now ≡ Some c.in-Some.above.now = sym c.in-Some.ensures in
+    c.superclass_error.ensures c.args.index.now ∙ rw e refl

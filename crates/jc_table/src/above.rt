@@ -1,0 +1,102 @@
+//! The interfaces above each class.
+ghost use Rattle.std.specs.Prelude.{◌≡◌, ◌<◌, ◌||◌, ℕ, length, slice_index_or, IfOk, IsTrue};
+ghost use Rattle.std.specs.List.{All, filter_map};
+ghost use Rattle.std.specs.BTreeSet.{BTreeSet as SetOf};
+ghost use Rattle.jc_facts.specs.Names.{same};
+ghost use Rattle.jc_facts.specs.World.{size, classes};
+ghost use Rattle.jc_facts.specs.Clients.{names_differ};
+ghost use Rattle.jc_facts.specs.Hierarchy.{has_superinterface as is_superinterface};
+ghost use Rattle.jc_table.specs.Ids.{name_at, id_of};
+ghost use Rattle.jc_table.specs.Reach.{IsLedTo};
+ghost use Rattle.jc_table.specs.Above.{edges_of, AreRows};
+
+use crate::ids::ClassId;
+use crate::index::Index;
+use crate::reach::led_to;
+use jc_base::items::Items;
+use jc_base::name::Name;
+use std::alloc::{AllocError, Global};
+use std::collections::BTreeSet;
+
+// The numbers of the classes of these names, where there are such classes.
+fn ids_of(alloc: Global, index: &Index, names: &[Name]) -> Result<Vec<u32>, AllocError>
+    ensures { IfOk result (λ ids. ids.items ≡ filter_map (id_of index.now) names.now) }
+{
+    let mut ids = Vec::new(alloc);
+    for name in names {
+        if let Some(id) = index.get(name.as_bytes()) {
+            ids.push(id.number())?;
+        }
+    }
+    Ok(ids)
+}
+
+// For each class the numbers of the interfaces that it names.
+fn edges(alloc: Global, index: &Index) -> Result<Vec<Items<u32>>, AllocError>
+    ensures exact { IfOk result (λ edges. edges.items ≡ edges_of index.now) }
+    ensures few { size index.now < 4294967296 }
+    ensures differ { IsTrue (names_differ (classes index.now)) }
+{
+    let mut edges = Vec::new(alloc);
+    for n in 0..index.count() {
+        let class = index.facts(ClassId::new(n));
+        let ids = ids_of(alloc, index, class.interfaces.as_slice())?;
+        edges.push(Items::from_vec(ids))?;
+    }
+    Ok(edges)
+}
+
+// For each number what it leads to.
+fn rows(alloc: Global, edges: &[Items<u32>]) -> Result<Vec<BTreeSet<u32>>, AllocError>
+    requires within { All (λ ids. All (λ id. id < length edges.now) ids) edges.now }
+    requires few { length edges.now < 4294967296 }
+    ensures count { IfOk result (λ rows. length rows.items ≡ length edges.now) }
+    ensures exact { IfOk result (λ rows. (n : ℕ) (d : SetOf ℕ) → n < length edges.now → IsLedTo edges.now n (slice_index_or rows.items n d)) }
+{
+    let mut rows = Vec::new(alloc);
+    for start in 0..edges.len() as u32 {
+        rows.push(led_to(alloc, edges, start)?)?;
+    }
+    Ok(rows)
+}
+
+/// For each class of an index the interfaces that it names, and those that they lead to.
+pub fn interfaces_above(alloc: Global, index: &Index) -> Result<Vec<BTreeSet<u32>>, AllocError>
+    ensures { IfOk result (λ rows. AreRows index.now rows.items) }
+{
+    let edges = edges(alloc, index)?;
+    let rows = rows(alloc, edges.as_slice())?;
+    Ok(rows)
+}
+
+// Whether the other class is a superinterface of the class: an interface that a class of its chain
+// names, or one that such an interface leads to.
+fn has_superinterface(index: &Index, rows: &[BTreeSet<u32>], id: ClassId, of: ClassId) -> bool
+    requires rows { AreRows index.now rows.now }
+    requires class { id < size index.now }
+    requires above { of < size index.now }
+    ensures value { result ≡ is_superinterface index.now (name_at index.now id) (name_at index.now of) }
+    ensures differ { IsTrue (names_differ (classes index.now)) }
+{
+    let mut class = id;
+    for _ in 0..index.count() {
+        if rows[class.number() as usize].contains(&of.number()) {
+            return true;
+        }
+        class = match index.superclass(class) {
+            Some(above) => above,
+            None => return false,
+        };
+    }
+    false
+}
+
+/// Whether the other class is the class or one of its superinterfaces (JVMS 4.1).
+pub fn is_below(index: &Index, rows: &[BTreeSet<u32>], id: ClassId, of: ClassId) -> bool
+    requires rows { AreRows index.now rows.now }
+    requires class { id < size index.now }
+    requires above { of < size index.now }
+    ensures { result ≡ (same (name_at index.now id) (name_at index.now of) || is_superinterface index.now (name_at index.now id) (name_at index.now of)) }
+{
+    id == of || has_superinterface(index, rows, id, of)
+}

@@ -1,0 +1,236 @@
+//! The classes of a side, found by their names.
+ghost use Rattle.std.specs.Prelude.{◌≡◌, ◌≤◌, ◌<◌, ◌+◌, ◌||◌, length, map, is_some, nat_lt, Some, None, IfOk, IfErr, IfSome, IsTrue};
+ghost use Rattle.std.specs.List.{All};
+ghost use Rattle.jc_facts.specs.Options.{some_where};
+ghost use Rattle.jc_facts.specs.Valid.{IsValidClass};
+ghost use Rattle.jc_facts.specs.Names.{same};
+ghost use Rattle.jc_facts.specs.Clients.{names_differ, names_super as names_above};
+ghost use Rattle.jc_facts.specs.World.{side, size, find, class_named};
+ghost use Rattle.jc_facts.specs.Hierarchy.{in_chain, has_superinterface};
+ghost use Rattle.jc_facts.specs.Loading.{load_fault};
+ghost use Rattle.jc_table.specs.Ids.{name_at, names, id_of, superclass_of};
+ghost use Rattle.jc_table.specs.Mentioned.{is_package, mentions_front};
+ghost use Rattle.jc_table.specs.Root.{root_fault as fault_of};
+ghost use Rattle.jc_table.specs.Sides.{IsSide, first_overlap as overlap_of};
+ghost use Rattle.jc_table.specs.Tables.{HasCause};
+
+use crate::above::{interfaces_above, is_below};
+use crate::faults::load_faults;
+use crate::ids::ClassId;
+use crate::index::Index;
+use crate::overlap::first_overlap;
+use crate::root::{RootPart, root_fault};
+use crate::texts::Texts;
+use jc_base::name::Name;
+use jc_facts::class_facts::ClassFacts;
+use jc_facts::link_error::LinkError;
+use std::alloc::{AllocError, Global};
+use std::collections::BTreeSet;
+use std::marker::Model;
+use thiserror::Error;
+
+/// Why a table isn't built.
+#[derive(Debug, Drop, Error)]
+pub enum TableError {
+    /// The first part of the platform's `java/lang/Object` that isn't as it has to be.
+    #[error("java/lang/Object: {0:?}")]
+    BadRoot(RootPart),
+    /// The first name in byte order that both the platform and the release declare.
+    #[error("{0:?} is declared twice")]
+    Overlap(Name),
+    /// Out of memory.
+    #[error("out of memory")]
+    Memory,
+}
+
+/// The classes of a platform with one release of a library, found by their names. A contract sees
+/// it as the side.
+#[derive(Drop)]
+pub struct Table {
+    index: Index,
+    texts: Texts,
+    // For each class the interfaces that stand above it.
+    rows: Vec<BTreeSet<u32>>,
+    // For each class its load fault.
+    faults: Vec<Option<LinkError>>,
+}
+
+impl Model for Table {
+    ghost use Rattle.jc_facts.specs.World.{World};
+
+    ghost Value = { World };
+
+    ghost use Rattle.jc_table.specs.TableFields.{IsTable};
+
+    ghost view = { λ t. t.index };
+
+    ghost invariant = { IsTable };
+}
+
+// The table of an index.
+fn of_index(alloc: Global, index: Index) -> Result<Table, AllocError>
+    ensures { IfOk result (λ table. table ≡ index) }
+{
+    let texts = Texts::new(alloc, index.classes())?;
+    let rows = interfaces_above(alloc, &index)?;
+    let faults = load_faults(alloc, &index)?;
+    Ok(Table {
+        index,
+        texts,
+        rows,
+        faults,
+    })
+}
+
+impl Table {
+    /// The table of a platform and a release: valid records, with names that differ in each of the
+    /// two, and no more than 120,000 together. The platform's `java/lang/Object` has to be as
+    /// `RootPart` says, and no name may be in both; the first cause is the answer, and `Memory` may
+    /// come in place of any but a bad root.
+    pub fn build(
+        alloc: Global,
+        platform: &[ClassFacts],
+        release: Vec<ClassFacts>,
+    ) -> Result<Table, TableError>
+        requires valid_platform { All IsValidClass platform.now }
+        requires valid_release { All IsValidClass release.items }
+        requires platform_differs { IsTrue (names_differ platform.now) }
+        requires release_differs { IsTrue (names_differ release.items) }
+        requires few { length platform.now + length release.items ≤ 120000 }
+        ensures built { IfOk result (λ table. table ≡ side platform.now release.items) }
+        ensures sound { IfOk result (λ _. (fault_of platform.now ≡ None) × (overlap_of platform.now release.items ≡ None)) }
+        ensures refused { IfErr result (HasCause platform.now release.items) }
+    {
+        if let Some(part) = root_fault(platform) {
+            return Err(TableError::BadRoot(part));
+        }
+        match first_overlap(alloc, platform, release.as_slice()) {
+            Ok(None) => {}
+            Ok(Some(name)) => return Err(TableError::Overlap(name)),
+            Err(_) => return Err(TableError::Memory),
+        }
+        let index = match Index::new(alloc, platform, release) {
+            Ok(index) => index,
+            Err(_) => return Err(TableError::Memory),
+        };
+        match of_index(alloc, index) {
+            Ok(table) => Ok(table),
+            Err(_) => Err(TableError::Memory),
+        }
+    }
+
+    /// Its classes and their order, as the plain programs take them.
+    pub fn index(&self) -> &Index
+        ensures { result.now ≡ self.now }
+    {
+        &self.index
+    }
+
+    /// How many classes there are.
+    pub fn count(&self) -> u32
+        ensures count { result ≡ size self.now }
+        ensures side { IsSide self.now }
+    {
+        self.index.count()
+    }
+
+    /// The class of this number; none exactly where there are no more than so many classes.
+    pub fn id(&self, n: u32) -> Option<ClassId>
+        ensures value { result ≡ some_where (nat_lt n (size self.now)) n }
+        ensures of_table { IfSome result (λ id. id < size self.now) }
+    {
+        self.index.id(n)
+    }
+
+    /// The class of this name; none where there is none (JVMS 5.3).
+    pub fn get(&self, name: &[u8]) -> Option<ClassId>
+        ensures value { result ≡ id_of self.now name.now }
+        ensures of_table { IfSome result (λ id. id < size self.now) }
+    {
+        self.index.get(name)
+    }
+
+    /// The record of the class.
+    pub fn facts(&self, id: ClassId) -> &ClassFacts
+        requires { id < size self.now }
+        ensures { Some result.now ≡ find self.now (name_at self.now id) }
+    {
+        self.index.facts(id)
+    }
+
+    /// The class that the class names as its superclass (JVMS 4.1); none where it names none, or
+    /// there is none of this name.
+    pub fn superclass(&self, id: ClassId) -> Option<ClassId>
+        requires { id < size self.now }
+        ensures value { result ≡ superclass_of self.now (name_at self.now id) }
+        ensures of_table { IfSome result (λ id. id < size self.now) }
+    {
+        self.index.superclass(id)
+    }
+
+    /// Whether the other class stands in the class's chain: it is the class, or one further up its
+    /// superclasses. Classes on a cycle stand above each other.
+    pub fn has_super(&self, id: ClassId, of: ClassId) -> bool
+        requires class { id < size self.now }
+        requires above { of < size self.now }
+        ensures { result ≡ in_chain self.now (name_at self.now id) (name_at self.now of) }
+    {
+        self.index.has_super(id, of)
+    }
+
+    /// Whether the class is one of the platform's.
+    pub fn in_platform(&self, id: ClassId) -> bool
+        requires { id < size self.now }
+        ensures { result ≡ is_some (class_named self.now.platform (name_at self.now id)) }
+    {
+        self.index.in_platform(id)
+    }
+
+    /// Whether the other class is the class itself or one of its superinterfaces: an interface that
+    /// a class of its chain names, or one that such an interface names in turn (JVMS 4.1).
+    pub fn is_below(&self, id: ClassId, of: ClassId) -> bool
+        requires class { id < size self.now }
+        requires above { of < size self.now }
+        ensures { result ≡ (same (name_at self.now id) (name_at self.now of) || has_superinterface self.now (name_at self.now id) (name_at self.now of)) }
+    {
+        is_below(&self.index, self.rows.as_slice(), id, of)
+    }
+
+    /// Whether a class is of this package: a name up to its last `/`, or nothing (JVMS 5.3).
+    pub fn has_package(&self, package: &[u8]) -> bool
+        ensures { result ≡ is_package self.now «package».now }
+    {
+        self.texts.packages.has(package)
+    }
+
+    /// Whether a class names this one as its superclass or as an interface (JVMS 4.1).
+    pub fn names_super(&self, name: &Name) -> bool
+        ensures { result ≡ names_above self.now name.now }
+    {
+        self.texts.supers.has(name.as_bytes())
+    }
+
+    /// Whether a name that a class has, names above itself or permits to extend it begins with these
+    /// bytes.
+    pub fn begins(&self, front: &[u8]) -> bool
+        ensures { result ≡ mentions_front self.now front.now }
+    {
+        self.texts.mentioned.begins(front)
+    }
+
+    /// The load faults of all classes, in byte order of their names; none where a class loads
+    /// (JVMS 5.3.5).
+    pub fn load_faults(&self) -> &[Option<LinkError>]
+        ensures { result.now ≡ map (load_fault self.now) (names self.now) }
+    {
+        self.faults.as_slice()
+    }
+
+    /// The load fault of the class; none where it loads (JVMS 5.3.5).
+    pub fn fault_at(&self, id: ClassId) -> Option<LinkError>
+        requires { id < size self.now }
+        ensures { result ≡ load_fault self.now (name_at self.now id) }
+    {
+        self.faults[id.number() as usize]
+    }
+}
