@@ -1,0 +1,49 @@
+//! Methods that may not be overridden (JVMS 5.4.5).
+ghost use Rattle.std.specs.Prelude.{◌≡◌, ◌<◌};
+ghost use Rattle.jc_facts.specs.World.{size};
+ghost use Rattle.jc_facts.specs.Words.{is_final_method as final_method, declares_final as declares, finals as finals_of};
+ghost use Rattle.jc_table.specs.Ids.{name_at};
+
+use jc_facts::class_facts::{ClassFacts, Member};
+use jc_facts::flags::{is_final, is_protected, is_public, is_static};
+use jc_facts::key::Key;
+use jc_facts::key_set::KeyRef;
+use jc_table::ids::ClassId;
+use jc_table::members::own_method;
+use jc_table::table::Table;
+
+fn is_final_method(method: &Member) -> bool
+    ensures { result ≡ final_method method.now }
+{
+    let flags = method.flags;
+    is_final(flags) && !is_static(flags) && (is_public(flags) || is_protected(flags))
+}
+
+fn declares_final(class: &ClassFacts, key: &Key) -> bool
+    ensures { result ≡ declares key.now class.now }
+{
+    match own_method(class, &KeyRef::of_key(key)) {
+        None => false,
+        Some(method) => is_final_method(method),
+    }
+}
+
+/// Whether a class of the chain, the class itself or one further up its superclasses, declares the
+/// key as a final instance method that is public or protected (JVMS 4.6). It is asked of classes
+/// that load.
+pub fn finals(table: &Table, class: ClassId, key: &Key) -> bool
+    requires { class < size table.now }
+    ensures { result ≡ finals_of table.now (name_at table.now class) key.now }
+{
+    let mut next = Some(class);
+    for done in 0..table.count() {
+        let Some(class) = next else {
+            return false;
+        };
+        if declares_final(table.facts(class), key) {
+            return true;
+        }
+        next = table.superclass(class);
+    }
+    false
+}
