@@ -1,0 +1,17 @@
+pub mod Numbers
+pub mod Kept
+pub mod BecameClass
+pub mod SubjectOrder
+pub mod ChainFinding
+pub mod ClassRules
+pub mod AllRules
+pub mod NoteMade
+pub mod Notes
+pub mod AllChains
+pub mod Inverted
+pub mod Unusable
+pub mod ChainWalk
+pub mod ClosedFinding
+pub mod Utf8
+pub mod Reported
+pub mod Loops
