@@ -1,0 +1,6 @@
+use Rattle.std.proofs.Common.{◌≡◌, ◌++◌, take}
+use Rattle.jc_facts.specs.Text.{printed}
+use Rattle.jc_report.proofs.printed.push_printed.Given as goal
+
+abbrev pub invariant-loop-byte : goal.invariant-loop-byte
+invariant-loop-byte l = l.text.items ≡ l.fn.text.items ++ printed (take l.byte-index l.bytes)

@@ -1,0 +1,82 @@
+//! Printed names, keys and numbers.
+ghost use Rattle.std.specs.Prelude.{◌≡◌, ◌++◌, ◌+◌, ◌<◌, ◌≤◌, ◌^◌, OnOk};
+ghost use Rattle.std.specs.Fmt.{decimal};
+ghost use Rattle.jc_facts.specs.Text.{hex_digit as hex_digit_of, printed_byte, printed, is_method_descriptor as is_method, printed_key, printed_name};
+
+use jc_base::name::Name;
+use jc_facts::key::Key;
+use std::alloc::{AllocError, Global};
+
+// A lower-case hexadecimal digit.
+fn hex_digit(digit: u8) -> u8
+    requires { digit < 16 }
+    ensures { result ≡ hex_digit_of digit }
+{
+    if digit < 10 {
+        b'0' + digit
+    } else {
+        b'a' - 10 + digit
+    }
+}
+
+fn push_printed_byte(text: &mut Vec<u8>, byte: u8) -> Result<(), AllocError>
+    ensures { OnOk result (text.new.items ≡ text.old.items ++ printed_byte byte) }
+{
+    match byte {
+        b'\\' => text.extend_from_slice(b"\\\\")?,
+        0x21..=0x7e => text.push(byte)?,
+        _ => text.extend_from_slice(&[b'\\', b'x', hex_digit(byte / 16), hex_digit(byte % 16)])?,
+    }
+    Ok(())
+}
+
+/// Prints bytes of a name, a path or a word at the end of the text: a byte from 0x21 to 0x7e as
+/// itself, a backslash doubled, any other as `\xNN`. After an error the text may hold a part.
+pub fn push_printed(text: &mut Vec<u8>, bytes: &[u8]) -> Result<(), AllocError>
+    ensures { OnOk result (text.new.items ≡ text.old.items ++ printed bytes.now) }
+{
+    for byte in bytes {
+        push_printed_byte(text, *byte)?;
+    }
+    Ok(())
+}
+
+/// The decimal digits of a number at the end of the text.
+pub fn push_decimal(alloc: Global, text: &mut Vec<u8>, number: usize) -> Result<(), AllocError>
+    ensures { OnOk result (text.new.items ≡ text.old.items ++ decimal number) }
+{
+    let digits = format!(in alloc; "{number}")?;
+    text.extend_from_slice(digits.as_str().as_bytes())
+}
+
+fn is_method_descriptor(descriptor: &[u8]) -> bool
+    ensures { result ≡ is_method descriptor.now }
+{
+    match descriptor {
+        [first, ..] => *first == b'(',
+        [] => false,
+    }
+}
+
+/// Prints a key at the end of the text: a method's is its name and descriptor written together, a
+/// field's has a colon between them. After an error the text may hold a part.
+pub fn push_key(text: &mut Vec<u8>, key: &Key) -> Result<(), AllocError>
+    ensures { OnOk result (text.new.items ≡ text.old.items ++ printed_key key.now) }
+{
+    push_printed(text, key.name.as_bytes())?;
+    if !is_method_descriptor(key.descriptor.as_bytes()) {
+        text.push(b':')?;
+    }
+    push_printed(text, key.descriptor.as_bytes())
+}
+
+/// Prints a name at the end of the text, or `-` where there is none. After an error the text may hold
+/// a part.
+pub fn push_name(text: &mut Vec<u8>, name: &Option<Name>) -> Result<(), AllocError>
+    ensures { OnOk result (text.new.items ≡ text.old.items ++ printed_name name.now) }
+{
+    match name {
+        Some(name) => push_printed(text, name.as_bytes()),
+        None => Ok(text.push(b'-')?),
+    }
+}
