@@ -4,6 +4,7 @@ pub mod Places
 pub mod Listings
 pub mod FrontRead
 pub mod TreeRead
+pub mod OneVerdict
 pub mod ThreeTrees
 pub mod Events
-pub mod OneVerdict
+pub mod Surely

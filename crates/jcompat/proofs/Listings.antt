@@ -1,6 +1,5 @@
 -- The class files of a listing, in order.
-use Rattle.std.proofs.Common.{◌≡◌, ◌≢◌, ℕ, Bool, true, false, not, ◌&&◌, ◌||◌, cond, List, [], ◌∷◌, ◌++◌, Option, Some, None, refl, sym, ap, subst, ◌∙◌, ◌⊎◌, inl, inr}
-use Rattle.std.specs.Prelude.{IsTrue}
+use Rattle.std.proofs.Common.{◌≡◌, ◌≢◌, Bool, true, false, not, ◌&&◌, ◌||◌, cond, List, [], ◌∷◌, Option, Some, None, refl, sym, subst, ◌⊎◌, inl, inr}
 use Rattle.std.specs.List.{All, Contains, filter}
 use Rattle.std.specs.List.Sorted.{IsPermutation, IsSorted}
 use Rattle.std.specs.Ordering.{nat_cmp}
@@ -11,8 +10,8 @@ use Rattle.std.proofs.lemmas.List.Sorted.{All-permutation, Contains-permutation}
 use Rattle.std.proofs.lemmas.Slice.Eq.{bytes_eq-Decides}
 use Rattle.jc_base.specs.Outside.{FileOf, HasFile, AreThePaths, Lists, Holds, has_bytes, are_distinct}
 use Rattle.jc_facts.specs.Names.{Bytes}
-use Rattle.jc_facts.specs.Exact.{Before, NamesRise, IsExact}
-use Rattle.jc_facts.proofs.Apart.{Apart, ApartRec, rec-Apart, Apart-permutation, NamesRise-sorted}
+use Rattle.jc_facts.specs.Exact.{Before, NamesRise}
+use Rattle.jc_facts.proofs.Apart.{ApartRec, rec-Apart, Apart-permutation, NamesRise-sorted}
 use Rattle.jc_facts.proofs.Listed.{EachOf, here, there, none, cases}
 use Rattle.jcompat.specs.Classes.{is_class_path, IsClassPathOf, AreClassPaths}
 

@@ -1,27 +1,67 @@
 -- The trees have one verdict.
-use Rattle.std.proofs.Common.{◌≡◌, List, Option, Some, refl, sym, ap, subst, ◌∙◌}
+use Rattle.std.proofs.Common.{◌≡◌, List, Some, sym, ap, subst, ◌∙◌}
 use Rattle.jc_base.specs.Outside.{FileOf}
-use Rattle.jc_facts.specs.declared.head.Head.{Head}
+use Rattle.jc_facts.specs.declared.class_facts.ClassFacts.{ClassFacts}
 use Rattle.jc_facts.specs.declared.finding.Finding.{Finding}
+use Rattle.jc_facts.specs.declared.verdict.Collision.{Collision}
+use Rattle.jc_facts.specs.declared.verdict.Note.{Note}
+use Rattle.jc_facts.specs.declared.verdict.Verdict.{Verdict}
 use Rattle.jc_facts.specs.Names.{Bytes}
-use Rattle.jc_facts.specs.Gone.{IsGone}
+use Rattle.jc_facts.specs.World.{World, side}
+use Rattle.jc_facts.specs.Orders.{finding_order, note_order}
 use Rattle.jc_facts.proofs.OneList.{one_exact}
-use Rattle.jcompat.specs.declared.tree.Tree.{Tree}
-use Rattle.jcompat.specs.declared.tree.Tree.TheVariants as trees
+use Rattle.jc_laws.proofs.VerdictLaw.{finding_total, note_total, exactly_one}
+use Rattle.jc_rules.specs.Built.{IsBuiltVerdict}
 use Rattle.jcompat.specs.Request.{Roots, asked}
-use Rattle.jcompat.specs.Classes.{path_of, IsHeadIn, AreHeads}
-use Rattle.jcompat.specs.Answers.{Sides, AreFindings, IsVerdict}
+use Rattle.jcompat.specs.Classes.{path_of, IsRecordIn, AreRecords}
+use Rattle.jcompat.specs.Answers.{Sides, IsVerdict}
 
-one_of_heads : (files : List FileOf) (tree : Tree) (root : Bytes) (a b : List Head) → AreHeads files tree root a → AreHeads files tree root b → a ≡ b
-one_of_heads files tree root a b h k = one_exact (λ h. path_of h.name) (IsHeadIn files tree root) a b h.exact k.exact
+-- ---- one verdict of two sides
+
+verdict_with : List Finding → List Collision → List Note → Verdict
+verdict_with f c n = record { findings = f; collisions = c; notes = n }
+
+pub one_built : (O N : World) (v w : Verdict) → IsBuiltVerdict O N v → IsBuiltVerdict O N w → v ≡ w
+unfolding verdict_with
+one_built O N v w a b =
+    let f = exactly_one finding_order finding_total _ v.findings w.findings a.findings b.findings in
+    let c : v.collisions ≡ w.collisions = a.collisions ∙ sym b.collisions in
+    let n = exactly_one note_order note_total _ v.notes w.notes a.notes b.notes in
+    ap (λ (x : List Finding). verdict_with x v.collisions v.notes) f ∙ (ap (λ (x : List Collision). verdict_with w.findings x v.notes) c
+    ∙ ap (λ (x : List Note). verdict_with w.findings w.collisions x) n)
+
+-- ---- the words and the files have one record of each class
+
+one_of_records : (files : List FileOf) (root : Bytes) (a b : List ClassFacts) → AreRecords files root a → AreRecords files root b → a ≡ b
+one_of_records files root a b h k = one_exact (λ c. path_of c.name) (IsRecordIn files root) a b h.exact k.exact
 
 one_of_roots : (words : List Bytes) (r s : Roots) → asked words ≡ Some r → asked words ≡ Some s → r ≡ s
 one_of_roots words r s h k = let both : Some r ≡ Some s = sym h ∙ k in cc
 
-pub one_verdict_of : (words : List Bytes) (files : List FileOf) (a b : List Finding) → IsVerdict words files a → IsVerdict words files b → a ≡ b
-one_verdict_of words files a b (s, h) (t, k) =
+pub record AreSame (words : List Bytes) (files : List FileOf) (s t : Sides words files) : Type 0 where
+  pub platform : t.platform ≡ s.platform
+  pub old : t.old ≡ s.old
+  pub new : t.new ≡ s.new
+
+pub one_of_sides : (words : List Bytes) (files : List FileOf) (s t : Sides words files) → AreSame words files s t
+one_of_sides words files s t =
     let roots : t.roots ≡ s.roots = one_of_roots words t.roots s.roots t.asked_for s.asked_for in
-    let old : t.old ≡ s.old = one_of_heads files trees.Old s.roots.old t.old s.old (subst (λ (r : Roots). AreHeads files trees.Old r.old t.old) roots t.old_is) s.old_is in
-    let new : t.new ≡ s.new = one_of_heads files trees.New s.roots.new t.new s.new (subst (λ (r : Roots). AreHeads files trees.New r.new t.new) roots t.new_is) s.new_is in
-    let moved : AreFindings s.old s.new b = subst (λ (n : List Head). AreFindings s.old n b) new (subst (λ (o : List Head). AreFindings o t.new b) old k) in
-    one_exact (λ f. f.class) (IsGone s.old s.new) a b h moved
+    record {
+      platform = one_of_records files s.roots.platform t.platform s.platform (subst (λ (r : Roots). AreRecords files r.platform t.platform) roots t.platform_is) s.platform_is;
+      old = one_of_records files s.roots.old t.old s.old (subst (λ (r : Roots). AreRecords files r.old t.old) roots t.old_is) s.old_is;
+      new = one_of_records files s.roots.new t.new s.new (subst (λ (r : Roots). AreRecords files r.new t.new) roots t.new_is) s.new_is;
+    }
+
+-- the verdict on one of them is the verdict on the other
+pub moved : (words : List Bytes) (files : List FileOf) (s t : Sides words files) (v : Verdict) → IsBuiltVerdict (side t.platform t.old) (side t.platform t.new) v
+    → IsBuiltVerdict (side s.platform s.old) (side s.platform s.new) v
+moved words files s t v h =
+    let is = one_of_sides words files s t in
+    subst (λ (n : List ClassFacts). IsBuiltVerdict (side s.platform s.old) (side s.platform n) v) is.new
+    (subst (λ (o : List ClassFacts). IsBuiltVerdict (side s.platform o) (side s.platform t.new) v) is.old
+    (subst (λ (p : List ClassFacts). IsBuiltVerdict (side p t.old) (side p t.new) v) is.platform h))
+
+pub one_verdict_of : (words : List Bytes) (files : List FileOf) (a b : Verdict) → IsVerdict words files a → IsVerdict words files b → a ≡ b
+one_verdict_of words files a b h k =
+    let s = h.compares.sides in
+    one_built (side s.platform s.old) (side s.platform s.new) a b h.compares.exact (moved words files s k.compares.sides b k.compares.exact)

@@ -1,17 +1,9 @@
 -- Whether a path is a name with a tail behind it.
-use Rattle.std.proofs.Common.{◌≤◌, ◌≡◌, ◌↔◌, ℕ, List, ◌++◌, length, take, drop, Bool, true, false, sym, ap, subst, ◌∙◌, refl}
+use Rattle.std.proofs.Common.{◌≡◌, ◌↔◌, ℕ, List, ◌++◌, length, take, drop, Bool, true, false, sym, ap, ◌∙◌, refl}
 use Rattle.std.specs.Prelude.{IsTrue}
 use Rattle.std.specs.Str.{bytes_eq}
 use Rattle.std.proofs.lemmas.List.{take-append-drop, take_at, drop_at}
 use Rattle.std.proofs.lemmas.Slice.Eq.{bytes_eq-Decides}
-use Rattle.jc_facts.specs.declared.class_facts.ClassFacts.{ClassFacts}
-use Rattle.jc_facts.specs.Names.{Bytes}
-use Rattle.jc_facts.specs.ClassGrammar.{Reads}
-use Rattle.jcompat.specs.declared.tree.Tree.{Tree}
-use Rattle.jcompat.specs.declared.file_fault.FileFault.{FileFault}
-use Rattle.jcompat.specs.declared.file_fault.FileFault.TheVariants as faults
-use Rattle.jcompat.specs.Classes.{IsFileFault}
-use Rattle.jcompat.specs.Placed.{IsNotPlaced}
 
 pub place_then : (path name tail : List ℕ) (r : Bool) → take (length name) path ≡ name → r ≡ bytes_eq (drop (length name) path) tail → IsTrue r ↔ (path ≡ name ++ tail)
 place_then path name tail r front back = (
@@ -21,10 +13,3 @@ place_then path name tail r front back = (
 
 pub place_else : (path name tail : List ℕ) (r : Bool) → r ≡ false → (take (length name) path ≡ name → ⊥) → IsTrue r ↔ (path ≡ name ++ tail)
 place_else path name tail r differs front = ((λ yes. absurd (let clash : true ≡ false = sym yes ∙ differs in cc)), (λ is. absurd (front (ap (take (length name)) is ∙ take_at name tail (length name) refl))))
-
--- why a record that was read isn't compared
-pub not_placed : (tree : Tree) (path bytes : Bytes) (facts : ClassFacts) → length bytes ≤ 4194304 → Reads bytes facts → (fault : FileFault) → IsNotPlaced tree path facts fault → IsFileFault tree path bytes fault
-not_placed tree path bytes facts short reads (faults.Misplaced name) n = (short, (facts, reads, n.0, n.1))
-not_placed tree path bytes facts short reads faults.Later n = (short, (facts, reads, n.0, n.1))
-not_placed tree path bytes facts short reads faults.TooLong n = absurd n
-not_placed tree path bytes facts short reads (faults.Malformed m) n = absurd n

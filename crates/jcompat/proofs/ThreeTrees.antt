@@ -1,114 +1,31 @@
 -- The three trees together.
-use Rattle.std.proofs.Common.{◌≡◌, ◌≢◌, ◌<◌, ◌≤◌, length, ℕ, List, [], ◌∷◌, ◌++◌, Option, Some, None, Bool, true, false, not, ◌&&◌, ◌==◌, refl, sym, ap, subst, ◌∙◌, arith}
-use Rattle.std.specs.Prelude.{IsTrue, IsSomeAnd, is_none}
-use Rattle.std.specs.List.{All, Contains}
-use Rattle.std.proofs.lemmas.List.Elements.{All-contains, All-weaker}
-use Rattle.jc_base.specs.Causes.{Rose}
-use Rattle.jc_base.specs.Outside.{FileOf, IsFileAt, HasFile}
-use Rattle.jc_desc.specs.Names.{is_class_name}
-use Rattle.jc_facts.specs.declared.head.Head.{Head}
-use Rattle.jc_facts.specs.declared.finding.Finding.{Finding}
-use Rattle.jc_facts.specs.Names.{Bytes, same, object_name}
-use Rattle.jc_facts.specs.Exact.{Before, NamesRise, IsExact}
-use Rattle.jc_facts.specs.Heads.{head_named, AreApart, KeepsClasses, BreaksClass}
-use Rattle.jc_facts.specs.Gone.{NamesDiffer}
-use Rattle.jc_facts.proofs.Same.{same_is, same_itself}
-use Rattle.jc_facts.proofs.Listed.{EachOf, EachOf-map, here, none}
-use Rattle.jc_facts.proofs.Apart.{ApartRec, rec-Apart}
-use Rattle.jc_facts.proofs.Heads.{head_named-found}
+use Rattle.std.proofs.Common.{◌≡◌, ◌≤◌, inl, inr, ℕ, List, Option, Some, None, refl, sym, subst, ◌∙◌}
+use Rattle.std.specs.Prelude.{IsSomeAnd}
+use Rattle.jc_base.specs.Outside.{FileOf}
+use Rattle.jc_facts.specs.declared.class_facts.ClassFacts.{ClassFacts}
+use Rattle.jc_facts.specs.declared.verdict.Verdict.{Verdict}
+use Rattle.jc_facts.specs.Names.{Bytes}
+use Rattle.jc_facts.specs.World.{side}
+use Rattle.jc_table.specs.declared.table.TableError.{TableError}
+use Rattle.jc_table.specs.declared.table.TableError.TheVariants as errors
+use Rattle.jc_table.specs.Tables.{HasCause as HasTableCause}
+use Rattle.jc_table.specs.Root.{root_fault}
+use Rattle.jc_table.specs.Sides.{first_overlap}
+use Rattle.jc_rules.specs.Built.{IsBuiltVerdict}
 use Rattle.jcompat.specs.declared.tree.Tree.{Tree}
 use Rattle.jcompat.specs.declared.tree.Tree.TheVariants as trees
 use Rattle.jcompat.specs.declared.stop.Stop.{Stop}
 use Rattle.jcompat.specs.declared.stop.Stop.TheVariants as stops
-use Rattle.jcompat.specs.Request.{Roots, root_of, asked}
-use Rattle.jc_facts.specs.declared.class_facts.ClassFacts.{ClassFacts}
-use Rattle.jc_facts.proofs.ReadLists.{read_valid}
-use Rattle.jc_desc.specs.Utf8.{is_text}
-use Rattle.jcompat.specs.Classes.{Told, is_class_path, IsClassFile, path_of, head_of, extends_object, is_plain_root, is_expected, is_built, IsReadAs, IsClean, IsHeadIn, AreHeads}
+use Rattle.jcompat.specs.Request.{Roots, asked}
+use Rattle.jcompat.specs.Classes.{Told, IsClean}
 use Rattle.jcompat.specs.Survey.{StopsIn}
-use Rattle.jcompat.specs.Answers.{Given, given, AreCleanBefore, AreClean, HasObject, IsRefused, HasCause, Sides, AreFindings, IsCompatible, IsIncompatible, IsVerdict}
-use Rattle.jcompat.specs.Check.{AreSides, StopsFor}
-use Rattle.jc_facts.proofs.OneList.{not_self}
+use Rattle.jcompat.specs.Answers.{given, Sides, Fits, count_of, IsUnfit, HasCause, IsVerdict}
+use Rattle.jcompat.specs.Check.{AreSides, StopsFor, StopsComparing, StopsCounting, unfit_by}
 use Rattle.jcompat.proofs.TreeRead.{rose_since}
-
-and_left : (a b : Bool) → (a && b) ≡ true → a ≡ true
-and_left true b e = refl
-and_left false b e = absurd (cc)
-
-and_right : (a b : Bool) → (a && b) ≡ true → b ≡ true
-and_right true b e = e
-and_right false b e = absurd (cc)
-
--- ---- names of one tree differ
-
-apart_each : (h : Head) (hs : List Head) → EachOf (λ k. Before (path_of h.name) (path_of k.name)) hs → EachOf (λ k. h.name ≢ k.name) hs
-apart_each h hs e = EachOf-map {P = λ (k : Head). Before (path_of h.name) (path_of k.name)} {Q = λ (k : Head). h.name ≢ k.name}
-    (λ k b same. not_self (path_of h.name) (subst (λ (n : Bytes). Before (path_of h.name) (path_of n)) (sym same) b)) hs e
-
-apart_heads : (hs : List Head) → NamesRise (λ h. path_of h.name) hs → ApartRec (λ h. h.name) hs
-unfolding NamesRise
-apart_heads [] r = tt
-apart_heads (h ∷ hs) r = (apart_each h hs r.0, apart_heads hs r.1)
-
-pub names_differ : (hs : List Head) → NamesRise (λ h. path_of h.name) hs → NamesDiffer hs
-names_differ hs r = rec-Apart (λ h. h.name) hs (apart_heads hs r)
-
--- ---- java/lang/Object
-
--- the tree may have what is compared
-expected_of : (tree : Tree) (c : ClassFacts) → is_built tree c ≡ true → is_expected tree c ≡ true
-expected_of tree c e = and_right (extends_object c.superclass && length c.interfaces == 0 && is_none c.permits) (is_expected tree c) e
-
-name_of : (files : List FileOf) (tree : Tree) (root : Bytes) (h : Head) (i : IsHeadIn files tree root h) → h.name ≡ i.facts.name
-name_of files tree root h i = ap (λ (k : Head). k.name) i.head_is
-
--- the only class of the platform
-object_of : (files : List FileOf) (root : Bytes) (h : Head) → IsHeadIn files trees.Platform root h → h.name ≡ object_name
-object_of files root h i =
-    name_of files trees.Platform root h i
-    ∙ same_is i.facts.name object_name (and_left (same i.facts.name object_name) (is_plain_root i.facts) (expected_of trees.Platform i.facts i.is_read.built))
-
-pub object_there : (files : List FileOf) (root : Bytes) (h : Head) (hs : List Head) → AreHeads files trees.Platform root (h ∷ hs) → HasFile files root (path_of object_name)
-object_there files root h hs a =
-    let i : IsHeadIn files trees.Platform root h = All-contains (IsHeadIn files trees.Platform root) (h ∷ hs) h a.exact.sound (here h hs) in
-    let place : i.path ≡ path_of object_name = i.is_read.place ∙ sym (ap path_of (name_of files trees.Platform root h i)) ∙ ap path_of (object_of files root h i) in
-    (i.bytes, subst (λ (p : Bytes). IsFileAt files root p i.bytes) place i.is_file.is_file)
-
-pub object_gone : (files : List FileOf) (root : Bytes) → AreHeads files trees.Platform root [] → HasFile files root (path_of object_name) → ⊥
-object_gone files root a o =
-    let f : IsClassFile files root (path_of object_name) o.0 = record { is_file = o.1; named = refl } in
-    let r = a.clean.read (path_of object_name) o.0 f in
-    none (head_of r.0) (a.exact.complete (head_of r.0) (record { path = path_of object_name; bytes = o.0; facts = r.0; is_file = f; is_read = r.1; head_is = refl }))
-
-not_true : (b : Bool) → not b ≡ true → b ≡ false
-not_true true e = absurd (cc)
-not_true false e = refl
-
-pub apart_sides : (files : List FileOf) (roots : Roots) (platform old new : List Head) → AreSides files roots platform old new → AreApart platform old
-apart_sides files roots platform old new s h is_in = go (head_named platform h.name) refl
-  where
-    i : IsHeadIn files trees.Old roots.old h
-    i = All-contains (IsHeadIn files trees.Old roots.old) old h s.old_is.exact.sound is_in
-
-    no_object : same h.name object_name ≡ false
-    no_object = subst (λ (n : Bytes). same n object_name ≡ false) (sym (name_of files trees.Old roots.old h i)) (not_true (same i.facts.name object_name) (expected_of trees.Old i.facts i.is_read.built))
-
-    go : (o : Option Head) → head_named platform h.name ≡ o → o ≡ None
-    go None q = refl
-    go (Some k) q =
-        let f = head_named-found platform h.name k q in
-        let object : k.name ≡ object_name = object_of files roots.platform k (All-contains (IsHeadIn files trees.Platform roots.platform) platform k s.platform_is.exact.sound f.is_in) in
-        let is_object : same h.name object_name ≡ true = rw (sym f.named ∙ object) (same_itself object_name) in
-        absurd (let clash : true ≡ false = sym is_object ∙ no_object in cc)
-
-pub class_names : (files : List FileOf) (tree : Tree) (root : Bytes) (heads : List Head) → AreHeads files tree root heads → All (λ h. IsTrue (is_class_name h.name)) heads
-class_names files tree root heads a =
-    All-weaker (IsHeadIn files tree root) (λ h. IsTrue (is_class_name h.name)) (λ h i. subst (λ (n : Bytes). is_class_name n ≡ true) (sym (name_of files tree root h i))
-    (and_left (is_class_name i.facts.name) (is_text i.facts.name) (read_valid i.bytes i.facts i.is_read.reads).name)) heads a.exact.sound
 
 -- ---- the verdict
 
-abbrev pub sides_of : (words : List Bytes) (files : List FileOf) (roots : Roots) (platform old new : List Head) → Some roots ≡ asked words → AreSides files roots platform old new → Sides words files
+abbrev pub sides_of : (words : List Bytes) (files : List FileOf) (roots : Roots) (platform old new : List ClassFacts) → Some roots ≡ asked words → AreSides files roots platform old new → Sides words files
 sides_of words files roots platform old new is s = record {
   roots = roots;
   asked_for = sym is;
@@ -118,39 +35,62 @@ sides_of words files roots platform old new is s = record {
   platform_is = s.platform_is;
   old_is = s.old_is;
   new_is = s.new_is;
-  has_object = s.has_object;
 }
-
--- ---- a platform that is read
-
-pub object_if : (files : List FileOf) (root : Bytes) (hs : List Head) → AreHeads files trees.Platform root hs → 0 < length hs → HasFile files root (path_of object_name)
-object_if files root [] a long = absurd (omega arith)
-object_if files root (h ∷ hs) a long = object_there files root h hs a
-
-pub no_object_if : (files : List FileOf) (root : Bytes) (hs : List Head) → AreHeads files trees.Platform root hs → length hs ≡ 0 → HasFile files root (path_of object_name) → ⊥
-no_object_if files root [] a none o = object_gone files root a o
-no_object_if files root (h ∷ hs) a none o = absurd (omega arith)
 
 -- what comparing the sides gives
-pub verdict_of : (words : List Bytes) (files : List FileOf) (sides : Sides words files) (findings : List Finding) → AreFindings sides.old sides.new findings → IsVerdict words files findings
-verdict_of words files sides findings exact = (sides, exact)
+abbrev pub verdict_of : (words : List Bytes) (files : List FileOf) (s : Sides words files) (v : Verdict) → Fits s.platform s.old s.new
+    → IsBuiltVerdict (side s.platform s.old) (side s.platform s.new) v → count_of v ≤ 999999 → IsVerdict words files v
+verdict_of words files s v fits exact few = record { compares = record { sides = s; fits = fits; exact = exact }; few = few }
 
-pub compatible_of : (words : List Bytes) (files : List FileOf) (sides : Sides words files) (findings : List Finding) → AreFindings sides.old sides.new findings
-    → KeepsClasses sides.platform sides.old sides.new → findings ≡ [] → IsCompatible words files
-compatible_of words files sides findings exact keeps is = record { sides = sides; none = subst (AreFindings sides.old sides.new) is exact; keeps = keeps }
+-- ---- why comparing stopped
 
-pub incompatible_of : (words : List Bytes) (files : List FileOf) (sides : Sides words files) (findings : List Finding) → AreFindings sides.old sides.new findings
-    → (AreApart sides.platform sides.old → All (λ h. IsTrue (is_class_name h.name)) sides.old → All (λ f. BreaksClass sides.platform sides.old sides.new f.class f.error) findings)
-    → findings ≢ [] → IsIncompatible words files findings
-incompatible_of words files sides findings exact breaks some = record {
-  sides = sides;
-  exact = exact;
-  some = some;
-  breaks = breaks (apart_sides files sides.roots sides.platform sides.old sides.new together) (class_names files trees.Old sides.roots.old sides.old sides.old_is);
-}
-  where
-    together : AreSides files sides.roots sides.platform sides.old sides.new
-    together = record { platform_is = sides.platform_is; old_is = sides.old_is; new_is = sides.new_is; has_object = sides.has_object }
+-- the first table isn't built
+pub unfit_old : (platform old new : List ClassFacts) (error : TableError) → HasTableCause platform old error → StopsComparing platform old new (unfit_by trees.Old error)
+unfit_old platform old new (errors.BadRoot part) h = inl h
+unfit_old platform old new (errors.Overlap name) h = inl h
+unfit_old platform old new errors.Memory h = inr refl
+
+-- the second isn't, where the first is
+pub unfit_new : (platform old new : List ClassFacts) (error : TableError) → root_fault platform ≡ None → first_overlap platform old ≡ None → HasTableCause platform new error
+    → StopsComparing platform old new (unfit_by trees.New error)
+unfit_new platform old new (errors.BadRoot part) root apart h = absurd (let clash : None ≡ Some part = sym root ∙ h in cc)
+unfit_new platform old new (errors.Overlap name) root apart h = inl (h.0, apart, h.1)
+unfit_new platform old new errors.Memory root apart h = inr refl
+
+-- there is a verdict, with too many findings
+pub unfit_counting : (platform old new : List ClassFacts) (stop : Stop) → Fits platform old new → StopsCounting (side platform old) (side platform new) stop → StopsComparing platform old new stop
+unfit_counting platform old new stop fits (inl h) = inl (subst (λ (s : Stop). IsUnfit platform old new s) (sym h.0) (fits, h.1))
+unfit_counting platform old new stop fits (inr h) = inr h
+
+-- ---- the causes
+
+for_roots : (o : Option Roots) (roots : Roots) (P : Roots → Type 0) → Some roots ≡ o → P roots → IsSomeAnd o P
+for_roots o roots P is p = subst (λ (o : Option Roots). IsSomeAnd o P) is p
+
+module _ (words : List Bytes) (content : Option (List FileOf)) (before after : Bytes → ℕ) (roots : Roots) (is : Some roots ≡ asked words) where
+  pub cause_reading : (stop : Stop) → StopsFor content before after roots stop → HasCause (given words content before after) stop
+  cause_reading (stops.Unread t f) h = λ files told. for_roots (asked words) roots _ is (h files told)
+  cause_reading (stops.ReadFault t) h = for_roots (asked words) roots _ is h
+  cause_reading stops.Memory h = tt
+  cause_reading stops.Words h = absurd h
+  cause_reading (stops.BadRoot p) h = absurd h
+  cause_reading (stops.Overlap t x) h = absurd h
+  cause_reading stops.TooManyFindings h = absurd h
+
+  cause_unfit : (platform old new : List ClassFacts) → Told content (λ files. AreSides files roots platform old new) → (stop : Stop) → IsUnfit platform old new stop
+      → HasCause (given words content before after) stop
+  cause_unfit platform old new read (stops.BadRoot p) h = λ files told. (sides_of words files roots platform old new is (read files told), h)
+  cause_unfit platform old new read (stops.Overlap t x) h = λ files told. (sides_of words files roots platform old new is (read files told), h)
+  cause_unfit platform old new read stops.TooManyFindings h = λ files told. (sides_of words files roots platform old new is (read files told), h)
+  cause_unfit platform old new read stops.Words h = absurd h
+  cause_unfit platform old new read (stops.Unread t f) h = absurd h
+  cause_unfit platform old new read (stops.ReadFault t) h = absurd h
+  cause_unfit platform old new read stops.Memory h = tt
+
+  pub cause_comparing : (platform old new : List ClassFacts) → Told content (λ files. AreSides files roots platform old new) → (stop : Stop) → StopsComparing platform old new stop
+      → HasCause (given words content before after) stop
+  cause_comparing platform old new read stop (inl h) = cause_unfit platform old new read stop h
+  cause_comparing platform old new read stop (inr h) = subst (λ (s : Stop). HasCause (given words content before after) s) (sym h) tt
 
 -- ---- why it stopped
 
@@ -160,26 +100,32 @@ stops_platform content before after roots (stops.Unread t fault) (is, refused) =
 stops_platform content before after roots (stops.ReadFault t) (is, rose) = subst (λ (t : Tree). StopsFor content before after roots (stops.ReadFault t)) (sym is) (rose, λ files told. tt)
 stops_platform content before after roots stops.Memory s = tt
 stops_platform content before after roots stops.Words s = absurd s
-stops_platform content before after roots stops.NoObject s = absurd s
+stops_platform content before after roots (stops.BadRoot p) s = absurd s
+stops_platform content before after roots (stops.Overlap t x) s = absurd s
+stops_platform content before after roots stops.TooManyFindings s = absurd s
 
-pub stops_old : (content : Option (List FileOf)) (before after : Bytes → ℕ) (roots : Roots) → Told content (λ files. IsClean files trees.Platform roots.platform)
+pub stops_old : (content : Option (List FileOf)) (before after : Bytes → ℕ) (roots : Roots) → Told content (λ files. IsClean files roots.platform)
     → (stop : Stop) → StopsIn content before after trees.Old roots.old stop → StopsFor content before after roots stop
 stops_old content before after roots clean (stops.Unread t fault) (is, refused) =
     subst (λ (t : Tree). StopsFor content before after roots (stops.Unread t fault)) (sym is) (λ files told. (clean files told, refused files told))
 stops_old content before after roots clean (stops.ReadFault t) (is, rose) = subst (λ (t : Tree). StopsFor content before after roots (stops.ReadFault t)) (sym is) (rose, clean)
 stops_old content before after roots clean stops.Memory s = tt
 stops_old content before after roots clean stops.Words s = absurd s
-stops_old content before after roots clean stops.NoObject s = absurd s
+stops_old content before after roots clean (stops.BadRoot p) s = absurd s
+stops_old content before after roots clean (stops.Overlap t x) s = absurd s
+stops_old content before after roots clean stops.TooManyFindings s = absurd s
 
-pub stops_new : (content : Option (List FileOf)) (before after : Bytes → ℕ) (roots : Roots) → Told content (λ files. IsClean files trees.Platform roots.platform)
-    → Told content (λ files. IsClean files trees.Old roots.old) → (stop : Stop) → StopsIn content before after trees.New roots.new stop → StopsFor content before after roots stop
+pub stops_new : (content : Option (List FileOf)) (before after : Bytes → ℕ) (roots : Roots) → Told content (λ files. IsClean files roots.platform)
+    → Told content (λ files. IsClean files roots.old) → (stop : Stop) → StopsIn content before after trees.New roots.new stop → StopsFor content before after roots stop
 stops_new content before after roots platform old (stops.Unread t fault) (is, refused) =
     subst (λ (t : Tree). StopsFor content before after roots (stops.Unread t fault)) (sym is) (λ files told. ((platform files told, old files told), refused files told))
 stops_new content before after roots platform old (stops.ReadFault t) (is, rose) =
     subst (λ (t : Tree). StopsFor content before after roots (stops.ReadFault t)) (sym is) (rose, λ files told. (platform files told, old files told))
 stops_new content before after roots platform old stops.Memory s = tt
 stops_new content before after roots platform old stops.Words s = absurd s
-stops_new content before after roots platform old stops.NoObject s = absurd s
+stops_new content before after roots platform old (stops.BadRoot p) s = absurd s
+stops_new content before after roots platform old (stops.Overlap t x) s = absurd s
+stops_new content before after roots platform old stops.TooManyFindings s = absurd s
 
 -- of a later call on the same trees
 pub stops_since : (content now : Option (List FileOf)) (before middle after : Bytes → ℕ) (tree : Tree) (root : Bytes) → now ≡ content
@@ -188,4 +134,6 @@ stops_since content now before middle after tree root same le (stops.Unread t fa
 stops_since content now before middle after tree root same le (stops.ReadFault t) s = (s.0, rose_since (before root) (middle root) (after root) (le root) s.1)
 stops_since content now before middle after tree root same le stops.Memory s = tt
 stops_since content now before middle after tree root same le stops.Words s = absurd s
-stops_since content now before middle after tree root same le stops.NoObject s = absurd s
+stops_since content now before middle after tree root same le (stops.BadRoot p) s = absurd s
+stops_since content now before middle after tree root same le (stops.Overlap t x) s = absurd s
+stops_since content now before middle after tree root same le stops.TooManyFindings s = absurd s

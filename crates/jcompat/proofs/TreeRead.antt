@@ -1,28 +1,29 @@
 -- A tree that was read file by file.
 use Rattle.jc_base.specs.Causes.{Rose}
 use Rattle.std.proofs.Common.{◌≡◌, ◌≤◌, ◌⊎◌, inl, inr, arith, ℕ, List, [], ◌∷◌, ◌++◌, Option, Some, None, refl, sym, ap, subst, ◌∙◌}
-use Rattle.std.specs.Prelude.{map, IsTrue, nat_lt, length, Bool, true, false, ◌||◌}
+use Rattle.std.specs.Prelude.{map, nat_lt, length, Bool, true, false, cond, is_none, ◌||◌, ◌&&◌}
 use Rattle.std.specs.List.{All, Contains, list_any}
-use Rattle.std.specs.Ordering.{nat_cmp, ordering_reverse}
-use Rattle.std.specs.Cmp.Lexicographic.{slice_cmp, nat_list_cmp_total}
-use Rattle.std.specs.declared.cmp.Ordering.{Ordering}
-use Rattle.std.specs.declared.cmp.Ordering.TheVariants.{Less, Equal, Greater}
 use Rattle.std.proofs.lemmas.List.Elements.{All-from_recursion, recursion_from_All}
-use Rattle.jc_base.specs.Outside.{FileOf, IsFileAt, HasFile}
-use Rattle.jc_facts.specs.declared.head.Head.{Head}
-use Rattle.jc_facts.specs.Names.{Bytes}
-use Rattle.jc_facts.specs.Exact.{Before, NamesRise, IsExact}
+use Rattle.jc_base.specs.Outside.{FileOf, IsFileAt}
+use Rattle.jc_facts.specs.declared.class_facts.ClassFacts.{ClassFacts}
+use Rattle.jc_facts.specs.Names.{Bytes, same}
+use Rattle.jc_facts.specs.Exact.{Before, NamesRise}
+use Rattle.jc_facts.specs.World.{class_named}
+use Rattle.jc_facts.specs.Clients.{names_differ}
+use Rattle.jc_facts.specs.Valid.{IsValidClass}
+use Rattle.jc_facts.proofs.Same.{same_is}
 use Rattle.jc_facts.proofs.OneList.{not_both, not_self}
 use Rattle.jc_facts.proofs.Listed.{EachOf, here, there, none, cases, each_in, not_any}
 use Rattle.jc_facts.proofs.ClassFiles.{one_record}
 use Rattle.std.proofs.lemmas.Bool.{ltb-false, ltb-true}
+use Rattle.std.proofs.lemmas.List.{length-map}
 use Rattle.jcompat.specs.declared.tree.Tree.{Tree}
 use Rattle.jcompat.specs.declared.stop.Stop.{Stop}
 use Rattle.jcompat.specs.declared.stop.Stop.TheVariants as stops
 use Rattle.jcompat.specs.declared.file_fault.FileFault.{FileFault}
 use Rattle.jcompat.specs.declared.file_fault.TreeFault.TheVariants as tree_faults
-use Rattle.jcompat.specs.Classes.{Told, IsClassFile, IsClassPathOf, AreClassPaths, path_of, head_of, IsReadAs, HasFewFiles, HasShortPaths, HasLongPath, IsFirstFault, IsTreeFault, IsHeadIn, AreHeads}
-use Rattle.jcompat.specs.Survey.{IsHeadOf, IsReadAt, IsFaultAt, AreReadAt, IsFirstOf, StopsAt, StopsIn}
+use Rattle.jcompat.specs.Classes.{Told, IsClassPathOf, AreClassPaths, path_of, IsReadAs, HasShortPaths, HasLongPath, IsFirstFault, IsRecordIn, AreRecords}
+use Rattle.jcompat.specs.Survey.{IsReadAt, AreReadAt, IsFirstOf, StopsAt, StopsIn, IsClassList}
 
 -- ---- the order of paths
 
@@ -49,53 +50,77 @@ unfolding NamesRise
 rising_mapped name [] h = tt
 rising_mapped name (x ∷ xs) h = (each_mapped name (name x) xs h.0, rising_mapped name xs h.1)
 
--- heads of rising paths rise
-pub rising_heads : (heads : List Head) (paths : List Bytes) → map (λ h. path_of h.name) heads ≡ paths → NamesRise (λ p. p) paths → NamesRise (λ h. path_of h.name) heads
-rising_heads heads paths is r = rising_mapped (λ (h : Head). path_of h.name) heads (subst (λ (ps : List Bytes). NamesRise (λ (p : Bytes). p) ps) (sym is) r)
+-- records of rising paths rise
+pub rising_records : (records : List ClassFacts) (paths : List Bytes) → map (λ c. path_of c.name) records ≡ paths → NamesRise (λ p. p) paths → NamesRise (λ c. path_of c.name) records
+rising_records records paths is r = rising_mapped (λ (c : ClassFacts). path_of c.name) records (subst (λ (ps : List Bytes). NamesRise (λ (p : Bytes). p) ps) (sym is) r)
+
+-- ---- the names of records whose paths rise differ
+
+not_named : (x : Bytes) (cs : List ClassFacts) → EachOf (λ c. Before (path_of x) (path_of c.name)) cs → class_named cs x ≡ None
+unfolding class_named
+not_named x [] h = refl
+not_named x (d ∷ ds) h = go (same d.name x) refl (not_named x ds h.1)
+  where
+    go : (b : Bool) → same d.name x ≡ b → class_named ds x ≡ None → cond b (Some d) (class_named ds x) ≡ None
+    go true q e = absurd (not_self (path_of x) (subst (λ (n : Bytes). Before (path_of x) (path_of n)) (same_is d.name x q) h.0))
+    go false q e = e
+
+differ_step : (o : Option ClassFacts) (b : Bool) → o ≡ None → b ≡ true → (is_none o && b) ≡ true
+differ_step None b e h = h
+differ_step (Some c) b e h = absurd (let clash : Some c ≡ None = e in cc)
+
+differ_rising : (cs : List ClassFacts) → NamesRise (λ c. path_of c.name) cs → names_differ cs ≡ true
+unfolding NamesRise names_differ
+differ_rising [] r = refl
+differ_rising (c ∷ cs) r = differ_step (class_named cs c.name) (names_differ cs) (not_named c.name cs r.0) (differ_rising cs r.1)
+
+-- records that are read of a listing
+pub class_list : (records : List ClassFacts) (paths : List Bytes) → map (λ c. path_of c.name) records ≡ paths → NamesRise (λ p. p) paths → length paths ≤ 40000 → All IsValidClass records → IsClassList records
+class_list records paths is r few valid =
+    let long : length records ≡ length paths = sym (length-map records (λ (c : ClassFacts). path_of c.name)) ∙ ap length is in
+    record { valid = valid; differ = differ_rising records (rising_records records paths is r); few = omega (arith, few, long) }
 
 -- ---- what stands at a path
 
-record ReadThere (files : List FileOf) (tree : Tree) (root path : Bytes) (heads : List Head) : Type 0 where
-  head : Head
-  is_in : Contains heads head
-  read : IsReadAt files tree root path head
+record ReadThere (files : List FileOf) (root path : Bytes) (records : List ClassFacts) : Type 0 where
+  facts : ClassFacts
+  is_in : Contains records facts
+  read : IsReadAt files root path facts
 
-read_there : (files : List FileOf) (tree : Tree) (root : Bytes) (paths : List Bytes) (heads : List Head) (path : Bytes) → AreReadAt files tree root paths heads → Contains paths path
-    → ReadThere files tree root path heads
-read_there files tree root [] [] path r c = absurd (none path c)
-read_there files tree root (p ∷ ps) (h ∷ hs) path r c = go (cases p ps path c) (read_there files tree root ps hs path r.1)
+read_there : (files : List FileOf) (root : Bytes) (paths : List Bytes) (records : List ClassFacts) (path : Bytes) → AreReadAt files root paths records → Contains paths path
+    → ReadThere files root path records
+read_there files root [] [] path r c = absurd (none path c)
+read_there files root (p ∷ ps) (h ∷ hs) path r c = go (cases p ps path c) (read_there files root ps hs path r.1)
   where
-    go : (p ≡ path) ⊎ Contains ps path → (Contains ps path → ReadThere files tree root path hs) → ReadThere files tree root path (h ∷ hs)
-    go (inl is) more = record { head = h; is_in = here h hs; read = subst (λ (q : Bytes). IsReadAt files tree root q h) is r.0 }
-    go (inr k) more = let t = more k in record { head = t.head; is_in = there t.head h hs t.is_in; read = t.read }
-read_there files tree root [] (h ∷ hs) path r c = absurd r
-read_there files tree root (p ∷ ps) [] path r c = absurd r
+    go : (p ≡ path) ⊎ Contains ps path → (Contains ps path → ReadThere files root path hs) → ReadThere files root path (h ∷ hs)
+    go (inl is) more = record { facts = h; is_in = here h hs; read = subst (λ (q : Bytes). IsReadAt files root q h) is r.0 }
+    go (inr k) more = let t = more k in record { facts = t.facts; is_in = there t.facts h hs t.is_in; read = t.read }
+read_there files root [] (h ∷ hs) path r c = absurd r
+read_there files root (p ∷ ps) [] path r c = absurd r
 
 -- a place holds one file
 one_file : (files : List FileOf) (root path a b : Bytes) → IsFileAt files root path a → IsFileAt files root path b → a ≡ b
 one_file files root path a b h k = let same : Some a ≡ Some b = sym h ∙ k in cc
 
-readable : (files : List FileOf) (tree : Tree) (root path bytes : Bytes) (head : Head) → IsFileAt files root path bytes → IsReadAt files tree root path head → IsHeadOf tree path bytes head
-readable files tree root path bytes head is_file r = subst (λ (b : Bytes). IsHeadOf tree path b head) (one_file files root path r.bytes bytes r.is_file is_file) r.is_head
+readable : (files : List FileOf) (root path bytes : Bytes) (facts : ClassFacts) → IsFileAt files root path bytes → IsReadAt files root path facts → IsReadAs path bytes facts
+readable files root path bytes facts is_file r = subst (λ (b : Bytes). IsReadAs path b facts) (one_file files root path r.bytes bytes r.is_file is_file) r.is_read
 
 -- ---- the tree
 
-heads_in : (files : List FileOf) (tree : Tree) (root : Bytes) (paths : List Bytes) (heads : List Head) → EachOf (IsClassPathOf files root) paths → AreReadAt files tree root paths heads
-    → EachOf (IsHeadIn files tree root) heads
-heads_in files tree root [] [] c r = tt
-heads_in files tree root (p ∷ ps) (h ∷ hs) c r = (
+records_in : (files : List FileOf) (root : Bytes) (paths : List Bytes) (records : List ClassFacts) → EachOf (IsClassPathOf files root) paths → AreReadAt files root paths records
+    → EachOf (IsRecordIn files root) records
+records_in files root [] [] c r = tt
+records_in files root (p ∷ ps) (h ∷ hs) c r = (
   record {
     path = p;
     bytes = r.0.bytes;
-    facts = r.0.is_head.facts;
     is_file = record { is_file = r.0.is_file; named = c.0.named };
-    is_read = r.0.is_head.is_read;
-    head_is = r.0.is_head.head_is;
+    is_read = r.0.is_read;
   },
-  heads_in files tree root ps hs c.1 r.1,
+  records_in files root ps hs c.1 r.1,
 )
-heads_in files tree root [] (h ∷ hs) c r = absurd r
-heads_in files tree root (p ∷ ps) [] c r = absurd r
+records_in files root [] (h ∷ hs) c r = absurd r
+records_in files root (p ∷ ps) [] c r = absurd r
 
 -- no path of the list is too long
 pub short_paths : (files : List FileOf) (root : Bytes) (paths : List Bytes) → AreClassPaths files root paths → list_any (λ p. nat_lt 4096 (length p)) paths ≡ false → HasShortPaths files root
@@ -119,41 +144,38 @@ long_path files root paths are e =
     let l = some_long paths e in
     record { path = l.path; is_path = each_in (IsClassPathOf files root) paths l.path (recursion_from_All (IsClassPathOf files root) paths are.sound) l.is_in; long = ltb-true _ _ l.long }
 
-pub heads_are : (files : List FileOf) (tree : Tree) (root : Bytes) (paths : List Bytes) (heads : List Head) → AreClassPaths files root paths → length paths ≤ 40000
-    → list_any (λ p. nat_lt 4096 (length p)) paths ≡ false → AreReadAt files tree root paths heads → map (λ h. path_of h.name) heads ≡ paths → AreHeads files tree root heads
-heads_are files tree root paths heads exact few short r named = record {
+pub records_are : (files : List FileOf) (root : Bytes) (paths : List Bytes) (records : List ClassFacts) → AreClassPaths files root paths → length paths ≤ 40000
+    → list_any (λ p. nat_lt 4096 (length p)) paths ≡ false → AreReadAt files root paths records → map (λ c. path_of c.name) records ≡ paths → AreRecords files root records
+records_are files root paths records exact few short r named = record {
   clean = record {
     few = record { paths = paths; are = exact; few = few };
     short = short_paths files root paths exact short;
     read = λ path bytes f.
-        let t = read_there files tree root paths heads path r (exact.complete path (record { held = (bytes, f.is_file); named = f.named })) in
-        let h = readable files tree root path bytes t.head f.is_file t.read in
-        (h.facts, h.is_read);
+        let t = read_there files root paths records path r (exact.complete path (record { held = (bytes, f.is_file); named = f.named })) in
+        (t.facts, readable files root path bytes t.facts f.is_file t.read);
   };
   exact = record {
-    in_order = rising_heads heads paths named exact.in_order;
-    sound = All-from_recursion (IsHeadIn files tree root) heads (heads_in files tree root paths heads (recursion_from_All (IsClassPathOf files root) paths exact.sound) r);
-    complete = λ head i.
-        let t = read_there files tree root paths heads i.path r (exact.complete i.path (record { held = (i.bytes, i.is_file.is_file); named = i.is_file.named })) in
-        let h = readable files tree root i.path i.bytes t.head i.is_file.is_file t.read in
-        let same : h.facts ≡ i.facts = one_record i.bytes h.facts i.facts h.is_read.reads i.is_read.reads in
-        let is : t.head ≡ head = h.head_is ∙ ap head_of same ∙ sym i.head_is in
-        subst (λ (k : Head). Contains heads k) is t.is_in;
+    in_order = rising_records records paths named exact.in_order;
+    sound = All-from_recursion (IsRecordIn files root) records (records_in files root paths records (recursion_from_All (IsClassPathOf files root) paths exact.sound) r);
+    complete = λ facts i.
+        let t = read_there files root paths records i.path r (exact.complete i.path (record { held = (i.bytes, i.is_file.is_file); named = i.is_file.named })) in
+        let h = readable files root i.path i.bytes t.facts i.is_file.is_file t.read in
+        let is : t.facts ≡ facts = one_record i.bytes t.facts facts h.reads i.is_read.reads in
+        subst (λ (k : ClassFacts). Contains records k) is t.is_in;
   };
 }
 
-pub first_fault : (files : List FileOf) (tree : Tree) (root : Bytes) (paths : List Bytes) (path : Bytes) (fault : FileFault) → AreClassPaths files root paths → IsFirstOf files tree root paths path fault
-    → IsFirstFault files tree root path fault
-first_fault files tree root paths path fault exact f = record {
+pub first_fault : (files : List FileOf) (root : Bytes) (paths : List Bytes) (path : Bytes) (fault : FileFault) → AreClassPaths files root paths → IsFirstOf files root paths path fault
+    → IsFirstFault files root path fault
+first_fault files root paths path fault exact f = record {
   bytes = f.fault_is.bytes;
   is_file = record { is_file = f.fault_is.is_file; named = (each_in (IsClassPathOf files root) paths path (recursion_from_All (IsClassPathOf files root) paths exact.sound) is_in).named };
   is_fault = f.fault_is.is_fault;
   before = λ other bytes k b.
       let listed : Contains paths other = exact.complete other (record { held = (bytes, k.is_file); named = k.named }) in
-      let t = read_there files tree root f.front f.heads other f.read
+      let t = read_there files root f.front f.records other f.read
       (in_front f.front f.back path other (subst (λ (ps : List Bytes). NamesRise (λ (p : Bytes). p) ps) f.whole exact.in_order) (subst (λ (ps : List Bytes). Contains ps other) f.whole listed) b) in
-      let h = readable files tree root other bytes t.head k.is_file t.read in
-      (h.facts, h.is_read);
+      (t.facts, readable files root other bytes t.facts k.is_file t.read);
 }
   where
     behind : (front : List Bytes) → Contains (front ++ path ∷ f.back) path
@@ -166,7 +188,7 @@ first_fault files tree root paths path fault exact f = record {
 -- ---- why it stopped
 
 pub stops_file : (content : Option (List FileOf)) (before after : Bytes → ℕ) (tree : Tree) (root : Bytes) (paths : List Bytes) (path : Bytes) (fault : FileFault) (stop : Stop)
-    → (stop ≡ stops.Unread tree (tree_faults.File path fault)) ⊎ (stop ≡ stops.Memory) → Told content (λ files. IsFirstOf files tree root paths path fault)
+    → (stop ≡ stops.Unread tree (tree_faults.File path fault)) ⊎ (stop ≡ stops.Memory) → Told content (λ files. IsFirstOf files root paths path fault)
     → StopsAt content before after tree root paths stop
 stops_file content before after tree root paths path fault stop (inl is) f = subst (λ (s : Stop). StopsAt content before after tree root paths s) (sym is) (refl, f)
 stops_file content before after tree root paths path fault stop (inr is) f = subst (λ (s : Stop). StopsAt content before after tree root paths s) (sym is) tt
@@ -179,7 +201,7 @@ stops_in content before middle after tree root paths exact few short rose (stops
   λ files told. (
     record { paths = paths; are = exact files told; few = few },
     short_paths files root paths (exact files told) short,
-    first_fault files tree root paths path fault (exact files told) (s.1 files told),
+    first_fault files root paths path fault (exact files told) (s.1 files told),
   ),
 )
 stops_in content before middle after tree root paths exact few short rose (stops.Unread t tree_faults.TooManyFiles) s = absurd s
@@ -187,7 +209,9 @@ stops_in content before middle after tree root paths exact few short rose (stops
 stops_in content before middle after tree root paths exact few short rose (stops.ReadFault t) s = (s.0, rose s.1)
 stops_in content before middle after tree root paths exact few short rose stops.Memory s = tt
 stops_in content before middle after tree root paths exact few short rose stops.Words s = absurd s
-stops_in content before middle after tree root paths exact few short rose stops.NoObject s = absurd s
+stops_in content before middle after tree root paths exact few short rose (stops.BadRoot part) s = absurd s
+stops_in content before middle after tree root paths exact few short rose (stops.Overlap t name) s = absurd s
+stops_in content before middle after tree root paths exact few short rose stops.TooManyFindings s = absurd s
 
 -- a count that rose later rose
 pub rose_since : (before middle after : ℕ) → before ≤ middle → Rose middle after → Rose before after

@@ -1,18 +1,22 @@
 -- The answers of the top call.
-use Rattle.std.specs.Prelude.{◌≡◌, ◌≢◌, ◌⊎◌, ℕ, List, [], ◌++◌, Option, Some, None, IsSomeAnd, codes}
+use Rattle.std.specs.Prelude.{◌≡◌, ◌≢◌, ◌≤◌, ◌<◌, ◌+◌, ◌⊎◌, ℕ, List, [], length, ◌++◌, Option, Some, None, IsSomeAnd, codes}
 use Rattle.std.specs.List.{All}
 use Rattle.jc_base.specs.Causes.{Rose}
-use Rattle.jc_base.specs.Outside.{FileOf, HasFile, TakesAll, TakesFront}
-use Rattle.jc_facts.specs.declared.head.Head.{Head}
-use Rattle.jc_facts.specs.declared.finding.Finding.{Finding}
-use Rattle.jc_facts.specs.Names.{Bytes, object_name}
-use Rattle.jc_facts.specs.Exact.{IsExact}
-use Rattle.jc_facts.specs.Heads.{KeepsClasses, BreaksClass}
-use Rattle.jc_facts.specs.Gone.{IsGone}
-use Rattle.jc_facts.specs.Text.{findings_text}
+use Rattle.jc_base.specs.Outside.{FileOf, TakesAll, TakesFront}
+use Rattle.jc_facts.specs.declared.class_facts.ClassFacts.{ClassFacts}
+use Rattle.jc_facts.specs.declared.client.ClientClass.{ClientClass}
+use Rattle.jc_facts.specs.declared.verdict.Verdict.{Verdict}
+use Rattle.jc_facts.specs.Names.{Bytes}
+use Rattle.jc_facts.specs.World.{World, side}
+use Rattle.jc_facts.specs.Clients.{IsInScope}
+use Rattle.jc_facts.specs.Kept.{DeclareNone, KeepsTypes, BreaksClass}
+use Rattle.jc_facts.specs.Text.{text_of}
+use Rattle.jc_table.specs.Root.{root_fault}
+use Rattle.jc_table.specs.Sides.{first_overlap}
+use Rattle.jc_rules.specs.Built.{IsBuiltVerdict}
 use Rattle.jcompat.specs.Request.{Roots, root_of, asked}
-use Rattle.jcompat.specs.Classes.{Told, path_of, IsClean, IsTreeFault, AreHeads}
-use Rattle.jcompat.specs.Stop.{line_of, status_of}
+use Rattle.jcompat.specs.Classes.{Told, IsClean, IsTreeFault, AreRecords}
+use Rattle.jcompat.specs.Stop.{line_of}
 use Rattle.jcompat.specs.declared.tree.Tree.{Tree}
 use Rattle.jcompat.specs.declared.tree.Tree.TheVariants as trees
 use Rattle.jcompat.specs.declared.stop.Stop.{Stop}
@@ -38,91 +42,110 @@ given words content before after = record { words = words; content = content; fa
 abbrev pub took : Option Bytes → Option Bytes → ℕ → ℕ → Took
 took before after faults_before faults_after = record { before = before; after = after; faults_before = faults_before; faults_after = faults_after }
 
--- ---- events, in their order: the words; the trees in order, each by the number of its class files, their paths, and then file by file;
--- the root of the platform
+-- ---- what is compared
 
--- the trees before this one are compared
+-- the records of the three trees that the words name
+pub record Sides (words : List Bytes) (files : List FileOf) : Type 0 where
+  pub roots : Roots
+  pub asked_for : asked words ≡ Some roots
+  pub platform : List ClassFacts
+  pub old : List ClassFacts
+  pub new : List ClassFacts
+  pub platform_is : AreRecords files roots.platform platform
+  pub old_is : AreRecords files roots.old old
+  pub new_is : AreRecords files roots.new new
+
+-- the platform with the old release, and with the new one
+abbrev pub old_side : {words : List Bytes} {files : List FileOf} → Sides words files → World
+old_side s = side s.platform s.old
+
+abbrev pub new_side : {words : List Bytes} {files : List FileOf} → Sides words files → World
+new_side s = side s.platform s.new
+
+-- the releases go with the platform: its java/lang/Object is as it has to be, and no release declares a name that it declares
+pub record Fits (platform old new : List ClassFacts) : Type 0 where
+  pub root : root_fault platform ≡ None
+  pub old_apart : first_overlap platform old ≡ None
+  pub new_apart : first_overlap platform new ≡ None
+
+-- how many findings and collisions there are
+abbrev pub count_of : Verdict → ℕ
+count_of v = length v.findings + length v.collisions
+
+-- the verdict on the two releases, where the releases go with the platform
+pub record Compares (words : List Bytes) (files : List FileOf) (v : Verdict) : Type 0 where
+  pub sides : Sides words files
+  pub fits : Fits sides.platform sides.old sides.new
+  pub exact : IsBuiltVerdict (old_side sides) (new_side sides) v
+
+-- ---- events, in their order: the words; the trees in order, each by the number of its class files, their paths, and then file by file;
+-- the root of the platform; the names of the old release, then those of the new; the number of findings and collisions
+
+-- the trees before this one are read
 abbrev pub AreCleanBefore : List FileOf → Roots → Tree → Type 0
 AreCleanBefore files roots trees.Platform = Unit {0}
-AreCleanBefore files roots trees.Old = IsClean files trees.Platform roots.platform
-AreCleanBefore files roots trees.New = IsClean files trees.Platform roots.platform × IsClean files trees.Old roots.old
+AreCleanBefore files roots trees.Old = IsClean files roots.platform
+AreCleanBefore files roots trees.New = IsClean files roots.platform × IsClean files roots.old
 
--- all trees are compared
-pub record AreClean (files : List FileOf) (roots : Roots) : Type 0 where
-  pub platform : IsClean files trees.Platform roots.platform
-  pub old : IsClean files trees.Old roots.old
-  pub new : IsClean files trees.New roots.new
-
--- the platform has a class file of java/lang/Object
-abbrev pub HasObject : List FileOf → Roots → Type 0
-HasObject files roots = HasFile files roots.platform (path_of object_name)
+-- the records of the three trees are refused, and this is the first cause
+abbrev pub IsUnfit : List ClassFacts → List ClassFacts → List ClassFacts → Stop → Type 0
+IsUnfit platform old new (stops.BadRoot part) = root_fault platform ≡ Some part
+IsUnfit platform old new (stops.Overlap trees.Old name) = (root_fault platform ≡ None) × (first_overlap platform old ≡ Some name)
+IsUnfit platform old new (stops.Overlap trees.New name) = (root_fault platform ≡ None) × (first_overlap platform old ≡ None) × (first_overlap platform new ≡ Some name)
+IsUnfit platform old new stops.TooManyFindings = Fits platform old new × ((v : Verdict) × IsBuiltVerdict (side platform old) (side platform new) v × (999999 < count_of v))
+IsUnfit platform old new _ = ⊥
 
 -- the words and the files are refused, and this is the first cause
 abbrev pub IsRefused : List Bytes → List FileOf → Stop → Type 0
 IsRefused words files stops.Words = asked words ≡ None
-IsRefused words files (stops.Unread tree fault) = IsSomeAnd (asked words) (λ roots. AreCleanBefore files roots tree × IsTreeFault files tree (root_of roots tree) fault)
-IsRefused words files stops.NoObject = IsSomeAnd (asked words) (λ roots. AreClean files roots × (HasObject files roots → ⊥))
-IsRefused words files (stops.ReadFault tree) = ⊥
-IsRefused words files stops.Memory = ⊥
+IsRefused words files (stops.Unread tree fault) = IsSomeAnd (asked words) (λ roots. AreCleanBefore files roots tree × IsTreeFault files (root_of roots tree) fault)
+IsRefused words files stop = (s : Sides words files) × IsUnfit s.platform s.old s.new stop
 
 -- no cause to refuse them stands
-abbrev pub IsAccepted : List Bytes → List FileOf → Type 0
-IsAccepted words files = IsSomeAnd (asked words) (λ roots. AreClean files roots × HasObject files roots)
+pub record IsAccepted (words : List Bytes) (files : List FileOf) : Type 0 where
+  pub sides : Sides words files
+  pub fits : Fits sides.platform sides.old sides.new
+  pub few : (v : Verdict) → IsBuiltVerdict (old_side sides) (new_side sides) v → count_of v ≤ 999999
 
 -- why there is no verdict; a call on a tree fails only where the count of its root rose, and no refusal stands in an earlier tree
 abbrev pub HasCause : Given → Stop → Type 0
 HasCause g stops.Words = asked g.words ≡ None
-HasCause g (stops.Unread tree fault) = Told g.content (λ files. IsRefused g.words files (stops.Unread tree fault))
-HasCause g stops.NoObject = Told g.content (λ files. IsRefused g.words files stops.NoObject)
 HasCause g (stops.ReadFault tree) = IsSomeAnd (asked g.words) (λ roots. Rose (g.faults_before (root_of roots tree)) (g.faults_after (root_of roots tree))
     × Told g.content (λ files. AreCleanBefore files roots tree))
 HasCause g stops.Memory = Unit {0}
+HasCause g stop = Told g.content (λ files. IsRefused g.words files stop)
 
 -- ---- the verdict
 
--- the classes of the three trees that the words name
-pub record Sides (words : List Bytes) (files : List FileOf) : Type 0 where
-  pub roots : Roots
-  pub asked_for : asked words ≡ Some roots
-  pub platform : List Head
-  pub old : List Head
-  pub new : List Head
-  pub platform_is : AreHeads files trees.Platform roots.platform platform
-  pub old_is : AreHeads files trees.Old roots.old old
-  pub new_is : AreHeads files trees.New roots.new new
-  pub has_object : HasObject files roots
-
--- the findings of public classes that are gone, exactly
-abbrev pub AreFindings : List Head → List Head → List Finding → Type 0
-AreFindings old new findings = IsExact (λ f. f.class) (IsGone old new) findings
+-- the verdict on what isn't refused
+pub record IsVerdict (words : List Bytes) (files : List FileOf) (v : Verdict) : Type 0 where
+  pub compares : Compares words files v
+  pub few : count_of v ≤ 999999
 
 -- the whole output of a verdict
-abbrev pub output_of : List Finding → Bytes
-output_of findings = codes "rules: H1\n" ++ findings_text findings
+abbrev pub output_of : Verdict → Bytes
+output_of v = codes "rules: H1 H2 H3 H4\n" ++ text_of v
 
--- there are no findings, and whatever clients there are, each naming of a class that is Ok with the old release is Ok with the new
-pub record IsCompatible (words : List Bytes) (files : List FileOf) : Type 0 where
-  pub sides : Sides words files
-  pub none : AreFindings sides.old sides.new []
-  pub keeps : KeepsClasses sides.platform sides.old sides.new
+-- the verdict has no finding, and each client world in scope whose clients declare no method to override by keeps its loads,
+-- the classes that it names and its assignments
+pub record IsCompatible (words : List Bytes) (files : List FileOf) (v : Verdict) : Type 0 where
+  pub verdict : IsVerdict words files v
+  pub none : v.findings ≡ []
+  pub keeps : (cs : List ClientClass) → IsInScope (old_side verdict.compares.sides) (new_side verdict.compares.sides) cs → DeclareNone cs
+      → KeepsTypes (old_side verdict.compares.sides) (new_side verdict.compares.sides) cs
 
--- there are these findings, one or more, and whatever clients there are, each one's naming of such a class is Ok with the old release,
--- and has the finding's error with the new
-pub record IsIncompatible (words : List Bytes) (files : List FileOf) (findings : List Finding) : Type 0 where
-  pub sides : Sides words files
-  pub exact : AreFindings sides.old sides.new findings
-  pub some : findings ≢ []
-  pub breaks : All (λ f. BreaksClass sides.platform sides.old sides.new f.class f.error) findings
-
--- the findings of the three trees
-abbrev pub IsVerdict : List Bytes → List FileOf → List Finding → Type 0
-IsVerdict words files findings = (sides : Sides words files) × AreFindings sides.old sides.new findings
+-- the verdict has a finding, and whatever client world in scope there is, each client's naming of a class that is gone, by H1, is Ok with
+-- the old release, and has the finding's error with the new
+pub record IsIncompatible (words : List Bytes) (files : List FileOf) (v : Verdict) : Type 0 where
+  pub verdict : IsVerdict words files v
+  pub some : v.findings ≢ []
+  pub breaks : All (λ f. f.rule ≡ 1 → BreaksClass (old_side verdict.compares.sides) (new_side verdict.compares.sides) f.class f.error) v.findings
 
 -- ---- what is written
 
--- the whole output of the findings was put, and nothing to the error stream
-pub record Reports (findings : List Finding) (out err : Took) : Type 0 where
-  pub output : TakesAll out.before out.after (output_of findings)
+-- the whole output of the verdict was put, and nothing to the error stream
+pub record Reports (v : Verdict) (out err : Took) : Type 0 where
+  pub output : TakesAll out.before out.after (output_of v)
   pub errors : err.after ≡ err.before
 
 -- it stopped for this cause: its line was put to the error stream, and nothing to the output
@@ -132,9 +155,9 @@ pub record Refuses (g : Given) (stop : Stop) (out err : Took) : Type 0 where
   pub errors : TakesAll err.before err.after (line_of stop)
 
 -- a verdict was due: a front of its output was put, and nothing to the error stream; a failed put was one on the output
-pub record CutsReport (g : Given) (findings : List Finding) (out err : Took) (status : ℕ) : Type 0 where
-  pub due : Told g.content (λ files. IsVerdict g.words files findings)
-  pub output : TakesFront out.before out.after (output_of findings)
+pub record CutsReport (g : Given) (v : Verdict) (out err : Took) (status : ℕ) : Type 0 where
+  pub due : Told g.content (λ files. IsVerdict g.words files v)
+  pub output : TakesFront out.before out.after (output_of v)
   pub errors : err.after ≡ err.before
   pub cause : status ≡ 5 → Rose out.faults_before out.faults_after
 
@@ -148,7 +171,7 @@ pub record CutsRefusal (g : Given) (stop : Stop) (out err : Took) (status : ℕ)
 
 -- a put failed, or there was no memory
 abbrev pub IsCutShort : Given → Took → Took → ℕ → Type 0
-IsCutShort g out err status = ((findings : List Finding) × CutsReport g findings out err status) ⊎ ((stop : Stop) × CutsRefusal g stop out err status)
+IsCutShort g out err status = ((v : Verdict) × CutsReport g v out err status) ⊎ ((stop : Stop) × CutsRefusal g stop out err status)
 
 -- a call on a tree or a put failed, or there was no memory
 abbrev pub HasFailed : ℕ → Type 0

@@ -4,8 +4,8 @@ pub mod Request
 pub mod RequestView
 pub mod Stop
 pub mod Classes
-pub mod Placed
 pub mod Survey
 pub mod Answers
 pub mod Check
 pub mod Written
+pub mod Surely

@@ -1,19 +1,19 @@
 -- What is written, and the status that tells of it.
-use Rattle.std.specs.Prelude.{◌≡◌, ◌≢◌, ◌⊎◌, ℕ, List, []}
+use Rattle.std.specs.Prelude.{◌≡◌, ◌≢◌, ◌⊎◌, ℕ, []}
 use Rattle.jc_base.specs.Causes.{Rose}
 use Rattle.jc_base.specs.Outside.{TakesAll, TakesFront}
-use Rattle.jc_facts.specs.declared.finding.Finding.{Finding}
+use Rattle.jc_facts.specs.declared.verdict.Verdict.{Verdict}
 use Rattle.jcompat.specs.Answers.{Took, output_of}
 use Rattle.jcompat.specs.Stop.{line_of, status_of}
 use Rattle.jcompat.specs.declared.stop.Stop.{Stop}
 
--- the output of the findings was put whole, or a front of it
-pub record Reported (findings : List Finding) (taken : Took) (status : ℕ) : Type 0 where
+-- the output of the verdict was put whole, or a front of it
+pub record Reported (v : Verdict) (taken : Took) (status : ℕ) : Type 0 where
   pub known : (status ≡ 0) ⊎ (status ≡ 1) ⊎ (status ≡ 5) ⊎ (status ≡ 6)
-  pub none : status ≡ 0 → findings ≡ []
-  pub some : status ≡ 1 → findings ≢ []
-  pub whole : (status ≡ 0) ⊎ (status ≡ 1) → TakesAll taken.before taken.after (output_of findings)
-  pub cut : (status ≡ 5) ⊎ (status ≡ 6) → TakesFront taken.before taken.after (output_of findings)
+  pub none : status ≡ 0 → v.findings ≡ []
+  pub some : status ≡ 1 → v.findings ≢ []
+  pub whole : (status ≡ 0) ⊎ (status ≡ 1) → TakesAll taken.before taken.after (output_of v)
+  pub cut : (status ≡ 5) ⊎ (status ≡ 6) → TakesFront taken.before taken.after (output_of v)
   pub cause : status ≡ 5 → Rose taken.faults_before taken.faults_after
 
 -- the line of the stop was put whole, or a front of it

@@ -1,9 +1,9 @@
-//! Why a class file isn't compared.
+//! Why class files aren't read.
 use jc_base::name::Name;
 use jc_base::text::Text;
 use jc_desc::fault::Malformed;
 
-/// Why a class file isn't compared.
+/// Why a class file isn't read.
 #[derive(Debug, Drop)]
 pub enum FileFault {
     /// It has more than 4,194,304 bytes.
@@ -12,17 +12,15 @@ pub enum FileFault {
     Malformed(Malformed),
     /// It is that of a class of this name, which belongs elsewhere.
     Misplaced(Name),
-    /// Its class isn't of a kind that is compared by now.
-    Later,
 }
 
-/// Why the class files of a tree aren't compared.
+/// Why the class files of a tree aren't read.
 #[derive(Debug, Drop)]
 pub enum TreeFault {
     /// There are more than 40,000.
     TooManyFiles,
     /// One's path has more than 4,096 bytes.
     LongPath,
-    /// The first of them, in the order of paths, that isn't compared.
+    /// The first of them, in the order of paths, that isn't read.
     File(Text, FileFault),
 }

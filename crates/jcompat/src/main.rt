@@ -12,7 +12,6 @@ mod run;
 mod std_sink;
 mod stop;
 mod survey;
-mod text;
 mod tree;
 mod words;
 

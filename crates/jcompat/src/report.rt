@@ -1,38 +1,37 @@
 //! Writing the verdict, or why there is none.
 ghost use Rattle.std.specs.Prelude.{◌≡◌, ◌≢◌, ◌≤◌, ◌⊎◌, [], codes, ◌++◌, IfOk};
-ghost use Rattle.jc_facts.specs.Text.{findings_text};
 ghost use Rattle.jcompat.specs.Answers.{took, output_of};
 ghost use Rattle.jcompat.specs.Written.{Reported, Refused};
 
 use crate::put::put_lines;
 use crate::stop::Stop;
-use crate::text::text;
 use jc_base::sink::{Sink, SinkError};
-use jc_facts::finding::Finding;
+use jc_facts::verdict::Verdict;
+use jc_report::text::text;
 use jc_rules::built;
 use std::alloc::{AllocError, Global};
 
-// The whole output of a verdict that has these findings.
-fn output(alloc: Global, findings: &[Finding]) -> Result<Vec<u8>, AllocError>
-    ensures { IfOk result (λ text. text.items ≡ output_of findings.now) }
+// The whole output of a verdict.
+fn output(alloc: Global, verdict: &Verdict) -> Result<Vec<u8>, AllocError>
+    ensures { IfOk result (λ text. text.items ≡ output_of verdict.now) }
 {
     let mut output = Vec::from_slice(alloc, b"rules: ")?;
     output.extend_from_slice(built().as_bytes())?;
     output.extend_from_slice(b"\n")?;
-    let text = text(alloc, findings)?;
+    let text = text(alloc, verdict)?;
     output.extend_from_slice(text.as_slice())?;
     Ok(output)
 }
 
-/// Puts the output of a verdict that has these findings, line by line, and answers the status.
-pub fn report<O: Sink>(alloc: Global, findings: &[Finding], out: &mut O) -> u8
-    ensures { Reported findings.now (took (O.taken out.old) (O.taken out.new) (O.faults out.old) (O.faults out.new)) result }
+/// Puts the output of a verdict, line by line, and answers the status.
+pub fn report<O: Sink>(alloc: Global, verdict: &Verdict, out: &mut O) -> u8
+    ensures { Reported verdict.now (took (O.taken out.old) (O.taken out.new) (O.faults out.old) (O.faults out.new)) result }
 {
-    let Ok(output) = output(alloc, findings) else {
+    let Ok(output) = output(alloc, verdict) else {
         return 6;
     };
     match put_lines(output.as_slice(), out) {
-        Ok(()) if findings.is_empty() => 0,
+        Ok(()) if verdict.findings.as_slice().is_empty() => 0,
         Ok(()) => 1,
         Err(SinkError::Fault) => 5,
         Err(SinkError::Memory) => 6,

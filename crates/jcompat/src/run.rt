@@ -1,6 +1,6 @@
 //! The one top call.
-ghost use Rattle.std.specs.Prelude.{◌≡◌, ◌≢◌, ◌⊎◌, ℕ, List, []};
-ghost use Rattle.jc_facts.specs.declared.finding.Finding.{Finding};
+ghost use Rattle.std.specs.Prelude.{◌≡◌, ◌⊎◌};
+ghost use Rattle.jc_facts.specs.declared.verdict.Verdict.{Verdict};
 ghost use Rattle.jcompat.specs.Classes.{Told};
 ghost use Rattle.jcompat.specs.Stop.{status_of};
 ghost use Rattle.jcompat.specs.Answers.{given, took, Reports, Refuses, IsCutShort, IsCompatible, IsIncompatible, IsRefused, IsAccepted, HasFailed};
@@ -16,11 +16,12 @@ use std::alloc::Global;
 
 /// Does what the words ask for, writes what there is to say, and answers the exit status:
 ///
-/// - 0: no public class is gone; 1: some are. The verdict was put to `out`.
-/// - 2: the words ask for nothing that is built. 3: a class file is malformed, misplaced or not
-///   compared yet, or the platform has no `java/lang/Object`. 4: a call on a tree failed. 7: a tree
-///   has more than 40,000 class files, a class file's path more than 4,096 bytes, or a class file
-///   more than 4,194,304 bytes. A line was put to `err`.
+/// - 0: there is no finding; 1: there are some. The verdict was put to `out`.
+/// - 2: the words ask for nothing that is built. 3: a class file is malformed or misplaced, the
+///   platform's `java/lang/Object` isn't as it has to be, or a release declares a name that the
+///   platform declares. 4: a call on a tree failed. 7: a tree has more than 40,000 class files, a
+///   class file's path more than 4,096 bytes, a class file more than 4,194,304 bytes, or the verdict
+///   more than 999,999 findings and collisions. A line was put to `err`.
 /// - 5: a put failed. 6: there was no memory.
 pub fn run<T: Trees, O: Sink, E: Sink>(
     alloc: Global,
@@ -31,23 +32,23 @@ pub fn run<T: Trees, O: Sink, E: Sink>(
 ) -> u8
     ensures known { (result ≡ 0) ⊎ (result ≡ 1) ⊎ (result ≡ 2) ⊎ (result ≡ 3) ⊎ (result ≡ 4) ⊎ (result ≡ 5) ⊎ (result ≡ 6) ⊎ (result ≡ 7) }
 
-    // No public class is gone, and each client's naming of a class that was Ok is Ok.
-    ensures compatible { result ≡ 0 → Told (T.content trees.old) (IsCompatible words.now)
-        × Reports [] (took (O.taken out.old) (O.taken out.new) (O.faults out.old) (O.faults out.new)) (took (E.taken err.old) (E.taken err.new) (E.faults err.old) (E.faults err.new)) }
+    // No rule on classes and types finds anything, and clients keep their loads, the classes that they name and their assignments.
+    ensures compatible { result ≡ 0 → (v : Verdict) × Told (T.content trees.old) (λ files. IsCompatible words.now files v)
+        × Reports v (took (O.taken out.old) (O.taken out.new) (O.faults out.old) (O.faults out.new)) (took (E.taken err.old) (E.taken err.new) (E.faults err.old) (E.faults err.new)) }
 
-    // Some public classes are gone, and whoever names one has the printed error.
-    ensures incompatible { result ≡ 1 → (findings : List Finding) × Told (T.content trees.old) (λ files. IsIncompatible words.now files findings)
-        × Reports findings (took (O.taken out.old) (O.taken out.new) (O.faults out.old) (O.faults out.new)) (took (E.taken err.old) (E.taken err.new) (E.faults err.old) (E.faults err.new)) }
+    // There are findings, and whoever names a class that is gone has the printed error.
+    ensures incompatible { result ≡ 1 → (v : Verdict) × Told (T.content trees.old) (λ files. IsIncompatible words.now files v)
+        × Reports v (took (O.taken out.old) (O.taken out.new) (O.faults out.old) (O.faults out.new)) (took (E.taken err.old) (E.taken err.new) (E.faults err.old) (E.faults err.new)) }
 
     // The words ask for nothing that is built.
     ensures usage { result ≡ 2 → Refuses (given words.now (T.content trees.old) (T.faults trees.old) (T.faults trees.new)) Stop.Words
         (took (O.taken out.old) (O.taken out.new) (O.faults out.old) (O.faults out.new)) (took (E.taken err.old) (E.taken err.new) (E.faults err.old) (E.faults err.new)) }
 
-    // The first class file that is malformed, misplaced or not compared yet, or a platform without java/lang/Object.
+    // The first class file that is malformed or misplaced, the platform's root, or a name that the platform and a release declare.
     ensures unread { result ≡ 3 → (stop : Stop) × (status_of stop ≡ 3) × Refuses (given words.now (T.content trees.old) (T.faults trees.old) (T.faults trees.new)) stop
         (took (O.taken out.old) (O.taken out.new) (O.faults out.old) (O.faults out.new)) (took (E.taken err.old) (E.taken err.new) (E.faults err.old) (E.faults err.new)) }
 
-    // A tree or a class file past a limit.
+    // A tree, a class file or a verdict past a limit.
     ensures limit { result ≡ 7 → (stop : Stop) × (status_of stop ≡ 7) × Refuses (given words.now (T.content trees.old) (T.faults trees.old) (T.faults trees.new)) stop
         (took (O.taken out.old) (O.taken out.new) (O.faults out.old) (O.faults out.new)) (took (E.taken err.old) (E.taken err.new) (E.faults err.old) (E.faults err.new)) }
 
@@ -66,7 +67,7 @@ pub fn run<T: Trees, O: Sink, E: Sink>(
     ensures content { T.content trees.new ≡ T.content trees.old }
 {
     match check(alloc, words, trees) {
-        Ok(findings) => report(alloc, findings.as_slice(), out),
+        Ok(verdict) => report(alloc, &verdict, out),
         Err(stop) => refuse(alloc, &stop, err),
     }
 }

@@ -2,12 +2,14 @@
 ghost use Rattle.std.specs.Prelude.{◌≡◌, ◌++◌, codes, IfOk, OnOk};
 ghost use Rattle.jc_facts.specs.Text.{printed};
 ghost use Rattle.jcompat.specs.Tree.{tree_word};
-ghost use Rattle.jcompat.specs.Stop.{reason_name as name_of, file_words, tree_words, line_of, file_status as file_status_of, tree_status as tree_status_of, status_of};
+ghost use Rattle.jcompat.specs.Stop.{reason_name as name_of, part_name as part_name_of, file_words, tree_words, line_of, file_status as file_status_of, tree_status as tree_status_of, status_of};
 
 use crate::file_fault::{FileFault, TreeFault};
-use crate::text::{push_decimal, push_printed};
 use crate::tree::Tree;
+use jc_base::name::Name;
 use jc_desc::fault::Reason;
+use jc_report::printed::{push_decimal, push_printed};
+use jc_table::root::RootPart;
 use std::alloc::{AllocError, Global};
 
 /// Why there is no verdict.
@@ -15,10 +17,14 @@ use std::alloc::{AllocError, Global};
 pub enum Stop {
     /// The words ask for no check.
     Words,
-    /// The class files of the tree aren't compared.
+    /// The class files of the tree aren't read.
     Unread(Tree, TreeFault),
-    /// The platform has no `java/lang/Object`.
-    NoObject,
+    /// This part of the platform's `java/lang/Object` isn't as it has to be.
+    BadRoot(RootPart),
+    /// The release of this tree declares this name, and so does the platform.
+    Overlap(Tree, Name),
+    /// There are more than 999,999 findings and collisions.
+    TooManyFindings,
     /// A call on the tree failed.
     ReadFault(Tree),
     /// There was no memory.
@@ -30,7 +36,7 @@ fn file_status(fault: &FileFault) -> u8
 {
     match fault {
         FileFault::TooLong => 7,
-        FileFault::Malformed(_) | FileFault::Misplaced(_) | FileFault::Later => 3,
+        FileFault::Malformed(_) | FileFault::Misplaced(_) => 3,
     }
 }
 
@@ -62,6 +68,20 @@ fn reason_name(reason: Reason) -> &'static str
     }
 }
 
+fn part_name(part: RootPart) -> &'static str
+    ensures { result.now ≡ part_name_of part }
+{
+    match part {
+        RootPart::Missing => "missing",
+        RootPart::Flags => "flags",
+        RootPart::Super => "super",
+        RootPart::Interfaces => "interfaces",
+        RootPart::Fields => "fields",
+        RootPart::Permits => "permits",
+        RootPart::Init => "init",
+    }
+}
+
 fn push_file_words(alloc: Global, line: &mut Vec<u8>, fault: &FileFault) -> Result<(), AllocError>
     ensures { OnOk result (line.new.items ≡ line.old.items ++ file_words fault.now) }
 {
@@ -76,7 +96,6 @@ fn push_file_words(alloc: Global, line: &mut Vec<u8>, fault: &FileFault) -> Resu
             line.extend_from_slice(b"misplaced ")?;
             push_printed(line, name.as_bytes())?;
         }
-        FileFault::Later => line.extend_from_slice(b"later")?,
     }
     Ok(())
 }
@@ -106,12 +125,32 @@ fn tree_line(alloc: Global, tree: Tree, what: &[u8]) -> Result<Vec<u8>, AllocErr
     Ok(line)
 }
 
-// The line on a tree whose class files aren't compared.
+// The line on a tree whose class files aren't read.
 fn unread_line(alloc: Global, tree: Tree, fault: &TreeFault) -> Result<Vec<u8>, AllocError>
     ensures { IfOk result (λ line. line.items ≡ codes "jcompat: " ++ tree_word tree ++ codes ": " ++ tree_words fault.now ++ codes "\n") }
 {
     let mut line = tree_line(alloc, tree, b": ")?;
     push_tree_words(alloc, &mut line, fault)?;
+    line.push(b'\n')?;
+    Ok(line)
+}
+
+// The line on a platform whose root isn't as it has to be.
+fn bad_root_line(alloc: Global, part: RootPart) -> Result<Vec<u8>, AllocError>
+    ensures { IfOk result (λ line. line.items ≡ codes "jcompat: platform: bad root " ++ part_name_of part ++ codes "\n") }
+{
+    let mut line = Vec::from_slice(alloc, b"jcompat: platform: bad root ")?;
+    line.extend_from_slice(part_name(part).as_bytes())?;
+    line.push(b'\n')?;
+    Ok(line)
+}
+
+// The line on a release that declares a name of the platform.
+fn overlap_line(alloc: Global, tree: Tree, name: &Name) -> Result<Vec<u8>, AllocError>
+    ensures { IfOk result (λ line. line.items ≡ codes "jcompat: " ++ tree_word tree ++ codes ": overlap " ++ printed name.now ++ codes "\n") }
+{
+    let mut line = tree_line(alloc, tree, b": overlap ")?;
+    push_printed(&mut line, name.as_bytes())?;
     line.push(b'\n')?;
     Ok(line)
 }
@@ -124,7 +163,8 @@ impl Stop {
         match self {
             Stop::Words => 2,
             Stop::Unread(_, fault) => tree_status(fault),
-            Stop::NoObject => 3,
+            Stop::BadRoot(_) | Stop::Overlap(..) => 3,
+            Stop::TooManyFindings => 7,
             Stop::ReadFault(_) => 4,
             Stop::Memory => 6,
         }
@@ -137,7 +177,9 @@ impl Stop {
         match self {
             Stop::Words => Vec::from_slice(alloc, b"jcompat: usage: words\n"),
             Stop::Unread(tree, fault) => unread_line(alloc, *tree, fault),
-            Stop::NoObject => Vec::from_slice(alloc, b"jcompat: platform: later\n"),
+            Stop::BadRoot(part) => bad_root_line(alloc, *part),
+            Stop::Overlap(tree, name) => overlap_line(alloc, *tree, name),
+            Stop::TooManyFindings => Vec::from_slice(alloc, b"jcompat: limit findings\n"),
             Stop::ReadFault(tree) => tree_line(alloc, *tree, b": read fault\n"),
             Stop::Memory => Ok(Vec::new(alloc)),
         }

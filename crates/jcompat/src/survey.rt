@@ -4,18 +4,19 @@ ghost use Rattle.std.specs.List.{All, filter, list_any};
 ghost use Rattle.jc_base.specs.Causes.{Rose};
 ghost use Rattle.jc_base.specs.Outside.{Holds};
 ghost use Rattle.jc_facts.specs.Exact.{NamesRise};
-ghost use Rattle.jcompat.specs.Classes.{Told, is_class_path as is_class, path_of, AreClassPaths, AreHeads};
-ghost use Rattle.jcompat.specs.Survey.{IsReadAt, IsFaultAt, AreReadAt, StopsAt, StopsIn, stop_by};
+ghost use Rattle.jc_facts.specs.Valid.{IsValidClass};
+ghost use Rattle.jcompat.specs.Classes.{Told, is_class_path as is_class, path_of, AreClassPaths, AreRecords};
+ghost use Rattle.jcompat.specs.Survey.{IsReadAt, IsFaultAt, AreReadAt, IsClassList, StopsAt, StopsIn, stop_by};
 ghost use Rattle.jcompat.specs.declared.stop.Stop.{Stop};
 ghost use Rattle.jcompat.specs.declared.file_fault.TreeFault.{TreeFault};
 
-use crate::classes::{MAX_BYTES, head_of, is_class_path};
+use crate::classes::{MAX_BYTES, is_class_path, record_of};
 use crate::file_fault::{FileFault, TreeFault};
 use crate::stop::Stop;
 use crate::tree::Tree;
 use jc_base::text::Text;
 use jc_base::trees::{TreeError, Trees};
-use jc_facts::head::Head;
+use jc_facts::class_facts::ClassFacts;
 use std::alloc::Global;
 
 /// The most class files of a tree.
@@ -58,31 +59,31 @@ fn class_paths<T: Trees>(alloc: Global, root: &str, trees: &mut T) -> Result<Vec
     Ok(paths)
 }
 
-// The head of a class file that is compared, or why it isn't.
+// The record of a class file, or why it isn't read.
 fn read_one<T: Trees>(
     alloc: Global,
-    tree: Tree,
     root: &str,
     path: &str,
     trees: &mut T,
-) -> Result<Result<Head, FileFault>, TreeError>
+) -> Result<Result<ClassFacts, FileFault>, TreeError>
     requires { Holds (T.content trees.old) root.now path.now }
-    ensures read { IfOk result (λ found. IfOk found (λ head. Told (T.content trees.old) (λ files. IsReadAt files tree root.now path.now head))) }
-    ensures named { IfOk result (λ found. IfOk found (λ head. path.now ≡ path_of head.name)) }
-    ensures fault { IfOk result (λ found. IfErr found (λ fault. Told (T.content trees.old) (λ files. IsFaultAt files tree root.now path.now fault))) }
+    ensures read { IfOk result (λ found. IfOk found (λ facts. Told (T.content trees.old) (λ files. IsReadAt files root.now path.now facts))) }
+    ensures named { IfOk result (λ found. IfOk found (λ facts. path.now ≡ path_of facts.name)) }
+    ensures valid { IfOk result (λ found. IfOk found IsValidClass) }
+    ensures fault { IfOk result (λ found. IfErr found (λ fault. Told (T.content trees.old) (λ files. IsFaultAt files root.now path.now fault))) }
     ensures content { T.content trees.new ≡ T.content trees.old }
     ensures never_falls { (r : List ℕ) → T.faults trees.old r ≤ T.faults trees.new r }
     ensures cause { IsErrOf result TreeError.Fault → Rose (T.faults trees.old root.now) (T.faults trees.new root.now) }
 {
     let bytes = trees.read(alloc, root, path, MAX_BYTES)?;
-    match head_of(alloc, tree, path, bytes.as_slice()) {
-        Ok(Ok(head)) => Ok(Ok(head)),
+    match record_of(alloc, path, bytes.as_slice()) {
+        Ok(Ok(facts)) => Ok(Ok(facts)),
         Ok(Err(fault)) => Ok(Err(fault)),
         Err(_) => Err(TreeError::Memory),
     }
 }
 
-// The stop at a class file that isn't compared.
+// The stop at a class file that isn't read.
 fn stop_at(alloc: Global, tree: Tree, path: &Text, fault: FileFault) -> Stop
     ensures { (result ≡ Stop.Unread tree (TreeFault.File path.now fault)) ⊎ (result ≡ Stop.Memory) }
 {
@@ -92,25 +93,26 @@ fn stop_at(alloc: Global, tree: Tree, path: &Text, fault: FileFault) -> Stop
     }
 }
 
-// The heads of the class files at these paths, or why reading them stopped.
+// The records of the class files at these paths, or why reading them stopped.
 fn read_all<T: Trees>(
     alloc: Global,
     tree: Tree,
     root: &str,
     paths: &[Text],
     trees: &mut T,
-) -> Result<Vec<Head>, Stop>
+) -> Result<Vec<ClassFacts>, Stop>
     requires { All (Holds (T.content trees.old) root.now) paths.now }
-    ensures read { IfOk result (λ heads. Told (T.content trees.old) (λ files. AreReadAt files tree root.now paths.now heads.items)) }
-    ensures named { IfOk result (λ heads. map (λ h. path_of h.name) heads.items ≡ paths.now) }
+    ensures read { IfOk result (λ records. Told (T.content trees.old) (λ files. AreReadAt files root.now paths.now records.items)) }
+    ensures named { IfOk result (λ records. map (λ c. path_of c.name) records.items ≡ paths.now) }
+    ensures valid { IfOk result (λ records. All IsValidClass records.items) }
     ensures stopped { IfErr result (StopsAt (T.content trees.old) (T.faults trees.old) (T.faults trees.new) tree root.now paths.now) }
     ensures content { T.content trees.new ≡ T.content trees.old }
     ensures never_falls { (r : List ℕ) → T.faults trees.old r ≤ T.faults trees.new r }
 {
-    let mut heads = Vec::new(alloc);
+    let mut records = Vec::new(alloc);
     for path in paths {
-        match read_one(alloc, tree, root, path.as_str(), trees) {
-            Ok(Ok(head)) => match heads.push(head) {
+        match read_one(alloc, root, path.as_str(), trees) {
+            Ok(Ok(facts)) => match records.push(facts) {
                 Ok(()) => {}
                 Err(_) => return Err(Stop::Memory),
             },
@@ -118,7 +120,7 @@ fn read_all<T: Trees>(
             Err(error) => return Err(stop_of(tree, error)),
         }
     }
-    Ok(heads)
+    Ok(records)
 }
 
 // Whether one of the paths has too many bytes.
@@ -128,15 +130,15 @@ fn has_long_path(paths: &[Text]) -> bool
     paths.iter().any(|path| path.as_str().len() > MAX_PATH)
 }
 
-/// The heads of a tree's class files, in the order of their paths, or why it isn't read.
+/// The records of a tree's class files, in the order of their paths, or why it isn't read.
 pub fn read_tree<T: Trees>(
     alloc: Global,
     tree: Tree,
     root: &str,
     trees: &mut T,
-) -> Result<Vec<Head>, Stop>
-    ensures read { IfOk result (λ heads. Told (T.content trees.old) (λ files. AreHeads files tree root.now heads.items)) }
-    ensures rising { IfOk result (λ heads. NamesRise (λ h. path_of h.name) heads.items) }
+) -> Result<Vec<ClassFacts>, Stop>
+    ensures read { IfOk result (λ records. Told (T.content trees.old) (λ files. AreRecords files root.now records.items)) }
+    ensures classes { IfOk result (λ records. IsClassList records.items) }
     ensures stopped { IfErr result (StopsIn (T.content trees.old) (T.faults trees.old) (T.faults trees.new) tree root.now) }
     ensures content { T.content trees.new ≡ T.content trees.old }
     ensures never_falls { (r : List ℕ) → T.faults trees.old r ≤ T.faults trees.new r }
@@ -152,7 +154,7 @@ pub fn read_tree<T: Trees>(
         return Err(Stop::Unread(tree, TreeFault::LongPath));
     }
     match read_all(alloc, tree, root, paths.as_slice(), trees) {
-        Ok(heads) => Ok(heads),
+        Ok(records) => Ok(records),
         Err(stop) => Err(stop),
     }
 }

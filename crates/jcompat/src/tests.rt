@@ -2,13 +2,17 @@ ghost use Rattle.std.specs.Prelude.{None, IfOk, IsTrue, ◌^◌, ◌-◌};
 ghost use Rattle.jc_base.specs.Outside.{are_distinct};
 
 use crate::disk_trees::{DiskTrees, is_ascending};
+use crate::laws::run_surely;
 use crate::outside_tests::new_folder;
 use crate::run::run;
 use jc_base::mem_file::{MemFile, is_file_list};
 use jc_base::mem_sink::MemSink;
 use jc_base::mem_trees::MemTrees;
+use jc_base::sure_sink::SureSink;
+use jc_base::sure_trees::SureTrees;
 use jc_base::text::Text;
 use jc_base::trees::{TreeError, Trees};
+use jc_table::root::RootPart;
 use std::alloc::{AllocError, Global};
 use std::fs;
 use std::process::Abort;
@@ -18,25 +22,64 @@ const WORDS: &[&str] = &["check", "--platform", "P", "--old", "O", "--new", "N"]
 
 const OBJECT: &[u8] = b"java/lang/Object";
 
-const SUPER: u16 = 0x20;
-
 const PUBLIC: u16 = 0x21;
 
-/// What stands in a file: a class without members, of this name, superclass and flags, or other
-/// bytes.
+/// A field or a method: its flags, name and descriptor.
+type Member = (u16, &'static [u8], &'static [u8]);
+
+const INIT: Member = (0x01, b"<init>", b"()V");
+
+/// A class without code (JVMS 4.1). Where the superclass is empty it has none, and where permitted
+/// names are given it has them.
+#[derive(Clone, Copy)]
+struct Class<'a, 'b> {
+    major: u16,
+    flags: u16,
+    name: &'a [u8],
+    superclass: &'b [u8],
+    interfaces: &'static [&'static [u8]],
+    fields: &'static [Member],
+    methods: &'static [Member],
+    permits: Option<&'static [&'static [u8]]>,
+}
+
+/// `public class java/lang/Object { public <init>()V }`.
+const ROOT_CLASS: Class<'static, 'static> = Class {
+    major: 52,
+    flags: PUBLIC,
+    name: OBJECT,
+    superclass: b"",
+    interfaces: &[],
+    fields: &[],
+    methods: &[INIT],
+    permits: None,
+};
+
+/// What stands in a file.
 #[derive(Clone, Copy)]
 enum Content {
-    Class(&'static [u8], u16),
+    /// `public class NAME { public <init>()V }`.
+    Plain(&'static [u8]),
+    /// `public class NAME extends SUPERCLASS { public <init>()V }`.
     Sub(&'static [u8], &'static [u8]),
+    /// A class of this name, flags and methods.
+    With(&'static [u8], u16, &'static [Member]),
+    /// `public interface NAME {}`.
+    Interface(&'static [u8]),
+    /// The same of major 61, which permits these names.
+    Sealed(&'static [u8], &'static [&'static [u8]]),
+    /// `java/lang/Object`, of which this part isn't as it has to be.
+    Spoilt(RootPart),
+    /// Other bytes.
     Bytes(&'static [u8]),
 }
 
-use Content::{Bytes, Class, Sub};
+use Content::{Bytes, Interface, Plain, Sealed, Spoilt, Sub, With};
 
 /// A file: its root, its path and what stands in it.
 type File = (&'static str, &'static str, Content);
 
-const ROOT: File = ("P", "java/lang/Object.class", Class(OBJECT, PUBLIC));
+const ROOT: File = ("P", "java/lang/Object.class", Plain(OBJECT));
 
 /// What is shown, the files, the exit status, the output and the line on the error stream.
 type Row = (
@@ -47,36 +90,175 @@ type Row = (
     &'static str,
 );
 
-fn push_text(file: &mut Vec<u8>, text: &[u8]) -> Result<(), AllocError> {
-    file.push(1)?;
-    file.extend_from_slice(&(text.len().min(65_535) as u16).to_be_bytes())?;
-    file.extend_from_slice(text)
+// A public class of this name and superclass.
+fn sub<'a, 'b>(name: &'a [u8], superclass: &'b [u8]) -> Class<'a, 'b> {
+    let superclass = if name == OBJECT {
+        b"".as_slice()
+    } else {
+        superclass
+    };
+    Class {
+        name,
+        superclass,
+        ..ROOT_CLASS
+    }
 }
 
-// A class file without members (JVMS 4.1).
-fn class_file(
-    alloc: Global,
-    name: &[u8],
-    superclass: &[u8],
-    flags: u16,
-) -> Result<Vec<u8>, AllocError> {
-    let mut file = Vec::from_slice(alloc, b"\xca\xfe\xba\xbe\0\0\0\x34\0\x05\x07\0\x02")?;
-    push_text(&mut file, name)?;
-    file.extend_from_slice(b"\x07\0\x04")?;
-    push_text(&mut file, superclass)?;
-    file.extend_from_slice(&flags.to_be_bytes())?;
-    file.extend_from_slice(b"\0\x01")?;
-    file.extend_from_slice(if name == OBJECT { b"\0\0" } else { b"\0\x03" })?;
-    file.extend_from_slice(&[0; 8])?;
+// A public interface of this name.
+fn interface(name: &'static [u8]) -> Class<'static, 'static> {
+    Class {
+        flags: 0x0601,
+        methods: &[],
+        ..sub(name, OBJECT)
+    }
+}
+
+// A `java/lang/Object` of which this part isn't as it has to be.
+fn spoilt(part: RootPart) -> Class<'static, 'static> {
+    let mut class = ROOT_CLASS;
+    match part {
+        RootPart::Missing | RootPart::Super => {}
+        RootPart::Flags => class.flags = 0x31,
+        RootPart::Interfaces => class.interfaces = &[b"p/I"],
+        RootPart::Fields => class.fields = &[(0x01, b"f", b"I")],
+        RootPart::Permits => {
+            class.major = 61;
+            class.permits = Some(&[b"p/A"]);
+        }
+        RootPart::Init => class.methods = &[(0x04, b"<init>", b"()V")],
+    }
+    class
+}
+
+/// A constant pool that is made (JVMS 4.4).
+#[derive(Drop)]
+struct Pool {
+    bytes: Vec<u8>,
+    // The index of the next entry.
+    next: u16,
+}
+
+fn push_number(bytes: &mut Vec<u8>, number: u16) -> Result<(), AllocError> {
+    bytes.extend_from_slice(&number.to_be_bytes())
+}
+
+// How many there are.
+fn count<T>(items: &[T]) -> u16 {
+    items.len().min(65_535) as u16
+}
+
+impl Pool {
+    // The index of the entry that was begun.
+    fn end(&mut self) -> u16 {
+        let index = self.next;
+        self.next = index.saturating_add(1);
+        index
+    }
+
+    // Adds a text.
+    fn text(&mut self, text: &[u8]) -> Result<u16, AllocError> {
+        self.bytes.push(1)?;
+        push_number(&mut self.bytes, count(text))?;
+        self.bytes.extend_from_slice(text)?;
+        Ok(self.end())
+    }
+
+    // Adds a class, or gives 0 for no name.
+    fn class(&mut self, name: &[u8]) -> Result<u16, AllocError> {
+        if name.is_empty() {
+            return Ok(0);
+        }
+        let text = self.text(name)?;
+        self.bytes.push(7)?;
+        push_number(&mut self.bytes, text)?;
+        Ok(self.end())
+    }
+
+    // The count and the indices of classes.
+    fn push_classes(&mut self, to: &mut Vec<u8>, names: &[&[u8]]) -> Result<(), AllocError> {
+        push_number(to, count(names))?;
+        for name in names {
+            let index = self.class(name)?;
+            push_number(to, index)?;
+        }
+        Ok(())
+    }
+
+    // The count of members, and each without attributes.
+    fn push_members(&mut self, to: &mut Vec<u8>, members: &[Member]) -> Result<(), AllocError> {
+        push_number(to, count(members))?;
+        for (flags, name, descriptor) in members {
+            push_number(to, *flags)?;
+            let name = self.text(name)?;
+            push_number(to, name)?;
+            let descriptor = self.text(descriptor)?;
+            push_number(to, descriptor)?;
+            push_number(to, 0)?;
+        }
+        Ok(())
+    }
+
+    // The attributes of a class: the names that it permits, where they are given.
+    fn push_attributes(
+        &mut self,
+        to: &mut Vec<u8>,
+        permits: Option<&[&[u8]]>,
+    ) -> Result<(), AllocError> {
+        let Some(names) = permits else {
+            return push_number(to, 0);
+        };
+        push_number(to, 1)?;
+        let name = self.text(b"PermittedSubclasses")?;
+        push_number(to, name)?;
+        push_number(to, 0)?;
+        push_number(to, count(names).saturating_mul(2).saturating_add(2))?;
+        self.push_classes(to, names)
+    }
+}
+
+// A class file (JVMS 4.1).
+fn class_file(alloc: Global, class: &Class<'_, '_>) -> Result<Vec<u8>, AllocError> {
+    let mut pool = Pool {
+        bytes: Vec::new(alloc),
+        next: 1,
+    };
+    let mut body = Vec::new(alloc);
+    push_number(&mut body, class.flags)?;
+    let name = pool.class(class.name)?;
+    push_number(&mut body, name)?;
+    let superclass = pool.class(class.superclass)?;
+    push_number(&mut body, superclass)?;
+    pool.push_classes(&mut body, class.interfaces)?;
+    pool.push_members(&mut body, class.fields)?;
+    pool.push_members(&mut body, class.methods)?;
+    pool.push_attributes(&mut body, class.permits)?;
+    let mut file = Vec::from_slice(alloc, b"\xca\xfe\xba\xbe\0\0")?;
+    push_number(&mut file, class.major)?;
+    push_number(&mut file, pool.next)?;
+    file.extend_from_slice(pool.bytes.as_slice())?;
+    file.extend_from_slice(body.as_slice())?;
     Ok(file)
 }
 
 fn bytes_of(alloc: Global, content: Content) -> Result<Vec<u8>, AllocError> {
-    match content {
-        Class(name, flags) => class_file(alloc, name, OBJECT, flags),
-        Sub(name, superclass) => class_file(alloc, name, superclass, PUBLIC),
-        Bytes(bytes) => Vec::from_slice(alloc, bytes),
-    }
+    let class = match content {
+        Plain(name) => sub(name, OBJECT),
+        Sub(name, superclass) => sub(name, superclass),
+        With(name, flags, methods) => Class {
+            flags,
+            methods,
+            ..sub(name, OBJECT)
+        },
+        Interface(name) => interface(name),
+        Sealed(name, permits) => Class {
+            major: 61,
+            permits: Some(permits),
+            ..interface(name)
+        },
+        Spoilt(part) => spoilt(part),
+        Bytes(bytes) => return Vec::from_slice(alloc, bytes),
+    };
+    class_file(alloc, &class)
 }
 
 fn made(alloc: Global, file: &File) -> Result<MemFile, AllocError> {
@@ -87,16 +269,21 @@ fn made(alloc: Global, file: &File) -> Result<MemFile, AllocError> {
     })
 }
 
+fn all_made(alloc: Global, files: &[File]) -> Result<Vec<MemFile>, AllocError> {
+    let mut all = Vec::new(alloc);
+    for file in files {
+        all.push(made(alloc, file)?)?;
+    }
+    Ok(all)
+}
+
 fn trees_of(
     rt: &impl Abort,
     alloc: Global,
     files: &[File],
     failing: Vec<u64>,
 ) -> Result<MemTrees, AllocError> {
-    let mut all = Vec::new(alloc);
-    for file in files {
-        all.push(made(alloc, file)?)?;
-    }
+    let all = all_made(alloc, files)?;
     assert!(rt; is_file_list(all.as_slice()));
     Ok(MemTrees::new(alloc, all, failing))
 }
@@ -109,51 +296,134 @@ fn texts(alloc: Global, words: &[&str]) -> Result<Vec<Text>, AllocError> {
     Ok(texts)
 }
 
-const SAME: &str = "rules: H1\ncompatible: 0 findings, 0 collisions, 0 notes\n";
+const SAME: &str = "rules: H1 H2 H3 H4\ncompatible: 0 findings, 0 collisions, 0 notes\n";
+
+const PRIVATE_INIT: &[Member] = &[(0x02, b"<init>", b"()V")];
 
 const ROWS: &[Row] = &[
     (
         "an unchanged class",
         &[
             ROOT,
-            ("O", "p/A.class", Class(b"p/A", PUBLIC)),
-            ("N", "p/A.class", Class(b"p/A", PUBLIC)),
+            ("O", "p/A.class", Plain(b"p/A")),
+            ("N", "p/A.class", Plain(b"p/A")),
         ],
         0,
         SAME,
-        "",
-    ),
-    (
-        "a public class gone",
-        &[ROOT, ("O", "p/A.class", Class(b"p/A", PUBLIC))],
-        1,
-        "rules: H1\n1 H1 p/A - class - NoClassDefFoundError\nincompatible: 1 findings, 0 collisions, 0 notes\n",
         "",
     ),
     (
         "a package-private class gone",
-        &[ROOT, ("O", "p/A.class", Class(b"p/A", SUPER))],
+        &[ROOT, ("O", "p/A.class", With(b"p/A", 0x20, &[INIT]))],
         0,
         SAME,
         "",
     ),
     (
-        "classes in the order of their names, which is not that of their paths, one of them hidden now",
+        "classes gone, in the order of their names, which is not that of their paths, one of them hidden now",
         &[
             ROOT,
-            ("O", "p/A$B.class", Class(b"p/A$B", PUBLIC)),
-            ("O", "p/A.class", Class(b"p/A", PUBLIC)),
-            ("N", "p/A$B.class", Class(b"p/A$B", SUPER)),
+            ("O", "p/A$B.class", Plain(b"p/A$B")),
+            ("O", "p/A.class", Plain(b"p/A")),
+            ("N", "p/A$B.class", With(b"p/A$B", 0x20, &[INIT])),
         ],
         1,
-        "rules: H1\n1 H1 p/A - class - NoClassDefFoundError\n2 H1 p/A$B - class - IllegalAccessError\nincompatible: 2 findings, 0 collisions, 0 notes\n",
+        "rules: H1 H2 H3 H4\n1 H1 p/A - class - NoClassDefFoundError\n2 H1 p/A$B - class - IllegalAccessError\nincompatible: 2 findings, 0 collisions, 0 notes\n",
         "",
     ),
     (
         "a name that is escaped",
-        &[ROOT, ("O", "p/\\ é.class", Class(b"p/\\ \xc3\xa9", PUBLIC))],
+        &[ROOT, ("O", "p/\\ é.class", Plain(b"p/\\ \xc3\xa9"))],
         1,
-        "rules: H1\n1 H1 p/\\\\\\x20\\xc3\\xa9 - class - NoClassDefFoundError\nincompatible: 1 findings, 0 collisions, 0 notes\n",
+        "rules: H1 H2 H3 H4\n1 H1 p/\\\\\\x20\\xc3\\xa9 - class - NoClassDefFoundError\nincompatible: 1 findings, 0 collisions, 0 notes\n",
+        "",
+    ),
+    (
+        "final is free with only a private constructor",
+        &[
+            ROOT,
+            ("O", "p/A.class", With(b"p/A", PUBLIC, PRIVATE_INIT)),
+            ("N", "p/A.class", With(b"p/A", 0x31, PRIVATE_INIT)),
+        ],
+        0,
+        SAME,
+        "",
+    ),
+    (
+        "a class made final",
+        &[
+            ROOT,
+            ("O", "p/A.class", Plain(b"p/A")),
+            ("N", "p/A.class", With(b"p/A", 0x31, &[INIT])),
+        ],
+        1,
+        "rules: H1 H2 H3 H4\n1 H2 p/A - extend - IncompatibleClassChangeError\nincompatible: 1 findings, 0 collisions, 0 notes\n",
+        "",
+    ),
+    (
+        "a seal that permits fewer, of classes in no folder",
+        &[
+            ROOT,
+            ("O", "p/S.class", Sealed(b"p/S", &[b"q/C", b"r/D"])),
+            ("N", "p/S.class", Sealed(b"p/S", &[b"q/C"])),
+        ],
+        1,
+        "rules: H1 H2 H3 H4\n1 H2 p/S - implement - IncompatibleClassChangeError\nincompatible: 1 findings, 0 collisions, 0 notes\n",
+        "",
+    ),
+    (
+        "an interface that became a class",
+        &[
+            ROOT,
+            ("O", "p/I.class", Interface(b"p/I")),
+            ("N", "p/I.class", Plain(b"p/I")),
+        ],
+        1,
+        "rules: H1 H2 H3 H4\n1 H3 p/I - assign - VerifyError\nincompatible: 1 findings, 0 collisions, 0 notes\n",
+        "",
+    ),
+    (
+        "a class that doesn't load, since its superclass is gone",
+        &[
+            ROOT,
+            ("O", "p/A.class", Plain(b"p/A")),
+            ("N", "p/A.class", Sub(b"p/A", b"x/Gone")),
+        ],
+        1,
+        "rules: H1 H2 H3 H4\n1 H1 p/A - class - NoClassDefFoundError\nnote unloadable new p/A NoClassDefFoundError\nincompatible: 1 findings, 0 collisions, 1 notes\n",
+        "",
+    ),
+    (
+        "a superclass that left the chain",
+        &[
+            ROOT,
+            ("O", "p/A.class", Sub(b"p/A", b"p/B")),
+            ("O", "p/B.class", Plain(b"p/B")),
+            ("N", "p/A.class", Plain(b"p/A")),
+            ("N", "p/B.class", Plain(b"p/B")),
+        ],
+        1,
+        "rules: H1 H2 H3 H4\n1 H4 p/A p/B assign - VerifyError\nincompatible: 1 findings, 0 collisions, 0 notes\n",
+        "",
+    ),
+    (
+        "superclasses in a cycle",
+        &[
+            ROOT,
+            ("O", "p/A.class", Sub(b"p/A", b"p/B")),
+            ("O", "p/B.class", Sub(b"p/B", b"p/A")),
+            ("N", "p/A.class", Sub(b"p/A", b"p/B")),
+            ("N", "p/B.class", Sub(b"p/B", b"p/A")),
+        ],
+        0,
+        "rules: H1 H2 H3 H4\nnote unloadable old p/A ClassCircularityError\nnote unloadable old p/B ClassCircularityError\nnote unloadable new p/A ClassCircularityError\nnote unloadable new p/B ClassCircularityError\ncompatible: 0 findings, 0 collisions, 4 notes\n",
+        "",
+    ),
+    (
+        "a class that extends itself",
+        &[ROOT, ("O", "p/A.class", Sub(b"p/A", b"p/A"))],
+        0,
+        "rules: H1 H2 H3 H4\nnote unloadable old p/A ClassCircularityError\ncompatible: 0 findings, 0 collisions, 1 notes\n",
         "",
     ),
     (
@@ -169,9 +439,8 @@ const ROWS: &[Row] = &[
         "",
     ),
     (
-        "malformed files, of which the first in order is named",
+        "malformed files, of which the first in order is named, before what the platform lacks",
         &[
-            ROOT,
             ("N", "p/A.class", Bytes(b"")),
             ("O", "p/C.class", Bytes(b"")),
             (
@@ -179,7 +448,7 @@ const ROWS: &[Row] = &[
                 "p/B.class",
                 Bytes(b"\xca\xfe\xba\xbe\0\0\0\x34\0\x04\x07\0"),
             ),
-            ("O", "p/A.class", Class(b"p/A", PUBLIC)),
+            ("O", "p/A.class", Plain(b"p/A")),
         ],
         3,
         "",
@@ -187,46 +456,49 @@ const ROWS: &[Row] = &[
     ),
     (
         "a file at another place",
-        &[ROOT, ("N", "q/A.class", Class(b"p/A", PUBLIC))],
+        &[ROOT, ("N", "q/A.class", Plain(b"p/A"))],
         3,
         "",
         "jcompat: new: q/A.class: misplaced p/A\n",
     ),
     (
-        "a class that extends another",
-        &[ROOT, ("O", "p/A.class", Sub(b"p/A", b"p/B"))],
+        "an empty platform, and a release with java/lang/Object",
+        &[("N", "java/lang/Object.class", Plain(OBJECT))],
         3,
         "",
-        "jcompat: old: p/A.class: later\n",
+        "jcompat: platform: bad root missing\n",
     ),
     (
-        "a final java/lang/Object",
-        &[("P", "java/lang/Object.class", Class(OBJECT, 0x31))],
+        "the new release declares java/lang/Object too",
+        &[ROOT, ("N", "java/lang/Object.class", Plain(OBJECT))],
         3,
         "",
-        "jcompat: platform: java/lang/Object.class: later\n",
+        "jcompat: new: overlap java/lang/Object\n",
     ),
     (
-        "another class of the platform",
-        &[ROOT, ("P", "p/A.class", Class(b"p/A", PUBLIC))],
+        "both releases declare names of the platform, of which the first of the old one is named",
+        &[
+            ROOT,
+            ("P", "p/A.class", Plain(b"p/A")),
+            ("P", "p/B.class", Plain(b"p/B")),
+            ("O", "p/A.class", Plain(b"p/A")),
+            ("O", "p/B.class", Plain(b"p/B")),
+            ("N", "java/lang/Object.class", Plain(OBJECT)),
+        ],
         3,
         "",
-        "jcompat: platform: p/A.class: later\n",
+        "jcompat: old: overlap p/A\n",
     ),
-    (
-        "java/lang/Object in a release",
-        &[ROOT, ("N", "java/lang/Object.class", Class(OBJECT, PUBLIC))],
-        3,
-        "",
-        "jcompat: new: java/lang/Object.class: later\n",
-    ),
-    (
-        "no java/lang/Object",
-        &[("O", "p/A.class", Class(b"p/A", PUBLIC))],
-        3,
-        "",
-        "jcompat: platform: later\n",
-    ),
+];
+
+/// A part of the platform's `java/lang/Object`, and its word. With a superclass the file would be
+/// malformed.
+const PARTS: &[(RootPart, &str)] = &[
+    (RootPart::Flags, "flags"),
+    (RootPart::Interfaces, "interfaces"),
+    (RootPart::Fields, "fields"),
+    (RootPart::Permits, "permits"),
+    (RootPart::Init, "init"),
 ];
 
 #[test]
@@ -241,6 +513,40 @@ fn checks_have_their_answers(rt: HostRuntime) -> Result<(), Fail> {
         assert_eq!(rt; answer, *status, "{shown}");
         assert!(rt; out.bytes() == output.as_bytes(), "{shown}");
         assert!(rt; err.bytes() == line.as_bytes(), "{shown}");
+    }
+    Ok(())
+}
+
+#[test]
+fn sure_trees_have_the_same_answers(rt: HostRuntime) -> Result<(), Fail> {
+    let alloc = rt.alloc();
+    let words = texts(alloc, WORDS)?;
+    for (shown, files, status, output, line) in ROWS {
+        let files = all_made(alloc, files)?;
+        assert!(rt; is_file_list(files.as_slice()));
+        let mut trees = SureTrees::new(files);
+        let mut out = SureSink::new(alloc);
+        let mut err = SureSink::new(alloc);
+        let answer = run_surely(alloc, words.as_slice(), &mut trees, &mut out, &mut err);
+        assert_eq!(rt; answer, *status, "{shown}");
+        assert!(rt; out.bytes() == output.as_bytes(), "{shown}");
+        assert!(rt; err.bytes() == line.as_bytes(), "{shown}");
+    }
+    Ok(())
+}
+
+#[test]
+fn each_part_of_the_root_is_asked(rt: HostRuntime) -> Result<(), Fail> {
+    let alloc = rt.alloc();
+    for (part, word) in PARTS {
+        let files = [("P", "java/lang/Object.class", Spoilt(*part))];
+        let trees = trees_of(&rt, alloc, files.as_slice(), Vec::new(alloc))?;
+        let line = format!(in alloc; "jcompat: platform: bad root {word}\n")?;
+        assert_eq!(rt;
+            refuses(alloc, trees, WORDS, line.as_str())?,
+            Some(3),
+            "{word}"
+        );
     }
     Ok(())
 }
@@ -300,15 +606,15 @@ const FAILURES: &[Failure] = &[
         "",
         "jcompat: new: read fault\n",
     ),
-    (&[ROOT], [&[], &[1], &[]], 5, "rules", ""),
+    (&[ROOT], [&[], &[1], &[]], 5, "rules: H1", ""),
     (
         &[ROOT],
         [&[], &[2], &[]],
         5,
-        "rules: H1\ncompatible: 0 findings,",
+        "rules: H1 H2 H3 H4\ncompatible: 0 findings,",
         "",
     ),
-    (&[], [&[], &[], &[1]], 5, "", "jcompat: pla"),
+    (&[], [&[], &[], &[1]], 5, "", "jcompat: platform:"),
 ];
 
 #[test]
@@ -403,7 +709,7 @@ impl Trees for Numbered {
         _path: &str,
         limit: u32,
     ) -> Result<Vec<u8>, TreeError> {
-        match class_file(alloc, OBJECT, OBJECT, PUBLIC) {
+        match class_file(alloc, &ROOT_CLASS) {
             Ok(bytes) if bytes.len() <= limit as usize => Ok(bytes),
             _ => Err(TreeError::Memory),
         }
@@ -444,7 +750,13 @@ fn paths_of_at_most_so_many_bytes(rt: HostRuntime) -> Result<(), Fail> {
         files.push(MemFile {
             root: Text::from_str(alloc, "O")?,
             path: Text::from_str(alloc, path.as_str())?,
-            bytes: class_file(alloc, name.as_slice(), OBJECT, SUPER)?,
+            bytes: class_file(
+                alloc,
+                &Class {
+                    flags: 0x20,
+                    ..sub(name.as_slice(), OBJECT)
+                },
+            )?,
         })?;
         assert!(rt; is_file_list(files.as_slice()));
         let mut trees = MemTrees::new(alloc, files, Vec::new(alloc));
@@ -455,6 +767,64 @@ fn paths_of_at_most_so_many_bytes(rt: HostRuntime) -> Result<(), Fail> {
         assert_eq!(rt; answer, status);
         assert!(rt; err.bytes() == line.as_bytes());
     }
+    Ok(())
+}
+
+/// Trees of so many public classes under the roots `O` and `N`. Under `O` each extends the one that
+/// was read before it, and under `N` all extend `java/lang/Object`, which stands under any other root.
+#[derive(Drop)]
+struct Chained {
+    count: u32,
+    above: Vec<u8>,
+}
+
+impl Trees for Chained {
+    ghost content = { λ _. None };
+
+    // Each count stands at its last value, so that any call may fail.
+    ghost faults = { λ _ _. 2 ^ 64 - 1 };
+
+    fn list(&mut self, alloc: Global, root: &str) -> Result<Vec<Text>, TreeError> {
+        if root == "P" {
+            object_alone(alloc)
+        } else {
+            count_up(alloc, self.count)
+        }
+    }
+
+    fn read(
+        &mut self,
+        alloc: Global,
+        root: &str,
+        path: &str,
+        limit: u32,
+    ) -> Result<Vec<u8>, TreeError> {
+        let name = &path.as_bytes()[..path.len().saturating_sub(6)];
+        let file = if root == "O" {
+            class_file(alloc, &sub(name, self.above.as_slice()))
+        } else {
+            class_file(alloc, &sub(name, OBJECT))
+        };
+        let Ok(next) = Vec::from_slice(alloc, name) else {
+            return Err(TreeError::Memory);
+        };
+        self.above = next;
+        match file {
+            Ok(bytes) if bytes.len() <= limit as usize => Ok(bytes),
+            _ => Err(TreeError::Memory),
+        }
+    }
+}
+
+#[test]
+fn at_most_so_many_findings(rt: HostRuntime) -> Result<(), Fail> {
+    let alloc = rt.alloc();
+    let trees = Chained {
+        count: 1_500,
+        above: Vec::from_slice(alloc, OBJECT)?,
+    };
+    let line = "jcompat: limit findings\n";
+    assert_eq!(rt; refuses(alloc, trees, WORDS, line)?, Some(7));
     Ok(())
 }
 
@@ -474,7 +844,7 @@ fn folder_refuses(
     fs::create_dir_all(rt, format!(in alloc; "{platform}/java/lang")?.as_str())?;
     fs::create_dir_all(rt, format!(in alloc; "{old}/p")?.as_str())?;
     fs::create_dir_all(rt, new.as_str())?;
-    let object = class_file(alloc, OBJECT, OBJECT, PUBLIC)?;
+    let object = class_file(alloc, &ROOT_CLASS)?;
     fs::write(
         rt,
         format!(in alloc; "{platform}/java/lang/Object.class")?.as_str(),
@@ -498,7 +868,7 @@ fn folder_refuses(
 #[test]
 fn real_folders_are_refused(rt: HostRuntime) -> Result<(), Fail> {
     let alloc = rt.alloc();
-    let plain = class_file(alloc, b"p/A", OBJECT, PUBLIC)?;
+    let plain = class_file(alloc, &sub(b"p/A", OBJECT))?;
     let long = vec![in alloc; 0u8; 4_194_305]?;
     let most = vec![in alloc; 0u8; 4_194_304]?;
     for (path, bytes, line, status) in [

@@ -1,4 +1,4 @@
-use Rattle.std.proofs.Common.{rules, ap, sym, ◌∙◌, ◌≡◌, length, take}
+use Rattle.std.proofs.Common.{rules}
 use Rattle.jcompat.proofs.Places.{place_then, place_else}
 use Rattle.jcompat.proofs.classes.is_place.Goals as goal
 

@@ -1,4 +1,4 @@
-use Rattle.std.proofs.Common.{◌≡◌, ◌≤◌, ℕ, List, Option, length}
+use Rattle.std.proofs.Common.{◌≤◌, ℕ, List, Option, length}
 use Rattle.jcompat.proofs.Puts.{IsPut}
 use Rattle.jcompat.proofs.put.put_lines.Given as goal
 

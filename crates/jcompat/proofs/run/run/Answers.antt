@@ -1,16 +1,19 @@
-use Rattle.std.proofs.Common.{◌≡◌, refl, inr}
-use Rattle.jcompat.specs.Answers.{Took, Reports}
-use Rattle.jcompat.specs.Written.{Reported}
+use Rattle.std.proofs.Common.{refl, inl, inr}
 use Rattle.jcompat.proofs.Events.{not_refused, verdict_accepted, refused_status, accepted_status}
 use Rattle.jcompat.proofs.run.run.Goals as goal
 
+pub returns-in-Ok-clause-compatible : goal.returns-in-Ok-clause-compatible
+returns-in-Ok-clause-compatible g c = λ zero.
+    let reported = c.report.ensures in
+    (c.in-Ok.verdict, c.in-Ok.ensures.compatible (reported.none zero), record { output = reported.whole (inl zero); errors = refl })
+
 pub returns-in-Ok-clause-incompatible : goal.returns-in-Ok-clause-incompatible
 returns-in-Ok-clause-incompatible g c = λ one.
-    let reported = rw c.as_slice.ensures.value at c.report.ensures in
-    (c.in-Ok.findings.items, c.in-Ok.ensures.incompatible (reported.some one), record { output = reported.whole (inr one); errors = refl })
+    let reported = c.report.ensures in
+    (c.in-Ok.verdict, c.in-Ok.ensures.incompatible (reported.some one), record { output = reported.whole (inr one); errors = refl })
 
 pub returns-in-Ok-clause-refused : goal.returns-in-Ok-clause-refused
-returns-in-Ok-clause-refused g c = λ files told stop refused. absurd (not_refused _ files stop (verdict_accepted _ files (c.in-Ok.ensures.verdict files told).0) refused)
+returns-in-Ok-clause-refused g c = λ files told stop refused. absurd (not_refused _ files stop (verdict_accepted _ files _ (c.in-Ok.ensures.verdict files told)) refused)
 
 pub returns-in-Err-clause-refused : goal.returns-in-Err-clause-refused
 returns-in-Err-clause-refused g c = λ files told stop refused.

@@ -1,19 +1,21 @@
-use Rattle.std.proofs.Common.{◌≡◌, ◌∙◌, refl, rules, arith, length, ◌≤◌, ◌<◌, false, true, sym}
+use Rattle.std.proofs.Common.{◌≡◌, ◌∙◌, refl, rules, length, ◌≤◌, false, true}
 use Rattle.std.specs.Prelude.{nat_lt}
 use Rattle.std.specs.List.{list_any}
-use Rattle.jcompat.proofs.TreeRead.{heads_are, rising_heads, long_path, stops_in, rose_since}
+use Rattle.jcompat.proofs.TreeRead.{records_are, class_list, long_path, stops_in, rose_since}
 use Rattle.jcompat.proofs.survey.read_tree.Goals as goal
 
 pub returns-in-Ok-read_all-clause-read : goal.returns-in-Ok-read_all-clause-read
 returns-in-Ok-read_all-clause-read g c = λ files told.
     let few : length c.in-Ok.paths.items ≤ 40000 = search rules in
     let short : list_any (λ p. nat_lt 4096 (length p)) c.in-Ok.paths.items ≡ false = search rules in
-    heads_are files _ _ _ _ (c.in-Ok.ensures.exact files told) few short
+    records_are files _ _ _ (c.in-Ok.ensures.exact files told) few short
     ((rw c.as_slice-2.ensures.value at c.in-Ok-read_all.ensures.read) files (c.in-Ok.ensures.content ∙ told))
     (rw c.as_slice-2.ensures.value at c.in-Ok-read_all.ensures.named)
 
-pub returns-in-Ok-read_all-clause-rising : goal.returns-in-Ok-read_all-clause-rising
-returns-in-Ok-read_all-clause-rising g c = rising_heads _ _ (rw c.as_slice-2.ensures.value at c.in-Ok-read_all.ensures.named) c.in-Ok.ensures.rising
+pub returns-in-Ok-read_all-clause-classes : goal.returns-in-Ok-read_all-clause-classes
+returns-in-Ok-read_all-clause-classes g c =
+    let few : length c.in-Ok.paths.items ≤ 40000 = search rules in
+    class_list _ _ (rw c.as_slice-2.ensures.value at c.in-Ok-read_all.ensures.named) c.in-Ok.ensures.rising few c.in-Ok-read_all.ensures.valid
 
 pub returns-clause-stopped : goal.returns-clause-stopped
 returns-clause-stopped g c =
