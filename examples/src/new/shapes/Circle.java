@@ -1,7 +1,7 @@
 package shapes;
 
-/** A circle. */
-public class Circle {
+/** A circle. It may be extended no more. */
+public final class Circle extends Shape {
     private final double radius;
 
     public Circle(double radius) {

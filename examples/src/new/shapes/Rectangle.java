@@ -1,16 +1,20 @@
 package shapes;
 
-/** A rectangle, in place of the square of the old release. */
-public class Rectangle {
+/** A rectangle. It is a polygon no more. */
+public class Rectangle extends Shape {
     private final double width;
     private final double height;
 
     public Rectangle(double width, double height) {
-        this.width = width;
-        this.height = height;
+        this.width = width < 0 ? 0 : width;
+        this.height = height < 0 ? 0 : height;
     }
 
     public double area() {
         return width * height;
+    }
+
+    public int sides() {
+        return 4;
     }
 }

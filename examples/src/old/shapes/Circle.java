@@ -1,7 +1,7 @@
 package shapes;
 
 /** A circle. */
-public class Circle {
+public class Circle extends Shape {
     private final double radius;
 
     public Circle(double radius) {

@@ -1,6 +1,6 @@
 package java.lang;
 
-/** A java.lang.Object of the example's own. That of the JDK has final methods, which are not read yet. */
+/** A java.lang.Object of the example's own, so that a check of it needs no JDK. */
 public class Object {
     public Object() {
     }

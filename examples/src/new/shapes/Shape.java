@@ -1,0 +1,9 @@
+package shapes;
+
+/** What has an area. */
+public abstract class Shape {
+    public Shape() {
+    }
+
+    public abstract double area();
+}

@@ -1,0 +1,6 @@
+package shapes;
+
+/** What has a name. */
+public interface Named {
+    String name();
+}
