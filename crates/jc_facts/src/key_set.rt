@@ -9,6 +9,7 @@ ghost use Rattle.jc_facts.specs.Seen.{Holds};
 
 use crate::class_facts::Member;
 use crate::key::Key;
+use jc_base::name::Name;
 use std::alloc::{AllocError, Global};
 use std::cmp::Ordering;
 use std::collections::BTreeSet;
@@ -48,6 +49,16 @@ impl<'a> KeyRef<'a> {
         ensures { result ≡ key.now }
     {
         KeyRef::new(key.name.as_bytes(), key.descriptor.as_bytes())
+    }
+
+    /// A key of its own.
+    pub fn to_key(&self, alloc: Global) -> Result<Key, AllocError>
+        ensures { IfOk result (λ key. key ≡ self.now) }
+    {
+        Ok(Key {
+            name: Name::from_bytes(alloc, self.name)?,
+            descriptor: Name::from_bytes(alloc, self.descriptor)?,
+        })
     }
 }
 
