@@ -1,10 +1,10 @@
 -- Superinterfaces by numbers.
 use Rattle.std.proofs.Common.{◌≡◌, ◌<◌, ◌≤◌, ◌+◌, ℕ, zero, suc, Bool, true, false, ◌||◌, List, [], ◌∷◌, ◌++◌, length, get_or, map, take, refl, sym, ◌∙◌, ap, subst, ◌⊎◌, inl, inr, arith, eqb, Option, Some, None}
-use Rattle.std.specs.Prelude.{IsTrue, is_some}
+use Rattle.std.specs.Prelude.{IsTrue, is_some, nat_lt}
 use Rattle.std.specs.List.{All, Any, Contains, list_any, filter_map, cons_option}
 use Rattle.std.specs.Ordering.{nat_cmp}
 use Rattle.std.specs.BTreeSet.{BTreeSet, contains}
-use Rattle.std.proofs.lemmas.Bool.{eqb-true, eq-eqb}
+use Rattle.std.proofs.lemmas.Bool.{eqb-true, eq-eqb, ltb-true, lt-ltb}
 use Rattle.std.proofs.lemmas.List.{map-append, get_or-map, length-map, take_more, get_or_past, get_or_append_left}
 use Rattle.std.proofs.Math.Seq.{get_or-append_seam}
 use Rattle.std.proofs.lemmas.List.Folds.{list_any-append, Any-from_list_any}
@@ -208,6 +208,17 @@ module _ (W : World) where
   named_within None = All-from_recursion (λ k. k < size W) [] tt
   named_within (Some c) = numbers_within c.interfaces
 
+  edges_count : length (edges_of W) ≡ size W
+  edges_count = length-map (names W) (λ x. named_by W (find W x)) ∙ names-length W
+
+  -- what a number names is there
+  next_within : (n : ℕ) → All (λ k. k < size W) (next_of (edges_of W) n)
+  next_within n = go (cases_lt n (size W))
+    where
+      go : (n < size W) ⊎ (size W ≤ n) → All (λ k. k < size W) (next_of (edges_of W) n)
+      go (inl l) = subst (λ (ks : List ℕ). All (λ k. k < size W) ks) (sym (get_or-map (λ x. named_by W (find W x)) (names W) n [] [] (subst (λ m. n < m) (sym (names-length W)) l))) (named_within (find W (name_at W n)))
+      go (inr past) = subst (λ (ks : List ℕ). All (λ k. k < size W) ks) (sym (get_or_past (edges_of W) n [] (subst (λ m. m ≤ n) (sym edges_count) past))) (All-from_recursion (λ k. k < size W) [] tt)
+
   -- what the number n names
   pub next-is : (n : ℕ) → n < size W → next_of (edges_of W) n ≡ named_by W (find W (name_at W n))
   next-is n l = get_or-map (λ x. named_by W (find W x)) (names W) n [] [] (subst (λ m. n < m) (sym (names-length W)) l)
@@ -316,6 +327,13 @@ module _ (W : World) where
             reached (size W) a.1 (name_at W k) z.0 k z.1 (id_of-name_at W k d m)
             (All-contains (Has set) (next_of (edges_of W) n) z.0 s.first (subst (λ (ks : List ℕ). Contains ks z.0) (sym first_is) (in_numbers cls.facts.interfaces a.1 z.0 (a.0, a.2, a.3) z.1))) p
 
+    -- and nothing that isn't there
+    pub row_within : (k : ℕ) → contains nat_cmp set k ≡ true → k < size W
+    row_within k h = ltb-true k (size W) (s.least (λ j. nat_lt j (size W)) (inside (next_of (edges_of W) n) (next_within n)) (λ j p. inside (next_of (edges_of W) j) (next_within j)) k h)
+      where
+        inside : (ks : List ℕ) → All (λ j. j < size W) ks → All (λ j. nat_lt j (size W) ≡ true) ks
+        inside ks a = All-weaker (λ j. j < size W) (λ j. nat_lt j (size W) ≡ true) (λ j q. lt-ltb j (size W) q) ks a
+
     pub row_exact : (k : ℕ) → k < size W → contains nat_cmp set k ≡ leads_by W (name_at W n) (name_at W k)
     unfolding passes
     row_exact k m = both_ways (contains nat_cmp set k) (passes k) (s.least passes first_passes more_pass k) (held k m)
@@ -324,6 +342,7 @@ module _ (W : World) where
       → ((n : ℕ) (e : BTreeSet ℕ) → n < length (edges_of W) → IsLedTo (edges_of W) n (get_or rows n e)) → AreRows W rows
   rows_exact d rows c h = record {
     count = c ∙ edges-length;
+    within = λ n k e l p. row_within d n l (get_or rows n e) (h n e (subst (λ j. n < j) (sym edges-length) l)) k p;
     exact = λ n k e l m. row_exact d n l (get_or rows n e) (h n e (subst (λ j. n < j) (sym edges-length) l)) k m;
   }
 

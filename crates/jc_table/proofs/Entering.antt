@@ -1,6 +1,5 @@
 -- What is known of classes while their load faults are looked for.
-use Rattle.std.proofs.Common.{◌≡◌, ℕ, zero, suc, ◌<◌, ◌+◌, ◌≤◌, Bool, true, false, List, [], ◌∷◌, ◌++◌, length, take, drop, get_or, refl, sym, ◌∙◌, ap, subst, Option, Some, None, ◌⊎◌, inl, inr, arith}
-use mathlib.Core.Path.{fun_ext}
+use Rattle.std.proofs.Common.{◌≡◌, ℕ, zero, suc, ◌<◌, ◌+◌, ◌≤◌, true, false, List, [], ◌∷◌, ◌++◌, length, take, drop, get_or, refl, sym, ◌∙◌, ap, subst, Option, Some, None, ◌⊎◌, inl, inr, arith}
 use Rattle.std.specs.Prelude.{slice_get, is_some}
 use Rattle.std.proofs.lemmas.List.{take_more, take_all, drop_more, drop_all, get_or_default}
 use Rattle.std.proofs.lemmas.Option.{slice_get_within, get_or_from_slice_get}
@@ -10,7 +9,7 @@ use Rattle.jc_facts.specs.declared.link_error.LinkError.TheVariants.{NoClassDefF
 use Rattle.jc_facts.specs.Names.{Bytes}
 use Rattle.jc_facts.specs.Options.{or_else, first_some, and_then}
 use Rattle.jc_facts.specs.World.{World, find, size}
-use Rattle.jc_facts.specs.Search.{descend, supers}
+use Rattle.jc_facts.specs.Search.{supers}
 use Rattle.jc_facts.specs.Loading.{own_fault, load_step, fault_at, load_fault}
 use Rattle.jc_laws.proofs.Settles.{EachOf, EachOf-map}
 use Rattle.jc_laws.proofs.Descent.{descend-absent, descend-none_left, descend-found}

@@ -1,7 +1,7 @@
 -- The keys of final instance methods: without its key no method overrides a final one.
 use Rattle.std.proofs.Common.{◌≡◌, ◌≢◌, ℕ, zero, suc, ◌<◌, ◌+◌, Bool, true, false, not, cond, ◌||◌, ◌&&◌, List, [], ◌∷◌, ◌++◌, map, refl, sym, ◌∙◌, ap, subst, Option, Some, None, ◌⊎◌, inl, inr, arith, eqb, ◌≤◌, length, drop, get_or}
 use Rattle.std.specs.Prelude.{is_some}
-use Rattle.std.specs.List.{list_any, filter, find as first_where}
+use Rattle.std.specs.List.{filter, find as first_where}
 use Rattle.std.proofs.lemmas.Bool.Decides.{eqb_tells}
 use Rattle.jc_facts.specs.declared.class_facts.ClassFacts.{ClassFacts}
 use Rattle.jc_facts.specs.declared.class_facts.Member.{Member}
@@ -18,7 +18,7 @@ use Rattle.jc_facts.specs.Overriding.{overrides_directly, any_overrides, linked,
 use Rattle.jc_desc.specs.Names.{is_init, is_clinit}
 use Rattle.std.proofs.lemmas.List.{drop_more, drop_all}
 use Rattle.jc_facts.proofs.Keys.{flip}
-use Rattle.jc_laws.proofs.Settles.{EachOf, EachOf-map}
+use Rattle.jc_laws.proofs.Settles.{EachOf}
 use Rattle.jc_laws.proofs.Finals.{any-append}
 use Rattle.jc_laws.proofs.Descent.{descend-absent, descend-none_left, descend-found}
 use Rattle.jc_table.specs.Ids.{id_of, name_at}

@@ -16,3 +16,5 @@ pub mod NameSets
 pub mod Mentions
 pub mod Queues
 pub mod Aboves
+pub mod Keeps
+pub mod Exactly

@@ -1,25 +1,21 @@
 -- Entering classes from below: the path of those that are entered.
-use Rattle.std.proofs.Common.{◌≡◌, ℕ, zero, suc, ◌<◌, ◌+◌, ◌*◌, ◌≤◌, Bool, true, false, cond, ◌||◌, List, [], ◌∷◌, ◌++◌, length, get_or, set, eqb, refl, sym, ◌∙◌, ap, subst, Option, Some, None, ◌⊎◌, inl, inr, arith, length-append, length-set, get_or-set_other, ◌≢◌}
-use Rattle.std.specs.Prelude.{count_by}
-use Rattle.std.specs.List.{list_any, All}
+use Rattle.std.proofs.Common.{◌≡◌, ℕ, ◌<◌, Bool, true, false, cond, ◌||◌, List, [], ◌∷◌, ◌++◌, length, get_or, set, eqb, refl, sym, ◌∙◌, ap, subst, Some, ◌⊎◌, inl, inr, get_or-set_other, ◌≢◌}
+use Rattle.std.specs.List.{All}
 use Rattle.std.proofs.lemmas.List.Elements.{All-from_recursion}
 use Rattle.jc_laws.proofs.Settles.{EachOf}
-use Rattle.std.proofs.lemmas.List.Sums.{sum_by-set}
 use Rattle.std.proofs.lemmas.Bool.{eqb-true, eq-eqb}
 use Rattle.std.proofs.lemmas.Bool.Decides.{eqb_tells}
 use Rattle.std.proofs.lemmas.Grind.{get_or-set_at}
-use Rattle.jc_facts.specs.declared.class_facts.ClassFacts.{ClassFacts}
 use Rattle.jc_facts.specs.declared.link_error.LinkError.{LinkError}
 use Rattle.jc_facts.specs.declared.link_error.LinkError.TheVariants.{ClassCircularityError}
 use Rattle.jc_facts.specs.Names.{Bytes}
-use Rattle.jc_facts.specs.Options.{first_some}
-use Rattle.jc_facts.specs.World.{World, find, size}
+use Rattle.jc_facts.specs.World.{World, size}
 use Rattle.jc_facts.specs.Loading.{load_fault}
 use Rattle.jc_table.specs.Ids.{name_at}
 use Rattle.jc_table.specs.declared.faults.State.{State}
 use Rattle.jc_table.specs.declared.faults.State.TheVariants as states
 use Rattle.jc_table.specs.declared.faults.Frame.{Frame}
-use Rattle.jc_table.specs.Entering.{Leads, LeadsAlong, LoadsBefore, AreRight, IsRight, IsSettled, IsUnderWay, AllHave, state_of, is_known, is_entered, is_fresh, is_on, bottom, work}
+use Rattle.jc_table.specs.Entering.{Leads, LeadsAlong, state_of, is_on, bottom}
 use Rattle.jc_table.proofs.Entering.{leads-fault, circle}
 
 -- ---- a state that is written

@@ -1,9 +1,9 @@
 -- What stands after one more class is entered, is done, or has a fault.
-use Rattle.std.proofs.Common.{◌≡◌, ◌≢◌, ℕ, zero, suc, ◌<◌, ◌+◌, ◌*◌, ◌≤◌, Bool, true, false, cond, ◌||◌, List, [], ◌∷◌, ◌++◌, length, get_or, set, eqb, refl, sym, ◌∙◌, ap, subst, Option, Some, None, ◌⊎◌, inl, inr, arith, length-append, length-set, take, map}
-use Rattle.std.specs.Prelude.{count_by, sum_by}
-use Rattle.std.specs.List.{list_any, All}
+use Rattle.std.proofs.Common.{◌≡◌, ◌≢◌, ℕ, ◌<◌, ◌+◌, ◌≤◌, Bool, true, false, cond, ◌||◌, List, [], ◌∷◌, ◌++◌, length, get_or, set, eqb, refl, sym, ◌∙◌, ap, subst, Option, Some, None, ◌⊎◌, inl, inr, arith, length-append, length-set, take, map}
+use Rattle.std.specs.Prelude.{sum_by}
+use Rattle.std.specs.List.{All}
 use Rattle.std.proofs.lemmas.List.Sums.{sum_by-set}
-use Rattle.std.proofs.lemmas.Bool.{eqb-true, eq-eqb}
+use Rattle.std.proofs.lemmas.Bool.{eq-eqb}
 use Rattle.std.proofs.lemmas.Bool.Decides.{eqb_tells}
 use Rattle.jc_facts.specs.declared.class_facts.ClassFacts.{ClassFacts}
 use Rattle.jc_facts.specs.declared.link_error.LinkError.{LinkError}
@@ -19,7 +19,7 @@ use Rattle.std.proofs.lemmas.List.{take_more, take_all, map-append, length-map, 
 use Rattle.jc_table.specs.declared.faults.State.{State}
 use Rattle.jc_table.specs.declared.faults.State.TheVariants as states
 use Rattle.jc_table.specs.declared.faults.Frame.{Frame}
-use Rattle.jc_table.specs.Entering.{Leads, LeadsAlong, LoadsBefore, AreRight, IsRight, IsSettled, IsUnderWay, AllHave, state_of, is_known, is_entered, is_fresh, is_on, bottom, work}
+use Rattle.jc_table.specs.Entering.{Leads, AreRight, IsRight, IsSettled, IsUnderWay, AllHave, state_of, is_known, is_entered, is_fresh, is_on, bottom, work}
 use Rattle.jc_table.proofs.Paths.{written, along-push, along-pop, along-fault, along-circle, bottom-fault, bottom-push, inside-states}
 
 -- ---- one state is written

@@ -1,5 +1,5 @@
 -- What stands while the load faults of all classes are looked for: one class after the other is entered from below.
-use Rattle.std.specs.Prelude.{ℕ, ◌+◌, ◌*◌, ◌<◌, ◌≡◌, ◌||◌, ◌==◌, Bool, true, false, cond, List, [], ◌∷◌, length, take, count_by, Option, None, Some, slice_get, slice_index_or}
+use Rattle.std.specs.Prelude.{ℕ, ◌+◌, ◌*◌, ◌<◌, ◌≡◌, ◌||◌, ◌==◌, Bool, true, false, cond, List, [], ◌∷◌, length, take, count_by, None, Some, slice_get, slice_index_or}
 use Rattle.std.specs.List.{list_any}
 use Rattle.jc_facts.specs.declared.class_facts.ClassFacts.{ClassFacts}
 use Rattle.jc_facts.specs.declared.link_error.LinkError.{LinkError}

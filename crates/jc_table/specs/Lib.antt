@@ -11,3 +11,5 @@ pub mod Texts
 pub mod Reach
 pub mod Queue
 pub mod Above
+pub mod Lookups
+pub mod Both

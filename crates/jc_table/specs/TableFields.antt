@@ -1,8 +1,9 @@
 -- What a table keeps.
 use Rattle.std.specs.Prelude.{map, ◌≡◌}
+use Rattle.std.specs.BTreeSet.{keys}
 use Rattle.jc_facts.specs.World.{classes}
 use Rattle.jc_facts.specs.Loading.{load_fault}
-use Rattle.jc_table.specs.Ids.{names}
+use Rattle.jc_table.specs.Ids.{names, superclass_of}
 use Rattle.jc_table.specs.Sides.{IsSide}
 use Rattle.jc_table.specs.Texts.{AreTexts}
 use Rattle.jc_table.specs.Above.{AreRows}
@@ -12,5 +13,7 @@ use Rattle.jc_table.specs.declared.table.Table.TheInside.{Inside}
 pub record IsTable (t : Inside) : Type 0 where
   pub side : IsSide t.index
   pub texts : AreTexts (classes t.index) t.texts
+  pub supers : t.supers.items ≡ map (superclass_of t.index) (names t.index)
   pub rows : AreRows t.index t.rows.items
+  pub interfaces : t.interfaces.items ≡ map keys t.rows.items
   pub faults : t.faults.items ≡ map (load_fault t.index) (names t.index)

@@ -1,5 +1,5 @@
 -- What is kept of the names that classes mention.
-use Rattle.std.specs.Prelude.{◌≡◌, List, ℕ, nat_eq}
+use Rattle.std.specs.Prelude.{◌≡◌, List, nat_eq}
 use Rattle.std.specs.List.{list_any, starts_with}
 use Rattle.jc_facts.specs.declared.class_facts.ClassFacts.{ClassFacts}
 use Rattle.jc_facts.specs.Names.{Bytes, same, is_among, package_of}

@@ -1,12 +1,10 @@
-//! The interfaces above each class.
-ghost use Rattle.std.specs.Prelude.{◌≡◌, ◌<◌, ◌||◌, ℕ, length, slice_index_or, IfOk, IsTrue};
+//! The superclass of each class, and the interfaces above it.
+ghost use Rattle.std.specs.Prelude.{◌≡◌, ◌<◌, ℕ, length, map, slice_index_or, IfOk, IsTrue};
 ghost use Rattle.std.specs.List.{All, filter_map};
-ghost use Rattle.std.specs.BTreeSet.{BTreeSet as SetOf};
-ghost use Rattle.jc_facts.specs.Names.{same};
+ghost use Rattle.std.specs.BTreeSet.{BTreeSet as SetOf, keys};
 ghost use Rattle.jc_facts.specs.World.{size, classes};
 ghost use Rattle.jc_facts.specs.Clients.{names_differ};
-ghost use Rattle.jc_facts.specs.Hierarchy.{has_superinterface as is_superinterface};
-ghost use Rattle.jc_table.specs.Ids.{name_at, id_of};
+ghost use Rattle.jc_table.specs.Ids.{names, id_of, superclass_of};
 ghost use Rattle.jc_table.specs.Reach.{IsLedTo};
 ghost use Rattle.jc_table.specs.Above.{edges_of, AreRows};
 
@@ -17,6 +15,17 @@ use jc_base::items::Items;
 use jc_base::name::Name;
 use std::alloc::{AllocError, Global};
 use std::collections::BTreeSet;
+
+/// For each class of an index the class that it names as its superclass.
+pub fn superclasses(alloc: Global, index: &Index) -> Result<Vec<Option<ClassId>>, AllocError>
+    ensures { IfOk result (λ supers. supers.items ≡ map (superclass_of index.now) (names index.now)) }
+{
+    let mut supers = Vec::new(alloc);
+    for n in 0..index.count() {
+        supers.push(index.superclass(ClassId::new(n)))?;
+    }
+    Ok(supers)
+}
 
 // The numbers of the classes of these names, where there are such classes.
 fn ids_of(alloc: Global, index: &Index, names: &[Name]) -> Result<Vec<u32>, AllocError>
@@ -69,34 +78,25 @@ pub fn interfaces_above(alloc: Global, index: &Index) -> Result<Vec<BTreeSet<u32
     Ok(rows)
 }
 
-// Whether the other class is a superinterface of the class: an interface that a class of its chain
-// names, or one that such an interface leads to.
-fn has_superinterface(index: &Index, rows: &[BTreeSet<u32>], id: ClassId, of: ClassId) -> bool
-    requires rows { AreRows index.now rows.now }
-    requires class { id < size index.now }
-    requires above { of < size index.now }
-    ensures value { result ≡ is_superinterface index.now (name_at index.now id) (name_at index.now of) }
-    ensures differ { IsTrue (names_differ (classes index.now)) }
+// The numbers of a set as classes, in their order.
+fn list_of(alloc: Global, row: &BTreeSet<u32>) -> Result<Vec<ClassId>, AllocError>
+    ensures { IfOk result (λ ids. ids.items ≡ keys row.now) }
 {
-    let mut class = id;
-    for _ in 0..index.count() {
-        if rows[class.number() as usize].contains(&of.number()) {
-            return true;
-        }
-        class = match index.superclass(class) {
-            Some(above) => above,
-            None => return false,
-        };
+    let mut ids = Vec::new(alloc);
+    for number in row {
+        ids.push(ClassId::new(*number))?;
     }
-    false
+    Ok(ids)
 }
 
-/// Whether the other class is the class or one of its superinterfaces (JVMS 4.1).
-pub fn is_below(index: &Index, rows: &[BTreeSet<u32>], id: ClassId, of: ClassId) -> bool
-    requires rows { AreRows index.now rows.now }
-    requires class { id < size index.now }
-    requires above { of < size index.now }
-    ensures { result ≡ (same (name_at index.now id) (name_at index.now of) || is_superinterface index.now (name_at index.now id) (name_at index.now of)) }
+/// Each set as a list of classes, in their order.
+pub fn lists(alloc: Global, rows: &[BTreeSet<u32>]) -> Result<Vec<Items<ClassId>>, AllocError>
+    ensures { IfOk result (λ lists. lists.items ≡ map keys rows.now) }
 {
-    id == of || has_superinterface(index, rows, id, of)
+    let mut lists = Vec::new(alloc);
+    for row in rows {
+        let ids = list_of(alloc, row)?;
+        lists.push(Items::from_vec(ids))?;
+    }
+    Ok(lists)
 }

@@ -316,7 +316,8 @@ fn all_faults<'a>(
 }
 
 /// The load faults of all classes of the side, in byte order of their names; none where a class
-/// loads (JVMS 5.3.5). Each class is entered once, and each name above it is looked up once.
+/// loads (JVMS 5.3.5). Each class is entered once, and each name above it is looked up twice at
+/// most.
 pub fn load_faults(alloc: Global, index: &Index) -> Result<Vec<Option<LinkError>>, AllocError>
     ensures { IfOk result (λ faults. faults.items ≡ map (load_fault index.now) (names index.now)) }
 {

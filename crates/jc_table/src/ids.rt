@@ -42,3 +42,10 @@ pub struct Found {
     pub owner: ClassId,
     pub flags: u16,
 }
+
+/// A class that two tables have: its number in the old one and in the new one.
+#[derive(Clone, Copy, PartialEq, Eq, Debug)]
+pub struct Both {
+    pub old: ClassId,
+    pub new: ClassId,
+}

@@ -6,7 +6,6 @@ ghost use Rattle.jc_facts.specs.Options.{some_where};
 ghost use Rattle.jc_facts.specs.Valid.{IsValidClass};
 ghost use Rattle.jc_facts.specs.Clients.{names_differ, HasRoot};
 ghost use Rattle.jc_facts.specs.World.{World, side, classes, size, find, class_named};
-ghost use Rattle.jc_facts.specs.Hierarchy.{in_chain};
 ghost use Rattle.jc_table.specs.Ids.{names, names_of, name_at, id_of, superclass_of};
 ghost use Rattle.jc_table.specs.Sides.{IsSide};
 
@@ -134,26 +133,6 @@ impl Index {
             Some(name) => self.get(name.as_bytes()),
             None => None,
         }
-    }
-
-    /// Whether the other class stands in the class's chain: it is the class, or one further up its
-    /// superclasses. Classes on a cycle stand above each other.
-    pub fn has_super(&self, id: ClassId, of: ClassId) -> bool
-        requires class { id < size self.now }
-        requires above { of < size self.now }
-        ensures { result ≡ in_chain self.now (name_at self.now id) (name_at self.now of) }
-    {
-        let mut class = id;
-        for _ in 0..self.count() {
-            if class == of {
-                return true;
-            }
-            class = match self.superclass(class) {
-                Some(above) => above,
-                None => return false,
-            };
-        }
-        false
     }
 
     /// Whether the class is one of the platform's.

@@ -6,21 +6,23 @@ ghost use Rattle.jc_facts.specs.Valid.{IsValidClass};
 ghost use Rattle.jc_facts.specs.Names.{same};
 ghost use Rattle.jc_facts.specs.Clients.{names_differ, names_super as names_above};
 ghost use Rattle.jc_facts.specs.World.{side, size, find, class_named};
-ghost use Rattle.jc_facts.specs.Hierarchy.{in_chain, has_superinterface};
+ghost use Rattle.jc_facts.specs.Hierarchy.{in_chain, has_superinterface as is_superinterface};
 ghost use Rattle.jc_facts.specs.Loading.{load_fault};
+ghost use Rattle.jc_table.specs.Above.{leads_by, AreAbove};
 ghost use Rattle.jc_table.specs.Ids.{name_at, names, id_of, superclass_of};
 ghost use Rattle.jc_table.specs.Mentioned.{is_package, mentions_front};
 ghost use Rattle.jc_table.specs.Root.{root_fault as fault_of};
 ghost use Rattle.jc_table.specs.Sides.{IsSide, first_overlap as overlap_of};
 ghost use Rattle.jc_table.specs.Tables.{HasCause};
 
-use crate::above::{interfaces_above, is_below};
+use crate::above::{interfaces_above, lists, superclasses};
 use crate::faults::load_faults;
 use crate::ids::ClassId;
 use crate::index::Index;
 use crate::overlap::first_overlap;
 use crate::root::{RootPart, root_fault};
 use crate::texts::Texts;
+use jc_base::items::Items;
 use jc_base::name::Name;
 use jc_facts::class_facts::ClassFacts;
 use jc_facts::link_error::LinkError;
@@ -49,8 +51,12 @@ pub enum TableError {
 pub struct Table {
     index: Index,
     texts: Texts,
-    // For each class the interfaces that stand above it.
+    // For each class the one that it names as its superclass.
+    supers: Vec<Option<ClassId>>,
+    // For each class the interfaces that it names, and those that they lead to.
     rows: Vec<BTreeSet<u32>>,
+    // The same as lists, in the order of their numbers.
+    interfaces: Vec<Items<ClassId>>,
     // For each class its load fault.
     faults: Vec<Option<LinkError>>,
 }
@@ -72,12 +78,16 @@ fn of_index(alloc: Global, index: Index) -> Result<Table, AllocError>
     ensures { IfOk result (λ table. table ≡ index) }
 {
     let texts = Texts::new(alloc, index.classes())?;
+    let supers = superclasses(alloc, &index)?;
     let rows = interfaces_above(alloc, &index)?;
+    let interfaces = lists(alloc, rows.as_slice())?;
     let faults = load_faults(alloc, &index)?;
     Ok(Table {
         index,
         texts,
+        supers,
         rows,
+        interfaces,
         faults,
     })
 }
@@ -165,7 +175,7 @@ impl Table {
         ensures value { result ≡ superclass_of self.now (name_at self.now id) }
         ensures of_table { IfSome result (λ id. id < size self.now) }
     {
-        self.index.superclass(id)
+        self.supers[id.number() as usize]
     }
 
     /// Whether the other class stands in the class's chain: it is the class, or one further up its
@@ -175,7 +185,17 @@ impl Table {
         requires above { of < size self.now }
         ensures { result ≡ in_chain self.now (name_at self.now id) (name_at self.now of) }
     {
-        self.index.has_super(id, of)
+        let mut class = id;
+        for _ in 0..self.count() {
+            if class == of {
+                return true;
+            }
+            class = match self.superclass(class) {
+                Some(above) => above,
+                None => return false,
+            };
+        }
+        false
     }
 
     /// Whether the class is one of the platform's.
@@ -186,14 +206,54 @@ impl Table {
         self.index.in_platform(id)
     }
 
+    /// The interfaces that the class names, and those that they lead to in turn (JVMS 4.1), each
+    /// once; not those of its superclasses.
+    pub fn interfaces(&self, id: ClassId) -> &[ClassId]
+        requires { id < size self.now }
+        ensures { AreAbove self.now (name_at self.now id) result.now }
+    {
+        self.interfaces[id.number() as usize].as_slice()
+    }
+
+    // Whether the other class is an interface that the class names, or one that such an interface
+    // leads to.
+    fn leads_to(&self, id: ClassId, of: ClassId) -> bool
+        requires class { id < size self.now }
+        requires above { of < size self.now }
+        ensures { result ≡ leads_by self.now (name_at self.now id) (name_at self.now of) }
+    {
+        self.rows[id.number() as usize].contains(&of.number())
+    }
+
+    // Whether the other class is a superinterface of the class: one that a class of its chain leads
+    // to.
+    fn has_superinterface(&self, id: ClassId, of: ClassId) -> bool
+        requires class { id < size self.now }
+        requires above { of < size self.now }
+        ensures value { result ≡ is_superinterface self.now (name_at self.now id) (name_at self.now of) }
+        ensures side { IsSide self.now }
+    {
+        let mut class = id;
+        for _ in 0..self.count() {
+            if self.leads_to(class, of) {
+                return true;
+            }
+            class = match self.superclass(class) {
+                Some(above) => above,
+                None => return false,
+            };
+        }
+        false
+    }
+
     /// Whether the other class is the class itself or one of its superinterfaces: an interface that
     /// a class of its chain names, or one that such an interface names in turn (JVMS 4.1).
     pub fn is_below(&self, id: ClassId, of: ClassId) -> bool
         requires class { id < size self.now }
         requires above { of < size self.now }
-        ensures { result ≡ (same (name_at self.now id) (name_at self.now of) || has_superinterface self.now (name_at self.now id) (name_at self.now of)) }
+        ensures { result ≡ (same (name_at self.now id) (name_at self.now of) || is_superinterface self.now (name_at self.now id) (name_at self.now of)) }
     {
-        is_below(&self.index, self.rows.as_slice(), id, of)
+        id == of || self.has_superinterface(id, of)
     }
 
     /// Whether a class is of this package: a name up to its last `/`, or nothing (JVMS 5.3).

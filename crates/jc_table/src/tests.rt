@@ -1,10 +1,12 @@
 //! Tables of small sides: a plain `p/A` over a platform of `java/lang/Object` alone, roots that aren't as they have to be, and classes on a cycle.
+use crate::members::own_field;
 use crate::plain::{are_valid, find, names_differ};
 use crate::root::{RootPart, root_fault};
 use crate::table::{Table, TableError};
 use jc_base::items::Items;
 use jc_base::name::Name;
 use jc_facts::class_facts::{ClassFacts, Member};
+use jc_facts::key_set::KeyRef;
 use std::alloc::{AllocError, Global};
 use std::process::Abort;
 use std::test::Fail;
@@ -309,7 +311,7 @@ fn names(alloc: Global, list: &[&[u8]]) -> Result<Items<Name>, AllocError> {
     Ok(Items::from_vec(names))
 }
 
-// `p/J` extends the interface `p/I`, the class `p/S` implements `p/J` and permits `q/T` to extend
+// `p/J` extends the interface `p/I`, which declares the field `f`, the class `p/S` implements `p/J` and permits `q/T` to extend
 // it.
 fn sealed_side(alloc: Global) -> Result<Vec<ClassFacts>, AllocError> {
     let lower = ClassFacts {
@@ -320,6 +322,7 @@ fn sealed_side(alloc: Global) -> Result<Vec<ClassFacts>, AllocError> {
     };
     let upper = ClassFacts {
         flags: 0x0601,
+        fields: Items::from_vec(vec![in alloc; member(alloc, b"f", b"I", 0x0019)?]?),
         methods: Items::from_vec(Vec::new(alloc)),
         ..class(alloc, b"p/I", b"java/lang/Object")?
     };
@@ -363,6 +366,11 @@ fn interfaces_and_names_of_a_side(rt: HostRuntime) -> Result<(), Fail> {
             && !table.begins(b"p/K")
             && !table.begins(b"q/TT")
     );
+    assert!(rt; table.interfaces(sealed).len() == 2 && table.interfaces(sealed).contains(&upper));
+    assert!(rt; table.interfaces(lower).len() == 1 && table.interfaces(upper).is_empty());
+    let key = KeyRef::new(b"f", b"I");
+    assert!(rt; own_field(table.facts(upper), &key).is_some());
+    assert!(rt; own_field(table.facts(lower), &key).is_none());
     assert_eq!(rt; table.fault_at(sealed), None);
     assert!(rt; table.load_faults().len() == 4);
     Ok(())

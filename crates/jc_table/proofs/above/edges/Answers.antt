@@ -1,8 +1,7 @@
-use Rattle.std.proofs.Common.{◌≡◌, ◌∙◌, ◌<◌, ◌≤◌, ◌++◌, [], ◌∷◌, length, ap, map, subst, sym, arith}
-use Rattle.std.specs.Prelude.{Some}
+use Rattle.std.proofs.Common.{◌∙◌, ◌<◌, ◌≤◌, ◌++◌, [], ◌∷◌, ap, map, subst, sym}
 use Rattle.std.specs.List.{filter_map}
 use Rattle.std.proofs.lemmas.List.{take_all}
-use Rattle.jc_facts.specs.World.{find, size}
+use Rattle.jc_facts.specs.World.{find}
 use Rattle.jc_table.specs.Ids.{names, name_at, id_of}
 use Rattle.jc_table.specs.Above.{named_by}
 use Rattle.jc_table.proofs.Numbers.{names-length}

@@ -2,7 +2,6 @@ use Rattle.std.proofs.Common.{◌≡◌, ◌<◌, ◌∙◌, ℕ, List, length, 
 use Rattle.std.specs.List.{All}
 use Rattle.std.specs.BTreeSet.{BTreeSet}
 use Rattle.jc_table.specs.Reach.{IsLedTo}
-use Rattle.jc_table.specs.Above.{edges_of}
 use Rattle.jc_table.proofs.Aboves.{rows_exact, edges-within, edges-length}
 use Rattle.jc_table.proofs.above.interfaces_above.Goals as goal
 

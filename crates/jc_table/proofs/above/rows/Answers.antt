@@ -1,4 +1,4 @@
-use Rattle.std.proofs.Common.{◌≡◌, ◌<◌, ◌+◌, ◌∙◌, ◌++◌, ℕ, List, [], ◌∷◌, length, slice_index_or, sym, ap, subst, arith}
+use Rattle.std.proofs.Common.{◌≡◌, ◌<◌, ◌+◌, ◌∙◌, ◌++◌, ℕ, List, [], ◌∷◌, length, slice_index_or, sym, ap, subst}
 use Rattle.std.proofs.lemmas.List.{length-append}
 use Rattle.std.specs.BTreeSet.{BTreeSet}
 use Rattle.jc_table.specs.Reach.{IsLedTo}

@@ -1,4 +1,4 @@
-use Rattle.std.proofs.Common.{◌≡◌, ◌≤◌, ◌<◌, ◌++◌, ◌∷◌, [], map, take, sym, ◌∙◌, arith}
+use Rattle.std.proofs.Common.{◌≤◌, ◌∙◌, arith}
 use Rattle.jc_facts.specs.World.{size}
 use Rattle.jc_table.proofs.Turns.{faults-more, faults-all}
 use Rattle.jc_table.proofs.faults.all_faults.Goals as goal

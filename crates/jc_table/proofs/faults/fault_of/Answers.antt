@@ -1,4 +1,4 @@
-use Rattle.std.proofs.Common.{◌≡◌, refl, sym, ◌∙◌, ap, get_or}
+use Rattle.std.proofs.Common.{refl, sym, ◌∙◌, ap, get_or}
 use Rattle.jc_table.specs.Ids.{name_at}
 use Rattle.jc_table.specs.declared.faults.State.TheVariants as states
 use Rattle.jc_table.proofs.Entering.{right_at}

@@ -1,8 +1,6 @@
-use Rattle.std.proofs.Common.{◌≡◌, ◌<◌, sym, ◌∙◌, ap, arith, Some, None, get_or}
+use Rattle.std.proofs.Common.{◌≡◌, sym, ◌∙◌, ap, arith, Some, None, get_or}
 use Rattle.jc_table.specs.declared.faults.State.TheVariants as states
-use Rattle.jc_facts.specs.World.{size}
-use Rattle.jc_facts.specs.Loading.{load_fault}
-use Rattle.jc_table.specs.Ids.{name_at, id_of}
+use Rattle.jc_table.specs.Ids.{id_of}
 use Rattle.jc_table.proofs.Numbers.{id_of-Some, find-None}
 use Rattle.jc_table.proofs.Entering.{absent, right_at, not-known}
 use Rattle.jc_table.proofs.faults.known_of.Goals as goal

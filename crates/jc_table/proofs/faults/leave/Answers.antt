@@ -1,5 +1,4 @@
-use Rattle.std.proofs.Common.{◌≡◌, sym, ◌∙◌, Some, None, length, arith}
-use Rattle.jc_facts.specs.Loading.{load_fault}
+use Rattle.std.proofs.Common.{◌≡◌, Some, None, length, arith}
 use Rattle.jc_table.specs.Ids.{name_at}
 use Rattle.jc_table.proofs.Turns.{top-fault, no-frames, leave-path, leave-end, fail-path, lent-inside}
 use Rattle.jc_table.proofs.faults.leave.Goals as goal

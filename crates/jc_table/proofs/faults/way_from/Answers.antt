@@ -1,4 +1,4 @@
-use Rattle.std.proofs.Common.{◌≡◌, ◌≤◌, length, sym, ◌∙◌, arith, Some, None}
+use Rattle.std.proofs.Common.{◌≡◌, ◌≤◌, length, sym, ◌∙◌, arith, None}
 use Rattle.jc_facts.specs.Search.{supers}
 use Rattle.jc_facts.specs.Loading.{load_fault}
 use Rattle.jc_table.specs.Ids.{name_at}

@@ -1,4 +1,4 @@
-use Rattle.std.proofs.Common.{◌≤◌, ◌≡◌, sym, subst, arith, ap, ◌∙◌, Some}
+use Rattle.std.proofs.Common.{◌≤◌, ◌≡◌, arith, ap, ◌∙◌, Some}
 use Rattle.jc_facts.specs.World.{size, find}
 use Rattle.jc_table.specs.Ids.{name_at}
 use Rattle.jc_table.proofs.Fixed.{fixed-more, fixed-all}

@@ -1,9 +1,5 @@
-use Rattle.std.proofs.Common.{◌≡◌, ◌-◌, ◌+◌, ◌<◌, ◌≤◌, ◌||◌, true, false, suc, Some, None, sym, ◌∙◌, arith}
-use Rattle.jc_facts.specs.World.{size, find}
-use Rattle.jc_facts.specs.Overriding.{meets_final, overrides_one_final}
-use Rattle.jc_facts.specs.World.{declares}
-use Rattle.jc_table.specs.Ids.{name_at, superclass_of}
-use Rattle.jc_table.specs.Walking.{chain_from, linked_last}
+use Rattle.std.proofs.Common.{◌≡◌, ◌-◌, ◌+◌, suc, None, sym, ◌∙◌, arith}
+use Rattle.jc_facts.specs.World.{size}
 use Rattle.jc_table.proofs.Walking.{meets-found, meets-on, meets-out, meets-end}
 use Rattle.jc_table.proofs.overriding.meets_final.Goals as goal
 

@@ -1,4 +1,4 @@
-use Rattle.std.proofs.Common.{sym, ◌∙◌, arith}
+use Rattle.std.proofs.Common.{◌∙◌, arith}
 use Rattle.std.proofs.lemmas.Bool.{eq-eqb, ne_eqb}
 use Rattle.jc_table.proofs.Slashes.{after_slash, after_other}
 use Rattle.jc_table.proofs.packages.package_of.Goals as goal

@@ -1,4 +1,4 @@
-use Rattle.std.proofs.Common.{◌≡◌, List, ℕ, ◌++◌, [], ◌∷◌, take, get_or, sym, subst}
+use Rattle.std.proofs.Common.{List, ℕ, take, subst}
 use Rattle.std.proofs.lemmas.List.{take_more, take_all}
 use Rattle.jc_table.specs.Queue.{Adds}
 use Rattle.jc_table.proofs.Queues.{adds_more}

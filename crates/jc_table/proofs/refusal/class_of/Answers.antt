@@ -1,4 +1,4 @@
-use Rattle.std.proofs.Common.{◌≡◌, Some, None, sym, ◌∙◌}
+use Rattle.std.proofs.Common.{◌≡◌, Some, None, sym}
 use Rattle.jc_table.specs.Ids.{id_of}
 use Rattle.jc_table.proofs.Numbers.{id_of-Some, find-None}
 use Rattle.jc_table.proofs.Entering.{found-by}

@@ -1,4 +1,4 @@
-use Rattle.std.proofs.Common.{◌≡◌, ◌<◌, ◌≤◌, Some, None, sym, ◌∙◌, get_or, length}
+use Rattle.std.proofs.Common.{◌≡◌, ◌<◌, ◌≤◌, None, sym, ◌∙◌, get_or, length}
 use Rattle.jc_facts.specs.Loading.{interface_fault}
 use Rattle.jc_table.proofs.Entering.{first-found, first-next, first-end}
 use Rattle.jc_table.proofs.refusal.own_interfaces_fault.Goals as goal

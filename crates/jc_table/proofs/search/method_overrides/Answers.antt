@@ -1,10 +1,8 @@
-use Rattle.std.proofs.Common.{◌≡◌, ◌<◌, Bool, false, not, ◌||◌, Option, ℕ, sym, subst, ◌∙◌, ap}
+use Rattle.std.proofs.Common.{◌≡◌, ◌<◌, false, ◌||◌, Option, ℕ, sym, subst, ◌∙◌, ap}
 use Rattle.std.specs.Prelude.{IfSome}
 use Rattle.jc_desc.specs.Names.{is_init, is_clinit, is_initializer}
 use Rattle.jc_facts.specs.World.{size, Found}
 use Rattle.jc_facts.specs.Names.{key_of}
-use Rattle.jc_facts.specs.Valid.{has_key}
-use Rattle.jc_facts.specs.Hierarchy.{chain, of_super}
 use Rattle.jc_table.proofs.Walking.{number-inside}
 use Rattle.jc_table.proofs.Fixed.{plain-met}
 use Rattle.jc_table.proofs.search.method_overrides.Goals as goal

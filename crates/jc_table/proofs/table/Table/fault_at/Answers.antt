@@ -1,4 +1,4 @@
-use Rattle.std.proofs.Common.{◌≡◌, ◌<◌, sym, ◌∙◌, ap, subst, arith}
+use Rattle.std.proofs.Common.{◌<◌, sym, ◌∙◌, ap, subst, arith}
 use Rattle.jc_facts.specs.World.{World, size}
 use Rattle.jc_facts.specs.Loading.{load_fault}
 use Rattle.jc_table.specs.Ids.{name_at}

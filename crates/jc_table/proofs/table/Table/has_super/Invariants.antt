@@ -3,7 +3,7 @@ use Rattle.jc_facts.specs.World.{size}
 use Rattle.jc_facts.specs.Hierarchy.{in_chain}
 use Rattle.jc_table.specs.Ids.{name_at}
 use Rattle.jc_table.proofs.Upwards.{is_up}
-use Rattle.jc_table.proofs.index.Index.has_super.Given as goal
+use Rattle.jc_table.proofs.table.Table.has_super.Given as goal
 
 abbrev pub invariant-loop : goal.invariant-loop
 invariant-loop l = record {
