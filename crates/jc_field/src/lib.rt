@@ -1,0 +1,10 @@
+//! The lookup of fields (JVMS 5.4.3.2).
+#![tactic(auto)]
+
+pub mod find;
+pub mod keys;
+pub mod plain;
+#[cfg(test)]
+mod tests;
+
+pub use jc_table::ids::Found;
