@@ -1,0 +1,6 @@
+pub mod Walks
+pub mod Choices
+pub mod Chains
+pub mod Offering
+pub mod Sets
+pub mod Declared

@@ -1,0 +1,10 @@
+use Rattle.std.proofs.Common.{◌≡◌, true, sym, ◌∙◌}
+use Rattle.jc_method.specs.Choosing.{is_strictly_below}
+use Rattle.jc_method.proofs.Choices.{strictly, strictly_chosen}
+use Rattle.jc_method.proofs.choose.rival.Goals as goal
+
+pub returns : goal.returns
+returns c =
+    let s : is_strictly_below c.args.table.now c.args.class c.args.of ≡ true =
+    strictly c.args.table.now c.requires.differ c.args.class c.args.of c.is_below.result c.requires.class c.requires.above (sym c.if-eq.ensures) c.is_below.ensures c.if-not-is_below.false in
+    c.candidate.ensures ∙ strictly_chosen c.args.table.now c.args.key.now c.args.class c.args.of s

@@ -1,0 +1,6 @@
+use Rattle.std.proofs.Common.{drop}
+use Rattle.jc_method.proofs.Sets.{Follows}
+use Rattle.jc_method.proofs.keys.add_all.Given as goal
+
+abbrev pub invariant-loop-id : goal.invariant-loop-id
+invariant-loop-id l = Follows l.table l.keys (drop l.id-index l.ids) l.initial.keys l.ids

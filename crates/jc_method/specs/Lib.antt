@@ -1,0 +1,3 @@
+pub mod Inheriting
+pub mod Choosing
+pub mod Collecting

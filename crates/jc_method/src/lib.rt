@@ -1,0 +1,11 @@
+//! The lookup of methods (JVMS 5.4.3.3, 5.4.3.4).
+#![tactic(auto)]
+
+mod choose;
+pub mod find;
+pub mod keys;
+mod own;
+#[cfg(test)]
+mod tests;
+
+pub use jc_table::ids::Found;
