@@ -1,0 +1,4 @@
+pub mod Named
+pub mod Hosts
+pub mod Assigned
+pub mod Spoken

@@ -1,0 +1,5 @@
+pub mod Seats
+pub mod Parts
+pub mod Nests
+pub mod Speaking
+pub mod Texts

@@ -1,0 +1,104 @@
+//! Access to classes and members (JVMS 5.4.4).
+ghost use Rattle.std.specs.Prelude.{◌≡◌, ◌<◌, Some};
+ghost use Rattle.jc_facts.specs.declared.class_facts.ClassFacts.{ClassFacts as ClassOf};
+ghost use Rattle.jc_facts.specs.Flags.{is_package_private as package_private};
+ghost use Rattle.jc_facts.specs.Access.{is_class_accessible, is_member_accessible};
+ghost use Rattle.jc_facts.specs.World.{Found as MemberOf, find, size};
+ghost use Rattle.jc_table.specs.Ids.{name_at};
+ghost use Rattle.jc_table.specs.Lookups.{IsFound};
+ghost use Rattle.jc_access.specs.Seats.{class_open, member_open, IsSeatOf};
+ghost use Rattle.jc_access.specs.Speaking.{SpeaksFor};
+ghost use Rattle.jc_access.specs.Parts.{inherited_at, inside_at, client_at};
+
+use crate::names::in_one_package;
+use crate::nests::same_nest;
+use jc_facts::flags::{is_private, is_protected, is_public, is_static};
+use jc_table::ids::{ClassId, Found};
+use jc_table::table::Table;
+
+/// Who uses a class or a member.
+#[derive(Clone, Copy, PartialEq, Eq, Debug)]
+pub enum Seat {
+    /// The class of the table itself.
+    Inside(ClassId),
+    /// Any client of an allowed name whose first superclass that is no client is this class.
+    Client(ClassId),
+}
+
+/// Whether the class is accessible: it is public, or of the package of the class of the seat
+/// `Inside` (JVMS 5.4.4).
+pub fn class_access(table: &Table, from: Seat, class: ClassId) -> bool
+    requires from { IsSeatOf table.now from }
+    requires class { class < size table.now }
+    ensures value { (d : ClassOf) → find table.now (name_at table.now class) ≡ Some d → result ≡ class_open table.now from d }
+    ensures clients { (d : ClassOf) → find table.now (name_at table.now class) ≡ Some d → SpeaksFor table.now from (λ V x. is_class_accessible V x d) result }
+{
+    if is_public(table.facts(class).flags) {
+        return true;
+    }
+    match from {
+        Seat::Inside(id) => in_one_package(table, id, class),
+        Seat::Client(_) => false,
+    }
+}
+
+// Whether a protected member of this class is accessible as one of a superclass.
+fn inherited(table: &Table, from: ClassId, owner: ClassId, flags: u16, named: ClassId) -> bool
+    requires from { from < size table.now }
+    requires owner { owner < size table.now }
+    requires named { named < size table.now }
+    ensures { result ≡ inherited_at table.now (name_at table.now from) (name_at table.now named) (name_at table.now owner) flags }
+{
+    is_protected(flags)
+        && table.has_super(from, owner)
+        && (is_static(flags) || table.has_super(from, named) || table.has_super(named, from))
+}
+
+// Whether a member with these flags has no access flag (JVMS 4.5, 4.6).
+fn is_package_private(flags: u16) -> bool
+    ensures { result ≡ package_private flags }
+{
+    !(is_public(flags) || is_private(flags) || is_protected(flags))
+}
+
+// Whether the member is accessible from the class.
+fn inside(table: &Table, from: ClassId, found: Found, named: ClassId) -> bool
+    requires from { from < size table.now }
+    requires owner { found.owner < size table.now }
+    requires named { named < size table.now }
+    ensures { result ≡ inside_at table.now (name_at table.now from) (name_at table.now named) (name_at table.now found.owner) found.flags }
+{
+    is_public(found.flags)
+        || (in_one_package(table, from, found.owner)
+            && (is_protected(found.flags) || is_package_private(found.flags)))
+        || inherited(table, from, found.owner, found.flags, named)
+        || (is_private(found.flags) && same_nest(table, from, found.owner))
+}
+
+// Whether the member is accessible from clients of the seat: public, or protected in a superclass
+// of theirs, and an instance member then only by a class in line with the seat.
+fn from_clients(table: &Table, seat: ClassId, found: Found, named: ClassId) -> bool
+    requires seat { seat < size table.now }
+    requires owner { found.owner < size table.now }
+    requires named { named < size table.now }
+    ensures { result ≡ client_at table.now (name_at table.now seat) (name_at table.now named) (name_at table.now found.owner) found.flags }
+{
+    is_public(found.flags)
+        || (is_protected(found.flags)
+            && table.has_super(seat, found.owner)
+            && (is_static(found.flags) || table.has_super(seat, named)))
+}
+
+/// Whether the member, named through the class, is accessible (JVMS 5.4.4).
+pub fn accessible(table: &Table, from: Seat, found: Found, named: ClassId) -> bool
+    requires from { IsSeatOf table.now from }
+    requires owner { found.owner < size table.now }
+    requires named { named < size table.now }
+    ensures value { (m : MemberOf) → IsFound table.now found m → result ≡ member_open table.now from (name_at table.now named) m }
+    ensures clients { (m : MemberOf) → IsFound table.now found m → SpeaksFor table.now from (λ V x. is_member_accessible V x (name_at table.now named) m) result }
+{
+    match from {
+        Seat::Inside(id) => inside(table, id, found, named),
+        Seat::Client(seat) => from_clients(table, seat, found, named),
+    }
+}

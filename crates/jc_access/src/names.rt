@@ -1,0 +1,31 @@
+//! The names of a table's classes.
+ghost use Rattle.std.specs.Prelude.{◌≡◌, ◌<◌};
+ghost use Rattle.jc_facts.specs.Names.{same_package as in_same_package};
+ghost use Rattle.jc_facts.specs.World.{size};
+ghost use Rattle.jc_table.specs.Ids.{name_at};
+
+use jc_base::name::Name;
+use jc_table::ids::ClassId;
+use jc_table::packages::same_package;
+use jc_table::table::Table;
+
+// The name of the class.
+#[tactic(auto, using(crate::proofs::Named::name_is))]
+pub(crate) fn name_of(table: &Table, class: ClassId) -> &Name
+    requires { class < size table.now }
+    ensures { result.now ≡ name_at table.now class }
+{
+    &table.facts(class).name
+}
+
+// Whether the two classes are in one package (JVMS 5.3).
+pub(crate) fn in_one_package(table: &Table, one: ClassId, other: ClassId) -> bool
+    requires one { one < size table.now }
+    requires other { other < size table.now }
+    ensures { result ≡ in_same_package (name_at table.now one) (name_at table.now other) }
+{
+    same_package(
+        name_of(table, one).as_bytes(),
+        name_of(table, other).as_bytes(),
+    )
+}
