@@ -78,9 +78,26 @@ target_says O N x t f h =
     let d = and_parts (is_kept O N x) (is_kept O N t) c.0 in
     (d.0, d.1, c.1)
 
+-- the superclass isn't in the new chain
+target_left : (O N : World) (x t : Bytes) (f : Finding) → target_finding O N x t ≡ Some f → not (in_chain N x t) ≡ true
+target_left O N x t f h =
+    let s = report_where-some _ (on_target x t) Assignment VerifyError f (sym (target_is O N x t) ∙ h) in
+    let a = and_parts (is_kept O N x && is_kept O N t && in_chain O x t && not (in_chain N x t)) (not (is_interface_of N t)) s.0 in
+    (and_parts (is_kept O N x && is_kept O N t && in_chain O x t) (not (in_chain N x t)) a.0).1
+
 -- a class that isn't kept has left no chain
 pub unkept_chain : (O N : World) (x : Bytes) → is_kept O N x ≡ false → HasExactly finding_order (OfChain O N x) []
 unkept_chain O N x h = exact_none finding_order (OfChain O N x) (λ f p. let s = of_chain O N x f p in both_ways (is_kept O N x) h (target_says O N x s.0 f s.1).0)
+
+-- nothing is found of a chain that nothing has left
+pub whole_chain : (O N : World) (x : Bytes) → ((y : Bytes) → in_chain O x y ≡ true → in_chain N x y ≡ true) → HasExactly finding_order (OfChain O N x) []
+whole_chain O N x h = exact_none finding_order (OfChain O N x) still
+  where
+    still : (f : Finding) → OfChain O N x f → ⊥
+    still f p =
+        let s = of_chain O N x f p in
+        let stays : in_chain N x s.0 ≡ true = h s.0 (target_says O N x s.0 f s.1).2 in
+        both_ways (not (in_chain N x s.0)) (ap not stays) (target_left O N x s.0 f s.1)
 
 -- ---- all of the old chain
 

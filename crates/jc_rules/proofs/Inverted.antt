@@ -8,7 +8,7 @@ use Rattle.jc_facts.specs.Findings.{Subject, finding_at, finding_by, subject_of}
 use Rattle.jc_laws.proofs.FindingLaws.{finding_is_on_its_subject}
 use Rattle.jc_rules.specs.Steps.{on_class, on_target, class_finding, target_finding, OfRule, OfChain}
 
-passed : {A : Type 0} (b : Bool) (o p q : Option A) → b ≡ false → cond b o p ≡ q → p ≡ q
+pub passed : {A : Type 0} (b : Bool) (o p q : Option A) → b ≡ false → cond b o p ≡ q → p ≡ q
 passed true o p q e h = absurd (cc)
 passed false o p q e h = h
 
@@ -30,10 +30,10 @@ class_alone O N r i s e (Some k) None f h =
     (passed (s.rule == 6) _ _ _ (ap (λ n. n == 6) e ∙ i.not_6) (passed (s.rule == 5) _ _ _ (ap (λ n. n == 5) e ∙ i.not_5) h)))) in cc)
 class_alone O N r i s e (Some k) (Some t) f h = absurd (cc)
 
-abbrev subject : ℕ → Bytes → Option Key → Option Bytes → Subject
+abbrev pub subject : ℕ → Bytes → Option Key → Option Bytes → Subject
 subject r x k t = record { rule = r; «class» = x; key = k; target = t }
 
-subject_is : (f : Finding) (s : Subject) → f.rule ≡ s.rule → f.«class» ≡ s.«class» → f.key ≡ s.key → f.target ≡ s.target → subject_of f ≡ s
+pub subject_is : (f : Finding) (s : Subject) → f.rule ≡ s.rule → f.«class» ≡ s.«class» → f.key ≡ s.key → f.target ≡ s.target → subject_of f ≡ s
 subject_is f s a b c d =
     ap (λ (r : ℕ). subject r f.«class» f.key f.target) a ∙ (ap (λ (x : Bytes). subject s.rule x f.key f.target) b
     ∙ (ap (λ (k : Option Key). subject s.rule s.«class» k f.target) c ∙ ap (λ (t : Option Bytes). subject s.rule s.«class» s.key t) d))

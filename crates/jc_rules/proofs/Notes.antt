@@ -23,8 +23,7 @@ use Rattle.jc_table.specs.Ids.{names}
 use Rattle.jc_table.specs.Sides.{IsSide}
 use Rattle.jc_table.proofs.Numbers.{names-rise, names-in, names-find}
 use Rattle.jc_rules.proofs.Loops.{whole}
-use Rattle.jc_rules.specs.Built.{IsUnloadable}
-use Rattle.jc_rules.specs.Steps.{unloadable, NoteIn}
+use Rattle.jc_rules.specs.Steps.{unloadable, IsUnloadable, NoteIn}
 
 -- ---- platform and release
 
@@ -55,11 +54,11 @@ not_before (c ∷ xs) ys x d h = go (same c.name x) refl (not_before xs ys x p.1
     go false e r = r
 
 -- a side's classes are those of the two
-two_lists : (W : World) → IsSide W → classes W ≡ W.platform ++ W.release
+pub two_lists : (W : World) → IsSide W → classes W ≡ W.platform ++ W.release
 two_lists W s = ap (λ (zs : List ClassFacts). W.platform ++ W.release ++ zs) s.no_clients ∙ append-nil (W.platform ++ W.release)
 
 -- a class of the release isn't one of the platform's
-of_release : (W : World) → IsSide W → (x : Bytes) → is_some (in_release W x) ≡ true → is_some (class_named W.platform x) ≡ false
+pub of_release : (W : World) → IsSide W → (x : Bytes) → is_some (in_release W x) ≡ true → is_some (class_named W.platform x) ≡ false
 of_release W s x h = not_before W.platform W.release x (subst (λ (cs : List ClassFacts). names_differ cs ≡ true) (two_lists W s) s.differ) h
 
 class_named-either : (xs ys : List ClassFacts) (x : Bytes) → is_some (class_named (xs ++ ys) x) ≡ true → is_some (class_named xs x) ≡ false → is_some (class_named ys x) ≡ true
@@ -73,7 +72,7 @@ class_named-either (c ∷ xs) ys x h d = go (same c.name x) h d (class_named-eit
     go false h d r = r h d
 
 -- and another class is one of the release
-not_platform : (W : World) → IsSide W → (x : Bytes) → is_some (find W x) ≡ true → is_some (class_named W.platform x) ≡ false → is_some (in_release W x) ≡ true
+pub not_platform : (W : World) → IsSide W → (x : Bytes) → is_some (find W x) ≡ true → is_some (class_named W.platform x) ≡ false → is_some (in_release W x) ≡ true
 unfolding find
 not_platform W s x h d = class_named-either W.platform W.release x (subst (λ (cs : List ClassFacts). is_some (class_named cs x) ≡ true) (two_lists W s) h) d
 

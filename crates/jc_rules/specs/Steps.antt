@@ -1,10 +1,11 @@
 -- What the steps of the comparison give, for the contracts of private functions.
 use Rattle.std.specs.List.{Contains}
-use Rattle.std.specs.Prelude.{ℕ, List, Bool, not, cond, Option, None, Some, is_some, IsTrue, ◌≡◌, ◌||◌, ◌&&◌}
+use Rattle.std.specs.Prelude.{ℕ, suc, ◌≤◌, ◌<◌, List, Bool, not, cond, Option, None, Some, is_some, IsTrue, ◌≡◌, ◌||◌, ◌&&◌}
 use Rattle.jc_facts.specs.declared.act.Act.{Act}
 use Rattle.jc_facts.specs.declared.act.Act.TheVariants.{Extend, Implement}
 use Rattle.jc_facts.specs.declared.class_facts.ClassFacts.{ClassFacts}
 use Rattle.jc_facts.specs.declared.finding.Finding.{Finding}
+use Rattle.jc_facts.specs.declared.key.Key.{Key}
 use Rattle.jc_facts.specs.declared.link_error.LinkError.{LinkError}
 use Rattle.jc_facts.specs.declared.verdict.Note.{Note}
 use Rattle.jc_facts.specs.declared.verdict.Note.TheVariants as note
@@ -32,6 +33,14 @@ unusable W x = cond (is_usable W x) None (Some (gone_error W x))
 abbrev pub on_class : ℕ → Bytes → Subject
 on_class rule x = record { rule = rule; «class» = x; key = None; target = None }
 
+-- a rule on a class and a key
+abbrev pub on_key : ℕ → Bytes → Key → Subject
+on_key rule x k = record { rule = rule; «class» = x; key = Some k; target = None }
+
+-- what the rule finds of the class and the key
+unfoldable pub key_finding : World → World → ℕ → Bytes → Key → Option Finding
+key_finding O N rule x k = finding_at O N (on_key rule x k)
+
 -- what the rule finds of the class
 unfoldable pub class_finding : World → World → ℕ → Bytes → Option Finding
 class_finding O N rule x = finding_at O N (on_class rule x)
@@ -56,6 +65,14 @@ shuts_out O N c d = is_final d.flags || (is_interface d.flags && not (is_interfa
 abbrev pub closes : World → World → ClassFacts → ClassFacts → Bool
 closes O N c d = not (becomes_class c d) && (is_superclass_for O N c || is_interface_for O N c) && shuts_out O N c d
 
+-- clients could extend a usable class of the record c, and still can as it is of the record d
+abbrev pub stays_superclass : World → World → ClassFacts → ClassFacts → Bool
+stays_superclass O N c d = is_superclass_for O N c && not (shuts_out O N c d)
+
+-- clients could implement a usable interface of the record c, and still can as it is of the record d
+abbrev pub stays_interface : World → World → ClassFacts → ClassFacts → Bool
+stays_interface O N c d = is_interface_for O N c && not (becomes_class c d) && not (shuts_out O N c d)
+
 -- how clients name a class of this record above themselves
 abbrev pub naming_act : ClassFacts → Act
 naming_act c = cond (is_interface c.flags) Implement Extend
@@ -76,6 +93,10 @@ has_left O N x t = is_kept O N t && not (in_chain N x t) && not (is_interface_of
 abbrev pub OfRule : ℕ → World → World → Finding → Type 0
 OfRule rule O N f = (f.rule ≡ rule) × Stands O N f
 
+-- the finding stands, and is one of the rules up to this one
+abbrev pub UpToRule : ℕ → World → World → Finding → Type 0
+UpToRule rule O N f = ((1 ≤ f.rule) × (f.rule < suc rule)) × Stands O N f
+
 -- the finding stands, and is that a superclass has left the chain of the class x
 abbrev pub OfChain : World → World → Bytes → Finding → Type 0
 OfChain O N x f = (f.rule ≡ 4) × (f.class ≡ x) × Stands O N f
@@ -92,3 +113,13 @@ unloadable W old x = cond (is_some (class_named W.platform x)) None (and_then (�
 abbrev pub NoteIn : World → Bool → Note → Type 0
 NoteIn W old (note.Unloadable b x e) = (b ≡ old) × (IsTrue (is_some (in_release W x))) × (load_fault W x ≡ Some e)
 NoteIn W old (note.Fixed x k) = ⊥
+
+-- the note is that a class doesn't load
+abbrev pub IsUnloadable : Note → Type 0
+IsUnloadable (note.Unloadable old x e) = Unit {0}
+IsUnloadable (note.Fixed x k) = ⊥
+
+-- the note is on a constant
+abbrev pub IsFixed : Note → Type 0
+IsFixed (note.Unloadable old x e) = ⊥
+IsFixed (note.Fixed x k) = Unit {0}

@@ -15,12 +15,13 @@ ghost use Rattle.jc_rules.specs.Steps.{on_target, target_finding as finding_on, 
 
 use crate::found::push_some;
 use crate::words::kept;
+use jc_acts::chains::keeps_chain;
 use jc_base::name::Name;
 use jc_facts::act::Act;
 use jc_facts::finding::Finding;
 use jc_facts::flags::is_interface;
 use jc_facts::link_error::LinkError;
-use jc_table::ids::ClassId;
+use jc_table::ids::{Both, ClassId};
 use jc_table::table::Table;
 use std::alloc::{AllocError, Global};
 use std::collections::BTreeSet;
@@ -129,6 +130,9 @@ fn left_chain(
     let Some(now) = kept(old, new, id) else {
         return Ok(Vec::new(alloc));
     };
+    if keeps_chain(old, new, &Both { old: id, new: now }) {
+        return Ok(Vec::new(alloc));
+    }
     let before = chain_of(alloc, old, id)?;
     let after = chain_of(alloc, new, now)?;
     left_of(alloc, old, new, &old.facts(id).name, &before, &after)

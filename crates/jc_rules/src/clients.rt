@@ -6,7 +6,7 @@ ghost use Rattle.jc_facts.specs.Clients.{is_allowed as allowed_on};
 ghost use Rattle.jc_facts.specs.Names.{is_among, is_init};
 ghost use Rattle.jc_facts.specs.World.{find};
 ghost use Rattle.jc_facts.specs.Words.{allowed, permits_some, has_init, public_or_protected, leaves_out};
-ghost use Rattle.jc_rules.specs.Steps.{is_superclass_for, is_interface_for, shuts_out, closes as closes_by};
+ghost use Rattle.jc_rules.specs.Steps.{is_superclass_for, is_interface_for, shuts_out, closes as closes_by, stays_superclass as stays_superclass_by, stays_interface as stays_interface_by};
 
 use crate::words::becomes_class;
 use jc_base::items::Items;
@@ -151,4 +151,22 @@ pub fn closes(old: &Table, new: &Table, before: &ClassFacts, after: &ClassFacts)
     !becomes_class(before, after)
         && (could_extend(old, new, before) || could_implement(old, new, before))
         && shuts(old, new, before, after)
+}
+
+/// Whether clients could extend a usable class of the one record, and still can as it is of the
+/// other.
+pub fn stays_superclass(old: &Table, new: &Table, before: &ClassFacts, after: &ClassFacts) -> bool
+    ensures { result ≡ stays_superclass_by old.now new.now before.now after.now }
+{
+    could_extend(old, new, before) && !shuts(old, new, before, after)
+}
+
+/// Whether clients could implement a usable interface of the one record, and still can as it is of
+/// the other.
+pub fn stays_interface(old: &Table, new: &Table, before: &ClassFacts, after: &ClassFacts) -> bool
+    ensures { result ≡ stays_interface_by old.now new.now before.now after.now }
+{
+    could_implement(old, new, before)
+        && !becomes_class(before, after)
+        && !shuts(old, new, before, after)
 }

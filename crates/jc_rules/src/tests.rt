@@ -1,12 +1,18 @@
 //! The verdict on a small release in which each rule finds something.
 ghost use Rattle.std.specs.Prelude.{◌≡◌, IfOk};
+ghost use Rattle.jc_acts.specs.Seats.{AreSeats};
 
+use crate::bases::{base_classes, steady_class};
 use crate::compare::compare;
+use jc_acts::seats::{Seats, seats_of};
+use jc_acts::uses::Closed;
+use jc_acts::{members, plain};
 use jc_base::items::Items;
 use jc_base::name::Name;
 use jc_facts::act::Act;
 use jc_facts::class_facts::{ClassFacts, Member};
 use jc_facts::finding::Finding;
+use jc_facts::key::Key;
 use jc_facts::link_error::LinkError;
 use jc_facts::verdict::{Note, Verdict};
 use jc_table::plain::{are_valid, names_differ};
@@ -188,5 +194,100 @@ fn a_release_against_itself(rt: HostRuntime) -> Result<(), Fail> {
     let verdict = verdict(&rt, rt.alloc(), NEW, NEW)?;
     assert!(rt; verdict.findings.as_slice().is_empty());
     assert!(rt; verdict.notes.as_slice().is_empty());
+    Ok(())
+}
+
+// ---- acts that few seats are asked about
+
+// A class, and whether it has the field `protected static int f`.
+type Holder = (Row, bool);
+
+const BEFORE: &[Holder] = &[
+    ((b"p/B", OBJECT, 0x0020), true),
+    ((b"p/C", b"p/B", 0x0021), false),
+    ((b"p/D", b"p/B", 0x0021), false),
+];
+
+const AFTER: &[Holder] = &[
+    ((b"p/B", OBJECT, 0x0020), false),
+    ((b"p/C", b"p/B", 0x0021), true),
+    ((b"p/D", b"p/B", 0x0021), false),
+];
+
+fn holder(alloc: Global, row: &Holder) -> Result<ClassFacts, AllocError> {
+    let mut class = class(alloc, &row.0)?;
+    if row.1 {
+        let mut fields = Vec::new(alloc);
+        fields.push(Member {
+            name: Name::from_bytes(alloc, b"f")?,
+            descriptor: Name::from_bytes(alloc, b"I")?,
+            flags: 0x000c,
+        })?;
+        class.fields = Items::from_vec(fields);
+    }
+    Ok(class)
+}
+
+fn holders(alloc: Global, rows: &[Holder]) -> Result<Vec<ClassFacts>, AllocError> {
+    let mut classes = Vec::new(alloc);
+    for row in rows {
+        classes.push(holder(alloc, row)?)?;
+    }
+    Ok(classes)
+}
+
+fn is_same(one: &Option<Closed>, other: &Option<Closed>) -> bool {
+    match (one, other) {
+        (None, None) => true,
+        (Some(one), Some(other)) => {
+            one.act == other.act && one.seat == other.seat && one.error == other.error
+        }
+        _ => false,
+    }
+}
+
+// Whether an act on the field, named through this class, is closed now; both programs have to say
+// the same.
+fn is_closed(
+    rt: &impl Abort,
+    old: &Table,
+    new: &Table,
+    seats: &Seats,
+    name: &[u8],
+    key: &Key,
+) -> bool
+    requires { AreSeats old.now new.now seats.now }
+{
+    let Some(id) = old.get(name) else {
+        return false;
+    };
+    let Some(class) = steady_class(old, new, id) else {
+        return false;
+    };
+    let None = old.fault_at(class.old) else {
+        return false;
+    };
+    let None = new.fault_at(class.new) else {
+        return false;
+    };
+    let few = members::closed_field(old, new, seats, &class, key);
+    let all = plain::closed_field(old, new, seats, &class, key);
+    assert!(rt; is_same(&few, &all));
+    few.is_some()
+}
+
+#[test]
+fn asking_few_seats_gives_what_asking_all_gives(rt: HostRuntime) -> Result<(), Fail> {
+    let alloc = rt.alloc();
+    let platform = classes(alloc, PLATFORM)?;
+    let old = table(&rt, alloc, platform.as_slice(), holders(alloc, BEFORE)?)?;
+    let new = table(&rt, alloc, platform.as_slice(), holders(alloc, AFTER)?)?;
+    let seats = seats_of(alloc, &old, &new, base_classes(alloc, &old, &new)?)?;
+    let key = Key {
+        name: Name::from_bytes(alloc, b"f")?,
+        descriptor: Name::from_bytes(alloc, b"I")?,
+    };
+    assert!(rt; is_closed(&rt, &old, &new, &seats, b"p/C", &key));
+    assert!(rt; is_closed(&rt, &old, &new, &seats, b"p/D", &key));
     Ok(())
 }

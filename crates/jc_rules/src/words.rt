@@ -1,12 +1,14 @@
 //! The words of the rules, asked of the tables of two sides.
 ghost use Rattle.std.specs.Prelude.{◌≡◌, ◌<◌};
 ghost use Rattle.jc_facts.specs.World.{size};
-ghost use Rattle.jc_facts.specs.Words.{is_usable as usable};
+ghost use Rattle.jc_facts.specs.Words.{is_usable as usable, is_method_key};
 ghost use Rattle.jc_table.specs.Ids.{name_at};
 ghost use Rattle.jc_rules.specs.Steps.{kept_id, becomes_class as becomes};
 
+use jc_desc::names::{is_clinit, is_init};
 use jc_facts::class_facts::ClassFacts;
 use jc_facts::flags::{is_interface, is_public};
+use jc_facts::key::Key;
 use jc_table::ids::ClassId;
 use jc_table::table::Table;
 
@@ -42,4 +44,11 @@ pub fn becomes_class(before: &ClassFacts, after: &ClassFacts) -> bool
     ensures { result ≡ becomes before.now after.now }
 {
     is_interface(before.flags) && !is_interface(after.flags)
+}
+
+/// Whether the key is that of a method which is no initializer (JVMS 2.9).
+pub fn is_method(key: &Key) -> bool
+    ensures { result ≡ is_method_key key.now }
+{
+    !(is_init(key.name.as_bytes()) || is_clinit(key.name.as_bytes()))
 }

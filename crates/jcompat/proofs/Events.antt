@@ -30,9 +30,10 @@ use Rattle.jc_facts.specs.declared.verdict.Verdict.{Verdict}
 use Rattle.jc_facts.specs.World.{side}
 use Rattle.jc_table.specs.Root.{root_fault}
 use Rattle.jc_table.specs.Sides.{first_overlap}
-use Rattle.jc_rules.specs.Built.{IsBuiltVerdict}
-use Rattle.jcompat.specs.Answers.{given, Took, Fits, count_of, AreCleanBefore, IsUnfit, IsRefused, IsAccepted, HasCause, Sides, IsVerdict, HasFailed}
-use Rattle.jcompat.proofs.OneVerdict.{one_built, one_of_sides}
+use Rattle.jc_facts.specs.Verdict.{IsVerdict}
+use Rattle.jcompat.specs.Answers.{given, Took, Fits, count_of, AreCleanBefore, IsUnfit, IsRefused, IsAccepted, HasCause, Sides, IsVerdictOn, HasFailed}
+use Rattle.jc_laws.proofs.VerdictLaw.{verdict_is_one}
+use Rattle.jcompat.proofs.OneVerdict.{one_of_sides}
 use Rattle.jcompat.specs.Written.{Refused}
 
 none_or_some : {A : Type 0} (o : Option A) (P : A → Type 0) → o ≡ None → IsSomeAnd o P → ⊥
@@ -195,7 +196,7 @@ module _ (platform old new : List ClassFacts) where
   one_unfit a stops.Memory h k = absurd k
 
   -- what goes with each other and has few findings isn't refused
-  not_unfit : Fits platform old new → ((v : Verdict) → IsBuiltVerdict (side platform old) (side platform new) v → count_of v ≤ 999999) → (stop : Stop) → IsUnfit platform old new stop → ⊥
+  not_unfit : Fits platform old new → ((v : Verdict) → IsVerdict (side platform old) (side platform new) v → count_of v ≤ 999999) → (stop : Stop) → IsUnfit platform old new stop → ⊥
   not_unfit fits few (stops.BadRoot p) h = none_some (root_fault platform) p fits.root h
   not_unfit fits few (stops.Overlap trees.Platform x) h = h
   not_unfit fits few (stops.Overlap trees.Old x) h = none_some (first_overlap platform old) x fits.old_apart h.1
@@ -268,13 +269,13 @@ not_refused words files stop a h = go (event words files stop h)
     go (at_records s k) = not_unfit a.sides.platform a.sides.old a.sides.new a.fits a.few stop (moved_unfit words files a.sides s stop k)
 
 -- a verdict is of what is accepted
-pub verdict_accepted : (words : List Bytes) (files : List FileOf) (v : Verdict) → IsVerdict words files v → IsAccepted words files
+pub verdict_accepted : (words : List Bytes) (files : List FileOf) (v : Verdict) → IsVerdictOn words files v → IsAccepted words files
 verdict_accepted words files v h =
     let s = h.compares.sides in
     record {
       sides = s;
       fits = h.compares.fits;
-      few = λ w k. subst (λ (x : Verdict). count_of x ≤ 999999) (one_built (side s.platform s.old) (side s.platform s.new) v w h.compares.exact k) h.few;
+      few = λ w k. subst (λ (x : Verdict). count_of x ≤ 999999) (verdict_is_one (side s.platform s.old) (side s.platform s.new) v w h.compares.exact k) h.few;
     }
 
 -- a cause that the words and the files alone decide, or a failed call, or want of memory

@@ -2,33 +2,15 @@
 use Rattle.std.proofs.Common.{◌≡◌, List, Some, sym, ap, subst, ◌∙◌}
 use Rattle.jc_base.specs.Outside.{FileOf}
 use Rattle.jc_facts.specs.declared.class_facts.ClassFacts.{ClassFacts}
-use Rattle.jc_facts.specs.declared.finding.Finding.{Finding}
-use Rattle.jc_facts.specs.declared.verdict.Collision.{Collision}
-use Rattle.jc_facts.specs.declared.verdict.Note.{Note}
 use Rattle.jc_facts.specs.declared.verdict.Verdict.{Verdict}
 use Rattle.jc_facts.specs.Names.{Bytes}
 use Rattle.jc_facts.specs.World.{World, side}
-use Rattle.jc_facts.specs.Orders.{finding_order, note_order}
 use Rattle.jc_facts.proofs.OneList.{one_exact}
-use Rattle.jc_laws.proofs.VerdictLaw.{finding_total, note_total, exactly_one}
-use Rattle.jc_rules.specs.Built.{IsBuiltVerdict}
+use Rattle.jc_laws.proofs.VerdictLaw.{verdict_is_one}
+use Rattle.jc_facts.specs.Verdict.{IsVerdict}
 use Rattle.jcompat.specs.Request.{Roots, asked}
 use Rattle.jcompat.specs.Classes.{path_of, IsRecordIn, AreRecords}
-use Rattle.jcompat.specs.Answers.{Sides, IsVerdict}
-
--- ---- one verdict of two sides
-
-verdict_with : List Finding → List Collision → List Note → Verdict
-verdict_with f c n = record { findings = f; collisions = c; notes = n }
-
-pub one_built : (O N : World) (v w : Verdict) → IsBuiltVerdict O N v → IsBuiltVerdict O N w → v ≡ w
-unfolding verdict_with
-one_built O N v w a b =
-    let f = exactly_one finding_order finding_total _ v.findings w.findings a.findings b.findings in
-    let c : v.collisions ≡ w.collisions = a.collisions ∙ sym b.collisions in
-    let n = exactly_one note_order note_total _ v.notes w.notes a.notes b.notes in
-    ap (λ (x : List Finding). verdict_with x v.collisions v.notes) f ∙ (ap (λ (x : List Collision). verdict_with w.findings x v.notes) c
-    ∙ ap (λ (x : List Note). verdict_with w.findings w.collisions x) n)
+use Rattle.jcompat.specs.Answers.{Sides, IsVerdictOn}
 
 -- ---- the words and the files have one record of each class
 
@@ -53,15 +35,15 @@ one_of_sides words files s t =
     }
 
 -- the verdict on one of them is the verdict on the other
-pub moved : (words : List Bytes) (files : List FileOf) (s t : Sides words files) (v : Verdict) → IsBuiltVerdict (side t.platform t.old) (side t.platform t.new) v
-    → IsBuiltVerdict (side s.platform s.old) (side s.platform s.new) v
+pub moved : (words : List Bytes) (files : List FileOf) (s t : Sides words files) (v : Verdict) → IsVerdict (side t.platform t.old) (side t.platform t.new) v
+    → IsVerdict (side s.platform s.old) (side s.platform s.new) v
 moved words files s t v h =
     let is = one_of_sides words files s t in
-    subst (λ (n : List ClassFacts). IsBuiltVerdict (side s.platform s.old) (side s.platform n) v) is.new
-    (subst (λ (o : List ClassFacts). IsBuiltVerdict (side s.platform o) (side s.platform t.new) v) is.old
-    (subst (λ (p : List ClassFacts). IsBuiltVerdict (side p t.old) (side p t.new) v) is.platform h))
+    subst (λ (n : List ClassFacts). IsVerdict (side s.platform s.old) (side s.platform n) v) is.new
+    (subst (λ (o : List ClassFacts). IsVerdict (side s.platform o) (side s.platform t.new) v) is.old
+    (subst (λ (p : List ClassFacts). IsVerdict (side p t.old) (side p t.new) v) is.platform h))
 
-pub one_verdict_of : (words : List Bytes) (files : List FileOf) (a b : Verdict) → IsVerdict words files a → IsVerdict words files b → a ≡ b
+pub one_verdict_of : (words : List Bytes) (files : List FileOf) (a b : Verdict) → IsVerdictOn words files a → IsVerdictOn words files b → a ≡ b
 one_verdict_of words files a b h k =
     let s = h.compares.sides in
-    one_built (side s.platform s.old) (side s.platform s.new) a b h.compares.exact (moved words files s k.compares.sides b k.compares.exact)
+    verdict_is_one (side s.platform s.old) (side s.platform s.new) a b h.compares.exact (moved words files s k.compares.sides b k.compares.exact)

@@ -11,7 +11,7 @@ use Rattle.jc_table.specs.declared.table.TableError.TheVariants as errors
 use Rattle.jc_table.specs.Tables.{HasCause as HasTableCause}
 use Rattle.jc_table.specs.Root.{root_fault}
 use Rattle.jc_table.specs.Sides.{first_overlap}
-use Rattle.jc_rules.specs.Built.{IsBuiltVerdict}
+use Rattle.jc_facts.specs.Verdict.{IsVerdict}
 use Rattle.jcompat.specs.declared.tree.Tree.{Tree}
 use Rattle.jcompat.specs.declared.tree.Tree.TheVariants as trees
 use Rattle.jcompat.specs.declared.stop.Stop.{Stop}
@@ -19,7 +19,7 @@ use Rattle.jcompat.specs.declared.stop.Stop.TheVariants as stops
 use Rattle.jcompat.specs.Request.{Roots, asked}
 use Rattle.jcompat.specs.Classes.{Told, IsClean}
 use Rattle.jcompat.specs.Survey.{StopsIn}
-use Rattle.jcompat.specs.Answers.{given, Sides, Fits, count_of, IsUnfit, HasCause, IsVerdict}
+use Rattle.jcompat.specs.Answers.{given, Sides, Fits, count_of, IsUnfit, HasCause, IsVerdictOn}
 use Rattle.jcompat.specs.Check.{AreSides, StopsFor, StopsComparing, StopsCounting, unfit_by}
 use Rattle.jcompat.proofs.TreeRead.{rose_since}
 
@@ -39,7 +39,7 @@ sides_of words files roots platform old new is s = record {
 
 -- what comparing the sides gives
 abbrev pub verdict_of : (words : List Bytes) (files : List FileOf) (s : Sides words files) (v : Verdict) → Fits s.platform s.old s.new
-    → IsBuiltVerdict (side s.platform s.old) (side s.platform s.new) v → count_of v ≤ 999999 → IsVerdict words files v
+    → IsVerdict (side s.platform s.old) (side s.platform s.new) v → count_of v ≤ 999999 → IsVerdictOn words files v
 verdict_of words files s v fits exact few = record { compares = record { sides = s; fits = fits; exact = exact }; few = few }
 
 -- ---- why comparing stopped

@@ -5,15 +5,17 @@ use Rattle.jc_base.specs.Causes.{Rose}
 use Rattle.jc_base.specs.Outside.{FileOf, TakesAll, TakesFront}
 use Rattle.jc_facts.specs.declared.class_facts.ClassFacts.{ClassFacts}
 use Rattle.jc_facts.specs.declared.client.ClientClass.{ClientClass}
+use Rattle.jc_facts.specs.declared.verdict.Collision.{Collision}
 use Rattle.jc_facts.specs.declared.verdict.Verdict.{Verdict}
 use Rattle.jc_facts.specs.Names.{Bytes}
-use Rattle.jc_facts.specs.World.{World, side}
-use Rattle.jc_facts.specs.Clients.{IsInScope}
-use Rattle.jc_facts.specs.Kept.{DeclareNone, KeepsTypes, BreaksClass}
+use Rattle.jc_facts.specs.World.{World, side, with_clients}
+use Rattle.jc_facts.specs.Clients.{IsInScope, Keeps, facts_of}
+use Rattle.jc_facts.specs.Kept.{BreaksClass}
+use Rattle.jc_facts.specs.Meets.{Meets}
 use Rattle.jc_facts.specs.Text.{text_of}
 use Rattle.jc_table.specs.Root.{root_fault}
 use Rattle.jc_table.specs.Sides.{first_overlap}
-use Rattle.jc_rules.specs.Built.{IsBuiltVerdict}
+use Rattle.jc_facts.specs.Verdict.{IsVerdict}
 use Rattle.jcompat.specs.Request.{Roots, root_of, asked}
 use Rattle.jcompat.specs.Classes.{Told, IsClean, IsTreeFault, AreRecords}
 use Rattle.jcompat.specs.Stop.{line_of}
@@ -76,7 +78,7 @@ count_of v = length v.findings + length v.collisions
 pub record Compares (words : List Bytes) (files : List FileOf) (v : Verdict) : Type 0 where
   pub sides : Sides words files
   pub fits : Fits sides.platform sides.old sides.new
-  pub exact : IsBuiltVerdict (old_side sides) (new_side sides) v
+  pub exact : IsVerdict (old_side sides) (new_side sides) v
 
 -- ---- events, in their order: the words; the trees in order, each by the number of its class files, their paths, and then file by file;
 -- the root of the platform; the names of the old release, then those of the new; the number of findings and collisions
@@ -92,7 +94,7 @@ abbrev pub IsUnfit : List ClassFacts → List ClassFacts → List ClassFacts →
 IsUnfit platform old new (stops.BadRoot part) = root_fault platform ≡ Some part
 IsUnfit platform old new (stops.Overlap trees.Old name) = (root_fault platform ≡ None) × (first_overlap platform old ≡ Some name)
 IsUnfit platform old new (stops.Overlap trees.New name) = (root_fault platform ≡ None) × (first_overlap platform old ≡ None) × (first_overlap platform new ≡ Some name)
-IsUnfit platform old new stops.TooManyFindings = Fits platform old new × ((v : Verdict) × IsBuiltVerdict (side platform old) (side platform new) v × (999999 < count_of v))
+IsUnfit platform old new stops.TooManyFindings = Fits platform old new × ((v : Verdict) × IsVerdict (side platform old) (side platform new) v × (999999 < count_of v))
 IsUnfit platform old new _ = ⊥
 
 -- the words and the files are refused, and this is the first cause
@@ -105,7 +107,7 @@ IsRefused words files stop = (s : Sides words files) × IsUnfit s.platform s.old
 pub record IsAccepted (words : List Bytes) (files : List FileOf) : Type 0 where
   pub sides : Sides words files
   pub fits : Fits sides.platform sides.old sides.new
-  pub few : (v : Verdict) → IsBuiltVerdict (old_side sides) (new_side sides) v → count_of v ≤ 999999
+  pub few : (v : Verdict) → IsVerdict (old_side sides) (new_side sides) v → count_of v ≤ 999999
 
 -- why there is no verdict; a call on a tree fails only where the count of its root rose, and no refusal stands in an earlier tree
 abbrev pub HasCause : Given → Stop → Type 0
@@ -118,26 +120,26 @@ HasCause g stop = Told g.content (λ files. IsRefused g.words files stop)
 -- ---- the verdict
 
 -- the verdict on what isn't refused
-pub record IsVerdict (words : List Bytes) (files : List FileOf) (v : Verdict) : Type 0 where
+pub record IsVerdictOn (words : List Bytes) (files : List FileOf) (v : Verdict) : Type 0 where
   pub compares : Compares words files v
   pub few : count_of v ≤ 999999
 
--- the whole output of a verdict
-abbrev pub output_of : Verdict → Bytes
-output_of v = codes "rules: H1 H2 H3 H4\n" ++ text_of v
+-- the clients meet none of the collisions with the old side
+abbrev pub MeetsNone : World → List ClientClass → List Collision → Type 0
+MeetsNone O cs = All (λ c. ¬ (Meets (with_clients O (facts_of cs)) cs c))
 
--- the verdict has no finding, and each client world in scope whose clients declare no method to override by keeps its loads,
--- the classes that it names and its assignments
+-- the verdict has no finding, and each client world in scope that meets none of its collisions keeps with the new release each load,
+-- and each assignment and use in reach, that held with the old
 pub record IsCompatible (words : List Bytes) (files : List FileOf) (v : Verdict) : Type 0 where
-  pub verdict : IsVerdict words files v
+  pub verdict : IsVerdictOn words files v
   pub none : v.findings ≡ []
-  pub keeps : (cs : List ClientClass) → IsInScope (old_side verdict.compares.sides) (new_side verdict.compares.sides) cs → DeclareNone cs
-      → KeepsTypes (old_side verdict.compares.sides) (new_side verdict.compares.sides) cs
+  pub keeps : (cs : List ClientClass) → IsInScope (old_side verdict.compares.sides) (new_side verdict.compares.sides) cs
+      → MeetsNone (old_side verdict.compares.sides) cs v.collisions → Keeps (old_side verdict.compares.sides) (new_side verdict.compares.sides) cs
 
 -- the verdict has a finding, and whatever client world in scope there is, each client's naming of a class that is gone, by H1, is Ok with
 -- the old release, and has the finding's error with the new
 pub record IsIncompatible (words : List Bytes) (files : List FileOf) (v : Verdict) : Type 0 where
-  pub verdict : IsVerdict words files v
+  pub verdict : IsVerdictOn words files v
   pub some : v.findings ≢ []
   pub breaks : All (λ f. f.rule ≡ 1 → BreaksClass (old_side verdict.compares.sides) (new_side verdict.compares.sides) f.class f.error) v.findings
 
@@ -145,7 +147,7 @@ pub record IsIncompatible (words : List Bytes) (files : List FileOf) (v : Verdic
 
 -- the whole output of the verdict was put, and nothing to the error stream
 pub record Reports (v : Verdict) (out err : Took) : Type 0 where
-  pub output : TakesAll out.before out.after (output_of v)
+  pub output : TakesAll out.before out.after (text_of v)
   pub errors : err.after ≡ err.before
 
 -- it stopped for this cause: its line was put to the error stream, and nothing to the output
@@ -156,8 +158,8 @@ pub record Refuses (g : Given) (stop : Stop) (out err : Took) : Type 0 where
 
 -- a verdict was due: a front of its output was put, and nothing to the error stream; a failed put was one on the output
 pub record CutsReport (g : Given) (v : Verdict) (out err : Took) (status : ℕ) : Type 0 where
-  pub due : Told g.content (λ files. IsVerdict g.words files v)
-  pub output : TakesFront out.before out.after (output_of v)
+  pub due : Told g.content (λ files. IsVerdictOn g.words files v)
+  pub output : TakesFront out.before out.after (text_of v)
   pub errors : err.after ≡ err.before
   pub cause : status ≡ 5 → Rose out.faults_before out.faults_after
 

@@ -8,7 +8,7 @@ use Rattle.jc_facts.specs.Names.{Bytes}
 use Rattle.jc_facts.specs.World.{World}
 use Rattle.jc_table.specs.declared.table.TableError.{TableError}
 use Rattle.jc_table.specs.declared.table.TableError.TheVariants as errors
-use Rattle.jc_rules.specs.Built.{IsBuiltVerdict}
+use Rattle.jc_facts.specs.Verdict.{IsVerdict}
 use Rattle.jcompat.specs.Request.{Roots, root_of}
 use Rattle.jcompat.specs.Classes.{Told, IsTreeFault, AreRecords}
 use Rattle.jcompat.specs.Answers.{AreCleanBefore, IsUnfit, count_of}
@@ -35,7 +35,7 @@ StopsComparing platform old new stop = IsUnfit platform old new stop ⊎ (stop �
 
 -- why the verdict on the sides isn't printed
 abbrev pub StopsCounting : World → World → Stop → Type 0
-StopsCounting O N stop = ((stop ≡ stops.TooManyFindings) × ((v : Verdict) × IsBuiltVerdict O N v × (999999 < count_of v))) ⊎ (stop ≡ stops.Memory)
+StopsCounting O N stop = ((stop ≡ stops.TooManyFindings) × ((v : Verdict) × IsVerdict O N v × (999999 < count_of v))) ⊎ (stop ≡ stops.Memory)
 
 -- how a table that isn't built stops the comparison
 abbrev pub unfit_by : Tree → TableError → Stop

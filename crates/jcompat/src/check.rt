@@ -3,14 +3,14 @@ ghost use Rattle.std.specs.Prelude.{◌≡◌, ◌≢◌, ◌≤◌, ◌+◌, �
 ghost use Rattle.std.specs.List.{All};
 ghost use Rattle.jc_facts.specs.declared.client.ClientClass.{ClientClass};
 ghost use Rattle.jc_facts.specs.World.{World, side};
-ghost use Rattle.jc_facts.specs.Clients.{IsInScope};
-ghost use Rattle.jc_facts.specs.Kept.{DeclareNone, KeepsTypes, BreaksClass};
-ghost use Rattle.jc_rules.specs.Built.{IsBuiltVerdict};
+ghost use Rattle.jc_facts.specs.Clients.{IsInScope, Keeps};
+ghost use Rattle.jc_facts.specs.Kept.{BreaksClass};
+ghost use Rattle.jc_facts.specs.Verdict.{IsVerdict};
 ghost use Rattle.jcompat.specs.Classes.{Told};
 ghost use Rattle.jcompat.specs.RequestView.{roots_of};
 ghost use Rattle.jcompat.specs.Survey.{IsClassList};
 ghost use Rattle.jcompat.specs.Check.{AreSides, StopsFor, StopsComparing, StopsCounting, unfit_by};
-ghost use Rattle.jcompat.specs.Answers.{given, count_of, Fits, HasCause, IsCompatible, IsIncompatible, IsVerdict};
+ghost use Rattle.jcompat.specs.Answers.{given, count_of, Fits, HasCause, IsCompatible, IsIncompatible, IsVerdictOn, MeetsNone};
 
 use crate::stop::Stop;
 use crate::survey::read_tree;
@@ -108,9 +108,9 @@ fn both_sides(
 // The verdict on two sides, unless there are too many findings.
 fn counted(alloc: Global, old: &Table, new: &Table) -> Result<Verdict, Stop>
     requires { old.now.platform ≡ new.now.platform }
-    ensures exact { IfOk result (IsBuiltVerdict old.now new.now) }
+    ensures exact { IfOk result (IsVerdict old.now new.now) }
     ensures few { IfOk result (λ v. count_of v ≤ 999999) }
-    ensures kept { IfOk result (λ v. v.findings ≡ [] → (cs : List ClientClass) → IsInScope old.now new.now cs → DeclareNone cs → KeepsTypes old.now new.now cs) }
+    ensures kept { IfOk result (λ v. v.findings ≡ [] → (cs : List ClientClass) → IsInScope old.now new.now cs → MeetsNone old.now cs v.collisions → Keeps old.now new.now cs) }
     ensures broken { IfOk result (λ v. All (λ f. f.rule ≡ 1 → BreaksClass old.now new.now f.class f.error) v.findings) }
     ensures stopped { IfErr result (StopsCounting old.now new.now) }
 {
@@ -130,10 +130,10 @@ fn compared(alloc: Global, records: Records) -> Result<Verdict, Stop>
     requires old { IsClassList records.old.items }
     requires new { IsClassList records.new.items }
     ensures fits { IfOk result (λ v. Fits records.platform.items records.old.items records.new.items) }
-    ensures exact { IfOk result (IsBuiltVerdict (side records.platform.items records.old.items) (side records.platform.items records.new.items)) }
+    ensures exact { IfOk result (IsVerdict (side records.platform.items records.old.items) (side records.platform.items records.new.items)) }
     ensures few { IfOk result (λ v. count_of v ≤ 999999) }
     ensures kept { IfOk result (λ v. v.findings ≡ [] → (cs : List ClientClass) → IsInScope (side records.platform.items records.old.items) (side records.platform.items records.new.items) cs
-        → DeclareNone cs → KeepsTypes (side records.platform.items records.old.items) (side records.platform.items records.new.items) cs) }
+        → MeetsNone (side records.platform.items records.old.items) cs v.collisions → Keeps (side records.platform.items records.old.items) (side records.platform.items records.new.items) cs) }
     ensures broken { IfOk result (λ v. All (λ f. f.rule ≡ 1
         → BreaksClass (side records.platform.items records.old.items) (side records.platform.items records.new.items) f.class f.error) v.findings) }
     ensures stopped { IfErr result (StopsComparing records.platform.items records.old.items records.new.items) }
@@ -153,7 +153,7 @@ fn compared(alloc: Global, records: Records) -> Result<Verdict, Stop>
 pub fn check<T: Trees>(alloc: Global, words: &[Text], trees: &mut T) -> Result<Verdict, Stop>
     ensures compatible { IfOk result (λ v. v.findings ≡ [] → Told (T.content trees.old) (λ files. IsCompatible words.now files v)) }
     ensures incompatible { IfOk result (λ v. v.findings ≢ [] → Told (T.content trees.old) (λ files. IsIncompatible words.now files v)) }
-    ensures verdict { IfOk result (λ v. Told (T.content trees.old) (λ files. IsVerdict words.now files v)) }
+    ensures verdict { IfOk result (λ v. Told (T.content trees.old) (λ files. IsVerdictOn words.now files v)) }
     ensures stopped { IfErr result (HasCause (given words.now (T.content trees.old) (T.faults trees.old) (T.faults trees.new))) }
     ensures content { T.content trees.new ≡ T.content trees.old }
 {

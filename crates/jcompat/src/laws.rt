@@ -5,7 +5,7 @@ ghost use Rattle.jc_base.specs.Outside.{FileOf};
 ghost use Rattle.jc_facts.specs.declared.verdict.Verdict.{Verdict};
 ghost use Rattle.jcompat.specs.Classes.{Told};
 ghost use Rattle.jcompat.specs.Stop.{status_of};
-ghost use Rattle.jcompat.specs.Answers.{given, Reports, Refuses, IsRefused, IsAccepted, IsVerdict, IsCompatible, IsIncompatible};
+ghost use Rattle.jcompat.specs.Answers.{given, Reports, Refuses, IsRefused, IsAccepted, IsVerdictOn, IsCompatible, IsIncompatible};
 ghost use Rattle.jcompat.specs.Surely.{surely};
 ghost use Rattle.jcompat.specs.declared.stop.Stop.{Stop};
 
@@ -29,7 +29,7 @@ pub fn refused_or_accepted()
 
 /// Words and files have at most one verdict.
 pub fn one_verdict()
-    ensures { (words : List (List ℕ)) (files : List FileOf) (a b : Verdict) → IsVerdict words files a → IsVerdict words files b → a ≡ b }
+    ensures { (words : List (List ℕ)) (files : List FileOf) (a b : Verdict) → IsVerdictOn words files a → IsVerdictOn words files b → a ≡ b }
 {}
 
 /// The top call over trees and sinks that don't fail. Only want of memory stands in the way of its

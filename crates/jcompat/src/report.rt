@@ -1,6 +1,6 @@
 //! Writing the verdict, or why there is none.
-ghost use Rattle.std.specs.Prelude.{◌≡◌, ◌≢◌, ◌≤◌, ◌⊎◌, [], codes, ◌++◌, IfOk};
-ghost use Rattle.jcompat.specs.Answers.{took, output_of};
+ghost use Rattle.std.specs.Prelude.{◌≡◌, ◌≢◌, ◌≤◌, ◌⊎◌, []};
+ghost use Rattle.jcompat.specs.Answers.{took};
 ghost use Rattle.jcompat.specs.Written.{Reported, Refused};
 
 use crate::put::put_lines;
@@ -8,29 +8,16 @@ use crate::stop::Stop;
 use jc_base::sink::{Sink, SinkError};
 use jc_facts::verdict::Verdict;
 use jc_report::text::text;
-use jc_rules::built;
-use std::alloc::{AllocError, Global};
+use std::alloc::Global;
 
-// The whole output of a verdict.
-fn output(alloc: Global, verdict: &Verdict) -> Result<Vec<u8>, AllocError>
-    ensures { IfOk result (λ text. text.items ≡ output_of verdict.now) }
-{
-    let mut output = Vec::from_slice(alloc, b"rules: ")?;
-    output.extend_from_slice(built().as_bytes())?;
-    output.extend_from_slice(b"\n")?;
-    let text = text(alloc, verdict)?;
-    output.extend_from_slice(text.as_slice())?;
-    Ok(output)
-}
-
-/// Puts the output of a verdict, line by line, and answers the status.
+/// Puts the text of a verdict, line by line, and answers the status.
 pub fn report<O: Sink>(alloc: Global, verdict: &Verdict, out: &mut O) -> u8
     ensures { Reported verdict.now (took (O.taken out.old) (O.taken out.new) (O.faults out.old) (O.faults out.new)) result }
 {
-    let Ok(output) = output(alloc, verdict) else {
+    let Ok(text) = text(alloc, verdict) else {
         return 6;
     };
-    match put_lines(output.as_slice(), out) {
+    match put_lines(text.as_slice(), out) {
         Ok(()) if verdict.findings.as_slice().is_empty() => 0,
         Ok(()) => 1,
         Err(SinkError::Fault) => 5,

@@ -32,11 +32,11 @@ pub fn run<T: Trees, O: Sink, E: Sink>(
 ) -> u8
     ensures known { (result ≡ 0) ⊎ (result ≡ 1) ⊎ (result ≡ 2) ⊎ (result ≡ 3) ⊎ (result ≡ 4) ⊎ (result ≡ 5) ⊎ (result ≡ 6) ⊎ (result ≡ 7) }
 
-    // No rule on classes and types finds anything, and clients keep their loads, the classes that they name and their assignments.
+    // There is no finding, and each client world in scope that meets none of the collisions keeps what held with the old release.
     ensures compatible { result ≡ 0 → (v : Verdict) × Told (T.content trees.old) (λ files. IsCompatible words.now files v)
         × Reports v (took (O.taken out.old) (O.taken out.new) (O.faults out.old) (O.faults out.new)) (took (E.taken err.old) (E.taken err.new) (E.faults err.old) (E.faults err.new)) }
 
-    // There are findings, and whoever names a class that is gone has the printed error.
+    // There are findings, and whoever names a class that is gone has the error of its finding.
     ensures incompatible { result ≡ 1 → (v : Verdict) × Told (T.content trees.old) (λ files. IsIncompatible words.now files v)
         × Reports v (took (O.taken out.old) (O.taken out.new) (O.faults out.old) (O.faults out.new)) (took (E.taken err.old) (E.taken err.new) (E.faults err.old) (E.faults err.new)) }
 

@@ -18,6 +18,8 @@ use std::fs;
 use std::process::Abort;
 use std::test::Fail;
 
+mod members;
+
 const WORDS: &[&str] = &["check", "--platform", "P", "--old", "O", "--new", "N"];
 
 const OBJECT: &[u8] = b"java/lang/Object";
@@ -25,12 +27,16 @@ const OBJECT: &[u8] = b"java/lang/Object";
 const PUBLIC: u16 = 0x21;
 
 /// A field or a method: its flags, name and descriptor.
-type Member = (u16, &'static [u8], &'static [u8]);
+type Member<'a> = (u16, &'a [u8], &'a [u8]);
 
-const INIT: Member = (0x01, b"<init>", b"()V");
+/// The name of a field, and the number that is its constant value.
+type Constant = (&'static [u8], u16);
 
-/// A class without code (JVMS 4.1). Where the superclass is empty it has none, and where permitted
-/// names are given it has them.
+const INIT: Member<'static> = (0x01, b"<init>", b"()V");
+
+/// A class without code (JVMS 4.1). Where the superclass is empty it has none, as with the nest host
+/// and the nest members. Where permitted names are given it has them, and a field of the constant's
+/// name has its value.
 #[derive(Clone, Copy)]
 struct Class<'a, 'b> {
     major: u16,
@@ -38,9 +44,12 @@ struct Class<'a, 'b> {
     name: &'a [u8],
     superclass: &'b [u8],
     interfaces: &'static [&'static [u8]],
-    fields: &'static [Member],
-    methods: &'static [Member],
+    fields: &'static [Member<'static>],
+    methods: &'b [Member<'b>],
     permits: Option<&'static [&'static [u8]]>,
+    nest_host: &'static [u8],
+    nest_members: &'static [&'static [u8]],
+    constant: Option<Constant>,
 }
 
 /// `public class java/lang/Object { public <init>()V }`.
@@ -53,6 +62,9 @@ const ROOT_CLASS: Class<'static, 'static> = Class {
     fields: &[],
     methods: &[INIT],
     permits: None,
+    nest_host: b"",
+    nest_members: &[],
+    constant: None,
 };
 
 /// What stands in a file.
@@ -63,7 +75,7 @@ enum Content {
     /// `public class NAME extends SUPERCLASS { public <init>()V }`.
     Sub(&'static [u8], &'static [u8]),
     /// A class of this name, flags and methods.
-    With(&'static [u8], u16, &'static [Member]),
+    With(&'static [u8], u16, &'static [Member<'static>]),
     /// `public interface NAME {}`.
     Interface(&'static [u8]),
     /// The same of major 61, which permits these names.
@@ -113,21 +125,42 @@ fn interface(name: &'static [u8]) -> Class<'static, 'static> {
     }
 }
 
+const FINAL_ROOT: Class<'static, 'static> = Class {
+    flags: 0x31,
+    ..ROOT_CLASS
+};
+
+const ROOT_WITH_INTERFACE: Class<'static, 'static> = Class {
+    interfaces: &[b"p/I"],
+    ..ROOT_CLASS
+};
+
+const ROOT_WITH_FIELD: Class<'static, 'static> = Class {
+    fields: &[(0x01, b"f", b"I")],
+    ..ROOT_CLASS
+};
+
+const SEALED_ROOT: Class<'static, 'static> = Class {
+    major: 61,
+    permits: Some(&[b"p/A"]),
+    ..ROOT_CLASS
+};
+
+const ROOT_WITHOUT_INIT: Class<'static, 'static> = Class {
+    methods: &[(0x04, b"<init>", b"()V")],
+    ..ROOT_CLASS
+};
+
 // A `java/lang/Object` of which this part isn't as it has to be.
 fn spoilt(part: RootPart) -> Class<'static, 'static> {
-    let mut class = ROOT_CLASS;
     match part {
-        RootPart::Missing | RootPart::Super => {}
-        RootPart::Flags => class.flags = 0x31,
-        RootPart::Interfaces => class.interfaces = &[b"p/I"],
-        RootPart::Fields => class.fields = &[(0x01, b"f", b"I")],
-        RootPart::Permits => {
-            class.major = 61;
-            class.permits = Some(&[b"p/A"]);
-        }
-        RootPart::Init => class.methods = &[(0x04, b"<init>", b"()V")],
+        RootPart::Missing | RootPart::Super => ROOT_CLASS,
+        RootPart::Flags => FINAL_ROOT,
+        RootPart::Interfaces => ROOT_WITH_INTERFACE,
+        RootPart::Fields => ROOT_WITH_FIELD,
+        RootPart::Permits => SEALED_ROOT,
+        RootPart::Init => ROOT_WITHOUT_INIT,
     }
-    class
 }
 
 /// A constant pool that is made (JVMS 4.4).
@@ -184,35 +217,102 @@ impl Pool {
         Ok(())
     }
 
-    // The count of members, and each without attributes.
-    fn push_members(&mut self, to: &mut Vec<u8>, members: &[Member]) -> Result<(), AllocError> {
+    // Begins an attribute of so many bytes (JVMS 4.7).
+    fn push_attribute(
+        &mut self,
+        to: &mut Vec<u8>,
+        name: &[u8],
+        len: u16,
+    ) -> Result<(), AllocError> {
+        let name = self.text(name)?;
+        push_number(to, name)?;
+        push_number(to, 0)?;
+        push_number(to, len)
+    }
+
+    // The attributes of a member: its value, where it is the constant.
+    fn push_value(
+        &mut self,
+        to: &mut Vec<u8>,
+        member: &[u8],
+        constant: Option<Constant>,
+    ) -> Result<(), AllocError> {
+        let Some((name, value)) = constant else {
+            return push_number(to, 0);
+        };
+        if name != member {
+            return push_number(to, 0);
+        }
+        push_number(to, 1)?;
+        self.push_attribute(to, b"ConstantValue", 2)?;
+        self.bytes.extend_from_slice(b"\x03\0\0")?;
+        push_number(&mut self.bytes, value)?;
+        push_number(to, self.end())
+    }
+
+    // The count of members, and each without attributes but for the constant's value.
+    fn push_members(
+        &mut self,
+        to: &mut Vec<u8>,
+        members: &[Member<'_>],
+        constant: Option<Constant>,
+    ) -> Result<(), AllocError> {
         push_number(to, count(members))?;
         for (flags, name, descriptor) in members {
             push_number(to, *flags)?;
-            let name = self.text(name)?;
-            push_number(to, name)?;
+            let index = self.text(name)?;
+            push_number(to, index)?;
             let descriptor = self.text(descriptor)?;
             push_number(to, descriptor)?;
-            push_number(to, 0)?;
+            self.push_value(to, name, constant)?;
         }
         Ok(())
     }
 
-    // The attributes of a class: the names that it permits, where they are given.
+    // An attribute that lists classes.
+    fn push_list(
+        &mut self,
+        to: &mut Vec<u8>,
+        name: &[u8],
+        names: &[&[u8]],
+    ) -> Result<(), AllocError> {
+        self.push_attribute(to, name, count(names).saturating_mul(2).saturating_add(2))?;
+        self.push_classes(to, names)
+    }
+
+    // The attributes of a class: its nest host or its nest members, and the names that it permits.
     fn push_attributes(
         &mut self,
         to: &mut Vec<u8>,
-        permits: Option<&[&[u8]]>,
+        class: &Class<'_, '_>,
     ) -> Result<(), AllocError> {
-        let Some(names) = permits else {
-            return push_number(to, 0);
-        };
-        push_number(to, 1)?;
-        let name = self.text(b"PermittedSubclasses")?;
-        push_number(to, name)?;
-        push_number(to, 0)?;
-        push_number(to, count(names).saturating_mul(2).saturating_add(2))?;
-        self.push_classes(to, names)
+        push_number(to, attributes_of(class))?;
+        if !class.nest_host.is_empty() {
+            self.push_attribute(to, b"NestHost", 2)?;
+            let host = self.class(class.nest_host)?;
+            push_number(to, host)?;
+        }
+        if !class.nest_members.is_empty() {
+            self.push_list(to, b"NestMembers", class.nest_members)?;
+        }
+        if let Some(names) = class.permits {
+            self.push_list(to, b"PermittedSubclasses", names)?;
+        }
+        Ok(())
+    }
+}
+
+// How many attributes the class has.
+fn attributes_of(class: &Class<'_, '_>) -> u16 {
+    let nest: u16 = if class.nest_host.is_empty() && class.nest_members.is_empty() {
+        0
+    } else {
+        1
+    };
+    if class.permits.is_some() {
+        nest.saturating_add(1)
+    } else {
+        nest
     }
 }
 
@@ -229,9 +329,9 @@ fn class_file(alloc: Global, class: &Class<'_, '_>) -> Result<Vec<u8>, AllocErro
     let superclass = pool.class(class.superclass)?;
     push_number(&mut body, superclass)?;
     pool.push_classes(&mut body, class.interfaces)?;
-    pool.push_members(&mut body, class.fields)?;
-    pool.push_members(&mut body, class.methods)?;
-    pool.push_attributes(&mut body, class.permits)?;
+    pool.push_members(&mut body, class.fields, class.constant)?;
+    pool.push_members(&mut body, class.methods, None)?;
+    pool.push_attributes(&mut body, class)?;
     let mut file = Vec::from_slice(alloc, b"\xca\xfe\xba\xbe\0\0")?;
     push_number(&mut file, class.major)?;
     push_number(&mut file, pool.next)?;
@@ -296,9 +396,9 @@ fn texts(alloc: Global, words: &[&str]) -> Result<Vec<Text>, AllocError> {
     Ok(texts)
 }
 
-const SAME: &str = "rules: H1 H2 H3 H4\ncompatible: 0 findings, 0 collisions, 0 notes\n";
+const SAME: &str = "compatible: 0 findings, 0 collisions, 0 notes\n";
 
-const PRIVATE_INIT: &[Member] = &[(0x02, b"<init>", b"()V")];
+const PRIVATE_INIT: &[Member<'static>] = &[(0x02, b"<init>", b"()V")];
 
 const ROWS: &[Row] = &[
     (
@@ -328,14 +428,14 @@ const ROWS: &[Row] = &[
             ("N", "p/A$B.class", With(b"p/A$B", 0x20, &[INIT])),
         ],
         1,
-        "rules: H1 H2 H3 H4\n1 H1 p/A - class - NoClassDefFoundError\n2 H1 p/A$B - class - IllegalAccessError\nincompatible: 2 findings, 0 collisions, 0 notes\n",
+        "1 H1 p/A - class - NoClassDefFoundError\n2 H1 p/A$B - class - IllegalAccessError\nincompatible: 2 findings, 0 collisions, 0 notes\n",
         "",
     ),
     (
         "a name that is escaped",
         &[ROOT, ("O", "p/\\ é.class", Plain(b"p/\\ \xc3\xa9"))],
         1,
-        "rules: H1 H2 H3 H4\n1 H1 p/\\\\\\x20\\xc3\\xa9 - class - NoClassDefFoundError\nincompatible: 1 findings, 0 collisions, 0 notes\n",
+        "1 H1 p/\\\\\\x20\\xc3\\xa9 - class - NoClassDefFoundError\nincompatible: 1 findings, 0 collisions, 0 notes\n",
         "",
     ),
     (
@@ -357,7 +457,7 @@ const ROWS: &[Row] = &[
             ("N", "p/A.class", With(b"p/A", 0x31, &[INIT])),
         ],
         1,
-        "rules: H1 H2 H3 H4\n1 H2 p/A - extend - IncompatibleClassChangeError\nincompatible: 1 findings, 0 collisions, 0 notes\n",
+        "1 H2 p/A - extend - IncompatibleClassChangeError\nincompatible: 1 findings, 0 collisions, 0 notes\n",
         "",
     ),
     (
@@ -368,7 +468,7 @@ const ROWS: &[Row] = &[
             ("N", "p/S.class", Sealed(b"p/S", &[b"q/C"])),
         ],
         1,
-        "rules: H1 H2 H3 H4\n1 H2 p/S - implement - IncompatibleClassChangeError\nincompatible: 1 findings, 0 collisions, 0 notes\n",
+        "1 H2 p/S - implement - IncompatibleClassChangeError\nincompatible: 1 findings, 0 collisions, 0 notes\n",
         "",
     ),
     (
@@ -379,7 +479,7 @@ const ROWS: &[Row] = &[
             ("N", "p/I.class", Plain(b"p/I")),
         ],
         1,
-        "rules: H1 H2 H3 H4\n1 H3 p/I - assign - VerifyError\nincompatible: 1 findings, 0 collisions, 0 notes\n",
+        "1 H3 p/I - assign - VerifyError\nincompatible: 1 findings, 0 collisions, 0 notes\n",
         "",
     ),
     (
@@ -390,7 +490,7 @@ const ROWS: &[Row] = &[
             ("N", "p/A.class", Sub(b"p/A", b"x/Gone")),
         ],
         1,
-        "rules: H1 H2 H3 H4\n1 H1 p/A - class - NoClassDefFoundError\nnote unloadable new p/A NoClassDefFoundError\nincompatible: 1 findings, 0 collisions, 1 notes\n",
+        "1 H1 p/A - class - NoClassDefFoundError\nnote unloadable new p/A NoClassDefFoundError\nincompatible: 1 findings, 0 collisions, 1 notes\n",
         "",
     ),
     (
@@ -403,7 +503,7 @@ const ROWS: &[Row] = &[
             ("N", "p/B.class", Plain(b"p/B")),
         ],
         1,
-        "rules: H1 H2 H3 H4\n1 H4 p/A p/B assign - VerifyError\nincompatible: 1 findings, 0 collisions, 0 notes\n",
+        "1 H4 p/A p/B assign - VerifyError\nincompatible: 1 findings, 0 collisions, 0 notes\n",
         "",
     ),
     (
@@ -416,14 +516,14 @@ const ROWS: &[Row] = &[
             ("N", "p/B.class", Sub(b"p/B", b"p/A")),
         ],
         0,
-        "rules: H1 H2 H3 H4\nnote unloadable old p/A ClassCircularityError\nnote unloadable old p/B ClassCircularityError\nnote unloadable new p/A ClassCircularityError\nnote unloadable new p/B ClassCircularityError\ncompatible: 0 findings, 0 collisions, 4 notes\n",
+        "note unloadable old p/A ClassCircularityError\nnote unloadable old p/B ClassCircularityError\nnote unloadable new p/A ClassCircularityError\nnote unloadable new p/B ClassCircularityError\ncompatible: 0 findings, 0 collisions, 4 notes\n",
         "",
     ),
     (
         "a class that extends itself",
         &[ROOT, ("O", "p/A.class", Sub(b"p/A", b"p/A"))],
         0,
-        "rules: H1 H2 H3 H4\nnote unloadable old p/A ClassCircularityError\ncompatible: 0 findings, 0 collisions, 1 notes\n",
+        "note unloadable old p/A ClassCircularityError\ncompatible: 0 findings, 0 collisions, 1 notes\n",
         "",
     ),
     (
@@ -606,12 +706,12 @@ const FAILURES: &[Failure] = &[
         "",
         "jcompat: new: read fault\n",
     ),
-    (&[ROOT], [&[], &[1], &[]], 5, "rules: H1", ""),
+    (&[ROOT], [&[], &[1], &[]], 5, "compatible: 0 findings,", ""),
     (
-        &[ROOT],
+        &[ROOT, ("O", "p/A.class", Plain(b"p/A"))],
         [&[], &[2], &[]],
         5,
-        "rules: H1 H2 H3 H4\ncompatible: 0 findings,",
+        "1 H1 p/A - class - NoClassDefFoundError\nincompatible: 1 findings",
         "",
     ),
     (&[], [&[], &[], &[1]], 5, "", "jcompat: platform:"),

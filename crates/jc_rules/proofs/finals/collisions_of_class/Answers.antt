@@ -1,0 +1,20 @@
+use Rattle.std.proofs.Common.{◌≡◌, subst}
+use Rattle.std.proofs.lemmas.Result.{IfOk-weaker}
+use Rattle.std.specs.List.{filter_map}
+use Rattle.jc_facts.specs.Names.{Bytes}
+use Rattle.jc_facts.specs.Orders.{collision_order, HasExactly}
+use Rattle.jc_facts.specs.Words.{finals}
+use Rattle.jc_table.specs.Ids.{name_at}
+use Rattle.jc_rules.specs.Finals.{final_collision, OfFinal}
+use Rattle.jc_rules.specs.Keys.{HasEach}
+use Rattle.jc_rules.proofs.NewFinals.{clashes_exact}
+use Rattle.jc_rules.proofs.finals.collisions_of_class.Goals as goal
+
+pub returns : goal.returns
+returns c =
+    let O = c.args.old.now in
+    let N = c.args.new.now in
+    let x : Bytes = name_at c.args.old.now c.args.class.old in
+    let has : HasEach (finals c.args.new.now x) c.in_ok-keys.keys = subst (λ (y : Bytes). HasEach (finals c.args.new.now y) c.in_ok-keys.keys) c.requires.class.new_name c.in_ok-keys.ensures in
+    IfOk-weaker c.collisions_of.result (λ found. found.items ≡ filter_map (final_collision O N x) c.in_ok-keys.keys.keys) (λ found. HasExactly collision_order (OfFinal O N x) found.items)
+    (λ found e. clashes_exact O N x c.requires.base c.in_ok-keys.keys found.items has e) c.collisions_of.ensures

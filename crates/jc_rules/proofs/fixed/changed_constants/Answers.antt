@@ -1,0 +1,23 @@
+use Rattle.std.proofs.Common.{◌≡◌, ◌<◌, ◌≤◌, sym, subst, ◌∙◌, nat_lt, arith}
+use Rattle.jc_facts.specs.Orders.{note_order, HasExactly}
+use Rattle.jc_facts.specs.World.{size}
+use Rattle.jc_table.specs.Ids.{name_at}
+use Rattle.jc_rules.specs.Constants.{IsLostOf}
+use Rattle.jc_rules.proofs.Loops.{number_is}
+use Rattle.jc_rules.proofs.LostConstants.{lost_start, lost_more, lost_all}
+use Rattle.jc_rules.proofs.fixed.changed_constants.Goals as goal
+
+pub loop-n-init : goal.loop-n-init
+loop-n-init c = lost_start c.args.old.now c.args.new.now c.count-n-end.ensures.side c.new-notes.result.items c.new-notes.ensures.items
+
+pub loop-n-preserved : goal.loop-n-preserved
+loop-n-preserved c =
+    let l : c.loop-n.n < size c.args.old.now = omega (arith, c.count-n-end.ensures.count) in
+    let k : c.in-Some.id ≡ c.loop-n.n = number_is (nat_lt c.loop-n.n (size c.args.old.now)) c.loop-n.n c.in-Some.id (sym c.id.ensures.value ∙ c.in-Some.is) in
+    lost_more c.args.old.now c.args.new.now c.count-n-end.ensures.side c.loop-n.n c.loop-n.notes.items c.in_ok-lost_of.field-0.items c.append.new.self.items l c.loop-n.invariant
+    (subst (λ i. HasExactly note_order (IsLostOf c.args.old.now c.args.new.now (name_at c.args.old.now i)) c.in_ok-lost_of.field-0.items) k c.in_ok-lost_of.ensures) c.in_ok-append.ensures.items
+
+pub returns : goal.returns
+returns c =
+    let l : size c.args.old.now ≤ c.loop-n.n = omega (arith, c.count-n-end.ensures.count) in
+    lost_all c.args.old.now c.args.new.now c.count-n-end.ensures.side c.loop-n.n c.loop-n.notes.items l c.loop-n.invariant
