@@ -1,0 +1,5 @@
+package shapes;
+
+/** What paints shapes. It is a brush no more. */
+public interface Painter {
+}

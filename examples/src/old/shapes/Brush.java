@@ -1,0 +1,6 @@
+package shapes;
+
+/** What paints. */
+public interface Brush {
+    void paint();
+}

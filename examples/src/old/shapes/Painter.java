@@ -1,0 +1,5 @@
+package shapes;
+
+/** What paints shapes. */
+public interface Painter extends Brush {
+}
