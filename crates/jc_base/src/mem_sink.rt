@@ -1,6 +1,6 @@
 //! A sink in memory, whose calls fail by a list.
 ghost use Rattle.std.specs.Prelude.{◌≡◌, ◌≤◌, ◌<◌, ◌+◌, ◌/◌, ◌^◌, ◌++◌, Some, [], true, false, length, take, OnOk, OnErr, IsErrOf, IsOkUnless, ◌⊎◌};
-ghost use Rattle.jc_base.specs.Causes.{Rose};
+ghost use Rattle.jc_base.specs.Causes.{Rose, RoseByOne};
 ghost use Rattle.jc_base.specs.Outside.{TakesAll, TakesFront};
 ghost use Rattle.jc_base.specs.Schedule.{Plan, fails_next, after_call};
 
@@ -63,11 +63,17 @@ impl Sink for MemSink {
         ensures bounded { faults_of self.new < 2 ^ 64 }
         ensures cause { IsErrOf result SinkError.Fault → Rose (faults_of self.old) (faults_of self.new) }
 
-        // Which calls fail, and what a failing one takes.
+        // A fault is counted once, and nothing else is counted.
+        ensures by_one { IsErrOf result SinkError.Fault → RoseByOne (faults_of self.old) (faults_of self.new) }
+        ensures still { OnOk result (faults_of self.new ≡ faults_of self.old) }
+        ensures uncounted { IsErrOf result SinkError.Memory → faults_of self.new ≡ faults_of self.old }
+
+        // Which calls fail, and what a failing one takes. It wants memory only where the half isn't empty.
         ensures counted { plan_of self.new ≡ after_call (plan_of self.old) }
         ensures taken_half { IsErrOf result SinkError.Fault
             → bytes_of self.new ≡ bytes_of self.old ++ take (length bytes.now / 2) bytes.now }
         ensures fails { fails_next (plan_of self.old) ≡ true → IsErrOf result SinkError.Fault ⊎ IsErrOf result SinkError.Memory }
+        ensures needs_no_memory { fails_next (plan_of self.old) ≡ true → length bytes.now < 2 → IsErrOf result SinkError.Fault }
         ensures succeeds { fails_next (plan_of self.old) ≡ false → IsOkUnless result SinkError.Memory }
     {
         let _faults = self.faults;

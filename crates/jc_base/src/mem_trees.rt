@@ -1,6 +1,6 @@
 //! Trees in memory, whose calls fail by a list.
-ghost use Rattle.std.specs.Prelude.{◌≡◌, ◌≤◌, ◌<◌, ◌+◌, ◌^◌, ◌⊎◌, ℕ, List, Some, true, false, length, IfOk, IsErrOf, IsOkUnless, IsTrue};
-ghost use Rattle.jc_base.specs.Causes.{Rose};
+ghost use Rattle.std.specs.Prelude.{◌≡◌, ◌≤◌, ◌<◌, ◌+◌, ◌^◌, ◌⊎◌, ℕ, List, Some, true, false, length, IfOk, OnOk, IsErrOf, IsOkUnless, IsTrue};
+ghost use Rattle.jc_base.specs.Causes.{Rose, RoseByOne, KeepsCounts, KeepsOtherCounts};
 ghost use Rattle.jc_base.specs.Outside.{Lists, Holds, ReadsFront, are_distinct, are_files};
 ghost use Rattle.jc_base.specs.MemFile.{files_of};
 ghost use Rattle.jc_base.specs.Schedule.{Plan, fails_next, after_call};
@@ -51,7 +51,10 @@ impl MemTrees {
         ensures files { held_by self.new ≡ held_by self.old }
         ensures plan { plan_of self.new ≡ plan_of self.old }
         ensures never_falls { (r : List ℕ) → faults_at self.old r ≤ faults_at self.new r }
-        ensures cause { result ≡ TreeError.Fault → Rose (faults_at self.old root.now) (faults_at self.new root.now) }
+        ensures by_one { result ≡ TreeError.Fault → RoseByOne (faults_at self.old root.now) (faults_at self.new root.now) }
+        ensures others { KeepsOtherCounts root.now (faults_at self.old) (faults_at self.new) }
+        ensures uncounted { result ≡ TreeError.Memory → KeepsCounts (faults_at self.old) (faults_at self.new) }
+        ensures needs_no_memory { 0 < faults_at self.old root.now → result ≡ TreeError.Fault }
     {
         match self.failed.raise(alloc, root) {
             Ok(()) => TreeError::Fault,
@@ -76,9 +79,16 @@ impl Trees for MemTrees {
         ensures bounded { (r : List ℕ) → faults_at self.new r < 2 ^ 64 }
         ensures cause { IsErrOf result TreeError.Fault → Rose (faults_at self.old root.now) (faults_at self.new root.now) }
 
-        // Which calls fail.
+        // A fault is counted once, on its root alone, and nothing else is counted.
+        ensures by_one { IsErrOf result TreeError.Fault → RoseByOne (faults_at self.old root.now) (faults_at self.new root.now) }
+        ensures others { KeepsOtherCounts root.now (faults_at self.old) (faults_at self.new) }
+        ensures still { OnOk result (KeepsCounts (faults_at self.old) (faults_at self.new)) }
+        ensures uncounted { IsErrOf result TreeError.Memory → KeepsCounts (faults_at self.old) (faults_at self.new) }
+
+        // Which calls fail. One that is to fail wants memory only for a root that never failed before.
         ensures counted { plan_of self.new ≡ after_call (plan_of self.old) }
         ensures fails { fails_next (plan_of self.old) ≡ true → IsErrOf result TreeError.Fault ⊎ IsErrOf result TreeError.Memory }
+        ensures needs_no_memory { fails_next (plan_of self.old) ≡ true → 0 < faults_at self.old root.now → IsErrOf result TreeError.Fault }
         ensures succeeds { fails_next (plan_of self.old) ≡ false → IsOkUnless result TreeError.Memory }
     {
         if self.schedule.next_fails() {
@@ -106,9 +116,16 @@ impl Trees for MemTrees {
         ensures bounded { (r : List ℕ) → faults_at self.new r < 2 ^ 64 }
         ensures cause { IsErrOf result TreeError.Fault → Rose (faults_at self.old root.now) (faults_at self.new root.now) }
 
-        // Which calls fail.
+        // A fault is counted once, on its root alone, and nothing else is counted.
+        ensures by_one { IsErrOf result TreeError.Fault → RoseByOne (faults_at self.old root.now) (faults_at self.new root.now) }
+        ensures others { KeepsOtherCounts root.now (faults_at self.old) (faults_at self.new) }
+        ensures still { OnOk result (KeepsCounts (faults_at self.old) (faults_at self.new)) }
+        ensures uncounted { IsErrOf result TreeError.Memory → KeepsCounts (faults_at self.old) (faults_at self.new) }
+
+        // Which calls fail. One that is to fail wants memory only for a root that never failed before.
         ensures counted { plan_of self.new ≡ after_call (plan_of self.old) }
         ensures fails { fails_next (plan_of self.old) ≡ true → IsErrOf result TreeError.Fault ⊎ IsErrOf result TreeError.Memory }
+        ensures needs_no_memory { fails_next (plan_of self.old) ≡ true → 0 < faults_at self.old root.now → IsErrOf result TreeError.Fault }
         ensures succeeds { fails_next (plan_of self.old) ≡ false → IsOkUnless result TreeError.Memory }
     {
         if self.schedule.next_fails() {

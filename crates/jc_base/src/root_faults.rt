@@ -1,7 +1,7 @@
 //! A count of faults for each root.
-ghost use Rattle.std.specs.Prelude.{◌≡◌, ◌≤◌, ◌<◌, ◌^◌, OnOk, List, ℕ, unwrap_or};
+ghost use Rattle.std.specs.Prelude.{◌≡◌, ◌≤◌, ◌<◌, ◌^◌, OnOk, OnErr, IsOk, List, ℕ, unwrap_or};
 ghost use Rattle.std.specs.BTreeMap.{get_by_text};
-ghost use Rattle.jc_base.specs.Causes.{Rose};
+ghost use Rattle.jc_base.specs.Causes.{RoseByOne, KeepsCounts, KeepsOtherCounts};
 
 use std::alloc::{AllocError, Global};
 use std::collections::BTreeMap;
@@ -32,14 +32,21 @@ impl RootFaults {
         self.counts.get(root).copied().unwrap_or(0)
     }
 
-    /// Counts a failed call on the root. For want of memory nothing is counted.
+    /// Counts a failed call on the root. For want of memory nothing is counted; memory is wanted only
+    /// where no call on the root has failed before.
     pub fn raise(&mut self, alloc: Global, root: &str) -> Result<(), AllocError>
-        ensures rose { OnOk result (Rose (count_at self.old root.now) (count_at self.new root.now)) }
+        ensures by_one { OnOk result (RoseByOne (count_at self.old root.now) (count_at self.new root.now)) }
+        ensures others { KeepsOtherCounts root.now (count_at self.old) (count_at self.new) }
+        ensures uncounted { OnErr result (KeepsCounts (count_at self.old) (count_at self.new)) }
+        ensures needs_no_memory { 0 < count_at self.old root.now → IsOk result }
         ensures never_falls { (other : List ℕ) → count_at self.old other ≤ count_at self.new other }
     {
-        let count = self.count(root).saturating_add(1);
+        if let Some(count) = self.counts.get_mut(root) {
+            *count = count.saturating_add(1);
+            return Ok(());
+        }
         let key = String::from_str(alloc, root)?;
-        self.counts.insert(key, count)?;
+        self.counts.insert(key, 1)?;
         Ok(())
     }
 }
