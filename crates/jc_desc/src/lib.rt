@@ -8,6 +8,8 @@ pub mod field;
 pub mod laws;
 pub mod method;
 pub mod names;
+pub mod pool_texts;
+pub mod tags;
 #[cfg(test)]
 mod tests;
 pub mod utf8;

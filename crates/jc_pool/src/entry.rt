@@ -5,9 +5,9 @@ ghost use Rattle.jc_desc.specs.Pool.{body_len as body_len_of, is_wide as is_wide
 ghost use Rattle.jc_desc.specs.PoolSteps.{text_at as text_of_bytes, body_at as body_of, entry_at as entry_of};
 ghost use Rattle.jc_pool.specs.Slots.{slot_of, slots_of, all_slots_at};
 
-use crate::tags;
 use jc_desc::bytes::{bytes_at, u8_at, u16_at};
 use jc_desc::fault::{Fault, Reason};
+use jc_desc::tags;
 use jc_desc::utf8::is_text;
 use std::alloc::{AllocError, Global};
 

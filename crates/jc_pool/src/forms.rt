@@ -1,14 +1,14 @@
 //! What the texts of a pool are. Each text is looked through once, however many entries name it, so
 //! that a pool is read in a time that grows as its bytes do.
 ghost use Rattle.std.specs.Prelude.{◌≡◌, IfOk};
-ghost use Rattle.jc_desc.specs.Pool.{at as at_of, is_array as is_array_text, is_field as is_field_text, is_method as is_method_text};
+ghost use Rattle.jc_desc.specs.Pool.{at as at_of};
 ghost use Rattle.jc_pool.specs.Forms.{forms_in, forms_at, all_forms as forms_of_all};
 ghost use Rattle.jc_pool.specs.Slots.{slots_of};
 
 use crate::entry::Slot;
-use jc_desc::field::field_type;
-use jc_desc::method::{returns_void, slots as method_slots};
-use jc_desc::names::{is_class_name, is_clinit, is_init, is_member_name};
+use jc_desc::method::returns_void;
+use jc_desc::names::{is_clinit, is_init, is_member_name};
+use jc_desc::pool_texts::{is_any_name, is_class_text, is_field, is_method};
 use std::alloc::{AllocError, Global};
 
 /// What a text is. It may be several things at once.
@@ -41,37 +41,13 @@ const NO_FORMS: Forms = Forms {
     void: false,
 };
 
-fn is_field(bytes: &[u8]) -> bool
-    ensures { result ≡ is_field_text bytes.now }
-{
-    field_type(bytes).is_some()
-}
-
-#[tactic(auto, unfolding(jc_desc::specs::Reading::slots_of_method))]
-fn is_method(bytes: &[u8]) -> bool
-    ensures { result ≡ is_method_text bytes.now }
-{
-    method_slots(bytes).is_some()
-}
-
-fn is_array(bytes: &[u8]) -> bool
-    ensures { result ≡ is_array_text bytes.now }
-{
-    match bytes.split_first() {
-        None => false,
-        Some((first, _)) => *first == b'[' && is_field(bytes),
-    }
-}
-
 fn forms_of(text: &[u8]) -> Forms
     ensures { result ≡ forms_in text.now }
 {
-    let class = is_class_name(text) || is_array(text);
-    let member_name = is_member_name(text, false) || is_member_name(text, true);
     let method_name = is_member_name(text, true) && !is_clinit(text);
     Forms {
-        class,
-        member_name,
+        class: is_class_text(text),
+        member_name: is_any_name(text),
         method_name,
         init: is_init(text),
         field: is_field(text),

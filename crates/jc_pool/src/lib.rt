@@ -8,7 +8,6 @@ pub mod laws;
 mod links;
 pub mod pool;
 mod start;
-pub mod tags;
 
 pub use jc_desc::fault::{Malformed, Reason};
 

@@ -8,9 +8,9 @@ ghost use Rattle.jc_pool.specs.Slots.{slot_of, slots_of};
 
 use crate::entry::{NOTHING, Slot};
 use crate::forms::{Forms, all_forms, form};
-use crate::tags;
 use byteorder::{BigEndian, ByteOrder};
 use jc_desc::fault::{Fault, Reason};
+use jc_desc::tags;
 use std::alloc::{AllocError, Global};
 
 /// The number in the two bytes from place `i` on, or 0 where they aren't there.

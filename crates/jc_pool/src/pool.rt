@@ -12,10 +12,10 @@ ghost use Rattle.jc_pool.specs.Views.{member_view, handle_view, constant_view, P
 use crate::entry::{Slot, slots_at};
 use crate::links::{at, descriptor, first, is_member_ref, kind, links_fault, pair, target, text};
 use crate::start::start;
-use crate::tags;
 use byteorder::{BigEndian, ByteOrder};
 use jc_desc::bytes::{malformed, u16_at};
 use jc_desc::fault::{Fault, Malformed};
+use jc_desc::tags;
 use std::alloc::{AllocError, Global};
 use std::marker::Model;
 use thiserror::Error;

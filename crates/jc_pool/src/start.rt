@@ -1,28 +1,13 @@
 //! The magic and the version of a class file (JVMS 4.1).
 ghost use Rattle.std.specs.Prelude.{◌≡◌};
 ghost use Rattle.std.specs.Result.{result_map_both};
-ghost use Rattle.jc_desc.specs.Pool.{is_version as is_version_of};
 ghost use Rattle.jc_desc.specs.PoolSteps.{start_at};
 
 use jc_desc::bytes::{u16_at, u32_at};
 use jc_desc::fault::{Fault, Reason};
+use jc_desc::pool_texts::is_version;
 
 const MAGIC: u32 = 0xcafe_babe;
-
-const OLDEST_MAJOR: u16 = 45;
-
-const NEWEST_MAJOR: u16 = 61;
-
-/// From this major on the minor is 0, or 65535 for a class that depends on preview features.
-const STRICT_MINOR_MAJOR: u16 = 56;
-
-fn is_version(minor: u16, major: u16) -> bool
-    ensures { result ≡ is_version_of minor major }
-{
-    major >= OLDEST_MAJOR
-        && major <= NEWEST_MAJOR
-        && (major < STRICT_MINOR_MAJOR || minor == 0 || minor == 65535)
-}
 
 /// The major and the bytes behind it, or the first fault.
 #[tactic(auto, unfolding(jc_desc::specs::PoolSteps::start_at))]

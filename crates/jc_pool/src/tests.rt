@@ -1,6 +1,7 @@
 //! Pools byte by byte, by the steps of reading and JVMS 4.4.
 use crate::pool::{HandleRef, MemberRef, Pool, PoolConstant, PoolError};
-use crate::{Malformed, Reason, tags};
+use crate::{Malformed, Reason};
+use jc_desc::tags;
 use std::alloc::{AllocError, Global};
 use std::test::Fail;
 

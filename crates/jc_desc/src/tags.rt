@@ -1,4 +1,4 @@
-//! The tags of entries (JVMS 4.4, table 4.4-A).
+//! The tags of the entries of a constant pool (JVMS 4.4, table 4.4-A).
 
 pub const UTF8: u8 = 1;
 
