@@ -1,5 +1,5 @@
 -- Access to classes and members (JVMS 5.4.4).
---     is_class_accessible W x d      the class d, from the class named x
+--     is_class_accessible x d      the class d, from the class named x
 --     is_member_accessible W x n m      the member m, named through the class named n, from the class named x
 use Rattle.std.specs.Prelude.{Bool, cond, Option, None, Some, ◌||◌, ◌&&◌}
 use Rattle.jc_facts.specs.declared.class_facts.ClassFacts.{ClassFacts}
@@ -9,8 +9,8 @@ use Rattle.jc_facts.specs.World.{World, find, Found}
 use Rattle.jc_facts.specs.Hierarchy.{in_chain}
 
 -- the class d is accessible from the class named x: it is public or of the same package (JVMS 5.4.4)
-abbrev pub is_class_accessible : World → Bytes → ClassFacts → Bool
-is_class_accessible W x d = is_public d.flags || same_package x d.name
+abbrev pub is_class_accessible : Bytes → ClassFacts → Bool
+is_class_accessible x d = is_public d.flags || same_package x d.name
 
 -- ---- nests
 

@@ -83,7 +83,7 @@ pub record IsInScope (old new : World) (cs : List ClientClass) : Type 0 where
 
 -- the class loads and is accessible from x
 abbrev pub class_in_reach : World → Bytes → Bytes → Bool
-class_in_reach W x c = loads W c && some_and (is_class_accessible W x) (find W c)
+class_in_reach W x c = loads W c && some_and (is_class_accessible x) (find W c)
 
 -- the same of an element type: a primitive one always is
 abbrev pub element_in_reach : World → Bytes → Element → Bool

@@ -25,6 +25,7 @@ pub mod Acts
 pub mod Outcome
 pub mod Clients
 pub mod Meets
+pub mod Mentioned
 pub mod Words
 pub mod Seats
 pub mod Findings
@@ -33,3 +34,18 @@ pub mod Notes
 pub mod Orders
 pub mod Verdict
 pub mod Kept
+pub mod Refusals
+pub mod Lengths
+pub mod ClassRests
+pub mod Code
+pub mod Typing
+pub mod ClientItems
+pub mod PoolEntries
+pub mod Bodies
+pub mod Written
+pub mod TypedSteps
+pub mod TypedItems
+pub mod ByName
+pub mod PlannedNames
+pub mod Planned
+pub mod PlannedBodies

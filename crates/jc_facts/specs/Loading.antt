@@ -21,33 +21,33 @@ fault_where b e = some_where b e
 
 -- the names that a class named d permits, where it has any, don't permit the class c: c isn't public and is of another package,
 -- or isn't among them (JVMS 4.7.31, 5.3.5). A class without the attribute permits everybody, one with an empty list nobody
-abbrev pub sealed_by : World → ClassFacts → Bytes → Option (List Bytes) → Bool
-sealed_by W c d None = false
-sealed_by W c d (Some names) = (not (is_public c.flags) && not (same_package c.name d)) || not (is_among names c.name)
+abbrev pub sealed_by : ClassFacts → Bytes → Option (List Bytes) → Bool
+sealed_by c d None = false
+sealed_by c d (Some names) = (not (is_public c.flags) && not (same_package c.name d)) || not (is_among names c.name)
 
 -- the class d is sealed against the class c
-abbrev pub is_sealed_to : World → ClassFacts → ClassFacts → Bool
-is_sealed_to W d c = sealed_by W c d.name d.permits
+abbrev pub is_sealed_to : ClassFacts → ClassFacts → Bool
+is_sealed_to d c = sealed_by c d.name d.permits
 
 -- why the class c may not have d as its superclass
-abbrev pub superclass_error : World → ClassFacts → ClassFacts → Option LinkError
-superclass_error W c d =
-    or_else (fault_where (not (is_class_accessible W c.name d)) IllegalAccessError)
-    (fault_where (is_interface d.flags || is_final d.flags || is_sealed_to W d c) IncompatibleClassChangeError)
+abbrev pub superclass_error : ClassFacts → ClassFacts → Option LinkError
+superclass_error c d =
+    or_else (fault_where (not (is_class_accessible c.name d)) IllegalAccessError)
+    (fault_where (is_interface d.flags || is_final d.flags || is_sealed_to d c) IncompatibleClassChangeError)
 
 -- why the class c may not have d as one of its interfaces
-abbrev pub interface_error : World → ClassFacts → ClassFacts → Option LinkError
-interface_error W c d =
-    or_else (fault_where (not (is_class_accessible W c.name d)) IllegalAccessError)
-    (fault_where (not (is_interface d.flags) || is_sealed_to W d c) IncompatibleClassChangeError)
+abbrev pub interface_error : ClassFacts → ClassFacts → Option LinkError
+interface_error c d =
+    or_else (fault_where (not (is_class_accessible c.name d)) IllegalAccessError)
+    (fault_where (not (is_interface d.flags) || is_sealed_to d c) IncompatibleClassChangeError)
 
 -- the same, of the class that c names as its superclass
 unfoldable pub superclass_fault : World → ClassFacts → Bytes → Option LinkError
-superclass_fault W c s = and_then (superclass_error W c) (find W s)
+superclass_fault W c s = and_then (superclass_error c) (find W s)
 
 -- the same, of one that c names as an interface
 unfoldable pub interface_fault : World → ClassFacts → Bytes → Option LinkError
-interface_fault W c s = and_then (interface_error W c) (find W s)
+interface_fault W c s = and_then (interface_error c) (find W s)
 
 -- ---- loading
 

@@ -1,4 +1,5 @@
--- How a client world meets a collision. Only a client that loads in the old world meets one.
+-- How a client world meets a collision. Only a client that loads in the old world meets one, and nothing here is about the new side:
+-- that the key is new there is said where the collision stands (Collisions).
 --     MeetsConstant W cs i k, MeetsCapture W cs a k, MeetsFinal W cs a k      some client of cs does, in the old world W
 use Rattle.std.specs.Prelude.{Bool, List, ◌++◌, Option, None, Some, ◌&&◌, IsTrue, IsFalse, ◌≡◌, ◌⊎◌}
 use Rattle.std.specs.List.{list_any, Contains}
@@ -27,20 +28,19 @@ ConstantHits W cs y k m = IsFalse (is_interface_of W m.owner)
     ⊎ ((c : ClientClass) × Contains cs c × (c.facts.name ≡ m.owner)
     × ((r : Option Bytes) × (place : _) × Contains c.items (item.Access PutStatic y k r place)))
 
--- a new field of the key in the interface i: the lookup of the key from a client below i finds a field of a class,
--- or one of a client interface that puts it
+-- the interface i and the key of a field: a client y loads, and it or a client above it names i as an interface; the lookup of the key
+-- from y finds a field of a class, or one of a client interface that puts it through y
 abbrev pub MeetsConstant : World → List ClientClass → Bytes → Key → Type 0
 MeetsConstant W cs i k = (y : ClientClass) × Contains cs y × (load_fault W y.facts.name ≡ None) × IsTrue (may_name W y.facts.name i)
     × ((m : Found) × (field_found W y.facts.name k ≡ Some m) × ConstantHits W cs y.facts.name k m)
 
--- a new method of the key in the chain of the seat a: the lookup of the key from a client class of this seat finds a method
--- of a superinterface
+-- the seat a and the key of a method: from a client class of this seat that loads, the lookup of the key finds a method of one of its
+-- superinterfaces
 abbrev pub MeetsCapture : World → List ClientClass → Bytes → Key → Type 0
 MeetsCapture W cs a k = (y : ClientClass) × Contains cs y × (load_fault W y.facts.name ≡ None) × IsFalse (is_interface y.facts.flags) × (seat W y.facts.name ≡ Some a)
     × ((m : Found) × MethodFound W y.facts.name k m × IsTrue (has_superinterface W y.facts.name m.owner))
 
--- a new final method of the key in the chain of the seat a: a client class of this seat declares the key as an instance method
--- that isn't private
+-- the seat a and the key of a method: a client class of this seat that loads declares the key as an instance method that isn't private
 abbrev pub MeetsFinal : World → List ClientClass → Bytes → Key → Type 0
 MeetsFinal W cs a k = (y : ClientClass) × Contains cs y × (load_fault W y.facts.name ≡ None) × IsFalse (is_interface y.facts.flags) × (seat W y.facts.name ≡ Some a)
     × ((m : Member) × (own_method y.facts k ≡ Some m) × IsTrue (is_instance m.flags) × IsFalse (is_private m.flags))

@@ -9,7 +9,7 @@ pub use Rattle.jc_desc.specs.Names.{is_init, is_clinit}
 use Rattle.jc_facts.specs.declared.key.Key.{Key}
 use Rattle.jc_facts.specs.declared.class_facts.Member.{Member}
 
--- names are lists of bytes, each below 256
+-- a name, as the list of its bytes. The type has no bound: what is said of every name is said of lists of greater numbers too
 abbrev pub Bytes : Type 0
 Bytes = List ℕ
 

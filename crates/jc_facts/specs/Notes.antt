@@ -39,7 +39,7 @@ unfoldable pub loses_constant : ClassFacts → ClassFacts → Key → Bool
 loses_constant c d k = has_static_final c k && is_some (own_field d k)
     && some_and (λ v. not (some_and (same_constant v) (constant_of d k))) (constant_of c k)
 
--- the class of this name in the release of the one side, or of the other
+-- the class of this name in the release of the side, the platform left out
 abbrev pub in_release : World → Bytes → Option ClassFacts
 in_release W x = class_named W.release x
 

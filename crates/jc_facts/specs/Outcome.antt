@@ -26,7 +26,7 @@ use Rattle.jc_facts.specs.Acts.{Form, FieldForm, MethodForm, InterfaceForm, form
 
 -- the class of the name loads, and is accessible from x (JVMS 5.4.3.1)
 unfoldable pub class_fault : World → Bytes → Bytes → Option LinkError
-class_fault W x c = or_else (load_fault W c) (and_then (λ d. fault_where (not (is_class_accessible W x d)) IllegalAccessError) (find W c))
+class_fault W x c = or_else (load_fault W c) (and_then (λ d. fault_where (not (is_class_accessible x d)) IllegalAccessError) (find W c))
 
 -- the same of an element type: a primitive one is always there
 abbrev pub element_fault : World → Bytes → Element → Option LinkError
@@ -45,7 +45,8 @@ class_step W x t = type_fault W x (read_type t)
 -- ---- lookup
 
 -- the first that may be found, and then what `f` says of it, or the error where there is none.
--- The others give the same: that is a law of valid records
+-- In a world of valid records the others give the same: that is the law `each_choice_gives_the_same` of jc_laws, and of initializers
+-- `each_init_gives_the_same`
 unfoldable pub first_of : LinkError → List Found → (Found → Option LinkError) → Option LinkError
 first_of e [] f = Some e
 first_of e (m ∷ ms) f = f m

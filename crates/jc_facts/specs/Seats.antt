@@ -1,4 +1,4 @@
--- What is open to a seat: an act on a class, of every client that has the seat.
+-- Which acts on a class are open to a seat, that is to every client that has the seat.
 use Rattle.std.specs.Prelude.{Bool, cond, List, [], ◌∷◌, Option, None, Some, ◌||◌, ◌&&◌, not}
 use Rattle.std.specs.Ordering.{is_lt, nat_cmp}
 use Rattle.std.specs.Cmp.Lexicographic.{slice_cmp}

@@ -26,6 +26,15 @@ pub enum Cause {
     Collision(Collision),
 }
 
+/// Where a client of a witness fails with the new release.
+#[derive(Clone, Copy, PartialEq, Eq, Debug, Drop)]
+pub enum Spot {
+    /// Its class doesn't load.
+    Load,
+    /// Its item of this number, from 0, has the error.
+    Item(u32),
+}
+
 /// What is worth telling and breaks no client's linking.
 #[derive(PartialEq, Eq, Debug, Drop)]
 pub enum Note {
