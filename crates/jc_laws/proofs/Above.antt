@@ -47,9 +47,9 @@ module _ (W : World) where
   pub named_interface : (c d : ClassFacts) (i : Bytes) → interface_fault W c i ≡ None → find W i ≡ Some d → is_interface d.flags ≡ true
   unfolding interface_fault and_then
   named_interface c d i h e =
-      let p : interface_error W c d ≡ None = rw e at h in
+      let p : interface_error c d ≡ None = rw e at h in
       let q = or_else-none _ _ p in
-      not_false (is_interface d.flags) (or_left _ _ (fault_where-none (not (is_interface d.flags) || is_sealed_to W d c) IncompatibleClassChangeError q.1))
+      not_false (is_interface d.flags) (or_left _ _ (fault_where-none (not (is_interface d.flags) || is_sealed_to d c) IncompatibleClassChangeError q.1))
 
   pub named_interfaces : (c : ClassFacts) → own_fault W c ≡ None → EachOf (λ i. interface_fault W c i ≡ None) c.interfaces
   unfolding own_fault
@@ -59,11 +59,10 @@ module _ (W : World) where
       first_some-none (interface_fault W c) c.interfaces b.0
 
   module _ (P : ClassFacts → Type 0) (each_one : (x : Bytes) (c : ClassFacts) → find W x ≡ Some c → load_fault W x ≡ None → is_interface c.flags ≡ true → P c) where
-    Leads : Bytes → Type 0
+    abbrev pub Leads : Bytes → Type 0
     Leads x = (c : ClassFacts) → find W x ≡ Some c → is_interface c.flags ≡ true → EachOf P (with_interfaces W x)
 
     leads_on : (c : ClassFacts) → own_fault W c ≡ None → EachOf (λ s. load_fault W s ≡ None) (supers c) → EachOf Leads c.interfaces → EachOf P (each (with_interfaces W) c.interfaces)
-    unfolding Leads
     leads_on c o l r = each-all P (with_interfaces W) c.interfaces (EachOf-both by c.interfaces both r)
       where
         Named : Bytes → Type 0
@@ -78,8 +77,8 @@ module _ (W : World) where
         by : (i : Bytes) → Named i → Leads i → EachOf P (with_interfaces W i)
         by i w g = g w.0 w.1 w.2
 
-    with_interfaces-each : (x : Bytes) → load_fault W x ≡ None → Leads x
-    unfolding Leads with_interfaces interfaces_step
+    pub with_interfaces-each : (x : Bytes) → load_fault W x ≡ None → Leads x
+    unfolding with_interfaces interfaces_step
     with_interfaces-each = loads-induction W Leads (λ x c e h r d f i.
         let u : with_interfaces W x ≡ c ∷ each (with_interfaces W) c.interfaces = unroll W [] [] interfaces_step interfaces_step-local x c h e in
         let same : c ≡ d = let q : Some c ≡ Some d = sym e ∙ f in cc in

@@ -1,5 +1,5 @@
 -- Two worlds that have the same classes of some names, among which each class finds all that it names, agree on them.
-use Rattle.std.proofs.Common.{◌≡◌, ℕ, zero, suc, ◌≤◌, List, [], refl, sym, ◌∙◌, ap, subst, Option, Some, None}
+use Rattle.std.proofs.Common.{◌≡◌, ℕ, zero, suc, ◌≤◌, List, [], refl, sym, ◌∙◌, ap, Option, Some, None}
 use Rattle.jc_facts.specs.declared.class_facts.ClassFacts.{ClassFacts}
 use Rattle.jc_facts.specs.declared.link_error.LinkError.{LinkError}
 use Rattle.jc_facts.specs.Names.{Bytes}
@@ -7,9 +7,7 @@ use Rattle.jc_facts.specs.World.{World, find, size}
 use Rattle.jc_facts.specs.Search.{descend, supers, supers_of}
 use Rattle.jc_facts.specs.Options.{or_else, first_some, and_then}
 use Rattle.jc_facts.specs.Hierarchy.{of_super, chain, chain_step}
-use Rattle.jc_facts.specs.Access.{is_class_accessible}
-use Rattle.jc_laws.proofs.Worlds.{find-name}
-use Rattle.jc_facts.specs.Loading.{superclass_fault, superclass_error, interface_fault, interface_error, is_sealed_to, own_fault, load_step, fault_at, load_fault}
+use Rattle.jc_facts.specs.Loading.{superclass_fault, superclass_error, interface_fault, interface_error, own_fault, load_step, fault_at, load_fault}
 use Rattle.jc_laws.proofs.Settles.{EachOf, EachOf-map}
 use Rattle.jc_laws.proofs.Descent.{IsLocal, descend-absent, descend-none_left, descend-found}
 use Rattle.jc_laws.proofs.Depth.{fault_at-deep}
@@ -19,9 +17,6 @@ use Rattle.jc_laws.proofs.Locality.{chain_step-local, first_some-same, and_then-
 pub record Agree (W V : World) (S : Bytes → Type 0) : Type 0 where
   pub same : (x : Bytes) → S x → find W x ≡ find V x
   pub is_closed : (x : Bytes) (c : ClassFacts) → S x → find W x ≡ Some c → EachOf S (supers c)
-  -- they agree on access among such classes, and on seals
-  pub access : (x : Bytes) (d : ClassFacts) → S x → S d.name → is_class_accessible W x d ≡ is_class_accessible V x d
-  pub seals : (c d : ClassFacts) → S c.name → S d.name → is_sealed_to W d c ≡ is_sealed_to V d c
 
 module _ (W V : World) (S : Bytes → Type 0) (a : Agree W V S) where
   -- a search whose step is the same in both worlds
@@ -42,21 +37,13 @@ module _ (W V : World) (S : Bytes → Type 0) (a : Agree W V S) where
           ∙ local (descend W missing deep step n) (descend V missing deep step n) c (EachOf-map r (supers c) (a.is_closed x c s e))
           ∙ sym (descend-found V missing deep step n x c (sym (a.same x s) ∙ e))
 
-  superclass_fault-agree : (c : ClassFacts) → S c.name → (s : Bytes) → S s → superclass_fault W c s ≡ superclass_fault V c s
+  superclass_fault-agree : (c : ClassFacts) (s : Bytes) → S s → superclass_fault W c s ≡ superclass_fault V c s
   unfolding superclass_fault and_then
-  superclass_fault-agree c sc s h = ap (and_then (superclass_error W c)) (a.same s h) ∙ go (find V s) refl
-    where
-      go : (o : Option ClassFacts) → find V s ≡ o → and_then (superclass_error W c) o ≡ and_then (superclass_error V c) o
-      go None e = refl
-      go (Some d) e = let sd : S d.name = subst S (sym (find-name V s d e)) h in rw (a.access c.name d sc sd, a.seals c d sc sd) refl
+  superclass_fault-agree c s h = ap (and_then (superclass_error c)) (a.same s h)
 
-  interface_fault-agree : (c : ClassFacts) → S c.name → (s : Bytes) → S s → interface_fault W c s ≡ interface_fault V c s
+  interface_fault-agree : (c : ClassFacts) (s : Bytes) → S s → interface_fault W c s ≡ interface_fault V c s
   unfolding interface_fault and_then
-  interface_fault-agree c sc s h = ap (and_then (interface_error W c)) (a.same s h) ∙ go (find V s) refl
-    where
-      go : (o : Option ClassFacts) → find V s ≡ o → and_then (interface_error W c) o ≡ and_then (interface_error V c) o
-      go None e = refl
-      go (Some d) e = let sd : S d.name = subst S (sym (find-name V s d e)) h in rw (a.access c.name d sc sd, a.seals c d sc sd) refl
+  interface_fault-agree c s h = ap (and_then (interface_error c)) (a.same s h)
 
   -- the chain of a class that loads in both at some depth
   chain-at : (n : ℕ) (x : Bytes) → S x → fault_at W n x ≡ None → fault_at V n x ≡ None → chain W x ≡ chain V x
@@ -71,19 +58,19 @@ module _ (W V : World) (S : Bytes → Type 0) (a : Agree W V S) where
   super_chain-at n None is s h k = refl
   super_chain-at n (Some x) is s h k = chain-at n x s.0 h.0 k.0
 
-  own_fault-agree : (n : ℕ) (c : ClassFacts) → S c.name → EachOf S (supers c) → EachOf (λ s. fault_at W n s ≡ None) (supers c) → EachOf (λ s. fault_at V n s ≡ None) (supers c)
+  own_fault-agree : (n : ℕ) (c : ClassFacts) → EachOf S (supers c) → EachOf (λ s. fault_at W n s ≡ None) (supers c) → EachOf (λ s. fault_at V n s ≡ None) (supers c)
       → own_fault W c ≡ own_fault V c
   unfolding own_fault
-  own_fault-agree n c sc s h k =
+  own_fault-agree n c s h k =
       rw (
-        and_then-same (superclass_fault W c) (superclass_fault V c) c.superclass c.interfaces (EachOf-map (superclass_fault-agree c sc) (supers c) s),
-        first_some-same (interface_fault W c) (interface_fault V c) c.interfaces (EachOf-map (interface_fault-agree c sc) c.interfaces (of_interfaces S c.superclass c.interfaces s)),
+        and_then-same (superclass_fault W c) (superclass_fault V c) c.superclass c.interfaces (EachOf-map (superclass_fault-agree c) (supers c) s),
+        first_some-same (interface_fault W c) (interface_fault V c) c.interfaces (EachOf-map (interface_fault-agree c) c.interfaces (of_interfaces S c.superclass c.interfaces s)),
         super_chain-at n c.superclass c.interfaces s h k,
       ) refl
 
-  load_step-agree : (n : ℕ) (c : ClassFacts) → S c.name → EachOf S (supers c) → EachOf (λ s. fault_at W n s ≡ fault_at V n s) (supers c) → load_step W (fault_at W n) c ≡ load_step V (fault_at V n) c
+  load_step-agree : (n : ℕ) (c : ClassFacts) → EachOf S (supers c) → EachOf (λ s. fault_at W n s ≡ fault_at V n s) (supers c) → load_step W (fault_at W n) c ≡ load_step V (fault_at V n) c
   unfolding load_step or_else
-  load_step-agree n c sc s h = go (first_some (fault_at V n) (supers c)) refl
+  load_step-agree n c s h = go (first_some (fault_at V n) (supers c)) refl
     where
       e : first_some (fault_at W n) (supers c) ≡ first_some (fault_at V n) (supers c)
       e = first_some-same (fault_at W n) (fault_at V n) (supers c) h
@@ -94,7 +81,7 @@ module _ (W V : World) (S : Bytes → Type 0) (a : Agree W V S) where
       go None p =
           let v = first_some-none (fault_at V n) (supers c) p in
           let w : EachOf (λ s. fault_at W n s ≡ None) (supers c) = first_some-none (fault_at W n) (supers c) (e ∙ p) in
-          rw (e, p) (own_fault-agree n c sc s w v)
+          rw (e, p) (own_fault-agree n c s w v)
 
   -- the fault to a depth
   pub fault_at-agree : (n : ℕ) (x : Bytes) → S x → fault_at W n x ≡ fault_at V n x
@@ -109,7 +96,7 @@ module _ (W V : World) (S : Bytes → Type 0) (a : Agree W V S) where
       go None e r = descend-absent W _ _ (load_step W) (suc n) x e ∙ sym (descend-absent V _ _ (load_step V) (suc n) x (sym (a.same x s) ∙ e))
       go (Some c) e r =
           descend-found W _ _ (load_step W) n x c e
-          ∙ load_step-agree n c (subst S (sym (find-name W x c e)) s) (a.is_closed x c s e) (EachOf-map r (supers c) (a.is_closed x c s e))
+          ∙ load_step-agree n c (a.is_closed x c s e) (EachOf-map r (supers c) (a.is_closed x c s e))
           ∙ sym (descend-found V _ _ (load_step V) n x c (sym (a.same x s) ∙ e))
 
   -- any search from a class that loads

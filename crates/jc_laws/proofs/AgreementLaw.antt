@@ -1,5 +1,5 @@
 -- The law of two worlds that agree, and of a side in a world of clients.
-use Rattle.std.proofs.Common.{◌≡◌, ◌≤◌, ℕ, zero, suc, true, List, [], ◌∷◌, refl, sym, ◌∙◌, Some, None, ◌⊎◌, inl, inr, arith}
+use Rattle.std.proofs.Common.{◌≡◌, ◌≤◌, ℕ, zero, suc, true, List, [], ◌∷◌, sym, ◌∙◌, Some, None, ◌⊎◌, inl, inr, arith}
 use Rattle.std.proofs.lemmas.List.Elements.{recursion_from_All}
 use Rattle.jc_facts.specs.declared.class_facts.ClassFacts.{ClassFacts}
 use Rattle.jc_facts.specs.Names.{Bytes}
@@ -31,8 +31,6 @@ agree_back : (W V : World) (S : Bytes → Type 0) → Agree W V S → Agree V W 
 agree_back W V S a = record {
   same = λ x s. sym (a.same x s);
   is_closed = λ x c s e. a.is_closed x c s (a.same x s ∙ e);
-  access = λ x d s t. refl;
-  seals = λ c d s t. refl;
 }
 
 -- the lookups from a class that loads
@@ -69,8 +67,6 @@ worlds_agree W V S a x s = (fault_agrees W V T b x s, chain_agrees W V T b x s, 
     b = record {
       same = a.same;
       is_closed = λ x c s e. recursion_from_All (λ y. S y ≡ true) (supers c) (a.closed x c s e);
-      access = λ x d s t. refl;
-      seals = λ c d s t. refl;
     }
 
 -- what holds of the names of classes

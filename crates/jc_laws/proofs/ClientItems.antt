@@ -70,16 +70,16 @@ module _ (O N : World) (cs : List ClassFacts) (fo : Fits O cs) (fn : Fits N cs) 
   unfolding class_fault and_then
   class_fault-kept x c e y f = go (class_named cs y) refl (loads-found VO y (p).0)
     where
-      p : (load_fault VO y ≡ None) × (and_then (λ d. fault_where (not (is_class_accessible VO x d)) IllegalAccessError) (find VO y) ≡ None)
-      p = or_else-none (load_fault VO y) (and_then (λ d. fault_where (not (is_class_accessible VO x d)) IllegalAccessError) (find VO y)) f
+      p : (load_fault VO y ≡ None) × (and_then (λ d. fault_where (not (is_class_accessible x d)) IllegalAccessError) (find VO y) ≡ None)
+      p = or_else-none (load_fault VO y) (and_then (λ d. fault_where (not (is_class_accessible x d)) IllegalAccessError) (find VO y)) f
 
-      access : (d : ClassFacts) → find VO y ≡ Some d → is_class_accessible VO x d ≡ true
-      access d t = let q : fault_where (not (is_class_accessible VO x d)) IllegalAccessError ≡ None = rw t at p.1 in not_false (is_class_accessible VO x d) (fault_where-none (not (is_class_accessible VO x d)) IllegalAccessError q)
+      access : (d : ClassFacts) → find VO y ≡ Some d → is_class_accessible x d ≡ true
+      access d t = let q : fault_where (not (is_class_accessible x d)) IllegalAccessError ≡ None = rw t at p.1 in not_false (is_class_accessible x d) (fault_where-none (not (is_class_accessible x d)) IllegalAccessError q)
 
-      made : (d : ClassFacts) → find VN y ≡ Some d → load_fault VN y ≡ None → is_class_accessible VN x d ≡ true → or_else (load_fault VN y) (and_then (λ d. fault_where (not (is_class_accessible VN x d)) IllegalAccessError) (find VN y)) ≡ None
+      made : (d : ClassFacts) → find VN y ≡ Some d → load_fault VN y ≡ None → is_class_accessible x d ≡ true → or_else (load_fault VN y) (and_then (λ d. fault_where (not (is_class_accessible x d)) IllegalAccessError) (find VN y)) ≡ None
       made d t l a = or_else-both (load_fault VN y) _ l (rw t (rw a refl))
 
-      go : (o : Option ClassFacts) → class_named cs y ≡ o → (d : ClassFacts) × (find VO y ≡ Some d) → or_else (load_fault VN y) (and_then (λ d. fault_where (not (is_class_accessible VN x d)) IllegalAccessError) (find VN y)) ≡ None
+      go : (o : Option ClassFacts) → class_named cs y ≡ o → (d : ClassFacts) × (find VO y ≡ Some d) → or_else (load_fault VN y) (and_then (λ d. fault_where (not (is_class_accessible x d)) IllegalAccessError) (find VN y)) ≡ None
       go (Some d) k t = made d (find-client N cs fn y d k) (clients_load y d k p.0) (access d (find-client O cs fo y d k))
       go None k t =
           let o = find-library O cs fo.bare y k ∙ t.1 in
@@ -105,7 +105,7 @@ module _ (O N : World) (cs : List ClassFacts) (fo : Fits O cs) (fn : Fits N cs) 
     client : {y : Bytes} (c : ClassFacts) → class_named cs y ≡ Some c → IsHeld y
     library : {y : Bytes} → class_named cs y ≡ None → is_usable O y ≡ true → IsHeld y
 
-  pub held : (x : Bytes) (c : ClassFacts) → class_named cs x ≡ Some c → (y : Bytes) → load_fault VO y ≡ None → ((d : ClassFacts) → find VO y ≡ Some d → is_class_accessible VO x d ≡ true) → IsHeld y
+  pub held : (x : Bytes) (c : ClassFacts) → class_named cs x ≡ Some c → (y : Bytes) → load_fault VO y ≡ None → ((d : ClassFacts) → find VO y ≡ Some d → is_class_accessible x d ≡ true) → IsHeld y
   held x c e y h a = go (class_named cs y) refl (loads-found VO y h)
     where
       go : (o : Option ClassFacts) → class_named cs y ≡ o → (d : ClassFacts) × (find VO y ≡ Some d) → IsHeld y
@@ -179,17 +179,17 @@ module _ (O N : World) (cs : List ClassFacts) (fo : Fits O cs) (fn : Fits N cs) 
           fn' : find VN s ≡ Some c
           fn' = find-client N cs fn s c kc
 
-          parts : EachOf (λ y. load_fault VO y ≡ None) (supers c) × EachOf (λ y. (d : ClassFacts) → find VO y ≡ Some d → is_class_accessible VO c.name d ≡ true) (supers c)
+          parts : EachOf (λ y. load_fault VO y ≡ None) (supers c) × EachOf (λ y. (d : ClassFacts) → find VO y ≡ Some d → is_class_accessible c.name d ≡ true) (supers c)
           parts = let p = loads-parts VO s c f h in (p.0, super_access VO c p.1)
 
           named : c.name ≡ s
           named = class_named-name cs s c kc
 
           up : (o : Option Bytes) (is : List Bytes) → EachOf (λ y. IsHeld y → in_chain VO y t ≡ true → (in_chain VN y t ≡ true) ⊎ (is_interface_of VN t ≡ true)) (supers_of o is)
-              → EachOf (λ y. load_fault VO y ≡ None) (supers_of o is) → EachOf (λ y. (d : ClassFacts) → find VO y ≡ Some d → is_class_accessible VO c.name d ≡ true) (supers_of o is)
+              → EachOf (λ y. load_fault VO y ≡ None) (supers_of o is) → EachOf (λ y. (d : ClassFacts) → find VO y ≡ Some d → is_class_accessible c.name d ≡ true) (supers_of o is)
               → above (λ z. in_chain VO z t) o ≡ true → (above (λ z. in_chain VN z t) o ≡ true) ⊎ (is_interface_of VN t ≡ true)
           up None is a b e' g = absurd (cc)
-          up (Some y) is a b e' g = a.0 (held s c kc y b.0 (λ d w. subst (λ z. is_class_accessible VO z d ≡ true) named (e'.0 d w))) g
+          up (Some y) is a b e' g = a.0 (held s c kc y b.0 (λ d w. subst (λ z. is_class_accessible z d ≡ true) named (e'.0 d w))) g
 
           go : (b : Bool) → same c.name t ≡ b → in_chain VO s t ≡ (same c.name t || above (λ z. in_chain VO z t) c.superclass) → in_chain VN s t ≡ (same c.name t || above (λ z. in_chain VN z t) c.superclass)
               → (in_chain VN s t ≡ true) ⊎ (is_interface_of VN t ≡ true)
@@ -226,9 +226,9 @@ module _ (O N : World) (cs : List ClassFacts) (fo : Fits O cs) (fn : Fits N cs) 
   -- what x has in reach
   pub reached : (x : Bytes) (c : ClassFacts) → class_named cs x ≡ Some c → (y : Bytes) → class_in_reach VO x y ≡ true → (load_fault VO y ≡ None) × IsHeld y
   reached x c e y r =
-      let p = and_parts (loads VO y) (some_and (is_class_accessible VO x) (find VO y)) r in
+      let p = and_parts (loads VO y) (some_and (is_class_accessible x) (find VO y)) r in
       let l : load_fault VO y ≡ None = none_is (load_fault VO y) p.0 in
-      (l, held x c e y l (λ d f. let q : is_class_accessible VO x d ≡ true = rw f at p.1 in q))
+      (l, held x c e y l (λ d f. let q : is_class_accessible x d ≡ true = rw f at p.1 in q))
 
   -- an assignment in reach
   pub is_assignable-kept : (x : Bytes) (c : ClassFacts) → class_named cs x ≡ Some c → (s t : Bytes) → type_in_reach VO x s ≡ true → type_in_reach VO x t ≡ true → is_assignable VO s t ≡ true → is_assignable VN s t ≡ true

@@ -37,11 +37,11 @@ any_among test (y ∷ xs) x h k = go (same y x) refl h (any_among test xs x)
     go false e q r = or_true (test y) (list_any test xs) (r q k)
 
 -- what the old permitted names let the class extend, names that leave out no allowed one do
-sealed_by-kept : (O N U V : World) (c : ClassFacts) (d : Bytes) (before after : Option (List Bytes)) → sealed_by U c d before ≡ false → leaves_out O N before after ≡ false → allowed O N c.name ≡ true
-    → sealed_by V c d after ≡ false
-sealed_by-kept O N U V c d before None s l a = refl
-sealed_by-kept O N U V c d None (Some names) s l a = absurd (cc)
-sealed_by-kept O N U V c d (Some before) (Some names) s l a = go (is_among names c.name) refl
+pub sealed_by-kept : (O N : World) (c : ClassFacts) (d : Bytes) (before after : Option (List Bytes)) → sealed_by c d before ≡ false → leaves_out O N before after ≡ false → allowed O N c.name ≡ true
+    → sealed_by c d after ≡ false
+sealed_by-kept O N c d before None s l a = refl
+sealed_by-kept O N c d None (Some names) s l a = absurd (cc)
+sealed_by-kept O N c d (Some before) (Some names) s l a = go (is_among names c.name) refl
   where
     apart : (not (is_public c.flags) && not (same_package c.name d)) ≡ false
     apart = or_left _ (not (is_among before c.name)) s
@@ -57,68 +57,68 @@ sealed_by-kept O N U V c d (Some before) (Some names) s l a = go (is_among names
     go false e = absurd (both_ways (list_any test before) l (any_among test before c.name was_in (and_from (allowed O N c.name) (not (is_among names c.name)) a (rw e refl))))
 
 -- names that permit the class permit an allowed name
-permits-some : (O N U : World) (c : ClassFacts) (d : Bytes) (before : Option (List Bytes)) → sealed_by U c d before ≡ false → allowed O N c.name ≡ true → permits_some O N before ≡ true
-permits-some O N U c d None s a = refl
-permits-some O N U c d (Some before) s a =
+permits-some : (O N : World) (c : ClassFacts) (d : Bytes) (before : Option (List Bytes)) → sealed_by c d before ≡ false → allowed O N c.name ≡ true → permits_some O N before ≡ true
+permits-some O N c d None s a = refl
+permits-some O N c d (Some before) s a =
     any_among (allowed O N) before c.name (not_false (is_among before c.name) (or_right (not (is_public c.flags) && not (same_package c.name d)) _ s)) a
 
 -- nothing refuses the class the interface e, which permits it
-interface_taken : (W : World) (c e : ClassFacts) → is_public e.flags ≡ true → is_interface e.flags ≡ true → sealed_by W c e.name e.permits ≡ false → interface_error W c e ≡ None
-interface_taken W c e p i s =
-    or_else-both (fault_where (not (is_class_accessible W c.name e)) IllegalAccessError) (fault_where (not (is_interface e.flags) || sealed_by W c e.name e.permits) IncompatibleClassChangeError)
+pub interface_taken : (c e : ClassFacts) → is_public e.flags ≡ true → is_interface e.flags ≡ true → sealed_by c e.name e.permits ≡ false → interface_error c e ≡ None
+interface_taken c e p i s =
+    or_else-both (fault_where (not (is_class_accessible c.name e)) IllegalAccessError) (fault_where (not (is_interface e.flags) || sealed_by c e.name e.permits) IncompatibleClassChangeError)
     (rw (or_first (is_public e.flags) (same_package c.name e.name) p) refl) (rw (i, s) refl)
 
-superclass_taken : (W : World) (c e : ClassFacts) → is_public e.flags ≡ true → is_interface e.flags ≡ false → is_final e.flags ≡ false → sealed_by W c e.name e.permits ≡ false → superclass_error W c e ≡ None
-superclass_taken W c e p i f s =
-    or_else-both (fault_where (not (is_class_accessible W c.name e)) IllegalAccessError) (fault_where (is_interface e.flags || is_final e.flags || sealed_by W c e.name e.permits) IncompatibleClassChangeError)
+pub superclass_taken : (c e : ClassFacts) → is_public e.flags ≡ true → is_interface e.flags ≡ false → is_final e.flags ≡ false → sealed_by c e.name e.permits ≡ false → superclass_error c e ≡ None
+superclass_taken c e p i f s =
+    or_else-both (fault_where (not (is_class_accessible c.name e)) IllegalAccessError) (fault_where (is_interface e.flags || is_final e.flags || sealed_by c e.name e.permits) IncompatibleClassChangeError)
     (rw (or_first (is_public e.flags) (same_package c.name e.name) p) refl) (rw (i, f, s) refl)
 
 -- what an interface that is taken is
-pub record IsTakenInterface (W : World) (c d : ClassFacts) : Type 0 where
-  pub access : is_class_accessible W c.name d ≡ true
+pub record IsTakenInterface (c d : ClassFacts) : Type 0 where
+  pub access : is_class_accessible c.name d ≡ true
   pub interface : is_interface d.flags ≡ true
-  pub permits : sealed_by W c d.name d.permits ≡ false
+  pub permits : sealed_by c d.name d.permits ≡ false
 
-pub taken_interface : (W : World) (c d : ClassFacts) → interface_error W c d ≡ None → IsTakenInterface W c d
-taken_interface W c d g =
-    let p = or_else-none (fault_where (not (is_class_accessible W c.name d)) IllegalAccessError) (fault_where (not (is_interface d.flags) || is_sealed_to W d c) IncompatibleClassChangeError) g in
-    let b = fault_where-none (not (is_interface d.flags) || is_sealed_to W d c) IncompatibleClassChangeError p.1 in
+pub taken_interface : (c d : ClassFacts) → interface_error c d ≡ None → IsTakenInterface c d
+taken_interface c d g =
+    let p = or_else-none (fault_where (not (is_class_accessible c.name d)) IllegalAccessError) (fault_where (not (is_interface d.flags) || is_sealed_to d c) IncompatibleClassChangeError) g in
+    let b = fault_where-none (not (is_interface d.flags) || is_sealed_to d c) IncompatibleClassChangeError p.1 in
     record {
-      access = not_false (is_class_accessible W c.name d) (fault_where-none (not (is_class_accessible W c.name d)) IllegalAccessError p.0);
-      interface = not_false (is_interface d.flags) (or_left (not (is_interface d.flags)) (is_sealed_to W d c) b);
-      permits = or_right (not (is_interface d.flags)) (is_sealed_to W d c) b;
+      access = not_false (is_class_accessible c.name d) (fault_where-none (not (is_class_accessible c.name d)) IllegalAccessError p.0);
+      interface = not_false (is_interface d.flags) (or_left (not (is_interface d.flags)) (is_sealed_to d c) b);
+      permits = or_right (not (is_interface d.flags)) (is_sealed_to d c) b;
     }
 
-pub record IsTakenSuperclass (W : World) (c d : ClassFacts) : Type 0 where
-  pub access : is_class_accessible W c.name d ≡ true
+pub record IsTakenSuperclass (c d : ClassFacts) : Type 0 where
+  pub access : is_class_accessible c.name d ≡ true
   pub class : is_interface d.flags ≡ false
   pub not_final : is_final d.flags ≡ false
-  pub permits : sealed_by W c d.name d.permits ≡ false
+  pub permits : sealed_by c d.name d.permits ≡ false
 
-pub taken_superclass : (W : World) (c d : ClassFacts) → superclass_error W c d ≡ None → IsTakenSuperclass W c d
-taken_superclass W c d g =
-    let p = or_else-none (fault_where (not (is_class_accessible W c.name d)) IllegalAccessError) (fault_where (is_interface d.flags || is_final d.flags || is_sealed_to W d c) IncompatibleClassChangeError) g in
-    let b = fault_where-none (is_interface d.flags || is_final d.flags || is_sealed_to W d c) IncompatibleClassChangeError p.1 in
-    let l = or_left (is_interface d.flags || is_final d.flags) (is_sealed_to W d c) b in
+pub taken_superclass : (c d : ClassFacts) → superclass_error c d ≡ None → IsTakenSuperclass c d
+taken_superclass c d g =
+    let p = or_else-none (fault_where (not (is_class_accessible c.name d)) IllegalAccessError) (fault_where (is_interface d.flags || is_final d.flags || is_sealed_to d c) IncompatibleClassChangeError) g in
+    let b = fault_where-none (is_interface d.flags || is_final d.flags || is_sealed_to d c) IncompatibleClassChangeError p.1 in
+    let l = or_left (is_interface d.flags || is_final d.flags) (is_sealed_to d c) b in
     record {
-      access = not_false (is_class_accessible W c.name d) (fault_where-none (not (is_class_accessible W c.name d)) IllegalAccessError p.0);
+      access = not_false (is_class_accessible c.name d) (fault_where-none (not (is_class_accessible c.name d)) IllegalAccessError p.0);
       class = or_left (is_interface d.flags) (is_final d.flags) l;
       not_final = or_right (is_interface d.flags) (is_final d.flags) l;
-      permits = or_right (is_interface d.flags || is_final d.flags) (is_sealed_to W d c) b;
+      permits = or_right (is_interface d.flags || is_final d.flags) (is_sealed_to d c) b;
     }
 
 -- the classes that an accepted class names are accessible from it
-pub super_access : (W : World) (c : ClassFacts) → own_fault W c ≡ None → EachOf (λ y. (d : ClassFacts) → find W y ≡ Some d → is_class_accessible W c.name d ≡ true) (supers c)
+pub super_access : (W : World) (c : ClassFacts) → own_fault W c ≡ None → EachOf (λ y. (d : ClassFacts) → find W y ≡ Some d → is_class_accessible c.name d ≡ true) (supers c)
 unfolding own_fault superclass_fault interface_fault and_then
 super_access W c o = go c.superclass (or_else-none (and_then (superclass_fault W c) c.superclass) _ o).0 (EachOf-map by_interface c.interfaces (named_interfaces W c o))
   where
-    by_interface : (y : Bytes) → interface_fault W c y ≡ None → (d : ClassFacts) → find W y ≡ Some d → is_class_accessible W c.name d ≡ true
-    by_interface y f d t = let g : interface_error W c d ≡ None = rw t at f in (taken_interface W c d g).access
+    by_interface : (y : Bytes) → interface_fault W c y ≡ None → (d : ClassFacts) → find W y ≡ Some d → is_class_accessible c.name d ≡ true
+    by_interface y f d t = let g : interface_error c d ≡ None = rw t at f in (taken_interface c d g).access
 
-    go : (s : Option Bytes) → and_then (superclass_fault W c) s ≡ None → EachOf (λ y. (d : ClassFacts) → find W y ≡ Some d → is_class_accessible W c.name d ≡ true) c.interfaces
-        → EachOf (λ y. (d : ClassFacts) → find W y ≡ Some d → is_class_accessible W c.name d ≡ true) (supers_of s c.interfaces)
+    go : (s : Option Bytes) → and_then (superclass_fault W c) s ≡ None → EachOf (λ y. (d : ClassFacts) → find W y ≡ Some d → is_class_accessible c.name d ≡ true) c.interfaces
+        → EachOf (λ y. (d : ClassFacts) → find W y ≡ Some d → is_class_accessible c.name d ≡ true) (supers_of s c.interfaces)
     go None f r = r
-    go (Some y) f r = (λ d t. let g : superclass_error W c d ≡ None = rw t at f in (taken_superclass W c d g).access, r)
+    go (Some y) f r = (λ d t. let g : superclass_error c d ≡ None = rw t at f in (taken_superclass c d g).access, r)
 
 module _ (O N : World) (cs : List ClassFacts) (fo : Fits O cs) (fn : Fits N cs) (quiet : Quiet O N)
     (allowed_o : EachOf (λ n. is_allowed O n ≡ true) (names cs)) (allowed_n : EachOf (λ n. is_allowed N n ≡ true) (names cs)) where
@@ -132,7 +132,7 @@ module _ (O N : World) (cs : List ClassFacts) (fo : Fits O cs) (fn : Fits N cs) 
   client_allowed x c e = and_from (is_allowed O x) (is_allowed N x) (EachOf-class_named (λ n. is_allowed O n ≡ true) cs x c e allowed_o) (EachOf-class_named (λ n. is_allowed N n ≡ true) cs x c e allowed_n)
 
   -- a library class that a client can name was usable
-  pub library_usable : (x : Bytes) (c : ClassFacts) → class_named cs x ≡ Some c → (y : Bytes) (d : ClassFacts) → class_named cs y ≡ None → find O y ≡ Some d → load_fault VO y ≡ None → is_class_accessible VO x d ≡ true → is_usable O y ≡ true
+  pub library_usable : (x : Bytes) (c : ClassFacts) → class_named cs x ≡ Some c → (y : Bytes) (d : ClassFacts) → class_named cs y ≡ None → find O y ≡ Some d → load_fault VO y ≡ None → is_class_accessible x d ≡ true → is_usable O y ≡ true
   library_usable x c e y d l f h a =
       let p = allowed_parts O x (EachOf-class_named (λ n. is_allowed O n ≡ true) cs x c e allowed_o) in
       let q : same_package x d.name ≡ false = same_package_apart O x y d p.apart f in
@@ -175,25 +175,25 @@ module _ (O N : World) (cs : List ClassFacts) (fo : Fits O cs) (fn : Fits N cs) 
       }
 
   -- what permits the client still does
-  permits_kept : (x : Bytes) (c d e : ClassFacts) (y : Bytes) → class_named cs x ≡ Some c → find O y ≡ Some d → find N y ≡ Some e → sealed_by VO c d.name d.permits ≡ false → leaves_out O N d.permits e.permits ≡ false
-      → sealed_by VN c e.name e.permits ≡ false
+  permits_kept : (x : Bytes) (c d e : ClassFacts) (y : Bytes) → class_named cs x ≡ Some c → find O y ≡ Some d → find N y ≡ Some e → sealed_by c d.name d.permits ≡ false → leaves_out O N d.permits e.permits ≡ false
+      → sealed_by c e.name e.permits ≡ false
   permits_kept x c d e y k o n s l =
       let al : allowed O N c.name ≡ true = subst (λ z. allowed O N z ≡ true) (sym (class_named-name cs x c k)) (client_allowed x c k) in
-      let p : sealed_by VN c d.name e.permits ≡ false = sealed_by-kept O N VO VN c d.name d.permits e.permits s l al in
-      subst (λ z. sealed_by VN c z e.permits ≡ false) (find-name O y d o ∙ sym (find-name N y e n)) p
+      let p : sealed_by c d.name e.permits ≡ false = sealed_by-kept O N c d.name d.permits e.permits s l al in
+      subst (λ z. sealed_by c z e.permits ≡ false) (find-name O y d o ∙ sym (find-name N y e n)) p
 
   -- a library interface that a client names
-  library_interface : (x : Bytes) (c d : ClassFacts) (y : Bytes) → class_named cs x ≡ Some c → class_named cs y ≡ None → find O y ≡ Some d → load_fault VO y ≡ None → IsTakenInterface VO c d
-      → (e : ClassFacts) × (find N y ≡ Some e) × (interface_error VN c e ≡ None)
+  library_interface : (x : Bytes) (c d : ClassFacts) (y : Bytes) → class_named cs x ≡ Some c → class_named cs y ≡ None → find O y ≡ Some d → load_fault VO y ≡ None → IsTakenInterface c d
+      → (e : ClassFacts) × (find N y ≡ Some e) × (interface_error c e ≡ None)
   unfolding is_implementable
   library_interface x c d y k l o h t =
-      let a : is_class_accessible VO x d ≡ true = subst (λ z. is_class_accessible VO z d ≡ true) (class_named-name cs x c k) t.access in
+      let a : is_class_accessible x d ≡ true = subst (λ z. is_class_accessible z d ≡ true) (class_named-name cs x c k) t.access in
       let u : is_usable O y ≡ true = library_usable x c k y d l o h a in
       let al : allowed O N c.name ≡ true = subst (λ z. allowed O N z ≡ true) (sym (class_named-name cs x c k)) (client_allowed x c k) in
       let w : is_implementable O N y ≡ true =
-      and_from (is_usable O y) (class_is O (λ c. is_interface c.flags && is_open O N c) y) u (rw o (and_from (is_interface d.flags) (is_open O N d) t.interface (permits-some O N VO c d.name d.permits t.permits al))) in
+      and_from (is_usable O y) (class_is O (λ c. is_interface c.flags && is_open O N c) y) u (rw o (and_from (is_interface d.flags) (is_open O N d) t.interface (permits-some O N c d.name d.permits t.permits al))) in
       let r = kept_open y d o u (or_true (is_extendable O N y) (is_implementable O N y) w) in
-      (r.class, r.is_there, interface_taken VN c r.class r.public (is_one r.class r.is_there u) (permits_kept x c d r.class y k o r.is_there t.permits r.leaves))
+      (r.class, r.is_there, interface_taken c r.class r.public (is_one r.class r.is_there u) (permits_kept x c d r.class y k o r.is_there t.permits r.leaves))
     where
       is_one : (e : ClassFacts) → find N y ≡ Some e → is_usable O y ≡ true → is_interface e.flags ≡ true
       is_one e n u = let j : is_interface_of N y ≡ true = stays_interface O N quiet y u (rw o t.interface) in rw n at j
@@ -202,28 +202,28 @@ module _ (O N : World) (cs : List ClassFacts) (fo : Fits O cs) (fn : Fits N cs) 
   unfolding interface_fault and_then
   interface_kept x c e y h f = go (class_named cs y) refl (loads-found VO y h)
     where
-      taken : (d : ClassFacts) → find VO y ≡ Some d → interface_error VO c d ≡ None
+      taken : (d : ClassFacts) → find VO y ≡ Some d → interface_error c d ≡ None
       taken d o = rw o at f
 
-      go : (o : Option ClassFacts) → class_named cs y ≡ o → (d : ClassFacts) × (find VO y ≡ Some d) → and_then (interface_error VN c) (find VN y) ≡ None
+      go : (o : Option ClassFacts) → class_named cs y ≡ o → (d : ClassFacts) × (find VO y ≡ Some d) → and_then (interface_error c) (find VN y) ≡ None
       go (Some d) k t = rw (find-client N cs fn y d k) (taken d (find-client O cs fo y d k))
       go None k t =
-          let r = library_interface x c t.0 y e k (find-library O cs fo.bare y k ∙ t.1) h (taken_interface VO c t.0 (taken t.0 t.1)) in
+          let r = library_interface x c t.0 y e k (find-library O cs fo.bare y k ∙ t.1) h (taken_interface c t.0 (taken t.0 t.1)) in
           rw (sym (find-library N cs fn.bare y k) ∙ r.1) r.2
 
   -- a library class that a client has as its superclass, where it has an initializer that clients can call
-  library_superclass : (x : Bytes) (c d : ClassFacts) (y : Bytes) → class_named cs x ≡ Some c → class_named cs y ≡ None → find O y ≡ Some d → load_fault VO y ≡ None → IsTakenSuperclass VO c d → has_init d public_or_protected ≡ true
-      → (e : ClassFacts) × (find N y ≡ Some e) × (superclass_error VN c e ≡ None)
+  library_superclass : (x : Bytes) (c d : ClassFacts) (y : Bytes) → class_named cs x ≡ Some c → class_named cs y ≡ None → find O y ≡ Some d → load_fault VO y ≡ None → IsTakenSuperclass c d → has_init d public_or_protected ≡ true
+      → (e : ClassFacts) × (find N y ≡ Some e) × (superclass_error c e ≡ None)
   unfolding is_extendable
   library_superclass x c d y k l o h t i =
-      let a : is_class_accessible VO x d ≡ true = subst (λ z. is_class_accessible VO z d ≡ true) (class_named-name cs x c k) t.access in
+      let a : is_class_accessible x d ≡ true = subst (λ z. is_class_accessible z d ≡ true) (class_named-name cs x c k) t.access in
       let u : is_usable O y ≡ true = library_usable x c k y d l o h a in
       let al : allowed O N c.name ≡ true = subst (λ z. allowed O N z ≡ true) (sym (class_named-name cs x c k)) (client_allowed x c k) in
       let w : is_extendable O N y ≡ true =
       and_from (is_usable O y) (class_is O (λ c. not (is_interface c.flags) && not (is_final c.flags) && has_init c public_or_protected && is_open O N c) y) u
-      (rw (o, t.class, t.not_final, i) (permits-some O N VO c d.name d.permits t.permits al)) in
+      (rw (o, t.class, t.not_final, i) (permits-some O N c d.name d.permits t.permits al)) in
       let r = kept_open y d o u (or_first (is_extendable O N y) (is_implementable O N y) w) in
-      (r.class, r.is_there, superclass_taken VN c r.class r.public (and_not_false (is_interface r.class.flags) (is_interface d.flags) r.same_kind t.class) r.not_final (permits_kept x c d r.class y k o r.is_there t.permits r.leaves))
+      (r.class, r.is_there, superclass_taken c r.class r.public (and_not_false (is_interface r.class.flags) (is_interface d.flags) r.same_kind t.class) r.not_final (permits_kept x c d r.class y k o r.is_there t.permits r.leaves))
     where
       and_not_false : (a b : Bool) → (a && not b) ≡ false → b ≡ false → a ≡ false
       and_not_false a true q r = absurd (cc)
@@ -231,30 +231,30 @@ module _ (O N : World) (cs : List ClassFacts) (fo : Fits O cs) (fn : Fits N cs) 
       and_not_false false false q r = refl
 
   -- such a class is a base class
-  pub superclass_base : (x : Bytes) (c d : ClassFacts) (y : Bytes) → class_named cs x ≡ Some c → class_named cs y ≡ None → find O y ≡ Some d → load_fault VO y ≡ None → superclass_error VO c d ≡ None → has_init d public_or_protected ≡ true
+  pub superclass_base : (x : Bytes) (c d : ClassFacts) (y : Bytes) → class_named cs x ≡ Some c → class_named cs y ≡ None → find O y ≡ Some d → load_fault VO y ≡ None → superclass_error c d ≡ None → has_init d public_or_protected ≡ true
       → (is_base_class O N y ≡ true) × (is_usable O y ≡ true)
   unfolding is_extendable is_base_class
   superclass_base x c d y k l o h f i =
-      let t = taken_superclass VO c d f in
-      let a : is_class_accessible VO x d ≡ true = subst (λ z. is_class_accessible VO z d ≡ true) (class_named-name cs x c k) t.access in
+      let t = taken_superclass c d f in
+      let a : is_class_accessible x d ≡ true = subst (λ z. is_class_accessible z d ≡ true) (class_named-name cs x c k) t.access in
       let u : is_usable O y ≡ true = library_usable x c k y d l o h a in
       let al : allowed O N c.name ≡ true = subst (λ z. allowed O N z ≡ true) (sym (class_named-name cs x c k)) (client_allowed x c k) in
       let w : is_extendable O N y ≡ true =
       and_from (is_usable O y) (class_is O (λ c. not (is_interface c.flags) && not (is_final c.flags) && has_init c public_or_protected && is_open O N c) y) u
-      (rw (o, t.class, t.not_final, i) (permits-some O N VO c d.name d.permits t.permits al)) in
+      (rw (o, t.class, t.not_final, i) (permits-some O N c d.name d.permits t.permits al)) in
       (and_from (is_extendable O N y && is_steady O N y) (not (is_closed O N y)) (and_from (is_extendable O N y) (is_steady O N y) w (stays_steady O N quiet y u)) (rw (never_closed O N quiet y) refl), u)
 
   -- an interface that a client names is a base interface
-  pub interface_base : (x : Bytes) (c d : ClassFacts) (y : Bytes) → class_named cs x ≡ Some c → class_named cs y ≡ None → find O y ≡ Some d → load_fault VO y ≡ None → interface_error VO c d ≡ None
+  pub interface_base : (x : Bytes) (c d : ClassFacts) (y : Bytes) → class_named cs x ≡ Some c → class_named cs y ≡ None → find O y ≡ Some d → load_fault VO y ≡ None → interface_error c d ≡ None
       → (is_base_interface O N y ≡ true) × (is_usable O y ≡ true)
   unfolding is_implementable is_base_interface
   interface_base x c d y k l o h f =
-      let t = taken_interface VO c d f in
-      let a : is_class_accessible VO x d ≡ true = subst (λ z. is_class_accessible VO z d ≡ true) (class_named-name cs x c k) t.access in
+      let t = taken_interface c d f in
+      let a : is_class_accessible x d ≡ true = subst (λ z. is_class_accessible z d ≡ true) (class_named-name cs x c k) t.access in
       let u : is_usable O y ≡ true = library_usable x c k y d l o h a in
       let al : allowed O N c.name ≡ true = subst (λ z. allowed O N z ≡ true) (sym (class_named-name cs x c k)) (client_allowed x c k) in
       let w : is_implementable O N y ≡ true =
-      and_from (is_usable O y) (class_is O (λ c. is_interface c.flags && is_open O N c) y) u (rw o (and_from (is_interface d.flags) (is_open O N d) t.interface (permits-some O N VO c d.name d.permits t.permits al))) in
+      and_from (is_usable O y) (class_is O (λ c. is_interface c.flags && is_open O N c) y) u (rw o (and_from (is_interface d.flags) (is_open O N d) t.interface (permits-some O N c d.name d.permits t.permits al))) in
       (and_from (is_implementable O N y && is_steady O N y) (not (is_closed O N y)) (and_from (is_implementable O N y) (is_steady O N y) w (stays_steady O N quiet y u)) (rw (never_closed O N quiet y) refl), u)
 
   -- what is asked of the clients: each that is no interface has a superclass with an initializer that it can call, if that is a library class;
@@ -267,19 +267,19 @@ module _ (O N : World) (cs : List ClassFacts) (fo : Fits O cs) (fn : Fits N cs) 
     unfolding superclass_fault and_then
     superclass_kept x c e y sup h f = go (class_named cs y) refl (loads-found VO y h)
       where
-        taken : (d : ClassFacts) → find VO y ≡ Some d → superclass_error VO c d ≡ None
+        taken : (d : ClassFacts) → find VO y ≡ Some d → superclass_error c d ≡ None
         taken d o = rw o at f
 
-        kind : (b : Bool) → is_interface c.flags ≡ b → class_named cs y ≡ None → (d : ClassFacts) → find VO y ≡ Some d → and_then (superclass_error VN c) (find VN y) ≡ None
+        kind : (b : Bool) → is_interface c.flags ≡ b → class_named cs y ≡ None → (d : ClassFacts) → find VO y ≡ Some d → and_then (superclass_error c) (find VN y) ≡ None
         kind true i k d t =
             let n : find VN y ≡ Some d = sym (find-library N cs fn.bare y k) ∙ sym (same_root x y c e i sup k) ∙ find-library O cs fo.bare y k ∙ t in
             rw n (taken d t)
         kind false i k d t =
             let o : find O y ≡ Some d = find-library O cs fo.bare y k ∙ t in
-            let r = library_superclass x c d y e k o h (taken_superclass VO c d (taken d t)) (calls_super x y c d e i sup k o) in
+            let r = library_superclass x c d y e k o h (taken_superclass c d (taken d t)) (calls_super x y c d e i sup k o) in
             rw (sym (find-library N cs fn.bare y k) ∙ r.1) r.2
 
-        go : (o : Option ClassFacts) → class_named cs y ≡ o → (d : ClassFacts) × (find VO y ≡ Some d) → and_then (superclass_error VN c) (find VN y) ≡ None
+        go : (o : Option ClassFacts) → class_named cs y ≡ o → (d : ClassFacts) × (find VO y ≡ Some d) → and_then (superclass_error c) (find VN y) ≡ None
         go (Some d) k t = rw (find-client N cs fn y d k) (taken d (find-client O cs fo y d k))
         go None k t = kind (is_interface c.flags) refl k t.0 t.1
 
@@ -309,11 +309,11 @@ module _ (O N : World) (cs : List ClassFacts) (fo : Fits O cs) (fn : Fits N cs) 
             let q : (not false && overrides_final c.name c.methods (of_super (chain VO) c.superclass)) ≡ false = subst (λ b. (not b && overrides_final c.name c.methods (of_super (chain VO) c.superclass)) ≡ false) i (fault_where-none _ _ was) in
             rw (i, finals_kept x c e l i hn (by_super c.superclass refl h a) q) refl
 
-    library_access : (x : Bytes) (c : ClassFacts) → class_named cs x ≡ Some c → (y : Bytes) → class_named cs y ≡ None → load_fault VO y ≡ None → ((d : ClassFacts) → find VO y ≡ Some d → is_class_accessible VO c.name d ≡ true) → load_fault VN y ≡ None
+    library_access : (x : Bytes) (c : ClassFacts) → class_named cs x ≡ Some c → (y : Bytes) → class_named cs y ≡ None → load_fault VO y ≡ None → ((d : ClassFacts) → find VO y ≡ Some d → is_class_accessible c.name d ≡ true) → load_fault VN y ≡ None
     library_access x c e y k h a =
         let t = loads-found VO y h in
         let o : find O y ≡ Some t.0 = find-library O cs fo.bare y k ∙ t.1 in
-        let b : is_class_accessible VO x t.0 ≡ true = subst (λ z. is_class_accessible VO z t.0 ≡ true) (class_named-name cs x c e) (a t.0 t.1) in
+        let b : is_class_accessible x t.0 ≡ true = subst (λ z. is_class_accessible z t.0 ≡ true) (class_named-name cs x c e) (a t.0 t.1) in
         library_loads y k (library_usable x c e y t.0 k o h b)
 
     -- each client that loads with the old release loads with the new one
@@ -323,7 +323,7 @@ module _ (O N : World) (cs : List ClassFacts) (fo : Fits O cs) (fn : Fits N cs) 
         let same : c ≡ d = let q : Some c ≡ Some d = sym f ∙ o in cc in
         step x c (subst (λ z. class_named cs x ≡ Some z) (sym same) k) f h r)
       where
-        each_super : (x : Bytes) (c : ClassFacts) → class_named cs x ≡ Some c → (y : Bytes) → load_fault VO y ≡ None → ((d : ClassFacts) → find VO y ≡ Some d → is_class_accessible VO c.name d ≡ true)
+        each_super : (x : Bytes) (c : ClassFacts) → class_named cs x ≡ Some c → (y : Bytes) → load_fault VO y ≡ None → ((d : ClassFacts) → find VO y ≡ Some d → is_class_accessible c.name d ≡ true)
             → ((d : ClassFacts) → class_named cs y ≡ Some d → load_fault VN y ≡ None) → load_fault VN y ≡ None
         each_super x c k y h a r = go (class_named cs y) refl
           where
@@ -335,6 +335,6 @@ module _ (O N : World) (cs : List ClassFacts) (fo : Fits O cs) (fn : Fits N cs) 
             → EachOf (λ y. (d : ClassFacts) → class_named cs y ≡ Some d → load_fault VN y ≡ None) (supers c) → load_fault VN x ≡ None
         step x c k f h r =
             let p = loads-parts VO x c f h in
-            let both : EachOf (λ y. (load_fault VO y ≡ None) × ((d : ClassFacts) → find VO y ≡ Some d → is_class_accessible VO c.name d ≡ true)) (supers c) = EachOf-both (λ y a b. (a, b)) (supers c) p.0 (super_access VO c p.1) in
+            let both : EachOf (λ y. (load_fault VO y ≡ None) × ((d : ClassFacts) → find VO y ≡ Some d → is_class_accessible c.name d ≡ true)) (supers c) = EachOf-both (λ y a b. (a, b)) (supers c) p.0 (super_access VO c p.1) in
             let ln : EachOf (λ y. load_fault VN y ≡ None) (supers c) = EachOf-both (λ y a b. each_super x c k y a.0 a.1 b) (supers c) both r in
             loads_from_parts VN x c (find-client N cs fn x c k) ln (own_fault-kept x c k h p.0 ln p.1)

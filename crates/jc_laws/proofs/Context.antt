@@ -48,8 +48,8 @@ interface_itself W y i = loads-induction W (λ x. in_chain W x y ≡ true → x 
         let q : s ≡ y = r.0 e in
         let t = loads-found W s l.0 in
         let d : ClassFacts = t.0 in
-        let k : superclass_error W c d ≡ None = rw t.1 at g in
-        let b = fault_where-none _ _ (or_else-none (fault_where (not (is_class_accessible W c.name d)) IllegalAccessError) _ k).1 in
+        let k : superclass_error c d ≡ None = rw t.1 at g in
+        let b = fault_where-none _ _ (or_else-none (fault_where (not (is_class_accessible c.name d)) IllegalAccessError) _ k).1 in
         let j : is_interface_of W s ≡ true = subst (λ z. is_interface_of W z ≡ true) (sym q) i in
         let u : is_interface d.flags ≡ true = rw t.1 at j in
         not_true (is_interface d.flags) u (or_left (is_interface d.flags) _ (or_left _ _ b))

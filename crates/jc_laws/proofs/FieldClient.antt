@@ -217,7 +217,7 @@ module _ (O N : World) (ccs : List ClientClass) (g : Ground O N (facts_of ccs)) 
     -- the parts of a client that loads
     record IsPart (y : Bytes) (c : ClassFacts) (s : Bytes) : Type 0 where
       loaded : load_fault VO s ≡ None
-      access : (d : ClassFacts) → find VO s ≡ Some d → is_class_accessible VO c.name d ≡ true
+      access : (d : ClassFacts) → find VO s ≡ Some d → is_class_accessible c.name d ≡ true
 
     parts : (y : Bytes) (c : ClassFacts) → load_fault VO y ≡ None → class_named cs y ≡ Some c → EachOf (IsPart y c) (supers c)
     parts y c l q =
@@ -225,7 +225,7 @@ module _ (O N : World) (ccs : List ClientClass) (g : Ground O N (facts_of ccs)) 
         EachOf-both (λ s a b. record { loaded = a; access = b }) (supers c) p.0 (super_access VO c p.1)
 
     held_part : (y : Bytes) (c : ClassFacts) (s : Bytes) → class_named cs y ≡ Some c → IsPart y c s → IsHeld O N cs g.fo g.fn g.quiet g.allowed_o g.allowed_n g.clients_load s
-    held_part y c s q p = held O N cs g.fo g.fn g.quiet g.allowed_o g.allowed_n g.clients_load y c q s p.loaded (λ d e. subst (λ z. is_class_accessible VO z d ≡ true) (class_named-name cs y c q) (p.access d e))
+    held_part y c s q p = held O N cs g.fo g.fn g.quiet g.allowed_o g.allowed_n g.clients_load y c q s p.loaded (λ d e. subst (λ z. is_class_accessible z d ≡ true) (class_named-name cs y c q) (p.access d e))
 
     interface_kind : (y : Bytes) (c : ClassFacts) → class_named cs y ≡ Some c → load_fault VO y ≡ None → EachOf (λ s. (interface_fault VO c s ≡ None) × (is_interface_of VO s ≡ true)) c.interfaces
     interface_kind y c q l =
@@ -282,7 +282,7 @@ module _ (O N : World) (ccs : List ClientClass) (g : Ground O N (facts_of ccs)) 
         go s p a = record {
           kind = p.1.1;
           name = u.may c q s (may_name-own VO s y c f u.loaded (client_is y c q) a);
-          base = λ ks. let t = loads-found VO s p.0.loaded in let e : interface_error VO c t.0 ≡ None = rw t.1 at p.1.0 in
+          base = λ ks. let t = loads-found VO s p.0.loaded in let e : interface_error c t.0 ≡ None = rw t.1 at p.1.0 in
               (interface_base O N cs g.fo g.fn g.quiet g.allowed_o g.allowed_n y c t.0 s q ks (find-library O cs g.fo.bare s ks ∙ t.1) p.0.loaded e).0;
         }
 

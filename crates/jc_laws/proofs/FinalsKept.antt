@@ -68,7 +68,7 @@ meets-direct k below (c ∷ cs) h = (or_left (overrides_one_final below (declare
         go false q = q
         go true q = or_right (meets_final k (a ∷ []) cs) (meets_final k below cs) (sym (meets_final-append k (a ∷ []) below cs) ∙ q)
 
-key-same : (k : Key) (m : Member) → is_key k m ≡ true → key_of m ≡ k
+pub key-same : (k : Key) (m : Member) → is_key k m ≡ true → key_of m ≡ k
 key-same k m h =
     let q = and_parts (same m.name k.name) (same m.descriptor k.descriptor) h in
     go (same_is m.name k.name q.0) (same_is m.descriptor k.descriptor q.1)
@@ -125,8 +125,8 @@ direct-meets W k below mk = loads-induction W (λ y. is_interface_of W y ≡ fal
     up c None is r l g d = refl
     up c (Some s) is r l g d =
         let t = loads-found W s l.0 in
-        let e : superclass_error W c t.0 ≡ None = rw t.1 at g in
-        let q : is_interface t.0.flags ≡ false = (taken_superclass W c t.0 e).class in
+        let e : superclass_error c t.0 ≡ None = rw t.1 at g in
+        let q : is_interface t.0.flags ≡ false = (taken_superclass c t.0 e).class in
         r.0 (rw t.1 q) d
 
     step : (c : ClassFacts) → overrides_final c.name c.methods (of_super (chain W) c.superclass) ≡ false → overrides_one_final below (declares k c) ≡ false → meets_final k below (of_super (chain W) c.superclass) ≡ false
@@ -149,7 +149,7 @@ abbrev pub IsApart : List ClassFacts → Found → Type 0
 IsApart cs b = EachOf (λ (c : ClassFacts). same_package b.owner c.name ≡ false) cs
 
 -- where the classes declare no final method that is public or protected, methods of other packages override none directly
-none-direct : (k : Key) (below : List Found) (cs : List ClassFacts) → EachOf (IsApart cs) below → list_any (declares_final k) cs ≡ false → EachOf (λ c. overrides_one_final below (declares k c) ≡ false) cs
+pub none-direct : (k : Key) (below : List Found) (cs : List ClassFacts) → EachOf (IsApart cs) below → list_any (declares_final k) cs ≡ false → EachOf (λ c. overrides_one_final below (declares k c) ≡ false) cs
 unfolding found_in
 none-direct k below [] h e = tt
 none-direct k below (c ∷ cs) h e = (go (own_method c k) (or_left (declares_final k c) (list_any (declares_final k) cs) e), none-direct k below cs (EachOf-map (λ b w. w.1) below h) (or_right (declares_final k c) (list_any (declares_final k) cs) e))

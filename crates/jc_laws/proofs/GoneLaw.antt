@@ -74,8 +74,8 @@ module _ (O N : World) (cs : List ClassFacts) (fo : Fits O cs) (fn : Fits N cs) 
   VN = with_clients N cs
 
   -- of the class d, where it is there
-  abbrev access : World → ClassFacts → Option LinkError
-  access V d = fault_where (not (is_class_accessible V y d)) IllegalAccessError
+  abbrev access : ClassFacts → Option LinkError
+  access d = fault_where (not (is_class_accessible y d)) IllegalAccessError
 
   u : IsUsable O x
   u = usable_parts O x was
@@ -91,7 +91,7 @@ module _ (O N : World) (cs : List ClassFacts) (fo : Fits O cs) (fn : Fits N cs) 
   unfolding class_step
   named V = rw (named_class x plain) refl
 
-  fault_is : (V : World) (o : Option LinkError) (p : Option ClassFacts) → load_fault V x ≡ o → find V x ≡ p → class_fault V y x ≡ or_else o (and_then (access V) p)
+  fault_is : (V : World) (o : Option LinkError) (p : Option ClassFacts) → load_fault V x ≡ o → find V x ≡ p → class_fault V y x ≡ or_else o (and_then access p)
   unfolding class_fault
   fault_is V o p l f = rw (l, f) refl
 

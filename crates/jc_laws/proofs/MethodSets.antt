@@ -103,7 +103,7 @@ module _ (O N : World) (cs : List ClassFacts) (g : Ground O N cs) (k : Key) (mk 
           record {
             loaded = l;
             kind = rw t.1 j;
-            base = λ ks. let e : interface_error VO c t.0 ≡ None = rw t.1 at f in
+            base = λ ks. let e : interface_error c t.0 ≡ None = rw t.1 at f in
                 interface_base O N cs g.fo g.fn g.quiet g.allowed_o g.allowed_n y c t.0 s q ks (find-library O cs g.fo.bare s ks ∙ t.1) l e;
           }
 

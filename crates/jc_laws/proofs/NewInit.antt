@@ -288,13 +288,13 @@ module _ (O N : World) (cs : List ClassFacts) (g : Ground O N cs) (x : Bytes) (c
   of_root_init e = of_root e (init_use VO) (init_use VN) (λ m w z. rw (root_member e m w (member_of VO m z)) refl)
 
   -- a library class that is the superclass
-  sup_error : (V : World) (s : ClassFacts) → find V x ≡ Some c → load_fault V x ≡ None → c.superclass ≡ Some t → find V t ≡ Some s → superclass_error V c s ≡ None
+  sup_error : (V : World) (s : ClassFacts) → find V x ≡ Some c → load_fault V x ≡ None → c.superclass ≡ Some t → find V t ≡ Some s → superclass_error c s ≡ None
   unfolding own_fault superclass_fault and_then
   sup_error V s f l e ft =
       let p = loads-parts V x c f l in
       let q = (or_else-none (and_then (superclass_fault V c) c.superclass) _ p.1).0 in
       let w : superclass_fault V c t ≡ None = sym (ap (and_then (superclass_fault V c)) e) ∙ q in
-      sym (ap (and_then (superclass_error V c)) ft) ∙ w
+      sym (ap (and_then (superclass_error c)) ft) ∙ w
 
   in_super : c.superclass ≡ Some t → in_chain VN x t ≡ true
   in_super e =
@@ -309,7 +309,7 @@ module _ (O N : World) (cs : List ClassFacts) (g : Ground O N cs) (x : Bytes) (c
   of_super_init l e i o = record {
     class = s.class;
     is_there = fnn;
-    kind = (taken_superclass VN c s.class (sup_error VN s.class (find-client N cs g.fn x c kx) now_x e fnn)).class;
+    kind = (taken_superclass c s.class (sup_error VN s.class (find-client N cs g.fn x c kx) now_x e fnn)).class;
     member = s.member;
     declares = s.declares;
     fine = rw (access (or_cases (is_public s.member.flags) (is_protected s.member.flags) s.access)) refl;

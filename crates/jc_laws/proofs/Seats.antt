@@ -138,7 +138,7 @@ module _ (O N : World) (cs : List ClassFacts) (fo : Fits O cs) (fn : Fits N cs) 
           kind s q hs g l false i =
               let t = loads-found VO s hs in
               let o : find O s ≡ Some t.0 = find-library O cs fo.bare s l ∙ t.1 in
-              let e : superclass_error VO c t.0 ≡ None = rw t.1 at g in
+              let e : superclass_error c t.0 ≡ None = rw t.1 at g in
               let w = superclass_base O N cs fo fn quiet allowed_o allowed_n x c t.0 s k l o hs e (calls_super x s c t.0 k i q l o) in
               at_library x c s k q h hx hs l (inr (w.0, (t.0, o))) w.1
 

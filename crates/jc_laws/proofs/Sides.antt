@@ -37,7 +37,7 @@ module _ (W : World) (clients : List ClassFacts) (bare : W.clients ≡ []) where
 
   module _ (unused : (x : Bytes) (c : ClassFacts) → find W x ≡ Some c → EachOf IsLibrary (supers c)) where
     pub sides : Agree W V IsLibrary
-    sides = record { same = find-library; is_closed = λ x c s e. unused x c e; access = λ x d s t. refl; seals = λ c d s t. refl }
+    sides = record { same = find-library; is_closed = λ x c s e. unused x c e }
 
     -- the load fault of a class of the side
     pub load_fault-side : (x : Bytes) → IsLibrary x → load_fault W x ≡ load_fault V x

@@ -207,10 +207,10 @@ module _ (platform old new : List ClassFacts) (cs : List ClientClass) (root : Ha
           let t = loads-found VO s ls in
           let o : find O s ≡ Some t.0 = find-library O (facts_of cs) fo.bare s k ∙ t.1 in
           let p = loads-parts VO x c (find-client O (facts_of cs) fo x c e) l in
-          let f : superclass_error VO c t.0 ≡ None = error VO t.0 t.1 (supered p.1) in
+          let f : superclass_error c t.0 ≡ None = error VO t.0 t.1 (supered p.1) in
           let b = superclass_base O N (facts_of cs) fo fn quiet ao an x c t.0 s e k o ls f (calls x s c t.0 e i q k o) in
           let tn = loads-found VN s ns in
-          let w : is_interface tn.0.flags ≡ false = (taken_superclass VN c tn.0 (error VN tn.0 tn.1 g)).class in
+          let w : is_interface tn.0.flags ≡ false = (taken_superclass c tn.0 (error VN tn.0 tn.1 g)).class in
           record {
             seat_name = s;
             is_library = k;
@@ -223,8 +223,8 @@ module _ (platform old new : List ClassFacts) (cs : List ClientClass) (root : Ha
             kind = ap (some_and (λ c. is_interface c.flags)) (find-library N (facts_of cs) fn.bare s k ∙ tn.1) ∙ w;
           }
         where
-          error : (V : World) (d : ClassFacts) → find V s ≡ Some d → superclass_fault V c s ≡ None → superclass_error V c d ≡ None
-          error V d f w = sym (ap (and_then (superclass_error V c)) f) ∙ w
+          error : (V : World) (d : ClassFacts) → find V s ≡ Some d → superclass_fault V c s ≡ None → superclass_error c d ≡ None
+          error V d f w = sym (ap (and_then (superclass_error c)) f) ∙ w
 
           supered : own_fault VO c ≡ None → superclass_fault VO c s ≡ None
           supered w = sym (ap (and_then (superclass_fault VO c)) q) ∙ (or_else-none (and_then (superclass_fault VO c) c.superclass) _ w).0

@@ -118,7 +118,7 @@ pub fn empty_means_none()
     ensures { EmptyMeansNone }
 {}
 
-/// A release breaks nothing of itself, so the premises of soundness can be met.
+/// Between a side of valid classes and itself no rule stands, and no collision.
 pub fn nothing_breaks_itself()
     ensures { NothingBreaksItself }
 {}
