@@ -7,14 +7,14 @@ ghost use Rattle.jc_facts.specs.ClassParts.{record_of as record_from, or_empty, 
 ghost use Rattle.jc_facts.specs.ClassGrammar.{Reads};
 ghost use Rattle.jc_facts.specs.ClassSteps.{class_of};
 ghost use Rattle.jc_read.specs.Fails.{ReadFails};
-ghost use Rattle.jc_read.specs.ClassViews.{head_view};
+ghost use Rattle.jc_attr.specs.Views.{head_view};
 ghost use Rattle.jc_read.specs.MemberViews.{members_view};
 ghost use Rattle.jc_read.specs.OnClassView.{on_class_view};
 
-use crate::class_head::{ClassHead, head_at};
 use crate::lists::split;
 use crate::member_list::{ReadMember, members};
 use crate::on_class::{OnClass, on_class};
+use jc_attr::class_head::{ClassHead, head_at};
 use jc_attr::classes::classes_at;
 use jc_base::items::Items;
 use jc_base::name::Name;
@@ -23,6 +23,7 @@ use jc_desc::fault::{Fault, Malformed, Reason};
 use jc_facts::class_facts::{ClassFacts, Signed};
 use jc_pool::pool::Pool;
 use std::alloc::{AllocError, Global};
+use thiserror::Error;
 
 fn names(found: Option<Items<Name>>, alloc: Global) -> Items<Name>
     ensures { result ≡ or_empty found }
@@ -139,11 +140,13 @@ fn read(alloc: Global, bytes: &[u8]) -> Result<Result<ClassFacts, Fault>, AllocE
 }
 
 /// Why a class file isn't read.
-#[derive(Clone, Copy, Debug, PartialEq, Eq)]
+#[derive(Clone, Copy, Debug, PartialEq, Eq, Error)]
 pub enum ReadError {
     /// The first fault of the file.
+    #[error("{:?} at {}", .0.reason, .0.offset)]
     Malformed(Malformed),
     /// Memory ran out.
+    #[error("out of memory")]
     Memory,
 }
 
