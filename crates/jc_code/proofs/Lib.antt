@@ -1,0 +1,15 @@
+pub mod Arguments
+pub mod Mapped
+pub mod KeptRows
+pub mod SameRows
+pub mod EachInstruction
+pub mod EachMethod
+pub mod EachParameter
+pub mod Frames
+pub mod Added
+pub mod ActEffects
+pub mod EachStep
+pub mod Validity
+pub mod ValidUses
+pub mod ValidTyped
+pub mod ValidFile

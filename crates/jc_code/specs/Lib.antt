@@ -1,0 +1,11 @@
+pub mod RowView
+pub mod Kept
+pub mod Views
+pub mod Pushed
+pub mod Fails
+pub mod KindView
+pub mod KindsView
+pub mod FrameView
+pub mod Steps
+pub mod KindsRead
+pub mod InstructionView

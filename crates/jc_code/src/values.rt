@@ -1,0 +1,98 @@
+//! Values where values of a kind are due (JVMS 4.10.1.2), and values as receivers.
+ghost use Rattle.std.specs.Prelude.{◌≡◌, ◌++◌, IfOk, OnOk};
+ghost use Rattle.std.specs.Option.{option_map};
+ghost use Rattle.jc_facts.specs.Typing as typing;
+ghost use Rattle.jc_code.specs.KindView.{kind_view, kinds_in};
+ghost use Rattle.jc_code.specs.Pushed.{Adds};
+
+use crate::kinds::Kind;
+use jc_base::name::Name;
+use jc_facts::client::Item;
+use std::alloc::{AllocError, Global};
+
+/// The receiver of an item: the type of a reference, not known for null; None where the kind is no receiver.
+pub(crate) fn receiver(kind: Kind<'_>) -> Option<Option<&[u8]>>
+    ensures { option_map (λ r. option_map (λ x. x.now) r) result ≡ typing.receiver (kind_view kind.entry) }
+{
+    match kind {
+        Kind::Ref(name) => Some(Some(name)),
+        Kind::Null => Some(None),
+        Kind::Int => None,
+        Kind::Long => None,
+        Kind::Float => None,
+        Kind::Double => None,
+        Kind::Fresh(_, _) => None,
+        Kind::Unset => None,
+        Kind::Empty => None,
+    }
+}
+
+fn same_kind(kind: Kind<'_>, due: Kind<'_>) -> bool
+    ensures { result ≡ typing.same_kind (kind_view kind.entry) (kind_view due.entry) }
+{
+    match kind {
+        Kind::Int => matches!(due, Kind::Int),
+        Kind::Long => matches!(due, Kind::Long),
+        Kind::Float => matches!(due, Kind::Float),
+        Kind::Double => matches!(due, Kind::Double),
+        _ => false,
+    }
+}
+
+fn assign(alloc: Global, from: &[u8], to: &[u8], items: &mut Vec<Item>) -> Result<(), AllocError>
+    ensures { OnOk result (items.new.items ≡ items.old.items ++ typing.assign from.now to.now) }
+{
+    if from == to {
+        return Ok(());
+    }
+    let from = Name::from_bytes(alloc, from)?;
+    let to = Name::from_bytes(alloc, to)?;
+    items.push(Item::Assign { from, to })?;
+    Ok(())
+}
+
+/// Adds the Assign of a value where a value of the second kind is due; false where it doesn't fit.
+#[tactic(auto, unfolding(jc_facts::specs::Typing::fit))]
+pub(crate) fn fit(
+    alloc: Global,
+    kind: Kind<'_>,
+    due: Kind<'_>,
+    items: &mut Vec<Item>,
+) -> Result<bool, AllocError>
+    ensures { IfOk result (λ done. Adds items.old.items items.new.items (typing.fit (kind_view kind.entry) (kind_view due.entry)) done) }
+{
+    match kind {
+        Kind::Ref(from) => match due {
+            Kind::Ref(to) => {
+                assign(alloc, from, to, items)?;
+                Ok(true)
+            }
+            _ => Ok(false),
+        },
+        Kind::Null => match due {
+            Kind::Ref(_) => Ok(true),
+            _ => Ok(false),
+        },
+        _ => Ok(same_kind(kind, due)),
+    }
+}
+
+/// Adds the Assigns of values where values of these kinds are due, from left to right.
+pub(crate) fn fit_all(
+    alloc: Global,
+    kinds: &[Kind<'_>],
+    due: &[Kind<'_>],
+    items: &mut Vec<Item>,
+) -> Result<bool, AllocError>
+    ensures { IfOk result (λ done. Adds items.old.items items.new.items (typing.fit_all (kinds_in kinds.now) (kinds_in due.now)) done) }
+{
+    if kinds.len() != due.len() {
+        return Ok(false);
+    }
+    for i in 0..due.len() {
+        if !fit(alloc, kinds[i], due[i], items)? {
+            return Ok(false);
+        }
+    }
+    Ok(true)
+}
