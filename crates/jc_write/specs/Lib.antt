@@ -1,0 +1,4 @@
+pub mod EntryView
+pub mod EntryOrder
+pub mod Needed
+pub mod Fails
