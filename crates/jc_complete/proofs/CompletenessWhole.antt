@@ -1,0 +1,116 @@
+-- Completeness whole: each finding and each collision of a verdict is shown by its planned clients.
+use Rattle.std.proofs.Common.{◌≡◌, ℕ, ◌<◌, ◌≤◌, true, List, [], ◌∷◌, length, refl, sym, ◌∙◌, subst, Some, None, ◌⊎◌, inl, inr, All, Contains, slice_get, get_or}
+use Rattle.std.proofs.lemmas.Option.{slice_get_cases, get_or_from_slice_get}
+use Rattle.std.proofs.lemmas.List.Elements.{All-weaker, All-contains, All-head}
+use Rattle.jc_facts.specs.declared.verdict.Spot.{Spot}
+use Rattle.jc_facts.specs.declared.verdict.Spot.TheVariants as spot
+use Rattle.jc_facts.specs.declared.finding.Finding.{Finding}
+use Rattle.jc_facts.specs.declared.verdict.Collision.{Collision}
+use Rattle.jc_facts.specs.declared.verdict.Cause.TheVariants as cause
+use Rattle.jc_facts.specs.World.{World, side, with_clients}
+use Rattle.jc_facts.specs.declared.client.ClientClass.{ClientClass}
+use Rattle.jc_facts.specs.declared.client.Item.{Item}
+use Rattle.jc_facts.specs.declared.link_error.LinkError.{LinkError}
+use Rattle.jc_facts.specs.Outcome.{outcome}
+use Rattle.jc_facts.specs.Clients.{facts_of, is_in_reach, Keeps}
+use Rattle.jc_facts.specs.Meets.{Meets}
+use Rattle.jc_facts.specs.Findings.{Stands}
+use Rattle.jc_facts.specs.Collisions.{CollisionStands}
+use Rattle.jc_facts.specs.Verdict.{holds_some}
+use Rattle.jc_facts.specs.PlannedNames.{fresh_package}
+use Rattle.jc_facts.specs.Planned.{Plan, plan, planned, planned_for}
+use Rattle.jc_complete.specs.Completeness.{Completeness, FindingsShown, CollisionsShown, Shows, MeetsNothing, PlannedShow, PlannedMeet, LinksWhole, FailsBy, IsBroken, VerdictIsExact}
+use Rattle.jc_laws.proofs.SoundnessLaws.{keeps}
+use Rattle.jc_complete.proofs.PlanRules.{OfRules, of_each_rule}
+use Rattle.jc_complete.proofs.PlanCollisions.{of_each_collision}
+use Rattle.jc_complete.proofs.PlanOrder.{sorted_rise}
+use Rattle.jc_complete.proofs.PlanSorted.{shows_in_order, meets_nothing_in_order, meets_in_order}
+use Rattle.jc_complete.proofs.CompletenessLaws.{gone_shown, closed_shown, class_shown, cut_shown, inits_shown, override_shown, field_acts_shown, method_acts_shown, inherit_shown, constant_shown, capture_shown, final_shown}
+
+-- every finding is of one of the nine rules
+pub finding_shown : FindingsShown (λ f. f ≡ f)
+finding_shown platform old new c f e s = of_each_rule G (side platform old) (side platform new) each f s
+  where
+    G : Finding → Type 0
+    G f = let O = side platform old in let N = side platform new in let p = plan O N (fresh_package O N) (cause.Finding f) in Shows O N p f.error × MeetsNothing O N p.clients
+
+    each : OfRules G (side platform old) (side platform new)
+    each = record {
+      of_1 = gone_shown platform old new c;
+      of_2 = closed_shown platform old new c;
+      of_3 = class_shown platform old new c;
+      of_4 = cut_shown platform old new c;
+      of_5 = inits_shown platform old new c;
+      of_6 = override_shown platform old new c;
+      of_7 = field_acts_shown platform old new c;
+      of_8 = method_acts_shown platform old new c;
+      of_9 = inherit_shown platform old new c;
+    }
+
+-- and every collision of one of the three
+pub collision_shown : CollisionsShown (λ c. c ≡ c)
+collision_shown platform old new can c e s =
+    of_each_collision G (side platform old) (side platform new) (constant_shown platform old new can) (capture_shown platform old new can) (final_shown platform old new can) c s
+  where
+    G : Collision → Type 0
+    G c = let O = side platform old in let N = side platform new in let p = plan O N (fresh_package O N) (cause.Collision c) in Shows O N p c.error × Meets (with_clients O (facts_of p.clients)) p.clients c
+
+pub completeness : Completeness
+completeness platform old new v can is = (
+  All-weaker (Stands (side platform old) (side platform new)) (λ f. PlannedShow (side platform old) (side platform new) (cause.Finding f) f.error × All (λ c. PlannedMeet (side platform old) (side platform new) (cause.Finding f) c → ⊥) v.collisions) of_finding v.findings is.findings.sound,
+  All-weaker (CollisionStands (side platform old) (side platform new)) (λ c. PlannedShow (side platform old) (side platform new) (cause.Collision c) c.error × PlannedMeet (side platform old) (side platform new) (cause.Collision c) c) of_collision v.collisions is.collisions.sound,
+)
+  where
+    of_finding : (f : Finding) → Stands (side platform old) (side platform new) f → PlannedShow (side platform old) (side platform new) (cause.Finding f) f.error × All (λ c. PlannedMeet (side platform old) (side platform new) (cause.Finding f) c → ⊥) v.collisions
+    of_finding f s =
+        let g = finding_shown platform old new can f refl s in
+        let p = plan (side platform old) (side platform new) (fresh_package (side platform old) (side platform new)) (cause.Finding f) in (
+          (sorted_rise p.clients g.0.in_scope.differ, shows_in_order (side platform old) (side platform new) p f.error g.0),
+          All-weaker (CollisionStands (side platform old) (side platform new)) (λ c. PlannedMeet (side platform old) (side platform new) (cause.Finding f) c → ⊥) (λ c stands. meets_nothing_in_order (side platform old) (side platform new) p g.0.in_scope.differ g.1 c stands) v.collisions is.collisions.sound,
+        )
+
+    of_collision : (c : Collision) → CollisionStands (side platform old) (side platform new) c → PlannedShow (side platform old) (side platform new) (cause.Collision c) c.error × PlannedMeet (side platform old) (side platform new) (cause.Collision c) c
+    of_collision c s =
+        let g = collision_shown platform old new can c refl s in
+        let p = plan (side platform old) (side platform new) (fresh_package (side platform old) (side platform new)) (cause.Collision c) in
+        ((sorted_rise p.clients g.0.in_scope.differ, shows_in_order (side platform old) (side platform new) p c.error g.0), meets_in_order (side platform old) (side platform new) p c g.0.in_scope.differ g.1)
+
+-- ---- with soundness
+
+contained : (is : List Item) (n : ℕ) (i : Item) → slice_get is n ≡ Some i → Contains is i
+contained is n i h = go (slice_get_cases is n).1
+  where
+    go : ((j : Item) × (n < length is) × (slice_get is n ≡ Some j) × (get_or is n j ≡ j)) ⊎ ((length is ≤ n) × (slice_get is n ≡ None)) → Contains is i
+    go (inl p) = (n, p.1, get_or_from_slice_get is n i i h)
+    go (inr p) = absurd (let z : None ≡ Some i = sym p.1 ∙ h in cc)
+
+-- what a plan shows isn't kept
+not_kept : (O N : World) (p : Plan) (e : LinkError) → Shows O N p e → Keeps O N p.clients → ⊥
+not_kept O N p e s k = go p.spot s.fails
+  where
+    whole : LinksWhole (with_clients O (facts_of p.clients)) s.spot
+    whole = All-contains (LinksWhole (with_clients O (facts_of p.clients))) p.clients s.spot s.links s.is_in
+
+    go : (n : Spot) → FailsBy (with_clients N (facts_of p.clients)) s.spot n e → ⊥
+    go spot.Load f = let z : None ≡ Some e = sym (k.loading s.spot s.is_in whole.0) ∙ f in cc
+    go (spot.Item n) f =
+        let i = contained s.spot.items n f.1.0 f.1.1 in
+        let l = All-contains (λ i. (is_in_reach (with_clients O (facts_of p.clients)) s.spot.facts.name i ≡ true) × (outcome (with_clients O (facts_of p.clients)) s.spot.facts.name i ≡ None)) s.spot.items f.1.0 whole.1 i in
+        let z : None ≡ Some e = sym (k.uses s.spot f.1.0 s.is_in whole.0 i l.0 l.1) ∙ f.1.2 in cc
+
+pub verdict_is_exact : VerdictIsExact
+verdict_is_exact platform old new v can is = (λ h. broken v.findings refl h, λ cs b. found cs b v.findings refl)
+  where
+    whole : All (λ f. PlannedShow (side platform old) (side platform new) (cause.Finding f) f.error × All (λ c. PlannedMeet (side platform old) (side platform new) (cause.Finding f) c → ⊥) v.collisions) v.findings
+    whole = (completeness platform old new v can is).0
+
+    broken : (fs : List Finding) → v.findings ≡ fs → holds_some fs ≡ true → (cs : List ClientClass) × IsBroken (side platform old) (side platform new) v cs
+    broken [] e h = absurd (cc)
+    broken (f ∷ fs) e h =
+        let g = All-head (λ f. PlannedShow (side platform old) (side platform new) (cause.Finding f) f.error × All (λ c. PlannedMeet (side platform old) (side platform new) (cause.Finding f) c → ⊥) v.collisions) f fs
+        (subst (All (λ f. PlannedShow (side platform old) (side platform new) (cause.Finding f) f.error × All (λ c. PlannedMeet (side platform old) (side platform new) (cause.Finding f) c → ⊥) v.collisions)) e whole) in
+        (planned (side platform old) (side platform new) (cause.Finding f), record { in_scope = g.0.1.in_scope; meets_none = g.1; not_kept = not_kept (side platform old) (side platform new) (planned_for (side platform old) (side platform new) (cause.Finding f)) f.error g.0.1 })
+
+    found : (cs : List ClientClass) → IsBroken (side platform old) (side platform new) v cs → (fs : List Finding) → v.findings ≡ fs → holds_some fs ≡ true
+    found cs b (f ∷ fs) e = refl
+    found cs b [] e = absurd (b.not_kept (keeps platform old new v cs can.root.has can.platform_valid can.old_valid can.new_valid is e b.in_scope b.meets_none))

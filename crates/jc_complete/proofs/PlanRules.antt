@@ -1,0 +1,276 @@
+-- What a finding that stands says, rule by rule.
+use Rattle.std.proofs.Common.{◌≡◌, ℕ, Bool, true, false, cond, List, [], ◌∷◌, refl, sym, subst, Option, Some, None, not, ◌&&◌, ◌==◌, ◌⊎◌, inl, inr, is_some, is_none, Contains}
+use Rattle.std.proofs.lemmas.Bool.{and_parts}
+use Rattle.std.proofs.lemmas.Map.Views.{exact_unsigned_eq}
+use Rattle.std.proofs.lemmas.List.Elements.{Contains-push, Contains-append_left, Contains-append_right}
+use Rattle.jc_facts.specs.declared.act.Act.{Act}
+use Rattle.jc_facts.specs.declared.act.Act.TheVariants as act
+use Rattle.jc_facts.specs.declared.finding.Finding.{Finding}
+use Rattle.jc_facts.specs.declared.key.Key.{Key}
+use Rattle.jc_facts.specs.declared.link_error.LinkError.{LinkError}
+use Rattle.jc_facts.specs.declared.link_error.LinkError.TheVariants.{IncompatibleClassChangeError, VerifyError, NoSuchMethodError}
+use Rattle.jc_facts.specs.Names.{Bytes, object_name}
+use Rattle.jc_facts.specs.Options.{and_then}
+use Rattle.jc_facts.specs.World.{World, classes}
+use Rattle.jc_facts.specs.Hierarchy.{in_chain}
+use Rattle.jc_facts.specs.Lookup.{object_method}
+use Rattle.jc_facts.specs.Assignment.{is_interface_of}
+use Rattle.jc_facts.specs.Words.{is_usable, is_kept, is_steady, became_class, is_closed, is_base_class, is_base_interface, is_method_key, finals, inherits}
+use Rattle.jc_facts.specs.Seats.{field_acts, method_acts, closed_act, first_seat, least}
+use Rattle.jc_facts.specs.Findings.{Subject, report, report_where, gone_error, new_broken, init_broken, act_finding, first_act, finds_overridable, rule_1, rule_2, rule_3, rule_4, init_finding, rule_6, rule_7, rule_8, rule_9, finding_by, finding_at, Stands, subject_of}
+use Rattle.jc_laws.proofs.FieldActs.{or_else-cases}
+use Rattle.jc_laws.proofs.OpenActs.{least-passes}
+
+-- a finding of these parts
+abbrev pub made : ℕ → Bytes → Option Key → Option Bytes → Act → Option Bytes → LinkError → Finding
+made n x k t a s e = record { rule = n; «class» = x; key = k; target = t; act = a; seat = s; error = e }
+
+abbrev on : ℕ → Bytes → Option Key → Option Bytes → Subject
+on n x k t = record { rule = n; class = x; key = k; target = t }
+
+reported : (b : Bool) (n : ℕ) (x : Bytes) (k : Option Key) (t : Option Bytes) (a : Act) (e : LinkError) (f : Finding) → report_where b (on n x k t) a e ≡ Some f → (b ≡ true) × (made n x k t a None e ≡ f)
+reported false n x k t a e f h = absurd (cc)
+reported true n x k t a e f h = (refl, let w : made n x k t a None e ≡ f = cc in w)
+
+-- the finding on a subject of this rule
+abbrev Of : World → World → ℕ → Finding → Type 0
+Of O N n f = finding_by O N (on n f.«class» f.key f.target) f.key f.target ≡ Some f
+
+of_rule : (O N : World) (n : ℕ) (f : Finding) → f.rule ≡ n → Stands O N f → Of O N n f
+unfolding finding_at
+of_rule O N n f e h = subst (λ n. Of O N n f) e h
+
+module _ (O N : World) (f : Finding) where
+  abbrev x : Bytes
+  x = f.«class»
+
+  abbrev By : ℕ → Option Key → Option Bytes → Type 0
+  By n k t = finding_by O N (on n x k t) k t ≡ Some f
+
+  pub record Rule1 : Type 0 where
+    pub stands : (is_usable O x && not (is_usable N x)) ≡ true
+    pub is : made 1 x None None act.ClassRef None (gone_error N x) ≡ f
+
+  pub by_rule_1 : f.rule ≡ 1 → Stands O N f → Rule1
+  unfolding rule_1
+  by_rule_1 e h = go f.key f.target (of_rule O N 1 f e h)
+    where
+      go : (k : Option Key) (t : Option Bytes) → By 1 k t → Rule1
+      go None None q = let w = reported (is_usable O x && not (is_usable N x)) 1 x None None act.ClassRef (gone_error N x) f q in record { stands = w.0; is = w.1 }
+      go None (Some t) q = absurd (let z : None ≡ Some f = q in cc)
+      go (Some k) None q = absurd (let z : None ≡ Some f = q in cc)
+      go (Some k) (Some t) q = absurd (let z : None ≡ Some f = q in cc)
+
+  abbrev kind : Act
+  kind = cond (is_interface_of O x) act.Implement act.Extend
+
+  pub record Rule2 : Type 0 where
+    pub stands : is_closed O N x ≡ true
+    pub is : made 2 x None None kind None IncompatibleClassChangeError ≡ f
+
+  pub by_rule_2 : f.rule ≡ 2 → Stands O N f → Rule2
+  unfolding rule_2
+  by_rule_2 e h = go f.key f.target (of_rule O N 2 f e h)
+    where
+      go : (k : Option Key) (t : Option Bytes) → By 2 k t → Rule2
+      go None None q = let w = reported (is_closed O N x) 2 x None None kind IncompatibleClassChangeError f q in record { stands = w.0; is = w.1 }
+      go None (Some t) q = absurd (let z : None ≡ Some f = q in cc)
+      go (Some k) None q = absurd (let z : None ≡ Some f = q in cc)
+      go (Some k) (Some t) q = absurd (let z : None ≡ Some f = q in cc)
+
+  pub record Rule3 : Type 0 where
+    pub stands : became_class O N x ≡ true
+    pub is : made 3 x None None act.Assignment None VerifyError ≡ f
+
+  pub by_rule_3 : f.rule ≡ 3 → Stands O N f → Rule3
+  unfolding rule_3
+  by_rule_3 e h = go f.key f.target (of_rule O N 3 f e h)
+    where
+      go : (k : Option Key) (t : Option Bytes) → By 3 k t → Rule3
+      go None None q = let w = reported (became_class O N x) 3 x None None act.Assignment VerifyError f q in record { stands = w.0; is = w.1 }
+      go None (Some t) q = absurd (let z : None ≡ Some f = q in cc)
+      go (Some k) None q = absurd (let z : None ≡ Some f = q in cc)
+      go (Some k) (Some t) q = absurd (let z : None ≡ Some f = q in cc)
+
+  pub record Rule4 : Type 0 where
+    pub target : Bytes
+    pub stands : (is_kept O N x && is_kept O N target && in_chain O x target && not (in_chain N x target) && not (is_interface_of N target)) ≡ true
+    pub is : made 4 x None (Some target) act.Assignment None VerifyError ≡ f
+
+  pub by_rule_4 : f.rule ≡ 4 → Stands O N f → Rule4
+  unfolding rule_4
+  by_rule_4 e h = go f.key f.target (of_rule O N 4 f e h)
+    where
+      go : (k : Option Key) (t : Option Bytes) → By 4 k t → Rule4
+      go None None q = absurd (let z : None ≡ Some f = q in cc)
+      go None (Some t) q = let w = reported (is_kept O N x && is_kept O N t && in_chain O x t && not (in_chain N x t) && not (is_interface_of N t)) 4 x None (Some t) act.Assignment VerifyError f q in record { target = t; stands = w.0; is = w.1 }
+      go (Some k) None q = absurd (let z : None ≡ Some f = q in cc)
+      go (Some k) (Some t) q = absurd (let z : None ≡ Some f = q in cc)
+
+  -- an error that is told with an act and a seat
+  told : (n : ℕ) (k : Option Key) (a : Act) (s : Option Bytes) (o : Option LinkError) → and_then (report (on n x k None) a s) o ≡ Some f → (e : LinkError) × (o ≡ Some e) × (made n x k None a s e ≡ f)
+  unfolding and_then
+  told n k a s None h = absurd (cc)
+  told n k a s (Some e) h = (e, refl, let w : made n x k None a s e ≡ f = cc in w)
+
+  pub data Rule5 : Type 0 where
+    by_new : (k : Key) (e : LinkError) → new_broken O N x k ≡ Some e → made 5 x (Some k) None act.NewObject None e ≡ f → Rule5
+    by_init : (k : Key) (e : LinkError) → init_broken O N x k ≡ Some e → made 5 x (Some k) None act.InitSuper None e ≡ f → Rule5
+
+  pub by_rule_5 : f.rule ≡ 5 → Stands O N f → Rule5
+  unfolding init_finding
+  by_rule_5 e h = go f.key f.target (of_rule O N 5 f e h)
+    where
+      either : (k : Key) → (and_then (report (on 5 x (Some k) None) act.NewObject None) (new_broken O N x k) ≡ Some f) ⊎ (and_then (report (on 5 x (Some k) None) act.InitSuper None) (init_broken O N x k) ≡ Some f) → Rule5
+      either k (inl q) = let w = told 5 (Some k) act.NewObject None (new_broken O N x k) q in by_new k w.0 w.1 w.2
+      either k (inr q) = let w = told 5 (Some k) act.InitSuper None (init_broken O N x k) q in by_init k w.0 w.1 w.2
+
+      go : (k : Option Key) (t : Option Bytes) → By 5 k t → Rule5
+      go None None q = absurd (let z : None ≡ Some f = q in cc)
+      go None (Some t) q = absurd (let z : None ≡ Some f = q in cc)
+      go (Some k) None q = either k (or_else-cases (and_then (report (on 5 x (Some k) None) act.NewObject None) (new_broken O N x k)) (and_then (report (on 5 x (Some k) None) act.InitSuper None) (init_broken O N x k)) f q)
+      go (Some k) (Some t) q = absurd (let z : None ≡ Some f = q in cc)
+
+  pub record Rule6 : Type 0 where
+    pub key : Key
+    pub stands : (is_method_key key && is_base_class O N x && finals N x key && not (finals O x key) && finds_overridable O x key) ≡ true
+    pub is : made 6 x (Some key) None act.Override None IncompatibleClassChangeError ≡ f
+
+  pub by_rule_6 : f.rule ≡ 6 → Stands O N f → Rule6
+  unfolding rule_6
+  by_rule_6 e h = go f.key f.target (of_rule O N 6 f e h)
+    where
+      go : (k : Option Key) (t : Option Bytes) → By 6 k t → Rule6
+      go None None q = absurd (let z : None ≡ Some f = q in cc)
+      go None (Some t) q = absurd (let z : None ≡ Some f = q in cc)
+      go (Some k) None q = let w = reported (is_method_key k && is_base_class O N x && finals N x k && not (finals O x k) && finds_overridable O x k) 6 x (Some k) None act.Override IncompatibleClassChangeError f q in record { key = k; stands = w.0; is = w.1 }
+      go (Some k) (Some t) q = absurd (let z : None ≡ Some f = q in cc)
+
+  -- an act that is closed to a seat now
+  pub record ClosedAct (n : ℕ) (k : Key) (acts : List Act) : Type 0 where
+    pub act : Act
+    pub listed : Contains acts act
+    pub seat : Bytes
+    pub is_seat : (seat ≡ object_name) ⊎ (is_base_class O N seat ≡ true)
+    pub error : LinkError
+    pub closed : closed_act O N x k act seat ≡ Some error
+    pub is : made n x (Some k) None act (Some seat) error ≡ f
+
+  first_seat-is : (test : Bytes → Bool) (s : Bytes) → first_seat O N test ≡ Some s → (s ≡ object_name) ⊎ (is_base_class O N s ≡ true)
+  first_seat-is test s e = go (test object_name) e
+    where
+      go : (b : Bool) → cond b (Some object_name) (least (λ a. is_base_class O N a && test a) (classes O)) ≡ Some s → (s ≡ object_name) ⊎ (is_base_class O N s ≡ true)
+      go true q = inl (let k : object_name ≡ s = cc in sym k)
+      go false q = inr (and_parts (is_base_class O N s) (test s) (least-passes (λ a. is_base_class O N a && test a) (classes O) s q)).0
+
+  act_told : (n : ℕ) (k : Key) (a : Act) → act_finding O N (on n x (Some k) None) k a ≡ Some f → ClosedAct n k (a ∷ [])
+  unfolding act_finding and_then
+  act_told n k a h = go (first_seat O N (λ seat. is_some (closed_act O N x k a seat))) refl h
+    where
+      go : (o : Option Bytes) → first_seat O N (λ seat. is_some (closed_act O N x k a seat)) ≡ o → and_then (λ seat. and_then (report (on n x (Some k) None) a (Some seat)) (closed_act O N x k a seat)) o ≡ Some f → ClosedAct n k (a ∷ [])
+      go None e q = absurd (cc)
+      go (Some s) e q = let w = told n (Some k) a (Some s) (closed_act O N x k a s) q in
+          record { act = a; listed = Contains-push [] a; seat = s; is_seat = first_seat-is (λ seat. is_some (closed_act O N x k a seat)) s e; error = w.0; closed = w.1; is = w.2 }
+
+  first_told : (n : ℕ) (k : Key) (acts : List Act) → first_act O N (on n x (Some k) None) k acts ≡ Some f → ClosedAct n k acts
+  unfolding first_act
+  first_told n k [] h = absurd (cc)
+  first_told n k (a ∷ rest) h = go (or_else-cases (act_finding O N (on n x (Some k) None) k a) (first_act O N (on n x (Some k) None) k rest) f h) (first_told n k rest)
+    where
+      go : (act_finding O N (on n x (Some k) None) k a ≡ Some f) ⊎ (first_act O N (on n x (Some k) None) k rest ≡ Some f) → (first_act O N (on n x (Some k) None) k rest ≡ Some f → ClosedAct n k rest) → ClosedAct n k (a ∷ rest)
+      go (inl q) r = let c = act_told n k a q in record { act = c.act; listed = Contains-append_left (a ∷ []) rest c.act c.listed; seat = c.seat; is_seat = c.is_seat; error = c.error; closed = c.closed; is = c.is }
+      go (inr q) r = let c = r q in record { act = c.act; listed = Contains-append_right (a ∷ []) rest c.act c.listed; seat = c.seat; is_seat = c.is_seat; error = c.error; closed = c.closed; is = c.is }
+
+  allowed_where : (b : Bool) (o : Option Finding) → cond b o None ≡ Some f → (b ≡ true) × (o ≡ Some f)
+  allowed_where true o h = (refl, h)
+  allowed_where false o h = absurd (cc)
+
+  pub record Rule7 : Type 0 where
+    pub key : Key
+    pub steady : is_steady O N x ≡ true
+    pub acts : ClosedAct 7 key field_acts
+
+  pub by_rule_7 : f.rule ≡ 7 → Stands O N f → Rule7
+  unfolding rule_7
+  by_rule_7 e h = go f.key f.target (of_rule O N 7 f e h)
+    where
+      go : (k : Option Key) (t : Option Bytes) → By 7 k t → Rule7
+      go None None q = absurd (let z : None ≡ Some f = q in cc)
+      go None (Some t) q = absurd (let z : None ≡ Some f = q in cc)
+      go (Some k) None q = let w = allowed_where (is_steady O N x) (first_act O N (on 7 x (Some k) None) k field_acts) q in record { key = k; steady = w.0; acts = first_told 7 k field_acts w.1 }
+      go (Some k) (Some t) q = absurd (let z : None ≡ Some f = q in cc)
+
+  pub record Rule8 : Type 0 where
+    pub key : Key
+    pub is_key : is_method_key key ≡ true
+    pub steady : is_steady O N x ≡ true
+    pub acts : ClosedAct 8 key method_acts
+
+  pub by_rule_8 : f.rule ≡ 8 → Stands O N f → Rule8
+  unfolding rule_8
+  by_rule_8 e h = go f.key f.target (of_rule O N 8 f e h)
+    where
+      go : (k : Option Key) (t : Option Bytes) → By 8 k t → Rule8
+      go None None q = absurd (let z : None ≡ Some f = q in cc)
+      go None (Some t) q = absurd (let z : None ≡ Some f = q in cc)
+      go (Some k) None q =
+          let w = allowed_where (is_method_key k && is_steady O N x) (first_act O N (on 8 x (Some k) None) k method_acts) q in
+          let p = and_parts (is_method_key k) (is_steady O N x) w.0 in
+          record { key = k; is_key = p.0; steady = p.1; acts = first_told 8 k method_acts w.1 }
+      go (Some k) (Some t) q = absurd (let z : None ≡ Some f = q in cc)
+
+  pub record Rule9 : Type 0 where
+    pub key : Key
+    pub stands : (is_method_key key && is_base_interface O N x && inherits O x key && not (inherits N x key) && is_none (object_method O key)) ≡ true
+    pub is : made 9 x (Some key) None act.Inherit None NoSuchMethodError ≡ f
+
+  pub by_rule_9 : f.rule ≡ 9 → Stands O N f → Rule9
+  unfolding rule_9
+  by_rule_9 e h = go f.key f.target (of_rule O N 9 f e h)
+    where
+      go : (k : Option Key) (t : Option Bytes) → By 9 k t → Rule9
+      go None None q = absurd (let z : None ≡ Some f = q in cc)
+      go None (Some t) q = absurd (let z : None ≡ Some f = q in cc)
+      go (Some k) None q = let w = reported (is_method_key k && is_base_interface O N x && inherits O x k && not (inherits N x k) && is_none (object_method O k)) 9 x (Some k) None act.Inherit NoSuchMethodError f q in record { key = k; stands = w.0; is = w.1 }
+      go (Some k) (Some t) q = absurd (let z : None ≡ Some f = q in cc)
+
+-- ---- one rule after the other
+
+-- one of the tests passes where the choice gives something
+pub chosen : {A : Type 0} (G : Type 0) (n m : ℕ) (o p : Option A) (x : A) → (n ≡ m → G) → (p ≡ Some x → G) → cond (n == m) o p ≡ Some x → G
+chosen G n m o p x f g h = go (n == m) refl h
+  where
+    go : (b : Bool) → (n == m) ≡ b → cond b o p ≡ Some x → G
+    go true e q = f (exact_unsigned_eq n m e)
+    go false e q = g q
+
+-- what holds of the findings of each rule
+pub record OfRules (G : Finding → Type 0) (O N : World) : Type 0 where
+  pub of_1 : (f : Finding) → f.rule ≡ 1 → Stands O N f → G f
+  pub of_2 : (f : Finding) → f.rule ≡ 2 → Stands O N f → G f
+  pub of_3 : (f : Finding) → f.rule ≡ 3 → Stands O N f → G f
+  pub of_4 : (f : Finding) → f.rule ≡ 4 → Stands O N f → G f
+  pub of_5 : (f : Finding) → f.rule ≡ 5 → Stands O N f → G f
+  pub of_6 : (f : Finding) → f.rule ≡ 6 → Stands O N f → G f
+  pub of_7 : (f : Finding) → f.rule ≡ 7 → Stands O N f → G f
+  pub of_8 : (f : Finding) → f.rule ≡ 8 → Stands O N f → G f
+  pub of_9 : (f : Finding) → f.rule ≡ 9 → Stands O N f → G f
+
+-- holds of every finding: there are no other rules
+pub of_each_rule : (G : Finding → Type 0) (O N : World) → OfRules G O N → (f : Finding) → Stands O N f → G f
+unfolding finding_at
+of_each_rule G O N r f s = go f.key f.target s
+  where
+    go : (k : Option Key) (t : Option Bytes) → finding_by O N (subject_of f) k t ≡ Some f → G f
+    go None None q =
+        chosen (G f) f.rule 1 _ _ f (λ n. r.of_1 f n s)
+        (chosen (G f) f.rule 2 _ _ f (λ n. r.of_2 f n s)
+        (chosen (G f) f.rule 3 _ _ f (λ n. r.of_3 f n s) (λ z. absurd (cc)))) q
+    go None (Some t) q = chosen (G f) f.rule 4 _ _ f (λ n. r.of_4 f n s) (λ z. absurd (cc)) q
+    go (Some k) None q =
+        chosen (G f) f.rule 5 _ _ f (λ n. r.of_5 f n s)
+        (chosen (G f) f.rule 6 _ _ f (λ n. r.of_6 f n s)
+        (chosen (G f) f.rule 7 _ _ f (λ n. r.of_7 f n s)
+        (chosen (G f) f.rule 8 _ _ f (λ n. r.of_8 f n s)
+        (chosen (G f) f.rule 9 _ _ f (λ n. r.of_9 f n s) (λ z. absurd (cc)))))) q
+    go (Some k) (Some t) q = absurd (cc)

@@ -1,0 +1,138 @@
+-- Worked examples of planned clients.
+use Rattle.std.proofs.Common.{◌≡◌, List, [], ◌∷◌, refl, Some, None, codes, lit<}
+use Rattle.std.specs.Fmt.{digits}
+use Rattle.jc_facts.specs.declared.class_facts.ClassFacts.{ClassFacts}
+use Rattle.jc_facts.specs.declared.client.ClientClass.{ClientClass}
+use Rattle.jc_facts.specs.declared.class_facts.Member.{Member}
+use Rattle.jc_facts.specs.declared.key.Key.{Key}
+use Rattle.jc_facts.specs.declared.client.Item.{Item}
+use Rattle.jc_facts.specs.declared.client.Item.TheVariants as item
+use Rattle.jc_facts.specs.declared.client.Place.TheVariants.{Other}
+use Rattle.jc_facts.specs.declared.act.Act.TheVariants as act
+use Rattle.jc_facts.specs.declared.link_error.LinkError.TheVariants.{IllegalAccessError, NoSuchMethodError, NoSuchFieldError, NoClassDefFoundError, IncompatibleClassChangeError}
+use Rattle.jc_facts.specs.declared.verdict.Cause.TheVariants as cause
+use Rattle.jc_facts.specs.Names.{Bytes, object_name}
+use Rattle.jc_facts.specs.Collisions.{collision}
+use Rattle.jc_facts.specs.PlannedNames.{first_unused, least_name, constructors}
+use Rattle.jc_facts.specs.Planned.{plan, planned}
+use Rattle.jc_facts.specs.ByName.{placed, by_name}
+use Rattle.jc_laws.proofs.Examples.{computes, init, key, member, a_class, plain, public_class, sealed_interface, over, ascii, object}
+use Rattle.jc_laws.proofs.WorkedClients.{p_A, run, run_key, root_is_valid}
+use Rattle.std.proofs.lemmas.List.Elements.{All-from_recursion}
+use Rattle.jc_facts.specs.Valid.{IsValidClass}
+use Rattle.jc_complete.specs.Completeness.{CanPlan}
+use Rattle.jc_complete.proofs.PlanRules.{made}
+
+abbrev client : ClassFacts → List Item → ClientClass
+client c is = record { facts = c; items = is }
+
+abbrev object_init : Item
+object_init = item.Init object_name (codes "()V")
+
+-- U of this package, with a method `use` of this descriptor and these items
+abbrev U : Bytes → Bytes → List Item → ClientClass
+U x descriptor is = client (a_class x 0x0021 (Some object_name) [] [] (init 1 ∷ member (codes "use") descriptor 9 ∷ [])) (object_init ∷ is)
+
+-- p/A, and p/A with a private run
+capture_is_planned : planned (over (plain p_A ∷ [])) (over (public_class p_A [] (run 2 ∷ []) ∷ [])) (cause.Collision (collision 11 p_A run_key act.InvokeVirtual IllegalAccessError))
+    ≡ client (a_class (codes "w0/J") 0x0601 (Some object_name) [] [] (run 0x0401 ∷ [])) []
+    ∷ U (codes "w0/U") (codes "(Lw0/Y;)V") (item.Access act.InvokeVirtual (codes "w0/Y") run_key (Some (codes "w0/Y")) Other ∷ [])
+    ∷ client (a_class (codes "w0/Y") 0x0421 (Some p_A) (codes "w0/J" ∷ []) [] (init 1 ∷ [])) (item.Init p_A (codes "()V") ∷ [])
+    ∷ []
+unfolding computes plan by_name placed first_unused least_name constructors digits
+capture_is_planned = refl
+
+-- p/A, and nothing; a class of the package w0 is there
+gone_class_is_planned : planned (over (plain p_A ∷ plain (codes "w0/X") ∷ [])) (over []) (cause.Finding (made 1 p_A None None act.ClassRef None NoClassDefFoundError))
+    ≡ U (codes "w1/U") (codes "(Ljava/lang/Object;)V") (item.Class p_A ∷ []) ∷ []
+unfolding computes plan by_name placed first_unused least_name constructors digits
+gone_class_is_planned = refl
+
+-- p/S, which permits q/C and r/D, and then q/C alone
+closed_interface_is_planned : planned (over (sealed_interface (codes "p/S") (codes "q/C" ∷ codes "r/D" ∷ []) ∷ [])) (over (sealed_interface (codes "p/S") (codes "q/C" ∷ []) ∷ []))
+    (cause.Finding (made 2 (codes "p/S") None None act.Implement None IncompatibleClassChangeError))
+    ≡ client (a_class (codes "r/D") 0x0021 (Some object_name) (codes "p/S" ∷ []) [] (init 1 ∷ [])) (object_init ∷ []) ∷ []
+unfolding computes plan by_name placed first_unused least_name constructors digits
+closed_interface_is_planned = simp (ascii (codes "q/C") (lit< tt, (lit< tt, (lit< tt, tt))), ascii (codes "r/D") (lit< tt, (lit< tt, (lit< tt, tt)))) refl
+
+-- p/A with two protected initializers and a protected field, and then without the field: from the seat p/A on an object of its own
+abbrev f_key : Key
+f_key = key (codes "f") (codes "I")
+
+abbrev with_field : List Member → List Member → ClassFacts
+with_field fields inits = a_class p_A 0x0021 (Some object_name) [] fields inits
+
+field_act_is_planned : planned (over (with_field (member (codes "f") (codes "I") 4 ∷ []) (member (codes "<init>") (codes "(J)V") 4 ∷ member (codes "<init>") (codes "(I)V") 4 ∷ []) ∷ [])) (over (with_field [] [] ∷ []))
+    (cause.Finding (made 7 p_A (Some f_key) None act.GetField (Some p_A) NoSuchFieldError))
+    ≡ client (a_class (codes "w0/Y") 0x0021 (Some p_A) [] [] (init 1 ∷ member (codes "use") (codes "(Lw0/Y;)V") 9 ∷ [])) (item.Init p_A (codes "(I)V") ∷ item.Access act.GetField p_A f_key (Some (codes "w0/Y")) Other ∷ []) ∷ []
+unfolding computes plan by_name placed first_unused least_name constructors digits
+field_act_is_planned = refl
+
+abbrev sealed_with_run : ClassFacts
+sealed_with_run = record (sealed_interface (codes "p/S") (codes "b/X" ∷ [])) { methods = run 0x0401 ∷ [] }
+
+-- an interface that permits b/X alone: the planned interface is b/X, before w0/U
+inherited_call_is_planned : planned (over (sealed_with_run ∷ [])) (over (sealed_interface (codes "p/S") (codes "b/X" ∷ []) ∷ [])) (cause.Finding (made 9 (codes "p/S") (Some run_key) None act.Inherit None NoSuchMethodError))
+    ≡ client (a_class (codes "b/X") 0x0601 (Some object_name) (codes "p/S" ∷ []) [] []) []
+    ∷ U (codes "w0/U") (codes "(Lb/X;)V") (item.Access act.InvokeInterface (codes "b/X") run_key (Some (codes "b/X")) Other ∷ []) ∷ []
+unfolding computes plan by_name placed first_unused least_name constructors digits
+inherited_call_is_planned = simp (ascii (codes "b/X") (lit< tt, (lit< tt, (lit< tt, tt)))) refl
+
+-- ---- the premises can be met
+
+valid_old : IsValidClass (plain p_A)
+unfolding computes
+valid_old = record {
+  name = refl;
+  flags = refl;
+  superclass = refl;
+  interfaces = refl;
+  fields = refl;
+  fields_differ = refl;
+  methods = refl;
+  methods_differ = refl;
+  permits = refl;
+  nest_host = refl;
+  nest_members = refl;
+  constants = refl;
+  constants_differ = refl;
+  signatures = refl;
+  signatures_differ = refl;
+  one_of_class = refl;
+}
+
+valid_new : IsValidClass (public_class p_A [] (run 2 ∷ []))
+unfolding computes
+valid_new = record {
+  name = refl;
+  flags = refl;
+  superclass = refl;
+  interfaces = refl;
+  fields = refl;
+  fields_differ = refl;
+  methods = refl;
+  methods_differ = refl;
+  permits = refl;
+  nest_host = refl;
+  nest_members = refl;
+  constants = refl;
+  constants_differ = refl;
+  signatures = refl;
+  signatures_differ = refl;
+  one_of_class = refl;
+}
+
+pub clients_can_be_planned : CanPlan (object ∷ []) (plain p_A ∷ []) (public_class p_A [] (run 2 ∷ []) ∷ [])
+unfolding computes
+clients_can_be_planned = record {
+  root = record {
+    has = record { root = object; is_there = refl; superclass = refl; interfaces = refl; fields = refl; public = refl; class = refl };
+    not_final = refl;
+    permits = refl;
+    init = refl;
+  };
+  platform_valid = All-from_recursion IsValidClass (object ∷ []) (root_is_valid, tt);
+  old_valid = All-from_recursion IsValidClass (plain p_A ∷ []) (valid_old, tt);
+  new_valid = All-from_recursion IsValidClass (public_class p_A [] (run 2 ∷ []) ∷ []) (valid_new, tt);
+  few = lit< tt;
+}

@@ -1,0 +1,113 @@
+-- Completeness: what the rules find, some client world shows.
+use Rattle.std.specs.Prelude.{List, ◌≡◌, ◌<◌, ◌^◌, None, Some, length, All, Contains, IsTrue, IsFalse, codes, slice_get}
+use Rattle.jc_facts.specs.declared.class_facts.ClassFacts.{ClassFacts}
+use Rattle.jc_facts.specs.declared.client.ClientClass.{ClientClass}
+use Rattle.jc_facts.specs.declared.client.Item.{Item}
+use Rattle.jc_facts.specs.declared.finding.Finding.{Finding}
+use Rattle.jc_facts.specs.declared.verdict.Collision.{Collision}
+use Rattle.jc_facts.specs.declared.verdict.Verdict.{Verdict}
+use Rattle.jc_facts.specs.declared.verdict.Cause.{Cause}
+use Rattle.jc_facts.specs.declared.verdict.Cause.TheVariants as cause
+use Rattle.jc_facts.specs.declared.verdict.Spot.{Spot}
+use Rattle.jc_facts.specs.declared.verdict.Spot.TheVariants as spot
+use Rattle.jc_facts.specs.declared.link_error.LinkError.{LinkError}
+use Rattle.jc_facts.specs.Flags.{is_public, is_final}
+use Rattle.jc_facts.specs.Options.{some_and}
+use Rattle.jc_facts.specs.World.{World, side, with_clients, own_method}
+use Rattle.jc_facts.specs.Loading.{load_fault}
+use Rattle.jc_facts.specs.Outcome.{outcome, Links, init_key}
+use Rattle.jc_facts.specs.Valid.{IsValidClass}
+use Rattle.jc_facts.specs.Clients.{IsInScope, facts_of, is_in_reach, HasRoot, Keeps}
+use Rattle.jc_facts.specs.Meets.{Meets}
+use Rattle.jc_facts.specs.Findings.{Stands}
+use Rattle.jc_facts.specs.Collisions.{CollisionStands}
+use Rattle.jc_facts.specs.Mentioned.{mentioned}
+use Rattle.jc_facts.specs.PlannedNames.{fresh_package}
+use Rattle.jc_facts.specs.Planned.{Plan, plan, planned, planned_for}
+use Rattle.jc_facts.specs.Exact.{NamesRise}
+use Rattle.jc_facts.specs.Verdict.{IsVerdict, is_incompatible}
+
+-- ---- of what releases it is said
+
+-- clients may extend the platform's java/lang/Object: it isn't final, permits everybody, and has a public initializer without parameters
+pub record HasOpenRoot (platform : List ClassFacts) : Type 0 where
+  pub has : HasRoot platform
+  pub not_final : IsFalse (is_final has.root.flags)
+  pub permits : has.root.permits ≡ None
+  pub init : IsTrue (some_and (λ m. is_public m.flags) (own_method has.root (init_key (codes "()V"))))
+
+-- valid records, a root that clients may extend, and a number of names of at most 64 digits, so that the package's name is short
+pub record CanPlan (platform old new : List ClassFacts) : Type 0 where
+  pub root : HasOpenRoot platform
+  pub platform_valid : All IsValidClass platform
+  pub old_valid : All IsValidClass old
+  pub new_valid : All IsValidClass new
+  pub few : length (mentioned (side platform old) (side platform new)) < 10 ^ 64
+
+-- ---- what a plan shows
+
+-- the client loads, and all its items are in reach and Ok
+abbrev pub LinksWhole : World → ClientClass → Type 0
+LinksWhole W c = (load_fault W c.facts.name ≡ None) × All (λ i. IsTrue (is_in_reach W c.facts.name i) × Links W c.facts.name i) c.items
+
+-- the load of the client has this error, or the client loads and its item of the number has it
+abbrev pub FailsBy : World → ClientClass → Spot → LinkError → Type 0
+FailsBy W c spot.Load e = load_fault W c.facts.name ≡ Some e
+FailsBy W c (spot.Item n) e = (load_fault W c.facts.name ≡ None) × ((i : Item) × (slice_get c.items n ≡ Some i) × (outcome W c.facts.name i ≡ Some e))
+
+-- the plan's clients are in scope, link whole with the old side, and their spot has this error with the new one
+pub record Shows (O N : World) (p : Plan) (e : LinkError) : Type 0 where
+  pub in_scope : IsInScope O N p.clients
+  pub links : All (LinksWhole (with_clients O (facts_of p.clients))) p.clients
+  pub spot : ClientClass
+  pub is_in : Contains p.clients spot
+  pub name : spot.facts.name ≡ p.name
+  pub fails : FailsBy (with_clients N (facts_of p.clients)) spot p.spot e
+
+-- the clients meet no collision that stands
+abbrev pub MeetsNothing : World → World → List ClientClass → Type 0
+MeetsNothing O N cs = (c : Collision) → CollisionStands O N c → ¬ (Meets (with_clients O (facts_of cs)) cs c)
+
+-- ---- the laws
+
+-- each finding of this kind is shown by its plan, which meets no collision
+abbrev pub FindingsShown : (Finding → Type 0) → Type 0
+FindingsShown Kind = (platform old new : List ClassFacts) → CanPlan platform old new → (f : Finding) → Kind f → Stands (side platform old) (side platform new) f
+    → let O = side platform old in let N = side platform new in let p = plan O N (fresh_package O N) (cause.Finding f) in
+    Shows O N p f.error × MeetsNothing O N p.clients
+
+-- each collision of this kind is shown by its plan, which meets it
+abbrev pub CollisionsShown : (Collision → Type 0) → Type 0
+CollisionsShown Kind = (platform old new : List ClassFacts) → CanPlan platform old new → (c : Collision) → Kind c → CollisionStands (side platform old) (side platform new) c
+    → let O = side platform old in let N = side platform new in let p = plan O N (fresh_package O N) (cause.Collision c) in
+    Shows O N p c.error × Meets (with_clients O (facts_of p.clients)) p.clients c
+
+-- ---- whole
+
+-- the planned clients stand in order and show the error
+abbrev pub PlannedShow : World → World → Cause → LinkError → Type 0
+PlannedShow O N e error = NamesRise (λ (c : ClientClass). c.facts.name) (planned O N e) × Shows O N (planned_for O N e) error
+
+-- the planned clients meet the collision
+abbrev pub PlannedMeet : World → World → Cause → Collision → Type 0
+PlannedMeet O N e c = Meets (with_clients O (facts_of (planned O N e))) (planned O N e) c
+
+-- For each finding and each collision of the verdict the planned clients are in scope and link whole with the old release, and one spot of
+-- them has the named error with the new. Those of a finding meet no collision of the verdict, and those of a collision meet it.
+abbrev pub Completeness : Type 0
+Completeness = (platform old new : List ClassFacts) (v : Verdict) → CanPlan platform old new → IsVerdict (side platform old) (side platform new) v
+    → let O = side platform old in let N = side platform new in
+    All (λ f. PlannedShow O N (cause.Finding f) f.error × All (λ c. ¬ (PlannedMeet O N (cause.Finding f) c)) v.collisions) v.findings
+    × All (λ c. PlannedShow O N (cause.Collision c) c.error × PlannedMeet O N (cause.Collision c) c) v.collisions
+
+-- a client world in scope that meets no collision of the verdict and isn't kept
+pub record IsBroken (O N : World) (v : Verdict) (cs : List ClientClass) : Type 0 where
+  pub in_scope : IsInScope O N cs
+  pub meets_none : All (λ c. ¬ (Meets (with_clients O (facts_of cs)) cs c)) v.collisions
+  pub not_kept : ¬ (Keeps O N cs)
+
+-- The verdict is `incompatible` exactly where there is such a world: soundness and completeness in one.
+abbrev pub VerdictIsExact : Type 0
+VerdictIsExact = (platform old new : List ClassFacts) (v : Verdict) → CanPlan platform old new → IsVerdict (side platform old) (side platform new) v
+    → (IsTrue (is_incompatible v) → (cs : List ClientClass) × IsBroken (side platform old) (side platform new) v cs)
+    × ((cs : List ClientClass) → IsBroken (side platform old) (side platform new) v cs → IsTrue (is_incompatible v))

@@ -1,0 +1,15 @@
+-- The number of names that two sides mention, from their counts.
+use Rattle.std.specs.Prelude.{◌≤◌, ◌<◌, ◌+◌, ◌^◌, List, length, All}
+use Rattle.jc_facts.specs.declared.class_facts.ClassFacts.{ClassFacts}
+use Rattle.jc_facts.specs.World.{side}
+use Rattle.jc_facts.specs.Mentioned.{permitted, mentioned}
+
+-- the class names fewer than 2^64 interfaces and permits fewer than 2^64 classes, as every list of the program is shorter
+pub record HasCountedNames (c : ClassFacts) : Type 0 where
+  pub interfaces : length c.interfaces < 2 ^ 64
+  pub permits : length (permitted c.permits) < 2 ^ 64
+
+-- sides of at most 120,000 such classes mention fewer than 10^64 names
+abbrev pub FewAreMentioned : Type 0
+FewAreMentioned = (platform old new : List ClassFacts) → length platform + length old ≤ 120000 → length platform + length new ≤ 120000
+    → All HasCountedNames platform → All HasCountedNames old → All HasCountedNames new → length (mentioned (side platform old) (side platform new)) < 10 ^ 64
