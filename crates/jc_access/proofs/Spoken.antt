@@ -98,12 +98,12 @@ module _ (W : World) (side : IsSide W) (clients : List ClassFacts) (allowed : Al
 
 -- ---- for the answers
 
-pub class_spoken : (W : World) (a y : Bytes) (c d : ClassFacts) (b : Bool) → Some c ≡ find W y → find W y ≡ Some d → b ≡ is_public c.flags → b ≡ false → SpeaksForSeat W a (λ V x. is_class_accessible V x d) false
+pub class_spoken : (W : World) (a y : Bytes) (c d : ClassFacts) (b : Bool) → Some c ≡ find W y → find W y ≡ Some d → b ≡ is_public c.flags → b ≡ false → SpeaksForSeat W a (λ V x. is_class_accessible x d) false
 class_spoken W a y c d b f g e h side clients allowed x i l s =
     let is : c ≡ d = (let q : Some c ≡ Some d = f ∙ g in cc) in
     sym (ap (λ p. p || same_package x d.name) (sym (e ∙ ap (λ z. is_public z.flags) is) ∙ h) ∙ class-client W side clients allowed x y d g i)
 
-pub class_inside : (W : World) (x y : Bytes) (c d : ClassFacts) (p b : Bool) → Some c ≡ find W y → find W y ≡ Some d → p ≡ is_public c.flags → p ≡ false → b ≡ same_package x y → b ≡ is_class_accessible W x d
+pub class_inside : (W : World) (x y : Bytes) (c d : ClassFacts) (p b : Bool) → Some c ≡ find W y → find W y ≡ Some d → p ≡ is_public c.flags → p ≡ false → b ≡ same_package x y → b ≡ is_class_accessible x d
 class_inside W x y c d p b f g e h q =
     let is : c ≡ d = (let z : Some c ≡ Some d = f ∙ g in cc) in
     q ∙ ap (same_package x) (sym (find-name W y d g)) ∙ sym (ap (λ a. a || same_package x d.name) (sym (e ∙ ap (λ z. is_public z.flags) is) ∙ h))

@@ -17,7 +17,7 @@ IsSeatOf W (seats.Client a) = a < size W
 
 -- the class d is accessible from the class itself, or from each client of the seat, which is of no package of the side (JVMS 5.4.4)
 abbrev pub class_open : World → Seat → ClassFacts → Bool
-class_open W (seats.Inside x) d = is_class_accessible W (name_at W x) d
+class_open W (seats.Inside x) d = is_class_accessible (name_at W x) d
 class_open W (seats.Client a) d = is_public d.flags
 
 -- the member, named through the class n, is accessible from the class itself, or from each client of the seat (JVMS 5.4.4)

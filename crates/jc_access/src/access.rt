@@ -21,17 +21,19 @@ use jc_table::table::Table;
 pub enum Seat {
     /// The class of the table itself.
     Inside(ClassId),
-    /// Any client of an allowed name whose first superclass that is no client is this class.
+    /// Any client that loads, has an allowed name, and whose first superclass that is no client is
+    /// this class.
     Client(ClassId),
 }
 
 /// Whether the class is accessible: it is public, or of the package of the class of the seat
-/// `Inside` (JVMS 5.4.4).
+/// `Inside` (JVMS 5.4.4). For the seat `Client` the answer is that of each client that loads, has an
+/// allowed name and has this seat.
 pub fn class_access(table: &Table, from: Seat, class: ClassId) -> bool
     requires from { IsSeatOf table.now from }
     requires class { class < size table.now }
     ensures value { (d : ClassOf) → find table.now (name_at table.now class) ≡ Some d → result ≡ class_open table.now from d }
-    ensures clients { (d : ClassOf) → find table.now (name_at table.now class) ≡ Some d → SpeaksFor table.now from (λ V x. is_class_accessible V x d) result }
+    ensures clients { (d : ClassOf) → find table.now (name_at table.now class) ≡ Some d → SpeaksFor table.now from (λ V x. is_class_accessible x d) result }
 {
     if is_public(table.facts(class).flags) {
         return true;
@@ -89,7 +91,8 @@ fn from_clients(table: &Table, seat: ClassId, found: Found, named: ClassId) -> b
             && (is_static(found.flags) || table.has_super(seat, named)))
 }
 
-/// Whether the member, named through the class, is accessible (JVMS 5.4.4).
+/// Whether the member, named through the class, is accessible (JVMS 5.4.4). For the seat `Client` the
+/// answer is that of each client that loads, has an allowed name and has this seat.
 pub fn accessible(table: &Table, from: Seat, found: Found, named: ClassId) -> bool
     requires from { IsSeatOf table.now from }
     requires owner { found.owner < size table.now }

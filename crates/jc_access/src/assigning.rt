@@ -145,7 +145,8 @@ fn assign(table: &Table, from: TypeText<'_>, to: TypeText<'_>) -> bool
 
 /// Whether the type of the one text is assignable to that of the other: a class by its name, an
 /// array by its descriptor (JVMS 4.4.1, 4.10.1.2). An ill-formed array is assignable to nothing,
-/// and nothing to it. The names may be any. Takes no memory.
+/// and nothing to it. The names may be any, and the answer is about the classes of the table: it
+/// speaks for no client. Takes no memory.
 #[tactic(auto, unfolding(jc_facts::specs::Assignment::is_assignable))]
 pub fn assignable(table: &Table, from: &Name, to: &Name) -> bool
     ensures { result ≡ is_assignable table.now from.now to.now }

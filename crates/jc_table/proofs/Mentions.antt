@@ -8,7 +8,7 @@ use Rattle.std.proofs.lemmas.List.Sorted.{list_any-IsPermutation}
 use Rattle.jc_facts.specs.declared.class_facts.ClassFacts.{ClassFacts}
 use Rattle.jc_facts.specs.Names.{Bytes, same, package_of}
 use Rattle.jc_facts.specs.Search.{supers}
-use Rattle.jc_table.specs.Mentioned.{mentions}
+use Rattle.jc_facts.specs.Mentioned.{mentions}
 use Rattle.jc_table.specs.Texts.{AreTexts}
 
 module _ {A B : Type 0} (p : B → Bool) where

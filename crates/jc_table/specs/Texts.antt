@@ -4,7 +4,7 @@ use Rattle.std.specs.List.{list_any, starts_with}
 use Rattle.jc_facts.specs.declared.class_facts.ClassFacts.{ClassFacts}
 use Rattle.jc_facts.specs.Names.{Bytes, same, is_among, package_of}
 use Rattle.jc_facts.specs.Search.{supers}
-use Rattle.jc_table.specs.Mentioned.{mentions}
+use Rattle.jc_facts.specs.Mentioned.{mentions}
 use Rattle.jc_table.specs.declared.texts.Texts.{Texts}
 
 -- a name is among each of the lists exactly where a class says so

@@ -2,7 +2,7 @@
 ghost use Rattle.std.specs.Prelude.{◌≡◌, ◌||◌, not, option_map};
 ghost use Rattle.jc_facts.specs.Flags.{is_interface as interface_flag, is_final as final_flag};
 ghost use Rattle.jc_facts.specs.Names.{is_among as among};
-ghost use Rattle.jc_facts.specs.World.{World, find};
+ghost use Rattle.jc_facts.specs.World.{find};
 ghost use Rattle.jc_facts.specs.Access.{is_class_accessible};
 ghost use Rattle.jc_facts.specs.Loading.{fault_where, is_sealed_to as sealed_to, superclass_error as superclass_fault_by, interface_error as interface_fault_by, superclass_fault as superclass_fault_of, interface_fault as interface_fault_of};
 ghost use Rattle.jc_facts.specs.Options.{and_then, first_some, or_else};
@@ -24,7 +24,7 @@ pub fn is_among(names: &[Name], name: &Name) -> bool
 /// Whether the class is accessible from the one of this name: it is public, or of its package
 /// (JVMS 5.4.4).
 pub fn is_accessible(class: &ClassFacts, from: &Name) -> bool
-    ensures { (W : World) → result ≡ is_class_accessible W from.now class.now }
+    ensures { result ≡ is_class_accessible from.now class.now }
 {
     is_public(class.flags) || same_package(from.as_bytes(), class.name.as_bytes())
 }
@@ -32,7 +32,7 @@ pub fn is_accessible(class: &ClassFacts, from: &Name) -> bool
 /// Whether the class has permitted subclasses that leave the other one out: that one isn't public
 /// and is of another package, or isn't among them (JVMS 4.7.31).
 pub fn is_sealed_to(class: &ClassFacts, below: &ClassFacts) -> bool
-    ensures { (W : World) → result ≡ sealed_to W class.now below.now }
+    ensures { result ≡ sealed_to class.now below.now }
 {
     match &class.permits {
         None => false,
@@ -60,14 +60,14 @@ fn refusal(accessible: bool, wrong_kind: bool) -> Option<LinkError>
 
 // Whether the class can't be the superclass of the other one, be it accessible or not.
 fn is_closed(class: &ClassFacts, below: &ClassFacts) -> bool
-    ensures { (W : World) → result ≡ (interface_flag class.now.flags || final_flag class.now.flags || sealed_to W class.now below.now) }
+    ensures { result ≡ (interface_flag class.now.flags || final_flag class.now.flags || sealed_to class.now below.now) }
 {
     is_interface(class.flags) || is_final(class.flags) || is_sealed_to(class, below)
 }
 
 // Whether the class can't be an interface of the other one, be it accessible or not.
 fn is_unnamable(class: &ClassFacts, below: &ClassFacts) -> bool
-    ensures { (W : World) → result ≡ (not (interface_flag class.now.flags) || sealed_to W class.now below.now) }
+    ensures { result ≡ (not (interface_flag class.now.flags) || sealed_to class.now below.now) }
 {
     !is_interface(class.flags) || is_sealed_to(class, below)
 }
@@ -76,7 +76,7 @@ fn is_unnamable(class: &ClassFacts, below: &ClassFacts) -> bool
 /// accessible, then `IncompatibleClassChangeError` where it is an interface, final, or sealed to the
 /// class.
 pub fn superclass_error(class: &ClassFacts, above: &ClassFacts) -> Option<LinkError>
-    ensures { (W : World) → result ≡ superclass_fault_by W class.now above.now }
+    ensures { result ≡ superclass_fault_by class.now above.now }
 {
     refusal(is_accessible(above, &class.name), is_closed(above, class))
 }
@@ -84,7 +84,7 @@ pub fn superclass_error(class: &ClassFacts, above: &ClassFacts) -> Option<LinkEr
 /// Why the class may not have `above` as one of its interfaces: `IllegalAccessError` where it isn't
 /// accessible, then `IncompatibleClassChangeError` where it is no interface, or sealed to the class.
 pub fn interface_error(class: &ClassFacts, above: &ClassFacts) -> Option<LinkError>
-    ensures { (W : World) → result ≡ interface_fault_by W class.now above.now }
+    ensures { result ≡ interface_fault_by class.now above.now }
 {
     refusal(
         is_accessible(above, &class.name),

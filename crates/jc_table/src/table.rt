@@ -206,8 +206,8 @@ impl Table {
         self.index.in_platform(id)
     }
 
-    /// The interfaces that the class names, and those that they lead to in turn (JVMS 4.1), each
-    /// once; not those of its superclasses.
+    /// The interfaces that the class names, and those that they lead to in turn (JVMS 4.1), in any
+    /// order; not those of its superclasses.
     pub fn interfaces(&self, id: ClassId) -> &[ClassId]
         requires { id < size self.now }
         ensures { AreAbove self.now (name_at self.now id) result.now }

@@ -3,7 +3,7 @@ ghost use Rattle.std.specs.Prelude.{◌≡◌, ◌++◌, IfOk, OnOk, map};
 ghost use Rattle.std.specs.List.{flat_map};
 ghost use Rattle.jc_facts.specs.Names.{package_of as package_name};
 ghost use Rattle.jc_facts.specs.Search.{supers};
-ghost use Rattle.jc_table.specs.Mentioned.{permitted, mentions};
+ghost use Rattle.jc_facts.specs.Mentioned.{permitted, mentions};
 ghost use Rattle.jc_table.specs.Texts.{AreTexts};
 
 use crate::name_set::NameSet;

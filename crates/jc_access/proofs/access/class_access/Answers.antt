@@ -15,5 +15,5 @@ returns-in-Inside-clause-value c = λ d f.
 
 pub returns-in-Client-clause-clients : goal.returns-in-Client-clause-clients
 returns-in-Client-clause-clients c = λ d f.
-    subst (λ (s : Seat). SpeaksFor c.args.table.now s (λ V x. is_class_accessible V x d) false) (sym c.in-Client.is)
+    subst (λ (s : Seat). SpeaksFor c.args.table.now s (λ V x. is_class_accessible x d) false) (sym c.in-Client.is)
     (class_spoken c.args.table.now (name_at c.args.table.now c.in-Client.field-0) (name_at c.args.table.now c.args.class) c.facts.result.now d c.is_public.result c.facts.ensures f c.is_public.ensures c.if-is_public.false)

@@ -8,4 +8,4 @@ pub returns-in-Some : goal.returns-in-Some
 unfolding superclass_fault and_then
 returns-in-Some c =
     let e : find c.args.index.now c.args.name.now ≡ Some c.in-Some.above.now = sym c.in-Some.ensures in
-    c.superclass_error.ensures c.args.index.now ∙ rw e refl
+    c.superclass_error.ensures ∙ rw e refl
