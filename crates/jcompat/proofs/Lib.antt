@@ -8,3 +8,8 @@ pub mod OneVerdict
 pub mod ThreeTrees
 pub mod Events
 pub mod Surely
+pub mod Gathered
+pub mod Declarations
+pub mod Subjects
+pub mod SomeVerdict
+pub mod Decided

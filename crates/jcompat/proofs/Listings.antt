@@ -52,7 +52,7 @@ rising_kept p (x ∷ xs) h = go (p x) (each_kept (λ y. Before x y) p xs h.0) (r
     go true k more = (k, more)
     go false k more = more
 
-contained_kept : {A : Type 0} (p : A → Bool) (xs : List A) (x : A) → Contains xs x → p x ≡ true → Contains (filter p xs) x
+pub contained_kept : {A : Type 0} (p : A → Bool) (xs : List A) (x : A) → Contains xs x → p x ≡ true → Contains (filter p xs) x
 contained_kept p [] x c e = absurd (none x c)
 contained_kept {A} p (y ∷ ys) x c e = go (p y) refl (cases y ys x c) (contained_kept p ys x)
   where

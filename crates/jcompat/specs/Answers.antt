@@ -164,12 +164,13 @@ pub record CutsReport (g : Given) (v : Verdict) (out err : Took) (status : ℕ) 
   pub cause : status ≡ 5 → Rose out.faults_before out.faults_after
 
 -- a refusal was due, or there was no memory, which has no line: a front of the line was put, and nothing to the output; a failed put was
--- one on the error stream
+-- one on the error stream, of a line that was due
 pub record CutsRefusal (g : Given) (stop : Stop) (out err : Took) (status : ℕ) : Type 0 where
   pub due : HasCause g stop
   pub output : out.after ≡ out.before
   pub errors : TakesFront err.before err.after (line_of stop)
   pub cause : status ≡ 5 → Rose err.faults_before err.faults_after
+  pub has_line : status ≡ 5 → stop ≢ stops.Memory
 
 -- a put failed, or there was no memory
 abbrev pub IsCutShort : Given → Took → Took → ℕ → Type 0

@@ -7,6 +7,7 @@ use Rattle.jc_facts.specs.Text.{text_of}
 use Rattle.jcompat.specs.Answers.{Took}
 use Rattle.jcompat.specs.Stop.{line_of, status_of}
 use Rattle.jcompat.specs.declared.stop.Stop.{Stop}
+use Rattle.jcompat.specs.declared.stop.Stop.TheVariants as stops
 
 -- the output of the verdict was put whole, or a front of it
 pub record Reported (v : Verdict) (taken : Took) (status : ℕ) : Type 0 where
@@ -17,9 +18,10 @@ pub record Reported (v : Verdict) (taken : Took) (status : ℕ) : Type 0 where
   pub cut : (status ≡ 5) ⊎ (status ≡ 6) → TakesFront taken.before taken.after (text_of v)
   pub cause : status ≡ 5 → Rose taken.faults_before taken.faults_after
 
--- the line of the stop was put whole, or a front of it
+-- the line of the stop was put whole, or a front of it; want of memory has no line whose put may fail
 pub record Refused (stop : Stop) (taken : Took) (status : ℕ) : Type 0 where
   pub known : (status ≡ status_of stop) ⊎ (status ≡ 5) ⊎ (status ≡ 6)
   pub whole : status ≡ status_of stop → status ≢ 6 → TakesAll taken.before taken.after (line_of stop)
   pub cut : (status ≡ 5) ⊎ (status ≡ 6) → TakesFront taken.before taken.after (line_of stop)
   pub cause : status ≡ 5 → Rose taken.faults_before taken.faults_after
+  pub has_line : status ≡ 5 → stop ≢ stops.Memory

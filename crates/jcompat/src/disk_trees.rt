@@ -9,7 +9,7 @@ use jc_base::root_faults::RootFaults;
 use jc_base::text::Text;
 use jc_base::trees::{TreeError, Trees};
 use std::alloc::{AllocError, Global};
-use std::fs::{DirEntry, metadata, open, read_dir};
+use std::fs::{DirEntry, Metadata, OpenFile, metadata, open, read_dir};
 use std::io;
 use std::io::{ErrorKind, Read};
 use std::path::Path;
@@ -25,11 +25,13 @@ const BUFFER_LEN: usize = 65536;
 /// folder. What they are isn't told.
 ///
 /// Folders are followed, links to folders are passed over, and a link to anything else is a file,
-/// also one that leads nowhere: to read it is a fault.
+/// also one that leads nowhere. To read what doesn't lead to a regular file, as a FIFO, a socket, a
+/// device or nothing, is a fault, and it is never opened.
 ///
 /// A call on a root fails where the system fails, and a listing also where the root isn't a folder,
-/// where a name isn't UTF-8, where there are more than 1,000,000 entries, folders among them, and
-/// where a path came twice. The count of failed calls on a root stops at `u64::MAX`.
+/// where a folder is gone once it is listed, where a name isn't UTF-8, where there are more than
+/// 1,000,000 entries, folders among them, and where a path came twice. The count of failed calls on a
+/// root stops at `u64::MAX`.
 #[derive(Drop)]
 pub struct DiskTrees<R: Files + AllocGlobal + Clone + Drop> {
     rt: R,
@@ -74,7 +76,8 @@ impl Walk {
         }
     }
 
-    // Takes the entries of a folder.
+    // Takes the entries of a folder. The system ends the listing of a folder that was removed as if
+    // it had been read whole, so the folder is asked for again.
     fn visit<R: Files + AllocGlobal + Clone + Drop>(
         &mut self,
         rt: &R,
@@ -85,7 +88,11 @@ impl Walk {
         for entry in read_dir(rt, place.as_str())? {
             self.take(rt, folder, &entry?)?;
         }
-        Ok(())
+        if metadata(rt, place.as_str())?.is_dir() {
+            Ok(())
+        } else {
+            Err(io::Error::from(ErrorKind::NotADirectory))
+        }
     }
 
     // Takes an entry of a folder.
@@ -150,7 +157,25 @@ fn sorted_files<R: Files + AllocGlobal + Clone + Drop>(rt: &R, root: &str) -> io
     }
 }
 
-// The first bytes of a file, at most as many as given. A read that gives nothing is the file's end.
+// Nothing where it is of a regular file, else an error.
+fn regular(found: Metadata) -> io::Result<()> {
+    if found.is_file() {
+        Ok(())
+    } else {
+        Err(io::Error::from(ErrorKind::InvalidInput))
+    }
+}
+
+// Opens the regular file that a path leads to. What it is is asked first, since to open a FIFO or a
+// device may wait for ever; and again of what was opened, since another may have come in its place.
+fn open_regular<R: Files>(files: &R, path: &str) -> io::Result<R::File> {
+    regular(metadata(files, path)?)?;
+    let file = open(files, path)?;
+    regular(file.metadata()?)?;
+    Ok(file)
+}
+
+// The first bytes of a regular file, at most as many as given. A read that gives nothing is the file's end.
 fn front_of<R: Files + AllocGlobal + Clone + Drop>(
     rt: &R,
     path: &str,
@@ -158,7 +183,7 @@ fn front_of<R: Files + AllocGlobal + Clone + Drop>(
 ) -> io::Result<Vec<u8>>
     ensures { IfOk result (λ bytes. length bytes.items ≤ most) }
 {
-    let mut file = open(rt, path)?;
+    let mut file = open_regular(rt, path)?;
     let mut buffer = vec![in rt.alloc(); 0u8; BUFFER_LEN]?;
     let mut bytes = Vec::new(rt.alloc());
     while bytes.len() < most {

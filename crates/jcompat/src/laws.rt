@@ -1,8 +1,14 @@
 //! Laws of the definitions that the top call's contract cites, each the contract of a function that
 //! does nothing, and the top call over trees and sinks that don't fail.
-ghost use Rattle.std.specs.Prelude.{◌≡◌, ◌⊎◌, ℕ, List};
+ghost use Rattle.std.specs.Prelude.{◌≡◌, ◌≢◌, ◌⊎◌, ℕ, List, []};
+ghost use Rattle.std.specs.List.{All};
 ghost use Rattle.jc_base.specs.Outside.{FileOf};
+ghost use Rattle.jc_facts.specs.declared.class_facts.ClassFacts.{ClassFacts};
 ghost use Rattle.jc_facts.specs.declared.verdict.Verdict.{Verdict};
+ghost use Rattle.jc_facts.specs.Clients.{HasRoot};
+ghost use Rattle.jc_facts.specs.Valid.{IsValidClass};
+ghost use Rattle.jc_facts.specs.Verdict.{IsVerdict};
+ghost use Rattle.jc_facts.specs.World.{side};
 ghost use Rattle.jcompat.specs.Classes.{Told};
 ghost use Rattle.jcompat.specs.Stop.{status_of};
 ghost use Rattle.jcompat.specs.Answers.{given, Reports, Refuses, IsRefused, IsAccepted, IsVerdictOn, IsCompatible, IsIncompatible};
@@ -22,14 +28,23 @@ pub fn one_refusal()
     ensures { (words : List (List ℕ)) (files : List FileOf) (a b : Stop) → IsRefused words files a → IsRefused words files b → a ≡ b }
 {}
 
-/// What is accepted isn't refused.
+/// Words and files are accepted, or there is a first refusal, and not both.
 pub fn refused_or_accepted()
-    ensures { (words : List (List ℕ)) (files : List FileOf) (stop : Stop) → IsAccepted words files → IsRefused words files stop → ⊥ }
+    ensures either { (words : List (List ℕ)) (files : List FileOf) → IsAccepted words files ⊎ ((stop : Stop) × IsRefused words files stop) }
+    ensures not_both { (words : List (List ℕ)) (files : List FileOf) (stop : Stop) → IsAccepted words files → IsRefused words files stop → ⊥ }
 {}
 
-/// Words and files have at most one verdict.
+/// Two releases of valid classes have a verdict, where the platform has its root.
+pub fn there_is_a_verdict()
+    ensures { (platform old new : List ClassFacts) → HasRoot platform → All IsValidClass platform → All IsValidClass old → All IsValidClass new
+        → (v : Verdict) × IsVerdict (side platform old) (side platform new) v }
+{}
+
+/// What is accepted has one verdict, and what isn't has none.
 pub fn one_verdict()
-    ensures { (words : List (List ℕ)) (files : List FileOf) (a b : Verdict) → IsVerdictOn words files a → IsVerdictOn words files b → a ≡ b }
+    ensures some { (words : List (List ℕ)) (files : List FileOf) → IsAccepted words files → (v : Verdict) × IsVerdictOn words files v }
+    ensures accepted { (words : List (List ℕ)) (files : List FileOf) (v : Verdict) → IsVerdictOn words files v → IsAccepted words files }
+    ensures one { (words : List (List ℕ)) (files : List FileOf) (a b : Verdict) → IsVerdictOn words files a → IsVerdictOn words files b → a ≡ b }
 {}
 
 /// The top call over trees and sinks that don't fail. Only want of memory stands in the way of its
@@ -42,9 +57,9 @@ pub fn run_surely(
     err: &mut SureSink,
 ) -> u8
     ensures known { (result ≡ 0) ⊎ (result ≡ 1) ⊎ (result ≡ 2) ⊎ (result ≡ 3) ⊎ (result ≡ 6) ⊎ (result ≡ 7) }
-    ensures compatible { result ≡ 0 → (v : Verdict) × Told (⟦<SureTrees as Trees>⟧.content trees.old) (λ files. IsCompatible words.now files v)
+    ensures compatible { result ≡ 0 → (v : Verdict) × (v.findings ≡ []) × Told (⟦<SureTrees as Trees>⟧.content trees.old) (λ files. IsCompatible words.now files v)
         × Reports v (surely (⟦<SureSink as Sink>⟧.taken out.old) (⟦<SureSink as Sink>⟧.taken out.new)) (surely (⟦<SureSink as Sink>⟧.taken err.old) (⟦<SureSink as Sink>⟧.taken err.new)) }
-    ensures incompatible { result ≡ 1 → (v : Verdict) × Told (⟦<SureTrees as Trees>⟧.content trees.old) (λ files. IsIncompatible words.now files v)
+    ensures incompatible { result ≡ 1 → (v : Verdict) × (v.findings ≢ []) × Told (⟦<SureTrees as Trees>⟧.content trees.old) (λ files. IsIncompatible words.now files v)
         × Reports v (surely (⟦<SureSink as Sink>⟧.taken out.old) (⟦<SureSink as Sink>⟧.taken out.new)) (surely (⟦<SureSink as Sink>⟧.taken err.old) (⟦<SureSink as Sink>⟧.taken err.new)) }
     ensures refusing { (result ≡ 2) ⊎ (result ≡ 3) ⊎ (result ≡ 7) → (stop : Stop) × (status_of stop ≡ result)
         × Refuses (given words.now (⟦<SureTrees as Trees>⟧.content trees.old) (λ _. 0) (λ _. 0)) stop

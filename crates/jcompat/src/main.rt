@@ -20,19 +20,25 @@ use crate::run::run;
 use crate::std_sink::StdSink;
 use jc_base::text::Text;
 use std::alloc::{AllocError, Global};
+use std::env;
 use std::env::Env;
 use std::io::ErrorKind;
 use std::process::ExitCode;
-use std::{env, io};
 
 /// The status where there is no memory even for the words.
 const NO_MEMORY: u8 = 6;
 
-// The words after the program's name.
-fn words_after_name(rt: &(impl Env + AllocGlobal)) -> io::Result<Vec<Text>> {
+// The words after the program's name, or none where there is one that isn't UTF-8: then they are no
+// words of a command.
+fn words_after_name(rt: &(impl Env + AllocGlobal)) -> Result<Vec<Text>, AllocError> {
     let alloc = rt.alloc();
     let mut words = Vec::new(alloc);
-    for word in env::args(rt)?.skip(1) {
+    let given = match env::args(rt) {
+        Ok(given) => given,
+        Err(error) if error.kind() == ErrorKind::OutOfMemory => return Err(AllocError),
+        Err(_) => return Ok(words),
+    };
+    for word in given.skip(1) {
         words.push(Text::from_str(alloc, word.as_str())?)?;
     }
     Ok(words)
@@ -40,11 +46,8 @@ fn words_after_name(rt: &(impl Env + AllocGlobal)) -> io::Result<Vec<Text>> {
 
 fn main(rt: HostRuntime) -> ExitCode {
     let alloc = rt.alloc();
-    let words = match words_after_name(&rt) {
-        Ok(words) => words,
-        Err(error) if error.kind() == ErrorKind::OutOfMemory => return ExitCode::from(NO_MEMORY),
-        // Words that aren't UTF-8 are no words of a command.
-        Err(_) => Vec::new(alloc),
+    let Ok(words) = words_after_name(&rt) else {
+        return ExitCode::from(NO_MEMORY);
     };
     let mut out = StdSink::new(rt.stdout());
     let mut err = StdSink::new(rt.stderr());

@@ -1,8 +1,13 @@
 use crate::disk_trees::DiskTrees;
+use crate::run::run;
 use crate::std_sink::StdSink;
+use crate::words_after_name;
 use jc_base::sink::{Sink, SinkError};
+use jc_base::sure_sink::SureSink;
+use jc_base::sure_trees::SureTrees;
 use jc_base::trees::{TreeError, Trees};
 use std::alloc::Global;
+use std::env::{Env, FillError};
 use std::io::Write;
 use std::os::unix::fs::symlink;
 use std::test::Fail;
@@ -19,7 +24,7 @@ pub(crate) fn new_folder(rt: &HostRuntime, name: &str) -> Result<String, Fail> {
     Ok(folder)
 }
 
-// A folder with nested folders, a file that is no class file, and links to a folder, to a file and to nothing.
+// A folder with nested folders, a file that is no class file, and links to a folder, to a file, to a device and to nothing.
 fn make_tree(rt: &HostRuntime, root: &str) -> Result<(), Fail> {
     let alloc = rt.alloc();
     fs::create_dir_all(rt, format!(in alloc; "{root}/p/q")?.as_str())?;
@@ -30,6 +35,7 @@ fn make_tree(rt: &HostRuntime, root: &str) -> Result<(), Fail> {
         ("D.class", "A.class"),
         ("r", "p"),
         ("gone.class", "nowhere"),
+        ("null.class", "/dev/null"),
     ] {
         symlink(rt, original, format!(in alloc; "{root}/{link}")?.as_str())?;
     }
@@ -64,6 +70,7 @@ fn real_folders_are_listed_and_read(rt: HostRuntime) -> Result<(), Fail> {
         "D.class",
         "gone.class",
         "notes.txt",
+        "null.class",
         "p/B.class",
         "p/q/C.class",
     ];
@@ -83,12 +90,10 @@ fn real_folders_are_listed_and_read(rt: HostRuntime) -> Result<(), Fail> {
     let front = trees.read(alloc, root.as_str(), "D.class", 2)?;
     assert!(rt; front.as_slice() == b"A.c".as_slice());
 
-    assert!(rt;
-        matches!(
-            trees.read(alloc, root.as_str(), "gone.class", 9),
-            Err(TreeError::Fault)
-        )
-    );
+    for link in ["gone.class", "null.class"] {
+        let read = trees.read(alloc, root.as_str(), link, 9);
+        assert!(rt; matches!(read, Err(TreeError::Fault)), "{link}");
+    }
     let no_folder = format!(in alloc; "{root}/notes.txt")?;
     assert!(rt; matches!(trees.list(alloc, no_folder.as_str()), Err(TreeError::Fault)));
     fs::remove_dir_all(&rt, root.as_str())?;
@@ -128,5 +133,44 @@ fn real_files_take_what_is_put(rt: HostRuntime) -> Result<(), Fail> {
     let mut narrow = StdSink::new(Narrow { room: 3 });
     narrow.put(b"abc")?;
     assert!(rt; matches!(narrow.put(b"d"), Err(SinkError::Fault)));
+    Ok(())
+}
+
+// A program that is called with its name and one word, which isn't UTF-8.
+#[derive(Drop)]
+struct OddWord;
+
+impl Env for OddWord {
+    fn arg(&self, i: usize, buf: &mut [u8]) -> Result<usize, FillError> {
+        if i > 1 {
+            return Err(FillError::NotPresent);
+        }
+        if buf.is_empty() {
+            return Err(FillError::TooLong);
+        }
+        buf[0] = if i == 0 { b'j' } else { 0xff };
+        Ok(1)
+    }
+
+    fn var(&self, _name: &str, _buf: &mut [u8]) -> Result<usize, FillError> {
+        Err(FillError::NotPresent)
+    }
+
+    fn var_at(&self, _i: usize, _buf: &mut [u8]) -> Result<usize, FillError> {
+        Err(FillError::NotPresent)
+    }
+}
+
+#[test]
+fn a_word_that_isnt_utf8_is_a_wrong_word(rt: HostRuntime) -> Result<(), Fail> {
+    let alloc = rt.alloc();
+    let words = words_after_name(&(OddWord, alloc))?;
+    let mut trees = SureTrees::new(Vec::new(alloc));
+    let mut out = SureSink::new(alloc);
+    let mut err = SureSink::new(alloc);
+    let answer = run(alloc, words.as_slice(), &mut trees, &mut out, &mut err);
+    assert_eq!(rt; answer, 2);
+    assert!(rt; out.bytes().is_empty());
+    assert!(rt; err.bytes() == b"jcompat: usage: words\n".as_slice());
     Ok(())
 }

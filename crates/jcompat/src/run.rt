@@ -1,5 +1,5 @@
 //! The one top call.
-ghost use Rattle.std.specs.Prelude.{◌≡◌, ◌⊎◌};
+ghost use Rattle.std.specs.Prelude.{◌≡◌, ◌≢◌, ◌⊎◌, []};
 ghost use Rattle.jc_facts.specs.declared.verdict.Verdict.{Verdict};
 ghost use Rattle.jcompat.specs.Classes.{Told};
 ghost use Rattle.jcompat.specs.Stop.{status_of};
@@ -32,12 +32,12 @@ pub fn run<T: Trees, O: Sink, E: Sink>(
 ) -> u8
     ensures known { (result ≡ 0) ⊎ (result ≡ 1) ⊎ (result ≡ 2) ⊎ (result ≡ 3) ⊎ (result ≡ 4) ⊎ (result ≡ 5) ⊎ (result ≡ 6) ⊎ (result ≡ 7) }
 
-    // There is no finding, and each client world in scope that meets none of the collisions keeps what held with the old release.
-    ensures compatible { result ≡ 0 → (v : Verdict) × Told (T.content trees.old) (λ files. IsCompatible words.now files v)
+    // There is no finding in what was put, and each client world in scope that meets none of its collisions keeps what held with the old release.
+    ensures compatible { result ≡ 0 → (v : Verdict) × (v.findings ≡ []) × Told (T.content trees.old) (λ files. IsCompatible words.now files v)
         × Reports v (took (O.taken out.old) (O.taken out.new) (O.faults out.old) (O.faults out.new)) (took (E.taken err.old) (E.taken err.new) (E.faults err.old) (E.faults err.new)) }
 
-    // There are findings, and whoever names a class that is gone has the error of its finding.
-    ensures incompatible { result ≡ 1 → (v : Verdict) × Told (T.content trees.old) (λ files. IsIncompatible words.now files v)
+    // There are findings in what was put, and whoever names a class that is gone has the error of its finding.
+    ensures incompatible { result ≡ 1 → (v : Verdict) × (v.findings ≢ []) × Told (T.content trees.old) (λ files. IsIncompatible words.now files v)
         × Reports v (took (O.taken out.old) (O.taken out.new) (O.faults out.old) (O.faults out.new)) (took (E.taken err.old) (E.taken err.new) (E.faults err.old) (E.faults err.new)) }
 
     // The words ask for nothing that is built.
@@ -56,7 +56,7 @@ pub fn run<T: Trees, O: Sink, E: Sink>(
     ensures read_fault { result ≡ 4 → (tree : Tree) × Refuses (given words.now (T.content trees.old) (T.faults trees.old) (T.faults trees.new)) (Stop.ReadFault tree)
         (took (O.taken out.old) (O.taken out.new) (O.faults out.old) (O.faults out.new)) (took (E.taken err.old) (E.taken err.new) (E.faults err.old) (E.faults err.new)) }
 
-    // A put failed, or there was no memory.
+    // A put failed, on `out` of a verdict that was due, or on `err` of a line that was; or there was no memory.
     ensures cut_short { (result ≡ 5) ⊎ (result ≡ 6) → IsCutShort (given words.now (T.content trees.old) (T.faults trees.old) (T.faults trees.new))
         (took (O.taken out.old) (O.taken out.new) (O.faults out.old) (O.faults out.new)) (took (E.taken err.old) (E.taken err.new) (E.faults err.old) (E.faults err.new)) result }
 

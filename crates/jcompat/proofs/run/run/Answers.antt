@@ -5,12 +5,12 @@ use Rattle.jcompat.proofs.run.run.Goals as goal
 pub returns-in-Ok-clause-compatible : goal.returns-in-Ok-clause-compatible
 returns-in-Ok-clause-compatible g c = λ zero.
     let reported = c.report.ensures in
-    (c.in-Ok.verdict, c.in-Ok.ensures.compatible (reported.none zero), record { output = reported.whole (inl zero); errors = refl })
+    (c.in-Ok.verdict, reported.none zero, c.in-Ok.ensures.compatible (reported.none zero), record { output = reported.whole (inl zero); errors = refl })
 
 pub returns-in-Ok-clause-incompatible : goal.returns-in-Ok-clause-incompatible
 returns-in-Ok-clause-incompatible g c = λ one.
     let reported = c.report.ensures in
-    (c.in-Ok.verdict, c.in-Ok.ensures.incompatible (reported.some one), record { output = reported.whole (inr one); errors = refl })
+    (c.in-Ok.verdict, reported.some one, c.in-Ok.ensures.incompatible (reported.some one), record { output = reported.whole (inr one); errors = refl })
 
 pub returns-in-Ok-clause-refused : goal.returns-in-Ok-clause-refused
 returns-in-Ok-clause-refused g c = λ files told stop refused. absurd (not_refused _ files stop (verdict_accepted _ files _ (c.in-Ok.ensures.verdict files told)) refused)

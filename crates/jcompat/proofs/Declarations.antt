@@ -1,0 +1,147 @@
+-- Whom a side's classes name and what they declare, as lists of candidates.
+--     all_keys cs      the keys of all members of the classes
+use Rattle.std.proofs.Common.{◌≡◌, Bool, true, false, cond, ℕ, zero, suc, List, [], ◌∷◌, ◌++◌, map, refl, sym, ap, subst, Option, Some, None, ◌⊎◌, inl, inr, ◌&&◌, ◌||◌, ◌∙◌}
+use Rattle.std.specs.Prelude.{is_some}
+use Rattle.std.specs.List.{Contains, list_any, find as first_where}
+use Rattle.std.proofs.lemmas.Bool.{and_parts, or_cases}
+use Rattle.std.proofs.lemmas.List.Elements.{Contains-append_left, Contains-append_right}
+use Rattle.jc_facts.specs.declared.class_facts.ClassFacts.{ClassFacts}
+use Rattle.jc_facts.specs.declared.class_facts.Member.{Member}
+use Rattle.jc_facts.specs.declared.key.Key.{Key}
+use Rattle.jc_facts.specs.Names.{Bytes, same, is_key, key_of}
+use Rattle.jc_facts.specs.World.{World, class_named, classes, find, own_field, own_method, size}
+use Rattle.jc_facts.specs.Search.{of_class, descend}
+use Rattle.jc_facts.specs.Hierarchy.{chain_step, of_super, chain, each, interfaces_step, with_interfaces, interfaces_of, superinterfaces}
+use Rattle.jc_facts.proofs.Listed.{EachOf, EachOf-map, here, there, none, cases}
+use Rattle.jc_facts.proofs.Same.{same_is}
+use Rattle.jc_laws.specs.Findings.{declares_key, above}
+use Rattle.jc_laws.proofs.Settles.{EachOf-append}
+use Rattle.jc_laws.proofs.Above.{each-all}
+
+-- ---- lists of candidates
+
+pub mapped : {A B : Type 0} (f : A → B) (xs : List A) (x : A) → Contains xs x → Contains (map f xs) (f x)
+mapped f [] x c = absurd (none x c)
+mapped {A} {B} f (y ∷ ys) x c = go (cases y ys x c) (mapped f ys x)
+  where
+    go : (y ≡ x) ⊎ Contains ys x → (Contains ys x → Contains (map f ys) (f x)) → Contains (f y ∷ map f ys) (f x)
+    go (inl is) r = subst (λ (z : A). Contains (f y ∷ map f ys) (f z)) is (here (f y) (map f ys))
+    go (inr d) r = there (f x) (f y) (map f ys) (r d)
+
+-- what f gives of each of the list, in a row
+abbrev pub spread : {A B : Type 0} → (A → List B) → List A → List B
+spread f [] = []
+spread f (x ∷ xs) = f x ++ spread f xs
+
+pub spread_has : {A B : Type 0} (f : A → List B) (xs : List A) (x : A) (b : B) → Contains xs x → Contains (f x) b → Contains (spread f xs) b
+spread_has f [] x b c d = absurd (none x c)
+spread_has {A} f (y ∷ ys) x b c d = go (cases y ys x c) (λ m. spread_has f ys x b m d)
+  where
+    go : (y ≡ x) ⊎ Contains ys x → (Contains ys x → Contains (spread f ys) b) → Contains (f y ++ spread f ys) b
+    go (inl is) r = Contains-append_left (f y) (spread f ys) b (subst (λ (z : A). Contains (f z) b) (sym is) d)
+    go (inr m) r = Contains-append_right (f y) (spread f ys) b (r m)
+
+every : {A : Type 0} (P : A → Type 0) → ((x : A) → P x) → (xs : List A) → EachOf P xs
+every P h [] = tt
+every P h (x ∷ xs) = (h x, every P h xs)
+
+-- ---- keys
+
+key_is : (k : Key) (m : Member) → is_key k m ≡ true → key_of m ≡ k
+key_is k m e =
+    let p = and_parts (same m.name k.name) (same m.descriptor k.descriptor) e in
+    ap (λ n. record { name = n; descriptor = m.descriptor }) (same_is m.name k.name p.0) ∙ ap (λ d. record { name = k.name; descriptor = d }) (same_is m.descriptor k.descriptor p.1)
+
+key_listed : (k : Key) (ms : List Member) → is_some (first_where (is_key k) ms) ≡ true → Contains (map key_of ms) k
+key_listed k [] e = absurd (cc)
+key_listed k (m ∷ ms) e = go (is_key k m) refl e (key_listed k ms)
+  where
+    go : (b : Bool) → is_key k m ≡ b → is_some (cond b (Some m) (first_where (is_key k) ms)) ≡ true → (is_some (first_where (is_key k) ms) ≡ true → Contains (map key_of ms) k) → Contains (key_of m ∷ map key_of ms) k
+    go true q e r = subst (Contains (key_of m ∷ map key_of ms)) (key_is k m q) (here (key_of m) (map key_of ms))
+    go false q e r = there k (key_of m) (map key_of ms) (r e)
+
+-- the keys of all members of the class
+abbrev pub own_keys : ClassFacts → List Key
+own_keys c = map key_of c.fields ++ map key_of c.methods
+
+abbrev pub all_keys : List ClassFacts → List Key
+all_keys cs = spread own_keys cs
+
+own_key : (k : Key) (c : ClassFacts) → declares_key k c ≡ true → Contains (own_keys c) k
+own_key k c e = go (or_cases (is_some (own_field c k)) (is_some (own_method c k)) e)
+  where
+    go : (is_some (own_field c k) ≡ true) ⊎ (is_some (own_method c k) ≡ true) → Contains (own_keys c) k
+    go (inl f) = Contains-append_left (map key_of c.fields) (map key_of c.methods) k (key_listed k c.fields f)
+    go (inr m) = Contains-append_right (map key_of c.fields) (map key_of c.methods) k (key_listed k c.methods m)
+
+-- the key that one of the classes declares is among their keys
+pub class_key : (k : Key) (cs : List ClassFacts) (c : ClassFacts) → Contains cs c → declares_key k c ≡ true → Contains (all_keys cs) k
+class_key k cs c m e = spread_has own_keys cs c k m (own_key k c e)
+
+pub some_key : (k : Key) (cs xs : List ClassFacts) → EachOf (Contains cs) xs → list_any (declares_key k) xs ≡ true → Contains (all_keys cs) k
+some_key k cs [] h e = absurd (cc)
+some_key k cs (x ∷ xs) h e = go (or_cases (declares_key k x) (list_any (declares_key k) xs) e) (some_key k cs xs h.1)
+  where
+    go : (declares_key k x ≡ true) ⊎ (list_any (declares_key k) xs ≡ true) → (list_any (declares_key k) xs ≡ true → Contains (all_keys cs) k) → Contains (all_keys cs) k
+    go (inl d) r = class_key k cs x h.0 d
+    go (inr d) r = r d
+
+-- ---- the classes of a world
+
+pub named_in : (cs : List ClassFacts) (x : Bytes) (c : ClassFacts) → class_named cs x ≡ Some c → Contains cs c
+unfolding class_named
+named_in [] x c e = absurd (cc)
+named_in (d ∷ ds) x c e = go (same d.name x) e (named_in ds x c)
+  where
+    go : (b : Bool) → cond b (Some d) (class_named ds x) ≡ Some c → (class_named ds x ≡ Some c → Contains ds c) → Contains (d ∷ ds) c
+    go true q r = let is : d ≡ c = cc in subst (Contains (d ∷ ds)) is (here d ds)
+    go false q r = there c d ds (r q)
+
+module _ (W : World) where
+  pub found_in_world : (x : Bytes) (c : ClassFacts) → find W x ≡ Some c → Contains (classes W) c
+  unfolding find
+  found_in_world x c e = named_in (classes W) x c e
+
+  chain_in : (n : ℕ) (x : Bytes) → EachOf (Contains (classes W)) (descend W [] [] chain_step n x)
+  unfolding descend chain_step
+  chain_in zero x = go (find W x)
+    where
+      go : (o : Option ClassFacts) → EachOf (Contains (classes W)) (of_class [] (λ c. []) o)
+      go None = tt
+      go (Some c) = tt
+  chain_in (suc n) x = go (find W x) refl (chain_in n)
+    where
+      up : ((y : Bytes) → EachOf (Contains (classes W)) (descend W [] [] chain_step n y)) → (s : Option Bytes) → EachOf (Contains (classes W)) (of_super (descend W [] [] chain_step n) s)
+      up r None = tt
+      up r (Some y) = r y
+
+      go : (o : Option ClassFacts) → find W x ≡ o → ((y : Bytes) → EachOf (Contains (classes W)) (descend W [] [] chain_step n y)) → EachOf (Contains (classes W)) (of_class [] (λ c. chain_step (descend W [] [] chain_step n) c) o)
+      go None e r = tt
+      go (Some c) e r = (found_in_world x c e, up r c.superclass)
+
+  interfaces_in : (n : ℕ) (x : Bytes) → EachOf (Contains (classes W)) (descend W [] [] interfaces_step n x)
+  unfolding descend interfaces_step
+  interfaces_in zero x = go (find W x)
+    where
+      go : (o : Option ClassFacts) → EachOf (Contains (classes W)) (of_class [] (λ c. []) o)
+      go None = tt
+      go (Some c) = tt
+  interfaces_in (suc n) x = go (find W x) refl (interfaces_in n)
+    where
+      go : (o : Option ClassFacts) → find W x ≡ o → ((y : Bytes) → EachOf (Contains (classes W)) (descend W [] [] interfaces_step n y))
+          → EachOf (Contains (classes W)) (of_class [] (λ c. interfaces_step (descend W [] [] interfaces_step n) c) o)
+      go None e r = tt
+      go (Some c) e r = (found_in_world x c e, each-all (Contains (classes W)) (descend W [] [] interfaces_step n) c.interfaces (every _ r c.interfaces))
+
+  all_interfaces_in : (cs : List ClassFacts) → EachOf (Contains (classes W)) (interfaces_of W cs)
+  unfolding interfaces_of with_interfaces
+  all_interfaces_in [] = tt
+  all_interfaces_in (c ∷ cs) =
+      EachOf-append (Contains (classes W)) (each (with_interfaces W) c.interfaces) (interfaces_of W cs)
+      (each-all (Contains (classes W)) (with_interfaces W) c.interfaces (every _ (λ y. interfaces_in (size W) y) c.interfaces))
+      (all_interfaces_in cs)
+
+  -- who stands above a class is one of them
+  pub above_in : (x : Bytes) → EachOf (Contains (classes W)) (above W x)
+  unfolding chain superinterfaces
+  above_in x = EachOf-append (Contains (classes W)) (chain W x) (superinterfaces W x) (chain_in (size W) x) (all_interfaces_in (chain W x))
