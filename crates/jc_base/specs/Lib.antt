@@ -1,5 +1,6 @@
 pub mod Causes
 pub mod Outside
+pub mod States
 pub mod Schedule
 pub mod RootFaults
 pub mod MemFile

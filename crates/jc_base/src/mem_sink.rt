@@ -50,11 +50,9 @@ impl MemSink {
 }
 
 impl Sink for MemSink {
-    ghost use Rattle.jc_base.specs.MemSink.{plan_of, bytes_of, faults_of};
+    ghost use Rattle.jc_base.specs.MemSink.{plan_of, bytes_of, faults_of, state_of};
 
-    ghost taken = { λ s. Some (bytes_of s) };
-
-    ghost faults = { faults_of };
+    ghost state = { state_of };
 
     fn put(&mut self, bytes: &[u8]) -> Result<(), SinkError>
         ensures ok { OnOk result (TakesAll (Some (bytes_of self.old)) (Some (bytes_of self.new)) bytes.now) }

@@ -64,11 +64,9 @@ impl MemTrees {
 }
 
 impl Trees for MemTrees {
-    ghost use Rattle.jc_base.specs.MemTrees.{plan_of, held_by, faults_at};
+    ghost use Rattle.jc_base.specs.MemTrees.{plan_of, held_by, faults_at, state_of};
 
-    ghost content = { λ t. Some (held_by t) };
-
-    ghost faults = { faults_at };
+    ghost state = { state_of };
 
     #[tactic(auto, using(crate::proofs::Paths::distinct_paths))]
     fn list(&mut self, alloc: Global, root: &str) -> Result<Vec<Text>, TreeError>

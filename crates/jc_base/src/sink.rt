@@ -1,7 +1,8 @@
 //! What bytes are written to.
-ghost use Rattle.std.specs.Prelude.{◌≤◌, ◌<◌, ◌^◌, ℕ, List, Option, IsErrOf, OnOk, OnErr};
+ghost use Rattle.std.specs.Prelude.{◌≤◌, ◌<◌, ◌^◌, IsErrOf, OnOk, OnErr};
 ghost use Rattle.jc_base.specs.Causes.{Rose};
 ghost use Rattle.jc_base.specs.Outside.{TakesAll, TakesFront};
+ghost use Rattle.jc_base.specs.States.{SinkState};
 
 use thiserror::Error;
 
@@ -18,17 +19,14 @@ pub enum SinkError {
 
 /// What takes bytes, as standard output does.
 pub trait Sink {
-    /// The bytes taken, where they are told.
-    ghost taken: { Self → Option (List ℕ) };
-
-    /// How many calls have failed.
-    ghost faults: { Self → ℕ };
+    /// The bytes taken, where they are told, and how many calls have failed.
+    ghost state: { Self → SinkState };
 
     /// Puts the bytes at the end of those taken. After an error a front of them may have been taken.
     fn put(&mut self, bytes: &[u8]) -> Result<(), SinkError>
-        ensures ok { OnOk result (TakesAll (taken self.old) (taken self.new) bytes.now) }
-        ensures err { OnErr result (TakesFront (taken self.old) (taken self.new) bytes.now) }
-        ensures never_falls { faults self.old ≤ faults self.new }
-        ensures bounded { faults self.new < 2 ^ 64 }
-        ensures cause { IsErrOf result SinkError.Fault → Rose (faults self.old) (faults self.new) };
+        ensures ok { OnOk result (TakesAll (state self.old).taken (state self.new).taken bytes.now) }
+        ensures err { OnErr result (TakesFront (state self.old).taken (state self.new).taken bytes.now) }
+        ensures never_falls { (state self.old).faults ≤ (state self.new).faults }
+        ensures bounded { (state self.new).faults < 2 ^ 64 }
+        ensures cause { IsErrOf result SinkError.Fault → Rose (state self.old).faults (state self.new).faults };
 }

@@ -1,5 +1,6 @@
 //! A sink in memory that doesn't fail.
 ghost use Rattle.std.specs.Prelude.{◌≡◌, Some, []};
+ghost use Rattle.jc_base.specs.States.{SinkState};
 
 use crate::sink::{Sink, SinkError};
 use std::alloc::Global;
@@ -13,7 +14,7 @@ pub struct SureSink {
 impl SureSink {
     /// An empty sink.
     pub fn new(alloc: Global) -> SureSink
-        ensures { ⟦<SureSink as Sink>⟧.taken result ≡ Some [] }
+        ensures { ⟦<SureSink as Sink>⟧.state result ≡ record { taken = Some []; faults = 0 } }
     {
         SureSink {
             bytes: Vec::new(alloc),
@@ -22,16 +23,14 @@ impl SureSink {
 
     /// The bytes taken.
     pub fn bytes(&self) -> &[u8]
-        ensures { ⟦<SureSink as Sink>⟧.taken self.now ≡ Some result.now }
+        ensures { ⟦<SureSink as Sink>⟧.state self.now ≡ record { taken = Some result.now; faults = 0 } }
     {
         self.bytes.as_slice()
     }
 }
 
 impl Sink for SureSink {
-    ghost taken = { λ s. Some s.bytes.items };
-
-    ghost faults = { λ _. 0 };
+    ghost state = { λ s. record { taken = Some s.bytes.items; faults = 0 } };
 
     fn put(&mut self, bytes: &[u8]) -> Result<(), SinkError> {
         match self.bytes.extend_from_slice(bytes) {

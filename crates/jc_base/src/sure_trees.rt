@@ -1,6 +1,7 @@
 //! Trees in memory that don't fail.
 ghost use Rattle.std.specs.Prelude.{◌≡◌, Some, IsTrue};
 ghost use Rattle.jc_base.specs.Outside.{are_files};
+ghost use Rattle.jc_base.specs.States.{TreesState};
 ghost use Rattle.jc_base.specs.MemFile.{files_of};
 
 use crate::mem_file::{MemFile, front, paths};
@@ -19,16 +20,14 @@ impl SureTrees {
     /// Trees of these files.
     pub fn new(files: Vec<MemFile>) -> SureTrees
         requires { IsTrue (are_files (files_of files.items)) }
-        ensures { ⟦<SureTrees as Trees>⟧.content result ≡ Some (files_of files.items) }
+        ensures { ⟦<SureTrees as Trees>⟧.state result ≡ record { content = Some (files_of files.items); faults = λ _. 0 } }
     {
         SureTrees { files }
     }
 }
 
 impl Trees for SureTrees {
-    ghost content = { λ t. Some (files_of t.files.items) };
-
-    ghost faults = { λ _ _. 0 };
+    ghost state = { λ t. record { content = Some (files_of t.files.items); faults = λ _. 0 } };
 
     #[tactic(auto, using(crate::proofs::Paths::distinct_paths))]
     fn list(&mut self, alloc: Global, root: &str) -> Result<Vec<Text>, TreeError> {
