@@ -1,10 +1,10 @@
 -- Descriptors of fields, descriptors of methods and class names are told apart.
 use Rattle.std.proofs.Common.{◌≡◌, ◌≢◌, ℕ, suc, zero, Bool, true, false, nat_eq, List, [], ◌∷◌, ◌++◌, Some, None, refl, sym, ap, subst, ◌∙◌}
 use Rattle.std.proofs.lemmas.Bool.{eqb-true}
-use Rattle.jc_desc.specs.Names.{is_class_name}
-use Rattle.jc_desc.specs.Pool.{is_array}
+use Rattle.jc_desc.specs.Names.{spells_class_name}
+use Rattle.jc_desc.specs.Pool.{names_array}
 use Rattle.jc_desc.specs.Types.{Basic, byte, char, double, float, int, long, short, boolean, class, TypeOf, Method, basic_text, brackets, type_text, method_text, IsType, IsMethod}
-use Rattle.jc_desc.specs.Reading.{field_of, method_of, after_open}
+use Rattle.jc_desc.specs.Reading.{field_of, method_of, behind_open}
 use Rattle.jc_desc.proofs.Again.{field_again}
 use Rattle.jc_desc.proofs.Methods.{method_again}
 
@@ -20,7 +20,7 @@ one_method m n hm hn e =
     let b : method_of (method_text m) ≡ Some n = method_again (method_text m) n (hn, e) in
     cc
 
-no_open : (n : ℕ) (b : Basic) → after_open (brackets n ++ basic_text b) ≡ None
+no_open : (n : ℕ) (b : Basic) → behind_open (brackets n ++ basic_text b) ≡ None
 no_open (suc n) b = refl
 no_open zero byte = refl
 no_open zero char = refl
@@ -34,15 +34,15 @@ no_open zero (class name) = refl
 
 pub apart : (t : TypeOf) (m : Method) → type_text t ≢ method_text m
 apart t m e =
-    let a : after_open (method_text m) ≡ None = ap (λ (bs : List ℕ). after_open bs) (sym e) ∙ no_open t.dims t.base in
+    let a : behind_open (method_text m) ≡ None = ap (λ (bs : List ℕ). behind_open bs) (sym e) ∙ no_open t.dims t.base in
     absurd cc
 
-open_is_false : (b : ℕ) (bs : List ℕ) → is_class_name (b ∷ bs) ≡ true → nat_eq b 91 ≡ false
+open_is_false : (b : ℕ) (bs : List ℕ) → spells_class_name (b ∷ bs) ≡ true → nat_eq b 91 ≡ false
 open_is_false b bs h = go (nat_eq b 91) refl where
   go : (t : Bool) → nat_eq b 91 ≡ t → t ≡ false
-  go true e = absurd (let q : is_class_name (91 ∷ bs) ≡ true = subst (λ (k : ℕ). is_class_name (k ∷ bs) ≡ true) (eqb-true b 91 e) h in cc)
+  go true e = absurd (let q : spells_class_name (91 ∷ bs) ≡ true = subst (λ (k : ℕ). spells_class_name (k ∷ bs) ≡ true) (eqb-true b 91 e) h in cc)
   go false e = refl
 
-pub no_array : (name : List ℕ) → is_class_name name ≡ true → is_array name ≡ false
+pub no_array : (name : List ℕ) → spells_class_name name ≡ true → names_array name ≡ false
 no_array [] h = refl
 no_array (b ∷ bs) h = rw (open_is_false b bs h) refl

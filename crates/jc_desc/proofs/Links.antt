@@ -4,10 +4,10 @@ use Rattle.jc_desc.specs.declared.fault.Fault.{Fault}
 use Rattle.jc_desc.specs.declared.fault.Reason.{Reason}
 use Rattle.jc_desc.specs.declared.fault.Reason.TheVariants as reasons
 use Rattle.jc_desc.specs.Faults.{or_fault, first_fault}
-use Rattle.jc_desc.specs.Names.{is_class_name, is_member_name, is_init, is_clinit}
-use Rattle.jc_desc.specs.Pool.{Slot, at, text_of, name_of, descriptor_of, pair_of, kind_of, target_of, refers, is_meaningful, is_field, is_method, is_array, no_result, is_class_text, is_any_member, is_used_method, handle_fits, handle_names}
+use Rattle.jc_desc.specs.Names.{spells_class_name, spells_member_name, is_init_name, is_clinit_name}
+use Rattle.jc_desc.specs.Pool.{Slot, slot_of_index, text_in, name_in, descriptor_in, pair_in, handle_kind, handle_target, refers_rightly, is_meaningful, describes_field, describes_method, names_array, no_result, names_class, names_any_member, names_used_method, fits_handle, names_for_handle}
 use Rattle.jc_desc.specs.PoolGrammar.{IsLinked}
-use Rattle.jc_desc.specs.PoolSteps.{want, stands, class_fault, pair_fault, field_fault, shape_fault, method_fault, handle_fault, meaning_fault, reference_fault, sense_fault, links_fault}
+use Rattle.jc_desc.specs.PoolSteps.{want, stands, class_fault, pair_fault, field_fault, shape_fault, method_fault, fault_of_handle, meaning_fault, reference_fault, sense_fault, fault_of_links}
 use Rattle.jc_desc.specs.Reading.{method_of}
 
 -- ---- one entry
@@ -41,48 +41,48 @@ regroup true true true false false void = refl
 regroup true true true true true void = refl
 regroup true true true true false void = refl
 
-method_tells : (interface : Bool) (name descriptor : List ℕ) → Tells (method_fault interface name descriptor) (is_used_method interface name descriptor)
+method_tells : (interface : Bool) (name descriptor : List ℕ) → Tells (method_fault interface name descriptor) (names_used_method interface name descriptor)
 method_tells interface name descriptor =
     let void : Bool = no_result (method_of descriptor) in
-    let named : Bool = is_member_name name true && not (is_clinit name) && not (interface && is_init name) in
-    let steps : Tells (method_fault interface name descriptor) (is_method descriptor && (named && (not (is_init name) || void))) =
-    next_want (is_method descriptor) reasons.BadDescriptor _ (named && (not (is_init name) || void))
-    (next_want named reasons.BadName _ (not (is_init name) || void) (last_want (not (is_init name) || void) reasons.BadDescriptor)) in
-    let same : (is_method descriptor && (named && (not (is_init name) || void))) ≡ is_used_method interface name descriptor =
-    regroup (is_method descriptor) (is_member_name name true) (not (is_clinit name)) (is_init name) interface void in
+    let named : Bool = spells_member_name name true && not (is_clinit_name name) && not (interface && is_init_name name) in
+    let steps : Tells (method_fault interface name descriptor) (describes_method descriptor && (named && (not (is_init_name name) || void))) =
+    next_want (describes_method descriptor) reasons.BadDescriptor _ (named && (not (is_init_name name) || void))
+    (next_want named reasons.BadName _ (not (is_init_name name) || void) (last_want (not (is_init_name name) || void) reasons.BadDescriptor)) in
+    let same : (describes_method descriptor && (named && (not (is_init_name name) || void))) ≡ names_used_method interface name descriptor =
+    regroup (describes_method descriptor) (spells_member_name name true) (not (is_clinit_name name)) (is_init_name name) interface void in
     record { holds = λ e. sym same ∙ steps.holds e; quiet = λ e. steps.quiet (same ∙ e) }
 
-class_tells : (text : List ℕ) → Tells (class_fault text) (is_class_text text)
-class_tells text = last_want (is_class_name text || is_array text) reasons.BadName
+class_tells : (text : List ℕ) → Tells (class_fault text) (names_class text)
+class_tells text = last_want (spells_class_name text || names_array text) reasons.BadName
 
-pair_tells : (name descriptor : List ℕ) → Tells (pair_fault name descriptor) (is_any_member name descriptor)
+pair_tells : (name descriptor : List ℕ) → Tells (pair_fault name descriptor) (names_any_member name descriptor)
 pair_tells name descriptor =
-    next_want (is_member_name name false || is_member_name name true) reasons.BadName _ (is_field descriptor || is_method descriptor)
-    (last_want (is_field descriptor || is_method descriptor) reasons.BadDescriptor)
+    next_want (spells_member_name name false || spells_member_name name true) reasons.BadName _ (describes_field descriptor || describes_method descriptor)
+    (last_want (describes_field descriptor || describes_method descriptor) reasons.BadDescriptor)
 
-field_tells : (descriptor : List ℕ) → Tells (field_fault descriptor) (is_field descriptor)
-field_tells descriptor = last_want (is_field descriptor) reasons.BadDescriptor
+field_tells : (descriptor : List ℕ) → Tells (field_fault descriptor) (describes_field descriptor)
+field_tells descriptor = last_want (describes_field descriptor) reasons.BadDescriptor
 
-shape_tells : (descriptor : List ℕ) → Tells (shape_fault descriptor) (is_method descriptor)
-shape_tells descriptor = last_want (is_method descriptor) reasons.BadDescriptor
+shape_tells : (descriptor : List ℕ) → Tells (shape_fault descriptor) (describes_method descriptor)
+shape_tells descriptor = last_want (describes_method descriptor) reasons.BadDescriptor
 
-handle_tells : (kind tag : ℕ) (name : List ℕ) → Tells (handle_fault kind tag name) (handle_fits kind tag && handle_names kind name)
-handle_tells kind tag name = next_want (handle_fits kind tag) reasons.BadIndex _ (handle_names kind name) (last_want (handle_names kind name) reasons.BadName)
+handle_tells : (kind tag : ℕ) (name : List ℕ) → Tells (fault_of_handle kind tag name) (fits_handle kind tag && names_for_handle kind name)
+handle_tells kind tag name = next_want (fits_handle kind tag) reasons.BadIndex _ (names_for_handle kind name) (last_want (names_for_handle kind name) reasons.BadName)
 
 meaning_tells : (slots : List Slot) (s : Slot) → Tells (meaning_fault slots s) (is_meaningful slots s)
 unfolding meaning_fault is_meaningful
 meaning_tells slots s =
-    let named : Slot = pair_of slots s in
-    let used : Slot = at slots (target_of s) in
-    either (nat_eq s.tag 7) _ _ _ _ (class_tells (text_of slots s))
-    (either (nat_eq s.tag 12) _ _ _ _ (pair_tells (name_of slots s) (descriptor_of slots s))
-    (either (nat_eq s.tag 9) _ _ _ _ (field_tells (descriptor_of slots named))
-    (either (nat_eq s.tag 10) _ _ _ _ (method_tells false (name_of slots named) (descriptor_of slots named))
-    (either (nat_eq s.tag 11) _ _ _ _ (method_tells true (name_of slots named) (descriptor_of slots named))
-    (either (nat_eq s.tag 15) _ _ _ _ (handle_tells (kind_of s) used.tag (name_of slots (pair_of slots used)))
-    (either (nat_eq s.tag 16) _ _ _ _ (shape_tells (text_of slots s))
-    (either (nat_eq s.tag 17) _ _ _ _ (field_tells (descriptor_of slots named))
-    (either (nat_eq s.tag 18) _ _ _ _ (shape_tells (descriptor_of slots named)) always))))))))
+    let named : Slot = pair_in slots s in
+    let used : Slot = slot_of_index slots (handle_target s) in
+    either (nat_eq s.tag 7) _ _ _ _ (class_tells (text_in slots s))
+    (either (nat_eq s.tag 12) _ _ _ _ (pair_tells (name_in slots s) (descriptor_in slots s))
+    (either (nat_eq s.tag 9) _ _ _ _ (field_tells (descriptor_in slots named))
+    (either (nat_eq s.tag 10) _ _ _ _ (method_tells false (name_in slots named) (descriptor_in slots named))
+    (either (nat_eq s.tag 11) _ _ _ _ (method_tells true (name_in slots named) (descriptor_in slots named))
+    (either (nat_eq s.tag 15) _ _ _ _ (handle_tells (handle_kind s) used.tag (name_in slots (pair_in slots used)))
+    (either (nat_eq s.tag 16) _ _ _ _ (shape_tells (text_in slots s))
+    (either (nat_eq s.tag 17) _ _ _ _ (field_tells (descriptor_in slots named))
+    (either (nat_eq s.tag 18) _ _ _ _ (shape_tells (descriptor_in slots named)) always))))))))
 
 stands_none : (s : Slot) (reason : Option Reason) → stands s reason ≡ None → reason ≡ None
 stands_none s None e = refl
@@ -90,12 +90,12 @@ stands_none s (Some reason) e = absurd cc
 
 entry_linked : (slots : List Slot) (s : Slot) → reference_fault slots s ≡ None → sense_fault slots s ≡ None → IsLinked slots s
 entry_linked slots s r m = record {
-  refers_well = (last_want (refers slots s) reasons.BadIndex).holds (stands_none s (want (refers slots s) reasons.BadIndex None) r);
+  refers_well = (last_want (refers_rightly slots s) reasons.BadIndex).holds (stands_none s (want (refers_rightly slots s) reasons.BadIndex None) r);
   means_well = (meaning_tells slots s).holds (stands_none s (meaning_fault slots s) m);
 }
 
 refers_again : (slots : List Slot) (s : Slot) → IsLinked slots s → reference_fault slots s ≡ None
-refers_again slots s h = ap (λ (r : Option Reason). stands s r) ((last_want (refers slots s) reasons.BadIndex).quiet h.refers_well)
+refers_again slots s h = ap (λ (r : Option Reason). stands s r) ((last_want (refers_rightly slots s) reasons.BadIndex).quiet h.refers_well)
 
 means_again : (slots : List Slot) (s : Slot) → IsLinked slots s → sense_fault slots s ≡ None
 means_again slots s h = ap (λ (r : Option Reason). stands s r) ((meaning_tells slots s).quiet h.means_well)
@@ -119,12 +119,12 @@ no_faults judge (s ∷ ss) h =
     let others : first_fault judge ss ≡ None = no_faults judge ss (λ i d l. h (suc i) d (let q : suc i < suc (length ss) = omega (arith, l) in q)) in
     rw (here, others) refl
 
-pub all_linked : (slots : List Slot) → links_fault slots ≡ None → All (IsLinked slots) slots
+pub all_linked : (slots : List Slot) → fault_of_links slots ≡ None → All (IsLinked slots) slots
 all_linked slots h =
     let both = or_none (first_fault (reference_fault slots) slots) (first_fault (sense_fault slots) slots) h in
     λ i d l. entry_linked slots (get_or slots i d) (no_fault_at (reference_fault slots) slots both.0 i d l) (no_fault_at (sense_fault slots) slots both.1 i d l)
 
-pub links_again : (slots : List Slot) → All (IsLinked slots) slots → links_fault slots ≡ None
+pub links_again : (slots : List Slot) → All (IsLinked slots) slots → fault_of_links slots ≡ None
 links_again slots h =
     let r = no_faults (reference_fault slots) slots (λ i d l. refers_again slots (get_or slots i d) (h i d l)) in
     let m = no_faults (sense_fault slots) slots (λ i d l. means_again slots (get_or slots i d) (h i d l)) in

@@ -3,8 +3,8 @@ use Rattle.std.specs.Prelude.{◌≡◌, ℕ, List, [], ◌∷◌, ◌++◌, Boo
 use Rattle.std.specs.List.{list_all}
 
 -- none of . ; [ /
-abbrev pub is_name_byte : ℕ → Bool
-is_name_byte b = not (b == 46) && not (b == 59) && not (b == 91) && not (b == 47)
+abbrev pub is_byte_of_name : ℕ → Bool
+is_byte_of_name b = not (b == 46) && not (b == 59) && not (b == 91) && not (b == 47)
 
 -- no bytes at all
 abbrev pub is_nil : List ℕ → Bool
@@ -15,7 +15,7 @@ is_nil (b ∷ bs) = false
 
 -- one identifier of a class name
 abbrev pub is_name_part : List ℕ → Bool
-is_name_part part = not (is_nil part) && list_all is_name_byte part
+is_name_part part = not (is_nil part) && list_all is_byte_of_name part
 
 -- the first part and the others, with a / between each two
 abbrev pub joined_parts : List ℕ → List (List ℕ) → List ℕ
@@ -32,30 +32,30 @@ pub record IsClassName (bytes : List ℕ) : Type 0 where
 -- what may follow, where a part has to begin here, or where one is under way
 abbrev pub is_rest_of_name : Bool → List ℕ → Bool
 is_rest_of_name begins [] = not begins
-is_rest_of_name begins (b ∷ bs) = if b == 47 then not begins && is_rest_of_name true bs else is_name_byte b && is_rest_of_name false bs
+is_rest_of_name begins (b ∷ bs) = if b == 47 then not begins && is_rest_of_name true bs else is_byte_of_name b && is_rest_of_name false bs
 
 -- the same as a test, byte by byte: it holds exactly where IsClassName does
-abbrev pub is_class_name : List ℕ → Bool
-is_class_name bytes = is_rest_of_name true bytes
+abbrev pub spells_class_name : List ℕ → Bool
+spells_class_name bytes = is_rest_of_name true bytes
 
 -- ---- names of fields and methods
 
 -- a byte of a field's name; of a method's, it isn't < or > either
-abbrev pub is_member_byte : Bool → ℕ → Bool
-is_member_byte method b = is_name_byte b && not (method && (b == 60 || b == 62))
+abbrev pub is_byte_of_member : Bool → ℕ → Bool
+is_byte_of_member method b = is_byte_of_name b && not (method && (b == 60 || b == 62))
 
 -- the name of a constructor (JVMS 2.9.1)
-abbrev pub is_init : List ℕ → Bool
-is_init name = bytes_eq name (codes "<init>")
+abbrev pub is_init_name : List ℕ → Bool
+is_init_name name = bytes_eq name (codes "<init>")
 
 -- the name of a class initializer (JVMS 2.9.2)
-abbrev pub is_clinit : List ℕ → Bool
-is_clinit name = bytes_eq name (codes "<clinit>")
+abbrev pub is_clinit_name : List ℕ → Bool
+is_clinit_name name = bytes_eq name (codes "<clinit>")
 
 -- either of them
-abbrev pub is_initializer : List ℕ → Bool
-is_initializer name = is_init name || is_clinit name
+abbrev pub is_initializer_name : List ℕ → Bool
+is_initializer_name name = is_init_name name || is_clinit_name name
 
 -- the name of a method, or of a field
-abbrev pub is_member_name : List ℕ → Bool → Bool
-is_member_name bytes method = (method && is_initializer bytes) || (not (is_nil bytes) && list_all (is_member_byte method) bytes)
+abbrev pub spells_member_name : List ℕ → Bool → Bool
+spells_member_name bytes method = (method && is_initializer_name bytes) || (not (is_nil bytes) && list_all (is_byte_of_member method) bytes)

@@ -2,7 +2,7 @@
 -- entry lead to, and what is asked of an entry.
 use Rattle.std.specs.Prelude.{ℕ, ◌+◌, List, [], ◌∷◌, length, drop, get_or, Option, Some, None, Bool, true, false, ◌==◌, ◌||◌, ◌&&◌, not, nat_lt, is_some, if◌then◌else◌}
 use Rattle.byteorder.specs.Endian.{big_number}
-use Rattle.jc_desc.specs.Names.{is_class_name, is_member_name, is_init, is_clinit}
+use Rattle.jc_desc.specs.Names.{spells_class_name, spells_member_name, is_init_name, is_clinit_name}
 use Rattle.jc_desc.specs.Reading.{field_of, method_of}
 use Rattle.jc_desc.specs.Tags as tags
 use Rattle.jc_desc.specs.Types.{Method}
@@ -24,12 +24,12 @@ abbrev pub nothing : Slot
 nothing = record { tag = 0; body = []; left = 0 }
 
 -- a major from 45 to 61; from 56 on the minor is 0 or 65535 (JVMS 4.1, table 4.1-A)
-abbrev pub is_version : ℕ → ℕ → Bool
-is_version minor major = not (nat_lt major 45) && not (nat_lt 61 major) && (nat_lt major 56 || minor == 0 || minor == 65535)
+abbrev pub is_known_version : ℕ → ℕ → Bool
+is_known_version minor major = not (nat_lt major 45) && not (nat_lt 61 major) && (nat_lt major 56 || minor == 0 || minor == 65535)
 
 -- how many bytes follow the tag of an entry that isn't a Utf8
-abbrev pub body_len : ℕ → Option ℕ
-body_len tag =
+abbrev pub body_length : ℕ → Option ℕ
+body_length tag =
     if tag == tags.integer || tag == tags.float then Some 4
     else if tag == tags.long || tag == tags.double then Some 8
     else if tag == tags.class || tag == tags.string || tag == tags.method_type || tag == tags.module_name || tag == tags.package_name then Some 2
@@ -38,88 +38,88 @@ body_len tag =
     else None
 
 -- a Long or a Double, which takes two indices (JVMS 4.4.5)
-abbrev pub is_wide : ℕ → Bool
-is_wide tag = tag == tags.long || tag == tags.double
+abbrev pub is_wide_tag : ℕ → Bool
+is_wide_tag tag = tag == tags.long || tag == tags.double
 
 -- ---- what the indices in an entry lead to
 
 -- the number in the two bytes of a body from place i on; 0 where they aren't there
-abbrev pub short_in : ℕ → List ℕ → ℕ
-short_in i body = if nat_lt (length body) (i + 2) then 0 else big_number 2 (drop i body)
+abbrev pub short_from : ℕ → List ℕ → ℕ
+short_from i body = if nat_lt (length body) (i + 2) then 0 else big_number 2 (drop i body)
 
 -- the first index of an entry
-abbrev pub first : Slot → ℕ
-first s = short_in 0 s.body
+abbrev pub first_of : Slot → ℕ
+first_of s = short_from 0 s.body
 
 -- the second index of an entry
-abbrev pub second : Slot → ℕ
-second s = short_in 2 s.body
+abbrev pub second_of : Slot → ℕ
+second_of s = short_from 2 s.body
 
 -- what an index holds
-abbrev pub at : List Slot → ℕ → Slot
-at slots i = get_or slots i nothing
+abbrev pub slot_of_index : List Slot → ℕ → Slot
+slot_of_index slots i = get_or slots i nothing
 
 -- an index holds an entry of this tag
-abbrev pub holds : List Slot → ℕ → ℕ → Bool
-holds slots tag i = (at slots i).tag == tag
+abbrev pub holds_tag : List Slot → ℕ → ℕ → Bool
+holds_tag slots tag i = (slot_of_index slots i).tag == tag
 
 -- the text that a Class, String, MethodType, Module or Package names
-abbrev pub text_of : List Slot → Slot → List ℕ
-text_of slots s = (at slots (first s)).body
+abbrev pub text_in : List Slot → Slot → List ℕ
+text_in slots s = (slot_of_index slots (first_of s)).body
 
 -- the name of a NameAndType
-abbrev pub name_of : List Slot → Slot → List ℕ
-name_of slots s = (at slots (first s)).body
+abbrev pub name_in : List Slot → Slot → List ℕ
+name_in slots s = (slot_of_index slots (first_of s)).body
 
 -- the descriptor of a NameAndType
-abbrev pub descriptor_of : List Slot → Slot → List ℕ
-descriptor_of slots s = (at slots (second s)).body
+abbrev pub descriptor_in : List Slot → Slot → List ℕ
+descriptor_in slots s = (slot_of_index slots (second_of s)).body
 
 -- the NameAndType of a reference to a member, a Dynamic or an InvokeDynamic
-abbrev pub pair_of : List Slot → Slot → Slot
-pair_of slots s = at slots (second s)
+abbrev pub pair_in : List Slot → Slot → Slot
+pair_in slots s = slot_of_index slots (second_of s)
 
 -- the kind of a MethodHandle
-abbrev pub kind_of : Slot → ℕ
-kind_of s = get_or s.body 0 0
+abbrev pub handle_kind : Slot → ℕ
+handle_kind s = get_or s.body 0 0
 
 -- the index of the member that a MethodHandle uses
-abbrev pub target_of : Slot → ℕ
-target_of s = short_in 1 s.body
+abbrev pub handle_target : Slot → ℕ
+handle_target s = short_from 1 s.body
 
 -- ---- what is asked of an entry's indices
 
 -- the entries whose one index is that of a Utf8
-abbrev pub names_one_text : ℕ → Bool
-names_one_text tag = tag == tags.class || tag == tags.string || tag == tags.method_type || tag == tags.module_name || tag == tags.package_name
+abbrev pub names_one_utf8 : ℕ → Bool
+names_one_utf8 tag = tag == tags.class || tag == tags.string || tag == tags.method_type || tag == tags.module_name || tag == tags.package_name
 
 -- a Fieldref, Methodref or InterfaceMethodref
-abbrev pub is_member_ref : ℕ → Bool
-is_member_ref tag = tag == tags.field_ref || tag == tags.method_ref || tag == tags.interface_method_ref
+abbrev pub is_member_reference : ℕ → Bool
+is_member_reference tag = tag == tags.field_ref || tag == tags.method_ref || tag == tags.interface_method_ref
 
 -- each index holds an entry of the kind that JVMS 4.4.1 to 4.4.12 name for it
-unfoldable pub refers : List Slot → Slot → Bool
-refers slots s =
-    if names_one_text s.tag then holds slots tags.utf8 (first s)
-    else if is_member_ref s.tag then holds slots tags.class (first s) && holds slots tags.name_and_type (second s)
-    else if s.tag == tags.name_and_type then holds slots tags.utf8 (first s) && holds slots tags.utf8 (second s)
-    else if s.tag == tags.dynamic || s.tag == tags.invoke_dynamic then holds slots tags.name_and_type (second s)
+unfoldable pub refers_rightly : List Slot → Slot → Bool
+refers_rightly slots s =
+    if names_one_utf8 s.tag then holds_tag slots tags.utf8 (first_of s)
+    else if is_member_reference s.tag then holds_tag slots tags.class (first_of s) && holds_tag slots tags.name_and_type (second_of s)
+    else if s.tag == tags.name_and_type then holds_tag slots tags.utf8 (first_of s) && holds_tag slots tags.utf8 (second_of s)
+    else if s.tag == tags.dynamic || s.tag == tags.invoke_dynamic then holds_tag slots tags.name_and_type (second_of s)
     else true
 
 -- ---- what is asked of names, descriptors and handles
 
 -- the descriptor of a field
-abbrev pub is_field : List ℕ → Bool
-is_field bytes = is_some (field_of bytes)
+abbrev pub describes_field : List ℕ → Bool
+describes_field bytes = is_some (field_of bytes)
 
 -- the descriptor of a method
-abbrev pub is_method : List ℕ → Bool
-is_method bytes = is_some (method_of bytes)
+abbrev pub describes_method : List ℕ → Bool
+describes_method bytes = is_some (method_of bytes)
 
 -- the descriptor of an array
-abbrev pub is_array : List ℕ → Bool
-is_array [] = false
-is_array (b ∷ bs) = b == 91 && is_field (b ∷ bs)
+abbrev pub names_array : List ℕ → Bool
+names_array [] = false
+names_array (b ∷ bs) = b == 91 && describes_field (b ∷ bs)
 
 -- the type of a method whose result is void
 abbrev pub no_result : Option Method → Bool
@@ -127,24 +127,24 @@ no_result None = false
 no_result (Some m) = not (is_some m.result)
 
 -- the name of a Class: of a class, or an array descriptor (JVMS 4.4.1)
-abbrev pub is_class_text : List ℕ → Bool
-is_class_text text = is_class_name text || is_array text
+abbrev pub names_class : List ℕ → Bool
+names_class text = spells_class_name text || names_array text
 
 -- name and descriptor of a NameAndType, of a field or a method (JVMS 4.4.6)
-abbrev pub is_any_member : List ℕ → List ℕ → Bool
-is_any_member name descriptor = (is_member_name name false || is_member_name name true) && (is_field descriptor || is_method descriptor)
+abbrev pub names_any_member : List ℕ → List ℕ → Bool
+names_any_member name descriptor = (spells_member_name name false || spells_member_name name true) && (describes_field descriptor || describes_method descriptor)
 
 -- name and descriptor of a method that is referred to, in an interface or not (JVMS 4.4.2): no
 -- class initializer, a constructor only of a class, and one that returns nothing
-abbrev pub is_used_method : Bool → List ℕ → List ℕ → Bool
-is_used_method interface name descriptor =
-    is_method descriptor && is_member_name name true && not (is_clinit name)
-    && (not (is_init name) || (not interface && no_result (method_of descriptor)))
+abbrev pub names_used_method : Bool → List ℕ → List ℕ → Bool
+names_used_method interface name descriptor =
+    describes_method descriptor && spells_member_name name true && not (is_clinit_name name)
+    && (not (is_init_name name) || (not interface && no_result (method_of descriptor)))
 
 -- the kinds of references that a handle of a kind may use: fields by kinds 1 to 4, methods by 5 to
 -- 9 (JVMS 4.4.8)
-abbrev pub handle_fits : ℕ → ℕ → Bool
-handle_fits kind tag =
+abbrev pub fits_handle : ℕ → ℕ → Bool
+fits_handle kind tag =
     if kind == 1 || kind == 2 || kind == 3 || kind == 4 then tag == tags.field_ref
     else if kind == 5 || kind == 8 then tag == tags.method_ref
     else if kind == 6 || kind == 7 then tag == tags.method_ref || tag == tags.interface_method_ref
@@ -152,22 +152,22 @@ handle_fits kind tag =
     else false
 
 -- kind 8 makes an object by a constructor, and no other kind calls one (JVMS 4.4.8)
-abbrev pub handle_names : ℕ → List ℕ → Bool
-handle_names kind name =
-    if kind == 8 then is_init name
-    else if kind == 5 || kind == 6 || kind == 7 || kind == 9 then not (is_init name)
+abbrev pub names_for_handle : ℕ → List ℕ → Bool
+names_for_handle kind name =
+    if kind == 8 then is_init_name name
+    else if kind == 5 || kind == 6 || kind == 7 || kind == 9 then not (is_init_name name)
     else true
 
 -- what an entry names has the form that JVMS 4.4.1 to 4.4.10 ask for
 unfoldable pub is_meaningful : List Slot → Slot → Bool
 is_meaningful slots s =
-    if s.tag == tags.class then is_class_text (text_of slots s)
-    else if s.tag == tags.name_and_type then is_any_member (name_of slots s) (descriptor_of slots s)
-    else if s.tag == tags.field_ref then is_field (descriptor_of slots (pair_of slots s))
-    else if s.tag == tags.method_ref then is_used_method false (name_of slots (pair_of slots s)) (descriptor_of slots (pair_of slots s))
-    else if s.tag == tags.interface_method_ref then is_used_method true (name_of slots (pair_of slots s)) (descriptor_of slots (pair_of slots s))
-    else if s.tag == tags.method_handle then handle_fits (kind_of s) (at slots (target_of s)).tag && handle_names (kind_of s) (name_of slots (pair_of slots (at slots (target_of s))))
-    else if s.tag == tags.method_type then is_method (text_of slots s)
-    else if s.tag == tags.dynamic then is_field (descriptor_of slots (pair_of slots s))
-    else if s.tag == tags.invoke_dynamic then is_method (descriptor_of slots (pair_of slots s))
+    if s.tag == tags.class then names_class (text_in slots s)
+    else if s.tag == tags.name_and_type then names_any_member (name_in slots s) (descriptor_in slots s)
+    else if s.tag == tags.field_ref then describes_field (descriptor_in slots (pair_in slots s))
+    else if s.tag == tags.method_ref then names_used_method false (name_in slots (pair_in slots s)) (descriptor_in slots (pair_in slots s))
+    else if s.tag == tags.interface_method_ref then names_used_method true (name_in slots (pair_in slots s)) (descriptor_in slots (pair_in slots s))
+    else if s.tag == tags.method_handle then fits_handle (handle_kind s) (slot_of_index slots (handle_target s)).tag && names_for_handle (handle_kind s) (name_in slots (pair_in slots (slot_of_index slots (handle_target s))))
+    else if s.tag == tags.method_type then describes_method (text_in slots s)
+    else if s.tag == tags.dynamic then describes_field (descriptor_in slots (pair_in slots s))
+    else if s.tag == tags.invoke_dynamic then describes_method (descriptor_in slots (pair_in slots s))
     else true

@@ -1,7 +1,7 @@
 //! Laws of descriptors and of their types, for every list of bytes.
 ghost use Rattle.std.specs.Prelude.{◌≡◌, ◌≢◌, ◌↔◌, ℕ, List, Some, min, true, false};
-ghost use Rattle.jc_desc.specs.Names.{is_class_name};
-ghost use Rattle.jc_desc.specs.Pool.{is_array};
+ghost use Rattle.jc_desc.specs.Names.{spells_class_name};
+ghost use Rattle.jc_desc.specs.Pool.{names_array};
 ghost use Rattle.jc_desc.specs.Reading.{field_of, method_of, slots_of_method};
 ghost use Rattle.jc_desc.specs.Types.{TypeOf, Method, IsType, IsMethod, type_text, method_text, SpellsType, SpellsMethod, slots_of};
 
@@ -22,5 +22,5 @@ pub fn method_laws()
 /// No descriptor is that of a field and of a method, and no class name is that of an array.
 pub fn kinds_apart()
     ensures descriptors { (t : TypeOf) (m : Method) → IsType t → IsMethod m → type_text t ≢ method_text m }
-    ensures arrays { (name : List ℕ) → is_class_name name ≡ true → is_array name ≡ false }
+    ensures arrays { (name : List ℕ) → spells_class_name name ≡ true → names_array name ≡ false }
 {}

@@ -10,6 +10,4 @@ pub mod method;
 pub mod names;
 pub mod pool_texts;
 pub mod tags;
-#[cfg(test)]
-mod tests;
 pub mod utf8;

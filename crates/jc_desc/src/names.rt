@@ -3,16 +3,16 @@
 //! Names are bytes, as they stand in a class file. None of these calls takes memory.
 ghost use Rattle.std.specs.Prelude.{◌≡◌, ◌||◌, ◌&&◌, ◌↔◌, not, codes, IsTrue};
 ghost use Rattle.std.specs.List.{list_all};
-ghost use Rattle.jc_desc.specs.Names.{is_init as is_init_name, is_clinit as is_clinit_name, is_initializer as is_initializer_name, is_class_name as is_class, IsClassName, is_member_name as is_member, is_name_byte as is_name, is_member_byte as is_part};
+ghost use Rattle.jc_desc.specs.Names.{is_init_name, is_clinit_name, is_initializer_name, spells_class_name, IsClassName, spells_member_name, is_byte_of_name, is_byte_of_member};
 
 fn is_name_byte(byte: u8) -> bool
-    ensures { result ≡ is_name byte }
+    ensures { result ≡ is_byte_of_name byte }
 {
     byte != b'.' && byte != b';' && byte != b'[' && byte != b'/'
 }
 
 fn are_name_parts(bytes: &[u8]) -> bool
-    ensures { result ≡ is_class bytes.now }
+    ensures { result ≡ spells_class_name bytes.now }
 {
     let mut begins = true;
     for byte in bytes {
@@ -35,19 +35,19 @@ fn are_name_parts(bytes: &[u8]) -> bool
 /// more, joined by `/`, none of them empty, without `.`, `;` and `[` (JVMS 4.2.1).
 pub fn is_class_name(bytes: &[u8]) -> bool
     ensures parts { IsTrue result ↔ IsClassName bytes.now }
-    ensures exact { result ≡ is_class bytes.now }
+    ensures exact { result ≡ spells_class_name bytes.now }
 {
     are_name_parts(bytes)
 }
 
 fn is_member_byte(byte: u8, method: bool) -> bool
-    ensures { result ≡ is_part method byte }
+    ensures { result ≡ is_byte_of_member method byte }
 {
     is_name_byte(byte) && !(method && (byte == b'<' || byte == b'>'))
 }
 
 fn are_member_bytes(bytes: &[u8], method: bool) -> bool
-    ensures { result ≡ list_all (is_part method) bytes.now }
+    ensures { result ≡ list_all (is_byte_of_member method) bytes.now }
 {
     for byte in bytes {
         if !is_member_byte(*byte, method) {
@@ -82,7 +82,7 @@ pub fn is_initializer(name: &[u8]) -> bool
 /// empty, without `.`, `;`, `[` and `/`; of a method also without `<` and `>`, unless it is
 /// `<init>` or `<clinit>` (JVMS 4.2.2).
 pub fn is_member_name(bytes: &[u8], method: bool) -> bool
-    ensures { result ≡ is_member bytes.now method }
+    ensures { result ≡ spells_member_name bytes.now method }
 {
     (method && is_initializer(bytes)) || (!bytes.is_empty() && are_member_bytes(bytes, method))
 }

@@ -3,8 +3,8 @@
 //!
 //! None of these calls takes memory.
 ghost use Rattle.std.specs.Prelude.{◌≡◌, ◌||◌, false, true};
-ghost use Rattle.jc_desc.specs.Names.{is_member_name as is_member};
-ghost use Rattle.jc_desc.specs.Pool.{is_version as version_is_known, is_array as names_array, is_field as describes_field, is_method as describes_method, is_class_text as names_class, is_any_member as names_any_member, is_used_method as names_used_method};
+ghost use Rattle.jc_desc.specs.Names.{spells_member_name};
+ghost use Rattle.jc_desc.specs.Pool.{is_known_version, names_array, describes_field, describes_method, names_class, names_any_member, names_used_method};
 
 use crate::field::field_type;
 use crate::method::{returns_void, slots};
@@ -20,7 +20,7 @@ const STRICT_MINOR_MAJOR: u16 = 56;
 /// Whether class files of this version are read: a major from 45 to 61, and from 56 on the minor 0
 /// or 65535 (JVMS 4.1, table 4.1-A).
 pub fn is_version(minor: u16, major: u16) -> bool
-    ensures { result ≡ version_is_known minor major }
+    ensures { result ≡ is_known_version minor major }
 {
     major >= OLDEST_MAJOR
         && major <= NEWEST_MAJOR
@@ -61,7 +61,7 @@ pub fn is_class_text(bytes: &[u8]) -> bool
 
 /// Whether the bytes are the name of a field or of a method (JVMS 4.2.2).
 pub fn is_any_name(bytes: &[u8]) -> bool
-    ensures { result ≡ is_member bytes.now false || is_member bytes.now true }
+    ensures { result ≡ spells_member_name bytes.now false || spells_member_name bytes.now true }
 {
     is_member_name(bytes, false) || is_member_name(bytes, true)
 }

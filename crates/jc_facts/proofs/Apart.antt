@@ -1,32 +1,26 @@
 -- Lists whose names differ, after a filter and after a sort.
-use Rattle.std.proofs.Common.{◌≡◌, ◌≢◌, ℕ, zero, suc, ◌+◌, ◌<◌, Bool, true, false, cond, List, [], ◌∷◌, length, get_or, set, refl, sym, ◌∙◌, ap, subst, Option, Some, None, arith, eqb, Ordering}
-use Rattle.std.proofs.Common.{◌⊎◌, inl, inr}
+use Rattle.std.proofs.Common.{◌≡◌, ◌≢◌, ℕ, zero, suc, ◌+◌, ◌<◌, Bool, true, false, cond, List, [], ◌∷◌, length, get_or, set, refl, sym, ◌∙◌, ap, subst, arith, eqb, Ordering, ◌⊎◌, inl, inr}
 use Rattle.std.proofs.lemmas.Bool.{cases_eq, eq-eqb, ne_eqb}
-use Rattle.std.specs.Ordering.{is_eq, ordering_reverse}
+use Rattle.std.specs.Ordering.{is_eq, ordering_reverse, is_lt, nat_cmp}
 use Rattle.std.proofs.lemmas.Bool.Decides.{nat_tests}
-use Rattle.std.proofs.lemmas.List.{get_or-set_same, get_or-set_other, length-set}
+use Rattle.std.proofs.lemmas.List.{get_or-set_same, get_or-set_other, length-set, get_or_default}
 use Rattle.std.proofs.lemmas.List.Sorted.{IsPermutation-keeps, sorted_far, ranks_by}
 use Rattle.std.proofs.lemmas.List.Elements.{recursion_from_All}
 use Rattle.std.proofs.lemmas.Cmp.{nat_list_cmp_total}
-use Rattle.std.specs.List.{filter_map, cons_option, swap}
+use Rattle.std.specs.List.{swap}
 use Rattle.std.specs.List.Sorted.{IsPermutation, IsSortedBy}
-use Rattle.std.specs.Ordering.{is_lt, nat_cmp}
 use Rattle.std.specs.declared.cmp.Ordering.TheVariants.{Less, Equal, Greater}
 use Rattle.std.specs.Cmp.Lexicographic.{slice_cmp}
 use Rattle.std.proofs.lemmas.Map.Text.{is_eq-slice_cmp}
 use Rattle.jc_facts.specs.Names.{Bytes}
-use Rattle.jc_facts.specs.Exact.{Before, NamesRise}
-use Rattle.jc_facts.proofs.Listed.{EachOf, EachOf-map}
+use Rattle.jc_facts.specs.Exactly.{Before, NamesRise, Rises}
+use Rattle.jc_lemmas.proofs.Listed.{EachOf}
 use Rattle.jc_facts.proofs.Same.{same_is}
+use Rattle.std.proofs.lemmas.List.Edits.{length-swap}
 
 -- no two places have one name
 abbrev pub Apart : {A : Type 0} → (A → Bytes) → List A → Type 0
 Apart {A} name xs = (i j : ℕ) (d : A) → i ≢ j → i < length xs → j < length xs → name (get_or xs i d) ≢ name (get_or xs j d)
-
-get_or_default : {A : Type 0} (xs : List A) (i : ℕ) (d e : A) → i < length xs → get_or xs i d ≡ get_or xs i e
-get_or_default [] i d e h = absurd (omega arith)
-get_or_default (x ∷ xs) zero d e h = refl
-get_or_default (x ∷ xs) (suc i) d e h = get_or_default xs i d e (omega arith)
 
 -- the place from which a swap of i and j takes what it puts at p
 moved : ℕ → ℕ → ℕ → ℕ
@@ -67,10 +61,6 @@ swap_at {A} (x ∷ xs) i j p d hi hj hp = go (cases_eq p j) (cases_eq p i)
         let b : eqb p i ≡ false = ne_eqb p i g in
         rw (a, b) (get_or-set_other inner j p (get_or l i x) d f ∙ get_or-set_other l i p (get_or l j x) d g)
 
-length-swap : {A : Type 0} (xs : List A) (i j : ℕ) → length (swap xs i j) ≡ length xs
-length-swap [] i j = refl
-length-swap (x ∷ xs) i j = simp length-set
-
 Apart-swap : {A : Type 0} (name : A → Bytes) (xs : List A) (i j : ℕ) → i < length xs → j < length xs → Apart name xs → Apart name (swap xs i j)
 Apart-swap name xs i j hi hj a p q d n hp hq e =
     let lp : p < length xs = rw (length-swap xs i j) at hp in
@@ -86,13 +76,6 @@ abbrev pub ApartRec : {A : Type 0} → (A → Bytes) → List A → Type 0
 ApartRec name [] = Unit {0}
 ApartRec name (x ∷ xs) = EachOf (λ y. name x ≢ name y) xs × ApartRec name xs
 
-pub Apart-rec : {A : Type 0} (name : A → Bytes) (xs : List A) → Apart name xs → ApartRec name xs
-Apart-rec name [] a = tt
-Apart-rec {A} name (x ∷ xs) a = (
-  recursion_from_All (λ y. name x ≢ name y) xs (λ k d h. a zero (suc k) d (omega arith) (omega arith) (omega arith)),
-  Apart-rec name xs (λ i j d n hi hj. a (suc i) (suc j) d (omega arith) (omega arith) (omega arith)),
-)
-
 each_at : {A : Type 0} (P : A → Type 0) (xs : List A) (i : ℕ) (d : A) → i < length xs → EachOf P xs → P (get_or xs i d)
 each_at P [] i d h e = absurd (omega arith)
 each_at P (x ∷ xs) zero d h e = e.0
@@ -105,29 +88,9 @@ rec-Apart name (x ∷ xs) a zero (suc j) d n hi hj = each_at (λ y. name x ≢ n
 rec-Apart name (x ∷ xs) a (suc i) zero d n hi hj = λ e. each_at (λ y. name x ≢ name y) xs i d (omega arith) a.0 (sym e)
 rec-Apart name (x ∷ xs) a (suc i) (suc j) d n hi hj = rec-Apart name xs a.1 i j d (λ e. n (ap suc e)) (omega arith) (omega arith)
 
-module _ {X F : Type 0} (h : X → Option F) (name_x : X → Bytes) (name_f : F → Bytes) (named : (x : X) (f : F) → h x ≡ Some f → name_f f ≡ name_x x) where
-  apart_each : (b : Bytes) (xs : List X) → EachOf (λ x. b ≢ name_x x) xs → EachOf (λ f. b ≢ name_f f) (filter_map h xs)
-  apart_each b [] k = tt
-  apart_each b (x ∷ xs) k = go (h x) refl (apart_each b xs k.1)
-    where
-      go : (o : Option F) → h x ≡ o → EachOf (λ f. b ≢ name_f f) (filter_map h xs) → EachOf (λ f. b ≢ name_f f) (cons_option o (filter_map h xs))
-      go None e r = r
-      go (Some f) e r = (λ q. k.0 (q ∙ named x f e), r)
-
-  apart_filter : (xs : List X) → ApartRec name_x xs → ApartRec name_f (filter_map h xs)
-  apart_filter [] k = tt
-  apart_filter (x ∷ xs) k = go (h x) refl (apart_filter xs k.1)
-    where
-      go : (o : Option F) → h x ≡ o → ApartRec name_f (filter_map h xs) → ApartRec name_f (cons_option o (filter_map h xs))
-      go None e r = r
-      go (Some f) e r = (EachOf-map (λ g q w. q (sym (named x f e) ∙ w)) (filter_map h xs) (apart_each (name_x x) xs k.0), r)
-
-  pub Apart-filter_map : (xs : List X) → Apart name_x xs → Apart name_f (filter_map h xs)
-  Apart-filter_map xs a = rec-Apart name_f (filter_map h xs) (apart_filter xs (Apart-rec name_x xs a))
-
 -- sorted, and apart: rising
 pub NamesRise-sorted : {A : Type 0} (name : A → Bytes) (xs : List A) → IsSortedBy (λ x y. is_lt (slice_cmp nat_cmp (name x) (name y))) xs → Apart name xs → NamesRise name xs
-unfolding NamesRise
+unfolding Rises
 NamesRise-sorted name [] s a = tt
 NamesRise-sorted {A} name (x ∷ xs) s a = (recursion_from_All (λ y. Before (name x) (name y)) xs first, NamesRise-sorted name xs rest (λ i j d n hi hj. a (suc i) (suc j) d (omega arith) (omega arith) (omega arith)))
   where

@@ -8,11 +8,12 @@ use Rattle.jc_desc.specs.Pool.{PoolOf}
 use Rattle.jc_desc.specs.PoolAnswers.{utf8_in}
 use Rattle.jc_desc.proofs.Parts.{bind_ok, part_is, part_again}
 use Rattle.jc_facts.specs.Names.{Bytes, same}
-use Rattle.jc_facts.specs.Attributes.{need, ◌|>>◌}
-use Rattle.jc_facts.specs.ClassParts.{Attribute}
-use Rattle.jc_facts.specs.ClassGrammar.{IsNumberAt, AreItems, AreCounted, IsAttributeAt, named, SayOnce}
-use Rattle.jc_facts.specs.ClassSteps.{attribute_at, attributes_at, counted_attributes_at, once, is_named}
+use Rattle.jc_facts.specs.file.Attributes.{need, ◌|>>◌}
+use Rattle.jc_facts.specs.file.ClassParts.{Attribute}
+use Rattle.jc_facts.specs.file.ClassGrammar.{IsNumberAt, AreItems, AreCounted, IsAttributeAt, named, SayOnce}
+use Rattle.jc_facts.specs.file.ClassSteps.{attribute_from, attributes_at, counted_attributes_at, once, has_this_name}
 use Rattle.jc_facts.proofs.Front.{need_ok, number_stands, number_read, Stands, IsRead}
+use Rattle.jc_facts.proofs.Options.{some_then}
 
 abbrev Number : Type 0
 Number = ℕ × Bytes
@@ -23,8 +24,8 @@ abbrev to_body : PoolOf → Bytes → Number → Number → Result (Attribute ×
 to_body pool bytes index len =
     need (utf8_in pool index.0) (length bytes) reasons.BadIndex >>= λ name. part_at len.0 len.1 >>= λ body. Ok (record { name = name; body = body.0 }, body.1)
 
-pub attribute_stands : (pool : PoolOf) → Stands (attribute_at pool) (IsAttributeAt pool)
-unfolding attribute_at
+pub attribute_stands : (pool : PoolOf) → Stands (attribute_from pool) (IsAttributeAt pool)
+unfolding attribute_from
 attribute_stands pool bytes x e =
     let a = bind_ok (number_at 2 bytes) (λ (index : Number). number_at 4 index.1 >>= λ len. to_body pool bytes index len) x e in
     let b = bind_ok (number_at 4 a.0.1) (λ (len : Number). to_body pool bytes a.0 len) x a.2 in
@@ -42,17 +43,13 @@ attribute_stands pool bytes x e =
       whole = p.0;
     })
 
-pub attribute_read : (pool : PoolOf) → IsRead (attribute_at pool) (IsAttributeAt pool)
-unfolding attribute_at
+pub attribute_read : (pool : PoolOf) → IsRead (attribute_from pool) (IsAttributeAt pool)
+unfolding attribute_from
 attribute_read pool bytes a rest h =
     let part : part_at (length a.body) h.after_length ≡ Ok (a.body, rest) = ap (λ (bs : Bytes). part_at (length a.body) bs) h.whole ∙ part_again (length a.body) a.body rest refl in
     rw (number_read 2 bytes h.index h.after_index h.index_is, number_read 4 h.after_index (length a.body) h.after_length h.length_is, h.name_is, part) refl
 
 -- ---- all of them in turn
-
-pub some_then : {A B : Type 0} (o : Option A) (f : A → Option B) (y : B) → (o |>> f) ≡ Some y → (x : A) × (o ≡ Some x) × (f x ≡ Some y)
-some_then None f y e = absurd cc
-some_then (Some x) f y e = (x, refl, e)
 
 -- what is found with each in turn
 abbrev pub taken : {S : Type 0} → (S → Attribute → Option S) → S → List Attribute → Option S
@@ -66,7 +63,7 @@ attributes_stand {S} take pool zero s bytes x e =
     let q : (s, bytes) ≡ x = cc in
     subst (λ (y : S × Bytes). (ats : List Attribute) × (length ats ≡ 0) × AreItems (IsAttributeAt pool) bytes ats y.1 × (taken take s ats ≡ Some y.0)) q ([], refl, refl, refl)
 attributes_stand {S} take pool (suc n) s bytes x e =
-    let a = bind_ok (attribute_at pool bytes) (λ (one : Attribute × Bytes). need (take s one.0) (length bytes) reasons.BadAttribute >>= λ next. attributes_at take pool n next one.1) x e in
+    let a = bind_ok (attribute_from pool bytes) (λ (one : Attribute × Bytes). need (take s one.0) (length bytes) reasons.BadAttribute >>= λ next. attributes_at take pool n next one.1) x e in
     let b = bind_ok (need (take s a.0.0) (length bytes) reasons.BadAttribute) (λ (next : S). attributes_at take pool n next a.0.1) x a.2 in
     let t : take s a.0.0 ≡ Some b.0 = need_ok (take s a.0.0) (length bytes) reasons.BadAttribute b.0 b.1 in
     let ih = attributes_stand take pool n b.0 a.0.1 x b.2 in
@@ -105,14 +102,14 @@ abbrev pub one_of : {A : Type 0} → Bool → Option A → Option A → Option (
 one_of here o value = cond here (kept (once o value)) (Some o)
 
 abbrev pub of_name : {A : Type 0} → (Bytes → Option A) → Bool → Bytes → Option A → Attribute → Option (Option A)
-of_name form read name o a = one_of (read && is_named a name) o (form a.body)
+of_name form read name o a = one_of (read && has_this_name a name) o (form a.body)
 
 -- with all attributes that are left by their name
 abbrev pub all_of : {A : Type 0} → (Bytes → Option A) → Option A → List Attribute → Option (Option A)
 all_of form o [] = Some o
 all_of form o (a ∷ ats) = kept (once o (form a.body)) |>> λ p. all_of form p ats
 
-filtered : {A : Type 0} (form : Bytes → Option A) (name : Bytes) (o : Option A) (a : Attribute) (ats : List Attribute) (b : Bool) → is_named a name ≡ b
+filtered : {A : Type 0} (form : Bytes → Option A) (name : Bytes) (o : Option A) (a : Attribute) (ats : List Attribute) (b : Bool) → has_this_name a name ≡ b
     → ((p : Option A) → taken (of_name form true name) p ats ≡ all_of form p (filter (λ a. same a.name name) ats))
     → taken (of_name form true name) o (a ∷ ats) ≡ all_of form o (filter (λ a. same a.name name) (a ∷ ats))
 filtered {A} form name o a ats true e ih =
@@ -125,7 +122,7 @@ filtered {A} form name o a ats false e ih = rw e (ih o)
 
 taken_is : {A : Type 0} (form : Bytes → Option A) (name : Bytes) (ats : List Attribute) (o : Option A) → taken (of_name form true name) o ats ≡ all_of form o (filter (λ a. same a.name name) ats)
 taken_is {A} form name [] o = refl
-taken_is {A} form name (a ∷ ats) o = filtered form name o a ats (is_named a name) refl (taken_is form name ats)
+taken_is {A} form name (a ∷ ats) o = filtered form name o a ats (has_this_name a name) refl (taken_is form name ats)
 
 skipped : {A : Type 0} (form : Bytes → Option A) (name : Bytes) (ats : List Attribute) (o : Option A) → taken (of_name form false name) o ats ≡ Some o
 skipped {A} form name [] o = refl

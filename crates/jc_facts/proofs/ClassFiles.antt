@@ -9,10 +9,10 @@ use Rattle.jc_desc.proofs.Parts.{bind_ok}
 use Rattle.jc_desc.proofs.Pools.{pool_is, pool_again}
 use Rattle.jc_facts.specs.declared.class_facts.ClassFacts.{ClassFacts}
 use Rattle.jc_facts.specs.Names.{Bytes}
-use Rattle.jc_facts.specs.Attributes.{counted_at, class_at}
-use Rattle.jc_facts.specs.ClassParts.{ClassHead, ReadMember, OnClass, record_of}
-use Rattle.jc_facts.specs.ClassGrammar.{AreCounted, IsClassAt, IsAttributeAt, IsClassFile, Reads}
-use Rattle.jc_facts.specs.ClassSteps.{head_at, counted_members_at, counted_attributes_at, take_on_class, nothing_on_class, ended, class_of, IsFaulty}
+use Rattle.jc_facts.specs.file.Attributes.{counted_at, class_from}
+use Rattle.jc_facts.specs.file.ClassParts.{ClassHead, ReadMember, OnClass, record_from}
+use Rattle.jc_facts.specs.file.ClassGrammar.{AreCounted, IsClassAt, IsAttributeAt, IsClassFile, Reads}
+use Rattle.jc_facts.specs.file.ClassSteps.{head_from, counted_members_at, counted_attributes_at, class_takes, nothing_on_class, ended, class_of, IsFaulty}
 use Rattle.jc_facts.proofs.Front.{counted_stands, counted_read}
 use Rattle.jc_facts.proofs.ClassIndices.{class_stands, class_read, head_stands, head_read}
 use Rattle.jc_facts.proofs.AttributeLists.{counted_attributes_stand, counted_attributes_read}
@@ -24,10 +24,10 @@ ended_is {A} [] x y e = (refl, cc)
 ended_is {A} (b ∷ bs) x y e = absurd cc
 
 abbrev to_end : PoolOf → ClassHead → List Bytes → List ReadMember → List ReadMember → OnClass × Bytes → Result ClassFacts Fault
-to_end pool head interfaces fields methods found = ended found.1 (record_of pool.major head interfaces fields methods found.0)
+to_end pool head interfaces fields methods found = ended found.1 (record_from pool.major head interfaces fields methods found.0)
 
 abbrev from_methods : PoolOf → ClassHead → List Bytes → List ReadMember → List ReadMember × Bytes → Result ClassFacts Fault
-from_methods pool head interfaces fields methods = counted_attributes_at (take_on_class pool) pool nothing_on_class methods.1 >>= to_end pool head interfaces fields methods.0
+from_methods pool head interfaces fields methods = counted_attributes_at (class_takes pool) pool nothing_on_class methods.1 >>= to_end pool head interfaces fields methods.0
 
 abbrev from_fields : PoolOf → ClassHead → List Bytes → List ReadMember × Bytes → Result ClassFacts Fault
 from_fields pool head interfaces fields = counted_members_at true pool head.flags fields.1 >>= from_methods pool head interfaces fields.0
@@ -36,20 +36,20 @@ abbrev from_interfaces : PoolOf → ClassHead → List Bytes × Bytes → Result
 from_interfaces pool head interfaces = counted_members_at false pool head.flags interfaces.1 >>= from_fields pool head interfaces.0
 
 abbrev from_head : PoolOf → ClassHead × Bytes → Result ClassFacts Fault
-from_head pool head = counted_at (class_at pool) head.1 >>= from_interfaces pool head.0
+from_head pool head = counted_at (class_from pool) head.1 >>= from_interfaces pool head.0
 
 pub class_file_stands : (bytes : Bytes) (c : ClassFacts) → class_of bytes ≡ Ok c → IsClassFile bytes c
 unfolding class_of
 class_file_stands bytes c e =
-    let p = bind_ok (pool_at bytes) (λ (pool : PoolOf × Bytes). head_at pool.0 pool.1 >>= from_head pool.0) c e in
+    let p = bind_ok (pool_at bytes) (λ (pool : PoolOf × Bytes). head_from pool.0 pool.1 >>= from_head pool.0) c e in
     let pool : PoolOf = p.0.0 in
-    let h = bind_ok (head_at pool p.0.1) (from_head pool) c p.2 in
-    let i = bind_ok (counted_at (class_at pool) h.0.1) (from_interfaces pool h.0.0) c h.2 in
+    let h = bind_ok (head_from pool p.0.1) (from_head pool) c p.2 in
+    let i = bind_ok (counted_at (class_from pool) h.0.1) (from_interfaces pool h.0.0) c h.2 in
     let f = bind_ok (counted_members_at false pool h.0.0.flags i.0.1) (from_fields pool h.0.0 i.0.0) c i.2 in
     let m = bind_ok (counted_members_at true pool h.0.0.flags f.0.1) (from_methods pool h.0.0 i.0.0 f.0.0) c f.2 in
-    let a = bind_ok (counted_attributes_at (take_on_class pool) pool nothing_on_class m.0.1) (to_end pool h.0.0 i.0.0 f.0.0 m.0.0) c m.2 in
-    let t = counted_attributes_stand (take_on_class pool) pool nothing_on_class m.0.1 a.0 a.1 in
-    let d = ended_is a.0.1 (record_of pool.major h.0.0 i.0.0 f.0.0 m.0.0 a.0.0) c a.2 in
+    let a = bind_ok (counted_attributes_at (class_takes pool) pool nothing_on_class m.0.1) (to_end pool h.0.0 i.0.0 f.0.0 m.0.0) c m.2 in
+    let t = counted_attributes_stand (class_takes pool) pool nothing_on_class m.0.1 a.0 a.1 in
+    let d = ended_is a.0.1 (record_from pool.major h.0.0 i.0.0 f.0.0 m.0.0 a.0.0) c a.2 in
     record {
       pool = pool;
       head = h.0.0;
@@ -65,7 +65,7 @@ class_file_stands bytes c e =
       after_methods = m.0.1;
       pool_is = pool_is bytes p.0 p.1;
       head_is = head_stands pool p.0.1 h.0 h.1;
-      interfaces_are = counted_stands (class_at pool) (IsClassAt pool) (class_stands pool) h.0.1 i.0 i.1;
+      interfaces_are = counted_stands (class_from pool) (IsClassAt pool) (class_stands pool) h.0.1 i.0 i.1;
       fields_are = counted_members_stand false pool h.0.0.flags i.0.1 f.0 f.1;
       methods_are = counted_members_stand true pool h.0.0.flags f.0.1 m.0 m.1;
       attributes_are = subst (λ (bs : Bytes). AreCounted (IsAttributeAt pool) m.0.1 t.0 bs) d.0 t.1;
@@ -79,10 +79,10 @@ class_file_read bytes c h =
     rw (
       pool_again bytes h.pool h.after_pool h.pool_is,
       head_read h.pool h.after_pool h.head h.after_head h.head_is,
-      counted_read (class_at h.pool) (IsClassAt h.pool) (class_read h.pool) h.after_head h.interfaces h.after_interfaces h.interfaces_are,
+      counted_read (class_from h.pool) (IsClassAt h.pool) (class_read h.pool) h.after_head h.interfaces h.after_interfaces h.interfaces_are,
       counted_members_read false h.pool h.head.flags h.after_interfaces h.fields h.after_fields h.fields_are,
       counted_members_read true h.pool h.head.flags h.after_fields h.methods h.after_methods h.methods_are,
-      counted_attributes_read (take_on_class h.pool) h.pool nothing_on_class h.found h.after_methods h.attributes [] h.attributes_are (class_said h.pool h.attributes h.found h.found_is),
+      counted_attributes_read (class_takes h.pool) h.pool nothing_on_class h.found h.after_methods h.attributes [] h.attributes_are (class_said h.pool h.attributes h.found h.found_is),
     )
     (ap (λ (d : ClassFacts). Ok d) (sym h.record_is))
 

@@ -9,14 +9,17 @@ use Rattle.jc_desc.specs.PoolAnswers.{utf8_in, constant_in, ConstantOf}
 use Rattle.jc_desc.specs.PoolGrammar.{IsNumber}
 use Rattle.jc_facts.specs.declared.class_facts.Constant.{Constant}
 use Rattle.jc_facts.specs.Names.{Bytes, same}
-use Rattle.jc_facts.specs.Attributes.{◌|>>◌, whole, counted_at, class_at, class_list_of, nest_host_of, index_of, signature_of, constant_value_of, constant_from}
-use Rattle.jc_facts.specs.ClassParts.{Attribute, OnMember, OnClass}
-use Rattle.jc_facts.specs.ClassGrammar.{IsClassAt, AreClasses, IsHost, IsSignature, IsConstantValue, SayOnMember, SayOnClass}
-use Rattle.jc_facts.specs.ClassSteps.{once, is_named, put_constant, put_signature, take_on_member, put_permits, put_nest_host, put_nest_members, put_class_signature, take_on_class, nothing_on_member, nothing_on_class}
+use Rattle.jc_facts.specs.file.Attributes.{◌|>>◌, whole, counted_at, class_from, class_list_of, nest_host_of, lone_index, signature_of, constant_value_of, constant_from}
+use Rattle.jc_facts.specs.file.ClassParts.{Attribute, OnMember, OnClass}
+use Rattle.jc_facts.specs.file.ClassGrammar.{IsClassAt, AreClasses, IsHost, IsSignature, IsConstantValue, SayOnMember, SayOnClass}
+use Rattle.jc_facts.specs.file.ClassSteps.{once, has_this_name, put_constant, put_signature, member_takes, put_permits, put_nest_host, put_nest_members, put_class_signature, class_takes, nothing_on_member, nothing_on_class}
 use Rattle.jc_facts.proofs.Same.{same_is}
 use Rattle.jc_facts.proofs.Front.{number_stands, number_read, counted_stands, counted_read}
 use Rattle.jc_facts.proofs.ClassIndices.{class_stands, class_read}
-use Rattle.jc_facts.proofs.AttributeLists.{some_then, taken, kept, one_of, of_name, AreOne, once_say, once_said}
+use Rattle.jc_facts.proofs.Options.{some_then}
+use Rattle.jc_facts.proofs.AttributeLists.{taken, kept, one_of, of_name, AreOne, once_say, once_said}
+use Rattle.std.proofs.lemmas.Bool.{and_right}
+use Rattle.jc_lemmas.proofs.Bools.{both_last}
 
 -- ---- contents
 
@@ -31,36 +34,36 @@ whole_again {A} r x e = rw e refl
 pub classes_are_one : (pool : PoolOf) → AreOne (class_list_of pool) (AreClasses pool)
 unfolding class_list_of
 classes_are_one pool = record {
-  stands = λ body x e. counted_stands (class_at pool) (IsClassAt pool) (class_stands pool) body (x, []) (whole_is (counted_at (class_at pool) body) x e);
-  is_read = λ body x h. whole_again (counted_at (class_at pool) body) x (counted_read (class_at pool) (IsClassAt pool) (class_read pool) body x [] h);
+  stands = λ body x e. counted_stands (class_from pool) (IsClassAt pool) (class_stands pool) body (x, []) (whole_is (counted_at (class_from pool) body) x e);
+  is_read = λ body x h. whole_again (counted_at (class_from pool) body) x (counted_read (class_from pool) (IsClassAt pool) (class_read pool) body x [] h);
 }
 
 pub host_is_one : (pool : PoolOf) → AreOne (nest_host_of pool) (IsHost pool)
 unfolding nest_host_of
 host_is_one pool = record {
-  stands = λ body x e. class_stands pool body (x, []) (whole_is (class_at pool body) x e);
-  is_read = λ body x h. whole_again (class_at pool body) x (class_read pool body x [] h);
+  stands = λ body x e. class_stands pool body (x, []) (whole_is (class_from pool body) x e);
+  is_read = λ body x h. whole_again (class_from pool body) x (class_read pool body x [] h);
 }
 
-index_stands : (body : Bytes) (i : ℕ) → index_of body ≡ Some i → IsNumber 2 body i
+index_stands : (body : Bytes) (i : ℕ) → lone_index body ≡ Some i → IsNumber 2 body i
 index_stands body i e =
     let n = number_stands 2 body (i, []) (whole_is (number_at 2 body) i e) in
     subst (λ (bs : Bytes). IsNumber 2 bs i) (sym (n.whole ∙ append-nil n.piece)) n.value_is
 
-index_read : (body : Bytes) (i : ℕ) → IsNumber 2 body i → index_of body ≡ Some i
+index_read : (body : Bytes) (i : ℕ) → IsNumber 2 body i → lone_index body ≡ Some i
 index_read body i h = whole_again (number_at 2 body) i (number_read 2 body i [] (record { piece = body; whole = sym (append-nil body); value_is = h }))
 
 pub signature_is_one : (pool : PoolOf) → AreOne (signature_of pool) (IsSignature pool)
 unfolding signature_of
 signature_is_one pool = record {
-  stands = λ body x e. (let k = some_then (index_of body) (λ (i : ℕ). utf8_in pool i) x e in record { index = k.0; index_is = index_stands body k.0 k.1; text_is = k.2 });
+  stands = λ body x e. (let k = some_then (lone_index body) (λ (i : ℕ). utf8_in pool i) x e in record { index = k.0; index_is = index_stands body k.0 k.1; text_is = k.2 });
   is_read = λ body x h. rw (index_read body h.index h.index_is) h.text_is;
 }
 
-constant_stands : (pool : PoolOf) (body : Bytes) (x : Constant) → ((index_of body |>> constant_in pool) |>> λ c. Some (constant_from c)) ≡ Some x → IsConstantValue pool body x
+constant_stands : (pool : PoolOf) (body : Bytes) (x : Constant) → ((lone_index body |>> constant_in pool) |>> λ c. Some (constant_from c)) ≡ Some x → IsConstantValue pool body x
 constant_stands pool body x e =
-    let k = some_then (index_of body |>> constant_in pool) (λ (c : ConstantOf). Some (constant_from c)) x e in
-    let i = some_then (index_of body) (λ (j : ℕ). constant_in pool j) k.0 k.1 in
+    let k = some_then (lone_index body |>> constant_in pool) (λ (c : ConstantOf). Some (constant_from c)) x e in
+    let i = some_then (lone_index body) (λ (j : ℕ). constant_in pool j) k.0 k.1 in
     let q : constant_from k.0 ≡ x = (let g = k.2 in cc) in
     record { index = i.0; index_is = index_stands body i.0 i.1; entry = k.0; entry_is = i.2; value_is = sym q }
 
@@ -80,16 +83,8 @@ names_apart n x y d e = ap (λ (k : Bytes). same k y) (same_is n x e) ∙ d
 abbrev pub Apart : Bool → Bool → Type 0
 Apart a b = a ≡ true → b ≡ false
 
-left_true : (a b : Bool) → (a && b) ≡ true → b ≡ true
-left_true true b e = e
-left_true false b e = absurd cc
-
-and_false : (a b : Bool) → b ≡ false → (a && b) ≡ false
-and_false true b e = e
-and_false false b e = refl
-
 tests_apart : (p q : Bool) (n x y : Bytes) → same x y ≡ false → Apart (p && same n x) (q && same n y)
-tests_apart p q n x y d e = and_false q (same n y) (names_apart n x y d (left_true p (same n x) e))
+tests_apart p q n x y d e = and_right q (same n y) (names_apart n x y d (both_last p (same n x) e))
 
 -- ---- members
 
@@ -117,10 +112,10 @@ member_constant method pool = of_name (constant_value_of pool) (not method) (cod
 abbrev pub member_signature : PoolOf → Option Bytes → Attribute → Option (Option Bytes)
 member_signature pool = of_name (signature_of pool) (nat_le 49 pool.major) (codes "Signature")
 
-take_member_is : (method : Bool) (pool : PoolOf) (f : OnMember) (a : Attribute) → take_on_member method pool f a ≡ gather_member (member_constant method pool f.constant a) (member_signature pool f.signature a)
-unfolding take_on_member
+take_member_is : (method : Bool) (pool : PoolOf) (f : OnMember) (a : Attribute) → member_takes method pool f a ≡ gather_member (member_constant method pool f.constant a) (member_signature pool f.signature a)
+unfolding member_takes
 take_member_is method pool f a =
-    member_chain (not method && is_named a (codes "ConstantValue")) (nat_le 49 pool.major && is_named a (codes "Signature")) f (constant_value_of pool a.body) (signature_of pool a.body)
+    member_chain (not method && has_this_name a (codes "ConstantValue")) (nat_le 49 pool.major && has_this_name a (codes "Signature")) f (constant_value_of pool a.body) (signature_of pool a.body)
     (tests_apart (not method) (nat_le 49 pool.major) a.name (codes "ConstantValue") (codes "Signature") refl)
 
 member_parts : (c : Option (Option Constant)) (s : Option (Option Bytes)) (t : OnMember) → gather_member c s ≡ Some t → (c ≡ Some t.constant) × (s ≡ Some t.signature)
@@ -134,11 +129,11 @@ gathered_member : (c : Option (Option Constant)) (s : Option (Option Bytes)) (x 
 gathered_member c s x y p q = rw (p, q) refl
 
 -- what is found with all attributes, name by name
-taken_member_parts : (method : Bool) (pool : PoolOf) (ats : List Attribute) (f t : OnMember) → taken (take_on_member method pool) f ats ≡ Some t
+taken_member_parts : (method : Bool) (pool : PoolOf) (ats : List Attribute) (f t : OnMember) → taken (member_takes method pool) f ats ≡ Some t
     → (taken (member_constant method pool) f.constant ats ≡ Some t.constant) × (taken (member_signature pool) f.signature ats ≡ Some t.signature)
 taken_member_parts method pool [] f t e = let q : f ≡ t = cc in (ap (λ (u : OnMember). Some u.constant) q, ap (λ (u : OnMember). Some u.signature) q)
 taken_member_parts method pool (a ∷ ats) f t e =
-    let k = some_then (take_on_member method pool f a) (λ (u : OnMember). taken (take_on_member method pool) u ats) t e in
+    let k = some_then (member_takes method pool f a) (λ (u : OnMember). taken (member_takes method pool) u ats) t e in
     let p = member_parts (member_constant method pool f.constant a) (member_signature pool f.signature a) k.0 (sym (take_member_is method pool f a) ∙ k.1) in
     let ih = taken_member_parts method pool ats k.0 t k.2 in (
       ap (λ (o : Option (Option Constant)). o |>> λ u. taken (member_constant method pool) u ats) p.0 ∙ ih.0,
@@ -146,7 +141,7 @@ taken_member_parts method pool (a ∷ ats) f t e =
     )
 
 taken_member : (method : Bool) (pool : PoolOf) (ats : List Attribute) (f t : OnMember)
-    → taken (member_constant method pool) f.constant ats ≡ Some t.constant → taken (member_signature pool) f.signature ats ≡ Some t.signature → taken (take_on_member method pool) f ats ≡ Some t
+    → taken (member_constant method pool) f.constant ats ≡ Some t.constant → taken (member_signature pool) f.signature ats ≡ Some t.signature → taken (member_takes method pool) f ats ≡ Some t
 taken_member method pool [] f t e d =
     let p : f.constant ≡ t.constant = cc in
     let q : f.signature ≡ t.signature = cc in
@@ -154,10 +149,10 @@ taken_member method pool [] f t e d =
 taken_member method pool (a ∷ ats) f t e d =
     let c = some_then (member_constant method pool f.constant a) (λ (u : Option Constant). taken (member_constant method pool) u ats) t.constant e in
     let s = some_then (member_signature pool f.signature a) (λ (u : Option Bytes). taken (member_signature pool) u ats) t.signature d in
-    let g : take_on_member method pool f a ≡ Some (record { constant = c.0; signature = s.0 }) = take_member_is method pool f a ∙ gathered_member (member_constant method pool f.constant a) (member_signature pool f.signature a) c.0 s.0 c.1 s.1 in
-    ap (λ (o : Option OnMember). o |>> λ u. taken (take_on_member method pool) u ats) g ∙ taken_member method pool ats (record { constant = c.0; signature = s.0 }) t c.2 s.2
+    let g : member_takes method pool f a ≡ Some (record { constant = c.0; signature = s.0 }) = take_member_is method pool f a ∙ gathered_member (member_constant method pool f.constant a) (member_signature pool f.signature a) c.0 s.0 c.1 s.1 in
+    ap (λ (o : Option OnMember). o |>> λ u. taken (member_takes method pool) u ats) g ∙ taken_member method pool ats (record { constant = c.0; signature = s.0 }) t c.2 s.2
 
-pub member_says : (method : Bool) (pool : PoolOf) (ats : List Attribute) (t : OnMember) → taken (take_on_member method pool) nothing_on_member ats ≡ Some t → SayOnMember method pool ats t
+pub member_says : (method : Bool) (pool : PoolOf) (ats : List Attribute) (t : OnMember) → taken (member_takes method pool) nothing_on_member ats ≡ Some t → SayOnMember method pool ats t
 member_says method pool ats t e =
     let p = taken_member_parts method pool ats nothing_on_member t e in
     record {
@@ -165,7 +160,7 @@ member_says method pool ats t e =
       signature = once_say (signature_of pool) (IsSignature pool) (signature_is_one pool) (nat_le 49 pool.major) (codes "Signature") ats t.signature p.1;
     }
 
-pub member_said : (method : Bool) (pool : PoolOf) (ats : List Attribute) (t : OnMember) → SayOnMember method pool ats t → taken (take_on_member method pool) nothing_on_member ats ≡ Some t
+pub member_said : (method : Bool) (pool : PoolOf) (ats : List Attribute) (t : OnMember) → SayOnMember method pool ats t → taken (member_takes method pool) nothing_on_member ats ≡ Some t
 member_said method pool ats t h =
     taken_member method pool ats nothing_on_member t
     (once_said (constant_value_of pool) (IsConstantValue pool) (constant_is_one pool) (not method) (codes "ConstantValue") ats t.constant h.constant)
@@ -217,10 +212,10 @@ class_members pool = of_name (class_list_of pool) (nat_le 55 pool.major) (codes 
 abbrev pub class_signature : PoolOf → Option Bytes → Attribute → Option (Option Bytes)
 class_signature pool = of_name (signature_of pool) (nat_le 49 pool.major) (codes "Signature")
 
-take_class_is : (pool : PoolOf) (f : OnClass) (a : Attribute) → take_on_class pool f a ≡ gather_class (class_permits pool f.permits a) (class_host pool f.nest_host a) (class_members pool f.nest_members a) (class_signature pool f.signature a)
-unfolding take_on_class
+take_class_is : (pool : PoolOf) (f : OnClass) (a : Attribute) → class_takes pool f a ≡ gather_class (class_permits pool f.permits a) (class_host pool f.nest_host a) (class_members pool f.nest_members a) (class_signature pool f.signature a)
+unfolding class_takes
 take_class_is pool f a =
-    class_chain (nat_le 61 pool.major && is_named a (codes "PermittedSubclasses")) (nat_le 55 pool.major && is_named a (codes "NestHost")) (nat_le 55 pool.major && is_named a (codes "NestMembers")) (nat_le 49 pool.major && is_named a (codes "Signature"))
+    class_chain (nat_le 61 pool.major && has_this_name a (codes "PermittedSubclasses")) (nat_le 55 pool.major && has_this_name a (codes "NestHost")) (nat_le 55 pool.major && has_this_name a (codes "NestMembers")) (nat_le 49 pool.major && has_this_name a (codes "Signature"))
     f (class_list_of pool a.body) (nest_host_of pool a.body) (class_list_of pool a.body) (signature_of pool a.body)
     (tests_apart (nat_le 61 pool.major) (nat_le 55 pool.major) a.name (codes "PermittedSubclasses") (codes "NestHost") refl)
     (tests_apart (nat_le 61 pool.major) (nat_le 55 pool.major) a.name (codes "PermittedSubclasses") (codes "NestMembers") refl)
@@ -256,7 +251,7 @@ gathered_class p h m s t k = rw (k.permits, k.nest_host, k.nest_members, k.signa
 abbrev AllParts : PoolOf → OnClass → List Attribute → OnClass → Type 0
 AllParts pool f ats t = AreParts (taken (class_permits pool) f.permits ats) (taken (class_host pool) f.nest_host ats) (taken (class_members pool) f.nest_members ats) (taken (class_signature pool) f.signature ats) t
 
-taken_class_parts : (pool : PoolOf) (ats : List Attribute) (f t : OnClass) → taken (take_on_class pool) f ats ≡ Some t → AllParts pool f ats t
+taken_class_parts : (pool : PoolOf) (ats : List Attribute) (f t : OnClass) → taken (class_takes pool) f ats ≡ Some t → AllParts pool f ats t
 taken_class_parts pool [] f t e =
     let q : f ≡ t = cc in
     record {
@@ -266,7 +261,7 @@ taken_class_parts pool [] f t e =
       signature = ap (λ (u : OnClass). Some u.signature) q;
     }
 taken_class_parts pool (a ∷ ats) f t e =
-    let k = some_then (take_on_class pool f a) (λ (u : OnClass). taken (take_on_class pool) u ats) t e in
+    let k = some_then (class_takes pool f a) (λ (u : OnClass). taken (class_takes pool) u ats) t e in
     let p = class_parts (class_permits pool f.permits a) (class_host pool f.nest_host a) (class_members pool f.nest_members a) (class_signature pool f.signature a) k.0 (sym (take_class_is pool f a) ∙ k.1) in
     let ih = taken_class_parts pool ats k.0 t k.2 in
     record {
@@ -276,7 +271,7 @@ taken_class_parts pool (a ∷ ats) f t e =
       signature = ap (λ (o : Option (Option Bytes)). o |>> λ u. taken (class_signature pool) u ats) p.signature ∙ ih.signature;
     }
 
-taken_class : (pool : PoolOf) (ats : List Attribute) (f t : OnClass) → AllParts pool f ats t → taken (take_on_class pool) f ats ≡ Some t
+taken_class : (pool : PoolOf) (ats : List Attribute) (f t : OnClass) → AllParts pool f ats t → taken (class_takes pool) f ats ≡ Some t
 taken_class pool [] f t k = gathered_class (Some f.permits) (Some f.nest_host) (Some f.nest_members) (Some f.signature) t k
 taken_class pool (a ∷ ats) f t k =
     let p = some_then (class_permits pool f.permits a) (λ (u : Option (List Bytes)). taken (class_permits pool) u ats) t.permits k.permits in
@@ -284,10 +279,10 @@ taken_class pool (a ∷ ats) f t k =
     let m = some_then (class_members pool f.nest_members a) (λ (u : Option (List Bytes)). taken (class_members pool) u ats) t.nest_members k.nest_members in
     let s = some_then (class_signature pool f.signature a) (λ (u : Option Bytes). taken (class_signature pool) u ats) t.signature k.signature in
     let next : OnClass = record { permits = p.0; nest_host = h.0; nest_members = m.0; signature = s.0 } in
-    let g : take_on_class pool f a ≡ Some next = take_class_is pool f a ∙ gathered_class (class_permits pool f.permits a) (class_host pool f.nest_host a) (class_members pool f.nest_members a) (class_signature pool f.signature a) next (record { permits = p.1; nest_host = h.1; nest_members = m.1; signature = s.1 }) in
-    ap (λ (o : Option OnClass). o |>> λ u. taken (take_on_class pool) u ats) g ∙ taken_class pool ats next t (record { permits = p.2; nest_host = h.2; nest_members = m.2; signature = s.2 })
+    let g : class_takes pool f a ≡ Some next = take_class_is pool f a ∙ gathered_class (class_permits pool f.permits a) (class_host pool f.nest_host a) (class_members pool f.nest_members a) (class_signature pool f.signature a) next (record { permits = p.1; nest_host = h.1; nest_members = m.1; signature = s.1 }) in
+    ap (λ (o : Option OnClass). o |>> λ u. taken (class_takes pool) u ats) g ∙ taken_class pool ats next t (record { permits = p.2; nest_host = h.2; nest_members = m.2; signature = s.2 })
 
-pub class_says : (pool : PoolOf) (ats : List Attribute) (t : OnClass) → taken (take_on_class pool) nothing_on_class ats ≡ Some t → SayOnClass pool ats t
+pub class_says : (pool : PoolOf) (ats : List Attribute) (t : OnClass) → taken (class_takes pool) nothing_on_class ats ≡ Some t → SayOnClass pool ats t
 class_says pool ats t e =
     let p = taken_class_parts pool ats nothing_on_class t e in
     record {
@@ -297,7 +292,7 @@ class_says pool ats t e =
       signature = once_say (signature_of pool) (IsSignature pool) (signature_is_one pool) (nat_le 49 pool.major) (codes "Signature") ats t.signature p.signature;
     }
 
-pub class_said : (pool : PoolOf) (ats : List Attribute) (t : OnClass) → SayOnClass pool ats t → taken (take_on_class pool) nothing_on_class ats ≡ Some t
+pub class_said : (pool : PoolOf) (ats : List Attribute) (t : OnClass) → SayOnClass pool ats t → taken (class_takes pool) nothing_on_class ats ≡ Some t
 class_said pool ats t h =
     taken_class pool ats nothing_on_class t (record {
       permits = once_said (class_list_of pool) (AreClasses pool) (classes_are_one pool) (nat_le 61 pool.major) (codes "PermittedSubclasses") ats t.permits h.permits;

@@ -1,15 +1,7 @@
 -- What a test gives of each place of a list, in order, is exactly what stands there.
-use Rattle.std.proofs.Common.{◌≡◌, List, [], ◌∷◌, refl, sym, subst, Option, Some, None, ◌⊎◌, inl, inr}
-use Rattle.std.specs.List.{filter_map, cons_option, Contains, All}
-use Rattle.std.proofs.lemmas.List.Elements.{All-weaker, All-contains_itself}
-use Rattle.std.specs.List.Sorted.{IsPermutation, IsSortedBy}
-use Rattle.std.specs.Ordering.{is_lt, nat_cmp}
-use Rattle.std.specs.Cmp.Lexicographic.{slice_cmp}
-use Rattle.std.proofs.lemmas.List.Sorted.{All-permutation, Contains-permutation}
-use Rattle.jc_facts.specs.Names.{Bytes}
-use Rattle.jc_facts.specs.Exact.{IsExact}
-use Rattle.jc_facts.proofs.Apart.{Apart, Apart-permutation, Apart-filter_map, NamesRise-sorted}
-use Rattle.jc_facts.proofs.Listed.{here, there, cases, none}
+use Rattle.std.proofs.Common.{◌≡◌, List, [], ◌∷◌, refl, Option, Some, None, ◌⊎◌, inl, inr}
+use Rattle.std.specs.List.{filter_map, cons_option, Contains}
+use Rattle.jc_lemmas.proofs.Listed.{here, there, cases, none}
 
 -- a place of the list gives the thing
 pub record Gives {X F : Type 0} (h : X → Option F) (xs : List X) (f : F) : Type 0 where
@@ -52,17 +44,3 @@ module _ {X F : Type 0} (h : X → Option F) where
       go : (o : Option F) → h y ≡ o → Contains (cons_option o rest) f → (Contains rest f → Gives h xs f) → Gives h (y ∷ xs) f
       go None e c r = further (r c)
       go (Some g) e c r = go2 g e (cases g rest f c) r
-
--- what the places of a list give, of names that differ, is exact once it is sorted
-pub sorted_exact : {X F : Type 0} (h : X → Option F) (name_x : X → Bytes) (name_f : F → Bytes) → ((x : X) (f : F) → h x ≡ Some f → name_f f ≡ name_x x)
-    → (Stands : F → Type 0) (xs : List X) → ((f : F) → Gives h xs f → Stands f) → ((f : F) → Stands f → Gives h xs f)
-    → (before after : List F) → Apart name_x xs → before ≡ filter_map h xs → IsPermutation before after
-    → IsSortedBy (λ x y. is_lt (slice_cmp nat_cmp (name_f x) (name_f y))) after → IsExact name_f Stands after
-sorted_exact {X} {F} h name_x name_f named Stands xs stand given_by before after apart is p s = record {
-  in_order = NamesRise-sorted name_f after s (Apart-permutation name_f before after p (subst (Apart name_f) (sym is) (Apart-filter_map h name_x name_f named xs apart)));
-  sound = All-permutation Stands before after p (subst (All Stands) (sym is) listed);
-  complete = λ f w. let g = given_by f w in Contains-permutation before after f p (subst (λ (fs : List F). Contains fs f) (sym is) (given h xs g.place f g.is_in g.gives));
-}
-  where
-    listed : All Stands (filter_map h xs)
-    listed = All-weaker (Contains (filter_map h xs)) Stands (λ f c. stand f (given_back h xs f c)) (filter_map h xs) (All-contains_itself (filter_map h xs))

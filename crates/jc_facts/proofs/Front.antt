@@ -1,25 +1,18 @@
 -- Numbers and lists: what is read stands in the grammar, and what stands there is read.
-use Rattle.std.proofs.Common.{◌≡◌, ℕ, suc, zero, List, [], ◌∷◌, length, Result, Ok, Option, Some, None, Bool, true, false, not, ◌&&◌, refl, sym, ap, subst, ◌∙◌}
+use Rattle.std.proofs.Common.{◌≡◌, ℕ, suc, zero, List, [], ◌∷◌, length, Result, Ok, Option, Some, None, refl, sym, ap, subst, ◌∙◌}
 use Rattle.jc_desc.specs.declared.fault.Fault.{Fault}
 use Rattle.jc_desc.specs.declared.fault.Reason.{Reason}
 use Rattle.jc_desc.specs.Faults.{◌>>=◌, number_at}
 use Rattle.jc_desc.proofs.Parts.{bind_ok, number_is, number_again}
 use Rattle.jc_facts.specs.Names.{Bytes}
-use Rattle.jc_facts.specs.Attributes.{need, list_at, counted_at}
-use Rattle.jc_facts.specs.ClassGrammar.{IsNumberAt, AreItems, AreCounted}
+use Rattle.jc_facts.specs.file.Attributes.{need, list_at, counted_at}
+use Rattle.jc_facts.specs.file.ClassGrammar.{IsNumberAt, AreItems, AreCounted}
 
 -- ---- small facts
 
 pub need_ok : {A : Type 0} (o : Option A) (left : ℕ) (reason : Reason) (y : A) → need o left reason ≡ Ok y → o ≡ Some y
 need_ok None left reason y e = absurd cc
 need_ok (Some x) left reason y e = ap (λ (z : _). Some z) (let q : x ≡ y = cc in q)
-
-pub not_true : (b : Bool) → not b ≡ true → b ≡ false
-not_true true e = absurd cc
-not_true false e = refl
-
-pub both_true : (a b : Bool) → a ≡ true → b ≡ true → (a && b) ≡ true
-both_true a b p q = rw (p, q) refl
 
 -- ---- numbers
 

@@ -8,14 +8,14 @@ use Rattle.jc_desc.proofs.Parts.{part_again}
 use Rattle.jc_desc.proofs.Pools.{pool_again}
 use Rattle.jc_facts.specs.declared.class_facts.ClassFacts.{ClassFacts}
 use Rattle.jc_facts.specs.Names.{Bytes}
-use Rattle.jc_facts.specs.Attributes.{list_at, counted_at, skipped_at}
-use Rattle.jc_facts.specs.ClassParts.{Attribute, ReadMember}
-use Rattle.jc_facts.specs.ClassGrammar.{IsNumberAt, AreItems, AreCounted, IsClassAt, IsAttributeAt, IsMemberAt, IsClassFile}
-use Rattle.jc_facts.specs.ClassSteps.{is_named}
-use Rattle.jc_facts.specs.ClassRests.{skipped_interfaces_at, skipped_member_at}
-use Rattle.jc_facts.specs.ClientItems.{take_boots, boots_of, methods_items, items}
+use Rattle.jc_facts.specs.file.Attributes.{list_at, counted_at, skipped_from}
+use Rattle.jc_facts.specs.file.ClassParts.{Attribute, ReadMember}
+use Rattle.jc_facts.specs.file.ClassGrammar.{IsNumberAt, AreItems, AreCounted, IsClassAt, IsAttributeAt, IsMemberAt, IsClassFile}
+use Rattle.jc_facts.specs.file.ClassSteps.{has_this_name}
+use Rattle.jc_facts.specs.file.ClassRests.{skipped_interfaces_at, skipped_member_from}
+use Rattle.jc_facts.specs.code.ClientItems.{take_boots, boots_of, methods_items, items}
 use Rattle.jc_facts.specs.Options.{or_else}
-use Rattle.jc_facts.specs.Refusals.{◌>>=◌}
+use Rattle.jc_facts.specs.file.Refusals.{◌>>=◌}
 use Rattle.jc_facts.proofs.Front.{number_read}
 use Rattle.jc_facts.proofs.AttributeLists.{taken, counted_attributes_read}
 use Rattle.jc_facts.proofs.ClassIndices.{head_read}
@@ -41,8 +41,8 @@ counted_passes {A} {B} R item each bytes xs rest h =
     let l = list_passes R item each h.after_count xs rest h.items_are in
     (l.0, rw (number_read 2 bytes (length xs) h.after_count h.count_is, l.1) refl)
 
-attribute_passes : (pool : PoolOf) (bs : Bytes) (a : Attribute) (rest : Bytes) → IsAttributeAt pool bs a rest → Passes skipped_at bs rest
-unfolding skipped_at
+attribute_passes : (pool : PoolOf) (bs : Bytes) (a : Attribute) (rest : Bytes) → IsAttributeAt pool bs a rest → Passes skipped_from bs rest
+unfolding skipped_from
 attribute_passes pool bs a rest h = (a.body, rw (number_read 2 bs h.index h.after_index h.index_is, number_read 4 h.after_index (length a.body) h.after_length h.length_is, h.whole, part_again (length a.body) a.body rest refl) refl)
 
 -- three numbers of two bytes
@@ -56,15 +56,15 @@ six_bytes bytes one two three x y z a b c =
           ∙ ap (λ (bs : Bytes). a.piece ++ bs) (sym (append_assoc b.piece c.piece three)) ∙ sym (append_assoc a.piece (b.piece ++ c.piece) three),
     )
 
-six_passes : (six after rest : Bytes) → length six ≡ 6 → Passes (counted_at skipped_at) after rest → skipped_member_at (six ++ after) ≡ Ok (six, rest)
-unfolding skipped_member_at
+six_passes : (six after rest : Bytes) → length six ≡ 6 → Passes (counted_at skipped_from) after rest → skipped_member_from (six ++ after) ≡ Ok (six, rest)
+unfolding skipped_member_from
 six_passes six after rest e a = rw (part_again 6 six after e, a.1) refl
 
-member_passes : (method : Bool) (pool : PoolOf) (class : ℕ) (bs : Bytes) (r : ReadMember) (rest : Bytes) → IsMemberAt method pool class bs r rest → Passes skipped_member_at bs rest
+member_passes : (method : Bool) (pool : PoolOf) (class : ℕ) (bs : Bytes) (r : ReadMember) (rest : Bytes) → IsMemberAt method pool class bs r rest → Passes skipped_member_from bs rest
 member_passes method pool class bs r rest h =
     let s = six_bytes bs h.after_flags h.after_name h.after_descriptor r.member.flags h.name h.descriptor h.flags_is h.name_is h.descriptor_is in
-    let a = counted_passes (IsAttributeAt pool) skipped_at (attribute_passes pool) h.after_descriptor h.attributes rest h.attributes_are in
-    (s.0, ap (λ (x : Bytes). skipped_member_at x) s.2 ∙ six_passes s.0 h.after_descriptor rest s.1 a)
+    let a = counted_passes (IsAttributeAt pool) skipped_from (attribute_passes pool) h.after_descriptor h.attributes rest h.attributes_are in
+    (s.0, ap (λ (x : Bytes). skipped_member_from x) s.2 ∙ six_passes s.0 h.after_descriptor rest s.1 a)
 
 indices_pass : (pool : PoolOf) (bytes : Bytes) (xs : List Bytes) (rest : Bytes) → AreItems (IsClassAt pool) bytes xs rest → (all : Bytes) × (length all ≡ 2 * length xs) × (bytes ≡ all ++ rest)
 indices_pass pool bytes [] rest h = ([], refl, h)
@@ -85,7 +85,7 @@ interfaces_pass pool bytes xs rest h =
 
 take_one : (pool : PoolOf) (found : Option Bytes) (a : Attribute) → (next : Option Bytes) × (take_boots pool found a ≡ Some next)
 unfolding take_boots
-take_one pool found a = (cond (nat_le 51 pool.major && is_named a (codes "BootstrapMethods")) (or_else found (Some a.body)) found, refl)
+take_one pool found a = (cond (nat_le 51 pool.major && has_this_name a (codes "BootstrapMethods")) (or_else found (Some a.body)) found, refl)
 
 pub boots_taken : (pool : PoolOf) (found : Option Bytes) (ats : List Attribute) → (all : Option Bytes) × (taken (take_boots pool) found ats ≡ Some all)
 boots_taken pool found [] = (found, refl)
@@ -97,8 +97,8 @@ pub items_read : (bytes : Bytes) (c : ClassFacts) (h : IsClassFile bytes c) (boo
     → items bytes ≡ (methods_items h.pool h.head (boots_of boots) (length h.methods) h.methods_are.members_are.after_count >>= λ all. Ok all.0)
 unfolding items
 items_read bytes c h boots t =
-    let f = counted_passes (IsMemberAt false h.pool h.head.flags) skipped_member_at (member_passes false h.pool h.head.flags) h.after_interfaces h.fields h.after_fields h.fields_are.members_are in
-    let m = counted_passes (IsMemberAt true h.pool h.head.flags) skipped_member_at (member_passes true h.pool h.head.flags) h.after_fields h.methods h.after_methods h.methods_are.members_are in
+    let f = counted_passes (IsMemberAt false h.pool h.head.flags) skipped_member_from (member_passes false h.pool h.head.flags) h.after_interfaces h.fields h.after_fields h.fields_are.members_are in
+    let m = counted_passes (IsMemberAt true h.pool h.head.flags) skipped_member_from (member_passes true h.pool h.head.flags) h.after_fields h.methods h.after_methods h.methods_are.members_are in
     rw (
       pool_again bytes h.pool h.after_pool h.pool_is,
       head_read h.pool h.after_pool h.head h.after_head h.head_is,

@@ -4,7 +4,7 @@ use Rattle.std.specs.List.{list_all}
 use Rattle.std.specs.BTreeSet as sorted
 use Rattle.jc_facts.specs.declared.key.Key.{Key}
 use Rattle.jc_facts.specs.Names.{same_key}
-use Rattle.jc_facts.specs.Valid.{has_key, keys_differ}
+use Rattle.jc_facts.specs.file.Valid.{has_key, keys_differ}
 use Rattle.jc_facts.specs.KeyOrder.{key_cmp, key_ties, same_key_equiv}
 use Rattle.jc_facts.specs.Seen.{Holds}
 

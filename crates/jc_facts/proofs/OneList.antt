@@ -6,8 +6,8 @@ use Rattle.std.specs.Cmp.Lexicographic.{nat_list_cmp_total}
 use Rattle.std.specs.declared.cmp.Ordering.TheVariants.{Less, Greater}
 use Rattle.std.proofs.lemmas.List.Elements.{All-contains}
 use Rattle.jc_facts.specs.Names.{Bytes}
-use Rattle.jc_facts.specs.Exact.{Before, NamesRise, IsExact}
-use Rattle.jc_facts.proofs.Listed.{here, there, none, cases, each_in}
+use Rattle.jc_facts.specs.Exactly.{Before, NamesRise, by_names, HasExactly, Rises}
+use Rattle.jc_lemmas.proofs.Listed.{here, there, none, cases, each_in}
 
 less_not_greater : Less ≡ Greater → ⊥
 less_not_greater e = cc
@@ -22,7 +22,7 @@ not_self x h = not_both x x h h
 module _ {A : Type 0} (name : A → Bytes) where
   -- the firsts are one
   first_same : (x : A) (xs : List A) (y : A) (ys : List A) → NamesRise name (x ∷ xs) → NamesRise name (y ∷ ys) → Contains (y ∷ ys) x → Contains (x ∷ xs) y → x ≡ y
-  unfolding NamesRise
+  unfolding Rises
   first_same x xs y ys r s c d = go (cases y ys x c) (cases x xs y d)
     where
       go : (y ≡ x) ⊎ Contains ys x → (x ≡ y) ⊎ Contains xs y → x ≡ y
@@ -32,7 +32,7 @@ module _ {A : Type 0} (name : A → Bytes) where
 
   -- what the one has beside its first, the other has
   rest_has : (x : A) (xs : List A) (y : A) (ys : List A) → NamesRise name (x ∷ xs) → x ≡ y → ((z : A) → Contains (x ∷ xs) z → Contains (y ∷ ys) z) → (z : A) → Contains xs z → Contains ys z
-  unfolding NamesRise
+  unfolding Rises
   rest_has x xs y ys r same all z c = go (cases y ys z (all z (there z x xs c)))
     where
       go : (y ≡ z) ⊎ Contains ys z → Contains ys z
@@ -40,7 +40,7 @@ module _ {A : Type 0} (name : A → Bytes) where
       go (inr k) = k
 
   rest_rises : (x : A) (xs : List A) → NamesRise name (x ∷ xs) → NamesRise name xs
-  unfolding NamesRise
+  unfolding Rises
   rest_rises x xs r = r.1
 
   pub same_list : (xs ys : List A) → NamesRise name xs → NamesRise name ys → ((z : A) → Contains xs z → Contains ys z) → ((z : A) → Contains ys z → Contains xs z) → xs ≡ ys
@@ -53,6 +53,6 @@ module _ {A : Type 0} (name : A → Bytes) where
       ap (λ (z : A). z ∷ xs) same ∙ ap (λ (zs : List A). y ∷ zs) rest
 
 -- two lists that are exact are one
-pub one_exact : {A : Type 0} (name : A → Bytes) (Stands : A → Type 0) (xs ys : List A) → IsExact name Stands xs → IsExact name Stands ys → xs ≡ ys
+pub one_exact : {A : Type 0} (name : A → Bytes) (Stands : A → Type 0) (xs ys : List A) → HasExactly (by_names name) Stands xs → HasExactly (by_names name) Stands ys → xs ≡ ys
 one_exact name Stands xs ys h k =
     same_list name xs ys h.in_order k.in_order (λ z c. k.complete z (All-contains Stands xs z h.sound c)) (λ z c. h.complete z (All-contains Stands ys z k.sound c))

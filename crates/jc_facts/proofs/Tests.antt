@@ -1,26 +1,24 @@
 -- A record is valid exactly where it passes the tests.
-use Rattle.std.proofs.Common.{◌≡◌, Bool, true, false, ◌&&◌, refl, ◌↔◌, IsTrue}
+use Rattle.std.proofs.Common.{◌≡◌, true, ◌&&◌, refl, ◌↔◌, IsTrue}
 use Rattle.jc_facts.specs.declared.class_facts.ClassFacts.{ClassFacts}
-use Rattle.jc_facts.specs.Valid.{IsValidClass, head_test, members_test, nest_test, texts_test}
-
-pub parts : (a b : Bool) → (a && b) ≡ true → (a ≡ true) × (b ≡ true)
-parts true b e = (refl, e)
-parts false b e = absurd cc
+use Rattle.jc_facts.specs.file.Valid.{IsValidClass}
+use Rattle.jc_facts.specs.steps.ValidTests.{head_test, members_test, nest_test, texts_test}
+use Rattle.std.proofs.lemmas.Bool.{and_parts}
 
 valid_of : (c : ClassFacts) → (head_test c ≡ true) → (members_test c ≡ true) → (nest_test c ≡ true) → (texts_test c ≡ true) → IsValidClass c
 valid_of c h m n t =
-    let h1 = parts _ _ h in
-    let h2 = parts _ _ h1.0 in
-    let h3 = parts _ _ h2.0 in
-    let m1 = parts _ _ m in
-    let m2 = parts _ _ m1.0 in
-    let m3 = parts _ _ m2.0 in
-    let n1 = parts _ _ n in
-    let n2 = parts _ _ n1.0 in
-    let t1 = parts _ _ t in
-    let t2 = parts _ _ t1.0 in
-    let t3 = parts _ _ t2.0 in
-    let t4 = parts _ _ t3.0 in
+    let h1 = and_parts _ _ h in
+    let h2 = and_parts _ _ h1.0 in
+    let h3 = and_parts _ _ h2.0 in
+    let m1 = and_parts _ _ m in
+    let m2 = and_parts _ _ m1.0 in
+    let m3 = and_parts _ _ m2.0 in
+    let n1 = and_parts _ _ n in
+    let n2 = and_parts _ _ n1.0 in
+    let t1 = and_parts _ _ t in
+    let t2 = and_parts _ _ t1.0 in
+    let t3 = and_parts _ _ t2.0 in
+    let t4 = and_parts _ _ t3.0 in
     record {
       name = h3.0;
       flags = h3.1;
@@ -43,9 +41,9 @@ valid_of c h m n t =
 pub valid_exactly : (c : ClassFacts) → IsTrue (head_test c && members_test c && nest_test c && texts_test c) ↔ IsValidClass c
 valid_exactly c = (
   (λ e.
-      let a = parts (head_test c && members_test c && nest_test c) (texts_test c) e in
-      let b = parts (head_test c && members_test c) (nest_test c) a.0 in
-      let d = parts (head_test c) (members_test c) b.0 in
+      let a = and_parts (head_test c && members_test c && nest_test c) (texts_test c) e in
+      let b = and_parts (head_test c && members_test c) (nest_test c) a.0 in
+      let d = and_parts (head_test c) (members_test c) b.0 in
       valid_of c d.0 d.1 b.1 a.1),
   (λ v. rw (v.name, v.flags, v.superclass, v.interfaces, v.fields, v.fields_differ, v.methods, v.methods_differ, v.permits, v.nest_host, v.nest_members, v.constants, v.constants_differ, v.signatures, v.signatures_differ, v.one_of_class) refl),
 )

@@ -3,7 +3,7 @@
 use Rattle.std.specs.Prelude.{cond, List, [], ◌∷◌}
 use Rattle.std.specs.Ordering.{is_lt}
 use Rattle.jc_facts.specs.Names.{Bytes}
-use Rattle.jc_facts.specs.Orders.{name_order}
+use Rattle.jc_facts.specs.Exactly.{name_order}
 
 -- x among those in order, before the first whose name isn't before its own
 unfoldable pub placed : {A : Type 0} → (A → Bytes) → A → List A → List A

@@ -1,11 +1,11 @@
 -- Names, packages and keys, as bytes.
 --     same x y      the two names are equal
---     package_of x      the name up to its last '/', or nothing (JVMS 5.3)
+--     package_name x      the name up to its last '/', or nothing (JVMS 5.3)
 --     is_key k m      the member has this name and descriptor (JVMS 4.5, 4.6)
 use Rattle.std.specs.Prelude.{ℕ, Bool, cond, List, [], ◌∷◌, ◌==◌, ◌&&◌, codes}
 use Rattle.std.specs.Str.{bytes_eq}
 use Rattle.std.specs.List.{list_any}
-pub use Rattle.jc_desc.specs.Names.{is_init, is_clinit}
+pub use Rattle.jc_desc.specs.Names.{is_init_name, is_clinit_name}
 use Rattle.jc_facts.specs.declared.key.Key.{Key}
 use Rattle.jc_facts.specs.declared.class_facts.Member.{Member}
 
@@ -18,17 +18,17 @@ abbrev pub same : Bytes → Bytes → Bool
 same = bytes_eq
 
 -- x is one of the names
-abbrev pub is_among : List Bytes → Bytes → Bool
-is_among xs x = list_any (λ y. same y x) xs
+abbrev pub is_name_among : List Bytes → Bytes → Bool
+is_name_among xs x = list_any (λ y. same y x) xs
 
 -- the package: the name up to its last '/', or nothing (JVMS 4.2.1, 5.3)
-unfoldable pub package_of : Bytes → Bytes
-package_of [] = []
-package_of (x ∷ xs) = cond (list_any (λ y. y == 47) xs) (x ∷ package_of xs) []
+unfoldable pub package_name : Bytes → Bytes
+package_name [] = []
+package_name (x ∷ xs) = cond (list_any (λ y. y == 47) xs) (x ∷ package_name xs) []
 
 -- the two classes are in one run-time package, since one loader finds all (JVMS 5.3)
-abbrev pub same_package : Bytes → Bytes → Bool
-same_package x y = same (package_of x) (package_of y)
+abbrev pub in_same_package : Bytes → Bytes → Bool
+in_same_package x y = same (package_name x) (package_name y)
 
 -- the member has this name and descriptor
 abbrev pub is_key : Key → Member → Bool

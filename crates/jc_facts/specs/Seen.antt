@@ -2,7 +2,7 @@
 use Rattle.std.specs.Prelude.{◌≡◌, List}
 use Rattle.std.specs.BTreeSet as sorted
 use Rattle.jc_facts.specs.declared.key.Key.{Key}
-use Rattle.jc_facts.specs.Valid.{has_key}
+use Rattle.jc_facts.specs.file.Valid.{has_key}
 use Rattle.jc_facts.specs.KeyOrder.{key_cmp}
 
 -- the set has the keys that were seen

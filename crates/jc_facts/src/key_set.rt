@@ -3,7 +3,7 @@ ghost use Rattle.std.specs.Prelude.{◌≡◌, Some, refl, not, List, ◌++◌, 
 ghost use Rattle.std.specs.Cmp.{partial_equiv_from_equiv};
 ghost use Rattle.jc_facts.specs.declared.key.Key.{Key};
 ghost use Rattle.jc_facts.specs.Names.{same_key, key_of};
-ghost use Rattle.jc_facts.specs.Valid.{has_key, keys_differ};
+ghost use Rattle.jc_facts.specs.file.Valid.{has_key, keys_differ};
 ghost use Rattle.jc_facts.specs.KeyOrder.{key_cmp, key_total, same_key_equiv, key_po, key_ties};
 ghost use Rattle.jc_facts.specs.Seen.{Holds};
 
@@ -131,7 +131,7 @@ pub fn set_of<'a>(alloc: Global, keys: Vec<KeyRef<'a>>) -> Result<BTreeSet<KeyRe
 }
 
 /// Whether no key stands twice.
-pub fn all_differ(alloc: Global, keys: Vec<KeyRef<'_>>) -> Result<bool, AllocError>
+pub(crate) fn all_differ(alloc: Global, keys: Vec<KeyRef<'_>>) -> Result<bool, AllocError>
     ensures { IfOk result (λ differ. differ ≡ keys_differ keys.entry.items) }
 {
     let mut seen = BTreeSet::new(alloc);

@@ -1,6 +1,6 @@
 //! The rules on flags and descriptors.
 ghost use Rattle.std.specs.Prelude.{◌≡◌};
-ghost use Rattle.jc_facts.specs.Rules.{is_object as object, at_most_one_access as at_most_one, are_class_flags as class_flags, are_field_flags as field_flags, are_plain_method_flags as plain_method_flags, are_method_flags as method_flags, is_field_descriptor as field_descriptor, slots_fit as slots_fit_in, is_method_descriptor as method_descriptor};
+ghost use Rattle.jc_facts.specs.file.Rules.{is_object_name, one_access_at_most, class_flags_fit, field_flags_fit, plain_method_flags_fit, method_flags_fit, field_descriptor_fits, slots_fit_in, method_descriptor_fits};
 
 use crate::flags::{
     is_abstract, is_final, is_interface, is_module, is_native, is_private, is_protected, is_public,
@@ -12,13 +12,13 @@ use jc_desc::names::{is_clinit, is_init};
 
 /// The name of the class that alone has no superclass.
 pub fn is_object(name: &[u8]) -> bool
-    ensures { result ≡ object name.now }
+    ensures { result ≡ is_object_name name.now }
 {
     name == b"java/lang/Object".as_slice()
 }
 
 fn at_most_one_access(flags: u16) -> bool
-    ensures { result ≡ at_most_one flags }
+    ensures { result ≡ one_access_at_most flags }
 {
     !(is_public(flags) && is_private(flags))
         && !(is_public(flags) && is_protected(flags))
@@ -27,7 +27,7 @@ fn at_most_one_access(flags: u16) -> bool
 
 /// Whether a class of this major version may have these flags (JVMS 4.1).
 pub fn are_class_flags(major: u16, flags: u16) -> bool
-    ensures { result ≡ class_flags major flags }
+    ensures { result ≡ class_flags_fit major flags }
 {
     !is_module(flags)
         && !(is_final(flags) && is_abstract(flags))
@@ -36,7 +36,7 @@ pub fn are_class_flags(major: u16, flags: u16) -> bool
 
 /// Whether a field may have these flags in a class with the flags `class` (JVMS 4.5).
 pub fn are_field_flags(class: u16, flags: u16) -> bool
-    ensures { result ≡ field_flags class flags }
+    ensures { result ≡ field_flags_fit class flags }
 {
     at_most_one_access(flags)
         && !(is_final(flags) && is_volatile(flags))
@@ -44,7 +44,7 @@ pub fn are_field_flags(class: u16, flags: u16) -> bool
 }
 
 fn are_plain_method_flags(major: u16, class: u16, name: &[u8], flags: u16) -> bool
-    ensures { result ≡ plain_method_flags major class name.now flags }
+    ensures { result ≡ plain_method_flags_fit major class name.now flags }
 {
     let hidden = is_private(flags) || is_static(flags) || is_final(flags) || is_native(flags);
     let special = is_static(flags) || is_final(flags) || is_native(flags) || is_abstract(flags);
@@ -59,14 +59,14 @@ fn are_plain_method_flags(major: u16, class: u16, name: &[u8], flags: u16) -> bo
 /// Whether a method of this name may have these flags in a class of this major version with the
 /// flags `class` (JVMS 4.6).
 pub fn are_method_flags(major: u16, class: u16, name: &[u8], flags: u16) -> bool
-    ensures { result ≡ method_flags major class name.now flags }
+    ensures { result ≡ method_flags_fit major class name.now flags }
 {
     is_clinit(name) || are_plain_method_flags(major, class, name, flags)
 }
 
 /// Whether the bytes are a field descriptor (JVMS 4.3.2).
 pub fn is_field_descriptor(descriptor: &[u8]) -> bool
-    ensures { result ≡ field_descriptor descriptor.now }
+    ensures { result ≡ field_descriptor_fits descriptor.now }
 {
     field_type(descriptor).is_some()
 }
@@ -84,7 +84,7 @@ fn slots_fit(instance: bool, slots: Option<u32>) -> bool
 /// parameters, with the instance, take at most 255 slots, and an instance initializer returns
 /// nothing (JVMS 4.3.3, 4.6).
 pub fn is_method_descriptor(name: &[u8], flags: u16, descriptor: &[u8]) -> bool
-    ensures { result ≡ method_descriptor name.now flags descriptor.now }
+    ensures { result ≡ method_descriptor_fits name.now flags descriptor.now }
 {
     slots_fit(!is_static(flags), slots(descriptor)) && (!is_init(name) || returns_void(descriptor))
 }

@@ -2,7 +2,8 @@
 ghost use Rattle.std.specs.Prelude.{◌≡◌, ◌↔◌, ◌&&◌, IfOk, IsTrue, count_by, nat_le};
 ghost use Rattle.std.specs.List.{list_all};
 ghost use Rattle.jc_facts.specs.declared.class_facts.ClassFacts.{ClassFacts as ClassView};
-ghost use Rattle.jc_facts.specs.Valid.{IsValidClass, is_name as name_of, is_superclass as superclass_of, is_valid_field as field_of, is_valid_method as method_of, are_permits as permits_of, is_nest_host as nest_host_of, are_nest_members as nest_members_of, is_value as value_of, is_valid_constant, is_owner as owner_of, is_valid_signature, keys_of, static_keys as statics_of, fixed_keys as fixed_keys_of, signed_keys as signed_keys_of, is_of_class as of_class, head_test, members_test, nest_test, texts_test};
+ghost use Rattle.jc_facts.specs.file.Valid.{IsValidClass, is_valid_name, superclass_is_valid, field_is_valid, method_is_valid, permits_are_valid, nest_host_is_valid, nest_members_are_valid, value_is_valid, is_valid_constant, is_signature_owner, is_valid_signature, keys_of, keys_of_statics, keys_of_constants, keys_of_signatures, is_signature_of_class};
+ghost use Rattle.jc_facts.specs.steps.ValidTests.{head_test, members_test, nest_test, texts_test};
 ghost use Rattle.jc_facts.specs.Seen.{Holds};
 
 use crate::class_facts::{ClassFacts, Constant, Fixed, Member, Signed};
@@ -21,19 +22,19 @@ use std::alloc::{AllocError, Global};
 use std::collections::BTreeSet;
 
 fn is_name(name: &[u8]) -> bool
-    ensures { result ≡ name_of name.now }
+    ensures { result ≡ is_valid_name name.now }
 {
     is_class_name(name) && is_text(name)
 }
 
 fn are_names(names: &[Name]) -> bool
-    ensures { result ≡ list_all name_of names.now }
+    ensures { result ≡ list_all is_valid_name names.now }
 {
     names.iter().all(|name| is_name(name.as_bytes()))
 }
 
 fn is_superclass(facts: &ClassFacts) -> bool
-    ensures { result ≡ superclass_of facts.now facts.now.superclass }
+    ensures { result ≡ superclass_is_valid facts.now facts.now.superclass }
 {
     let object = is_object(facts.name.as_bytes());
     match &facts.superclass {
@@ -46,7 +47,7 @@ fn is_superclass(facts: &ClassFacts) -> bool
 }
 
 fn is_field(facts: &ClassFacts, member: &Member) -> bool
-    ensures { result ≡ field_of facts.now member.now }
+    ensures { result ≡ field_is_valid facts.now member.now }
 {
     let name = member.name.as_bytes();
     let descriptor = member.descriptor.as_bytes();
@@ -58,7 +59,7 @@ fn is_field(facts: &ClassFacts, member: &Member) -> bool
 }
 
 fn is_method(facts: &ClassFacts, member: &Member) -> bool
-    ensures { result ≡ method_of facts.now member.now }
+    ensures { result ≡ method_is_valid facts.now member.now }
 {
     let name = member.name.as_bytes();
     let descriptor = member.descriptor.as_bytes();
@@ -70,7 +71,7 @@ fn is_method(facts: &ClassFacts, member: &Member) -> bool
 }
 
 fn are_fields(facts: &ClassFacts) -> bool
-    ensures { result ≡ list_all (field_of facts.now) facts.now.fields }
+    ensures { result ≡ list_all (field_is_valid facts.now) facts.now.fields }
 {
     facts
         .fields
@@ -80,7 +81,7 @@ fn are_fields(facts: &ClassFacts) -> bool
 }
 
 fn are_methods(facts: &ClassFacts) -> bool
-    ensures { result ≡ list_all (method_of facts.now) facts.now.methods }
+    ensures { result ≡ list_all (method_is_valid facts.now) facts.now.methods }
 {
     facts
         .methods
@@ -90,7 +91,7 @@ fn are_methods(facts: &ClassFacts) -> bool
 }
 
 fn are_permits(major: u16, permits: &Option<Items<Name>>) -> bool
-    ensures { result ≡ permits_of major permits.now }
+    ensures { result ≡ permits_are_valid major permits.now }
 {
     match permits {
         None => true,
@@ -99,7 +100,7 @@ fn are_permits(major: u16, permits: &Option<Items<Name>>) -> bool
 }
 
 fn is_nest_host(major: u16, host: &Option<Name>) -> bool
-    ensures { result ≡ nest_host_of major host.now }
+    ensures { result ≡ nest_host_is_valid major host.now }
 {
     match host {
         None => true,
@@ -108,13 +109,13 @@ fn is_nest_host(major: u16, host: &Option<Name>) -> bool
 }
 
 fn are_nest_members(major: u16, names: &[Name]) -> bool
-    ensures { result ≡ nest_members_of major names.now }
+    ensures { result ≡ nest_members_are_valid major names.now }
 {
     names.is_empty() || (major >= 55 && are_names(names))
 }
 
 fn is_value(value: &Constant) -> bool
-    ensures { result ≡ value_of value.now }
+    ensures { result ≡ value_is_valid value.now }
 {
     match value {
         Constant::Text(text) => is_text(text.as_bytes()),
@@ -133,7 +134,7 @@ fn member_keys<'a>(alloc: Global, members: &'a [Member]) -> Result<Vec<KeyRef<'a
 }
 
 fn static_keys<'a>(alloc: Global, fields: &'a [Member]) -> Result<Vec<KeyRef<'a>>, AllocError>
-    ensures { IfOk result (λ keys. keys.items ≡ statics_of fields.now) }
+    ensures { IfOk result (λ keys. keys.items ≡ keys_of_statics fields.now) }
 {
     let mut keys = Vec::new(alloc);
     for member in fields {
@@ -145,7 +146,7 @@ fn static_keys<'a>(alloc: Global, fields: &'a [Member]) -> Result<Vec<KeyRef<'a>
 }
 
 fn fixed_keys<'a>(alloc: Global, constants: &'a [Fixed]) -> Result<Vec<KeyRef<'a>>, AllocError>
-    ensures { IfOk result (λ keys. keys.items ≡ fixed_keys_of constants.now) }
+    ensures { IfOk result (λ keys. keys.items ≡ keys_of_constants constants.now) }
 {
     let mut keys = Vec::new(alloc);
     for fixed in constants {
@@ -155,7 +156,7 @@ fn fixed_keys<'a>(alloc: Global, constants: &'a [Fixed]) -> Result<Vec<KeyRef<'a
 }
 
 fn signed_keys<'a>(alloc: Global, signatures: &'a [Signed]) -> Result<Vec<KeyRef<'a>>, AllocError>
-    ensures { IfOk result (λ keys. keys.items ≡ signed_keys_of signatures.now) }
+    ensures { IfOk result (λ keys. keys.items ≡ keys_of_signatures signatures.now) }
 {
     let mut keys = Vec::new(alloc);
     for signed in signatures {
@@ -191,7 +192,7 @@ fn is_owner<'a>(
     methods: &BTreeSet<KeyRef<'a>>,
     key: &'a Option<Key>,
 ) -> bool
-    ensures { (facts : ClassView) → Holds fields.now (keys_of facts.fields) → Holds methods.now (keys_of facts.methods) → result ≡ owner_of facts key.now }
+    ensures { (facts : ClassView) → Holds fields.now (keys_of facts.fields) → Holds methods.now (keys_of facts.methods) → result ≡ is_signature_owner facts key.now }
 {
     match key {
         None => true,
@@ -226,7 +227,7 @@ fn are_signatures(alloc: Global, facts: &ClassFacts) -> Result<bool, AllocError>
 }
 
 fn is_one_of_class(signatures: &[Signed]) -> bool
-    ensures { result ≡ nat_le (count_by of_class signatures.now) 1 }
+    ensures { result ≡ nat_le (count_by is_signature_of_class signatures.now) 1 }
 {
     signatures
         .iter()
@@ -292,6 +293,3 @@ pub fn is_valid(alloc: Global, facts: &ClassFacts) -> Result<bool, AllocError>
     let valid = passes(alloc, facts)?;
     Ok(valid)
 }
-
-#[cfg(test)]
-mod tests;

@@ -1,9 +1,9 @@
 use Rattle.std.proofs.Common.{◌≡◌, Bool, true, List, ℕ, ◌↔◌, IsTrue, sym, ◌∙◌, arith}
-use Rattle.jc_desc.specs.Names.{is_class_name, IsClassName}
+use Rattle.jc_desc.specs.Names.{spells_class_name, IsClassName}
 use Rattle.jc_desc.proofs.ClassNames.{class_name_is, class_name_again}
 use Rattle.jc_desc.proofs.names.is_class_name.Goals as goal
 
-tells : (r : Bool) (bytes : List ℕ) → r ≡ is_class_name bytes → IsTrue r ↔ IsClassName bytes
+tells : (r : Bool) (bytes : List ℕ) → r ≡ spells_class_name bytes → IsTrue r ↔ IsClassName bytes
 tells r bytes e = (
   (λ t. let s : r ≡ true = grind (arith, t) in class_name_is bytes (sym e ∙ s)),
   (λ h. let s : r ≡ true = e ∙ class_name_again bytes h in let t : IsTrue r = grind (arith, s) in t),

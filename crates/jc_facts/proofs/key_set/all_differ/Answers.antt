@@ -1,6 +1,6 @@
 use Rattle.std.proofs.Common.{List, [], ap, ◌∙◌}
 use Rattle.jc_facts.specs.declared.key.Key.{Key}
-use Rattle.jc_facts.specs.Valid.{keys_differ}
+use Rattle.jc_facts.specs.file.Valid.{keys_differ}
 use Rattle.jc_facts.proofs.Keys.{differ_is}
 use Rattle.jc_facts.proofs.key_set.all_differ.Goals as goal
 

@@ -1,7 +1,7 @@
 use Rattle.std.proofs.Common.{◌≡◌, List}
 use Rattle.jc_facts.specs.declared.key.Key.{Key}
 use Rattle.jc_facts.specs.Seen.{Holds}
-use Rattle.jc_facts.specs.Valid.{keys_differ}
+use Rattle.jc_facts.specs.file.Valid.{keys_differ}
 use Rattle.jc_facts.proofs.Keys.{differ_from}
 use Rattle.jc_facts.proofs.key_set.all_differ.Given as goal
 

@@ -2,7 +2,7 @@ use Rattle.std.proofs.Common.{◌≡◌, ◌<◌, List, true, false, length, get
 use Rattle.jc_facts.specs.declared.class_facts.Member.{Member}
 use Rattle.jc_facts.specs.declared.class_facts.Signed.{Signed}
 use Rattle.jc_facts.specs.declared.class_facts.ClassFacts.{ClassFacts}
-use Rattle.jc_facts.specs.Valid.{is_valid_signature, has_key, keys_of}
+use Rattle.jc_facts.specs.file.Valid.{is_valid_signature, has_key, keys_of}
 use Rattle.jc_facts.proofs.Lists.{all_step, all_stop}
 use Rattle.jc_facts.proofs.validity.are_signatures.Goals as goal
 

@@ -1,5 +1,5 @@
 use Rattle.std.proofs.Common.{Bool, IsTrue, ◌↔◌, subst, sym}
-use Rattle.jc_facts.specs.Valid.{IsValidClass}
+use Rattle.jc_facts.specs.file.Valid.{IsValidClass}
 use Rattle.jc_facts.proofs.Tests.{valid_exactly}
 use Rattle.jc_facts.proofs.validity.is_valid.Goals as goal
 

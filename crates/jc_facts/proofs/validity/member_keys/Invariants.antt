@@ -1,5 +1,5 @@
 use Rattle.std.proofs.Common.{◌≡◌, ◌++◌, drop}
-use Rattle.jc_facts.specs.Valid.{keys_of}
+use Rattle.jc_facts.specs.file.Valid.{keys_of}
 use Rattle.jc_facts.proofs.validity.member_keys.Given as goal
 
 abbrev pub invariant-loop-member : goal.invariant-loop-member

@@ -1,0 +1,30 @@
+-- Options tried one after another.
+use Rattle.std.proofs.Common.{◌≡◌, refl, Option, Some, None, List, [], ◌∷◌, ◌⊎◌, inl, inr}
+use Rattle.jc_facts.specs.Options.{or_else, first_some}
+use Rattle.jc_facts.specs.Names.{Bytes}
+use Rattle.jc_lemmas.proofs.Listed.{EachOf}
+use Rattle.jc_facts.specs.file.Attributes.{◌|>>◌}
+
+pub or_else-none : {A : Type 0} (o p : Option A) → or_else o p ≡ None → (o ≡ None) × (p ≡ None)
+unfolding or_else
+or_else-none None p h = (refl, h)
+or_else-none (Some e) p h = absurd (cc)
+
+pub or_else-both : {A : Type 0} (o p : Option A) → o ≡ None → p ≡ None → or_else o p ≡ None
+unfolding or_else
+or_else-both None p h k = k
+or_else-both (Some x) p h k = absurd (cc)
+
+pub first_some-none : {A : Type 0} (f : Bytes → Option A) (xs : List Bytes) → first_some f xs ≡ None → EachOf (λ s. f s ≡ None) xs
+unfolding first_some
+first_some-none f [] h = tt
+first_some-none f (x ∷ xs) h = let q = or_else-none (f x) (first_some f xs) h in (q.0, first_some-none f xs q.1)
+
+pub or_else-cases : {A : Type 0} (o p : Option A) (x : A) → or_else o p ≡ Some x → (o ≡ Some x) ⊎ (p ≡ Some x)
+unfolding or_else
+or_else-cases None p x e = inr e
+or_else-cases (Some y) p x e = inl e
+
+pub some_then : {A B : Type 0} (o : Option A) (f : A → Option B) (y : B) → (o |>> f) ≡ Some y → (x : A) × (o ≡ Some x) × (f x ≡ Some y)
+some_then None f y e = absurd cc
+some_then (Some x) f y e = (x, refl, e)

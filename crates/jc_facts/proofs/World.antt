@@ -1,0 +1,74 @@
+-- Finding a class by its name.
+use Rattle.std.proofs.Common.{◌≡◌, suc, Bool, true, false, cond, List, [], ◌∷◌, length, refl, sym, ◌∙◌, ap, subst, Some, ◌++◌, is_some, None}
+use Rattle.jc_facts.specs.declared.class_facts.ClassFacts.{ClassFacts}
+use Rattle.jc_facts.specs.Names.{Bytes, same}
+use Rattle.jc_facts.specs.world.World.{World, class_named, find_class, size, classes}
+use Rattle.jc_lemmas.proofs.Listed.{EachOf}
+use Rattle.jc_facts.proofs.Same.{same_is}
+
+abbrev pub names : List ClassFacts → List Bytes
+names [] = []
+names (c ∷ cs) = c.name ∷ names cs
+
+pub length-names : (cs : List ClassFacts) → length (names cs) ≡ length cs
+length-names [] = refl
+length-names (c ∷ cs) = ap suc (length-names cs)
+
+-- the class found has the name
+pub class_named-name : (cs : List ClassFacts) (x : Bytes) (c : ClassFacts) → class_named cs x ≡ Some c → c.name ≡ x
+unfolding class_named
+class_named-name [] x c e = cc
+class_named-name (d ∷ cs) x c e = go (same d.name x) refl (class_named-name cs x c) e
+  where
+    go : (b : Bool) → same d.name x ≡ b → (class_named cs x ≡ Some c → c.name ≡ x) → cond b (Some d) (class_named cs x) ≡ Some c → c.name ≡ x
+    go true p r q = let k : d ≡ c = cc in ap (λ t. t.name) (sym k) ∙ same_is d.name x p
+    go false p r q = r q
+
+-- what holds of each class's name holds of the name of a class that is found
+pub EachOf-class_named : (P : Bytes → Type 0) (cs : List ClassFacts) (x : Bytes) (c : ClassFacts) → class_named cs x ≡ Some c → EachOf P (names cs) → P x
+unfolding class_named
+EachOf-class_named P [] x c e h = absurd (cc)
+EachOf-class_named P (d ∷ cs) x c e h = go (same d.name x) refl (λ q. EachOf-class_named P cs x c q h.1) e
+  where
+    go : (b : Bool) → same d.name x ≡ b → (class_named cs x ≡ Some c → P x) → cond b (Some d) (class_named cs x) ≡ Some c → P x
+    go true p r q = subst P (same_is d.name x p) h.0
+    go false p r q = r q
+
+pub find-name : (W : World) (x : Bytes) (c : ClassFacts) → find_class W x ≡ Some c → c.name ≡ x
+unfolding find_class
+find-name W x c e = class_named-name (classes W) x c e
+
+pub EachOf-find : (P : Bytes → Type 0) (W : World) (x : Bytes) (c : ClassFacts) → find_class W x ≡ Some c → EachOf P (names (classes W)) → P x
+unfolding find_class
+EachOf-find P W x c e h = EachOf-class_named P (classes W) x c e h
+
+pub size-names : (W : World) → length (names (classes W)) ≡ size W
+unfolding size
+size-names W = length-names (classes W)
+
+pub class_named-first : (cs ds : List ClassFacts) (x : Bytes) → is_some (class_named cs x) ≡ true → class_named (cs ++ ds) x ≡ class_named cs x
+unfolding class_named
+class_named-first [] ds x h = absurd (cc)
+class_named-first (c ∷ cs) ds x h = go (same c.name x) h (class_named-first cs ds x)
+  where
+    go : (b : Bool) → is_some (cond b (Some c) (class_named cs x)) ≡ true → (is_some (class_named cs x) ≡ true → class_named (cs ++ ds) x ≡ class_named cs x) → cond b (Some c) (class_named (cs ++ ds) x) ≡ cond b (Some c) (class_named cs x)
+    go true q r = refl
+    go false q r = r q
+
+pub class_named-each : (P : ClassFacts → Type 0) (cs : List ClassFacts) (x : Bytes) (c : ClassFacts) → EachOf P cs → class_named cs x ≡ Some c → P c
+unfolding class_named
+class_named-each P [] x c h e = absurd (cc)
+class_named-each P (d ∷ cs) x c h e = go (same d.name x) e (class_named-each P cs x c h.1)
+  where
+    go : (b : Bool) → cond b (Some d) (class_named cs x) ≡ Some c → (class_named cs x ≡ Some c → P c) → P c
+    go true q r = let k : d ≡ c = cc in subst P k h.0
+    go false q r = r q
+
+pub class_named-front : (cs ds : List ClassFacts) (x : Bytes) → class_named ds x ≡ None → class_named (cs ++ ds) x ≡ class_named cs x
+unfolding class_named
+class_named-front [] ds x h = h
+class_named-front (c ∷ cs) ds x h = rw (class_named-front cs ds x h) refl
+
+-- the world has the class under its name
+abbrev pub IsOf : World → ClassFacts → Type 0
+IsOf W c = find_class W c.name ≡ Some c

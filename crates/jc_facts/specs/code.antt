@@ -1,0 +1,4 @@
+pub mod Lengths
+pub mod Code
+pub mod Typing
+pub mod ClientItems

@@ -1,0 +1,9 @@
+pub mod Attributes
+pub mod ClassParts
+pub mod ClassGrammar
+pub mod ClassSteps
+pub mod ClassRests
+pub mod CodeGrammar
+pub mod Rules
+pub mod Valid
+pub mod Refusals

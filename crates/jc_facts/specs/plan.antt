@@ -1,0 +1,3 @@
+pub mod PlannedNames
+pub mod Planned
+pub mod PlannedBodies

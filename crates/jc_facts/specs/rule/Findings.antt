@@ -1,0 +1,166 @@
+-- Findings: what a new release breaks of what every client could do, over the old side O and the new side N alone.
+--     finding_at O N s      the finding of a rule on a subject, none where the rule does not stand there
+--     Stands O N f      f is the finding on its subject
+use Rattle.std.specs.Prelude.{ℕ, Bool, false, not, cond, List, [], ◌∷◌, Option, None, Some, is_some, is_none, ◌==◌, ◌||◌, ◌&&◌, ◌≡◌}
+use Rattle.jc_facts.specs.declared.class_facts.Member.{Member}
+use Rattle.jc_facts.specs.declared.key.Key.{Key}
+use Rattle.jc_facts.specs.declared.act.Act.{Act}
+use Rattle.jc_facts.specs.declared.act.Act.TheVariants as act
+use Rattle.jc_facts.specs.declared.finding.Finding.{Finding}
+use Rattle.jc_facts.specs.declared.link_error.LinkError.{LinkError}
+use Rattle.jc_facts.specs.declared.link_error.LinkError.TheVariants.{IllegalAccessError, IncompatibleClassChangeError, NoSuchMethodError, InstantiationError, VerifyError}
+use Rattle.jc_facts.specs.Names.{Bytes}
+use Rattle.jc_desc.specs.Names.{is_init_name}
+use Rattle.jc_facts.specs.Flags.{public_flag, no_static_flag, interface_flag, abstract_flag}
+use Rattle.jc_facts.specs.Options.{or_else, and_then, some_and}
+use Rattle.jc_facts.specs.world.World.{World, find_class, DeclaredMember, own_method_of}
+use Rattle.jc_facts.specs.world.Hierarchy.{in_chain}
+use Rattle.jc_facts.specs.world.Loading.{load_fault, fault_where}
+use Rattle.jc_facts.specs.world.Lookup.{method_choices, public_method_of_object}
+use Rattle.jc_facts.specs.world.Assignment.{is_interface_of}
+use Rattle.jc_facts.specs.rule.Bases.{class_is, is_class_usable, is_kept, became_class, is_steady, public_or_protected, is_class_closed, is_base_class, is_base_interface, is_key_of_method, is_final_in_chain, inherits}
+use Rattle.jc_facts.specs.rule.OpenActs.{closed_act, first_seat, field_acts, method_acts}
+
+-- a rule, and the class and the key or the target of which it speaks
+pub record Subject : Type 0 where
+  pub rule : ℕ
+  pub class : Bytes
+  pub key : Option Key
+  pub target : Option Bytes
+
+-- the finding on the subject, with an act, a seat and an error
+abbrev pub report : Subject → Act → Option Bytes → LinkError → Option Finding
+report s what a e = Some (record { rule = s.rule; «class» = s.class; key = s.key; target = s.target; act = what; seat = a; error = e })
+
+-- the same without a seat, where the test holds
+abbrev pub report_where : Bool → Subject → Act → LinkError → Option Finding
+report_where b s what e = cond b (report s what None e) None
+
+-- ---- the errors of a class that is gone, and of its initializers
+
+-- the error that is there, or this one
+abbrev pub fault_or : LinkError → Option LinkError → LinkError
+fault_or e None = e
+fault_or e (Some f) = f
+
+-- why the class can't be used: its load fault, NoClassDefFoundError where it is absent; else it isn't public
+unfoldable pub gone_error : World → Bytes → LinkError
+gone_error N x = fault_or IllegalAccessError (load_fault N x)
+
+-- the initializer of the key that the class declares
+abbrev pub init_of : World → Bytes → Key → Option Member
+init_of W x k = and_then (λ c. own_method_of c k) (find_class W x)
+
+-- what `f` says of the member, or that it is missing
+abbrev pub missing_or : (Member → Option LinkError) → Option Member → Option LinkError
+missing_or f None = Some NoSuchMethodError
+missing_or f (Some m) = f m
+
+-- why clients can't make objects by the initializer (JVMS 6.5, new)
+abbrev pub new_error : World → Bytes → Key → Option LinkError
+new_error N x k = cond (class_is N (λ d. abstract_flag d.flags || interface_flag d.flags) x) (Some InstantiationError)
+    (missing_or (λ m. fault_where (not (public_flag m.flags)) IllegalAccessError) (init_of N x k))
+
+-- why client classes below can't call the initializer (JVMS 5.4.4)
+abbrev pub init_error : World → Bytes → Key → Option LinkError
+init_error N x k = missing_or (λ m. fault_where (not (public_or_protected m)) IllegalAccessError) (init_of N x k)
+
+-- the key is that of an initializer which the class declares and which passes the test
+abbrev pub had_init : World → Bytes → Key → (Member → Bool) → Bool
+had_init O x k test = is_init_name k.name && some_and test (init_of O x k)
+
+-- the error of `new` by the key, where it could be used with the old side
+abbrev pub new_broken : World → World → Bytes → Key → Option LinkError
+new_broken O N x k = cond (is_steady O N x && class_is O (λ c. not (abstract_flag c.flags || interface_flag c.flags)) x && had_init O x k (λ m. public_flag m.flags)) (new_error N x k) None
+
+-- the error of the call from a class below, where it could be made with the old side
+abbrev pub init_broken : World → World → Bytes → Key → Option LinkError
+init_broken O N x k = cond (is_base_class O N x && had_init O x k public_or_protected) (init_error N x k) None
+
+-- ---- acts
+
+-- the finding of an act that is closed to a seat, with the first such seat
+unfoldable pub act_finding : World → World → Subject → Key → Act → Option Finding
+act_finding O N s k a =
+    and_then (λ seat. and_then (report s a (Some seat)) (closed_act O N s.class k a seat)) (first_seat O N (λ seat. is_some (closed_act O N s.class k a seat)))
+
+-- that of the first of the acts that has one
+unfoldable pub first_act : World → World → Subject → Key → List Act → Option Finding
+first_act O N s k [] = None
+first_act O N s k (a ∷ rest) = or_else (act_finding O N s k a) (first_act O N s k rest)
+
+-- ---- overriding
+
+-- the first of the list is there and passes
+abbrev pub first_passes : (DeclaredMember → Bool) → List DeclaredMember → Bool
+first_passes test [] = false
+first_passes test (m ∷ ms) = test m
+
+-- the lookup from the class finds a public or protected instance method
+abbrev pub finds_overridable : World → Bytes → Key → Bool
+finds_overridable O a k = first_passes (λ m. no_static_flag m.member.flags && public_or_protected m.member) (method_choices O a k)
+
+-- ---- the rules
+
+-- H1: a class was usable and isn't kept
+unfoldable pub class_gone : World → World → Subject → Option Finding
+class_gone O N s = report_where (is_class_usable O s.class && not (is_class_usable N s.class)) s act.ClassRef (gone_error N s.class)
+
+-- H2: a steady class that clients could extend or implement is closed to some of them
+unfoldable pub class_closed : World → World → Subject → Option Finding
+class_closed O N s = report_where (is_class_closed O N s.class) s (cond (is_interface_of O s.class) act.Implement act.Extend) IncompatibleClassChangeError
+
+-- H3: a kept class was an interface and isn't one
+unfoldable pub interface_became_class : World → World → Subject → Option Finding
+interface_became_class O N s = report_where (became_class O N s.class) s act.Assignment VerifyError
+
+-- H4: a kept class has the kept class t in its old chain and not in its new one, and t isn't an interface now
+unfoldable pub superclass_lost : World → World → Subject → Bytes → Option Finding
+superclass_lost O N s t = report_where (is_kept O N s.class && is_kept O N t && in_chain O s.class t && not (in_chain N s.class t) && not (is_interface_of N t)) s act.Assignment VerifyError
+
+-- H5: an initializer of a steady class can't be used by `new` now, or one of a base class by its subclasses
+unfoldable pub constructor_closed : World → World → Subject → Key → Option Finding
+constructor_closed O N s k = or_else (and_then (report s act.NewObject None) (new_broken O N s.class k)) (and_then (report s act.InitSuper None) (init_broken O N s.class k))
+
+-- H6: the key is final now in the chain of a base class and wasn't, and its old lookup finds a public or protected instance method
+unfoldable pub method_made_final : World → World → Subject → Key → Option Finding
+method_made_final O N s k = report_where (is_key_of_method k && is_base_class O N s.class && is_final_in_chain N s.class k && not (is_final_in_chain O s.class k) && finds_overridable O s.class k) s act.Override IncompatibleClassChangeError
+
+-- H7: an act on a field of a steady class was open to a seat and isn't
+unfoldable pub field_closed : World → World → Subject → Key → Option Finding
+field_closed O N s k = cond (is_steady O N s.class) (first_act O N s k field_acts) None
+
+-- H8: an act on a method of a steady class was open to a seat and isn't
+unfoldable pub method_closed : World → World → Subject → Key → Option Finding
+method_closed O N s k = cond (is_key_of_method k && is_steady O N s.class) (first_act O N s k method_acts) None
+
+-- H9: a base interface inherited the key and doesn't, and java/lang/Object has no public instance method of it
+unfoldable pub interface_method_lost : World → World → Subject → Key → Option Finding
+interface_method_lost O N s k = report_where (is_key_of_method k && is_base_interface O N s.class && inherits O s.class k && not (inherits N s.class k) && is_none (public_method_of_object O k)) s act.Inherit NoSuchMethodError
+
+-- the finding on the subject: rules 1 to 3 speak of a class alone, rule 4 of a target, and 5 to 9 of a key
+abbrev pub finding_by : World → World → Subject → Option Key → Option Bytes → Option Finding
+finding_by O N s None None =
+    cond (s.rule == 1) (class_gone O N s)
+    (cond (s.rule == 2) (class_closed O N s)
+    (cond (s.rule == 3) (interface_became_class O N s) None))
+finding_by O N s None (Some t) = cond (s.rule == 4) (superclass_lost O N s t) None
+finding_by O N s (Some k) None =
+    cond (s.rule == 5) (constructor_closed O N s k)
+    (cond (s.rule == 6) (method_made_final O N s k)
+    (cond (s.rule == 7) (field_closed O N s k)
+    (cond (s.rule == 8) (method_closed O N s k)
+    (cond (s.rule == 9) (interface_method_lost O N s k) None))))
+finding_by O N s (Some k) (Some t) = None
+
+-- the finding on the subject, none where its rule does not stand there
+unfoldable pub finding_at : World → World → Subject → Option Finding
+finding_at O N s = finding_by O N s s.key s.target
+
+-- the subject of a finding
+abbrev pub subject_of : Finding → Subject
+subject_of f = record { rule = f.rule; «class» = f.class; key = f.key; target = f.target }
+
+-- the finding is the one on its subject
+abbrev pub Stands : World → World → Finding → Type 0
+Stands O N f = finding_at O N (subject_of f) ≡ Some f

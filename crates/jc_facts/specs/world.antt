@@ -1,0 +1,10 @@
+pub mod World
+pub mod Search
+pub mod Hierarchy
+pub mod Access
+pub mod Overriding
+pub mod Loading
+pub mod Lookup
+pub mod Types
+pub mod Assignment
+pub mod Mentioned

@@ -1,0 +1,15 @@
+-- Options, beside the lemmas of std.
+use Rattle.std.proofs.Common.{◌≡◌, false, refl, Option, Some, None, Bool, true, cond, is_none}
+use Rattle.std.specs.Prelude.{is_some}
+
+pub none_from : {A : Type 0} (o : Option A) → is_some o ≡ false → o ≡ None
+none_from None e = refl
+none_from (Some x) e = absurd (cc)
+
+pub cond-none : {A : Type 0} (b : Bool) (e : A) (o : Option A) → cond b (Some e) o ≡ None → (b ≡ false) × (o ≡ None)
+cond-none true e o h = absurd (cc)
+cond-none false e o h = (refl, h)
+
+pub none_where : {A : Type 0} (o : Option A) → is_none o ≡ true → o ≡ None
+none_where None h = refl
+none_where (Some x) h = absurd (cc)

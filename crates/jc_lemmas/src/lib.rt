@@ -1,0 +1,2 @@
+//! Lemmas about tests, options, lists and numbers alone, beside those of std: no code, and no definition of ours.
+#![tactic(auto)]
