@@ -1,5 +1,0 @@
-use Rattle.jc_laws.proofs.Interfaces.{above_is_one_step as law}
-use Rattle.jc_laws.proofs.above_is_one_step.Goals as goal
-
-pub returns : goal.returns
-returns c = law

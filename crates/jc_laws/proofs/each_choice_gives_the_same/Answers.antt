@@ -1,5 +1,0 @@
-use Rattle.jc_laws.proofs.ChoiceLaws.{each_choice_gives_the_same as law}
-use Rattle.jc_laws.proofs.each_choice_gives_the_same.Goals as goal
-
-pub returns : goal.returns
-returns c = law

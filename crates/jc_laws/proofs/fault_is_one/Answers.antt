@@ -1,5 +1,0 @@
-use Rattle.jc_laws.proofs.Depth.{fault_at-deep}
-use Rattle.jc_laws.proofs.fault_is_one.Goals as goal
-
-pub returns : goal.returns
-returns c = λ W n x h. fault_at-deep W n h x

@@ -1,5 +1,0 @@
-use Rattle.jc_laws.proofs.ChoiceLaws.{inherited_are_public as law}
-use Rattle.jc_laws.proofs.inherited_are_public.Goals as goal
-
-pub returns : goal.returns
-returns c = law

@@ -1,5 +1,0 @@
-use Rattle.jc_laws.proofs.WalkLaws.{seat_ends_the_clients as law}
-use Rattle.jc_laws.proofs.seat_ends_the_clients.Goals as goal
-
-pub returns : goal.returns
-returns c = law

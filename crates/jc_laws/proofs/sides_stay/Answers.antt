@@ -1,5 +1,0 @@
-use Rattle.jc_laws.proofs.AgreementLaw.{sides_stay as law}
-use Rattle.jc_laws.proofs.sides_stay.Goals as goal
-
-pub returns : goal.returns
-returns c = law

@@ -1,5 +1,0 @@
-use Rattle.jc_laws.proofs.WalkLaws.{walks_over_clients as law}
-use Rattle.jc_laws.proofs.walks_over_clients.Goals as goal
-
-pub returns : goal.returns
-returns c = law

@@ -1,9 +1,0 @@
-pub mod Hierarchy
-pub mod Loading
-pub mod Agreement
-pub mod Sides
-pub mod Choices
-pub mod Walks
-pub mod Overriding
-pub mod Findings
-pub mod Soundness

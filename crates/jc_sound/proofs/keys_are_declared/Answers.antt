@@ -1,0 +1,5 @@
+use Rattle.jc_sound.proofs.KeyLaws.{keys_are_declared as law}
+use Rattle.jc_sound.proofs.keys_are_declared.Goals as goal
+
+pub returns : goal.returns
+returns c = law

@@ -1,0 +1,77 @@
+//! The laws of findings and of clients, up to soundness: what follows from the rules and from the definitions of clients.
+//!
+//! Each law is the contract of a function that does nothing.
+#![tactic(auto)]
+
+ghost use Rattle.jc_sound.specs.Findings.{FindingIsOnItsSubject, FindingsAreOfUsable, CollisionsAreOfUsable, KeysAreDeclared, CollisionKeysAreDeclared, VerdictIsOne, EmptyMeansNone, NothingBreaksItself, ClassGoneBreaks};
+ghost use Rattle.jc_sound.specs.Soundness.{Soundness, SoundnessOfRules, TypesKept, FieldsKept, KeptWithoutMethods};
+
+/// There is at most one finding for each rule, class and key or target.
+pub fn finding_is_on_its_subject()
+    ensures { FindingIsOnItsSubject }
+{}
+
+/// The class of a finding was usable on the old side.
+pub fn findings_are_of_usable()
+    ensures { FindingsAreOfUsable }
+{}
+
+/// The class of a collision was usable on the old side.
+pub fn collisions_are_of_usable()
+    ensures { CollisionsAreOfUsable }
+{}
+
+/// The key of a finding is declared by its class, or by a superclass or superinterface of it.
+pub fn keys_are_declared()
+    ensures { KeysAreDeclared }
+{}
+
+/// The key of a collision is declared so on the new side.
+pub fn collision_keys_are_declared()
+    ensures { CollisionKeysAreDeclared }
+{}
+
+/// Two sides have one verdict.
+pub fn verdict_is_one()
+    ensures { VerdictIsOne }
+{}
+
+/// A verdict without a finding says that no rule stands anywhere.
+pub fn empty_means_none()
+    ensures { EmptyMeansNone }
+{}
+
+/// Between a side of valid classes and itself no rule stands, and no collision.
+pub fn nothing_breaks_itself()
+    ensures { NothingBreaksItself }
+{}
+
+/// A class of which rule 1 stands breaks each client in scope that names it, by the printed error.
+pub fn class_gone_breaks()
+    ensures { ClassGoneBreaks }
+{}
+
+/// Soundness: where the verdict lists no finding, all clients in scope that meet none of its collisions keep what they had.
+pub fn keeps()
+    ensures { Soundness }
+{}
+
+/// Soundness by the rules alone, without a list of findings.
+pub fn rules_keep()
+    ensures { SoundnessOfRules }
+{}
+
+/// Rules 1 to 4 keep loading, named classes and assignments of clients that declare no method to override by.
+pub fn types_kept()
+    ensures { TypesKept }
+{}
+
+/// Rules 1 to 4 and 7 keep the acts on fields of such clients.
+pub fn fields_kept()
+    ensures { FieldsKept }
+{}
+
+/// All rules but rule 6 keep everything for such clients.
+pub fn kept_without_methods()
+    ensures { KeptWithoutMethods }
+{}
