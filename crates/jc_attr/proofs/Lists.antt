@@ -6,8 +6,9 @@ use Rattle.std.proofs.lemmas.Bool.Decides.{nat_tests}
 use Rattle.jc_desc.specs.declared.fault.Fault.{Fault}
 use Rattle.jc_desc.specs.Faults.{◌>>=◌}
 use Rattle.jc_facts.specs.Names.{Bytes}
-use Rattle.jc_facts.specs.Attributes.{list_at, behind}
-use Rattle.jc_attr.specs.Front.{with_front, picked}
+use Rattle.jc_facts.specs.file.Attributes.{list_at, behind}
+use Rattle.jc_attr.specs.steps.Front.{with_front, picked}
+use Rattle.jc_lemmas.proofs.Numbers.{suc_zero}
 
 -- ---- the items
 
@@ -67,9 +68,6 @@ behind_done {A} item n bytes total k h =
 
 zero_suc : (n : ℕ) → nat_eq 0 (suc n) ≡ false
 zero_suc n = grind (arith, nat_tests)
-
-suc_zero : (n : ℕ) → nat_eq (suc n) 0 ≡ false
-suc_zero n = grind (arith, nat_tests)
 
 suc_suc : (a b : ℕ) → nat_eq (suc a) (suc b) ≡ nat_eq a b
 suc_suc a b = grind (arith, nat_tests)

@@ -3,10 +3,10 @@ use Rattle.std.proofs.Common.{◌≡◌, ℕ, List, [], ◌∷◌, Option, Some,
 use Rattle.std.specs.Prelude.{slice_get}
 use Rattle.jc_desc.specs.declared.fault.Fault.{Fault}
 use Rattle.jc_facts.specs.Names.{Bytes}
-use Rattle.jc_facts.specs.Attributes.{◌|>>◌, whole}
+use Rattle.jc_facts.specs.file.Attributes.{◌|>>◌, whole}
 use Rattle.jc_facts.proofs.AttributeLists.{AreOne}
 use Rattle.jc_attr.specs.Forms.{HasForm}
-use Rattle.jc_attr.specs.Front.{picked}
+use Rattle.jc_attr.specs.steps.Front.{picked}
 
 pub has_form : {A : Type 0} (form : Bytes → Option A) (F : Bytes → A → Type 0) → AreOne form F → (body : Bytes) (o : Option A) → o ≡ form body → HasForm (F body) o
 has_form {A} form F one body None e = λ x h. (let q : Some x ≡ None = sym (one.is_read body x h) ∙ sym e in cc)

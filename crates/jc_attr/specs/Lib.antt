@@ -1,3 +1,3 @@
 pub mod Views
 pub mod Forms
-pub mod Front
+pub mod steps

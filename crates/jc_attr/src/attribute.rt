@@ -1,7 +1,7 @@
 //! One attribute of a list of them.
 ghost use Rattle.std.specs.Prelude.{◌≡◌};
 ghost use Rattle.std.specs.Result.{result_map_both};
-ghost use Rattle.jc_facts.specs.ClassSteps.{attribute_at as attribute_from};
+ghost use Rattle.jc_facts.specs.file.ClassSteps.{attribute_from};
 ghost use Rattle.jc_attr.specs.Views.{attribute_view};
 
 use jc_desc::bytes::{bytes_at, u16_at, u32_at};
@@ -21,7 +21,7 @@ pub struct Attribute<'a, 'b> {
 ///
 /// `Short` where bytes are missing, and before that `BadIndex` at the first byte where the first six
 /// are there and the name's index holds no Utf8.
-#[tactic(auto, unfolding(jc_facts::specs::ClassSteps::attribute_at))]
+#[tactic(auto, unfolding(jc_facts::specs::file::ClassSteps::attribute_from))]
 pub fn attribute_at<'a, 'b>(
     pool: &Pool<'a>,
     bytes: &'b [u8],

@@ -2,8 +2,8 @@
 //! the contents don't have the attribute's form, or go on behind it.
 ghost use Rattle.std.specs.Prelude.{◌≡◌, IfOk};
 ghost use Rattle.std.specs.Option.{option_map};
-ghost use Rattle.jc_facts.specs.Attributes.{class_list_of, nest_host_of, index_of as index_from, signature_of, constant_value_of};
-ghost use Rattle.jc_facts.specs.ClassGrammar.{AreClasses, IsHost, IsSignature, IsConstantValue};
+ghost use Rattle.jc_facts.specs.file.Attributes.{class_list_of, nest_host_of, lone_index, signature_of, constant_value_of};
+ghost use Rattle.jc_facts.specs.file.ClassGrammar.{AreClasses, IsHost, IsSignature, IsConstantValue};
 ghost use Rattle.jc_attr.specs.Forms.{HasForm};
 
 use crate::classes::{class_at, classes_at};
@@ -13,7 +13,7 @@ use jc_facts::class_facts::Constant;
 use jc_pool::pool::{Pool, PoolConstant};
 use std::alloc::{AllocError, Global};
 
-#[tactic(auto, unfolding(jc_facts::specs::Attributes::class_list_of))]
+#[tactic(auto, unfolding(jc_facts::specs::file::Attributes::class_list_of))]
 fn class_list(alloc: Global, pool: &Pool<'_>, body: &[u8]) -> Result<Option<Vec<Name>>, AllocError>
     ensures { IfOk result (λ r. option_map (λ names. names.items) r ≡ class_list_of pool.now body.now) }
 {
@@ -59,7 +59,7 @@ pub fn nest_members(
     Ok(names)
 }
 
-#[tactic(auto, unfolding(jc_facts::specs::Attributes::nest_host_of))]
+#[tactic(auto, unfolding(jc_facts::specs::file::Attributes::nest_host_of))]
 fn host(alloc: Global, pool: &Pool<'_>, body: &[u8]) -> Result<Option<Name>, AllocError>
     ensures { IfOk result (λ r. r ≡ nest_host_of pool.now body.now) }
 {
@@ -89,7 +89,7 @@ pub fn nest_host(alloc: Global, pool: &Pool<'_>, body: &[u8]) -> Result<Option<N
 }
 
 fn index_of(body: &[u8]) -> Option<u16>
-    ensures { result ≡ index_from body.now }
+    ensures { result ≡ lone_index body.now }
 {
     match u16_at(body) {
         Err(_) => None,
@@ -97,7 +97,7 @@ fn index_of(body: &[u8]) -> Option<u16>
     }
 }
 
-#[tactic(auto, unfolding(jc_facts::specs::Attributes::signature_of))]
+#[tactic(auto, unfolding(jc_facts::specs::file::Attributes::signature_of))]
 fn text(alloc: Global, pool: &Pool<'_>, body: &[u8]) -> Result<Option<Name>, AllocError>
     ensures { IfOk result (λ r. r ≡ signature_of pool.now body.now) }
 {
@@ -123,7 +123,7 @@ pub fn signature(alloc: Global, pool: &Pool<'_>, body: &[u8]) -> Result<Option<N
     Ok(text)
 }
 
-#[tactic(auto, unfolding(jc_facts::specs::Attributes::constant_value_of))]
+#[tactic(auto, unfolding(jc_facts::specs::file::Attributes::constant_value_of))]
 fn value(alloc: Global, pool: &Pool<'_>, body: &[u8]) -> Result<Option<Constant>, AllocError>
     ensures { IfOk result (λ r. r ≡ constant_value_of pool.now body.now) }
 {

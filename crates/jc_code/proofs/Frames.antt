@@ -1,17 +1,13 @@
 -- Stacks and locals.
-use Rattle.std.proofs.Common.{◌≡◌, ℕ, zero, suc, ◌-◌, ◌<◌, ◌≤◌, true, false, nat_lt, List, [], ◌∷◌, ◌++◌, map, take, drop, set, length, Some, None, refl, sym, ap, ◌∙◌, arith}
+use Rattle.std.proofs.Common.{◌≡◌, ℕ, zero, suc, ◌-◌, ◌<◌, ◌≤◌, false, nat_lt, List, [], ◌∷◌, ◌++◌, map, take, drop, set, length, Some, None, refl, sym, ap, ◌∙◌, arith}
 use Rattle.std.proofs.lemmas.List.{length-map, drop-map, take-map, map-set, map_push, append-nil}
 use Rattle.std.proofs.lemmas.Bool.Decides.{nat_tests}
 use Rattle.jc_facts.specs.Names.{Bytes}
-use Rattle.jc_facts.specs.Typing.{Kind, empty, pop, taken, set_at, made, all_made}
+use Rattle.jc_facts.specs.code.Typing.{Kind, empty, pop, taken, set_at, made, all_made}
 use Rattle.jc_code.proofs.Mapped.{map_twice}
+use Rattle.jc_facts.proofs.Typing.{pop_push}
 
 -- ---- the stack
-
-pub pop_push : (ks : List Kind) (k : Kind) → pop (ks ++ k ∷ []) ≡ Some (k, ks)
-unfolding pop
-pop_push [] k = refl
-pop_push (x ∷ ks) k = rw (pop_push ks k) refl
 
 no_fewer : (a b : ℕ) → b ≤ a → nat_lt a b ≡ false
 no_fewer a b p = grind (arith, nat_tests)
@@ -22,12 +18,6 @@ taken_is {X} view xs n p = rw (length-map xs view, no_fewer (length xs) n p, dro
 
 pub taken_at : {X : Type 0} (view : X → Kind) (xs : List X) (n m : ℕ) → n ≤ length xs → m ≡ length xs - n → Some (map view (drop m xs), map view (take m xs)) ≡ taken n (map view xs)
 taken_at {X} view xs n m p e = rw e (taken_is view xs n p)
-
-pub taken_none : {X : Type 0} (view : X → Kind) (xs : List X) (n : ℕ) → length xs < n → None ≡ taken n (map view xs)
-unfolding taken
-taken_none {X} view xs n p = rw (length-map xs view, fewer (length xs) n p) refl where
-  fewer : (a b : ℕ) → a < b → nat_lt a b ≡ true
-  fewer a b p = grind (arith, nat_tests)
 
 -- ---- the locals
 

@@ -4,21 +4,22 @@ use Rattle.std.specs.Prelude.{slice_get, is_none}
 use Rattle.std.specs.Option.{option_map}
 use Rattle.std.proofs.lemmas.List.{append-nil}
 use Rattle.std.proofs.lemmas.Bool.Decides.{nat_tests}
-use Rattle.jc_desc.specs.Pool.{PoolOf, short_in}
+use Rattle.jc_desc.specs.Pool.{PoolOf, short_from}
 use Rattle.jc_desc.specs.PoolAnswers.{HandleRefOf, some_if, class_in, handle_in, tag_in}
 use Rattle.jc_facts.specs.declared.client.Item.{Item}
 use Rattle.jc_facts.specs.Names.{Bytes}
-use Rattle.jc_facts.specs.Attributes.{BootstrapOf, ◌|>>◌, bootstraps_of}
-use Rattle.jc_facts.specs.ClientItems.{boots_of}
-use Rattle.jc_facts.specs.Code.{class_item, handle_item, handle_items, argument_items, arguments_items, row_items, boot_items}
-use Rattle.jc_code.specs.Kept.{counts, kept_of, kept_row}
-use Rattle.jc_code.proofs.Mapped.{map_twice, get_map}
+use Rattle.jc_facts.specs.file.Attributes.{BootstrapOf, ◌|>>◌, bootstraps_of}
+use Rattle.jc_facts.specs.code.ClientItems.{boots_of}
+use Rattle.jc_facts.specs.code.Code.{class_item, handle_item, handle_items, argument_items, arguments_items, row_items, boot_items}
+use Rattle.jc_code.specs.steps.Kept.{argument_counts, kept_of, kept_row}
+use Rattle.jc_code.proofs.Mapped.{map_twice}
+use Rattle.std.proofs.lemmas.Option.{slice_get-map}
 
 -- ---- the loop that keeps the others
 
-pub kept_step : (pool : PoolOf) (n m : ℕ) (bytes old new total : Bytes) → n ≡ suc m → new ≡ old ++ cond (counts pool (short_in 0 bytes)) (take 2 bytes) [] → old ++ kept_of pool n bytes ≡ total → new ++ kept_of pool m (drop 2 bytes) ≡ total
+pub kept_step : (pool : PoolOf) (n m : ℕ) (bytes old new total : Bytes) → n ≡ suc m → new ≡ old ++ cond (argument_counts pool (short_from 0 bytes)) (take 2 bytes) [] → old ++ kept_of pool n bytes ≡ total → new ++ kept_of pool m (drop 2 bytes) ≡ total
 kept_step pool n m bytes old new total k e h =
-    let here : Bytes = cond (counts pool (short_in 0 bytes)) (take 2 bytes) [] in
+    let here : Bytes = cond (argument_counts pool (short_from 0 bytes)) (take 2 bytes) [] in
     let one : old ++ kept_of pool n bytes ≡ new ++ kept_of pool m (drop 2 bytes) = rw (k, e) (sym (append_assoc old here (kept_of pool m (drop 2 bytes)))) in
     sym one ∙ h
 
@@ -30,7 +31,7 @@ kept_done pool n bytes old total k h =
 -- ---- what they give
 
 -- an argument that says nothing gives no item
-says_nothing : (pool : PoolOf) (i : ℕ) → counts pool i ≡ false → argument_items pool i ≡ Some []
+says_nothing : (pool : PoolOf) (i : ℕ) → argument_counts pool i ≡ false → argument_items pool i ≡ Some []
 says_nothing pool i e = go (class_in pool i) (handle_in pool i) (tag_in pool i) e where
   go : (c : Option Bytes) (h : Option HandleRefOf) (t : Option ℕ) → (is_some c || is_some h || is_none t) ≡ false → some_if (is_some t) (class_item c ++ handle_items h) ≡ Some []
   go None None (Some t) e = refl
@@ -42,7 +43,7 @@ half : (n : ℕ) → suc (suc n) / 2 ≡ suc (n / 2)
 half n = omega arith
 
 -- the number of the first two bytes
-short_front : (x y : ℕ) (xs ys : Bytes) → short_in 0 (x ∷ y ∷ xs) ≡ short_in 0 (x ∷ y ∷ ys)
+short_front : (x y : ℕ) (xs ys : Bytes) → short_from 0 (x ∷ y ∷ xs) ≡ short_from 0 (x ∷ y ∷ ys)
 short_front x y xs ys = rw (two (length xs), two (length ys)) refl where
   two : (n : ℕ) → nat_lt (suc (suc n)) 2 ≡ false
   two n = grind (arith, nat_tests)
@@ -56,11 +57,11 @@ unfolding arguments_items
 kept_arguments pool zero bytes p = refl
 kept_arguments pool (suc n) [] p = absurd (omega (arith, p))
 kept_arguments pool (suc n) (x ∷ []) p = absurd (omega (arith, p))
-kept_arguments pool (suc n) (x ∷ y ∷ bs) p = by_test (kept_of pool n bs) (counts pool (short_in 0 (x ∷ y ∷ bs))) refl (kept_arguments pool n bs (omega (arith, p))) where
-  by_test : (kept : Bytes) (b : Bool) → counts pool (short_in 0 (x ∷ y ∷ bs)) ≡ b → arguments_items pool (length kept / 2) kept ≡ arguments_items pool n bs
+kept_arguments pool (suc n) (x ∷ y ∷ bs) p = by_test (kept_of pool n bs) (argument_counts pool (short_from 0 (x ∷ y ∷ bs))) refl (kept_arguments pool n bs (omega (arith, p))) where
+  by_test : (kept : Bytes) (b : Bool) → argument_counts pool (short_from 0 (x ∷ y ∷ bs)) ≡ b → arguments_items pool (length kept / 2) kept ≡ arguments_items pool n bs
       → arguments_items pool (length (cond b (x ∷ y ∷ []) [] ++ kept) / 2) (cond b (x ∷ y ∷ []) [] ++ kept) ≡ arguments_items pool (suc n) (x ∷ y ∷ bs)
   by_test kept true e h = rw (half (length kept), short_front x y kept bs, h) refl
-  by_test kept false e h = rw (says_nothing pool (short_in 0 (x ∷ y ∷ bs)) e, h) (nothing_more (arguments_items pool n bs))
+  by_test kept false e h = rw (says_nothing pool (short_from 0 (x ∷ y ∷ bs)) e, h) (nothing_more (arguments_items pool n bs))
 
 kept_row_items : (pool : PoolOf) (row : BootstrapOf) → row_items pool (kept_row pool row) ≡ row_items pool row
 kept_row_items pool row = go (handle_in pool row.handle) where
@@ -72,7 +73,7 @@ kept_row_items pool row = go (handle_in pool row.handle) where
 pub kept_boot_items : (pool : PoolOf) (boots : Option (List BootstrapOf)) (n : ℕ) → boot_items pool (option_map (map (kept_row pool)) boots) n ≡ boot_items pool boots n
 unfolding boot_items
 kept_boot_items pool None n = refl
-kept_boot_items pool (Some rows) n = rw (get_map (kept_row pool) rows n) (go (slice_get rows n)) where
+kept_boot_items pool (Some rows) n = rw (slice_get-map (kept_row pool) rows n) (go (slice_get rows n)) where
   go : (o : Option BootstrapOf) → (option_map (kept_row pool) o |>> λ row. row_items pool row) ≡ (o |>> λ row. row_items pool row)
   go None = refl
   go (Some row) = kept_row_items pool row

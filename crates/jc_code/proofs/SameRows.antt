@@ -11,15 +11,15 @@ use Rattle.jc_facts.specs.declared.client.Item.{Item}
 use Rattle.jc_facts.specs.declared.code_fault.CodeFault.{CodeFault}
 use Rattle.jc_facts.specs.declared.code_fault.CodeReason.TheVariants as reasons
 use Rattle.jc_facts.specs.Names.{Bytes}
-use Rattle.jc_facts.specs.Attributes.{CodeOf, BootstrapOf, ◌|>>◌}
-use Rattle.jc_facts.specs.ClassParts.{Attribute, ClassHead}
-use Rattle.jc_facts.specs.ClassSteps.{attribute_at, is_named, member_head_at}
-use Rattle.jc_facts.specs.ClientItems.{around, layout_of, items_of_code, code_items, attribute_items, attributes_items, method_items, methods_items}
-use Rattle.jc_facts.specs.Code.{Around, boot_items, dynamic_items, operand, used, instruction_at, next_at, scan_at}
-use Rattle.jc_facts.specs.Refusals.{◌>>=◌, read, want}
-use Rattle.jc_facts.specs.Typing.{Kind, Frame, Instruction, nothing, pushes, loads_class, loads, stores, pops, pops_two, dups, makes, casts, tests, uses, constructs, get_static, put_static, get_field, put_field, call_static, call, initialized, construct, act_on, run, decode, entry_instruction, decoded_at, step_at, leave, typed_at, typed_code, start_of, method_kinds, is_return, is_nil}
-use Rattle.jc_code.specs.Kept.{kept_row}
-use Rattle.jc_code.specs.Pushed.{with_before}
+use Rattle.jc_facts.specs.file.Attributes.{CodeOf, BootstrapOf, ◌|>>◌}
+use Rattle.jc_facts.specs.file.ClassParts.{Attribute, ClassHead}
+use Rattle.jc_facts.specs.file.ClassSteps.{attribute_from, has_this_name, member_head_from}
+use Rattle.jc_facts.specs.code.ClientItems.{around, layout_of, items_of_code, code_items, attribute_items, attributes_items, method_items, methods_items}
+use Rattle.jc_facts.specs.code.Code.{Around, boot_items, dynamic_items, operand, used, instruction_at, next_at, scan_at}
+use Rattle.jc_facts.specs.file.Refusals.{◌>>=◌, read, want}
+use Rattle.jc_facts.specs.code.Typing.{Kind, Frame, Instruction, nothing, pushes, loads_class, loads, stores, pops, pops_two, dups, makes, casts, tests, uses, constructs, get_static, put_static, get_field, put_field, call_static, call, initialized, construct, act_on, run, decode, entry_instruction, decoded_at, step_at, leave, typed_at, typed_code, start_of, method_kinds, is_return, is_nil}
+use Rattle.jc_code.specs.steps.Kept.{kept_row}
+use Rattle.jc_code.specs.steps.Pushed.{with_before}
 use Rattle.jc_code.proofs.KeptRows.{kept_boot_items}
 
 -- the same steps after the same one
@@ -153,15 +153,15 @@ module _ (pool : PoolOf) (head : ClassHead) (b c : Option (List BootstrapOf)) (m
   same_attributes seen zero bytes = refl
   same_attributes seen (suc n) bytes = go (λ s bs. same_attributes s n bs) where
     go : ((s : Bool) (bs : Bytes) → attributes_items one s n bs ≡ attributes_items other s n bs)
-        → (read (attribute_at pool bytes) >>= λ x. attribute_items one seen (length bytes) x.0 >>= followed (attributes_items one (seen || is_named x.0 (codes "Code")) n x.1))
-        ≡ (read (attribute_at pool bytes) >>= λ x. attribute_items other seen (length bytes) x.0 >>= followed (attributes_items other (seen || is_named x.0 (codes "Code")) n x.1))
-    go ih = same_next (read (attribute_at pool bytes)) _ _ (λ x. rw (same_attribute seen (length bytes) x.0, ih (seen || is_named x.0 (codes "Code")) x.1) refl)
+        → (read (attribute_from pool bytes) >>= λ x. attribute_items one seen (length bytes) x.0 >>= followed (attributes_items one (seen || has_this_name x.0 (codes "Code")) n x.1))
+        ≡ (read (attribute_from pool bytes) >>= λ x. attribute_items other seen (length bytes) x.0 >>= followed (attributes_items other (seen || has_this_name x.0 (codes "Code")) n x.1))
+    go ih = same_next (read (attribute_from pool bytes)) _ _ (λ x. rw (same_attribute seen (length bytes) x.0, ih (seen || has_this_name x.0 (codes "Code")) x.1) refl)
 
 -- ---- all methods
 
 same_method : (pool : PoolOf) (head : ClassHead) (b c : Option (List BootstrapOf)) → ((n : ℕ) → boot_items pool b n ≡ boot_items pool c n) → (bytes : Bytes) → method_items pool head b bytes ≡ method_items pool head c bytes
 unfolding method_items
-same_method pool head b c h bytes = same_next (read (member_head_at true pool head.flags bytes)) _ _ (λ m. same_next (read (number_at 2 m.1)) _ _ (λ k. same_attributes pool head b c m.0 h false k.0 k.1))
+same_method pool head b c h bytes = same_next (read (member_head_from true pool head.flags bytes)) _ _ (λ m. same_next (read (number_at 2 m.1)) _ _ (λ k. same_attributes pool head b c m.0 h false k.0 k.1))
 
 same_methods : (pool : PoolOf) (head : ClassHead) (b c : Option (List BootstrapOf)) → ((n : ℕ) → boot_items pool b n ≡ boot_items pool c n) → (n : ℕ) (bytes : Bytes) → methods_items pool head b n bytes ≡ methods_items pool head c n bytes
 unfolding methods_items

@@ -8,15 +8,15 @@ use Rattle.jc_facts.specs.declared.client.Item.{Item}
 use Rattle.jc_facts.specs.declared.code_fault.CodeFault.{CodeFault}
 use Rattle.jc_facts.specs.declared.code_fault.CodeReason.TheVariants as reasons
 use Rattle.jc_facts.specs.Names.{Bytes}
-use Rattle.jc_facts.specs.Clients.{IsValidClient}
-use Rattle.jc_facts.specs.Attributes.{CodeOf, BootstrapOf}
-use Rattle.jc_facts.specs.ClassParts.{Attribute}
-use Rattle.jc_facts.specs.ClassGrammar.{IsClassFile, Reads}
-use Rattle.jc_facts.specs.ClassSteps.{is_named}
-use Rattle.jc_facts.specs.Code.{Around, scan_at, catches_at}
-use Rattle.jc_facts.specs.ClientItems.{layout_of, of_code, items_of_code, code_items, attribute_items, around, boots_of, methods_items, items}
-use Rattle.jc_facts.specs.Refusals.{◌>>=◌, want}
-use Rattle.jc_facts.specs.Typing.{typed_code}
+use Rattle.jc_facts.specs.client.Clients.{IsValidClient}
+use Rattle.jc_facts.specs.file.Attributes.{CodeOf, BootstrapOf}
+use Rattle.jc_facts.specs.file.ClassParts.{Attribute}
+use Rattle.jc_facts.specs.file.ClassGrammar.{IsClassFile, Reads}
+use Rattle.jc_facts.specs.file.ClassSteps.{has_this_name}
+use Rattle.jc_facts.specs.code.Code.{Around, scan_at, catches_at}
+use Rattle.jc_facts.specs.code.ClientItems.{layout_of, of_code, items_of_code, code_items, attribute_items, around, boots_of, methods_items, items}
+use Rattle.jc_facts.specs.file.Refusals.{◌>>=◌, want}
+use Rattle.jc_facts.specs.code.Typing.{typed_code}
 use Rattle.jc_facts.proofs.ItemsRead.{boots_taken, items_read}
 use Rattle.jc_facts.proofs.ReadLists.{read_valid}
 use Rattle.jc_code.proofs.Validity.{Good, Suits, Sound, joined, GoodOption, GoodResult, GoodRead, method_good, methods_good, scan_good}
@@ -54,7 +54,7 @@ code_items_good c a before left body u s = by_layout (cond before None (layout_o
 
 attribute_good : (c : ClassFacts) (a : Around) (before : Bool) (left : ℕ) (x : Attribute) → Suits c a → Sound a.pool → GoodResult c (attribute_items a before left x)
 unfolding attribute_items
-attribute_good c a before left x u s = pick_result c (is_named x (codes "Code")) (code_items a before left x.body) (Ok []) (code_items_good c a before left x.body u s) refl
+attribute_good c a before left x u s = pick_result c (has_this_name x (codes "Code")) (code_items a before left x.body) (Ok []) (code_items_good c a before left x.body u s) refl
 
 -- ---- the file
 

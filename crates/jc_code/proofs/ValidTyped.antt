@@ -4,7 +4,7 @@ use Rattle.std.specs.List.{list_any}
 use Rattle.std.specs.Prelude.{codes}
 use Rattle.std.proofs.lemmas.Bool.{eqb-true}
 use Rattle.jc_desc.proofs.Sound.{some_if_is}
-use Rattle.jc_desc.specs.Names.{is_init, is_clinit}
+use Rattle.jc_desc.specs.Names.{is_init_name, is_clinit_name}
 use Rattle.jc_desc.specs.PoolAnswers.{MemberRefOf, some_if, class_in, member_ref_in}
 use Rattle.jc_facts.specs.declared.act.Act.{Act}
 use Rattle.jc_facts.specs.declared.act.Act.TheVariants as act
@@ -15,14 +15,15 @@ use Rattle.jc_facts.specs.declared.code_fault.CodeFault.{CodeFault}
 use Rattle.jc_facts.specs.declared.code_fault.CodeReason.{CodeReason}
 use Rattle.jc_facts.specs.declared.code_fault.CodeReason.TheVariants as reasons
 use Rattle.jc_facts.specs.Names.{Bytes, same}
-use Rattle.jc_facts.specs.Acts.{is_field_act}
-use Rattle.jc_facts.specs.Clients.{is_valid_item}
-use Rattle.jc_facts.specs.Attributes.{CodeOf, is_bracketed, ◌|>>◌}
-use Rattle.jc_facts.specs.Code.{Around, member_at, plain_member, is_own, either, is_interface_ref, holds_tag, operand, used, instruction_at, next_at, scan_at}
-use Rattle.jc_facts.specs.Lengths.{between, instruction_len}
-use Rattle.jc_facts.specs.Refusals.{◌>>=◌, want}
-use Rattle.jc_facts.specs.Typing.{Kind, int, long, float, double, null, ref, fresh, unset, empty, takes_two, Frame, same_kind, assign, fit, fit_all, receiver, pop, taken, method_kinds, field_kind, of_number, is_unset, go, load, store, pop_one, pop_two, dup, cast, use_of, get_static, put_static, get_field, put_field, call_static, call, initialized, construct, act_on, Instruction, nothing, pushes, loads_class, loads, stores, pops, pops_two, dups, makes, casts, tests, uses, constructs, run, constant_in, wide_in, plain_in, act_in, special_in, plain_instruction, entry_instruction, takes_entry, decode, is_return, value_fits, result_fits, leave, length_of, step_at, is_nil, typed_at, start_of, typed_code}
-use Rattle.jc_code.proofs.Validity.{Good, Suits, GoodOption, own_good, Sound, bind_is, pick}
+use Rattle.jc_facts.specs.client.Acts.{is_act_on_field}
+use Rattle.jc_facts.specs.client.Clients.{is_item_of}
+use Rattle.jc_facts.specs.file.Attributes.{CodeOf, is_array_name, ◌|>>◌}
+use Rattle.jc_facts.specs.code.Code.{Around, member_at, plain_member, is_own, either, is_interface_ref, holds_tag, operand, used, instruction_at, next_at, scan_at}
+use Rattle.jc_facts.specs.code.Lengths.{is_between, instruction_length}
+use Rattle.jc_facts.specs.file.Refusals.{◌>>=◌, want}
+use Rattle.jc_facts.specs.code.Typing.{Kind, int, long, float, double, null, ref, fresh, unset, empty, takes_two, Frame, same_kind, assign, fit, fit_all, receiver, pop, taken, method_kinds, field_kind, of_number, is_unset, go, load, store, pop_one, pop_two, dup, cast, use_of, get_static, put_static, get_field, put_field, call_static, call, initialized, construct, act_on, Instruction, nothing, pushes, loads_class, loads, stores, pops, pops_two, dups, makes, casts, tests, uses, constructs, run, constant_in, wide_in, plain_in, act_in, special_in, plain_instruction, entry_instruction, takes_entry, decode, is_return, value_fits, result_fits, leave, length_of, step_at, is_nil, typed_at, start_of, typed_code}
+use Rattle.jc_code.proofs.Validity.{Good, Suits, GoodOption, own_good, Sound, pick}
+use Rattle.jc_facts.proofs.Options.{some_then}
 use Rattle.jc_code.proofs.ValidUses.{IsPlain, plain_is, virtual_is, interface_is, special_is, follow, some_good, join_good, good_of}
 
 abbrev Ran : Type 0
@@ -68,7 +69,7 @@ choose : (c : ClassFacts) (b : Bool) (x y : Option Ran) → GoodRan c x → Good
 choose c true x y h k = h
 choose c false x y h k = k
 
-cons_good : (c : ClassFacts) (i : Item) (xs : List Item) → is_valid_item c i ≡ true → Good c xs → Good c (i ∷ xs)
+cons_good : (c : ClassFacts) (i : Item) (xs : List Item) → is_item_of c i ≡ true → Good c xs → Good c (i ∷ xs)
 cons_good c i xs p g = rw (p, g) refl
 
 assign_good : (c : ClassFacts) (s t : Bytes) → Good c (assign s t)
@@ -92,21 +93,21 @@ fit_all_good c (k ∷ ks) (d ∷ ds) = go_on (fit_all_good c ks ds) where
   go_on : GoodOption c (fit_all ks ds) → GoodOption c (fit k d |>> λ xs. fit_all ks ds |>> λ ys. Some (xs ++ ys))
   go_on g = follow c (fit k d) _ (λ xs e. join_good c (fit_all ks ds) xs (good_of c (fit k d) xs (fit_good c k d) e) g)
 
-initialized_good : (c : ClassFacts) (a : Around) (m : MemberRefOf) (k : Kind) (i : Item × Bytes) → Suits c a → initialized a m k ≡ Some i → is_valid_item c i.0 ≡ true
+initialized_good : (c : ClassFacts) (a : Around) (m : MemberRefOf) (k : Kind) (i : Item × Bytes) → Suits c a → initialized a m k ≡ Some i → is_item_of c i.0 ≡ true
 unfolding initialized
 initialized_good c a m (fresh at t) i s e = by_test (same m.class t) e where
-  by_test : (b : Bool) → cond b (Some (item.New t m.descriptor, t)) None ≡ Some i → is_valid_item c i.0 ≡ true
-  by_test true e = let q : (item.New t m.descriptor, t) ≡ i = (let r : Some (item.New t m.descriptor, t) ≡ Some i = e in cc) in subst (λ (x : Item × Bytes). is_valid_item c x.0 ≡ true) q refl
+  by_test : (b : Bool) → cond b (Some (item.New t m.descriptor, t)) None ≡ Some i → is_item_of c i.0 ≡ true
+  by_test true e = let q : (item.New t m.descriptor, t) ≡ i = (let r : Some (item.New t m.descriptor, t) ≡ Some i = e in cc) in subst (λ (x : Item × Bytes). is_item_of c x.0 ≡ true) q refl
   by_test false e = absurd cc
 initialized_good c a m unset i s e = by_test (is_own a m.class) refl e where
-  by_test : (b : Bool) → is_own a m.class ≡ b → cond b (Some (item.Init m.class m.descriptor, a.class)) None ≡ Some i → is_valid_item c i.0 ≡ true
-  by_test true o e = let q : (item.Init m.class m.descriptor, a.class) ≡ i = (let r : Some (item.Init m.class m.descriptor, a.class) ≡ Some i = e in cc) in subst (λ (x : Item × Bytes). is_valid_item c x.0 ≡ true) q (own_good c a m.class m.descriptor s o)
+  by_test : (b : Bool) → is_own a m.class ≡ b → cond b (Some (item.Init m.class m.descriptor, a.class)) None ≡ Some i → is_item_of c i.0 ≡ true
+  by_test true o e = let q : (item.Init m.class m.descriptor, a.class) ≡ i = (let r : Some (item.Init m.class m.descriptor, a.class) ≡ Some i = e in cc) in subst (λ (x : Item × Bytes). is_item_of c x.0 ≡ true) q (own_good c a m.class m.descriptor s o)
   by_test false o e = absurd cc
 initialized_good c a m _ i s e = absurd cc
 
 -- an act may be done on this member
 abbrev pub Callable : Act → MemberRefOf → Type 0
-Callable what m = (is_field_act what || not (is_init m.name || is_clinit m.name)) ≡ true
+Callable what m = (is_act_on_field what || not (is_init_name m.name || is_clinit_name m.name)) ≡ true
 
 abbrev pub IsCallable : Instruction → Type 0
 IsCallable (uses what m) = Callable what m
@@ -218,28 +219,28 @@ unfolding plain_instruction
 plain_ins op near =
     pick_ins (nat_eq op 0) _ _ (λ e. some_ins nothing tt)
     (pick_ins (nat_eq op 1) _ _ (λ e. some_ins (pushes null) tt)
-    (pick_ins (between 2 8 op || nat_eq op 16 || nat_eq op 17) _ _ (λ e. some_ins (pushes int) tt)
+    (pick_ins (is_between 2 8 op || nat_eq op 16 || nat_eq op 17) _ _ (λ e. some_ins (pushes int) tt)
     (pick_ins (nat_eq op 9 || nat_eq op 10) _ _ (λ e. some_ins (pushes long) tt)
-    (pick_ins (between 11 13 op) _ _ (λ e. some_ins (pushes float) tt)
+    (pick_ins (is_between 11 13 op) _ _ (λ e. some_ins (pushes float) tt)
     (pick_ins (nat_eq op 14 || nat_eq op 15) _ _ (λ e. some_ins (pushes double) tt)
-    (pick_ins (between 21 25 op) _ _ (λ e. some_ins (loads (op - 21) near) tt)
-    (pick_ins (between 26 45 op) _ _ (λ e. some_ins (loads ((op - 26) / 4) ((op - 26) % 4)) tt)
-    (pick_ins (between 54 58 op) _ _ (λ e. some_ins (stores (op - 54) near) tt)
-    (pick_ins (between 59 78 op) _ _ (λ e. some_ins (stores ((op - 59) / 4) ((op - 59) % 4)) tt)
+    (pick_ins (is_between 21 25 op) _ _ (λ e. some_ins (loads (op - 21) near) tt)
+    (pick_ins (is_between 26 45 op) _ _ (λ e. some_ins (loads ((op - 26) / 4) ((op - 26) % 4)) tt)
+    (pick_ins (is_between 54 58 op) _ _ (λ e. some_ins (stores (op - 54) near) tt)
+    (pick_ins (is_between 59 78 op) _ _ (λ e. some_ins (stores ((op - 59) / 4) ((op - 59) % 4)) tt)
     (pick_ins (nat_eq op 87) _ _ (λ e. some_ins pops tt)
     (pick_ins (nat_eq op 88) _ _ (λ e. some_ins pops_two tt)
     (pick_ins (nat_eq op 89) _ _ (λ e. some_ins dups tt) no_ins))))))))))))
 
 callable_plain : (what : Act) (m : MemberRefOf) → IsPlain m → Callable what m
-callable_plain what m h = by_act (is_field_act what) where
-  by_act : (b : Bool) → (b || not (is_init m.name || is_clinit m.name)) ≡ true
+callable_plain what m h = by_act (is_act_on_field what) where
+  by_act : (b : Bool) → (b || not (is_init_name m.name || is_clinit_name m.name)) ≡ true
   by_act true = refl
   by_act false = rw (h.init, h.clinit) refl
 
 in_pool : (a : Around) (i : ℕ) (m : MemberRefOf) → plain_in a i ≡ Some m → member_ref_in a.pool i ≡ Some m
 in_pool a i m e =
-    let b = bind_is (member_ref_in a.pool i) (λ (x : MemberRefOf). some_if (not (is_bracketed x.class)) x) m e in
-    let p = some_if_is (not (is_bracketed b.0.class)) b.0 m b.2 in
+    let b = some_then (member_ref_in a.pool i) (λ (x : MemberRefOf). some_if (not (is_array_name x.class)) x) m e in
+    let p = some_if_is (not (is_array_name b.0.class)) b.0 m b.2 in
     b.1 ∙ ap (λ (x : MemberRefOf). Some x) p.1
 
 one_member : (x y : MemberRefOf) (o : Option MemberRefOf) → o ≡ Some x → o ≡ Some y → x ≡ y
@@ -248,32 +249,32 @@ one_member x y o e d = let q : Some x ≡ Some y = sym e ∙ d in cc
 virtual_plain : (a : Around) (i : ℕ) (found : List Item) (m : MemberRefOf) → Sound a.pool → used a 182 i ≡ Some found → member_ref_in a.pool i ≡ Some m → IsPlain m
 unfolding used
 virtual_plain a i found m s u r =
-    let b = bind_is (plain_member a.pool 10 10 i) _ found u in
+    let b = some_then (plain_member a.pool 10 10 i) _ found u in
     let k = virtual_is a.pool i b.0 s b.1 in
     subst IsPlain (one_member b.0 m (member_ref_in a.pool i) k.0 r) k.1
 
 static_plain : (a : Around) (i : ℕ) (found : List Item) (m : MemberRefOf) → Sound a.pool → used a 184 i ≡ Some found → member_ref_in a.pool i ≡ Some m → IsPlain m
 unfolding used
 static_plain a i found m s u r =
-    let b = bind_is (plain_member a.pool 10 11 i) _ found u in
+    let b = some_then (plain_member a.pool 10 11 i) _ found u in
     let k = plain_is a.pool i b.0 s b.1 in
     subst IsPlain (one_member b.0 m (member_ref_in a.pool i) k.0 r) k.1
 
 interface_plain : (a : Around) (i : ℕ) (found : List Item) (m : MemberRefOf) → Sound a.pool → used a 185 i ≡ Some found → member_ref_in a.pool i ≡ Some m → IsPlain m
 unfolding used
 interface_plain a i found m s u r =
-    let b = bind_is (member_at a.pool 11 11 i) _ found u in
+    let b = some_then (member_at a.pool 11 11 i) _ found u in
     let k = interface_is a.pool i b.0 s b.1 in
     subst IsPlain (one_member b.0 m (member_ref_in a.pool i) k.0 r) k.1
 
-special_plain : (a : Around) (i : ℕ) (found : List Item) (m : MemberRefOf) → Sound a.pool → used a 183 i ≡ Some found → member_ref_in a.pool i ≡ Some m → is_clinit m.name ≡ false
+special_plain : (a : Around) (i : ℕ) (found : List Item) (m : MemberRefOf) → Sound a.pool → used a 183 i ≡ Some found → member_ref_in a.pool i ≡ Some m → is_clinit_name m.name ≡ false
 unfolding used
 special_plain a i found m s u r =
-    let b = bind_is (member_at a.pool 10 11 i) _ found u in
+    let b = some_then (member_at a.pool 10 11 i) _ found u in
     let k = special_is a.pool i b.0 s b.1 in
-    subst (λ (x : MemberRefOf). is_clinit x.name ≡ false) (one_member b.0 m (member_ref_in a.pool i) k.0 r) k.1
+    subst (λ (x : MemberRefOf). is_clinit_name x.name ≡ false) (one_member b.0 m (member_ref_in a.pool i) k.0 r) k.1
 
-field_ins : (a : Around) (what : Act) (i : ℕ) → is_field_act what ≡ true → GoodIns (act_in a what what i)
+field_ins : (a : Around) (what : Act) (i : ℕ) → is_act_on_field what ≡ true → GoodIns (act_in a what what i)
 field_ins a what i h = then_ins (plain_in a i) _ (λ m e. by_tag m (is_interface_ref m)) where
   by_tag : (m : MemberRefOf) (b : Bool) → GoodIns (Some (uses (cond b what what) m))
   by_tag m true = some_ins (uses what m) (rw h refl)
@@ -282,9 +283,9 @@ field_ins a what i h = then_ins (plain_in a i) _ (λ m e. by_tag m (is_interface
 act_ins : (a : Around) (what other : Act) (i : ℕ) → ((m : MemberRefOf) → member_ref_in a.pool i ≡ Some m → IsPlain m) → GoodIns (act_in a what other i)
 act_ins a what other i h = then_ins (plain_in a i) _ (λ m e. some_ins (uses (either m what other) m) (callable_plain (either m what other) m (h m (in_pool a i m e))))
 
-special_ins : (a : Around) (i : ℕ) → ((m : MemberRefOf) → member_ref_in a.pool i ≡ Some m → is_clinit m.name ≡ false) → GoodIns (special_in a i)
-special_ins a i h = then_ins (plain_in a i) _ (λ m e. by_name m (is_init m.name) refl (h m (in_pool a i m e))) where
-  by_name : (m : MemberRefOf) (b : Bool) → is_init m.name ≡ b → is_clinit m.name ≡ false → GoodIns (Some (cond b (constructs m) (uses (either m act.InvokeSpecial act.InvokeSpecialInterface) m)))
+special_ins : (a : Around) (i : ℕ) → ((m : MemberRefOf) → member_ref_in a.pool i ≡ Some m → is_clinit_name m.name ≡ false) → GoodIns (special_in a i)
+special_ins a i h = then_ins (plain_in a i) _ (λ m e. by_name m (is_init_name m.name) refl (h m (in_pool a i m e))) where
+  by_name : (m : MemberRefOf) (b : Bool) → is_init_name m.name ≡ b → is_clinit_name m.name ≡ false → GoodIns (Some (cond b (constructs m) (uses (either m act.InvokeSpecial act.InvokeSpecialInterface) m)))
   by_name m true e k = some_ins (constructs m) tt
   by_name m false e k = some_ins (uses (either m act.InvokeSpecial act.InvokeSpecialInterface) m) (callable_plain (either m act.InvokeSpecial act.InvokeSpecialInterface) m (record { init = e; clinit = k }))
 
@@ -331,7 +332,7 @@ record IsScanned (a : Around) (left n pc len op : ℕ) (rest : Bytes) : Type 0 w
   others : List Item
   next : scan_at a left n (pc + len) (drop len (op ∷ rest)) ≡ Ok others
 
-scan_parts : (a : Around) (left n pc len op : ℕ) (rest : Bytes) (found : List Item) → instruction_len pc op rest ≡ Ok len → scan_at a left (suc n) pc (op ∷ rest) ≡ Ok found → IsScanned a left n pc len op rest
+scan_parts : (a : Around) (left n pc len op : ℕ) (rest : Bytes) (found : List Item) → instruction_length pc op rest ≡ Ok len → scan_at a left (suc n) pc (op ∷ rest) ≡ Ok found → IsScanned a left n pc len op rest
 unfolding scan_at next_at instruction_at
 scan_parts a left n pc len op rest found e h = by_used (used a op (operand op rest)) refl (rw e at h) where
   by_next : (xs : List Item) → used a op (operand op rest) ≡ Some xs → (r : Result (List Item) CodeFault) → scan_at a left n (pc + len) (drop len (op ∷ rest)) ≡ r → (r >>= λ ys. Ok (xs ++ ys)) ≡ Ok found → IsScanned a left n pc len op rest
@@ -348,7 +349,7 @@ value_good c op stack due = pick c (nat_eq op 177) _ _ tt (follow c (pop stack) 
 
 leave_good : (c : ClassFacts) (a : Around) (op : ℕ) (f : Frame) (due : Option Kind) → GoodOption c (leave a op f due)
 unfolding leave
-leave_good c a op f due = pick c (is_init a.name && (list_any is_unset f.stack || list_any is_unset f.locals)) _ _ tt (result due) where
+leave_good c a op f due = pick c (is_init_name a.name && (list_any is_unset f.stack || list_any is_unset f.locals)) _ _ tt (result due) where
   result : (d : Option Kind) → GoodOption c (result_fits op f.stack d)
   result None = some_good c (nat_eq op 177) [] refl
   result (Some k) = value_good c op f.stack k
@@ -359,7 +360,7 @@ Walks c a due left n = (pc : ℕ) (f : Frame) (bytes : Bytes) (found : List Item
 step_good : (c : ClassFacts) (a : Around) (due : Option Kind) (left n pc op : ℕ) (f : Frame) (rest : Bytes) (found : List Item) → Suits c a → Sound a.pool → Walks c a due left n → scan_at a left (suc n) pc (op ∷ rest) ≡ Ok found
     → GoodOption c (step_at a pc f op rest |>> typed_rest a due n pc (op ∷ rest))
 unfolding step_at
-step_good c a due left n pc op f rest found u s walks h = by_len (instruction_len pc op rest) refl where
+step_good c a due left n pc op f rest found u s walks h = by_len (instruction_length pc op rest) refl where
   by_run : (len : ℕ) (i : Instruction) → IsCallable i → IsScanned a left n pc len op rest → (r : Option Ran) → run a pc i f ≡ r
       → GoodOption c ((r |>> timed len) |>> typed_rest a due n pc (op ∷ rest))
   by_run len i k w None e = tt
@@ -370,7 +371,7 @@ step_good c a due left n pc op f rest found u s walks h = by_len (instruction_le
   by_decoded len w None d = tt
   by_decoded len w (Some i) d = by_run len i ((decoded_good a op (get_or rest 0 0) (operand op rest) w.found s w.used_is).callable i d) w (run a pc i f) refl
 
-  by_len : (l : Result ℕ CodeReason) → instruction_len pc op rest ≡ l
+  by_len : (l : Result ℕ CodeReason) → instruction_length pc op rest ≡ l
       → GoodOption c (((length_of l |>> λ len. decode a op (get_or rest 0 0) (operand op rest) |>> read_as len) |>> timed_run a pc f) |>> typed_rest a due n pc (op ∷ rest))
   by_len (Err r) e = tt
   by_len (Ok len) e = by_decoded len (scan_parts a left n pc len op rest found e h) (decode a op (get_or rest 0 0) (operand op rest)) refl

@@ -1,10 +1,10 @@
 -- What the pool entry of each instruction gives is what a valid client may have.
 use Rattle.std.proofs.Common.{◌≡◌, ℕ, zero, suc, ◌-◌, ◌/◌, Bool, true, false, cond, not, ◌||◌, ◌&&◌, List, [], ◌∷◌, ◌++◌, length, drop, nat_eq, Option, Some, None, Result, Ok, Err, ◌⊎◌, inl, inr, refl, subst}
 use Rattle.std.specs.Prelude.{slice_get}
-use Rattle.std.proofs.lemmas.Bool.{eqb-true, and_parts}
+use Rattle.std.proofs.lemmas.Bool.{eqb-true, and_parts, not-true}
 use Rattle.jc_desc.proofs.Sound.{some_if_is}
-use Rattle.jc_desc.specs.Names.{is_init, is_clinit}
-use Rattle.jc_desc.specs.Pool.{PoolOf, handle_fits, handle_names, short_in}
+use Rattle.jc_desc.specs.Names.{is_init_name, is_clinit_name}
+use Rattle.jc_desc.specs.Pool.{PoolOf, fits_handle, names_for_handle, short_from}
 use Rattle.jc_desc.specs.PoolAnswers.{MemberRefOf, HandleRefOf, some_if, class_in, member_ref_in, handle_in, dynamic_in}
 use Rattle.jc_facts.specs.declared.act.Act.{Act}
 use Rattle.jc_facts.specs.declared.act.Act.TheVariants as act
@@ -16,12 +16,13 @@ use Rattle.jc_facts.specs.declared.client.Place.TheVariants as place
 use Rattle.jc_facts.specs.declared.code_fault.CodeFault.{CodeFault}
 use Rattle.jc_facts.specs.declared.code_fault.CodeReason.TheVariants as reasons
 use Rattle.jc_facts.specs.Names.{Bytes}
-use Rattle.jc_facts.specs.Clients.{is_valid_item}
-use Rattle.jc_facts.specs.Attributes.{BootstrapOf, ◌|>>◌}
-use Rattle.jc_facts.specs.Code.{Around, access, of_member, is_interface_ref, is_own, member_at, plain_member, place_of, either, handle_item, handle_items, class_item, argument_items, arguments_items, row_items, boot_items, dynamic_items, virtual_use, special_item, special_use, static_use, used, holds_tag, caught, catches_at}
-use Rattle.jc_facts.specs.Refusals.{◌>>=◌, want}
+use Rattle.jc_facts.specs.client.Clients.{is_item_of}
+use Rattle.jc_facts.specs.file.Attributes.{BootstrapOf, ◌|>>◌}
+use Rattle.jc_facts.specs.code.Code.{Around, access, of_member, is_interface_ref, is_own, member_at, plain_member, place_of, either, handle_item, handle_items, class_item, argument_items, arguments_items, row_items, boot_items, dynamic_items, virtual_use, special_item, special_use, static_use, used, holds_tag, caught, catches_at}
+use Rattle.jc_facts.specs.file.Refusals.{◌>>=◌, want}
 use Rattle.jc_pool.specs.Law.{IsSoundMember, IsSoundHandle}
-use Rattle.jc_code.proofs.Validity.{Good, Suits, joined, one, GoodOption, GoodResult, member_good, field_good, plain_good, own_good, Sound, not_true, used_clinit, used_interface, pick, given, bind_is, member_is, named_good, field_use_good, interface_use_good}
+use Rattle.jc_code.proofs.Validity.{Good, Suits, joined, one, GoodOption, GoodResult, member_good, field_good, plain_good, own_good, Sound, used_clinit, used_interface, pick, given, member_is, named_good, field_use_good, interface_use_good}
+use Rattle.jc_facts.proofs.Options.{some_then}
 
 -- ---- members that are methods
 
@@ -34,18 +35,18 @@ either_tag t h = go (nat_eq t 10) refl h where
   go true e k = inl (eqb-true t 10 e)
   go false e k = inr (eqb-true t 11 k)
 
-no_clinit : (m : MemberRefOf) → IsSoundMember m → IsMethodTag m.tag → is_clinit m.name ≡ false
+no_clinit : (m : MemberRefOf) → IsSoundMember m → IsMethodTag m.tag → is_clinit_name m.name ≡ false
 no_clinit m s (inl t) = used_clinit false m.name m.descriptor (s.method t)
 no_clinit m s (inr t) = used_clinit true m.name m.descriptor (s.interface_method t)
 
-no_init : (m : MemberRefOf) → IsSoundMember m → IsMethodTag m.tag → not (nat_eq m.tag 10 && is_init m.name) ≡ true → is_init m.name ≡ false
-no_init m s (inl t) h = not_true (is_init m.name) (subst (λ (k : ℕ). not (nat_eq k 10 && is_init m.name) ≡ true) t h)
+no_init : (m : MemberRefOf) → IsSoundMember m → IsMethodTag m.tag → not (nat_eq m.tag 10 && is_init_name m.name) ≡ true → is_init_name m.name ≡ false
+no_init m s (inl t) h = not-true (is_init_name m.name) (subst (λ (k : ℕ). not (nat_eq k 10 && is_init_name m.name) ≡ true) t h)
 no_init m s (inr t) h = used_interface m.name m.descriptor (s.interface_method t)
 
 -- a method that is no initializer
 pub record IsPlain (m : MemberRefOf) : Type 0 where
-  pub init : is_init m.name ≡ false
-  pub clinit : is_clinit m.name ≡ false
+  pub init : is_init_name m.name ≡ false
+  pub clinit : is_clinit_name m.name ≡ false
 
 same_or : (b : Bool) → (b || b) ≡ true → b ≡ true
 same_or true h = refl
@@ -56,16 +57,16 @@ method_is pool i m s e = let k = member_is pool 10 11 i m e in (k.0, either_tag 
 
 pub plain_is : (pool : PoolOf) (i : ℕ) (m : MemberRefOf) → Sound pool → plain_member pool 10 11 i ≡ Some m → (member_ref_in pool i ≡ Some m) × IsPlain m
 plain_is pool i m s e =
-    let b = bind_is (member_at pool 10 11 i) (λ (x : MemberRefOf). some_if (not (nat_eq x.tag 10 && is_init x.name)) x) m e in
-    let p = some_if_is (not (nat_eq b.0.tag 10 && is_init b.0.name)) b.0 m b.2 in
+    let b = some_then (member_at pool 10 11 i) (λ (x : MemberRefOf). some_if (not (nat_eq x.tag 10 && is_init_name x.name)) x) m e in
+    let p = some_if_is (not (nat_eq b.0.tag 10 && is_init_name b.0.name)) b.0 m b.2 in
     let k = method_is pool i b.0 s b.1 in
     let w = s.members i b.0 k.0 in
     subst (λ (x : MemberRefOf). (member_ref_in pool i ≡ Some x) × IsPlain x) p.1 (k.0, record { init = no_init b.0 w k.1 p.0; clinit = no_clinit b.0 w k.1 })
 
 pub virtual_is : (pool : PoolOf) (i : ℕ) (m : MemberRefOf) → Sound pool → plain_member pool 10 10 i ≡ Some m → (member_ref_in pool i ≡ Some m) × IsPlain m
 virtual_is pool i m s e =
-    let b = bind_is (member_at pool 10 10 i) (λ (x : MemberRefOf). some_if (not (nat_eq x.tag 10 && is_init x.name)) x) m e in
-    let p = some_if_is (not (nat_eq b.0.tag 10 && is_init b.0.name)) b.0 m b.2 in
+    let b = some_then (member_at pool 10 10 i) (λ (x : MemberRefOf). some_if (not (nat_eq x.tag 10 && is_init_name x.name)) x) m e in
+    let p = some_if_is (not (nat_eq b.0.tag 10 && is_init_name b.0.name)) b.0 m b.2 in
     let k = member_is pool 10 10 i b.0 b.1 in
     let t : IsMethodTag b.0.tag = inl (eqb-true b.0.tag 10 (same_or (nat_eq b.0.tag 10) k.1)) in
     let w = s.members i b.0 k.0 in
@@ -78,10 +79,10 @@ interface_is pool i m s e =
     let w = (s.members i m k.0).interface_method t in
     (k.0, record { init = used_interface m.name m.descriptor w; clinit = used_clinit true m.name m.descriptor w })
 
-pub special_is : (pool : PoolOf) (i : ℕ) (m : MemberRefOf) → Sound pool → member_at pool 10 11 i ≡ Some m → (member_ref_in pool i ≡ Some m) × (is_clinit m.name ≡ false)
+pub special_is : (pool : PoolOf) (i : ℕ) (m : MemberRefOf) → Sound pool → member_at pool 10 11 i ≡ Some m → (member_ref_in pool i ≡ Some m) × (is_clinit_name m.name ≡ false)
 special_is pool i m s e = let k = method_is pool i m s e in (k.0, no_clinit m (s.members i m k.0) k.1)
 
-plain_item : (c : ClassFacts) (what : Act) (m : MemberRefOf) (p : Place) → IsPlain m → is_valid_item c (access what m p) ≡ true
+plain_item : (c : ClassFacts) (what : Act) (m : MemberRefOf) (p : Place) → IsPlain m → is_item_of c (access what m p) ≡ true
 plain_item c what m p h = plain_good c what m p h.init h.clinit
 
 -- ---- uses
@@ -92,14 +93,14 @@ virtual_good c a i s = given c (plain_member a.pool 10 10 i) (λ (m : MemberRefO
 static_good : (c : ClassFacts) (a : Around) (i : ℕ) → Sound a.pool → GoodOption c (static_use a i)
 static_good c a i s = given c (plain_member a.pool 10 11 i) (λ (m : MemberRefOf). access (either m act.InvokeStatic act.InvokeStaticInterface) m (place_of a.name) ∷ []) (λ m e. one c (access (either m act.InvokeStatic act.InvokeStaticInterface) m (place_of a.name)) (plain_item c (either m act.InvokeStatic act.InvokeStaticInterface) m (place_of a.name) (plain_is a.pool i m s e).1))
 
-special_item_good : (c : ClassFacts) (a : Around) (m : MemberRefOf) → Suits c a → is_clinit m.name ≡ false → is_valid_item c (special_item a m) ≡ true
-special_item_good c a m s k = by_name (is_init m.name) refl where
-  own : (b : Bool) → (is_init a.name && is_own a m.class) ≡ b → is_valid_item c (cond b (item.Init m.class m.descriptor) (item.New m.class m.descriptor)) ≡ true
-  own true e = own_good c a m.class m.descriptor s (and_parts (is_init a.name) (is_own a m.class) e).1
+special_item_good : (c : ClassFacts) (a : Around) (m : MemberRefOf) → Suits c a → is_clinit_name m.name ≡ false → is_item_of c (special_item a m) ≡ true
+special_item_good c a m s k = by_name (is_init_name m.name) refl where
+  own : (b : Bool) → (is_init_name a.name && is_own a m.class) ≡ b → is_item_of c (cond b (item.Init m.class m.descriptor) (item.New m.class m.descriptor)) ≡ true
+  own true e = own_good c a m.class m.descriptor s (and_parts (is_init_name a.name) (is_own a m.class) e).1
   own false e = refl
 
-  by_name : (b : Bool) → is_init m.name ≡ b → is_valid_item c (cond b (of_member m (cond (is_init a.name && is_own a m.class) (item.Init m.class m.descriptor) (item.New m.class m.descriptor))) (access (either m act.InvokeSpecial act.InvokeSpecialInterface) m (place_of a.name))) ≡ true
-  by_name true e = member_good c m (cond (is_init a.name && is_own a m.class) (item.Init m.class m.descriptor) (item.New m.class m.descriptor)) (own (is_init a.name && is_own a m.class) refl)
+  by_name : (b : Bool) → is_init_name m.name ≡ b → is_item_of c (cond b (of_member m (cond (is_init_name a.name && is_own a m.class) (item.Init m.class m.descriptor) (item.New m.class m.descriptor))) (access (either m act.InvokeSpecial act.InvokeSpecialInterface) m (place_of a.name))) ≡ true
+  by_name true e = member_good c m (cond (is_init_name a.name && is_own a m.class) (item.Init m.class m.descriptor) (item.New m.class m.descriptor)) (own (is_init_name a.name && is_own a m.class) refl)
   by_name false e = plain_good c (either m act.InvokeSpecial act.InvokeSpecialInterface) m (place_of a.name) e k
 
 special_good : (c : ClassFacts) (a : Around) (i : ℕ) → Suits c a → Sound a.pool → GoodOption c (special_use a i)
@@ -107,37 +108,37 @@ special_good c a i u s = given c (member_at a.pool 10 11 i) (λ (m : MemberRefOf
 
 -- ---- handles
 
-choose : (c : ClassFacts) (b : Bool) (x y : Item) → (b ≡ true → is_valid_item c x ≡ true) → (b ≡ false → is_valid_item c y ≡ true) → is_valid_item c (cond b x y) ≡ true
+choose : (c : ClassFacts) (b : Bool) (x y : Item) → (b ≡ true → is_item_of c x ≡ true) → (b ≡ false → is_item_of c y ≡ true) → is_item_of c (cond b x y) ≡ true
 choose c true x y f g = f refl
 choose c false x y f g = g refl
 
 five : (h : HandleRefOf) → IsSoundHandle h → h.kind ≡ 5 → IsPlain h.member
 five h s e =
-    let f = subst (λ (k : ℕ). handle_fits k h.member.tag ≡ true) e s.fits in
-    let n = subst (λ (k : ℕ). handle_names k h.member.name ≡ true) e s.names in
-    record { init = not_true (is_init h.member.name) n; clinit = no_clinit h.member s.member_well (inl (eqb-true h.member.tag 10 f)) }
+    let f = subst (λ (k : ℕ). fits_handle k h.member.tag ≡ true) e s.fits in
+    let n = subst (λ (k : ℕ). names_for_handle k h.member.name ≡ true) e s.names in
+    record { init = not-true (is_init_name h.member.name) n; clinit = no_clinit h.member s.member_well (inl (eqb-true h.member.tag 10 f)) }
 
 six : (h : HandleRefOf) → IsSoundHandle h → h.kind ≡ 6 → IsPlain h.member
 six h s e =
-    let f = subst (λ (k : ℕ). handle_fits k h.member.tag ≡ true) e s.fits in
-    let n = subst (λ (k : ℕ). handle_names k h.member.name ≡ true) e s.names in
-    record { init = not_true (is_init h.member.name) n; clinit = no_clinit h.member s.member_well (either_tag h.member.tag f) }
+    let f = subst (λ (k : ℕ). fits_handle k h.member.tag ≡ true) e s.fits in
+    let n = subst (λ (k : ℕ). names_for_handle k h.member.name ≡ true) e s.names in
+    record { init = not-true (is_init_name h.member.name) n; clinit = no_clinit h.member s.member_well (either_tag h.member.tag f) }
 
 seven : (h : HandleRefOf) → IsSoundHandle h → h.kind ≡ 7 → IsPlain h.member
 seven h s e =
-    let f = subst (λ (k : ℕ). handle_fits k h.member.tag ≡ true) e s.fits in
-    let n = subst (λ (k : ℕ). handle_names k h.member.name ≡ true) e s.names in
-    record { init = not_true (is_init h.member.name) n; clinit = no_clinit h.member s.member_well (either_tag h.member.tag f) }
+    let f = subst (λ (k : ℕ). fits_handle k h.member.tag ≡ true) e s.fits in
+    let n = subst (λ (k : ℕ). names_for_handle k h.member.name ≡ true) e s.names in
+    record { init = not-true (is_init_name h.member.name) n; clinit = no_clinit h.member s.member_well (either_tag h.member.tag f) }
 
 nine : (h : HandleRefOf) → IsSoundHandle h → nat_eq h.kind 1 ≡ false → nat_eq h.kind 2 ≡ false → nat_eq h.kind 3 ≡ false → nat_eq h.kind 4 ≡ false → nat_eq h.kind 5 ≡ false → nat_eq h.kind 6 ≡ false → nat_eq h.kind 7 ≡ false → nat_eq h.kind 8 ≡ false → IsPlain h.member
 nine h s e1 e2 e3 e4 e5 e6 e7 e8 = by_nine (nat_eq h.kind 9) refl (rw (e1, e2, e3, e4, e5, e6, e7, e8) at s.fits) where
   by_nine : (b : Bool) → nat_eq h.kind 9 ≡ b → cond b (nat_eq h.member.tag 11) false ≡ true → IsPlain h.member
   by_nine false e f = absurd (let q : false ≡ true = f in cc)
   by_nine true e f =
-      let n = subst (λ (k : ℕ). handle_names k h.member.name ≡ true) (eqb-true h.kind 9 e) s.names in
-      record { init = not_true (is_init h.member.name) n; clinit = no_clinit h.member s.member_well (inr (eqb-true h.member.tag 11 f)) }
+      let n = subst (λ (k : ℕ). names_for_handle k h.member.name ≡ true) (eqb-true h.kind 9 e) s.names in
+      record { init = not-true (is_init_name h.member.name) n; clinit = no_clinit h.member s.member_well (inr (eqb-true h.member.tag 11 f)) }
 
-handle_good : (c : ClassFacts) (h : HandleRefOf) → IsSoundHandle h → is_valid_item c (handle_item h) ≡ true
+handle_good : (c : ClassFacts) (h : HandleRefOf) → IsSoundHandle h → is_item_of c (handle_item h) ≡ true
 unfolding handle_item
 handle_good c h s =
     choose c (nat_eq h.kind 1) _ _ (λ e. field_good c act.GetField h.member place.Other refl) (λ e1.
@@ -184,8 +185,8 @@ arguments_good : (c : ClassFacts) (pool : PoolOf) (n : ℕ) (bytes : Bytes) → 
 unfolding arguments_items
 arguments_good c pool zero bytes s = refl
 arguments_good c pool (suc n) bytes s = follow_on (arguments_good c pool n (drop 2 bytes) s) where
-  follow_on : GoodOption c (arguments_items pool n (drop 2 bytes)) → GoodOption c (argument_items pool (short_in 0 bytes) |>> λ xs. arguments_items pool n (drop 2 bytes) |>> λ ys. Some (xs ++ ys))
-  follow_on g = follow c (argument_items pool (short_in 0 bytes)) _ (λ xs e. join_good c (arguments_items pool n (drop 2 bytes)) xs (good_of c (argument_items pool (short_in 0 bytes)) xs (some_good c _ _ (both_entries c pool (short_in 0 bytes) s)) e) g)
+  follow_on : GoodOption c (arguments_items pool n (drop 2 bytes)) → GoodOption c (argument_items pool (short_from 0 bytes) |>> λ xs. arguments_items pool n (drop 2 bytes) |>> λ ys. Some (xs ++ ys))
+  follow_on g = follow c (argument_items pool (short_from 0 bytes)) _ (λ xs e. join_good c (arguments_items pool n (drop 2 bytes)) xs (good_of c (argument_items pool (short_from 0 bytes)) xs (some_good c _ _ (both_entries c pool (short_from 0 bytes) s)) e) g)
 
 row_good : (c : ClassFacts) (pool : PoolOf) (row : BootstrapOf) → Sound pool → GoodOption c (row_items pool row)
 row_good c pool row s = follow c (handle_in pool row.handle) _ (λ h e. join_good c (arguments_items pool (length row.arguments / 2) row.arguments) (handle_item h ∷ []) (one c (handle_item h) (handle_good c h (s.handles row.handle h e))) (arguments_good c pool (length row.arguments / 2) row.arguments s))
@@ -223,7 +224,7 @@ caught_good c pool i = pick c (nat_eq i 0) _ _ refl (named_good c pool i)
 pub catches_good : (c : ClassFacts) (pool : PoolOf) (left n : ℕ) (bytes : Bytes) → GoodResult c (catches_at pool left n bytes)
 unfolding catches_at
 catches_good c pool left zero bytes = refl
-catches_good c pool left (suc n) bytes = go (caught pool (short_in 6 bytes)) (caught_good c pool (short_in 6 bytes)) (catches_good c pool (left - 8) n (drop 8 bytes)) where
+catches_good c pool left (suc n) bytes = go (caught pool (short_from 6 bytes)) (caught_good c pool (short_from 6 bytes)) (catches_good c pool (left - 8) n (drop 8 bytes)) where
   more : (xs : List Item) (r : Result (List Item) CodeFault) → Good c xs → GoodResult c r → GoodResult c (r >>= λ ys. Ok (xs ++ ys))
   more xs (Err e) g h = tt
   more xs (Ok ys) g h = joined c xs ys g h

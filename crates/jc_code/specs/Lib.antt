@@ -1,11 +1,2 @@
-pub mod RowView
-pub mod Kept
-pub mod Views
-pub mod Pushed
 pub mod Fails
-pub mod KindView
-pub mod KindsView
-pub mod FrameView
-pub mod Steps
-pub mod KindsRead
-pub mod InstructionView
+pub mod steps

@@ -1,12 +1,12 @@
 //! What field and invoke acts of straight-line methods do (JVMS 6.5). Each call answers `false` where the method isn't straight.
 ghost use Rattle.std.specs.Prelude.{◌≡◌, IfOk, OnOk};
 ghost use Rattle.std.specs.Option.{option_map};
-ghost use Rattle.jc_facts.specs.Typing as typing;
+ghost use Rattle.jc_facts.specs.code.Typing as typing;
 ghost use Rattle.jc_pool.specs.Views.{member_view};
-ghost use Rattle.jc_code.specs.Views.{around_view};
-ghost use Rattle.jc_code.specs.KindView.{kind_view, kinds_in};
-ghost use Rattle.jc_code.specs.FrameView.{frame_view};
-ghost use Rattle.jc_code.specs.Steps.{Makes};
+ghost use Rattle.jc_code.specs.steps.Views.{around_view};
+ghost use Rattle.jc_code.specs.steps.KindView.{kind_view, kinds_in};
+ghost use Rattle.jc_code.specs.steps.FrameView.{frame_view};
+ghost use Rattle.jc_code.specs.steps.Steps.{Makes};
 
 use crate::around::Around;
 use crate::entries::access_item;
@@ -32,7 +32,7 @@ fn use_of(
     access_item(alloc, act, m, receiver, place_of(a.name))
 }
 
-#[tactic(auto, unfolding(jc_facts::specs::Typing::get_static))]
+#[tactic(auto, unfolding(jc_facts::specs::code::Typing::get_static))]
 fn get_static<'a>(
     alloc: Global,
     a: Around<'a, '_>,
@@ -50,7 +50,7 @@ fn get_static<'a>(
     Ok(true)
 }
 
-#[tactic(auto, using(crate::proofs::Added::fit_after), unfolding(jc_facts::specs::Typing::put_static))]
+#[tactic(auto, using(crate::proofs::Added::fit_after), unfolding(jc_facts::specs::code::Typing::put_static))]
 fn put_static<'a>(
     alloc: Global,
     a: Around<'a, '_>,
@@ -71,7 +71,7 @@ fn put_static<'a>(
     Ok(fits)
 }
 
-#[tactic(auto, unfolding(jc_facts::specs::Typing::get_field))]
+#[tactic(auto, unfolding(jc_facts::specs::code::Typing::get_field))]
 fn get_field<'a>(
     alloc: Global,
     a: Around<'a, '_>,
@@ -95,7 +95,7 @@ fn get_field<'a>(
     Ok(true)
 }
 
-#[tactic(auto, using(crate::proofs::Added::fit_after), unfolding(jc_facts::specs::Typing::put_field))]
+#[tactic(auto, using(crate::proofs::Added::fit_after), unfolding(jc_facts::specs::code::Typing::put_field))]
 fn put_field<'a>(
     alloc: Global,
     a: Around<'a, '_>,
@@ -132,7 +132,7 @@ fn push_result<'a>(stack: &mut Vec<Kind<'a>>, given: Option<Kind<'a>>) -> Result
 }
 
 /// `invokestatic`
-#[tactic(auto, unfolding(jc_facts::specs::Typing::call_static))]
+#[tactic(auto, unfolding(jc_facts::specs::code::Typing::call_static))]
 fn call_static<'a>(
     alloc: Global,
     a: Around<'a, '_>,
@@ -156,7 +156,7 @@ fn call_static<'a>(
 }
 
 /// `invokevirtual`, `invokeinterface`, and `invokespecial` of another name than `<init>`
-#[tactic(auto, unfolding(jc_facts::specs::Typing::call))]
+#[tactic(auto, unfolding(jc_facts::specs::code::Typing::call))]
 fn call<'a>(
     alloc: Global,
     a: Around<'a, '_>,
@@ -186,7 +186,7 @@ fn call<'a>(
 }
 
 /// A field or invoke act on a member that is not of an array class.
-#[tactic(auto, unfolding(jc_facts::specs::Typing::act_on))]
+#[tactic(auto, unfolding(jc_facts::specs::code::Typing::act_on))]
 pub(crate) fn act_on<'a>(
     alloc: Global,
     a: Around<'a, '_>,

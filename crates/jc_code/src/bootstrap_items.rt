@@ -1,10 +1,10 @@
 //! The items of bootstrap methods (JVMS 4.7.23, 5.4.3.6). Each call answers `false` where an index doesn't hold what is asked for.
 ghost use Rattle.std.specs.Prelude.{◌≡◌, ◌/◌, IfOk, length, map, slice_get};
 ghost use Rattle.std.specs.Option.{option_map};
-ghost use Rattle.jc_facts.specs.Code as code;
-ghost use Rattle.jc_code.specs.Pushed.{Adds};
-ghost use Rattle.jc_code.specs.RowView.{row_view};
-ghost use Rattle.jc_code.specs.Views.{around_view};
+ghost use Rattle.jc_facts.specs.code.Code as code;
+ghost use Rattle.jc_code.specs.steps.Pushed.{Adds};
+ghost use Rattle.jc_code.specs.steps.RowView.{row_view};
+ghost use Rattle.jc_code.specs.steps.Views.{around_view};
 
 use crate::around::Around;
 use crate::entries::{handle_item, push_entry};
@@ -70,7 +70,7 @@ fn row_at(rows: &[Row], n: u16) -> Option<&Row>
     rows.get(n as usize)
 }
 
-#[tactic(auto, unfolding(jc_facts::specs::Code::boot_items))]
+#[tactic(auto, unfolding(jc_facts::specs::code::Code::boot_items))]
 fn boot_items(
     alloc: Global,
     a: Around<'_, '_>,

@@ -1,14 +1,14 @@
 //! The bootstrap methods of a class (JVMS 4.7.23), each looked through once.
 ghost use Rattle.std.specs.Prelude.{◌≡◌, ◌/◌, ◌++◌, [], Some, None, IfOk, OnOk, length, map, take, if◌then◌else◌};
-ghost use Rattle.jc_desc.specs.Pool.{short_in as short_of};
+ghost use Rattle.jc_desc.specs.Pool.{short_from};
 ghost use Rattle.std.specs.Option.{option_map};
 ghost use Rattle.std.specs.Result.{result_map_both};
-ghost use Rattle.jc_facts.specs.ClassSteps.{attributes_at, counted_attributes_at};
-ghost use Rattle.jc_facts.specs.ClientItems as client;
+ghost use Rattle.jc_facts.specs.file.ClassSteps.{attributes_at, counted_attributes_at};
+ghost use Rattle.jc_facts.specs.code.ClientItems as client;
 ghost use Rattle.jc_facts.specs.Options.{or_else};
 ghost use Rattle.jc_attr.specs.Views.{attribute_view, bootstrap_view};
-ghost use Rattle.jc_code.specs.Kept.{counts as argument_counts, kept_of, kept_row};
-ghost use Rattle.jc_code.specs.RowView.{row_view};
+ghost use Rattle.jc_code.specs.steps.Kept.{argument_counts, kept_of, kept_row};
+ghost use Rattle.jc_code.specs.steps.RowView.{row_view};
 
 use crate::numbers::{after, front, short_in};
 use crate::row::Row;
@@ -29,7 +29,7 @@ fn or_body<'b>(found: Option<&'b [u8]>, body: &'b [u8]) -> Option<&'b [u8]>
     }
 }
 
-#[tactic(auto, unfolding(jc_facts::specs::ClientItems::take_boots))]
+#[tactic(auto, unfolding(jc_facts::specs::code::ClientItems::take_boots))]
 fn taken<'b>(
     pool: &Pool<'_>,
     found: Option<&'b [u8]>,
@@ -66,7 +66,7 @@ fn some_body<'b>(
 }
 
 /// The contents of the first BootstrapMethods among the attributes of a class.
-#[tactic(auto, unfolding(jc_facts::specs::ClassSteps::counted_attributes_at))]
+#[tactic(auto, unfolding(jc_facts::specs::file::ClassSteps::counted_attributes_at))]
 pub(crate) fn boots_body<'b>(
     pool: &Pool<'_>,
     bytes: &'b [u8],
@@ -87,7 +87,7 @@ fn counts(pool: &Pool<'_>, i: u16) -> bool
 }
 
 fn keep(pool: &Pool<'_>, argument: &[u8], kept: &mut Vec<u8>) -> Result<(), AllocError>
-    ensures { OnOk result (kept.new.items ≡ kept.old.items ++ (if argument_counts pool.now (short_of 0 argument.now) then take 2 argument.now else [])) }
+    ensures { OnOk result (kept.new.items ≡ kept.old.items ++ (if argument_counts pool.now (short_from 0 argument.now) then take 2 argument.now else [])) }
 {
     if counts(pool, short_in(0, argument)) {
         kept.extend_from_slice(front(2, argument))?;
@@ -132,7 +132,7 @@ fn all_rows(
 }
 
 /// The rows of these contents; None where there are none, or they aren't of their form.
-#[tactic(auto, unfolding(jc_facts::specs::ClientItems::boots_of))]
+#[tactic(auto, unfolding(jc_facts::specs::code::ClientItems::boots_of))]
 pub(crate) fn rows(
     alloc: Global,
     pool: &Pool<'_>,

@@ -1,8 +1,8 @@
 //! The exception table of a Code (JVMS 4.7.3).
 ghost use Rattle.std.specs.Prelude.{◌≡◌, ◌/◌, length, IfOk};
 ghost use Rattle.std.specs.Result.{result_map_both};
-ghost use Rattle.jc_facts.specs.Code as code;
-ghost use Rattle.jc_code.specs.Pushed.{Adds, before};
+ghost use Rattle.jc_facts.specs.code.Code as code;
+ghost use Rattle.jc_code.specs.steps.Pushed.{Adds, in_front};
 
 use crate::entries::named;
 use crate::numbers::{after, short_in};
@@ -31,7 +31,7 @@ pub(crate) fn catches(
     bytes: &[u8],
     items: &mut Vec<Item>,
 ) -> Result<Result<(), CodeFault>, AllocError>
-    ensures { IfOk result (λ r. result_map_both (λ _. items.new.items) (λ e. e) r ≡ before items.old.items (code.catches_at pool.now left (length bytes.now / 8) bytes.now)) }
+    ensures { IfOk result (λ r. result_map_both (λ _. items.new.items) (λ e. e) r ≡ in_front items.old.items (code.catches_at pool.now left (length bytes.now / 8) bytes.now)) }
 {
     let mut here = left;
     let mut rest = bytes;

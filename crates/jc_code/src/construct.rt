@@ -3,12 +3,12 @@ ghost use Rattle.std.specs.Prelude.{◌≡◌, IfOk};
 ghost use Rattle.std.specs.Option.{option_map};
 ghost use Rattle.jc_facts.specs.declared.client.Item.{Item};
 ghost use Rattle.jc_facts.specs.Names.{Bytes};
-ghost use Rattle.jc_facts.specs.Typing as typing;
+ghost use Rattle.jc_facts.specs.code.Typing as typing;
 ghost use Rattle.jc_pool.specs.Views.{member_view};
-ghost use Rattle.jc_code.specs.Views.{around_view};
-ghost use Rattle.jc_code.specs.KindView.{kind_view, kinds_in};
-ghost use Rattle.jc_code.specs.FrameView.{frame_view};
-ghost use Rattle.jc_code.specs.Steps.{Makes};
+ghost use Rattle.jc_code.specs.steps.Views.{around_view};
+ghost use Rattle.jc_code.specs.steps.KindView.{kind_view, kinds_in};
+ghost use Rattle.jc_code.specs.steps.FrameView.{frame_view};
+ghost use Rattle.jc_code.specs.steps.Steps.{Makes};
 
 use crate::around::Around;
 use crate::entries::init_item;
@@ -60,7 +60,7 @@ fn all_made<'a>(
 }
 
 /// The item of `<init>` called on this kind, and the name that the instance gets.
-#[tactic(auto, unfolding(jc_facts::specs::Typing::initialized))]
+#[tactic(auto, unfolding(jc_facts::specs::code::Typing::initialized))]
 fn initialized<'a>(
     alloc: Global,
     a: Around<'a, '_>,
@@ -95,7 +95,7 @@ fn initialized<'a>(
 }
 
 /// `invokespecial` of an `<init>`.
-#[tactic(auto, unfolding(jc_facts::specs::Typing::construct))]
+#[tactic(auto, unfolding(jc_facts::specs::code::Typing::construct))]
 pub(crate) fn construct<'a>(
     alloc: Global,
     a: Around<'a, '_>,

@@ -4,8 +4,8 @@ ghost use Rattle.std.specs.Option.{option_map};
 ghost use Rattle.jc_desc.specs.PoolAnswers.{class_in, handle_in};
 ghost use Rattle.jc_pool.specs.Views.{member_view, handle_view};
 ghost use Rattle.jc_facts.specs.declared.client.Item.TheVariants as item;
-ghost use Rattle.jc_facts.specs.Code as code;
-ghost use Rattle.jc_code.specs.Pushed.{Adds};
+ghost use Rattle.jc_facts.specs.code.Code as code;
+ghost use Rattle.jc_code.specs.steps.Pushed.{Adds};
 
 use jc_attr::classes::is_bracketed;
 use jc_base::name::Name;
@@ -106,7 +106,7 @@ pub(crate) fn either(m: MemberRef<'_>, method: Act, interface: Act) -> Act
 }
 
 /// The item of a method handle, by its kind (JVMS 5.4.3.5).
-#[tactic(auto, unfolding(jc_facts::specs::Code::handle_item))]
+#[tactic(auto, unfolding(jc_facts::specs::code::Code::handle_item))]
 pub(crate) fn handle_item(alloc: Global, h: HandleRef<'_>) -> Result<Item, AllocError>
     ensures { IfOk result (λ i. i ≡ code.handle_item (handle_view h.entry)) }
 {

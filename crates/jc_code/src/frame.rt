@@ -2,8 +2,8 @@
 ghost use Rattle.std.specs.Prelude.{◌≡◌, ◌≤◌, ◌++◌, ◌∷◌, [], IfOk, OnOk, length, get_or};
 ghost use Rattle.std.specs.List.{list_any};
 ghost use Rattle.std.specs.Option.{option_map};
-ghost use Rattle.jc_facts.specs.Typing as typing;
-ghost use Rattle.jc_code.specs.KindView.{kind_view, kinds_in};
+ghost use Rattle.jc_facts.specs.code.Typing as typing;
+ghost use Rattle.jc_code.specs.steps.KindView.{kind_view, kinds_in};
 
 use crate::kinds::Kind;
 use std::alloc::{AllocError, Global};
@@ -83,7 +83,7 @@ pub(crate) fn pop<'a>(stack: &mut Vec<Kind<'a>>) -> Option<Kind<'a>>
 }
 
 /// Takes the last n values off.
-#[tactic(auto, unfolding(jc_facts::specs::Typing::taken))]
+#[tactic(auto, unfolding(jc_facts::specs::code::Typing::taken))]
 pub(crate) fn take<'a>(
     alloc: Global,
     stack: &mut Vec<Kind<'a>>,
@@ -136,7 +136,7 @@ fn set_at<'a>(locals: &mut Vec<Kind<'a>>, n: usize, kind: Kind<'a>) -> Result<()
     Ok(())
 }
 
-#[tactic(auto, unfolding(jc_facts::specs::Typing::cut))]
+#[tactic(auto, unfolding(jc_facts::specs::code::Typing::cut))]
 fn cut(locals: &mut Vec<Kind<'_>>, n: usize) -> Result<(), AllocError>
     ensures { OnOk result (kinds_in locals.new.items ≡ typing.cut n (kinds_in locals.old.items)) }
 {
@@ -150,7 +150,7 @@ fn cut(locals: &mut Vec<Kind<'_>>, n: usize) -> Result<(), AllocError>
 }
 
 /// Puts a value into the local at this place.
-#[tactic(auto, unfolding(jc_facts::specs::Typing::put))]
+#[tactic(auto, unfolding(jc_facts::specs::code::Typing::put))]
 pub(crate) fn put<'a>(
     locals: &mut Vec<Kind<'a>>,
     n: usize,

@@ -2,10 +2,10 @@
 ghost use Rattle.std.specs.Prelude.{◌≡◌};
 ghost use Rattle.std.specs.Option.{option_map};
 ghost use Rattle.jc_desc.specs.PoolAnswers.{class_in};
-ghost use Rattle.jc_facts.specs.Typing as typing;
+ghost use Rattle.jc_facts.specs.code.Typing as typing;
 ghost use Rattle.jc_pool.specs.Views.{member_view};
-ghost use Rattle.jc_code.specs.Views.{around_view};
-ghost use Rattle.jc_code.specs.InstructionView.{instruction_view};
+ghost use Rattle.jc_code.specs.steps.Views.{around_view};
+ghost use Rattle.jc_code.specs.steps.InstructionView.{instruction_view};
 
 use crate::around::Around;
 use crate::entries::{either, holds_tag};
@@ -37,7 +37,7 @@ pub(crate) enum Instruction<'a> {
 }
 
 /// `ldc` and `ldc_w`
-#[tactic(auto, unfolding(jc_facts::specs::Typing::constant_in))]
+#[tactic(auto, unfolding(jc_facts::specs::code::Typing::constant_in))]
 fn constant_in<'a>(pool: &Pool<'a>, i: u16) -> Option<Instruction<'a>>
     ensures { option_map (λ i. instruction_view i) result ≡ typing.constant_in pool.now i }
 {
@@ -108,7 +108,7 @@ fn special_in<'a>(a: Around<'a, '_>, i: u16) -> Option<Instruction<'a>>
 }
 
 /// An instruction without a pool entry, by its opcode and the byte behind it.
-#[tactic(auto, unfolding(jc_facts::specs::Typing::plain_instruction))]
+#[tactic(auto, unfolding(jc_facts::specs::code::Typing::plain_instruction))]
 fn plain_instruction<'a>(op: u8, near: u8) -> Option<Instruction<'a>>
     ensures { option_map (λ i. instruction_view i) result ≡ typing.plain_instruction op near }
 {
@@ -150,7 +150,7 @@ fn named<'a>(a: Around<'a, '_>, i: u16) -> Option<&'a [u8]>
 }
 
 /// An instruction with a pool entry, by its opcode and the index.
-#[tactic(auto, unfolding(jc_facts::specs::Typing::entry_instruction))]
+#[tactic(auto, unfolding(jc_facts::specs::code::Typing::entry_instruction))]
 fn entry_instruction<'a>(a: Around<'a, '_>, op: u8, i: u16) -> Option<Instruction<'a>>
     ensures { option_map (λ i. instruction_view i) result ≡ typing.entry_instruction (around_view a.entry) op i }
 {
@@ -195,7 +195,7 @@ fn entry_instruction<'a>(a: Around<'a, '_>, op: u8, i: u16) -> Option<Instructio
 }
 
 /// The instruction of this opcode, with the byte behind it and its pool index.
-#[tactic(auto, unfolding(jc_facts::specs::Typing::decode))]
+#[tactic(auto, unfolding(jc_facts::specs::code::Typing::decode))]
 pub(crate) fn decode<'a>(a: Around<'a, '_>, op: u8, near: u8, i: u16) -> Option<Instruction<'a>>
     ensures { option_map (λ i. instruction_view i) result ≡ typing.decode (around_view a.entry) op near i }
 {

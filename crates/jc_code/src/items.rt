@@ -3,10 +3,10 @@ ghost use Rattle.std.specs.Prelude.{◌≡◌, ◌≤◌, Ok, length, IfOk, Matc
 ghost use Rattle.std.specs.Option.{option_map};
 ghost use Rattle.std.specs.Result.{result_map_both};
 ghost use Rattle.jc_facts.specs.declared.class_facts.ClassFacts.{ClassFacts};
-ghost use Rattle.jc_facts.specs.ClassGrammar.{Reads};
-ghost use Rattle.jc_facts.specs.ClientItems as client;
-ghost use Rattle.jc_facts.specs.Clients.{IsValidClient};
-ghost use Rattle.jc_facts.specs.Refusals.{◌>>=◌ as ◌>=>◌};
+ghost use Rattle.jc_facts.specs.file.ClassGrammar.{Reads};
+ghost use Rattle.jc_facts.specs.code.ClientItems as client;
+ghost use Rattle.jc_facts.specs.client.Clients.{IsValidClient};
+ghost use Rattle.jc_facts.specs.file.Refusals.{◌>>=◌ as ◌>=>◌};
 ghost use Rattle.jc_attr.specs.Views.{head_view};
 ghost use Rattle.jc_code.specs.Fails.{CodeFails};
 
@@ -40,7 +40,7 @@ fn class_items(
     }
 }
 
-#[tactic(auto, unfolding(jc_facts::specs::ClientItems::items))]
+#[tactic(auto, unfolding(jc_facts::specs::code::ClientItems::items))]
 fn items(alloc: Global, bytes: &[u8]) -> Result<Result<Vec<Item>, CodeFault>, AllocError>
     ensures { IfOk result (λ r. result_map_both (λ x. x.items) (λ e. e) r ≡ client.items bytes.now) }
 {

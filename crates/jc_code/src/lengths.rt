@@ -1,6 +1,6 @@
 //! How long instructions are (JVMS 6.5, chapter 7).
 ghost use Rattle.std.specs.Prelude.{◌≡◌, ◌≤◌, ◌+◌, length, IfOk};
-ghost use Rattle.jc_facts.specs.Lengths.{between as is_between, fixed_len as fixed, takes_one as spec_takes_one, takes_two_bytes as spec_takes_two_bytes, takes_three as spec_takes_three, takes_five as spec_takes_five, wide_len as wide, lifted as plus, padding as pad_of, table_len as table, lookup_len as lookup, word_at as word, varying_len as varying, fit_len as fit, len_of as total, instruction_len as whole_len};
+ghost use Rattle.jc_facts.specs.code.Lengths.{is_between, known_length, is_one_byte_long, is_two_bytes_long, is_three_bytes_long, is_five_bytes_long, wide_length, shifted_up, padding_length, table_length, lookup_length, word_at_byte, varying_length, length_within, told_length, instruction_length};
 
 use crate::opcodes;
 use byteorder::{BigEndian, ByteOrder};
@@ -14,9 +14,9 @@ pub(crate) fn between(low: u8, high: u8, n: u8) -> bool
 }
 
 /// Opcodes of instructions of one byte.
-#[tactic(auto, unfolding(jc_facts::specs::Lengths::takes_one))]
+#[tactic(auto, unfolding(jc_facts::specs::code::Lengths::is_one_byte_long))]
 fn takes_one(op: u8) -> bool
-    ensures { result ≡ spec_takes_one op }
+    ensures { result ≡ is_one_byte_long op }
 {
     between(0, 15, op)
         || between(26, 53, op)
@@ -29,16 +29,16 @@ fn takes_one(op: u8) -> bool
         || op == 195
 }
 
-#[tactic(auto, unfolding(jc_facts::specs::Lengths::takes_two_bytes))]
+#[tactic(auto, unfolding(jc_facts::specs::code::Lengths::is_two_bytes_long))]
 fn takes_two_bytes(op: u8) -> bool
-    ensures { result ≡ spec_takes_two_bytes op }
+    ensures { result ≡ is_two_bytes_long op }
 {
     op == 16 || op == 18 || between(21, 25, op) || between(54, 58, op) || op == 169 || op == 188
 }
 
-#[tactic(auto, unfolding(jc_facts::specs::Lengths::takes_three))]
+#[tactic(auto, unfolding(jc_facts::specs::code::Lengths::is_three_bytes_long))]
 fn takes_three(op: u8) -> bool
-    ensures { result ≡ spec_takes_three op }
+    ensures { result ≡ is_three_bytes_long op }
 {
     op == 17
         || op == 19
@@ -54,17 +54,17 @@ fn takes_three(op: u8) -> bool
         || op == 199
 }
 
-#[tactic(auto, unfolding(jc_facts::specs::Lengths::takes_five))]
+#[tactic(auto, unfolding(jc_facts::specs::code::Lengths::is_five_bytes_long))]
 fn takes_five(op: u8) -> bool
-    ensures { result ≡ spec_takes_five op }
+    ensures { result ≡ is_five_bytes_long op }
 {
     op == 185 || op == 186 || op == 200 || op == 201
 }
 
 /// The length of an instruction that is always equally long; 0 for the others.
-#[tactic(auto, unfolding(jc_facts::specs::Lengths::fixed_len))]
+#[tactic(auto, unfolding(jc_facts::specs::code::Lengths::known_length))]
 fn fixed_len(op: u8) -> usize
-    ensures { result ≡ fixed op }
+    ensures { result ≡ known_length op }
 {
     if takes_one(op) {
         1
@@ -83,7 +83,7 @@ fn fixed_len(op: u8) -> usize
 
 /// The length of `wide` with the instruction of this opcode behind it.
 fn wide_len(op: u8) -> Result<usize, CodeReason>
-    ensures { result ≡ wide op }
+    ensures { result ≡ wide_length op }
 {
     if between(21, 25, op) || between(54, 58, op) || op == 169 {
         Ok(4)
@@ -96,7 +96,7 @@ fn wide_len(op: u8) -> Result<usize, CodeReason>
 
 /// A number of 32 bits with a sign, plus 2 to the 31st.
 fn lifted(n: u32) -> usize
-    ensures value { result ≡ plus n }
+    ensures value { result ≡ shifted_up n }
     ensures bound { result ≤ 4294967295 }
 {
     if n < 2147483648 {
@@ -108,7 +108,7 @@ fn lifted(n: u32) -> usize
 
 /// The padding of a switch at this place of the code.
 fn padding(pc: usize) -> usize
-    ensures value { result ≡ pad_of pc }
+    ensures value { result ≡ padding_length pc }
     ensures bound { result ≤ 3 }
 {
     3 - pc % 4
@@ -116,7 +116,7 @@ fn padding(pc: usize) -> usize
 
 fn word_at(i: usize, bytes: &[u8]) -> u32
     requires { i + 4 ≤ length bytes.now }
-    ensures { result ≡ word i bytes.now }
+    ensures { result ≡ word_at_byte i bytes.now }
 {
     let word = &bytes[i..];
     if word.len() < 4 {
@@ -129,7 +129,7 @@ fn word_at(i: usize, bytes: &[u8]) -> u32
 /// The length of a `tableswitch` with this padding, low and high.
 fn table_len(pad: usize, low: u32, high: u32) -> Result<usize, CodeReason>
     requires { pad ≤ 3 }
-    ensures { result ≡ table pad low high }
+    ensures { result ≡ table_length pad low high }
 {
     let first = lifted(low);
     let last = lifted(high);
@@ -143,7 +143,7 @@ fn table_len(pad: usize, low: u32, high: u32) -> Result<usize, CodeReason>
 /// The length of a `lookupswitch` with this padding and number of pairs.
 fn lookup_len(pad: usize, pairs: u32) -> Result<usize, CodeReason>
     requires { pad ≤ 3 }
-    ensures { result ≡ lookup pad pairs }
+    ensures { result ≡ lookup_length pad pairs }
 {
     if pairs < 2147483648 {
         Ok(9 + pad + 8 * pairs as usize)
@@ -153,9 +153,9 @@ fn lookup_len(pad: usize, pairs: u32) -> Result<usize, CodeReason>
 }
 
 /// The length of `wide` and of the switches, where the bytes that tell it are there.
-#[tactic(auto, unfolding(jc_facts::specs::Lengths::varying_len))]
+#[tactic(auto, unfolding(jc_facts::specs::code::Lengths::varying_length))]
 fn varying_len(op: u8, pc: usize, rest: &[u8]) -> Result<usize, CodeReason>
-    ensures { result ≡ varying op pc rest.now }
+    ensures { result ≡ varying_length op pc rest.now }
 {
     if op == opcodes::WIDE {
         if rest.len() < 1 {
@@ -183,7 +183,7 @@ fn varying_len(op: u8, pc: usize, rest: &[u8]) -> Result<usize, CodeReason>
 }
 
 fn len_of(op: u8, pc: usize, rest: &[u8]) -> Result<usize, CodeReason>
-    ensures { result ≡ total op pc rest.now }
+    ensures { result ≡ told_length op pc rest.now }
 {
     let len = fixed_len(op);
     if len == 0 {
@@ -194,7 +194,7 @@ fn len_of(op: u8, pc: usize, rest: &[u8]) -> Result<usize, CodeReason>
 }
 
 fn fit_len(rest: usize, len: Result<usize, CodeReason>) -> Result<usize, CodeReason>
-    ensures exact { result ≡ fit (rest + 1) len }
+    ensures exact { result ≡ length_within (rest + 1) len }
     ensures fits { IfOk result (λ n. n ≤ rest + 1) }
 {
     match len {
@@ -210,9 +210,9 @@ fn fit_len(rest: usize, len: Result<usize, CodeReason>) -> Result<usize, CodeRea
 }
 
 /// The length of the instruction at this place, whose opcode and following bytes are these.
-#[tactic(auto, unfolding(jc_facts::specs::Lengths::instruction_len))]
+#[tactic(auto, unfolding(jc_facts::specs::code::Lengths::instruction_length))]
 pub(crate) fn instruction_len(pc: usize, op: u8, rest: &[u8]) -> Result<usize, CodeReason>
-    ensures exact { result ≡ whole_len pc op rest.now }
+    ensures exact { result ≡ instruction_length pc op rest.now }
     ensures fits { IfOk result (λ n. n ≤ length rest.now + 1) }
 {
     fit_len(rest.len(), len_of(op, pc, rest))

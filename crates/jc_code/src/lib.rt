@@ -33,6 +33,3 @@ mod values;
 
 pub use items::CodeError;
 pub use jc_facts::code_fault::CodeReason;
-
-#[cfg(test)]
-mod tests;

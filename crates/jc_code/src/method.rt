@@ -2,12 +2,12 @@
 ghost use Rattle.std.specs.Prelude.{◌≡◌, ◌||◌, IfOk, codes, false};
 ghost use Rattle.std.specs.Option.{option_map};
 ghost use Rattle.std.specs.Result.{result_map_both};
-ghost use Rattle.jc_facts.specs.ClientItems as client;
-ghost use Rattle.jc_facts.specs.ClassSteps.{is_named as named_so};
+ghost use Rattle.jc_facts.specs.code.ClientItems as client;
+ghost use Rattle.jc_facts.specs.file.ClassSteps.{has_this_name};
 ghost use Rattle.jc_attr.specs.Views.{attribute_view, code_view};
-ghost use Rattle.jc_code.specs.Views.{around_view};
-ghost use Rattle.jc_facts.specs.Refusals as refusals;
-ghost use Rattle.jc_code.specs.Pushed.{before as in_front, with_before};
+ghost use Rattle.jc_code.specs.steps.Views.{around_view};
+ghost use Rattle.jc_facts.specs.file.Refusals as refusals;
+ghost use Rattle.jc_code.specs.steps.Pushed.{in_front, with_before};
 
 use crate::around::Around;
 use crate::catches::catches;
@@ -21,7 +21,7 @@ use jc_facts::code_fault::{CodeFault, CodeReason};
 use std::alloc::{AllocError, Global};
 
 /// The parts of a Code, where it is of its form and its code is neither empty nor longer than 65,535 bytes.
-#[tactic(auto, unfolding(jc_facts::specs::ClientItems::layout_of))]
+#[tactic(auto, unfolding(jc_facts::specs::code::ClientItems::layout_of))]
 fn layout(body: &[u8]) -> Option<CodeParts<'_>>
     ensures { option_map (λ c. code_view c) result ≡ client.layout_of body.now }
 {
@@ -48,7 +48,7 @@ fn choose(scanned: Vec<Item>, typed: Option<Vec<Item>>) -> Vec<Item>
 }
 
 /// Adds the items of a Code, at whose first instruction so many bytes of the file are left.
-#[tactic(auto, unfolding(jc_facts::specs::ClientItems::items_of_code))]
+#[tactic(auto, unfolding(jc_facts::specs::code::ClientItems::items_of_code))]
 fn items_of_code(
     alloc: Global,
     a: Around<'_, '_>,
@@ -75,7 +75,7 @@ fn items_of_code(
 }
 
 /// Adds the items of a Code that stands where so many bytes are left; where one came before, it is refused.
-#[tactic(auto, unfolding(jc_facts::specs::ClientItems::code_items))]
+#[tactic(auto, unfolding(jc_facts::specs::code::ClientItems::code_items))]
 fn code_items(
     alloc: Global,
     a: Around<'_, '_>,
@@ -106,18 +106,18 @@ fn code_items(
 }
 
 fn is_code(attribute: Attribute<'_, '_>) -> bool
-    ensures { result ≡ named_so (attribute_view attribute.entry) (codes "Code") }
+    ensures { result ≡ has_this_name (attribute_view attribute.entry) (codes "Code") }
 {
     attribute.name == b"Code".as_slice()
 }
 
 fn or_code(before: bool, attribute: Attribute<'_, '_>) -> bool
-    ensures { result ≡ (before || named_so (attribute_view attribute.entry) (codes "Code")) }
+    ensures { result ≡ (before || has_this_name (attribute_view attribute.entry) (codes "Code")) }
 {
     before || is_code(attribute)
 }
 
-#[tactic(auto, unfolding(jc_facts::specs::ClientItems::attribute_items))]
+#[tactic(auto, unfolding(jc_facts::specs::code::ClientItems::attribute_items))]
 fn attribute_items(
     alloc: Global,
     a: Around<'_, '_>,

@@ -2,11 +2,11 @@
 ghost use Rattle.std.specs.Prelude.{◌≡◌, IfOk, map};
 ghost use Rattle.std.specs.Option.{option_map};
 ghost use Rattle.std.specs.Result.{result_map_both};
-ghost use Rattle.jc_facts.specs.ClientItems as client;
+ghost use Rattle.jc_facts.specs.code.ClientItems as client;
 ghost use Rattle.jc_attr.specs.Views.{head_view, member_head_view};
-ghost use Rattle.jc_code.specs.RowView.{row_view};
-ghost use Rattle.jc_code.specs.Views.{around_view};
-ghost use Rattle.jc_code.specs.Pushed.{with_before};
+ghost use Rattle.jc_code.specs.steps.RowView.{row_view};
+ghost use Rattle.jc_code.specs.steps.Views.{around_view};
+ghost use Rattle.jc_code.specs.steps.Pushed.{with_before};
 
 use crate::around::Around;
 use crate::method::{attributes_items, unread};
@@ -39,7 +39,7 @@ fn around<'a, 'b>(
 }
 
 /// Adds the items of the method in front of the bytes, and gives what comes behind it.
-#[tactic(auto, unfolding(jc_facts::specs::ClientItems::method_items))]
+#[tactic(auto, unfolding(jc_facts::specs::code::ClientItems::method_items))]
 fn method_items<'a, 'b>(
     alloc: Global,
     pool: &Pool<'a>,

@@ -1,13 +1,13 @@
 //! Numbers in code and in the tables of attributes.
 ghost use Rattle.std.specs.Prelude.{◌≡◌, ◌≤◌, ◌-◌, length, drop, take};
-ghost use Rattle.jc_desc.specs.Pool.{short_in as short_of};
+ghost use Rattle.jc_desc.specs.Pool.{short_from};
 
 use byteorder::{BigEndian, ByteOrder};
 
 /// The number of the two bytes at this place; 0 where they aren't there.
 pub(crate) fn short_in(place: usize, bytes: &[u8]) -> u16
     requires { place ≤ 8 }
-    ensures { result ≡ short_of place bytes.now }
+    ensures { result ≡ short_from place bytes.now }
 {
     if bytes.len() < place + 2 {
         0

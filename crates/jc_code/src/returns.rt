@@ -1,11 +1,11 @@
 //! The return of a straight-line method (JVMS 4.10.1.9, 6.5.return).
 ghost use Rattle.std.specs.Prelude.{◌≡◌, ◌≤◌, IfOk};
 ghost use Rattle.std.specs.Option.{option_map};
-ghost use Rattle.jc_facts.specs.Typing as typing;
-ghost use Rattle.jc_code.specs.Views.{around_view};
-ghost use Rattle.jc_code.specs.KindView.{kind_view, kinds_in};
-ghost use Rattle.jc_code.specs.FrameView.{frame_view};
-ghost use Rattle.jc_code.specs.Pushed.{Adds};
+ghost use Rattle.jc_facts.specs.code.Typing as typing;
+ghost use Rattle.jc_code.specs.steps.Views.{around_view};
+ghost use Rattle.jc_code.specs.steps.KindView.{kind_view, kinds_in};
+ghost use Rattle.jc_code.specs.steps.FrameView.{frame_view};
+ghost use Rattle.jc_code.specs.steps.Pushed.{Adds};
 
 use crate::around::Around;
 use crate::frame::{Frame, of_number, pop, some_unset};
@@ -23,7 +23,7 @@ pub(crate) fn is_return(op: u8) -> bool
     between(opcodes::IRETURN, opcodes::RETURN, op)
 }
 
-#[tactic(auto, unfolding(jc_facts::specs::Typing::value_fits))]
+#[tactic(auto, unfolding(jc_facts::specs::code::Typing::value_fits))]
 fn value_fits<'a>(
     alloc: Global,
     op: u8,
@@ -64,7 +64,7 @@ fn result_fits<'a>(
 }
 
 /// Adds the Assign of a return; false where the result doesn't fit or an instance isn't initialized.
-#[tactic(auto, unfolding(jc_facts::specs::Typing::leave))]
+#[tactic(auto, unfolding(jc_facts::specs::code::Typing::leave))]
 pub(crate) fn leave<'a>(
     alloc: Global,
     a: Around<'a, '_>,

@@ -1,9 +1,9 @@
 //! The scan of code: its instructions one after the other (JVMS 4.7.3, 4.9.1).
 ghost use Rattle.std.specs.Prelude.{◌≡◌, ◌≤◌, ◌+◌, length, IfOk};
 ghost use Rattle.std.specs.Result.{result_map_both};
-ghost use Rattle.jc_facts.specs.Code as code;
-ghost use Rattle.jc_code.specs.Views.{around_view};
-ghost use Rattle.jc_code.specs.Pushed.{grown, before};
+ghost use Rattle.jc_facts.specs.code.Code as code;
+ghost use Rattle.jc_code.specs.steps.Views.{around_view};
+ghost use Rattle.jc_code.specs.steps.Pushed.{grown, in_front};
 
 use crate::around::Around;
 use crate::lengths::instruction_len;
@@ -29,7 +29,7 @@ pub(crate) fn operand(op: u8, rest: &[u8]) -> u16
 }
 
 /// The length of an instruction, whose items are added.
-#[tactic(auto, unfolding(jc_facts::specs::Code::instruction_at))]
+#[tactic(auto, unfolding(jc_facts::specs::code::Code::instruction_at))]
 fn instruction(
     alloc: Global,
     a: Around<'_, '_>,
@@ -59,7 +59,7 @@ fn instruction(
 }
 
 /// The length of the instruction in front, whose items are added.
-#[tactic(auto, unfolding(jc_facts::specs::Code::next_at))]
+#[tactic(auto, unfolding(jc_facts::specs::code::Code::next_at))]
 fn next(
     alloc: Global,
     a: Around<'_, '_>,
@@ -89,7 +89,7 @@ pub(crate) fn scan(
     bytes: &[u8],
     items: &mut Vec<Item>,
 ) -> Result<Result<(), CodeFault>, AllocError>
-    ensures { IfOk result (λ r. result_map_both (λ _. items.new.items) (λ e. e) r ≡ before items.old.items (code.scan_at (around_view a.entry) left (length bytes.now) 0 bytes.now)) }
+    ensures { IfOk result (λ r. result_map_both (λ _. items.new.items) (λ e. e) r ≡ in_front items.old.items (code.scan_at (around_view a.entry) left (length bytes.now) 0 bytes.now)) }
 {
     let mut pc = 0;
     let mut rest = bytes;

@@ -1,10 +1,10 @@
 //! What the instructions of straight-line methods that use no member do to the stack and the locals (JVMS 6.5).
 //! Each call answers `false` where the method isn't straight.
 ghost use Rattle.std.specs.Prelude.{◌≡◌, ◌≤◌, IfOk};
-ghost use Rattle.jc_facts.specs.Typing as typing;
-ghost use Rattle.jc_code.specs.KindView.{kind_view};
-ghost use Rattle.jc_code.specs.FrameView.{frame_view};
-ghost use Rattle.jc_code.specs.Steps.{Makes};
+ghost use Rattle.jc_facts.specs.code.Typing as typing;
+ghost use Rattle.jc_code.specs.steps.KindView.{kind_view};
+ghost use Rattle.jc_code.specs.steps.FrameView.{frame_view};
+ghost use Rattle.jc_code.specs.steps.Steps.{Makes};
 
 use crate::entries::class_item;
 use crate::frame::{Frame, is_unset, local, of_number, pop, push, put, takes_two};
@@ -26,7 +26,7 @@ pub(crate) fn push_only<'a>(
 }
 
 /// Puts the local at this place on top, which must be of the kind of this number.
-#[tactic(auto, unfolding(jc_facts::specs::Typing::load))]
+#[tactic(auto, unfolding(jc_facts::specs::code::Typing::load))]
 pub(crate) fn load<'a>(
     number: u8,
     place: usize,
@@ -44,7 +44,7 @@ pub(crate) fn load<'a>(
 }
 
 /// Puts the top, which must be of the kind of this number, into the local at this place.
-#[tactic(auto, unfolding(jc_facts::specs::Typing::store))]
+#[tactic(auto, unfolding(jc_facts::specs::code::Typing::store))]
 pub(crate) fn store<'a>(
     number: u8,
     place: usize,
@@ -66,7 +66,7 @@ pub(crate) fn store<'a>(
 }
 
 /// `dup`
-#[tactic(auto, unfolding(jc_facts::specs::Typing::dup))]
+#[tactic(auto, unfolding(jc_facts::specs::code::Typing::dup))]
 pub(crate) fn dup<'a>(frame: &mut Frame<'a>, items: &mut Vec<Item>) -> Result<bool, AllocError>
     ensures { IfOk result (λ done. Makes items.old.items items.new.items (frame_view frame.new) (typing.dup (frame_view frame.old)) done) }
 {
@@ -82,7 +82,7 @@ pub(crate) fn dup<'a>(frame: &mut Frame<'a>, items: &mut Vec<Item>) -> Result<bo
 }
 
 /// `pop`
-#[tactic(auto, unfolding(jc_facts::specs::Typing::pop_one))]
+#[tactic(auto, unfolding(jc_facts::specs::code::Typing::pop_one))]
 pub(crate) fn pop_one<'a>(frame: &mut Frame<'a>, items: &mut Vec<Item>) -> Result<bool, AllocError>
     ensures { IfOk result (λ done. Makes items.old.items items.new.items (frame_view frame.new) (typing.pop_one (frame_view frame.old)) done) }
 {
@@ -93,7 +93,7 @@ pub(crate) fn pop_one<'a>(frame: &mut Frame<'a>, items: &mut Vec<Item>) -> Resul
 }
 
 /// `pop2`
-#[tactic(auto, unfolding(jc_facts::specs::Typing::pop_two))]
+#[tactic(auto, unfolding(jc_facts::specs::code::Typing::pop_two))]
 pub(crate) fn pop_two<'a>(frame: &mut Frame<'a>, items: &mut Vec<Item>) -> Result<bool, AllocError>
     ensures { IfOk result (λ done. Makes items.old.items items.new.items (frame_view frame.new) (typing.pop_two (frame_view frame.old)) done) }
 {
@@ -125,7 +125,7 @@ pub(crate) fn push_with<'a>(
 }
 
 /// `checkcast` and `instanceof`.
-#[tactic(auto, unfolding(jc_facts::specs::Typing::cast))]
+#[tactic(auto, unfolding(jc_facts::specs::code::Typing::cast))]
 pub(crate) fn cast<'a>(
     alloc: Global,
     name: &[u8],

@@ -1,9 +1,9 @@
 //! The frame at the start of a method (JVMS 4.10.1.6).
 ghost use Rattle.std.specs.Prelude.{◌≡◌, ◌++◌, IfOk, OnOk};
-ghost use Rattle.jc_facts.specs.Typing as typing;
-ghost use Rattle.jc_code.specs.Views.{around_view};
-ghost use Rattle.jc_code.specs.KindView.{kind_view, kinds_in};
-ghost use Rattle.jc_code.specs.FrameView.{frame_view};
+ghost use Rattle.jc_facts.specs.code.Typing as typing;
+ghost use Rattle.jc_code.specs.steps.Views.{around_view};
+ghost use Rattle.jc_code.specs.steps.KindView.{kind_view, kinds_in};
+ghost use Rattle.jc_code.specs.steps.FrameView.{frame_view};
 
 use crate::around::Around;
 use crate::frame::{Frame, push, takes_two};

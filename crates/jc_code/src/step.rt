@@ -2,12 +2,12 @@
 ghost use Rattle.std.specs.Prelude.{◌≡◌, ◌≤◌, ◌+◌, codes, ℕ, get_or, List, IfOk, IfSome, length};
 ghost use Rattle.std.specs.Option.{option_map};
 ghost use Rattle.jc_facts.specs.declared.client.Item.{Item};
-ghost use Rattle.jc_facts.specs.Typing as typing;
-ghost use Rattle.jc_code.specs.Views.{around_view};
-ghost use Rattle.jc_code.specs.KindView.{kind_view};
-ghost use Rattle.jc_code.specs.FrameView.{frame_view};
-ghost use Rattle.jc_code.specs.InstructionView.{instruction_view};
-ghost use Rattle.jc_code.specs.Steps.{Makes, step_with};
+ghost use Rattle.jc_facts.specs.code.Typing as typing;
+ghost use Rattle.jc_code.specs.steps.Views.{around_view};
+ghost use Rattle.jc_code.specs.steps.KindView.{kind_view};
+ghost use Rattle.jc_code.specs.steps.FrameView.{frame_view};
+ghost use Rattle.jc_code.specs.steps.InstructionView.{instruction_view};
+ghost use Rattle.jc_code.specs.steps.Steps.{Makes, step_with};
 
 use crate::acts::act_on;
 use crate::around::Around;
@@ -29,7 +29,7 @@ fn class_kind<'a>() -> Kind<'a>
 }
 
 /// Does what the instruction at this place does; false where the method isn't straight.
-#[tactic(auto, unfolding(jc_facts::specs::Typing::run))]
+#[tactic(auto, unfolding(jc_facts::specs::code::Typing::run))]
 fn run<'a>(
     alloc: Global,
     a: Around<'a, '_>,
@@ -87,7 +87,7 @@ fn decoded<'a>(
 }
 
 /// Does what the instruction in front does, and gives its length; None where the method isn't straight.
-#[tactic(auto, unfolding(jc_facts::specs::Typing::step_at))]
+#[tactic(auto, unfolding(jc_facts::specs::code::Typing::step_at))]
 pub(crate) fn step<'a>(
     alloc: Global,
     a: Around<'a, '_>,

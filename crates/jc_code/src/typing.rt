@@ -1,11 +1,11 @@
 //! Typing of straight-line methods: kinds of values, from the first instruction to the one return (JVMS 4.10.1).
 ghost use Rattle.std.specs.Prelude.{◌≡◌, IfOk, length};
 ghost use Rattle.std.specs.Option.{option_map};
-ghost use Rattle.jc_facts.specs.Typing as typing;
+ghost use Rattle.jc_facts.specs.code.Typing as typing;
 ghost use Rattle.jc_attr.specs.Views.{code_view};
-ghost use Rattle.jc_code.specs.Views.{around_view};
-ghost use Rattle.jc_code.specs.KindView.{kind_view, kinds_in};
-ghost use Rattle.jc_code.specs.FrameView.{frame_view};
+ghost use Rattle.jc_code.specs.steps.Views.{around_view};
+ghost use Rattle.jc_code.specs.steps.KindView.{kind_view, kinds_in};
+ghost use Rattle.jc_code.specs.steps.FrameView.{frame_view};
 
 use crate::around::Around;
 use crate::frame::Frame;
@@ -55,7 +55,7 @@ fn typed<'a>(
 }
 
 /// The items of a straight-line method; None where it isn't one.
-#[tactic(auto, unfolding(jc_facts::specs::Typing::typed_code))]
+#[tactic(auto, unfolding(jc_facts::specs::code::Typing::typed_code))]
 pub(crate) fn typed_code<'a>(
     alloc: Global,
     a: Around<'a, '_>,

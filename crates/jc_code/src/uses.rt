@@ -2,11 +2,11 @@
 //! instruction's kinds.
 ghost use Rattle.std.specs.Prelude.{◌≡◌, ◌&&◌, IfOk};
 ghost use Rattle.std.specs.Option.{option_map};
-ghost use Rattle.jc_desc.specs.Names.{is_init as is_init_name};
+ghost use Rattle.jc_desc.specs.Names.{is_init_name};
 ghost use Rattle.jc_pool.specs.Views.{member_view};
-ghost use Rattle.jc_facts.specs.Code as code;
-ghost use Rattle.jc_code.specs.Views.{around_view};
-ghost use Rattle.jc_code.specs.Pushed.{Adds};
+ghost use Rattle.jc_facts.specs.code.Code as code;
+ghost use Rattle.jc_code.specs.steps.Views.{around_view};
+ghost use Rattle.jc_code.specs.steps.Pushed.{Adds};
 
 use crate::around::Around;
 use crate::bootstrap_items::dynamic_items;
@@ -239,7 +239,7 @@ fn invoke_dynamic(
 }
 
 /// Adds the items of an instruction with this opcode and pool index; false where the entry isn't of its kinds.
-#[tactic(auto, unfolding(jc_facts::specs::Code::used))]
+#[tactic(auto, unfolding(jc_facts::specs::code::Code::used))]
 pub(crate) fn used(
     alloc: Global,
     a: Around<'_, '_>,

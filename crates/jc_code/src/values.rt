@@ -1,9 +1,9 @@
 //! Values where values of a kind are due (JVMS 4.10.1.2), and values as receivers.
 ghost use Rattle.std.specs.Prelude.{◌≡◌, ◌++◌, IfOk, OnOk};
 ghost use Rattle.std.specs.Option.{option_map};
-ghost use Rattle.jc_facts.specs.Typing as typing;
-ghost use Rattle.jc_code.specs.KindView.{kind_view, kinds_in};
-ghost use Rattle.jc_code.specs.Pushed.{Adds};
+ghost use Rattle.jc_facts.specs.code.Typing as typing;
+ghost use Rattle.jc_code.specs.steps.KindView.{kind_view, kinds_in};
+ghost use Rattle.jc_code.specs.steps.Pushed.{Adds};
 
 use crate::kinds::Kind;
 use jc_base::name::Name;
@@ -52,7 +52,7 @@ fn assign(alloc: Global, from: &[u8], to: &[u8], items: &mut Vec<Item>) -> Resul
 }
 
 /// Adds the Assign of a value where a value of the second kind is due; false where it doesn't fit.
-#[tactic(auto, unfolding(jc_facts::specs::Typing::fit))]
+#[tactic(auto, unfolding(jc_facts::specs::code::Typing::fit))]
 pub(crate) fn fit(
     alloc: Global,
     kind: Kind<'_>,

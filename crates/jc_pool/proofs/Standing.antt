@@ -1,6 +1,6 @@
 -- The entries of a pool stand in the file.
 use Rattle.std.proofs.Common.{◌≡◌, ◌≢◌, ℕ, suc, zero, Bool, true, false, List, [], ◌∷◌, ◌++◌, length, get_or, refl, sym, ap, subst, ◌∙◌, append_assoc}
-use Rattle.jc_desc.specs.Pool.{Slot, PoolOf, nothing, at, is_wide}
+use Rattle.jc_desc.specs.Pool.{Slot, PoolOf, nothing, slot_of_index, is_wide_tag}
 use Rattle.jc_desc.specs.PoolGrammar.{IsEntry, AreSlots, IsPool}
 use Rattle.jc_pool.specs.Law.{Stands}
 
@@ -34,13 +34,13 @@ slots_stand true bytes (s ∷ ss) rest h zero t = absurd (t (ap (λ (x : Slot). 
 slots_stand true bytes (s ∷ ss) rest h (suc i) t = slots_stand false bytes ss rest h.1 i t
 slots_stand false bytes (s ∷ ss) rest h zero t = entry_stands _ bytes s h.0 h.1
 slots_stand false bytes (s ∷ ss) rest h (suc i) t =
-    let later = slots_stand (is_wide s.tag) h.0 ss rest h.2 i t in
+    let later = slots_stand (is_wide_tag s.tag) h.0 ss rest h.2 i t in
     let front : List ℕ = s.tag ∷ h.1.piece in
     same_bytes bytes (front ++ h.0) (get_or ss i nothing) h.1.whole (further front h.0 (get_or ss i nothing) later)
 
-pub pool_stands : (bytes : List ℕ) (pool : PoolOf) (rest : List ℕ) (i : ℕ) → IsPool bytes pool rest → (at pool.slots i).tag ≢ 0 → Stands bytes (at pool.slots i)
-pool_stands bytes pool rest i h = subst (λ (ss : List Slot). (at ss i).tag ≢ 0 → Stands bytes (at ss i)) (sym h.slots_is) (go i) where
-  go : (k : ℕ) → (at (nothing ∷ h.slots) k).tag ≢ 0 → Stands bytes (at (nothing ∷ h.slots) k)
+pub pool_stands : (bytes : List ℕ) (pool : PoolOf) (rest : List ℕ) (i : ℕ) → IsPool bytes pool rest → (slot_of_index pool.slots i).tag ≢ 0 → Stands bytes (slot_of_index pool.slots i)
+pool_stands bytes pool rest i h = subst (λ (ss : List Slot). (slot_of_index ss i).tag ≢ 0 → Stands bytes (slot_of_index ss i)) (sym h.slots_is) (go i) where
+  go : (k : ℕ) → (slot_of_index (nothing ∷ h.slots) k).tag ≢ 0 → Stands bytes (slot_of_index (nothing ∷ h.slots) k)
   go zero t = absurd (t refl)
   go (suc k) t =
       let s : Slot = get_or h.slots k nothing in

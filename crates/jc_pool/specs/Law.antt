@@ -1,7 +1,7 @@
 -- What is said of every list of bytes: it begins with one pool, or it has one first fault.
 use Rattle.std.specs.Prelude.{◌≡◌, ℕ, true, false, List, ◌∷◌, ◌++◌, length}
 use Rattle.jc_desc.specs.declared.fault.Reason.{Reason}
-use Rattle.jc_desc.specs.Pool.{Slot, PoolOf, is_class_text, is_any_member, is_field, is_used_method, handle_fits, handle_names}
+use Rattle.jc_desc.specs.Pool.{Slot, PoolOf, names_class, names_any_member, describes_field, names_used_method, fits_handle, names_for_handle}
 use Rattle.jc_desc.specs.PoolAnswers.{MemberRefOf, HandleRefOf}
 use Rattle.jc_desc.specs.PoolGrammar.{IsBody, ReadsPool}
 use Rattle.jc_desc.specs.PoolSteps.{PoolFaulty}
@@ -34,14 +34,14 @@ pub record Stands (bytes : List ℕ) (s : Slot) : Type 0 where
 
 -- a member that an entry names: its class, and by the entry's tag its name and descriptor
 pub record IsSoundMember (m : MemberRefOf) : Type 0 where
-  pub class_well : is_class_text m.class ≡ true
-  pub named_well : is_any_member m.name m.descriptor ≡ true
-  pub field : m.tag ≡ tags.field_ref → is_field m.descriptor ≡ true
-  pub method : m.tag ≡ tags.method_ref → is_used_method false m.name m.descriptor ≡ true
-  pub interface_method : m.tag ≡ tags.interface_method_ref → is_used_method true m.name m.descriptor ≡ true
+  pub class_well : names_class m.class ≡ true
+  pub named_well : names_any_member m.name m.descriptor ≡ true
+  pub field : m.tag ≡ tags.field_ref → describes_field m.descriptor ≡ true
+  pub method : m.tag ≡ tags.method_ref → names_used_method false m.name m.descriptor ≡ true
+  pub interface_method : m.tag ≡ tags.interface_method_ref → names_used_method true m.name m.descriptor ≡ true
 
 -- a use of a member: one that its kind may use
 pub record IsSoundHandle (h : HandleRefOf) : Type 0 where
-  pub fits : handle_fits h.kind h.member.tag ≡ true
-  pub names : handle_names h.kind h.member.name ≡ true
+  pub fits : fits_handle h.kind h.member.tag ≡ true
+  pub names : names_for_handle h.kind h.member.name ≡ true
   pub member_well : IsSoundMember h.member

@@ -1,9 +1,10 @@
 //! The entries of a pool, read in their order (JVMS 4.4).
 ghost use Rattle.std.specs.Prelude.{◌≡◌, IfOk};
 ghost use Rattle.std.specs.Result.{result_map_both};
-ghost use Rattle.jc_desc.specs.Pool.{body_len as body_len_of, is_wide as is_wide_tag};
-ghost use Rattle.jc_desc.specs.PoolSteps.{text_at as text_of_bytes, body_at as body_of, entry_at as entry_of};
-ghost use Rattle.jc_pool.specs.Slots.{slot_of, slots_of, all_slots_at};
+ghost use Rattle.jc_desc.specs.Pool.{body_length, is_wide_tag};
+ghost use Rattle.jc_desc.specs.PoolSteps.{utf8_from, body_from, entry_from};
+ghost use Rattle.jc_pool.specs.Slots.{slot_of, slots_of};
+ghost use Rattle.jc_pool.specs.steps.Slots.{all_slots_at};
 
 use jc_desc::bytes::{bytes_at, u8_at, u16_at};
 use jc_desc::fault::{Fault, Reason};
@@ -29,7 +30,7 @@ pub const NOTHING: Slot<'static> = Slot {
 };
 
 fn body_len(tag: u8) -> Option<usize>
-    ensures { result ≡ body_len_of tag }
+    ensures { result ≡ body_length tag }
 {
     match tag {
         tags::INTEGER | tags::FLOAT => Some(4),
@@ -49,7 +50,7 @@ fn is_wide(tag: u8) -> bool
 }
 
 fn text_at(bytes: &[u8]) -> Result<(&[u8], &[u8]), Fault>
-    ensures { result_map_both (λ x. (x.0.now, x.1.now)) (λ e. e) result ≡ text_of_bytes bytes.now }
+    ensures { result_map_both (λ x. (x.0.now, x.1.now)) (λ e. e) result ≡ utf8_from bytes.now }
 {
     let (len, rest) = u16_at(bytes)?;
     match bytes_at(len as usize, rest) {
@@ -58,9 +59,9 @@ fn text_at(bytes: &[u8]) -> Result<(&[u8], &[u8]), Fault>
     }
 }
 
-#[tactic(auto, unfolding(jc_desc::specs::PoolSteps::body_at))]
+#[tactic(auto, unfolding(jc_desc::specs::PoolSteps::body_from))]
 fn body_at(left: usize, tag: u8, bytes: &[u8]) -> Result<(&[u8], &[u8]), Fault>
-    ensures { result_map_both (λ x. (x.0.now, x.1.now)) (λ e. e) result ≡ body_of left tag bytes.now }
+    ensures { result_map_both (λ x. (x.0.now, x.1.now)) (λ e. e) result ≡ body_from left tag bytes.now }
 {
     if tag == tags::UTF8 {
         return text_at(bytes);
@@ -74,9 +75,9 @@ fn body_at(left: usize, tag: u8, bytes: &[u8]) -> Result<(&[u8], &[u8]), Fault>
     }
 }
 
-#[tactic(auto, unfolding(jc_desc::specs::PoolSteps::entry_at))]
+#[tactic(auto, unfolding(jc_desc::specs::PoolSteps::entry_from))]
 fn entry_at(follows: bool, bytes: &[u8]) -> Result<(Slot<'_>, &[u8]), Fault>
-    ensures { result_map_both (λ x. (slot_of x.0, x.1.now)) (λ e. e) result ≡ entry_of follows bytes.now }
+    ensures { result_map_both (λ x. (slot_of x.0, x.1.now)) (λ e. e) result ≡ entry_from follows bytes.now }
 {
     let left = bytes.len();
     let (tag, rest) = u8_at(bytes)?;

@@ -1,8 +1,8 @@
 //! What the texts of a pool are. Each text is looked through once, however many entries name it, so
 //! that a pool is read in a time that grows as its bytes do.
 ghost use Rattle.std.specs.Prelude.{◌≡◌, IfOk};
-ghost use Rattle.jc_desc.specs.Pool.{at as at_of};
-ghost use Rattle.jc_pool.specs.Forms.{forms_in, forms_at, all_forms as forms_of_all};
+ghost use Rattle.jc_desc.specs.Pool.{slot_of_index};
+ghost use Rattle.jc_pool.specs.steps.Forms.{forms_in, forms_at, forms_of_all};
 ghost use Rattle.jc_pool.specs.Slots.{slots_of};
 
 use crate::entry::Slot;
@@ -70,7 +70,7 @@ pub(crate) fn all_forms(alloc: Global, slots: &[Slot<'_>]) -> Result<Vec<Forms>,
 /// What the text at this index is, of the forms of these slots.
 pub(crate) fn form(slots: &[Slot<'_>], forms: &[Forms], index: u16) -> Forms
     requires { forms.now ≡ forms_of_all (slots_of slots.now) }
-    ensures { result ≡ forms_at (at_of (slots_of slots.now) index) }
+    ensures { result ≡ forms_at (slot_of_index (slots_of slots.now) index) }
 {
     if (index as usize) < forms.len() {
         forms[index as usize]

@@ -10,6 +10,3 @@ pub mod pool;
 mod start;
 
 pub use jc_desc::fault::{Malformed, Reason};
-
-#[cfg(test)]
-mod tests;

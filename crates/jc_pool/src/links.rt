@@ -1,9 +1,9 @@
 //! What the entries of a pool name, and the first fault in it (JVMS 4.4).
 ghost use Rattle.std.specs.Prelude.{◌≡◌, ◌≤◌, ◌&&◌, ◌||◌, not, List, ℕ, IfOk};
 ghost use Rattle.jc_desc.specs.Faults.{first_fault};
-ghost use Rattle.jc_desc.specs.Pool.{short_in as short_in_body, first as first_of, second as second_of, at as at_of, holds as holds_of, text_of as text_in, name_of as name_in, descriptor_of as descriptor_in, pair_of as pair_in, refers as refers_in, handle_fits as handle_fits_of, handle_names as handle_names_of, kind_of as kind_in, target_of as target_in, names_one_text as names_one, is_member_ref as is_ref};
-ghost use Rattle.jc_desc.specs.PoolSteps.{want, meaning_fault, handle_fault as handle_fault_of, reference_fault, sense_fault, links_fault as links_fault_of};
-ghost use Rattle.jc_pool.specs.Forms.{forms_in, all_forms as all_forms_of};
+ghost use Rattle.jc_desc.specs.Pool.{short_from, first_of, second_of, slot_of_index, holds_tag, text_in, name_in, descriptor_in, pair_in, refers_rightly, fits_handle, names_for_handle, handle_kind, handle_target, names_one_utf8, is_member_reference};
+ghost use Rattle.jc_desc.specs.PoolSteps.{want, meaning_fault, fault_of_handle, reference_fault, sense_fault, fault_of_links};
+ghost use Rattle.jc_pool.specs.steps.Forms.{forms_in, forms_of_all};
 ghost use Rattle.jc_pool.specs.Slots.{slot_of, slots_of};
 
 use crate::entry::{NOTHING, Slot};
@@ -16,7 +16,7 @@ use std::alloc::{AllocError, Global};
 /// The number in the two bytes from place `i` on, or 0 where they aren't there.
 pub(crate) fn short_in(i: usize, body: &[u8]) -> u16
     requires { i ≤ 8 }
-    ensures { result ≡ short_in_body i body.now }
+    ensures { result ≡ short_from i body.now }
 {
     if body.len() < i + 2 {
         return 0;
@@ -40,14 +40,14 @@ pub(crate) fn second(slot: Slot<'_>) -> u16
 
 /// The index of the member that a MethodHandle uses.
 pub(crate) fn target(slot: Slot<'_>) -> u16
-    ensures { result ≡ target_in (slot_of slot.entry) }
+    ensures { result ≡ handle_target (slot_of slot.entry) }
 {
     short_in(1, slot.body)
 }
 
 /// The kind of a MethodHandle.
 pub(crate) fn kind(slot: Slot<'_>) -> u8
-    ensures { result ≡ kind_in (slot_of slot.entry) }
+    ensures { result ≡ handle_kind (slot_of slot.entry) }
 {
     if slot.body.is_empty() {
         0
@@ -58,7 +58,7 @@ pub(crate) fn kind(slot: Slot<'_>) -> u8
 
 /// What an index holds.
 pub(crate) fn at<'a>(slots: &[Slot<'a>], index: u16) -> Slot<'a>
-    ensures { slot_of result ≡ at_of (slots_of slots.now) index }
+    ensures { slot_of result ≡ slot_of_index (slots_of slots.now) index }
 {
     if (index as usize) < slots.len() {
         slots[index as usize]
@@ -68,7 +68,7 @@ pub(crate) fn at<'a>(slots: &[Slot<'a>], index: u16) -> Slot<'a>
 }
 
 fn holds(slots: &[Slot<'_>], tag: u8, index: u16) -> bool
-    ensures { result ≡ holds_of (slots_of slots.now) tag index }
+    ensures { result ≡ holds_tag (slots_of slots.now) tag index }
 {
     at(slots, index).tag == tag
 }
@@ -95,7 +95,7 @@ pub(crate) fn pair<'a>(slots: &[Slot<'a>], slot: Slot<'a>) -> Slot<'a>
 }
 
 fn names_one_text(tag: u8) -> bool
-    ensures { result ≡ names_one tag }
+    ensures { result ≡ names_one_utf8 tag }
 {
     tag == tags::CLASS
         || tag == tags::STRING
@@ -106,15 +106,15 @@ fn names_one_text(tag: u8) -> bool
 
 /// Whether an entry refers to a member.
 pub(crate) fn is_member_ref(tag: u8) -> bool
-    ensures { result ≡ is_ref tag }
+    ensures { result ≡ is_member_reference tag }
 {
     tag == tags::FIELD_REF || tag == tags::METHOD_REF || tag == tags::INTERFACE_METHOD_REF
 }
 
 /// Whether each index of an entry holds an entry of its kind.
-#[tactic(auto, unfolding(jc_desc::specs::Pool::refers))]
+#[tactic(auto, unfolding(jc_desc::specs::Pool::refers_rightly))]
 fn refers(slots: &[Slot<'_>], slot: Slot<'_>) -> bool
-    ensures { result ≡ refers_in (slots_of slots.now) (slot_of slot.entry) }
+    ensures { result ≡ refers_rightly (slots_of slots.now) (slot_of slot.entry) }
 {
     if names_one_text(slot.tag) {
         return holds(slots, tags::UTF8, first(slot));
@@ -170,7 +170,7 @@ fn method_fault(interface: bool, name: Forms, descriptor: Forms) -> Option<Reaso
 }
 
 fn handle_fits(kind: u8, tag: u8) -> bool
-    ensures { result ≡ handle_fits_of kind tag }
+    ensures { result ≡ fits_handle kind tag }
 {
     match kind {
         1 | 2 | 3 | 4 => tag == tags::FIELD_REF,
@@ -182,7 +182,7 @@ fn handle_fits(kind: u8, tag: u8) -> bool
 }
 
 fn handle_names(kind: u8, name: Forms) -> bool
-    ensures { (text : List ℕ) → name ≡ forms_in text → result ≡ handle_names_of kind text }
+    ensures { (text : List ℕ) → name ≡ forms_in text → result ≡ names_for_handle kind text }
 {
     match kind {
         8 => name.init,
@@ -192,7 +192,7 @@ fn handle_names(kind: u8, name: Forms) -> bool
 }
 
 fn handle_fault(kind: u8, tag: u8, name: Forms) -> Option<Reason>
-    ensures { (text : List ℕ) → name ≡ forms_in text → result ≡ handle_fault_of kind tag text }
+    ensures { (text : List ℕ) → name ≡ forms_in text → result ≡ fault_of_handle kind tag text }
 {
     if !handle_fits(kind, tag) {
         return Some(Reason::BadIndex);
@@ -226,7 +226,7 @@ fn shape_fault(descriptor: Forms) -> Option<Reason>
 /// The first reason against what an entry names.
 #[tactic(auto, unfolding(jc_desc::specs::PoolSteps::meaning_fault))]
 fn meaning(slots: &[Slot<'_>], forms: &[Forms], slot: Slot<'_>) -> Option<Reason>
-    requires { forms.now ≡ all_forms_of (slots_of slots.now) }
+    requires { forms.now ≡ forms_of_all (slots_of slots.now) }
     ensures { result ≡ meaning_fault (slots_of slots.now) (slot_of slot.entry) }
 {
     match slot.tag {
@@ -273,7 +273,7 @@ fn first_reference_fault(slots: &[Slot<'_>]) -> Option<Fault>
 }
 
 fn first_sense_fault(slots: &[Slot<'_>], forms: &[Forms]) -> Option<Fault>
-    requires { forms.now ≡ all_forms_of (slots_of slots.now) }
+    requires { forms.now ≡ forms_of_all (slots_of slots.now) }
     ensures { result ≡ first_fault (sense_fault (slots_of slots.now)) (slots_of slots.now) }
 {
     for slot in slots {
@@ -290,7 +290,7 @@ fn first_sense_fault(slots: &[Slot<'_>], forms: &[Forms]) -> Option<Fault>
 /// The first fault in what the entries name: references over all entries first, and only then
 /// names, descriptors and handles. Takes memory for what the texts are.
 pub(crate) fn links_fault(alloc: Global, slots: &[Slot<'_>]) -> Result<Option<Fault>, AllocError>
-    ensures { IfOk result (λ fault. fault ≡ links_fault_of (slots_of slots.now)) }
+    ensures { IfOk result (λ fault. fault ≡ fault_of_links (slots_of slots.now)) }
 {
     if let Some(fault) = first_reference_fault(slots) {
         return Ok(Some(fault));

@@ -5,7 +5,7 @@ ghost use Rattle.std.specs.Result.{result_map_both};
 ghost use Rattle.jc_desc.specs.Pool.{PoolOf};
 ghost use Rattle.jc_desc.specs.PoolGrammar.{ReadsPool};
 ghost use Rattle.jc_desc.specs.PoolSteps.{pool_at, linked};
-ghost use Rattle.jc_desc.specs.PoolAnswers.{tag_in, utf8_in, class_in, member_ref_in, member_of, handle_in, dynamic_in, constant_in, word_in as word_in_body, double_word_in as double_word_in_body};
+ghost use Rattle.jc_desc.specs.PoolAnswers.{tag_in, utf8_in, class_in, member_ref_in, member_of, handle_in, dynamic_in, constant_in, word_from, double_word_from};
 ghost use Rattle.jc_pool.specs.Slots.{slot_of, slots_of};
 ghost use Rattle.jc_pool.specs.Views.{member_view, handle_view, constant_view, PoolFails};
 
@@ -75,7 +75,7 @@ pub enum PoolConstant<'a> {
 }
 
 fn word_in(body: &[u8]) -> u32
-    ensures { result ≡ word_in_body body.now }
+    ensures { result ≡ word_from body.now }
 {
     if body.len() < 4 {
         0
@@ -85,7 +85,7 @@ fn word_in(body: &[u8]) -> u32
 }
 
 fn double_word_in(body: &[u8]) -> u64
-    ensures { result ≡ double_word_in_body body.now }
+    ensures { result ≡ double_word_from body.now }
 {
     if body.len() < 8 {
         0

@@ -2,8 +2,8 @@
 use Rattle.std.proofs.Common.{ℕ, List, ◌⊎◌, inl, inr}
 use Rattle.jc_desc.specs.declared.fault.Reason.{Reason}
 use Rattle.jc_facts.specs.declared.class_facts.ClassFacts.{ClassFacts}
-use Rattle.jc_facts.specs.ClassGrammar.{Reads}
-use Rattle.jc_facts.specs.ClassSteps.{IsFaulty}
+use Rattle.jc_facts.specs.file.ClassGrammar.{Reads}
+use Rattle.jc_facts.specs.file.ClassSteps.{IsFaulty}
 use Rattle.jc_facts.proofs.ClassFiles.{either, never_both, one_record, one_fault}
 use Rattle.jc_read.specs.ClassLaw.{ReadsOne, HasOneFault}
 

@@ -2,8 +2,8 @@
 use Rattle.std.specs.Prelude.{◌≡◌, ℕ, List}
 use Rattle.jc_desc.specs.declared.fault.Reason.{Reason}
 use Rattle.jc_facts.specs.declared.class_facts.ClassFacts.{ClassFacts}
-use Rattle.jc_facts.specs.ClassGrammar.{Reads}
-use Rattle.jc_facts.specs.ClassSteps.{IsFaulty}
+use Rattle.jc_facts.specs.file.ClassGrammar.{Reads}
+use Rattle.jc_facts.specs.file.ClassSteps.{IsFaulty}
 
 -- exactly one record is read, and nothing is faulty
 pub record ReadsOne (bytes : List ℕ) : Type 0 where

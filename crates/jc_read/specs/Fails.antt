@@ -1,6 +1,6 @@
 -- Malformed only as the bytes are; nothing is said where memory ran out.
 use Rattle.std.specs.Prelude.{List, ℕ}
-use Rattle.jc_facts.specs.ClassSteps.{IsFaulty}
+use Rattle.jc_facts.specs.file.ClassSteps.{IsFaulty}
 use Rattle.jc_read.specs.declared.read.ReadError.{ReadError}
 use Rattle.jc_read.specs.declared.read.ReadError.TheVariants as errors
 

@@ -1,9 +1,9 @@
 //! Laws of class files, for every list of bytes.
 ghost use Rattle.std.specs.Prelude.{◌≡◌, ◌↔◌, ◌⊎◌, ℕ, List, Ok};
 ghost use Rattle.jc_facts.specs.declared.class_facts.ClassFacts.{ClassFacts};
-ghost use Rattle.jc_facts.specs.Valid.{IsValidClass};
-ghost use Rattle.jc_facts.specs.ClassGrammar.{Reads};
-ghost use Rattle.jc_facts.specs.ClassSteps.{class_of};
+ghost use Rattle.jc_facts.specs.file.Valid.{IsValidClass};
+ghost use Rattle.jc_facts.specs.file.ClassGrammar.{Reads};
+ghost use Rattle.jc_facts.specs.file.ClassSteps.{class_of};
 ghost use Rattle.jc_read.specs.ClassLaw.{ReadsOne, HasOneFault};
 
 /// Either exactly one record is read and nothing is faulty, or none is read and exactly one pair of

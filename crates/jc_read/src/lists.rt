@@ -1,9 +1,9 @@
 //! The lists of a record.
 ghost use Rattle.std.specs.Prelude.{◌≡◌, OnOk, IfOk, ◌++◌, Some};
-ghost use Rattle.jc_facts.specs.Flags.{is_static as static_of};
+ghost use Rattle.jc_facts.specs.Flags.{static_flag};
 ghost use Rattle.jc_facts.specs.Names.{key_of};
-ghost use Rattle.jc_facts.specs.ClassParts.{fixed_of, signed_of, members_of, constants_of, signatures_of};
-ghost use Rattle.jc_read.specs.MemberViews.{members_view};
+ghost use Rattle.jc_facts.specs.file.ClassParts.{fixed_of, signed_of, members_of, constants_of, signatures_of};
+ghost use Rattle.jc_read.specs.steps.MemberViews.{members_view};
 
 use crate::member_list::ReadMember;
 use crate::on_member::OnMember;
@@ -28,7 +28,7 @@ fn add_constant(
     member: &Member,
     constant: Option<Constant>,
 ) -> Result<(), AllocError>
-    ensures { OnOk result (constants.new.items ≡ constants.old.items ++ fixed_of (key_of member.now) (static_of member.now.flags) constant) }
+    ensures { OnOk result (constants.new.items ≡ constants.old.items ++ fixed_of (key_of member.now) (static_flag member.now.flags) constant) }
 {
     match constant {
         None => Ok(()),

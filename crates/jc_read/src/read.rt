@@ -2,14 +2,14 @@
 ghost use Rattle.std.specs.Prelude.{◌≡◌, ◌≤◌, length, IfOk, MatchResult, OnOk, ◌++◌, None};
 ghost use Rattle.std.specs.Option.{option_map};
 ghost use Rattle.std.specs.Result.{result_map_both};
-ghost use Rattle.jc_facts.specs.Valid.{IsValidClass};
-ghost use Rattle.jc_facts.specs.ClassParts.{record_of as record_from, or_empty, signed_of};
-ghost use Rattle.jc_facts.specs.ClassGrammar.{Reads};
-ghost use Rattle.jc_facts.specs.ClassSteps.{class_of};
+ghost use Rattle.jc_facts.specs.file.Valid.{IsValidClass};
+ghost use Rattle.jc_facts.specs.file.ClassParts.{record_from, or_empty, signed_of};
+ghost use Rattle.jc_facts.specs.file.ClassGrammar.{Reads};
+ghost use Rattle.jc_facts.specs.file.ClassSteps.{class_of};
 ghost use Rattle.jc_read.specs.Fails.{ReadFails};
 ghost use Rattle.jc_attr.specs.Views.{head_view};
-ghost use Rattle.jc_read.specs.MemberViews.{members_view};
-ghost use Rattle.jc_read.specs.OnClassView.{on_class_view};
+ghost use Rattle.jc_read.specs.steps.MemberViews.{members_view};
+ghost use Rattle.jc_read.specs.steps.OnClassView.{on_class_view};
 
 use crate::lists::split;
 use crate::member_list::{ReadMember, members};
@@ -94,7 +94,7 @@ fn record(
     })
 }
 
-#[tactic(auto, unfolding(jc_facts::specs::ClassSteps::class_of))]
+#[tactic(auto, unfolding(jc_facts::specs::file::ClassSteps::class_of))]
 fn read(alloc: Global, bytes: &[u8]) -> Result<Result<ClassFacts, Fault>, AllocError>
     ensures { IfOk result (λ r. r ≡ class_of bytes.now) }
 {
@@ -167,6 +167,3 @@ pub fn read_class(alloc: Global, bytes: &[u8]) -> Result<ClassFacts, ReadError>
         Err(_) => Err(ReadError::Memory),
     }
 }
-
-#[cfg(test)]
-mod tests;

@@ -6,15 +6,15 @@ use Rattle.jc_facts.specs.declared.client.Item.{Item}
 use Rattle.jc_facts.specs.declared.blueprint.Slot.{Slot}
 use Rattle.jc_facts.specs.declared.blueprint.Step.{Step}
 use Rattle.jc_facts.specs.declared.blueprint.Step.TheVariants as steps
-use Rattle.jc_facts.specs.Attributes.{◌|>>◌}
+use Rattle.jc_facts.specs.file.Attributes.{◌|>>◌}
 use Rattle.jc_facts.specs.Names.{Bytes}
-use Rattle.jc_facts.specs.PoolEntries.{Entry}
-use Rattle.jc_facts.specs.Bodies.{step_bytes, steps_bytes}
-use Rattle.jc_facts.specs.Code.{Around, operand, used}
-use Rattle.jc_facts.specs.Lengths.{instruction_len}
-use Rattle.jc_facts.specs.Typing.{Kind, Frame, Instruction, run, decode, step_at, is_return, is_nil, typed_at, Kinds, method_kinds, start_of, typed_code}
-use Rattle.jc_facts.specs.TypedSteps.{instruction_of, typed_steps, step_len, returned}
-use Rattle.jc_facts.specs.Bodies.{return_opcode}
+use Rattle.jc_facts.specs.written.PoolEntries.{PoolEntry}
+use Rattle.jc_facts.specs.written.Bodies.{step_bytes, steps_bytes}
+use Rattle.jc_facts.specs.code.Code.{Around, operand, used}
+use Rattle.jc_facts.specs.code.Lengths.{instruction_length}
+use Rattle.jc_facts.specs.code.Typing.{Kind, Frame, Instruction, run, decode, step_at, is_return, is_nil, typed_at, Kinds, method_kinds, start_of, typed_code}
+use Rattle.jc_facts.specs.written.TypedSteps.{instruction_of, typed_steps, step_len, returned}
+use Rattle.jc_facts.specs.written.Bodies.{opcode_of_return}
 use Rattle.jc_facts.specs.declared.blueprint.Slot.TheVariants as kinds
 use Rattle.std.proofs.Common.{cond, nat_lt}
 
@@ -24,7 +24,7 @@ pub record IsStepRead (a : Around) (pc : ℕ) (s : Step) (bytes : Bytes) : Type 
   pub tail : Bytes
   pub whole : bytes ≡ op ∷ tail
   pub no_return : is_return op ≡ false
-  pub len : (rest : Bytes) → instruction_len pc op (tail ++ rest) ≡ Ok (suc (length tail))
+  pub len : (rest : Bytes) → instruction_length pc op (tail ++ rest) ≡ Ok (suc (length tail))
   pub used_is : (rest : Bytes) → is_some (used a op (operand op (tail ++ rest))) ≡ true
   pub decoded : (rest : Bytes) → decode a op (get_or (tail ++ rest) 0 0) (operand op (tail ++ rest)) ≡ instruction_of s
 
@@ -79,38 +79,38 @@ typed_step a due n pc f s bytes rest r =
 
 -- ---- all steps
 
-abbrev pub HasRead : Around → List Entry → Step → Type 0
+abbrev pub HasRead : Around → List PoolEntry → Step → Type 0
 HasRead a pool s = (pc : ℕ) → IsStepRead a pc s (step_bytes pool s)
 
 -- each step that isn't a return is read
-abbrev pub AreRead : Around → List Entry → List Step → Type 0
+abbrev pub AreRead : Around → List PoolEntry → List Step → Type 0
 AreRead a pool [] = Unit {0}
 AreRead a pool (steps.Return r ∷ ss) = AreRead a pool ss
 AreRead a pool (s ∷ ss) = HasRead a pool s × AreRead a pool ss
 
 -- whatever the pool
-same_len : (pool : List Entry) (s : Step) → length (step_bytes pool s) ≡ step_len s
+same_len : (pool : List PoolEntry) (s : Step) → length (step_bytes pool s) ≡ step_len s
 same_len pool (steps.Load s i) = refl
 same_len pool _ = refl
 
-abbrev Typed : Around → Option Kind → List Entry → List Step → Type 0
+abbrev Typed : Around → Option Kind → List PoolEntry → List Step → Type 0
 Typed a due pool ss = (n pc : ℕ) (f : Frame) → length (steps_bytes pool ss) ≤ n → typed_at a due n pc f (steps_bytes pool ss) ≡ typed_steps a due pc f ss
 
 abbrev pub next_steps : Around → Option Kind → ℕ → List Step → Ran → Rest
 next_steps a due pc ss one = joined_items one.0 (typed_steps a due pc one.1 ss)
 
-behind : (a : Around) (due : Option Kind) (pool : List Entry) (ss : List Step) (n pc len k : ℕ) → len ≡ k → length (steps_bytes pool ss) ≤ n → Typed a due pool ss → (o : Option Ran)
+behind : (a : Around) (due : Option Kind) (pool : List PoolEntry) (ss : List Step) (n pc len k : ℕ) → len ≡ k → length (steps_bytes pool ss) ≤ n → Typed a due pool ss → (o : Option Ran)
     → (o |>> go_after a due n pc len (steps_bytes pool ss)) ≡ (o |>> next_steps a due (pc + k) ss)
 behind a due pool ss n pc len k e l ih None = refl
 behind a due pool ss n pc len k e l ih (Some one) =
     ap (λ (m : ℕ). joined_items one.0 (typed_at a due n (pc + m) one.1 (steps_bytes pool ss))) e ∙ ap (λ (o : Rest). joined_items one.0 o) (ih n (pc + k) one.1 l)
 
-of_instruction : (a : Around) (due : Option Kind) (pool : List Entry) (ss : List Step) (n pc len k : ℕ) (f : Frame) → len ≡ k → length (steps_bytes pool ss) ≤ n → Typed a due pool ss → (i : Option Instruction)
+of_instruction : (a : Around) (due : Option Kind) (pool : List PoolEntry) (ss : List Step) (n pc len k : ℕ) (f : Frame) → len ≡ k → length (steps_bytes pool ss) ≤ n → Typed a due pool ss → (i : Option Instruction)
     → (i |>> λ j. run a pc j f |>> go_after a due n pc len (steps_bytes pool ss)) ≡ (i |>> λ j. run a pc j f |>> next_steps a due (pc + k) ss)
 of_instruction a due pool ss n pc len k f e l ih None = refl
 of_instruction a due pool ss n pc len k f e l ih (Some j) = behind a due pool ss n pc len k e l ih (run a pc j f)
 
-typed_one : (a : Around) (due : Option Kind) (pool : List Entry) (s : Step) (ss : List Step) → HasRead a pool s → Typed a due pool ss → (n pc : ℕ) (f : Frame) → length (step_bytes pool s ++ steps_bytes pool ss) ≤ n
+typed_one : (a : Around) (due : Option Kind) (pool : List PoolEntry) (s : Step) (ss : List Step) → HasRead a pool s → Typed a due pool ss → (n pc : ℕ) (f : Frame) → length (step_bytes pool s ++ steps_bytes pool ss) ≤ n
     → typed_at a due n pc f (step_bytes pool s ++ steps_bytes pool ss) ≡ (instruction_of s |>> λ j. run a pc j f |>> next_steps a due (pc + step_len s) ss)
 typed_one a due pool s ss h ih zero pc f l =
     let r = h pc in
@@ -129,7 +129,7 @@ typed_one a due pool s ss h ih (suc n) pc f l =
 
 -- ---- returns
 
-is_a_return : (r : Option Slot) → is_return (return_opcode r) ≡ true
+is_a_return : (r : Option Slot) → is_return (opcode_of_return r) ≡ true
 is_a_return None = refl
 is_a_return (Some kinds.Int) = refl
 is_a_return (Some kinds.Long) = refl
@@ -143,12 +143,12 @@ not_nil true (b ∷ bs) y more h k = refl
 not_nil false x [] more h k = absurd cc
 not_nil false x (b ∷ bs) more h k = refl
 
-pub has_bytes : (pool : List Entry) (s : Step) (more : Bytes) → is_nil (step_bytes pool s ++ more) ≡ false
+pub has_bytes : (pool : List PoolEntry) (s : Step) (more : Bytes) → is_nil (step_bytes pool s ++ more) ≡ false
 has_bytes pool (steps.Load s i) more = not_nil (nat_lt i 4) _ _ more refl refl
 has_bytes pool _ more = refl
 
-typed_return : (a : Around) (due : Option Kind) (pool : List Entry) (r : Option Slot) (ss : List Step) (n pc : ℕ) (f : Frame) → suc (length (steps_bytes pool ss)) ≤ n
-    → typed_at a due n pc f (return_opcode r ∷ steps_bytes pool ss) ≡ returned a due f r ss
+typed_return : (a : Around) (due : Option Kind) (pool : List PoolEntry) (r : Option Slot) (ss : List Step) (n pc : ℕ) (f : Frame) → suc (length (steps_bytes pool ss)) ≤ n
+    → typed_at a due n pc f (opcode_of_return r ∷ steps_bytes pool ss) ≡ returned a due f r ss
 unfolding typed_at
 typed_return a due pool r ss zero pc f l = absurd (omega (arith, l))
 typed_return a due pool r [] (suc n) pc f l = rw (is_a_return r) refl
@@ -159,7 +159,7 @@ unfolding typed_at
 none_typed a due zero pc f = refl
 none_typed a due (suc n) pc f = refl
 
-pub typed_all : (a : Around) (due : Option Kind) (pool : List Entry) (ss : List Step) → AreRead a pool ss → Typed a due pool ss
+pub typed_all : (a : Around) (due : Option Kind) (pool : List PoolEntry) (ss : List Step) → AreRead a pool ss → Typed a due pool ss
 unfolding typed_steps
 typed_all a due pool [] h = λ n pc f l. none_typed a due n pc f
 typed_all a due pool (steps.Return r ∷ ss) h = λ n pc f l. typed_return a due pool r ss n pc f l
@@ -167,10 +167,10 @@ typed_all a due pool (s ∷ ss) h = typed_one a due pool s ss h.0 (typed_all a d
 
 -- ---- the whole code
 
-from_start : (a : Around) (pool : List Entry) (ss : List Step) → AreRead a pool ss → (o : Option Kinds) → (o |>> λ m. typed_at a m.result (length (steps_bytes pool ss)) 0 (start_of a m.params) (steps_bytes pool ss)) ≡ (o |>> λ m. typed_steps a m.result 0 (start_of a m.params) ss)
+from_start : (a : Around) (pool : List PoolEntry) (ss : List Step) → AreRead a pool ss → (o : Option Kinds) → (o |>> λ m. typed_at a m.result (length (steps_bytes pool ss)) 0 (start_of a m.params) (steps_bytes pool ss)) ≡ (o |>> λ m. typed_steps a m.result 0 (start_of a m.params) ss)
 from_start a pool ss h None = refl
 from_start a pool ss h (Some m) = typed_all a m.result pool ss h (length (steps_bytes pool ss)) 0 (start_of a m.params) (omega arith)
 
-pub code_types : (a : Around) (pool : List Entry) (ss : List Step) → AreRead a pool ss → typed_code a (record { start = 8; bytes = steps_bytes pool ss; catches = [] }) ≡ (method_kinds a.descriptor |>> λ m. typed_steps a m.result 0 (start_of a m.params) ss)
+pub code_types : (a : Around) (pool : List PoolEntry) (ss : List Step) → AreRead a pool ss → typed_code a (record { start = 8; bytes = steps_bytes pool ss; catches = [] }) ≡ (method_kinds a.descriptor |>> λ m. typed_steps a m.result 0 (start_of a m.params) ss)
 unfolding typed_code
 code_types a pool ss h = from_start a pool ss h (method_kinds a.descriptor)

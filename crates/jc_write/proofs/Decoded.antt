@@ -4,26 +4,26 @@ use Rattle.std.specs.Prelude.{is_some, not}
 use Rattle.std.proofs.lemmas.Bool.{le-ltb, not-true}
 use Rattle.byteorder.specs.Endian.{big_number}
 use Rattle.byteorder.specs.Numbers.{big_number-reads_back}
-use Rattle.jc_desc.specs.Names.{is_init}
+use Rattle.jc_desc.specs.Names.{is_init_name}
 use Rattle.jc_desc.specs.PoolAnswers.{member_ref_in}
 use Rattle.jc_facts.specs.declared.act.Act.{Act}
 use Rattle.jc_facts.specs.declared.act.Act.TheVariants as acts
-use Rattle.jc_facts.specs.Attributes.{is_bracketed}
+use Rattle.jc_facts.specs.file.Attributes.{is_array_name}
 use Rattle.jc_facts.specs.Names.{Bytes}
-use Rattle.jc_facts.specs.PoolEntries.{two}
-use Rattle.jc_facts.specs.Bodies.{act_tag, act_opcode}
-use Rattle.jc_facts.specs.Code.{Around, operand, used}
-use Rattle.jc_facts.specs.Lengths.{instruction_len, fixed_len, fit_len}
-use Rattle.jc_facts.specs.Typing.{uses, decode, entry_instruction}
-use Rattle.jc_facts.specs.TypedSteps.{reference}
+use Rattle.jc_facts.specs.written.PoolEntries.{two}
+use Rattle.jc_facts.specs.written.Bodies.{tag_of_act, opcode_of_act}
+use Rattle.jc_facts.specs.code.Code.{Around, operand, used}
+use Rattle.jc_facts.specs.code.Lengths.{instruction_length, known_length, length_within}
+use Rattle.jc_facts.specs.code.Typing.{uses, decode, entry_instruction}
+use Rattle.jc_facts.specs.written.TypedSteps.{reference}
 
 -- ---- lengths
 
-long_enough : (all n : ℕ) → n ≤ all → fit_len all (Ok n) ≡ Ok n
+long_enough : (all n : ℕ) → n ≤ all → length_within all (Ok n) ≡ Ok n
 long_enough all n h = let l : nat_lt all n ≡ false = le-ltb _ _ h in rw l refl
 
-pub fixed : (pc op n : ℕ) (rest : Bytes) → fixed_len op ≡ n → nat_eq n 0 ≡ false → n ≤ suc (length rest) → instruction_len pc op rest ≡ Ok n
-unfolding instruction_len
+pub fixed : (pc op n : ℕ) (rest : Bytes) → known_length op ≡ n → nat_eq n 0 ≡ false → n ≤ suc (length rest) → instruction_length pc op rest ≡ Ok n
+unfolding instruction_length
 fixed pc op n rest e z h = rw (e, z) (long_enough (suc (length rest)) n h)
 
 -- ---- operands
@@ -63,34 +63,34 @@ is_named acts.GetStatic n = true
 is_named acts.PutStatic n = true
 is_named acts.GetField n = true
 is_named acts.PutField n = true
-is_named a n = not (is_init n)
+is_named a n = not (is_init_name n)
 
-pub member_decoded : (a : Around) (what : Act) (near i : ℕ) (c n d : Bytes) → is_used what ≡ true → member_ref_in a.pool i ≡ Some (reference (act_tag what) c n d) → is_bracketed c ≡ false → is_named what n ≡ true
-    → decode a (act_opcode what) near i ≡ Some (uses what (reference (act_tag what) c n d))
+pub member_decoded : (a : Around) (what : Act) (near i : ℕ) (c n d : Bytes) → is_used what ≡ true → member_ref_in a.pool i ≡ Some (reference (tag_of_act what) c n d) → is_array_name c ≡ false → is_named what n ≡ true
+    → decode a (opcode_of_act what) near i ≡ Some (uses what (reference (tag_of_act what) c n d))
 unfolding decode entry_instruction
 member_decoded a acts.GetStatic near i c n d u h b e = rw (h, b) refl
 member_decoded a acts.PutStatic near i c n d u h b e = rw (h, b) refl
 member_decoded a acts.GetField near i c n d u h b e = rw (h, b) refl
 member_decoded a acts.PutField near i c n d u h b e = rw (h, b) refl
 member_decoded a acts.InvokeVirtual near i c n d u h b e = rw (h, b) refl
-member_decoded a acts.InvokeSpecial near i c n d u h b e = let f = not-true (is_init n) e in rw (h, b, f) refl
-member_decoded a acts.InvokeSpecialInterface near i c n d u h b e = let f = not-true (is_init n) e in rw (h, b, f) refl
+member_decoded a acts.InvokeSpecial near i c n d u h b e = let f = not-true (is_init_name n) e in rw (h, b, f) refl
+member_decoded a acts.InvokeSpecialInterface near i c n d u h b e = let f = not-true (is_init_name n) e in rw (h, b, f) refl
 member_decoded a acts.InvokeStatic near i c n d u h b e = rw (h, b) refl
 member_decoded a acts.InvokeStaticInterface near i c n d u h b e = rw (h, b) refl
 member_decoded a acts.InvokeInterface near i c n d u h b e = rw (h, b) refl
 member_decoded a _ near i c n d u h b e = absurd cc
 
 -- the scan refuses none of them
-pub member_used : (a : Around) (what : Act) (i : ℕ) (c n d : Bytes) → is_used what ≡ true → member_ref_in a.pool i ≡ Some (reference (act_tag what) c n d) → is_named what n ≡ true → is_some (used a (act_opcode what) i) ≡ true
+pub member_used : (a : Around) (what : Act) (i : ℕ) (c n d : Bytes) → is_used what ≡ true → member_ref_in a.pool i ≡ Some (reference (tag_of_act what) c n d) → is_named what n ≡ true → is_some (used a (opcode_of_act what) i) ≡ true
 unfolding used
 member_used a acts.GetStatic i c n d u h e = rw h refl
 member_used a acts.PutStatic i c n d u h e = rw h refl
 member_used a acts.GetField i c n d u h e = rw h refl
 member_used a acts.PutField i c n d u h e = rw h refl
-member_used a acts.InvokeVirtual i c n d u h e = let f = not-true (is_init n) e in rw (h, f) refl
+member_used a acts.InvokeVirtual i c n d u h e = let f = not-true (is_init_name n) e in rw (h, f) refl
 member_used a acts.InvokeSpecial i c n d u h e = rw h refl
 member_used a acts.InvokeSpecialInterface i c n d u h e = rw h refl
-member_used a acts.InvokeStatic i c n d u h e = let f = not-true (is_init n) e in rw (h, f) refl
+member_used a acts.InvokeStatic i c n d u h e = let f = not-true (is_init_name n) e in rw (h, f) refl
 member_used a acts.InvokeStaticInterface i c n d u h e = rw h refl
 member_used a acts.InvokeInterface i c n d u h e = rw h refl
 member_used a _ i c n d u h e = absurd cc

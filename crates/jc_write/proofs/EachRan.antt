@@ -1,6 +1,6 @@
 -- What holds of the value of an option, where it has one: of what an instruction gives, by the steps that lead to it.
 use Rattle.std.proofs.Common.{◌≡◌, Bool, true, false, cond, Option, Some, None, refl, subst}
-use Rattle.jc_facts.specs.Attributes.{◌|>>◌}
+use Rattle.jc_facts.specs.file.Attributes.{◌|>>◌}
 
 pub record Each {A : Type 0} (P : A → Type 0) (o : Option A) : Type 0 where
   pub holds : (x : A) → o ≡ Some x → P x

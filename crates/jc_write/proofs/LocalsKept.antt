@@ -7,10 +7,10 @@ use Rattle.jc_facts.specs.declared.act.Act.TheVariants as acts
 use Rattle.jc_facts.specs.declared.client.Item.{Item}
 use Rattle.jc_facts.specs.declared.blueprint.Step.{Step}
 use Rattle.jc_facts.specs.declared.blueprint.Step.TheVariants as steps
-use Rattle.jc_facts.specs.Attributes.{is_bracketed}
-use Rattle.jc_facts.specs.Code.{Around}
-use Rattle.jc_facts.specs.Typing.{Kind, empty, takes_two, fit, fit_all, receiver, pop, taken, method_kinds, field_kind, go, initialized, Frame, of_number, load, push, pop_one, pop_two, dup, cast, get_static, put_static, get_field, put_field, call_static, call, construct, act_on, all_made, made, Instruction, nothing, pushes, loads_class, loads, stores, pops, pops_two, dups, makes, casts, tests, uses, constructs, run}
-use Rattle.jc_facts.specs.TypedSteps.{instruction_of}
+use Rattle.jc_facts.specs.file.Attributes.{is_array_name}
+use Rattle.jc_facts.specs.code.Code.{Around}
+use Rattle.jc_facts.specs.code.Typing.{Kind, empty, takes_two, fit, fit_all, receiver, pop, taken, method_kinds, field_kind, go, initialized, Frame, of_number, load, push, pop_one, pop_two, dup, cast, get_static, put_static, get_field, put_field, call_static, call, construct, act_on, all_made, made, Instruction, nothing, pushes, loads_class, loads, stores, pops, pops_two, dups, makes, casts, tests, uses, constructs, run}
+use Rattle.jc_facts.specs.written.TypedSteps.{instruction_of}
 use Rattle.jc_write.proofs.CodeTyped.{Ran}
 use Rattle.jc_write.proofs.EachRan.{Each, nowhere, there, then, either}
 
@@ -118,8 +118,8 @@ no_store steps.Dup i e = plain_no_store false dups i refl e
 no_store steps.Pop i e = plain_no_store false pops i refl e
 no_store steps.Pop2 i e = plain_no_store false pops_two i refl e
 no_store (steps.Cast c) i e = plain_no_store false (casts c) i refl e
-no_store (steps.Member w c k) i e = plain_no_store (is_bracketed c) (uses w _) i refl e
-no_store (steps.Construct c d) i e = plain_no_store (is_bracketed c) (constructs _) i refl e
+no_store (steps.Member w c k) i e = plain_no_store (is_array_name c) (uses w _) i refl e
+no_store (steps.Construct c d) i e = plain_no_store (is_array_name c) (constructs _) i refl e
 no_store (steps.Return r) i e = absurd cc
 
 pub ran_keeps : (a : Around) (pc : ℕ) (i : Instruction) (f : Frame) (one : Ran) → is_store i ≡ false → run a pc i f ≡ Some one → length one.1.locals ≡ length f.locals

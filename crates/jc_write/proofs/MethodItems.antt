@@ -12,21 +12,21 @@ use Rattle.jc_facts.specs.declared.blueprint.Step.{Step}
 use Rattle.jc_facts.specs.declared.class_facts.ClassFacts.{ClassFacts}
 use Rattle.jc_facts.specs.declared.class_facts.Member.{Member}
 use Rattle.jc_facts.specs.declared.client.Item.{Item}
-use Rattle.jc_facts.specs.Flags.{is_static}
+use Rattle.jc_facts.specs.Flags.{static_flag}
 use Rattle.jc_facts.specs.Names.{Bytes}
-use Rattle.jc_facts.specs.Rules.{slots_fit}
-use Rattle.jc_facts.specs.Attributes.{◌|>>◌, CodeOf}
-use Rattle.jc_facts.specs.ClassParts.{Attribute, ClassHead}
-use Rattle.jc_facts.specs.ClassSteps.{member_head_at}
+use Rattle.jc_facts.specs.file.Rules.{slots_fit_in}
+use Rattle.jc_facts.specs.file.Attributes.{◌|>>◌, CodeOf}
+use Rattle.jc_facts.specs.file.ClassParts.{Attribute, ClassHead}
+use Rattle.jc_facts.specs.file.ClassSteps.{member_head_from}
 use Rattle.jc_desc.specs.Faults.{number_at}
-use Rattle.jc_facts.specs.ClientItems.{around, layout_of, items_of_code, code_items, attributes_items, attribute_items, method_items, methods_items}
-use Rattle.jc_facts.specs.Code.{catches_at}
-use Rattle.jc_facts.specs.PoolEntries.{two, counted, Entry, text, has, is_good}
-use Rattle.jc_facts.specs.Bodies.{steps_bytes, most_places, steps_needs}
-use Rattle.jc_facts.specs.Written.{member_head, code_name, code_body, method_attributes, method_bytes, methods_bytes, attribute_bytes, body_needs, methods_needs, are_short, body_fits, bodies_fit, count_fits, body_good}
-use Rattle.jc_facts.specs.Typing.{Kinds, method_kinds, start_of, typed_code, is_nil}
-use Rattle.jc_facts.specs.TypedSteps.{typed_steps}
-use Rattle.jc_facts.specs.TypedItems.{around_method, typed_body, or_nothing, body_items, bodies_items, is_callable_step, body_typed, bodies_typed}
+use Rattle.jc_facts.specs.code.ClientItems.{around, layout_of, items_of_code, code_items, attributes_items, attribute_items, method_items, methods_items}
+use Rattle.jc_facts.specs.code.Code.{catches_at}
+use Rattle.jc_facts.specs.written.PoolEntries.{two, counted, PoolEntry, text, has, is_good}
+use Rattle.jc_facts.specs.written.Bodies.{steps_bytes, places_at_most, steps_needs}
+use Rattle.jc_facts.specs.written.Written.{member_head, code_name, body_of_code, method_attributes, method_bytes, methods_bytes, attribute_bytes, body_needs, methods_needs, are_short, fits_body, fits_bodies, fits_count, body_is_good}
+use Rattle.jc_facts.specs.code.Typing.{Kinds, method_kinds, start_of, typed_code, is_nil}
+use Rattle.jc_facts.specs.written.TypedSteps.{typed_steps}
+use Rattle.jc_facts.specs.written.TypedItems.{around_method, typed_body, or_nothing, body_items, bodies_items, is_callable_step, body_typed, bodies_typed}
 use Rattle.jc_facts.proofs.AttributeLists.{attribute_read}
 use Rattle.jc_facts.proofs.ClassMembers.{head_read}
 use Rattle.jc_facts.proofs.Front.{number_read}
@@ -55,7 +55,7 @@ with_kinds : (p : PoolOf) (c : ClassFacts) (m : Member) (ss : List Step) (o : Op
 with_kinds p c m ss None found e = absurd cc
 with_kinds p c m ss (Some k) found e = (k, refl, same_steps p c m k.result ss 0 (start_of (within p c m) k.params) ∙ e)
 
-some_steps : (p : PoolOf) (c : ClassFacts) (m : Member) (k : Kinds) (pool : List Entry) (ss : List Step) (found : List Item) → typed_steps (within p c m) k.result 0 (start_of (within p c m) k.params) ss ≡ Some found → 1 ≤ length (steps_bytes pool ss)
+some_steps : (p : PoolOf) (c : ClassFacts) (m : Member) (k : Kinds) (pool : List PoolEntry) (ss : List Step) (found : List Item) → typed_steps (within p c m) k.result 0 (start_of (within p c m) k.params) ss ≡ Some found → 1 ≤ length (steps_bytes pool ss)
 unfolding typed_steps
 some_steps p c m k pool [] found e = absurd cc
 some_steps p c m k pool (s ∷ ss) found e = not_empty (steps_bytes pool (s ∷ ss)) (has_bytes pool s (steps_bytes pool ss)) where
@@ -67,24 +67,24 @@ is_some_from : (o : Option (List Item)) (found : List Item) → o ≡ Some found
 is_some_from o found e = rw e refl
 
 -- what is known of a method with a body
-pub record IsBody (pool : List Entry) (p : PoolOf) (c : ClassFacts) (m : Member) (body : Body) : Type 0 where
+pub record IsBody (pool : List PoolEntry) (p : PoolOf) (c : ClassFacts) (m : Member) (body : Body) : Type 0 where
   pub answers : Answers pool p
-  pub slots : slots_fit (not (is_static m.flags)) (slots_of_method m.descriptor) ≡ true
+  pub slots : slots_fit_in (not (static_flag m.flags)) (slots_of_method m.descriptor) ≡ true
   pub needs : list_all (has pool) (steps_needs body.steps) ≡ true
   pub good : list_all is_good (steps_needs body.steps) ≡ true
   pub callable : list_all is_callable_step body.steps ≡ true
   pub code_fits : length (steps_bytes pool body.steps) ≤ 65535
-  pub stack_fits : most_places body.steps ≤ 65535
+  pub stack_fits : places_at_most body.steps ≤ 65535
 
-abbrev the_code : List Entry → Body → CodeOf
+abbrev the_code : List PoolEntry → Body → CodeOf
 the_code pool body = record { start = 8; bytes = steps_bytes pool body.steps; catches = [] }
 
-body_read : (pool : List Entry) (p : PoolOf) (c : ClassFacts) (m : Member) (body : Body) (found : List Item) → IsBody pool p c m body → (k : Kinds) → method_kinds m.descriptor ≡ Some k
+body_read : (pool : List PoolEntry) (p : PoolOf) (c : ClassFacts) (m : Member) (body : Body) (found : List Item) → IsBody pool p c m body → (k : Kinds) → method_kinds m.descriptor ≡ Some k
     → typed_steps (within p c m) k.result 0 (start_of (within p c m) k.params) body.steps ≡ Some found → AreRead (within p c m) pool body.steps
 body_read pool p c m body found h k d t =
     steps_read (within p c m) pool h.answers k.result body.steps h.needs h.good h.callable 0 (start_of (within p c m) k.params) (start_places (within p c m) k d h.slots) (is_some_from _ found t)
 
-laid_out : (pool : List Entry) (p : PoolOf) (c : ClassFacts) (m : Member) (body : Body) → IsBody pool p c m body → 1 ≤ length (steps_bytes pool body.steps) → layout_of (code_body pool m body) ≡ Some (the_code pool body)
+laid_out : (pool : List PoolEntry) (p : PoolOf) (c : ClassFacts) (m : Member) (body : Body) → IsBody pool p c m body → 1 ≤ length (steps_bytes pool body.steps) → layout_of (body_of_code pool m body) ≡ Some (the_code pool body)
 unfolding layout_of
 laid_out pool p c m body h l =
     let places = few_places m h.slots in
@@ -92,8 +92,8 @@ laid_out pool p c m body h l =
     let b : nat_le (length (steps_bytes pool body.steps)) 65535 ≡ true = le-leb _ _ h.code_fits in
     rw (code_again pool m body (omega (arith, h.stack_fits)) (omega (arith, places)) (omega (arith, h.code_fits)), a, b) refl
 
-code_found : (pool : List Entry) (p : PoolOf) (c : ClassFacts) (m : Member) (body : Body) (left : ℕ) (found : List Item) → IsBody pool p c m body → typed_body c m body ≡ Some found
-    → code_items (within p c m) false left (code_body pool m body) ≡ Ok found
+code_found : (pool : List PoolEntry) (p : PoolOf) (c : ClassFacts) (m : Member) (body : Body) (left : ℕ) (found : List Item) → IsBody pool p c m body → typed_body c m body ≡ Some found
+    → code_items (within p c m) false left (body_of_code pool m body) ≡ Ok found
 unfolding code_items items_of_code typed_body catches_at
 code_found pool p c m body left found h t =
     let k = with_kinds p c m body.steps (method_kinds m.descriptor) found t in
@@ -105,20 +105,20 @@ code_found pool p c m body left found h t =
 
 -- ---- a method
 
-abbrev code_attribute : List Entry → Member → Body → Attribute
-code_attribute pool m body = record { name = code_name; body = code_body pool m body }
+abbrev code_attribute : List PoolEntry → Member → Body → Attribute
+code_attribute pool m body = record { name = code_name; body = body_of_code pool m body }
 
-code_attributes : (pool : List Entry) (p : PoolOf) (c : ClassFacts) (m : Member) (body : Body) (found : List Item) (rest : Bytes) → IsBody pool p c m body → has pool (text code_name) ≡ true → typed_body c m body ≡ Some found
+code_attributes : (pool : List PoolEntry) (p : PoolOf) (c : ClassFacts) (m : Member) (body : Body) (found : List Item) (rest : Bytes) → IsBody pool p c m body → has pool (text code_name) ≡ true → typed_body c m body ≡ Some found
     → attributes_items (within p c m) false 1 (attribute_bytes pool (code_attribute pool m body) ++ rest) ≡ Ok (found, rest)
 unfolding attributes_items attribute_items
 code_attributes pool p c m body found rest h n t =
-    let short : nat_lt (length (code_body pool m body)) 4294967296 ≡ true = lt-ltb _ _ (code_short pool m body h.code_fits) in
+    let short : nat_lt (length (body_of_code pool m body)) 4294967296 ≡ true = lt-ltb _ _ (code_short pool m body h.code_fits) in
     let stands = attribute_stands pool p h.answers (code_attribute pool m body) rest (and_from (has pool (text code_name)) _ n short) in
     let e = attribute_read p (attribute_bytes pool (code_attribute pool m body) ++ rest) (code_attribute pool m body) rest stands in
     rw (e, code_found pool p c m body (length (attribute_bytes pool (code_attribute pool m body) ++ rest)) found h t) (ap (λ (xs : List Item). Ok (xs, rest)) (append-nil found))
 
-attributes_found : (pool : List Entry) (p : PoolOf) (w : Answers pool p) (c : ClassFacts) (m : Member) (b : Option Body) (rest : Bytes) → slots_fit (not (is_static m.flags)) (slots_of_method m.descriptor) ≡ true
-    → list_all (has pool) (body_needs b) ≡ true → body_fits pool b ≡ true → body_good b ≡ true → body_typed c m b ≡ true
+attributes_found : (pool : List PoolEntry) (p : PoolOf) (w : Answers pool p) (c : ClassFacts) (m : Member) (b : Option Body) (rest : Bytes) → slots_fit_in (not (static_flag m.flags)) (slots_of_method m.descriptor) ≡ true
+    → list_all (has pool) (body_needs b) ≡ true → fits_body pool b ≡ true → body_is_good b ≡ true → body_typed c m b ≡ true
     → (number : ℕ) × (after : Bytes) × (counted (attribute_bytes pool) (method_attributes pool m b) ++ rest ≡ two number ++ after) × (number < 65536) × (attributes_items (within p c m) false number after ≡ Ok (body_items c m b, rest))
 unfolding attributes_items
 attributes_found pool p w c m None rest s n f g t = (0, rest, refl, omega arith, refl)
@@ -126,8 +126,8 @@ attributes_found pool p w c m (Some body) rest s n f g t = by_type (typed_body c
   needs : (has pool (text code_name) ≡ true) × (list_all (has pool) (steps_needs body.steps) ≡ true)
   needs = and_parts (has pool (text code_name)) (list_all (has pool) (steps_needs body.steps)) n
 
-  limits : (count_fits (length (steps_bytes pool body.steps)) ≡ true) × (count_fits (most_places body.steps) ≡ true)
-  limits = and_parts (count_fits (length (steps_bytes pool body.steps))) (count_fits (most_places body.steps)) f
+  limits : (fits_count (length (steps_bytes pool body.steps)) ≡ true) × (fits_count (places_at_most body.steps) ≡ true)
+  limits = and_parts (fits_count (length (steps_bytes pool body.steps))) (fits_count (places_at_most body.steps)) f
 
   typed : (is_some (typed_body c m body) ≡ true) × (list_all is_callable_step body.steps ≡ true)
   typed = and_parts (is_some (typed_body c m body)) (list_all is_callable_step body.steps) t
@@ -136,7 +136,7 @@ attributes_found pool p w c m (Some body) rest s n f g t = by_type (typed_body c
   is_body = record { answers = w; slots = s; needs = needs.1; good = g; callable = typed.1; code_fits = leb-true _ 65535 limits.0; stack_fits = leb-true _ 65535 limits.1 }
 
   at : Attribute
-  at = record { name = code_name; body = code_body pool m body }
+  at = record { name = code_name; body = body_of_code pool m body }
 
   by_type : (o : Option (List Item)) → typed_body c m body ≡ o → is_some o ≡ true
       → (number : ℕ) × (after : Bytes) × (counted (attribute_bytes pool) (method_attributes pool m (Some body)) ++ rest ≡ two number ++ after) × (number < 65536) × (attributes_items (within p c m) false number after ≡ Ok (or_nothing (typed_body c m body), rest))
@@ -149,27 +149,27 @@ attributes_found pool p w c m (Some body) rest s n f g t = by_type (typed_body c
     rw e (code_attributes pool p c m body found rest is_body needs.0 e),
   )
 
-method_parts : (p : PoolOf) (head : ClassHead) (bytes more after : Bytes) (m : Member) (n : ℕ) → member_head_at true p head.flags bytes ≡ Ok (m, more) → number_at 2 more ≡ Ok (n, after)
+method_parts : (p : PoolOf) (head : ClassHead) (bytes more after : Bytes) (m : Member) (n : ℕ) → member_head_from true p head.flags bytes ≡ Ok (m, more) → number_at 2 more ≡ Ok (n, after)
     → method_items p head None bytes ≡ attributes_items (around p head None m) false n after
 unfolding method_items
 method_parts p head bytes more after m n a b = rw (a, b) refl
 
-method_found : (pool : List Entry) (p : PoolOf) (w : Answers pool p) (c : ClassFacts) (m : Member) (b : Option Body) (rest : Bytes) → is_sound pool true p.major c.flags m ≡ true
-    → list_all (has pool) (body_needs b) ≡ true → body_fits pool b ≡ true → body_good b ≡ true → body_typed c m b ≡ true
+method_found : (pool : List PoolEntry) (p : PoolOf) (w : Answers pool p) (c : ClassFacts) (m : Member) (b : Option Body) (rest : Bytes) → is_sound pool true p.major c.flags m ≡ true
+    → list_all (has pool) (body_needs b) ≡ true → fits_body pool b ≡ true → body_is_good b ≡ true → body_typed c m b ≡ true
     → method_items p (head_of c) None (method_bytes pool m b ++ rest) ≡ Ok (body_items c m b, rest)
 method_found pool p w c m b rest h n f g t =
     let valid = and_parts (nat_lt m.flags 65536) (member_valid true p.major c.flags m) (and_parts (has pool (text m.name) && has pool (text m.descriptor)) (nat_lt m.flags 65536 && member_valid true p.major c.flags m) h).1 in
     let a = attributes_found pool p w c m b rest (valid_slots p.major c.flags m valid.1) n f g t in
     let more : Bytes = counted (attribute_bytes pool) (method_attributes pool m b) ++ rest in
     let e : method_bytes pool m b ++ rest ≡ member_head pool m ++ more = append_assoc (member_head pool m) (counted (attribute_bytes pool) (method_attributes pool m b)) rest in
-    let head = ap (λ (bs : Bytes). member_head_at true p c.flags bs) e ∙ head_read true p c.flags (member_head pool m ++ more) m more (head_stands pool p w true c.flags m more h) in
+    let head = ap (λ (bs : Bytes). member_head_from true p c.flags bs) e ∙ head_read true p c.flags (member_head pool m ++ more) m more (head_stands pool p w true c.flags m more h) in
     let number = ap (λ (bs : Bytes). number_at 2 bs) a.2 ∙ number_read 2 (two a.0 ++ a.1) a.0 a.1 (short_front a.0 a.1 a.3) in
     method_parts p (head_of c) (method_bytes pool m b ++ rest) more a.1 m a.0 head number ∙ a.4
 
 -- ---- all methods
 
-pub methods_found : (pool : List Entry) (p : PoolOf) (w : Answers pool p) (c : ClassFacts) (ms : List Member) (bs : List (Option Body)) (rest : Bytes) → length bs ≡ length ms → list_all (has pool) (methods_needs ms bs) ≡ true → are_short ms ≡ true
-    → list_all (member_valid true p.major c.flags) ms ≡ true → bodies_fit pool bs ≡ true → list_all body_good bs ≡ true → bodies_typed c ms bs ≡ true
+pub methods_found : (pool : List PoolEntry) (p : PoolOf) (w : Answers pool p) (c : ClassFacts) (ms : List Member) (bs : List (Option Body)) (rest : Bytes) → length bs ≡ length ms → list_all (has pool) (methods_needs ms bs) ≡ true → are_short ms ≡ true
+    → list_all (member_valid true p.major c.flags) ms ≡ true → fits_bodies pool bs ≡ true → list_all body_is_good bs ≡ true → bodies_typed c ms bs ≡ true
     → methods_items p (head_of c) None (length ms) (methods_bytes pool ms bs ++ rest) ≡ Ok (bodies_items c ms bs, rest)
 unfolding methods_items
 methods_found pool p w c [] bs rest l h s v f g t = refl
@@ -180,8 +180,8 @@ methods_found pool p w c (m ∷ ms) (b ∷ bs) rest l h s v f g t =
     let e = and_parts (list_all (has pool) (body_needs b)) (list_all (has pool) (methods_needs ms bs)) (sym (list_all-append (has pool) (body_needs b) (methods_needs ms bs)) ∙ a2.1) in
     let q = and_parts (nat_lt m.flags 65536) (are_short ms) s in
     let d = and_parts (member_valid true p.major c.flags m) (list_all (member_valid true p.major c.flags) ms) v in
-    let k = and_parts (body_fits pool b) (bodies_fit pool bs) f in
-    let o = and_parts (body_good b) (list_all body_good bs) g in
+    let k = and_parts (fits_body pool b) (fits_bodies pool bs) f in
+    let o = and_parts (body_is_good b) (list_all body_is_good bs) g in
     let y = and_parts (body_typed c m b) (bodies_typed c ms bs) t in
     let here : is_sound pool true p.major c.flags m ≡ true = rw (a1.0, a2.0, q.0, d.0) refl in
     let next : Bytes = methods_bytes pool ms bs ++ rest in

@@ -9,11 +9,11 @@ use Rattle.jc_facts.specs.declared.blueprint.Slot.{Slot}
 use Rattle.jc_facts.specs.declared.blueprint.Step.{Step}
 use Rattle.jc_facts.specs.declared.blueprint.Step.TheVariants as steps
 use Rattle.jc_desc.specs.PoolAnswers.{MemberRefOf}
-use Rattle.jc_facts.specs.Attributes.{◌|>>◌}
-use Rattle.jc_facts.specs.Code.{Around}
-use Rattle.jc_facts.specs.Typing.{Kind, Frame, get_static, put_static, get_field, put_field, call_static, call, construct, initialized, act_on, Instruction, uses, constructs, run, leave}
-use Rattle.jc_facts.specs.TypedSteps.{instruction_of, typed_steps, returned}
-use Rattle.jc_facts.specs.TypedItems.{around_method}
+use Rattle.jc_facts.specs.file.Attributes.{◌|>>◌}
+use Rattle.jc_facts.specs.code.Code.{Around}
+use Rattle.jc_facts.specs.code.Typing.{Kind, Frame, get_static, put_static, get_field, put_field, call_static, call, construct, initialized, act_on, Instruction, uses, constructs, run, leave}
+use Rattle.jc_facts.specs.written.TypedSteps.{instruction_of, typed_steps, returned}
+use Rattle.jc_facts.specs.written.TypedItems.{around_method}
 use Rattle.jc_write.proofs.CodeTyped.{Ran, Rest, next_steps}
 
 -- the same method, with this pool

@@ -3,8 +3,8 @@ use Rattle.std.proofs.Common.{◌≡◌, ℕ, suc, ◌+◌, ◌-◌, ◌*◌, �
 use Rattle.std.specs.Option.{option_map}
 use Rattle.std.proofs.lemmas.List.{length-append, take-append-drop}
 use Rattle.jc_desc.specs.PoolAnswers.{MemberRefOf}
-use Rattle.jc_desc.specs.Types.{Basic, TypeOf, Method, basic_slots, type_slots, slots_of, type_text, basic_text, brackets, types_text, result_text, byte, char, double as double_type, float as float_type, int as int_type, long as long_type, short, boolean, class}
-use Rattle.jc_desc.specs.Slots.{result_slots, returned_slots, field_slots}
+use Rattle.jc_desc.specs.Types.{Basic, TypeOf, Method, slots_of_basic, slots_of_type, slots_of, type_text, basic_text, brackets, types_text, result_text, byte, char, double as double_type, float as float_type, int as int_type, long as long_type, short, boolean, class}
+use Rattle.jc_desc.specs.Slots.{slots_of_result, slots_returned, slots_of_field}
 use Rattle.jc_desc.specs.Reading.{method_of, field_of, slots_of_method}
 use Rattle.jc_desc.proofs.Methods.{method_is}
 use Rattle.jc_facts.specs.declared.act.Act.{Act}
@@ -15,14 +15,14 @@ use Rattle.jc_facts.specs.declared.blueprint.Slot.{Slot}
 use Rattle.jc_facts.specs.declared.blueprint.Slot.TheVariants as kinds
 use Rattle.jc_facts.specs.declared.blueprint.Step.{Step}
 use Rattle.jc_facts.specs.declared.blueprint.Step.TheVariants as steps
-use Rattle.jc_facts.specs.Attributes.{is_bracketed, ◌|>>◌}
+use Rattle.jc_facts.specs.file.Attributes.{is_array_name, ◌|>>◌}
 use Rattle.jc_facts.specs.Names.{Bytes}
-use Rattle.jc_facts.specs.Code.{Around}
-use Rattle.jc_facts.specs.Bodies.{kind_number, kind_places, param_slots, after_static, after_call, after_act, after_step}
-use Rattle.jc_facts.specs.Typing.{Kind, int, long, float, double, null, ref, fresh, unset, empty, takes_two, Frame, kind_of, kinds_of, Kinds, places, places_of, fit, fit_all, receiver, popped, pop, taken, method_kinds, field_kind, of_number, go, load, pop_one, pop_two, dup, cast, get_static, put_static, get_field, put_field, call_static, call, with_result, initialized, construct, act_on, is_same_instance, made, all_made, Instruction, run}
-use Rattle.jc_facts.specs.TypedSteps.{instruction_of}
-use Rattle.jc_facts.specs.TypedItems.{stack_places}
-use Rattle.jc_facts.proofs.AttributeLists.{some_then}
+use Rattle.jc_facts.specs.code.Code.{Around}
+use Rattle.jc_facts.specs.written.Bodies.{number_of_kind, places_of_kind, slots_or_none, places_after_static, places_after_call, places_after_act, places_after_step}
+use Rattle.jc_facts.specs.code.Typing.{Kind, int, long, float, double, null, ref, fresh, unset, empty, takes_two, Frame, kind_of, kinds_of, Kinds, places, places_of, fit, fit_all, receiver, popped, pop, taken, method_kinds, field_kind, of_number, go, load, pop_one, pop_two, dup, cast, get_static, put_static, get_field, put_field, call_static, call, with_result, initialized, construct, act_on, is_same_instance, made, all_made, Instruction, run}
+use Rattle.jc_facts.specs.written.TypedSteps.{instruction_of}
+use Rattle.jc_facts.specs.written.TypedItems.{stack_places}
+use Rattle.jc_facts.proofs.Options.{some_then}
 use Rattle.jc_write.proofs.CodeTyped.{Ran}
 use Rattle.jc_write.proofs.EachRan.{Each, nowhere, there, then, either}
 use Rattle.jc_write.proofs.StartLocals.{kind_places as type_places, params_places}
@@ -125,7 +125,7 @@ initialized_size a m (fresh at c) i e = refl
 initialized_size a m unset i e = refl
 initialized_size a m _ i e = absurd cc
 
-loaded_size : (s : Slot) (k : Kind) → of_number (kind_number s) k ≡ true → wide k ≡ kind_places s
+loaded_size : (s : Slot) (k : Kind) → of_number (number_of_kind s) k ≡ true → wide k ≡ places_of_kind s
 loaded_size kinds.Int int e = refl
 loaded_size kinds.Long long e = refl
 loaded_size kinds.Float float e = refl
@@ -157,7 +157,7 @@ all_made_size from name (k ∷ ks) =
 
 -- ---- descriptors
 
-text_length : (t : TypeOf) → type_slots t ≤ 2 * length (type_text t)
+text_length : (t : TypeOf) → slots_of_type t ≤ 2 * length (type_text t)
 text_length t = let a = some t.base in let b = two (nat_eq t.dims 0) t.base in let c = length-append (brackets t.dims) (basic_text t.base) in omega (arith, a, b, c) where
   some : (x : Basic) → 1 ≤ length (basic_text x)
   some byte = omega arith
@@ -170,7 +170,7 @@ text_length t = let a = some t.base in let b = two (nat_eq t.dims 0) t.base in l
   some boolean = omega arith
   some (class name) = let q : 1 ≤ suc (length (name ++ 59 ∷ [])) = omega arith in q
 
-  two : (b : Bool) (x : Basic) → cond b (basic_slots x) 1 ≤ 2
+  two : (b : Bool) (x : Basic) → cond b (slots_of_basic x) 1 ≤ 2
   two false x = omega arith
   two true byte = omega arith
   two true char = omega arith
@@ -199,10 +199,10 @@ IsShort d = length d ≤ 65535
 
 -- what a descriptor's kinds and its slots are
 record AreSlots (d : Bytes) (k : Kinds) : Type 0 where
-  params : size k.params ≡ param_slots (slots_of_method d)
-  result : (stack : List Kind) → size (with_result k.result stack) ≡ size stack + returned_slots (method_of d)
+  params : size k.params ≡ slots_or_none (slots_of_method d)
+  result : (stack : List Kind) → size (with_result k.result stack) ≡ size stack + slots_returned (method_of d)
 
-result_size : (o : Option TypeOf) (stack : List Kind) → size (with_result (option_map kind_of o) stack) ≡ size stack + result_slots o
+result_size : (o : Option TypeOf) (stack : List Kind) → size (with_result (option_map kind_of o) stack) ≡ size stack + slots_of_result o
 result_size None stack = omega arith
 result_size (Some t) stack = size_one stack (kind_of t) ∙ ap (λ (n : ℕ). size stack + n) (type_places t)
 
@@ -218,12 +218,12 @@ method_slots d k h e = by_method (method_of d) refl e where
       let c : min (slots_of m.params) 4294967295 ≡ slots_of m.params = omega (arith, f, h) in
       subst (λ (z : Kinds). AreSlots d z) q (record { params = rw x (p ∙ sym c); result = λ stack. rw x (result_size m.result stack) })
 
-field_size : (d : Bytes) (k : Kind) → field_kind d ≡ Some k → wide k ≡ field_slots (field_of d)
+field_size : (d : Bytes) (k : Kind) → field_kind d ≡ Some k → wide k ≡ slots_of_field (field_of d)
 unfolding field_kind
 field_size d k e = by_field (field_of d) e where
-  by_field : (o : Option TypeOf) → option_map kind_of o ≡ Some k → wide k ≡ field_slots o
+  by_field : (o : Option TypeOf) → option_map kind_of o ≡ Some k → wide k ≡ slots_of_field o
   by_field None e = absurd cc
-  by_field (Some t) e = let q : kind_of t ≡ k = (let r : Some (kind_of t) ≡ Some k = e in cc) in subst (λ (z : Kind). wide z ≡ type_slots t) q (type_places t)
+  by_field (Some t) e = let q : kind_of t ≡ k = (let r : Some (kind_of t) ≡ Some k = e in cc) in subst (λ (z : Kind). wide z ≡ slots_of_type t) q (type_places t)
 
 -- ---- what instructions move
 
@@ -241,11 +241,11 @@ module _ (a : Around) (f : Frame) where
   pushed : (items : List Item) (k : Kind) → Moves (n + wide k) (go items (f.stack ++ k ∷ []) f.locals)
   pushed items k = goes (n + wide k) items (f.stack ++ k ∷ []) f.locals (size_one f.stack k)
 
-  load_moves : (s : Slot) (place : ℕ) → Moves (n + kind_places s) (load (kind_number s) place f)
+  load_moves : (s : Slot) (place : ℕ) → Moves (n + places_of_kind s) (load (number_of_kind s) place f)
   unfolding load
   load_moves s place =
       let k : Kind = get_or f.locals place empty in
-      either _ (of_number (kind_number s) k) _ _ (λ e. goes (n + kind_places s) [] (f.stack ++ k ∷ []) f.locals (size_one f.stack k ∙ ap (λ (m : ℕ). n + m) (loaded_size s k e))) (λ e. nowhere _)
+      either _ (of_number (number_of_kind s) k) _ _ (λ e. goes (n + places_of_kind s) [] (f.stack ++ k ∷ []) f.locals (size_one f.stack k ∙ ap (λ (m : ℕ). n + m) (loaded_size s k e))) (λ e. nowhere _)
 
   dup_moves : Moves (n + 1) (dup f)
   unfolding dup
@@ -288,22 +288,22 @@ module _ (a : Around) (f : Frame) where
       omega (arith, p, w, x)
       )))
 
-  get_static_moves : (m : MemberRefOf) → Moves (n + field_slots (field_of m.descriptor)) (get_static a m f)
+  get_static_moves : (m : MemberRefOf) → Moves (n + slots_of_field (field_of m.descriptor)) (get_static a m f)
   unfolding get_static
-  get_static_moves m = then _ (field_kind m.descriptor) _ (λ k e. goes (n + field_slots (field_of m.descriptor)) _ (f.stack ++ k ∷ []) f.locals (size_one f.stack k ∙ ap (λ (x : ℕ). n + x) (field_size m.descriptor k e)))
+  get_static_moves m = then _ (field_kind m.descriptor) _ (λ k e. goes (n + slots_of_field (field_of m.descriptor)) _ (f.stack ++ k ∷ []) f.locals (size_one f.stack k ∙ ap (λ (x : ℕ). n + x) (field_size m.descriptor k e)))
 
-  put_static_moves : (m : MemberRefOf) → Moves (n - field_slots (field_of m.descriptor)) (put_static a m f)
+  put_static_moves : (m : MemberRefOf) → Moves (n - slots_of_field (field_of m.descriptor)) (put_static a m f)
   unfolding put_static
-  put_static_moves m = then _ (field_kind m.descriptor) _ (λ k e. then _ (pop f.stack) _ (λ value d. then _ (fit value.0 k) _ (λ more c. goes (n - field_slots (field_of m.descriptor)) _ value.1 f.locals (
+  put_static_moves m = then _ (field_kind m.descriptor) _ (λ k e. then _ (pop f.stack) _ (λ value d. then _ (fit value.0 k) _ (λ more c. goes (n - slots_of_field (field_of m.descriptor)) _ value.1 f.locals (
       let p = pop_size f.stack value d in
       let w = fit_size value.0 k more c in
       let x = field_size m.descriptor k e in
       omega (arith, p, w, x)
       ))))
 
-  get_field_moves : (m : MemberRefOf) → Moves ((n - 1) + field_slots (field_of m.descriptor)) (get_field a m f)
+  get_field_moves : (m : MemberRefOf) → Moves ((n - 1) + slots_of_field (field_of m.descriptor)) (get_field a m f)
   unfolding get_field
-  get_field_moves m = then _ (field_kind m.descriptor) _ (λ k e. then _ (pop f.stack) _ (λ top d. then _ (receiver top.0) _ (λ r c. goes ((n - 1) + field_slots (field_of m.descriptor)) _ (top.1 ++ k ∷ []) f.locals (
+  get_field_moves m = then _ (field_kind m.descriptor) _ (λ k e. then _ (pop f.stack) _ (λ top d. then _ (receiver top.0) _ (λ r c. goes ((n - 1) + slots_of_field (field_of m.descriptor)) _ (top.1 ++ k ∷ []) f.locals (
       let p = pop_size f.stack top d in
       let w = receiver_size top.0 r c in
       let x = field_size m.descriptor k e in
@@ -311,9 +311,9 @@ module _ (a : Around) (f : Frame) where
       omega (arith, p, w, x, y)
       ))))
 
-  put_field_moves : (m : MemberRefOf) → Moves (n - (field_slots (field_of m.descriptor) + 1)) (put_field a m f)
+  put_field_moves : (m : MemberRefOf) → Moves (n - (slots_of_field (field_of m.descriptor) + 1)) (put_field a m f)
   unfolding put_field
-  put_field_moves m = then _ (field_kind m.descriptor) _ (λ k e. then _ (pop f.stack) _ (λ value d. then _ (pop value.1) _ (λ top c. then _ (receiver top.0) _ (λ r b. then _ (fit value.0 k) _ (λ more t. goes (n - (field_slots (field_of m.descriptor) + 1)) _ top.1 f.locals (
+  put_field_moves m = then _ (field_kind m.descriptor) _ (λ k e. then _ (pop f.stack) _ (λ value d. then _ (pop value.1) _ (λ top c. then _ (receiver top.0) _ (λ r b. then _ (fit value.0 k) _ (λ more t. goes (n - (slots_of_field (field_of m.descriptor) + 1)) _ top.1 f.locals (
       let p = pop_size f.stack value d in
       let q = pop_size value.1 top c in
       let w = receiver_size top.0 r b in
@@ -322,9 +322,9 @@ module _ (a : Around) (f : Frame) where
       omega (arith, p, q, w, v, x)
       ))))))
 
-  static_moves : (what : Act) (m : MemberRefOf) → IsShort m.descriptor → Moves (after_static m.descriptor n) (call_static a what m f)
+  static_moves : (what : Act) (m : MemberRefOf) → IsShort m.descriptor → Moves (places_after_static m.descriptor n) (call_static a what m f)
   unfolding call_static
-  static_moves what m h = then _ (method_kinds m.descriptor) _ (λ k e. then _ (taken (length k.params) f.stack) _ (λ args d. then _ (fit_all args.0 k.params) _ (λ more c. goes (after_static m.descriptor n) _ (with_result k.result args.1) f.locals (
+  static_moves what m h = then _ (method_kinds m.descriptor) _ (λ k e. then _ (taken (length k.params) f.stack) _ (λ args d. then _ (fit_all args.0 k.params) _ (λ more c. goes (places_after_static m.descriptor n) _ (with_result k.result args.1) f.locals (
       let s = method_slots m.descriptor k h e in
       let p = taken_size (length k.params) f.stack args d in
       let w = fit_all_size args.0 k.params more c in
@@ -333,9 +333,9 @@ module _ (a : Around) (f : Frame) where
       omega (arith, p, w, x, y)
       ))))
 
-  call_moves : (what : Act) (m : MemberRefOf) → IsShort m.descriptor → Moves (after_call m.descriptor n) (call a what m f)
+  call_moves : (what : Act) (m : MemberRefOf) → IsShort m.descriptor → Moves (places_after_call m.descriptor n) (call a what m f)
   unfolding call
-  call_moves what m h = then _ (method_kinds m.descriptor) _ (λ k e. then _ (taken (length k.params) f.stack) _ (λ args d. then _ (pop args.1) _ (λ top b. then _ (receiver top.0) _ (λ r t. then _ (fit_all args.0 k.params) _ (λ more c. goes (after_call m.descriptor n) _ (with_result k.result top.1) f.locals (
+  call_moves what m h = then _ (method_kinds m.descriptor) _ (λ k e. then _ (taken (length k.params) f.stack) _ (λ args d. then _ (pop args.1) _ (λ top b. then _ (receiver top.0) _ (λ r t. then _ (fit_all args.0 k.params) _ (λ more c. goes (places_after_call m.descriptor n) _ (with_result k.result top.1) f.locals (
       let s = method_slots m.descriptor k h e in
       let p = taken_size (length k.params) f.stack args d in
       let q = pop_size args.1 top b in
@@ -346,9 +346,9 @@ module _ (a : Around) (f : Frame) where
       omega (arith, p, q, v, w, x, y)
       ))))))
 
-  construct_moves : (m : MemberRefOf) → IsShort m.descriptor → Moves (n - (param_slots (slots_of_method m.descriptor) + 1)) (construct a m f)
+  construct_moves : (m : MemberRefOf) → IsShort m.descriptor → Moves (n - (slots_or_none (slots_of_method m.descriptor) + 1)) (construct a m f)
   unfolding construct all_made
-  construct_moves m h = then _ (method_kinds m.descriptor) _ (λ k e. then _ (taken (length k.params) f.stack) _ (λ args d. then _ (pop args.1) _ (λ top b. then _ (initialized a m top.0) _ (λ i t. then _ (fit_all args.0 k.params) _ (λ more c. goes (n - (param_slots (slots_of_method m.descriptor) + 1)) _ (map (made top.0 i.1) top.1) _ (
+  construct_moves m h = then _ (method_kinds m.descriptor) _ (λ k e. then _ (taken (length k.params) f.stack) _ (λ args d. then _ (pop args.1) _ (λ top b. then _ (initialized a m top.0) _ (λ i t. then _ (fit_all args.0 k.params) _ (λ more c. goes (n - (slots_or_none (slots_of_method m.descriptor) + 1)) _ (map (made top.0 i.1) top.1) _ (
       let s = method_slots m.descriptor k h e in
       let p = taken_size (length k.params) f.stack args d in
       let q = pop_size args.1 top b in
@@ -359,7 +359,7 @@ module _ (a : Around) (f : Frame) where
       omega (arith, p, q, v, w, x, y)
       ))))))
 
-  act_moves : (what : Act) (m : MemberRefOf) → IsShort m.descriptor → Moves (after_act what m.descriptor n) (act_on a what m f)
+  act_moves : (what : Act) (m : MemberRefOf) → IsShort m.descriptor → Moves (places_after_act what m.descriptor n) (act_on a what m f)
   unfolding act_on
   act_moves acts.GetStatic m h = get_static_moves m
   act_moves acts.PutStatic m h = put_static_moves m
@@ -380,7 +380,7 @@ plain_moves : (a : Around) (pc n : ℕ) (f : Frame) (b : Bool) (i : Instruction)
 plain_moves a pc n f true i h = nowhere _
 plain_moves a pc n f false i h = h
 
-pub step_moves : (a : Around) (pc : ℕ) (f : Frame) (s : Step) → HasShort s → Moves (after_step s (stack_places f)) (instruction_of s |>> λ i. run a pc i f)
+pub step_moves : (a : Around) (pc : ℕ) (f : Frame) (s : Step) → HasShort s → Moves (places_after_step s (stack_places f)) (instruction_of s |>> λ i. run a pc i f)
 unfolding run
 step_moves a pc f steps.Null h = pushed a f [] null
 step_moves a pc f (steps.Zero prims.Int) h = pushed a f [] int
@@ -393,6 +393,6 @@ step_moves a pc f steps.Dup h = dup_moves a f
 step_moves a pc f steps.Pop h = pop_moves a f
 step_moves a pc f steps.Pop2 h = two_moves a f
 step_moves a pc f (steps.Cast c) h = cast_moves a f c
-step_moves a pc f (steps.Member w c k) h = plain_moves a pc _ f (is_bracketed c) _ (act_moves a f w _ h)
-step_moves a pc f (steps.Construct c d) h = plain_moves a pc _ f (is_bracketed c) _ (construct_moves a f _ h)
+step_moves a pc f (steps.Member w c k) h = plain_moves a pc _ f (is_array_name c) _ (act_moves a f w _ h)
+step_moves a pc f (steps.Construct c d) h = plain_moves a pc _ f (is_array_name c) _ (construct_moves a f _ h)
 step_moves a pc f (steps.Return r) h = nowhere _

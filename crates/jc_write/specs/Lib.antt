@@ -1,4 +1,2 @@
-pub mod EntryView
-pub mod EntryOrder
-pub mod Needed
 pub mod Fails
+pub mod steps

@@ -1,7 +1,7 @@
 //! Attributes of classes that are written (JVMS 4.7.28, 4.7.29, 4.7.31).
 ghost use Rattle.std.specs.Prelude.{◌≡◌, ◌++◌, List, length, OnOk};
-ghost use Rattle.jc_facts.specs.PoolEntries.{Entry as EntryOf, counted, joined};
-ghost use Rattle.jc_facts.specs.Written.{attribute_bytes, permits_attribute, host_attribute, nest_attribute, class_attributes};
+ghost use Rattle.jc_facts.specs.written.PoolEntries.{PoolEntry, counted, joined};
+ghost use Rattle.jc_facts.specs.written.Written.{attribute_bytes, permits_attribute, host_attribute, nest_attribute, class_attributes};
 
 use crate::entry::Entry;
 use crate::indices::{push_class, push_classes, push_text};
@@ -81,7 +81,7 @@ fn push_nest<'a>(
 }
 
 fn attribute_count(facts: &ClassFacts) -> usize
-    ensures { (pool : List EntryOf) → result ≡ length (class_attributes pool facts.now) }
+    ensures { (pool : List PoolEntry) → result ≡ length (class_attributes pool facts.now) }
 {
     let permits = if facts.permits.is_some() { 1 } else { 0 };
     let host = if facts.nest_host.is_some() { 1 } else { 0 };

@@ -1,9 +1,9 @@
 //! Entries of a constant pool that is written.
 ghost use Rattle.std.specs.Prelude.{◌≡◌};
 ghost use Rattle.std.specs.Cmp.{partial_equiv_from_equiv};
-ghost use Rattle.jc_facts.specs.PoolEntries.{text, class, pair, member, same_entry};
-ghost use Rattle.jc_write.specs.EntryOrder.{same_entry_equiv, entry_fed, entries_fed};
-ghost use Rattle.jc_write.specs.EntryView.{entry_view};
+ghost use Rattle.jc_facts.specs.written.PoolEntries.{text, class, pair, member, same_entry};
+ghost use Rattle.jc_write.specs.steps.EntryOrder.{same_entry_equiv, entry_fed, entries_fed};
+ghost use Rattle.jc_write.specs.steps.EntryView.{entry_view};
 
 use crate::says::Says;
 use std::hash::{Hash, Hasher};
@@ -16,10 +16,10 @@ pub(crate) struct Entry<'a> {
 }
 
 impl<'a> Model for Entry<'a> {
-    ghost use Rattle.jc_facts.specs.PoolEntries.{Entry};
-    ghost use Rattle.jc_write.specs.EntryView.{entry_view};
+    ghost use Rattle.jc_facts.specs.written.PoolEntries.{PoolEntry};
+    ghost use Rattle.jc_write.specs.steps.EntryView.{entry_view};
 
-    ghost Value = { Entry };
+    ghost Value = { PoolEntry };
 
     ghost view = { λ e. entry_view e.says };
 }

@@ -1,10 +1,10 @@
 //! Whether a blueprint can be written.
 ghost use Rattle.std.specs.Prelude.{◌≡◌, ◌↔◌, IfOk, IsTrue, length, []};
 ghost use Rattle.std.specs.List.{list_all};
-ghost use Rattle.jc_facts.specs.PoolEntries.{member, is_good, is_good_use as good_use, is_good_class as good_class, is_good_pair as good_pair};
-ghost use Rattle.jc_facts.specs.Bodies.{step_needs, steps_needs};
-ghost use Rattle.jc_facts.specs.Written.{body_good as good_body, IsFormed};
-ghost use Rattle.jc_facts.specs.Valid.{IsValidClass};
+ghost use Rattle.jc_facts.specs.written.PoolEntries.{member, is_good, use_is_good, class_is_good, pair_is_good};
+ghost use Rattle.jc_facts.specs.written.Bodies.{step_needs, steps_needs};
+ghost use Rattle.jc_facts.specs.written.Written.{body_is_good, IsFormed};
+ghost use Rattle.jc_facts.specs.file.Valid.{IsValidClass};
 
 use crate::needs::act_tag;
 use crate::write::MINOR;
@@ -16,19 +16,19 @@ use jc_facts::validity::is_valid;
 use std::alloc::{AllocError, Global};
 
 fn is_good_class(name: &[u8]) -> bool
-    ensures { result ≡ good_class name.now }
+    ensures { result ≡ class_is_good name.now }
 {
     is_text(name) && is_class_text(name)
 }
 
 fn is_good_pair(name: &[u8], descriptor: &[u8]) -> bool
-    ensures { result ≡ good_pair name.now descriptor.now }
+    ensures { result ≡ pair_is_good name.now descriptor.now }
 {
     is_text(name) && is_text(descriptor) && is_any_member(name, descriptor)
 }
 
 fn is_good_use(tag: u8, name: &[u8], descriptor: &[u8]) -> bool
-    ensures { result ≡ good_use tag name.now descriptor.now }
+    ensures { result ≡ use_is_good tag name.now descriptor.now }
 {
     match tag {
         tags::FIELD_REF => is_field(descriptor),
@@ -81,7 +81,7 @@ fn are_good_steps(steps: &[Step]) -> bool
 }
 
 fn is_good_body(body: &Option<Body>) -> bool
-    ensures { result ≡ good_body body.now }
+    ensures { result ≡ body_is_good body.now }
 {
     match body {
         None => true,
@@ -91,7 +91,7 @@ fn is_good_body(body: &Option<Body>) -> bool
 
 #[tactic(auto, using(jc_facts::proofs::Lists::all_step, jc_facts::proofs::Lists::all_stop))]
 fn are_good_bodies(bodies: &[Option<Body>]) -> bool
-    ensures { result ≡ list_all good_body bodies.now }
+    ensures { result ≡ list_all body_is_good bodies.now }
 {
     for body in bodies {
         if !is_good_body(body) {

@@ -1,7 +1,7 @@
 //! Indices of the constant pool where classes and texts are named (JVMS 4.1).
 ghost use Rattle.std.specs.Prelude.{◌≡◌, ◌++◌, OnOk};
-ghost use Rattle.jc_facts.specs.PoolEntries.{counted};
-ghost use Rattle.jc_facts.specs.Written.{class_index, text_index, superclass_index};
+ghost use Rattle.jc_facts.specs.written.PoolEntries.{counted};
+ghost use Rattle.jc_facts.specs.written.Written.{class_index, text_index, superclass_index};
 
 use crate::entry::Entry;
 use crate::numbers::push_two;

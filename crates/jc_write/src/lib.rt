@@ -16,8 +16,6 @@ mod pool_bytes;
 mod says;
 mod stack;
 mod steps;
-#[cfg(test)]
-mod tests;
 pub mod write;
 
 pub use jc_facts::blueprint::{Blueprint, Body, Primitive, Slot, Step};

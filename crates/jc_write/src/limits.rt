@@ -1,8 +1,8 @@
 //! The limits of the format (JVMS 4.11).
 ghost use Rattle.std.specs.Prelude.{◌≡◌, ◌&&◌, IfOk};
 ghost use Rattle.std.specs.List.{list_all};
-ghost use Rattle.jc_facts.specs.PoolEntries.{fits};
-ghost use Rattle.jc_facts.specs.Written.{count_fits as fits_count, permits_fit as fits_permits, counts_fit as fits_counts, body_fits as fits_body, bodies_fit as fits_bodies, fits_format as fits_whole, pool_of as pool_of_plan};
+ghost use Rattle.jc_facts.specs.written.PoolEntries.{fits};
+ghost use Rattle.jc_facts.specs.written.Written.{fits_count, fits_permits, fits_counts, fits_body, fits_bodies, fits_whole, pool_of_plan};
 
 use crate::entry::Entry;
 use crate::says::Says;
@@ -95,7 +95,7 @@ fn bodies_fit<'a>(
 }
 
 /// Whether no limit is passed.
-#[tactic(auto, unfolding(jc_facts::specs::Written::fits_format))]
+#[tactic(auto, unfolding(jc_facts::specs::written::Written::fits_whole))]
 pub(crate) fn fits_format<'a>(
     alloc: Global,
     pool: &IndexSet<Entry<'a>>,

@@ -1,8 +1,8 @@
 //! Fields and methods that are written (JVMS 4.5, 4.6), and the code of methods (JVMS 4.7.3).
 ghost use Rattle.std.specs.Prelude.{◌≡◌, ◌++◌, OnOk, IfOk, IsTrue, nat_lt};
-ghost use Rattle.jc_facts.specs.PoolEntries.{counted};
-ghost use Rattle.jc_facts.specs.Bodies.{most_places as places_at_most};
-ghost use Rattle.jc_facts.specs.Written.{attribute_bytes, member_head, field_bytes, local_places as places_of_locals, code_body as body_of_code, method_attributes, method_bytes, methods_bytes, first_body as body_first, body_fits, bodies_fit, count_fits, are_short};
+ghost use Rattle.jc_facts.specs.written.PoolEntries.{counted};
+ghost use Rattle.jc_facts.specs.written.Bodies.{places_at_most};
+ghost use Rattle.jc_facts.specs.written.Written.{attribute_bytes, member_head, field_bytes, places_of_locals, body_of_code, method_attributes, method_bytes, methods_bytes, body_first, fits_body, fits_bodies, fits_count, are_short};
 
 use crate::attributes::push_attribute;
 use crate::entry::Entry;
@@ -77,7 +77,7 @@ fn code_body<'a>(
     member: &Member,
     body: &'a Body,
 ) -> Result<Vec<u8>, AllocError>
-    requires { IsTrue (count_fits (places_at_most body.now.steps)) }
+    requires { IsTrue (fits_count (places_at_most body.now.steps)) }
     ensures { IfOk result (λ bytes. bytes.items ≡ body_of_code pool.now.keys member.now body.now) }
 {
     let code = code(alloc, pool, body.steps.as_slice())?;
@@ -98,7 +98,7 @@ fn push_body<'a>(
     member: &Member,
     body: &'a Option<Body>,
 ) -> Result<(), AllocError>
-    requires { IsTrue (body_fits pool.now.keys body.now) }
+    requires { IsTrue (fits_body pool.now.keys body.now) }
     ensures { OnOk result (bytes.new.items ≡ bytes.old.items ++ counted (attribute_bytes pool.now.keys) (method_attributes pool.now.keys member.now body.now)) }
 {
     match body {
@@ -118,7 +118,7 @@ fn push_first<'a>(
     member: &Member,
     bodies: &'a [Option<Body>],
 ) -> Result<(), AllocError>
-    requires { IsTrue (body_fits pool.now.keys (body_first bodies.now)) }
+    requires { IsTrue (fits_body pool.now.keys (body_first bodies.now)) }
     ensures { OnOk result (bytes.new.items ≡ bytes.old.items ++ counted (attribute_bytes pool.now.keys) (method_attributes pool.now.keys member.now (body_first bodies.now))) }
 {
     match bodies.first() {
@@ -134,7 +134,7 @@ fn push_method<'a>(
     method: &'a Member,
     bodies: &'a [Option<Body>],
 ) -> Result<(), AllocError>
-    requires { IsTrue (body_fits pool.now.keys (body_first bodies.now)) }
+    requires { IsTrue (fits_body pool.now.keys (body_first bodies.now)) }
     ensures short { OnOk result (IsTrue (nat_lt method.now.flags 65536)) }
     ensures bytes { OnOk result (bytes.new.items ≡ bytes.old.items ++ method_bytes pool.now.keys method.now (body_first bodies.now)) }
 {
@@ -151,7 +151,7 @@ pub(crate) fn push_methods<'a>(
     methods: &'a [Member],
     bodies: &'a [Option<Body>],
 ) -> Result<(), AllocError>
-    requires { IsTrue (bodies_fit pool.now.keys bodies.now) }
+    requires { IsTrue (fits_bodies pool.now.keys bodies.now) }
     ensures short { OnOk result (IsTrue (are_short methods.now)) }
     ensures bytes { OnOk result (bytes.new.items ≡ bytes.old.items ++ methods_bytes pool.now.keys methods.now bodies.now) }
 {

@@ -1,9 +1,9 @@
 //! The entries that a blueprint needs, in the order of need.
 ghost use Rattle.std.specs.Prelude.{◌≡◌, ◌++◌, ◌∷◌, OnOk, IfOk, []};
-ghost use Rattle.jc_facts.specs.PoolEntries.{text, class};
-ghost use Rattle.jc_facts.specs.Bodies.{act_tag as tag_of_act, step_needs, steps_needs};
-ghost use Rattle.jc_facts.specs.Written.{classes_needs, fields_needs, body_needs, methods_needs, first_body as body_first, other_bodies as bodies_other, permits_needs, host_needs, nest_needs, superclass_needs, member_needs, pool_of as pool_of_plan};
-ghost use Rattle.jc_write.specs.Needed.{with_needs};
+ghost use Rattle.jc_facts.specs.written.PoolEntries.{text, class};
+ghost use Rattle.jc_facts.specs.written.Bodies.{tag_of_act, step_needs, steps_needs};
+ghost use Rattle.jc_facts.specs.written.Written.{classes_needs, fields_needs, body_needs, methods_needs, body_first, bodies_other, permits_needs, host_needs, nest_needs, superclass_needs, member_needs, pool_of_plan};
+ghost use Rattle.jc_write.specs.steps.Needed.{with_needs};
 
 use crate::entry::Entry;
 use crate::pool::{need_class, need_member, need_text};
@@ -218,7 +218,7 @@ fn need_attributes<'a>(
 }
 
 /// The pool of a blueprint.
-#[tactic(auto, using(crate::proofs::Needed::whole_pool), unfolding(jc_facts::specs::Written::pool_of))]
+#[tactic(auto, using(crate::proofs::Needed::whole_pool), unfolding(jc_facts::specs::written::Written::pool_of_plan))]
 pub(crate) fn pool_of<'a>(
     alloc: Global,
     plan: &'a Blueprint,

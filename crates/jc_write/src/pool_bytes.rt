@@ -1,6 +1,6 @@
 //! The bytes of the constant pool (JVMS 4.4).
 ghost use Rattle.std.specs.Prelude.{◌≡◌, ◌++◌, OnOk};
-ghost use Rattle.jc_facts.specs.PoolEntries.{entry_bytes, entries_bytes};
+ghost use Rattle.jc_facts.specs.written.PoolEntries.{entry_bytes, entries_bytes};
 
 use crate::entry::Entry;
 use crate::numbers::push_two;
@@ -41,7 +41,7 @@ fn push_entry<'a>(
 }
 
 /// All entries.
-#[tactic(auto, unfolding(jc_facts::specs::PoolEntries::entries_bytes))]
+#[tactic(auto, unfolding(jc_facts::specs::written::PoolEntries::entries_bytes))]
 pub(crate) fn push_entries<'a>(
     bytes: &mut Vec<u8>,
     pool: &IndexSet<Entry<'a>>,

@@ -1,8 +1,8 @@
 //! The places that a body takes on the stack.
 ghost use Rattle.std.specs.Prelude.{◌≡◌, ◌≤◌, min};
 ghost use Rattle.jc_desc.specs.Reading.{field_of};
-ghost use Rattle.jc_desc.specs.Slots.{field_slots as slots_of_field};
-ghost use Rattle.jc_facts.specs.Bodies.{prim_places as places_of_prim, kind_places as places_of_kind, after_static as places_after_static, after_call as places_after_call, after_act as places_after_act, after_step as places_after_step, most_places as places_at_most};
+ghost use Rattle.jc_desc.specs.Slots.{slots_of_field};
+ghost use Rattle.jc_facts.specs.written.Bodies.{places_of_primitive, places_of_kind, places_after_static, places_after_call, places_after_act, places_after_step, places_at_most};
 
 use crate::steps::param_slots;
 use jc_desc::method::{field_slots, returned_slots};
@@ -13,7 +13,7 @@ use jc_facts::blueprint::{Primitive, Slot, Step};
 pub(crate) const TOO_MANY: usize = 65536;
 
 fn prim_places(prim: Primitive) -> usize
-    ensures places { result ≡ places_of_prim prim }
+    ensures places { result ≡ places_of_primitive prim }
     ensures small { result ≤ 2 }
 {
     match prim {

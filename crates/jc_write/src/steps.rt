@@ -1,7 +1,7 @@
 //! The instructions of bodies (JVMS 6.5).
 ghost use Rattle.std.specs.Prelude.{◌≡◌, ◌≤◌, ◌++◌, ◌∷◌, OnOk, IfOk};
-ghost use Rattle.jc_facts.specs.PoolEntries.{class, member, two, index_of};
-ghost use Rattle.jc_facts.specs.Bodies.{zero_opcode as opcode_of_zero, kind_number as number_of_kind, load_bytes, return_opcode as opcode_of_return, act_opcode as opcode_of_act, act_tag as tag_of_act, init_name, behind_use, param_slots as slots_or_none, step_bytes, steps_bytes};
+ghost use Rattle.jc_facts.specs.written.PoolEntries.{class, member, two, index_of};
+ghost use Rattle.jc_facts.specs.written.Bodies.{opcode_of_zero, number_of_kind, load_bytes, opcode_of_return, opcode_of_act, tag_of_act, init_name, behind_use, slots_or_none, step_bytes, steps_bytes};
 ghost use Rattle.jc_desc.specs.Reading.{slots_of_method};
 
 use crate::entry::Entry;

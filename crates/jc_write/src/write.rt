@@ -1,9 +1,9 @@
 //! A whole class file (JVMS 4.1).
 ghost use Rattle.std.specs.Prelude.{◌≡◌, ◌++◌, Ok, OnOk, IfOk, MatchResult, MatchOption, IsTrue, not};
-ghost use Rattle.jc_facts.specs.ClassGrammar.{Reads};
-ghost use Rattle.jc_facts.specs.Written.{behind_pool, file_bytes, written, pool_of as pool_of_plan, bodies_fit, fits_format as fits_whole, IsFormed, HasShortFlags};
-ghost use Rattle.jc_facts.specs.ClientItems.{items as items_in};
-ghost use Rattle.jc_facts.specs.TypedItems.{typed_items, IsTyped};
+ghost use Rattle.jc_facts.specs.file.ClassGrammar.{Reads};
+ghost use Rattle.jc_facts.specs.written.Written.{behind_pool, file_bytes, written, pool_of_plan, fits_bodies, fits_whole, IsFormed, HasShortFlags};
+ghost use Rattle.jc_facts.specs.code.ClientItems.{items as items_in};
+ghost use Rattle.jc_facts.specs.written.TypedItems.{typed_items, IsTyped};
 ghost use Rattle.jc_write.specs.Fails.{WriteFails};
 
 use crate::attributes::push_attributes;
@@ -41,7 +41,7 @@ fn push_rest<'a>(
     pool: &IndexSet<Entry<'a>>,
     plan: &'a Blueprint,
 ) -> Result<(), AllocError>
-    requires { IsTrue (bodies_fit pool.now.keys plan.now.bodies) }
+    requires { IsTrue (fits_bodies pool.now.keys plan.now.bodies) }
     ensures short { OnOk result (HasShortFlags plan.now.facts) }
     ensures bytes { OnOk result (bytes.new.items ≡ bytes.old.items ++ behind_pool pool.now.keys plan.now) }
 {
@@ -67,7 +67,7 @@ fn file<'a>(
     pool: &IndexSet<Entry<'a>>,
     plan: &'a Blueprint,
 ) -> Result<Vec<u8>, AllocError>
-    requires { IsTrue (bodies_fit pool.now.keys plan.now.bodies) }
+    requires { IsTrue (fits_bodies pool.now.keys plan.now.bodies) }
     ensures short { OnOk result (HasShortFlags plan.now.facts) }
     ensures bytes { IfOk result (λ bytes. bytes.items ≡ file_bytes pool.now.keys plan.now) }
 {
@@ -82,7 +82,7 @@ fn file<'a>(
 }
 
 // None where a limit is passed.
-#[tactic(auto, unfolding(jc_facts::specs::Written::written, jc_facts::specs::Written::fits_format))]
+#[tactic(auto, unfolding(jc_facts::specs::written::Written::written, jc_facts::specs::written::Written::fits_whole))]
 fn whole(alloc: Global, plan: &Blueprint) -> Result<Option<Vec<u8>>, AllocError>
     ensures { IfOk result (λ r. MatchOption r (IsTrue (not (fits_whole plan.now))) (λ bytes. (bytes.items ≡ written plan.now) × IsTrue (fits_whole plan.now) × HasShortFlags plan.now.facts)) }
 {

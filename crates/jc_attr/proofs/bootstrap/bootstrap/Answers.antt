@@ -1,6 +1,6 @@
 use Rattle.jc_facts.specs.Names.{Bytes}
-use Rattle.jc_facts.specs.Attributes.{bootstrap_of}
-use Rattle.jc_facts.specs.CodeGrammar.{IsBootstrap}
+use Rattle.jc_facts.specs.file.Attributes.{bootstrap_of}
+use Rattle.jc_facts.specs.file.CodeGrammar.{IsBootstrap}
 use Rattle.jc_facts.proofs.Codes.{bootstrap_is_one}
 use Rattle.jc_attr.proofs.Whole.{has_form}
 use Rattle.jc_attr.proofs.bootstrap.bootstrap.Goals as goal

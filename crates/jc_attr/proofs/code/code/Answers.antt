@@ -1,5 +1,5 @@
-use Rattle.jc_facts.specs.Attributes.{code_of}
-use Rattle.jc_facts.specs.CodeGrammar.{IsCode}
+use Rattle.jc_facts.specs.file.Attributes.{code_of}
+use Rattle.jc_facts.specs.file.CodeGrammar.{IsCode}
 use Rattle.jc_facts.proofs.Codes.{code_is_one}
 use Rattle.jc_attr.proofs.Whole.{has_form}
 use Rattle.jc_attr.proofs.code.code.Goals as goal

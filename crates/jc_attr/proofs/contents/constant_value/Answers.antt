@@ -1,5 +1,5 @@
-use Rattle.jc_facts.specs.Attributes.{constant_value_of}
-use Rattle.jc_facts.specs.ClassGrammar.{IsConstantValue}
+use Rattle.jc_facts.specs.file.Attributes.{constant_value_of}
+use Rattle.jc_facts.specs.file.ClassGrammar.{IsConstantValue}
 use Rattle.jc_facts.proofs.Contents.{constant_is_one}
 use Rattle.jc_attr.proofs.Whole.{has_form}
 use Rattle.jc_attr.proofs.contents.constant_value.Goals as goal

@@ -1,5 +1,5 @@
-use Rattle.jc_facts.specs.Attributes.{nest_host_of}
-use Rattle.jc_facts.specs.ClassGrammar.{IsHost}
+use Rattle.jc_facts.specs.file.Attributes.{nest_host_of}
+use Rattle.jc_facts.specs.file.ClassGrammar.{IsHost}
 use Rattle.jc_facts.proofs.Contents.{host_is_one}
 use Rattle.jc_attr.proofs.Whole.{has_form}
 use Rattle.jc_attr.proofs.contents.nest_host.Goals as goal

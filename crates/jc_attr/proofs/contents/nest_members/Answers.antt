@@ -1,5 +1,5 @@
-use Rattle.jc_facts.specs.Attributes.{class_list_of}
-use Rattle.jc_facts.specs.ClassGrammar.{AreClasses}
+use Rattle.jc_facts.specs.file.Attributes.{class_list_of}
+use Rattle.jc_facts.specs.file.ClassGrammar.{AreClasses}
 use Rattle.jc_facts.proofs.Contents.{classes_are_one}
 use Rattle.jc_attr.proofs.Whole.{has_form}
 use Rattle.jc_attr.proofs.contents.nest_members.Goals as goal

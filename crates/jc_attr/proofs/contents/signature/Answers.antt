@@ -1,5 +1,5 @@
-use Rattle.jc_facts.specs.Attributes.{signature_of}
-use Rattle.jc_facts.specs.ClassGrammar.{IsSignature}
+use Rattle.jc_facts.specs.file.Attributes.{signature_of}
+use Rattle.jc_facts.specs.file.ClassGrammar.{IsSignature}
 use Rattle.jc_facts.proofs.Contents.{signature_is_one}
 use Rattle.jc_attr.proofs.Whole.{has_form}
 use Rattle.jc_attr.proofs.contents.signature.Goals as goal

@@ -2,10 +2,10 @@ use Rattle.std.proofs.Common.{[], ◌∷◌, ◌++◌, sym, ap, ◌∙◌}
 use Rattle.std.proofs.lemmas.List.{length-map}
 use Rattle.jc_facts.specs.declared.client.Item.{Item}
 use Rattle.jc_pool.specs.Views.{member_view}
-use Rattle.jc_code.specs.Views.{around_view}
-use Rattle.jc_code.specs.KindView.{kind_view, kinds_in}
-use Rattle.jc_code.specs.KindsView.{kinds_view}
-use Rattle.jc_code.specs.FrameView.{frame_view}
+use Rattle.jc_code.specs.steps.Views.{around_view}
+use Rattle.jc_code.specs.steps.KindView.{kind_view, kinds_in}
+use Rattle.jc_code.specs.steps.KindsView.{kinds_view}
+use Rattle.jc_code.specs.steps.FrameView.{frame_view}
 use Rattle.jc_code.proofs.ActEffects.{call_static_is}
 use Rattle.jc_code.proofs.acts.call_static.Goals as goal
 

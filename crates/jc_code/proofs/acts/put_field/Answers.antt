@@ -1,9 +1,9 @@
 use Rattle.std.proofs.Common.{[], ◌∷◌, ◌++◌, sym, ap, ◌∙◌}
 use Rattle.jc_facts.specs.declared.client.Item.{Item}
 use Rattle.jc_pool.specs.Views.{member_view}
-use Rattle.jc_code.specs.Views.{around_view}
-use Rattle.jc_code.specs.KindView.{kind_view, kinds_in}
-use Rattle.jc_code.specs.FrameView.{frame_view}
+use Rattle.jc_code.specs.steps.Views.{around_view}
+use Rattle.jc_code.specs.steps.KindView.{kind_view, kinds_in}
+use Rattle.jc_code.specs.steps.FrameView.{frame_view}
 use Rattle.jc_code.proofs.ActEffects.{put_field_is}
 use Rattle.jc_code.proofs.acts.put_field.Goals as goal
 

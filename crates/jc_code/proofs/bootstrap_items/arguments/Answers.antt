@@ -1,6 +1,6 @@
 use Rattle.std.proofs.Common.{◌-◌, ◌+◌, ◌/◌, length, arith}
-use Rattle.jc_facts.specs.Code.{arguments_items}
-use Rattle.jc_code.specs.Pushed.{onto}
+use Rattle.jc_facts.specs.code.Code.{arguments_items}
+use Rattle.jc_code.specs.steps.Pushed.{onto}
 use Rattle.jc_code.proofs.Arguments.{arguments_step, arguments_bad, arguments_done}
 use Rattle.jc_code.proofs.bootstrap_items.arguments.Goals as goal
 

@@ -1,6 +1,6 @@
 use Rattle.std.proofs.Common.{◌≡◌, ◌-◌, ◌/◌, length}
-use Rattle.jc_facts.specs.Code.{arguments_items}
-use Rattle.jc_code.specs.Pushed.{onto}
+use Rattle.jc_facts.specs.code.Code.{arguments_items}
+use Rattle.jc_code.specs.steps.Pushed.{onto}
 use Rattle.jc_code.proofs.bootstrap_items.arguments.Given as goal
 
 abbrev pub invariant-loop : goal.invariant-loop

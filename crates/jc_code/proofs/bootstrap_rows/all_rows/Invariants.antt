@@ -1,8 +1,8 @@
 use Rattle.std.proofs.Common.{◌≡◌, ◌++◌, drop}
 use Rattle.std.specs.Prelude.{map}
 use Rattle.jc_attr.specs.Views.{bootstrap_view}
-use Rattle.jc_code.specs.Kept.{kept_row}
-use Rattle.jc_code.specs.RowView.{row_view}
+use Rattle.jc_code.specs.steps.Kept.{kept_row}
+use Rattle.jc_code.specs.steps.RowView.{row_view}
 use Rattle.jc_code.proofs.bootstrap_rows.all_rows.Given as goal
 
 abbrev pub invariant-loop-entry : goal.invariant-loop-entry

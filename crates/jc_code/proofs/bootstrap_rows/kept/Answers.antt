@@ -1,5 +1,5 @@
 use Rattle.std.proofs.Common.{◌-◌, ◌+◌, ◌/◌, length, arith}
-use Rattle.jc_code.specs.Kept.{kept_of}
+use Rattle.jc_code.specs.steps.Kept.{kept_of}
 use Rattle.jc_code.proofs.KeptRows.{kept_step, kept_done}
 use Rattle.jc_code.proofs.bootstrap_rows.kept.Goals as goal
 

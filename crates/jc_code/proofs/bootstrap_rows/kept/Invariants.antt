@@ -1,5 +1,5 @@
 use Rattle.std.proofs.Common.{◌≡◌, ◌-◌, ◌/◌, ◌++◌, length}
-use Rattle.jc_code.specs.Kept.{kept_of}
+use Rattle.jc_code.specs.steps.Kept.{kept_of}
 use Rattle.jc_code.proofs.bootstrap_rows.kept.Given as goal
 
 abbrev pub invariant-loop : goal.invariant-loop

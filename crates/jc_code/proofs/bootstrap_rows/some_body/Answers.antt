@@ -1,7 +1,7 @@
 use Rattle.std.proofs.Common.{◌-◌, ◌+◌, None, arith, sym}
 use Rattle.std.specs.Option.{option_map}
-use Rattle.jc_facts.specs.ClassSteps.{attributes_at}
-use Rattle.jc_facts.specs.ClientItems as client
+use Rattle.jc_facts.specs.file.ClassSteps.{attributes_at}
+use Rattle.jc_facts.specs.code.ClientItems as client
 use Rattle.jc_attr.specs.Views.{attribute_view}
 use Rattle.jc_attr.proofs.Taking.{attributes_step}
 use Rattle.jc_code.proofs.bootstrap_rows.some_body.Goals as goal

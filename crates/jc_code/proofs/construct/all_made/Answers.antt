@@ -1,6 +1,6 @@
 use Rattle.std.proofs.Common.{drop, arith}
 use Rattle.std.proofs.lemmas.List.{drop_all}
-use Rattle.jc_code.specs.KindView.{kind_view, kinds_in}
+use Rattle.jc_code.specs.steps.KindView.{kind_view, kinds_in}
 use Rattle.jc_code.proofs.Frames.{all_made_is}
 use Rattle.jc_code.proofs.construct.all_made.Goals as goal
 

@@ -1,7 +1,7 @@
 use Rattle.std.proofs.Common.{◌≡◌, ◌++◌, drop, map}
-use Rattle.jc_facts.specs.Typing as typing
-use Rattle.jc_code.specs.KindView.{kind_view}
-use Rattle.jc_code.specs.KindView.{kinds_in}
+use Rattle.jc_facts.specs.code.Typing as typing
+use Rattle.jc_code.specs.steps.KindView.{kind_view}
+use Rattle.jc_code.specs.steps.KindView.{kinds_in}
 use Rattle.jc_code.proofs.construct.all_made.Given as goal
 
 abbrev pub invariant-loop-kind : goal.invariant-loop-kind

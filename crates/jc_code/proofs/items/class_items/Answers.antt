@@ -1,6 +1,6 @@
 use Rattle.std.proofs.Common.{◌∙◌}
 use Rattle.std.specs.Option.{option_map}
-use Rattle.jc_facts.specs.ClientItems as client
+use Rattle.jc_facts.specs.code.ClientItems as client
 use Rattle.jc_attr.specs.Views.{head_view}
 use Rattle.jc_code.proofs.SameRows.{found_all, fault_in_all}
 use Rattle.jc_code.proofs.items.class_items.Goals as goal

@@ -1,11 +1,11 @@
 use Rattle.std.proofs.Common.{◌-◌, ◌+◌, List, Option, arith}
 use Rattle.std.specs.Prelude.{map}
 use Rattle.std.specs.Option.{option_map}
-use Rattle.jc_facts.specs.Attributes.{BootstrapOf}
-use Rattle.jc_facts.specs.ClientItems as client
+use Rattle.jc_facts.specs.file.Attributes.{BootstrapOf}
+use Rattle.jc_facts.specs.code.ClientItems as client
 use Rattle.jc_attr.specs.Views.{head_view}
-use Rattle.jc_code.specs.RowView.{row_view}
-use Rattle.jc_code.specs.Pushed.{with_before}
+use Rattle.jc_code.specs.steps.RowView.{row_view}
+use Rattle.jc_code.specs.steps.Pushed.{with_before}
 use Rattle.jc_code.proofs.EachMethod.{methods_step, methods_fault, methods_done}
 use Rattle.jc_code.proofs.methods.methods_items.Goals as goal
 

@@ -1,6 +1,6 @@
 use Rattle.std.proofs.Common.{◌≡◌, ◌++◌, drop}
-use Rattle.jc_facts.specs.Typing as typing
-use Rattle.jc_code.specs.KindView.{kinds_in}
+use Rattle.jc_facts.specs.code.Typing as typing
+use Rattle.jc_code.specs.steps.KindView.{kinds_in}
 use Rattle.jc_code.proofs.start.push_all.Given as goal
 
 abbrev pub invariant-loop-param : goal.invariant-loop-param

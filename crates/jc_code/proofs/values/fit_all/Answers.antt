@@ -1,9 +1,9 @@
 use Rattle.std.proofs.Common.{◌+◌, ◌<◌, drop, length, refl, sym, ap, ◌∙◌, arith}
 use Rattle.std.proofs.lemmas.List.{drop_more, drop_all, length-map}
-use Rattle.jc_facts.specs.Typing as typing
+use Rattle.jc_facts.specs.code.Typing as typing
 use Rattle.jc_code.specs.declared.kinds.Kind.TheVariants as kinds
-use Rattle.jc_code.specs.KindView.{kind_view, kinds_in}
-use Rattle.jc_code.specs.Pushed.{onto}
+use Rattle.jc_code.specs.steps.KindView.{kind_view, kinds_in}
+use Rattle.jc_code.specs.steps.Pushed.{onto}
 use Rattle.jc_code.proofs.Added.{fit_step, fit_bad, fit_done, fit_unequal}
 use Rattle.jc_code.proofs.values.fit_all.Goals as goal
 

@@ -1,7 +1,7 @@
 use Rattle.std.proofs.Common.{◌≡◌, drop}
-use Rattle.jc_facts.specs.Typing as typing
-use Rattle.jc_code.specs.KindView.{kinds_in}
-use Rattle.jc_code.specs.Pushed.{onto}
+use Rattle.jc_facts.specs.code.Typing as typing
+use Rattle.jc_code.specs.steps.KindView.{kinds_in}
+use Rattle.jc_code.specs.steps.Pushed.{onto}
 use Rattle.jc_code.proofs.values.fit_all.Given as goal
 
 abbrev pub invariant-loop-i : goal.invariant-loop-i

@@ -1,6 +1,6 @@
 use Rattle.std.proofs.Common.{◌≡◌, ◌++◌}
-use Rattle.jc_facts.specs.ClassParts.{members_of, constants_of, signatures_of}
-use Rattle.jc_read.specs.MemberViews.{members_view}
+use Rattle.jc_facts.specs.file.ClassParts.{members_of, constants_of, signatures_of}
+use Rattle.jc_read.specs.steps.MemberViews.{members_view}
 use Rattle.jc_read.proofs.lists.split.Given as goal
 
 abbrev pub invariant-loop-read : goal.invariant-loop-read

@@ -1,10 +1,10 @@
 use Rattle.std.proofs.Common.{List, [], ◌-◌, ◌+◌, arith, sym, subst}
 use Rattle.std.proofs.lemmas.List.{map_push}
 use Rattle.jc_facts.specs.declared.key.Key.{Key}
-use Rattle.jc_facts.specs.ClassParts as files
-use Rattle.jc_facts.specs.ClassSteps.{members_at}
+use Rattle.jc_facts.specs.file.ClassParts as files
+use Rattle.jc_facts.specs.file.ClassSteps.{members_at}
 use Rattle.jc_facts.specs.Seen.{Holds}
-use Rattle.jc_read.specs.MemberViews.{member_view, members_view, read_keys}
+use Rattle.jc_read.specs.steps.MemberViews.{member_view, members_view, read_keys}
 use Rattle.jc_read.proofs.EachMember.{members_step, members_fault, members_done, step_keys}
 use Rattle.jc_read.proofs.member_list.some_members_at.Goals as goal
 

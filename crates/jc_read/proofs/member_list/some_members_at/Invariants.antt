@@ -1,7 +1,7 @@
 use Rattle.std.proofs.Common.{◌≡◌, ◌-◌, []}
-use Rattle.jc_facts.specs.ClassSteps.{members_at}
-use Rattle.jc_attr.specs.Front.{with_front}
-use Rattle.jc_read.specs.MemberViews.{members_view, read_keys}
+use Rattle.jc_facts.specs.file.ClassSteps.{members_at}
+use Rattle.jc_attr.specs.steps.Front.{with_front}
+use Rattle.jc_read.specs.steps.MemberViews.{members_view, read_keys}
 use Rattle.jc_facts.specs.Seen.{Holds}
 use Rattle.jc_read.proofs.member_list.some_members_at.Given as goal
 

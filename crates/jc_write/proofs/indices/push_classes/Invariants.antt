@@ -1,6 +1,6 @@
 use Rattle.std.proofs.Common.{◌≡◌, ◌++◌, drop}
-use Rattle.jc_facts.specs.PoolEntries.{joined, counted}
-use Rattle.jc_facts.specs.Written.{class_index}
+use Rattle.jc_facts.specs.written.PoolEntries.{joined, counted}
+use Rattle.jc_facts.specs.written.Written.{class_index}
 use Rattle.jc_write.proofs.indices.push_classes.Given as goal
 
 abbrev pub invariant-loop-name : goal.invariant-loop-name

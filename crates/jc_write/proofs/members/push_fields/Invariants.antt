@@ -1,6 +1,6 @@
 use Rattle.std.proofs.Common.{◌≡◌, ◌++◌, drop}
-use Rattle.jc_facts.specs.PoolEntries.{joined, counted}
-use Rattle.jc_facts.specs.Written.{field_bytes, are_short}
+use Rattle.jc_facts.specs.written.PoolEntries.{joined, counted}
+use Rattle.jc_facts.specs.written.Written.{field_bytes, are_short}
 use Rattle.jc_write.proofs.members.push_fields.Given as goal
 
 abbrev pub invariant-loop-field : goal.invariant-loop-field

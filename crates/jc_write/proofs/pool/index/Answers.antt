@@ -1,5 +1,5 @@
 use Rattle.std.proofs.Common.{◌≡◌, ℕ, ◌+◌, length, ap, ◌∙◌}
-use Rattle.jc_facts.specs.PoolEntries.{same_entry, index_of}
+use Rattle.jc_facts.specs.written.PoolEntries.{same_entry, index_of}
 use Rattle.jc_write.proofs.Absent.{absent}
 use Rattle.jc_write.proofs.pool.index.Goals as goal
 

@@ -1,5 +1,5 @@
 use Rattle.std.proofs.Common.{◌≡◌, ◌++◌, drop}
-use Rattle.jc_facts.specs.PoolEntries.{joined, entry_bytes}
+use Rattle.jc_facts.specs.written.PoolEntries.{joined, entry_bytes}
 use Rattle.jc_write.proofs.pool_bytes.push_entries.Given as goal
 
 abbrev pub invariant-loop-entry : goal.invariant-loop-entry

@@ -1,8 +1,8 @@
 -- A method and its class, without where they lie in memory.
 use Rattle.std.specs.Prelude.{map}
 use Rattle.std.specs.Option.{option_map}
-use Rattle.jc_facts.specs.Code as code
-use Rattle.jc_code.specs.RowView.{row_view}
+use Rattle.jc_facts.specs.code.Code as code
+use Rattle.jc_code.specs.steps.RowView.{row_view}
 use Rattle.jc_code.specs.declared.around.Around.{Around}
 
 abbrev pub around_view : Around → code.Around

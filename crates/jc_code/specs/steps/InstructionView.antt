@@ -1,9 +1,9 @@
 -- An instruction without where its names lie in memory.
-use Rattle.jc_facts.specs.Typing as typing
+use Rattle.jc_facts.specs.code.Typing as typing
 use Rattle.jc_pool.specs.Views.{member_view}
 use Rattle.jc_code.specs.declared.instruction.Instruction.{Instruction}
 use Rattle.jc_code.specs.declared.instruction.Instruction.TheVariants as instructions
-use Rattle.jc_code.specs.KindView.{kind_view}
+use Rattle.jc_code.specs.steps.KindView.{kind_view}
 
 abbrev pub instruction_view : Instruction → typing.Instruction
 instruction_view instructions.Nothing = typing.nothing

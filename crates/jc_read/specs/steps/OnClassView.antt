@@ -1,5 +1,5 @@
 -- What the attributes of the class say.
-use Rattle.jc_facts.specs.ClassParts as parts
+use Rattle.jc_facts.specs.file.ClassParts as parts
 use Rattle.jc_read.specs.declared.on_class.OnClass.{OnClass}
 
 abbrev pub on_class_view : OnClass → parts.OnClass

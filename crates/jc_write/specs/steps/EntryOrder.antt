@@ -6,9 +6,9 @@ use Rattle.std.proofs.Common.{ap, ◌∙◌, refl, sym}
 use Rattle.std.proofs.lemmas.Bool.{and_parts, and_from, eqb-true, eq-eqb, false≢true}
 use Rattle.std.proofs.lemmas.Slice.Eq.{bytes_eq-Decides}
 use Rattle.jc_facts.specs.Names.{Bytes, same}
-use Rattle.jc_facts.specs.PoolEntries.{Entry, text, class, pair, member, same_entry}
+use Rattle.jc_facts.specs.written.PoolEntries.{PoolEntry, text, class, pair, member, same_entry}
 
-pub entry_is : (e f : Entry) → same_entry e f ≡ true → e ≡ f
+pub entry_is : (e f : PoolEntry) → same_entry e f ≡ true → e ≡ f
 entry_is (text a) (text b) h = ap (λ (x : Bytes). text x) ((bytes_eq-Decides a b).0 h)
 entry_is (class a) (class b) h = ap (λ (x : Bytes). class x) ((bytes_eq-Decides a b).0 h)
 entry_is (pair a b) (pair c d) h =
@@ -25,24 +25,24 @@ entry_is _ _ h = absurd (false≢true h)
 itself : (x : Bytes) → same x x ≡ true
 itself x = (bytes_eq-Decides x x).1 refl
 
-pub entry_itself : (e : Entry) → same_entry e e ≡ true
+pub entry_itself : (e : PoolEntry) → same_entry e e ≡ true
 entry_itself (text a) = itself a
 entry_itself (class a) = itself a
 entry_itself (pair a b) = and_from _ _ (itself a) (itself b)
 entry_itself (member t a b c) = and_from _ _ (and_from _ _ (and_from _ _ (eq-eqb t t refl) (itself a)) (itself b)) (itself c)
 
-same_from : (e f : Entry) → e ≡ f → same_entry e f ≡ true
-same_from e f h = ap (λ (g : Entry). same_entry e g) (sym h) ∙ entry_itself e
+same_from : (e f : PoolEntry) → e ≡ f → same_entry e f ≡ true
+same_from e f h = ap (λ (g : PoolEntry). same_entry e g) (sym h) ∙ entry_itself e
 
 pub same_entry_equiv : IsEquivalence same_entry
 same_entry_equiv = decided same_entry (λ e f. (entry_is e f, same_from e f))
 
 -- what a hash is fed
-abbrev pub entry_fed : Entry → fed.HashWrites
+abbrev pub entry_fed : PoolEntry → fed.HashWrites
 entry_fed (text t) = fed.slice fed.u8 t
 entry_fed (class c) = fed.slice fed.u8 c
 entry_fed (pair n d) = fed.slice fed.u8 n ++ fed.slice fed.u8 d
 entry_fed (member t c n d) = fed.slice fed.u8 c ++ fed.slice fed.u8 n ++ fed.slice fed.u8 d
 
-pub entries_fed : (e f : Entry) → same_entry e f ≡ true → entry_fed e ≡ entry_fed f
-entries_fed e f h = ap (λ (g : Entry). entry_fed g) (entry_is e f h)
+pub entries_fed : (e f : PoolEntry) → same_entry e f ≡ true → entry_fed e ≡ entry_fed f
+entries_fed e f h = ap (λ (g : PoolEntry). entry_fed g) (entry_is e f h)

@@ -5,9 +5,9 @@ use Rattle.jc_desc.specs.declared.fault.Fault.{Fault}
 use Rattle.jc_facts.specs.declared.key.Key.{Key}
 use Rattle.jc_facts.specs.Names.{key_of}
 use Rattle.jc_facts.specs.Seen.{Holds}
-use Rattle.jc_facts.specs.ClassParts as parts
+use Rattle.jc_facts.specs.file.ClassParts as parts
 use Rattle.jc_read.specs.declared.member_list.ReadMember.{ReadMember}
-use Rattle.jc_read.specs.OnMemberView.{on_member_view}
+use Rattle.jc_read.specs.steps.OnMemberView.{on_member_view}
 
 abbrev pub member_view : ReadMember → parts.ReadMember
 member_view r = record { member = r.member; found = on_member_view r.found }

@@ -1,0 +1,10 @@
+pub mod FrameView
+pub mod InstructionView
+pub mod Kept
+pub mod KindView
+pub mod KindsRead
+pub mod KindsView
+pub mod Pushed
+pub mod RowView
+pub mod Steps
+pub mod Views

@@ -1,0 +1,3 @@
+pub mod EntryOrder
+pub mod EntryView
+pub mod Needed
