@@ -6,41 +6,41 @@ use Rattle.std.proofs.lemmas.List.{length-append}
 use Rattle.std.proofs.lemmas.List.Elements.{recursion_from_All}
 use Rattle.std.proofs.lemmas.List.Folds.{list_any-append}
 use Rattle.jc_facts.specs.declared.class_facts.ClassFacts.{ClassFacts}
-use Rattle.jc_facts.specs.Names.{Bytes, same, same_package, package_of}
-use Rattle.jc_facts.specs.Flags.{is_public}
-use Rattle.jc_facts.specs.World.{World, Found as MemberOf, find, size, class_named, with_clients, is_client}
-use Rattle.jc_facts.specs.Hierarchy.{chain, names_in, in_chain}
-use Rattle.jc_facts.specs.Loading.{load_fault}
-use Rattle.jc_facts.specs.Access.{is_class_accessible, is_member_accessible}
-use Rattle.jc_facts.specs.Assignment.{is_assignable, passes_protected_check}
-use Rattle.jc_facts.specs.Seats.{is_member_open}
-use Rattle.jc_facts.specs.Clients.{is_allowed, seat}
+use Rattle.jc_facts.specs.Names.{Bytes, same, in_same_package, package_name}
+use Rattle.jc_facts.specs.Flags.{public_flag}
+use Rattle.jc_facts.specs.world.World.{World, DeclaredMember, find_class, size, class_named, with_clients, is_client}
+use Rattle.jc_facts.specs.world.Hierarchy.{chain, names_in, in_chain}
+use Rattle.jc_facts.specs.world.Loading.{load_fault}
+use Rattle.jc_facts.specs.world.Access.{is_class_accessible, is_member_accessible}
+use Rattle.jc_facts.specs.world.Assignment.{is_assignable, passes_protected_check}
+use Rattle.jc_facts.specs.rule.OpenActs.{is_member_open}
+use Rattle.jc_facts.specs.client.Clients.{is_allowed_name, seat}
 use Rattle.jc_facts.proofs.Same.{same_is}
-use Rattle.jc_facts.proofs.Listed.{EachOf}
-use Rattle.jc_laws.proofs.AgreementLaw.{each_name}
-use Rattle.jc_laws.proofs.Allowed.{unused_from_allowed}
-use Rattle.jc_laws.proofs.Chains.{in_chain-agree}
-use Rattle.jc_laws.proofs.FieldActs.{member_seat}
-use Rattle.jc_laws.proofs.Packages.{AllowedParts, allowed_parts, package_apart, same_package_apart}
-use Rattle.jc_laws.proofs.Sides.{IsLibrary, sides}
-use Rattle.jc_laws.proofs.WalkLaws.{seat_ends_the_clients}
-use Rattle.jc_laws.proofs.Worlds.{names, find-name, EachOf-class_named}
+use Rattle.jc_lemmas.proofs.Listed.{EachOf}
+use Rattle.jc_worlds.proofs.AgreementLaw.{each_name}
+use Rattle.jc_worlds.proofs.Allowed.{unused_from_allowed}
+use Rattle.jc_worlds.proofs.Chains.{in_chain-agree}
+use Rattle.jc_worlds.proofs.FieldActs.{member_seat}
+use Rattle.jc_worlds.proofs.Packages.{AllowedParts, allowed_parts, package_apart, same_package_apart}
+use Rattle.jc_worlds.proofs.Sides.{IsLibrary, sides}
+use Rattle.jc_worlds.proofs.WalkLaws.{seat_ends_the_clients}
+use Rattle.jc_facts.proofs.World.{names, find-name, EachOf-class_named}
 use Rattle.jc_table.specs.Ids.{name_at}
 use Rattle.jc_table.specs.Lookups.{IsFound}
 use Rattle.jc_table.specs.Sides.{IsSide}
 use Rattle.jc_table.specs.declared.ids.Found.{Found}
 use Rattle.jc_table.proofs.Numbers.{class_at}
-use Rattle.jc_access.specs.Parts.{inside_at, client_at, asks_receiver}
+use Rattle.jc_access.specs.steps.Parts.{inside_at, client_at, asks_receiver}
 use Rattle.jc_access.specs.Speaking.{SpeaksForSeat}
 use Rattle.jc_access.proofs.Assigned.{chain-there}
 
-module _ (W : World) (side : IsSide W) (clients : List ClassFacts) (allowed : All (λ c. is_allowed W c.name ≡ true) clients) where
-  each_allowed : EachOf (λ n. is_allowed W n ≡ true) (names clients)
-  each_allowed = each_name (λ n. is_allowed W n ≡ true) clients (recursion_from_All (λ c. is_allowed W c.name ≡ true) clients allowed)
+module _ (W : World) (side : IsSide W) (clients : List ClassFacts) (allowed : All (λ c. is_allowed_name W c.name ≡ true) clients) where
+  each_allowed : EachOf (λ n. is_allowed_name W n ≡ true) (names clients)
+  each_allowed = each_name (λ n. is_allowed_name W n ≡ true) clients (recursion_from_All (λ c. is_allowed_name W c.name ≡ true) clients allowed)
 
   named_parts : (x : Bytes) (o : Option ClassFacts) → class_named clients x ≡ o → is_some o ≡ true → AllowedParts W x
   named_parts x None e h = absurd (let c : false ≡ true = h in cc)
-  named_parts x (Some c) e h = allowed_parts W x (EachOf-class_named (λ n. is_allowed W n ≡ true) clients x c e each_allowed)
+  named_parts x (Some c) e h = allowed_parts W x (EachOf-class_named (λ n. is_allowed_name W n ≡ true) clients x c e each_allowed)
 
   -- a client's name is none of the side's
   client_parts : (x : Bytes) → is_client (with_clients W clients) x ≡ true → AllowedParts W x
@@ -48,14 +48,14 @@ module _ (W : World) (side : IsSide W) (clients : List ClassFacts) (allowed : Al
   client_parts x h = named_parts x (class_named clients x) refl h
 
   -- a class of the side is no client
-  not_client : (y : Bytes) (c : ClassFacts) → find W y ≡ Some c → (o : Option ClassFacts) → class_named clients y ≡ o → o ≡ None
+  not_client : (y : Bytes) (c : ClassFacts) → find_class W y ≡ Some c → (o : Option ClassFacts) → class_named clients y ≡ o → o ≡ None
   not_client y c f None e = refl
   not_client y c f (Some d) e =
-      let p : find W y ≡ None = (allowed_parts W y (EachOf-class_named (λ n. is_allowed W n ≡ true) clients y d e each_allowed)).absent in
+      let p : find_class W y ≡ None = (allowed_parts W y (EachOf-class_named (λ n. is_allowed_name W n ≡ true) clients y d e each_allowed)).absent in
       absurd (let q : Some c ≡ None = sym f ∙ p in cc)
 
   -- of names of the side the chain of a client has those that the chain of its seat has
-  chain_of_seat : (x a : Bytes) → load_fault (with_clients W clients) x ≡ None → seat (with_clients W clients) x ≡ Some a → (y : Bytes) (c : ClassFacts) → find W y ≡ Some c
+  chain_of_seat : (x a : Bytes) → load_fault (with_clients W clients) x ≡ None → seat (with_clients W clients) x ≡ Some a → (y : Bytes) (c : ClassFacts) → find_class W y ≡ Some c
       → in_chain (with_clients W clients) x y ≡ in_chain W a y
   unfolding is_client
   chain_of_seat x a h s y c f =
@@ -80,53 +80,53 @@ module _ (W : World) (side : IsSide W) (clients : List ClassFacts) (allowed : Al
       omega (arith, e, length-append (W.platform ++ W.release) W.clients, length-append (W.platform ++ W.release) clients)
 
   -- no class of the side has a client above it
-  never_above : (t x : Bytes) (c : ClassFacts) → find W t ≡ Some c → is_client (with_clients W clients) x ≡ true → in_chain (with_clients W clients) t x ≡ false
+  never_above : (t x : Bytes) (c : ClassFacts) → find_class W t ≡ Some c → is_client (with_clients W clients) x ≡ true → in_chain (with_clients W clients) t x ≡ false
   never_above t x c f i =
       sym (in_chain-agree W (with_clients W clients) (IsLibrary W clients side.no_clients) (sides W clients side.no_clients (unused_from_allowed W clients side.no_clients each_allowed)) grows t x
       (not_client t c f (class_named clients t) refl))
       ∙ chain-there W t x (client_parts x i).absent
 
-  member-client : (x a t : Bytes) (m : MemberOf) (o d : ClassFacts) → find W m.owner ≡ Some o → find W t ≡ Some d → is_client (with_clients W clients) x ≡ true → load_fault (with_clients W clients) x ≡ None
+  member-client : (x a t : Bytes) (m : DeclaredMember) (o d : ClassFacts) → find_class W m.owner ≡ Some o → find_class W t ≡ Some d → is_client (with_clients W clients) x ≡ true → load_fault (with_clients W clients) x ≡ None
       → seat (with_clients W clients) x ≡ Some a → is_member_accessible (with_clients W clients) x t m ≡ is_member_open W a t m
   member-client x a t m o d fo ft i h s =
       member_seat (with_clients W clients) W x a t m
-      (λ p. package_apart W x m.owner o (client_parts x i).apart fo (p ∙ ap package_of (sym (find-name W m.owner o fo))))
+      (λ p. package_apart W x m.owner o (client_parts x i).apart fo (p ∙ ap package_name (sym (find-name W m.owner o fo))))
       (chain_of_seat x a h s m.owner o fo) (chain_of_seat x a h s t d ft) (never_above t x d ft i)
 
-  class-client : (x y : Bytes) (d : ClassFacts) → find W y ≡ Some d → is_client (with_clients W clients) x ≡ true → same_package x d.name ≡ false
+  class-client : (x y : Bytes) (d : ClassFacts) → find_class W y ≡ Some d → is_client (with_clients W clients) x ≡ true → in_same_package x d.name ≡ false
   class-client x y d f i = same_package_apart W x y d (client_parts x i).apart f
 
 -- ---- for the answers
 
-pub class_spoken : (W : World) (a y : Bytes) (c d : ClassFacts) (b : Bool) → Some c ≡ find W y → find W y ≡ Some d → b ≡ is_public c.flags → b ≡ false → SpeaksForSeat W a (λ V x. is_class_accessible x d) false
+pub class_spoken : (W : World) (a y : Bytes) (c d : ClassFacts) (b : Bool) → Some c ≡ find_class W y → find_class W y ≡ Some d → b ≡ public_flag c.flags → b ≡ false → SpeaksForSeat W a (λ V x. is_class_accessible x d) false
 class_spoken W a y c d b f g e h side clients allowed x i l s =
     let is : c ≡ d = (let q : Some c ≡ Some d = f ∙ g in cc) in
-    sym (ap (λ p. p || same_package x d.name) (sym (e ∙ ap (λ z. is_public z.flags) is) ∙ h) ∙ class-client W side clients allowed x y d g i)
+    sym (ap (λ p. p || in_same_package x d.name) (sym (e ∙ ap (λ z. public_flag z.flags) is) ∙ h) ∙ class-client W side clients allowed x y d g i)
 
-pub class_inside : (W : World) (x y : Bytes) (c d : ClassFacts) (p b : Bool) → Some c ≡ find W y → find W y ≡ Some d → p ≡ is_public c.flags → p ≡ false → b ≡ same_package x y → b ≡ is_class_accessible x d
+pub class_inside : (W : World) (x y : Bytes) (c d : ClassFacts) (p b : Bool) → Some c ≡ find_class W y → find_class W y ≡ Some d → p ≡ public_flag c.flags → p ≡ false → b ≡ in_same_package x y → b ≡ is_class_accessible x d
 class_inside W x y c d p b f g e h q =
     let is : c ≡ d = (let z : Some c ≡ Some d = f ∙ g in cc) in
-    q ∙ ap (same_package x) (sym (find-name W y d g)) ∙ sym (ap (λ a. a || same_package x d.name) (sym (e ∙ ap (λ z. is_public z.flags) is) ∙ h))
+    q ∙ ap (in_same_package x) (sym (find-name W y d g)) ∙ sym (ap (λ a. a || in_same_package x d.name) (sym (e ∙ ap (λ z. public_flag z.flags) is) ∙ h))
 
-pub found_inside : (W : World) (x n : Bytes) (f : Found) (m : MemberOf) → IsFound W f m → inside_at W x n (name_at W f.owner) f.flags ≡ is_member_accessible W x n m
+pub found_inside : (W : World) (x n : Bytes) (f : Found) (m : DeclaredMember) → IsFound W f m → inside_at W x n (name_at W f.owner) f.flags ≡ is_member_accessible W x n m
 unfolding is_member_accessible
 found_inside W x n f m i = ap (λ o. inside_at W x n o f.flags) i.owner ∙ ap (inside_at W x n m.owner) i.flags
 
 -- the answer by the member's owner and flags is that by the member
-pub found_client : (W : World) (a n : Bytes) (f : Found) (m : MemberOf) → IsFound W f m → client_at W a n (name_at W f.owner) f.flags ≡ is_member_open W a n m
+pub found_client : (W : World) (a n : Bytes) (f : Found) (m : DeclaredMember) → IsFound W f m → client_at W a n (name_at W f.owner) f.flags ≡ is_member_open W a n m
 found_client W a n f m i = ap (λ o. client_at W a n o f.flags) i.owner ∙ ap (client_at W a n m.owner) i.flags
 
-pub member_spoken : (W : World) (a : Bytes) (n : ℕ) (f : Found) (m : MemberOf) (b : Bool) → n < size W → IsFound W f m → b ≡ client_at W a (name_at W n) (name_at W f.owner) f.flags
+pub member_spoken : (W : World) (a : Bytes) (n : ℕ) (f : Found) (m : DeclaredMember) (b : Bool) → n < size W → IsFound W f m → b ≡ client_at W a (name_at W n) (name_at W f.owner) f.flags
     → SpeaksForSeat W a (λ V x. is_member_accessible V x (name_at W n) m) b
 member_spoken W a n f m b l i e side clients allowed x c h s =
     let o = class_at W f.owner side.differ i.below in
     let t = class_at W n side.differ l in
     e ∙ found_client W a (name_at W n) f m i
-    ∙ sym (member-client W side clients allowed x a (name_at W n) m o.facts t.facts (ap (find W) (sym i.owner) ∙ o.found) t.found c h s)
+    ∙ sym (member-client W side clients allowed x a (name_at W n) m o.facts t.facts (ap (find_class W) (sym i.owner) ∙ o.found) t.found c h s)
 
 -- ---- the check on protected members
 
-module _ (W : World) (x n : Bytes) (f : Found) (m : MemberOf) (r : Bytes) (i : IsFound W f m) (b : Bool) (e : b ≡ asks_receiver W x n (name_at W f.owner) f.flags) where
+module _ (W : World) (x n : Bytes) (f : Found) (m : DeclaredMember) (r : Bytes) (i : IsFound W f m) (b : Bool) (e : b ≡ asks_receiver W x n (name_at W f.owner) f.flags) where
   asked : asks_receiver W x n m.owner m.member.flags ≡ b
   asked = sym (e ∙ ap (λ o. asks_receiver W x n o f.flags) i.owner ∙ ap (asks_receiver W x n m.owner) i.flags)
 

@@ -1,5 +1,3 @@
-pub mod Seats
-pub mod Parts
-pub mod Nests
 pub mod Speaking
-pub mod Texts
+pub mod steps
+pub mod SeatAccess

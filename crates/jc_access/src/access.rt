@@ -1,14 +1,14 @@
 //! Access to classes and members (JVMS 5.4.4).
 ghost use Rattle.std.specs.Prelude.{◌≡◌, ◌<◌, Some};
 ghost use Rattle.jc_facts.specs.declared.class_facts.ClassFacts.{ClassFacts as ClassOf};
-ghost use Rattle.jc_facts.specs.Flags.{is_package_private as package_private};
-ghost use Rattle.jc_facts.specs.Access.{is_class_accessible, is_member_accessible};
-ghost use Rattle.jc_facts.specs.World.{Found as MemberOf, find, size};
+ghost use Rattle.jc_facts.specs.Flags.{package_private};
+ghost use Rattle.jc_facts.specs.world.Access.{is_class_accessible, is_member_accessible};
+ghost use Rattle.jc_facts.specs.world.World.{DeclaredMember, find_class, size};
 ghost use Rattle.jc_table.specs.Ids.{name_at};
 ghost use Rattle.jc_table.specs.Lookups.{IsFound};
-ghost use Rattle.jc_access.specs.Seats.{class_open, member_open, IsSeatOf};
+ghost use Rattle.jc_access.specs.SeatAccess.{class_open, member_open, IsSeatOf};
 ghost use Rattle.jc_access.specs.Speaking.{SpeaksFor};
-ghost use Rattle.jc_access.specs.Parts.{inherited_at, inside_at, client_at};
+ghost use Rattle.jc_access.specs.steps.Parts.{inherited_at, inside_at, client_at};
 
 use crate::names::in_one_package;
 use crate::nests::same_nest;
@@ -32,8 +32,8 @@ pub enum Seat {
 pub fn class_access(table: &Table, from: Seat, class: ClassId) -> bool
     requires from { IsSeatOf table.now from }
     requires class { class < size table.now }
-    ensures value { (d : ClassOf) → find table.now (name_at table.now class) ≡ Some d → result ≡ class_open table.now from d }
-    ensures clients { (d : ClassOf) → find table.now (name_at table.now class) ≡ Some d → SpeaksFor table.now from (λ V x. is_class_accessible x d) result }
+    ensures value { (d : ClassOf) → find_class table.now (name_at table.now class) ≡ Some d → result ≡ class_open table.now from d }
+    ensures clients { (d : ClassOf) → find_class table.now (name_at table.now class) ≡ Some d → SpeaksFor table.now from (λ V x. is_class_accessible x d) result }
 {
     if is_public(table.facts(class).flags) {
         return true;
@@ -97,8 +97,8 @@ pub fn accessible(table: &Table, from: Seat, found: Found, named: ClassId) -> bo
     requires from { IsSeatOf table.now from }
     requires owner { found.owner < size table.now }
     requires named { named < size table.now }
-    ensures value { (m : MemberOf) → IsFound table.now found m → result ≡ member_open table.now from (name_at table.now named) m }
-    ensures clients { (m : MemberOf) → IsFound table.now found m → SpeaksFor table.now from (λ V x. is_member_accessible V x (name_at table.now named) m) result }
+    ensures value { (m : DeclaredMember) → IsFound table.now found m → result ≡ member_open table.now from (name_at table.now named) m }
+    ensures clients { (m : DeclaredMember) → IsFound table.now found m → SpeaksFor table.now from (λ V x. is_member_accessible V x (name_at table.now named) m) result }
 {
     match from {
         Seat::Inside(id) => inside(table, id, found, named),

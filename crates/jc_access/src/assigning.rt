@@ -1,9 +1,9 @@
 //! Assignment of types (JVMS 4.10.1.2).
 ghost use Rattle.std.specs.Prelude.{◌≡◌};
-ghost use Rattle.jc_desc.specs.Views.{basic, view};
-ghost use Rattle.jc_facts.specs.Assignment.{assign_class as class_assigned, assign_element as element_assigned, assign_to, takes_arrays as takes_all_arrays, is_assignable};
-ghost use Rattle.jc_facts.specs.Types.{Class, element_of, array_type, read_type as type_of, is_array as array_text};
-ghost use Rattle.jc_access.specs.Texts.{element_view, text_view};
+ghost use Rattle.jc_desc.specs.Views.{basic, type_view};
+ghost use Rattle.jc_facts.specs.world.Assignment.{is_class_assignable, is_element_assignable, assign_to, takes_any_array, is_assignable};
+ghost use Rattle.jc_facts.specs.world.Types.{Class, element_of, array_type, type_read, is_array_text};
+ghost use Rattle.jc_access.specs.steps.TypeTexts.{element_view, text_view};
 
 use jc_base::name::Name;
 use jc_desc::field::{Base, field_type};
@@ -43,7 +43,7 @@ fn base_element(base: Base<'_>) -> Element<'_>
 
 // Whether the text is to be read as that of an array.
 fn is_array(text: &[u8]) -> bool
-    ensures { result ≡ array_text text.now }
+    ensures { result ≡ is_array_text text.now }
 {
     match text.first() {
         Some(first) => *first == b'[',
@@ -53,9 +53,9 @@ fn is_array(text: &[u8]) -> bool
 
 // The type that the text describes; none where it begins as an array and is no descriptor
 // (JVMS 4.4.1).
-#[tactic(auto, unfolding(jc_facts::specs::Types::read_type))]
+#[tactic(auto, unfolding(jc_facts::specs::world::Types::type_read))]
 fn read_type(text: &[u8]) -> Option<TypeText<'_>>
-    ensures { text_view result ≡ type_of text.now }
+    ensures { text_view result ≡ type_read text.now }
 {
     if is_array(text) {
         let field = field_type(text)?;
@@ -73,7 +73,7 @@ fn read_type(text: &[u8]) -> Option<TypeText<'_>>
 
 // Whether it is one of the three classes that every array is assignable to.
 fn takes_all(name: &[u8]) -> bool
-    ensures { result ≡ takes_all_arrays (Class name.now) }
+    ensures { result ≡ takes_any_array (Class name.now) }
 {
     if b"java/lang/Object".as_slice() == name {
         return true;
@@ -86,7 +86,7 @@ fn takes_all(name: &[u8]) -> bool
 
 // Whether every array is assignable to it.
 fn takes_arrays(to: Element<'_>) -> bool
-    ensures { result ≡ takes_all_arrays (element_view to.entry) }
+    ensures { result ≡ takes_any_array (element_view to.entry) }
 {
     match to {
         Element::Primitive(_) => false,
@@ -97,7 +97,7 @@ fn takes_arrays(to: Element<'_>) -> bool
 // Whether the class of the first name is assignable to that of the second: they are equal, or the
 // second is an interface, or a superclass of the first.
 fn assign_class(table: &Table, from: &[u8], to: &[u8]) -> bool
-    ensures { result ≡ class_assigned table.now from.now to.now }
+    ensures { result ≡ is_class_assignable table.now from.now to.now }
 {
     if from == to {
         return true;
@@ -116,7 +116,7 @@ fn assign_class(table: &Table, from: &[u8], to: &[u8]) -> bool
 
 // Whether the first element is assignable to the second, where the dimensions are equal.
 fn assign_element(table: &Table, from: Element<'_>, to: Element<'_>) -> bool
-    ensures { result ≡ element_assigned table.now (element_view from.entry) (element_view to.entry) }
+    ensures { result ≡ is_element_assignable table.now (element_view from.entry) (element_view to.entry) }
 {
     match from {
         Element::Primitive(one) => match to {
@@ -147,7 +147,7 @@ fn assign(table: &Table, from: TypeText<'_>, to: TypeText<'_>) -> bool
 /// array by its descriptor (JVMS 4.4.1, 4.10.1.2). An ill-formed array is assignable to nothing,
 /// and nothing to it. The names may be any, and the answer is about the classes of the table: it
 /// speaks for no client. Takes no memory.
-#[tactic(auto, unfolding(jc_facts::specs::Assignment::is_assignable))]
+#[tactic(auto, unfolding(jc_facts::specs::world::Assignment::is_assignable))]
 pub fn assignable(table: &Table, from: &Name, to: &Name) -> bool
     ensures { result ≡ is_assignable table.now from.now to.now }
 {

@@ -6,5 +6,3 @@ pub mod assigning;
 mod names;
 mod nests;
 pub mod protection;
-#[cfg(test)]
-mod tests;

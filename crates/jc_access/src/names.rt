@@ -1,7 +1,7 @@
 //! The names of a table's classes.
 ghost use Rattle.std.specs.Prelude.{◌≡◌, ◌<◌};
-ghost use Rattle.jc_facts.specs.Names.{same_package as in_same_package};
-ghost use Rattle.jc_facts.specs.World.{size};
+ghost use Rattle.jc_facts.specs.Names.{in_same_package};
+ghost use Rattle.jc_facts.specs.world.World.{size};
 ghost use Rattle.jc_table.specs.Ids.{name_at};
 
 use jc_base::name::Name;

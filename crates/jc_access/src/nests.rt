@@ -1,15 +1,15 @@
 //! Nests of classes (JVMS 5.4.4).
 ghost use Rattle.std.specs.Prelude.{◌≡◌, ◌<◌};
-ghost use Rattle.jc_facts.specs.Access.{host_of, same_nest as in_same_nest};
-ghost use Rattle.jc_facts.specs.World.{size};
+ghost use Rattle.jc_facts.specs.world.Access.{host_of, are_nestmates};
+ghost use Rattle.jc_facts.specs.world.World.{size};
 ghost use Rattle.jc_table.specs.Ids.{name_at};
-ghost use Rattle.jc_access.specs.Nests.{takes_in};
+ghost use Rattle.jc_access.specs.steps.Nests.{takes_in};
 
 use crate::names::name_of;
 use jc_base::name::Name;
 use jc_table::ids::ClassId;
 use jc_table::packages::same_package;
-use jc_table::refusal::is_among;
+use jc_table::supertypes::is_among;
 use jc_table::table::Table;
 
 // Whether the class named as the host is there, of the member's package, and names it back.
@@ -48,7 +48,7 @@ fn nest_host(table: &Table, class: ClassId) -> &Name
 pub(crate) fn same_nest(table: &Table, one: ClassId, other: ClassId) -> bool
     requires one { one < size table.now }
     requires other { other < size table.now }
-    ensures { result ≡ in_same_nest table.now (name_at table.now one) (name_at table.now other) }
+    ensures { result ≡ are_nestmates table.now (name_at table.now one) (name_at table.now other) }
 {
     nest_host(table, one) == nest_host(table, other)
 }

@@ -1,10 +1,10 @@
 //! The check on protected members.
 ghost use Rattle.std.specs.Prelude.{◌≡◌, ◌<◌};
-ghost use Rattle.jc_facts.specs.Assignment.{passes_protected_check};
-ghost use Rattle.jc_facts.specs.World.{Found as MemberOf, size};
+ghost use Rattle.jc_facts.specs.world.Assignment.{passes_protected_check};
+ghost use Rattle.jc_facts.specs.world.World.{DeclaredMember, size};
 ghost use Rattle.jc_table.specs.Ids.{name_at};
 ghost use Rattle.jc_table.specs.Lookups.{IsFound};
-ghost use Rattle.jc_access.specs.Parts.{asks_receiver};
+ghost use Rattle.jc_access.specs.steps.Parts.{asks_receiver};
 
 use crate::assigning::assignable;
 use crate::names::{in_one_package, name_of};
@@ -36,7 +36,7 @@ pub fn protected_ok(
     requires current { current < size table.now }
     requires named { named < size table.now }
     requires owner { found.owner < size table.now }
-    ensures { (m : MemberOf) → IsFound table.now found m → result ≡ passes_protected_check table.now (name_at table.now current) (name_at table.now named) m receiver.now }
+    ensures { (m : DeclaredMember) → IsFound table.now found m → result ≡ passes_protected_check table.now (name_at table.now current) (name_at table.now named) m receiver.now }
 {
     if !is_asked(table, current, named, found.owner, found.flags) {
         return true;

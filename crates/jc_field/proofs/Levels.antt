@@ -6,14 +6,14 @@ use Rattle.jc_facts.specs.declared.class_facts.ClassFacts.{ClassFacts}
 use Rattle.jc_facts.specs.declared.key.Key.{Key}
 use Rattle.jc_facts.specs.Names.{Bytes}
 use Rattle.jc_facts.specs.Options.{or_else, first_some, and_then}
-use Rattle.jc_facts.specs.World.{World, find, size, own_field, found_in}
-use Rattle.jc_facts.specs.Lookup.{field_found, field_step}
-use Rattle.jc_laws.proofs.Descent.{descend-absent, descend-none_left, descend-found}
+use Rattle.jc_facts.specs.world.World.{World, find_class, size, own_field_of, found_in}
+use Rattle.jc_facts.specs.world.Lookup.{field_found, field_step}
+use Rattle.jc_worlds.proofs.Descent.{descend-absent, descend-none_left, descend-found}
 use Rattle.jc_table.specs.Ids.{name_at, id_of}
 use Rattle.jc_table.specs.Lookups.{IsAnswer}
 use Rattle.jc_table.specs.declared.ids.Found.{Found}
 use Rattle.jc_table.proofs.Numbers.{id_of-Some, find-None}
-use Rattle.jc_field.specs.Fields.{own_found, found_to}
+use Rattle.jc_field.specs.steps.Fields.{own_found, found_to}
 use Rattle.jc_field.proofs.Steps.{answer_none, answer_or, answer_else}
 
 module _ (W : World) (k : Key) (x : Bytes) where
@@ -22,19 +22,19 @@ module _ (W : World) (k : Key) (x : Bytes) where
 
   -- no level is left
   pub level_none : (n : ℕ) → n ≡ 0 → IsAnswer W None (found_to W k n x)
-  level_none n e = subst (λ j. IsAnswer W None (found_to W k j x)) (sym e) (go (find W x) refl)
+  level_none n e = subst (λ j. IsAnswer W None (found_to W k j x)) (sym e) (go (find_class W x) refl)
     where
-      go : (o : Option ClassFacts) → find W x ≡ o → IsAnswer W None (found_to W k zero x)
+      go : (o : Option ClassFacts) → find_class W x ≡ o → IsAnswer W None (found_to W k zero x)
       go None f = subst (IsAnswer W None) (sym (descend-absent W None None (field_step k) zero x f)) tt
       go (Some c) f = subst (IsAnswer W None) (sym (descend-none_left W None None (field_step k) x c f)) tt
 
-  module _ (a : ℕ) (c : ClassFacts) (i : Some a ≡ id_of W x) (f : Some c ≡ find W (name_at W a)) where
-    found : find W x ≡ Some c
-    found = ap (find W) (sym (id_of-Some W x a (sym i)).1) ∙ sym f
+  module _ (a : ℕ) (c : ClassFacts) (i : Some a ≡ id_of W x) (f : Some c ≡ find_class W (name_at W a)) where
+    found : find_class W x ≡ Some c
+    found = ap (find_class W) (sym (id_of-Some W x a (sym i)).1) ∙ sym f
 
-    own-is : own_found W (name_at W a) k ≡ found_in c (own_field c k)
+    own-is : own_found W (name_at W a) k ≡ found_in c (own_field_of c k)
     unfolding and_then
-    own-is = ap (and_then (λ d. found_in d (own_field d k))) (sym f)
+    own-is = ap (and_then (λ d. found_in d (own_field_of d k))) (sym f)
 
     module _ (n m : ℕ) (e : n ≡ suc m) where
       split : found_to W k n x ≡ or_else (own_found W (name_at W a) k) (or_else (first_some (found_to W k m) c.interfaces) (and_then (found_to W k m) c.superclass))

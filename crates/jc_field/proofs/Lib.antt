@@ -1,5 +1,3 @@
-pub mod Reached
 pub mod Declared
 pub mod Steps
-pub mod Sets
 pub mod Levels

@@ -10,44 +10,43 @@ use Rattle.jc_facts.specs.declared.class_facts.Member.{Member}
 use Rattle.jc_facts.specs.declared.key.Key.{Key}
 use Rattle.jc_facts.specs.Names.{Bytes}
 use Rattle.jc_facts.specs.Options.{or_else, first_some, and_then, some_and}
-use Rattle.jc_facts.specs.World.{World, find, size, own_field, Found as MemberOf, found_in}
-use Rattle.jc_facts.specs.Search.{supers_of}
-use Rattle.jc_facts.specs.Flags.{is_interface}
-use Rattle.jc_facts.specs.Hierarchy.{each, with_interfaces}
-use Rattle.jc_facts.specs.Loading.{load_fault, fault_at}
-use Rattle.jc_facts.specs.Lookup.{field_found, field_step}
-use Rattle.jc_facts.specs.Assignment.{is_interface_of}
-use Rattle.jc_facts.proofs.Listed.{EachOf, each_in}
-use Rattle.jc_laws.proofs.Allowed.{or_first}
-use Rattle.jc_laws.proofs.Descent.{descend-absent}
-use Rattle.jc_laws.proofs.Settles.{EachOf-both}
-use Rattle.jc_laws.proofs.Loaded.{loaded-parts, loaded-level, loads-parts, loads-found}
-use Rattle.jc_laws.proofs.Locality.{of_interfaces}
-use Rattle.jc_laws.proofs.Named.{with_interfaces-unroll}
-use Rattle.jc_laws.proofs.Worlds.{find-name}
+use Rattle.jc_facts.specs.world.World.{World, find_class, size, own_field_of, DeclaredMember, found_in}
+use Rattle.jc_facts.specs.world.Search.{supers_of}
+use Rattle.jc_facts.specs.Flags.{interface_flag}
+use Rattle.jc_facts.specs.world.Hierarchy.{each, with_interfaces}
+use Rattle.jc_facts.specs.world.Loading.{load_fault, fault_at}
+use Rattle.jc_facts.specs.world.Lookup.{field_found, field_step}
+use Rattle.jc_facts.specs.world.Assignment.{is_interface_of}
+use Rattle.jc_lemmas.proofs.Listed.{EachOf, each_in, EachOf-both}
+use Rattle.std.proofs.lemmas.Bool.{or_left}
+use Rattle.jc_worlds.proofs.Descent.{descend-absent}
+use Rattle.jc_worlds.proofs.Loaded.{loaded-parts, loaded-level, loads-parts, loads-found}
+use Rattle.jc_worlds.proofs.Locality.{of_interfaces}
+use Rattle.jc_worlds.proofs.Unrolled.{with_interfaces-unroll}
+use Rattle.jc_facts.proofs.World.{find-name}
 use Rattle.jc_table.specs.Ids.{name_at, id_of, superclass_of}
 use Rattle.jc_table.specs.Above.{AreAbove}
 use Rattle.jc_table.specs.Lookups.{IsAnswer}
 use Rattle.jc_table.specs.Sides.{IsSide}
 use Rattle.jc_table.specs.declared.ids.Found.{Found}
 use Rattle.jc_table.proofs.Numbers.{IsClass, class_at, id_of-Some, superclass_is, find-None}
-use Rattle.jc_field.specs.Fields.{declares_field, declares_at, own_found, interfaces_found, here_found, AreReady, GivenBy, Gives}
-use Rattle.jc_field.proofs.Reached.{any_reached}
+use Rattle.jc_field.specs.steps.Fields.{declares_field, declares_at, own_found, interfaces_found, here_found, AreReady, GivenBy, Gives}
+use Rattle.jc_table.proofs.Reached.{any_reached}
 use Rattle.jc_field.proofs.Declared.{stepped, kinds, interface_has, no_super}
 
 -- ---- the class's own field
 
-pub own-Some : (W : World) (n : ℕ) (k : Key) (c : ClassFacts) (m : Member) → n < size W → Some c ≡ find W (name_at W n) → Some m ≡ own_field c k
+pub own-Some : (W : World) (n : ℕ) (k : Key) (c : ClassFacts) (m : Member) → n < size W → Some c ≡ find_class W (name_at W n) → Some m ≡ own_field_of c k
     → IsAnswer W (Some (record { owner = n; flags = m.flags })) (own_found W (name_at W n) k)
 unfolding and_then found_in
 own-Some W n k c m l f o =
-    let is : own_found W (name_at W n) k ≡ Some (record { owner = c.name; member = m }) = ap (and_then (λ d. found_in d (own_field d k))) (sym f) ∙ ap (found_in c) (sym o) in
+    let is : own_found W (name_at W n) k ≡ Some (record { owner = c.name; member = m }) = ap (and_then (λ d. found_in d (own_field_of d k))) (sym f) ∙ ap (found_in c) (sym o) in
     subst (IsAnswer W (Some (record { owner = n; flags = m.flags }))) (sym is) (record { below = l; owner = sym (find-name W (name_at W n) c (sym f)); flags = refl })
 
-pub own-None : (W : World) (n : ℕ) (k : Key) (c : ClassFacts) → Some c ≡ find W (name_at W n) → None ≡ own_field c k → IsAnswer W None (own_found W (name_at W n) k)
+pub own-None : (W : World) (n : ℕ) (k : Key) (c : ClassFacts) → Some c ≡ find_class W (name_at W n) → None ≡ own_field_of c k → IsAnswer W None (own_found W (name_at W n) k)
 unfolding and_then found_in
 own-None W n k c f o =
-    let is : own_found W (name_at W n) k ≡ None = ap (and_then (λ d. found_in d (own_field d k))) (sym f) ∙ ap (found_in c) (sym o) in
+    let is : own_found W (name_at W n) k ≡ None = ap (and_then (λ d. found_in d (own_field_of d k))) (sym f) ∙ ap (found_in c) (sym o) in
     subst (IsAnswer W None) (sym is) tt
 
 -- ---- interfaces
@@ -69,7 +68,7 @@ pub has-here : (W : World) → IsSide W → (k : Key) (n : ℕ) (b : Bool) → n
 has-here W s k n b l i h e t =
     let c = class_at W n s.differ l in
     t ∙ sym (interface_has W s k (name_at W n) h i ∙ ap (list_any (declares_field k)) (with_interfaces-unroll W (name_at W n) c.facts c.found h)
-    ∙ or_first (declares_field k c.facts) (list_any (declares_field k) (each (with_interfaces W) c.facts.interfaces)) (sym (ap (some_and (declares_field k)) c.found) ∙ sym e ∙ t))
+    ∙ or_left (declares_field k c.facts) (list_any (declares_field k) (each (with_interfaces W) c.facts.interfaces)) (sym (ap (some_and (declares_field k)) c.found) ∙ sym e ∙ t))
 
 pub has-there : (W : World) → IsSide W → (k : Key) (n : ℕ) (ids : List ℕ) (a b : Bool) → n < size W → is_interface_of W (name_at W n) ≡ true → load_fault W (name_at W n) ≡ None → AreAbove W (name_at W n) ids
     → a ≡ declares_at W k n → a ≡ false → b ≡ list_any (declares_at W k) ids → b ≡ is_some (field_found W (name_at W n) k)
@@ -78,7 +77,7 @@ has-there W s k n ids a b l i h above e f g =
 
 -- ---- the interfaces that a class names
 
-pub all_ready : (W : World) → IsSide W → (k : Key) (n : ℕ) (c : ClassFacts) → Some c ≡ find W (name_at W n) → load_fault W (name_at W n) ≡ None → AreReady W c.interfaces
+pub all_ready : (W : World) → IsSide W → (k : Key) (n : ℕ) (c : ClassFacts) → Some c ≡ find_class W (name_at W n) → load_fault W (name_at W n) ≡ None → AreReady W c.interfaces
 all_ready W s k n c f h = All-from_recursion (λ y. (is_interface_of W y ≡ true) × (load_fault W y ≡ None)) c.interfaces
     (EachOf-both (λ y i l. (i, l)) c.interfaces (kinds W s k (name_at W n) c (sym f) h) (of_interfaces (λ y. load_fault W y ≡ None) c.superclass c.interfaces (loads-parts W (name_at W n) c (sym f) h).0))
 
@@ -97,19 +96,19 @@ ready_at W ys at y n a l e i = subst (λ z. (is_interface_of W z ≡ true) × (l
     e' = sym e
 
 module _ (W : World) (k : Key) where
-  gives : Bytes → Option MemberOf
+  gives : Bytes → Option DeclaredMember
   gives y = field_found W y k
 
   first_at : (ys : List Bytes) (at : ℕ) (y : Bytes) → at < length ys → y ≡ get_or ys at y → first_some gives (drop at ys) ≡ or_else (gives y) (first_some gives (drop (at + 1) ys))
   unfolding first_some
   first_at ys at y l e = ap (first_some gives) (drop_more ys at y l) ∙ ap (λ z. or_else (gives z) (first_some gives (drop (at + 1) ys))) (sym e)
 
-  or_some : (o p : Option MemberOf) → is_some o ≡ true → or_else o p ≡ o
+  or_some : (o p : Option DeclaredMember) → is_some o ≡ true → or_else o p ≡ o
   unfolding or_else
   or_some None p h = absurd (let c : false ≡ true = h in cc)
   or_some (Some x) p h = refl
 
-  or_none : (o p : Option MemberOf) → is_some o ≡ false → or_else o p ≡ p
+  or_none : (o p : Option DeclaredMember) → is_some o ≡ false → or_else o p ≡ p
   unfolding or_else
   or_none None p h = refl
   or_none (Some x) p h = absurd (let c : true ≡ false = h in cc)
@@ -151,19 +150,19 @@ unfolding or_else
 or_assoc None p q = refl
 or_assoc (Some x) p q = refl
 
-pub answer_none : (W : World) (o : Option MemberOf) → IsAnswer W None o → o ≡ None
+pub answer_none : (W : World) (o : Option DeclaredMember) → IsAnswer W None o → o ≡ None
 answer_none W None a = refl
 answer_none W (Some m) a = absurd a
 
-pub answer_or : (W : World) (f : Found) (o p : Option MemberOf) → IsAnswer W (Some f) o → IsAnswer W (Some f) (or_else o p)
+pub answer_or : (W : World) (f : Found) (o p : Option DeclaredMember) → IsAnswer W (Some f) o → IsAnswer W (Some f) (or_else o p)
 unfolding or_else
 answer_or W f None p a = absurd a
 answer_or W f (Some m) p a = a
 
-pub answer_else : (W : World) (r : Option Found) (o p : Option MemberOf) → IsAnswer W None o → IsAnswer W r p → IsAnswer W r (or_else o p)
+pub answer_else : (W : World) (r : Option Found) (o p : Option DeclaredMember) → IsAnswer W None o → IsAnswer W r p → IsAnswer W r (or_else o p)
 answer_else W r o p a b = subst (IsAnswer W r) (sym (ap (λ q. or_else q p) (answer_none W o a))) (first p b)
   where
-    first : (p : Option MemberOf) → IsAnswer W r p → IsAnswer W r (or_else None p)
+    first : (p : Option DeclaredMember) → IsAnswer W r p → IsAnswer W r (or_else None p)
     first p b = subst (IsAnswer W r) (none_first p) b
 
 -- ---- levels
@@ -180,12 +179,12 @@ module _ (W : World) (side : IsSide W) (k : Key) (a : ℕ) (l : a < size W) wher
   at = class_at W a side.differ l
 
   -- what its superclass gives
-  above_found : Option MemberOf
+  above_found : Option DeclaredMember
   above_found = and_then (λ z. field_found W z k) at.facts.superclass
 
-  own-is : own_found W (name_at W a) k ≡ found_in at.facts (own_field at.facts k)
+  own-is : own_found W (name_at W a) k ≡ found_in at.facts (own_field_of at.facts k)
   unfolding and_then
-  own-is = ap (and_then (λ d. found_in d (own_field d k))) at.found
+  own-is = ap (and_then (λ d. found_in d (own_field_of d k))) at.found
 
   interfaces-is : interfaces_found W (name_at W a) k ≡ first_some (λ i. field_found W i k) at.facts.interfaces
   unfolding and_then
@@ -225,7 +224,7 @@ module _ (W : World) (side : IsSide W) (k : Key) (a : ℕ) (l : a < size W) wher
   pub next_gives : load_fault W (name_at W a) ≡ None → is_interface_of W (name_at W a) ≡ true → IsAnswer W None (own_found W (name_at W a) k) → field_found W (name_at W a) k ≡ interfaces_found W (name_at W a) k
   unfolding above_found
   next_gives h i o =
-      let j : is_interface at.facts.flags ≡ true = sym (ap (some_and (λ d. is_interface d.flags)) at.found) ∙ i in
+      let j : interface_flag at.facts.flags ≡ true = sym (ap (some_and (λ d. interface_flag d.flags)) at.found) ∙ i in
       split h ∙ ap (λ q. or_else q (or_else (interfaces_found W (name_at W a) k) above_found)) (answer_none W (own_found W (name_at W a) k) o)
       ∙ sym (none_first (or_else (interfaces_found W (name_at W a) k) above_found))
       ∙ ap (or_else (interfaces_found W (name_at W a) k)) (no_super W side k (name_at W a) at.facts at.found j) ∙ none_last (interfaces_found W (name_at W a) k)

@@ -1,14 +1,14 @@
 //! Resolution of fields (JVMS 5.4.3.2).
 ghost use Rattle.std.specs.Prelude.{◌≡◌, ◌<◌, None, IsTrue, is_some};
 ghost use Rattle.std.specs.List.{All, list_any};
-ghost use Rattle.jc_facts.specs.World.{size};
-ghost use Rattle.jc_facts.specs.Loading.{load_fault};
-ghost use Rattle.jc_facts.specs.Lookup.{field_found};
-ghost use Rattle.jc_facts.specs.Assignment.{is_interface_of};
+ghost use Rattle.jc_facts.specs.world.World.{size};
+ghost use Rattle.jc_facts.specs.world.Loading.{load_fault};
+ghost use Rattle.jc_facts.specs.world.Lookup.{field_found};
+ghost use Rattle.jc_facts.specs.world.Assignment.{is_interface_of};
 ghost use Rattle.jc_table.specs.Ids.{name_at};
 ghost use Rattle.jc_table.specs.Lookups.{IsAnswer};
 ghost use Rattle.jc_table.specs.Sides.{IsSide};
-ghost use Rattle.jc_field.specs.Fields.{declares_at, own_found, interfaces_found, here_found, AreReady, GivenBy, Gives};
+ghost use Rattle.jc_field.specs.steps.Fields.{declares_at, own_found, interfaces_found, here_found, AreReady, GivenBy, Gives};
 
 use jc_base::name::Name;
 use jc_facts::key::Key;

@@ -2,15 +2,15 @@
 ghost use Rattle.std.specs.Prelude.{◌≡◌, ◌<◌, None, IfOk, IsTrue, is_some};
 ghost use Rattle.std.specs.List.{All, list_any};
 ghost use Rattle.std.specs.BTreeSet.{IsOrdered};
-ghost use Rattle.jc_facts.specs.World.{size, own_field};
+ghost use Rattle.jc_facts.specs.world.World.{size, own_field_of};
 ghost use Rattle.jc_facts.specs.KeyOrder.{key_cmp};
-ghost use Rattle.jc_facts.specs.Loading.{load_fault};
-ghost use Rattle.jc_facts.specs.Orders.{HasExactly};
-ghost use Rattle.jc_laws.specs.Findings.{above};
+ghost use Rattle.jc_facts.specs.world.Loading.{load_fault};
+ghost use Rattle.jc_facts.specs.Exactly.{HasExactly};
+ghost use Rattle.jc_worlds.specs.Hierarchy.{above};
 ghost use Rattle.jc_table.specs.Ids.{name_at};
 ghost use Rattle.jc_table.specs.Lookups.{declare_field};
-ghost use Rattle.jc_field.specs.Collecting.{Adds, HasKeys};
-ghost use Rattle.jc_field.specs.Fields.{declares_at};
+ghost use Rattle.jc_field.specs.steps.Collecting.{Adds, HasKeys};
+ghost use Rattle.jc_field.specs.steps.Fields.{declares_at};
 
 use jc_facts::class_facts::ClassFacts;
 use jc_facts::key::Key;
@@ -22,7 +22,7 @@ use std::collections::BTreeSet;
 
 // Adds the keys of the class's own fields.
 fn add_class<'a>(keys: &mut BTreeSet<KeyRef<'a>>, class: &'a ClassFacts) -> Result<(), AllocError>
-    ensures { IfOk result (λ _. Adds (λ k. is_some (own_field class.now k)) keys.old keys.new) }
+    ensures { IfOk result (λ _. Adds (λ k. is_some (own_field_of class.now k)) keys.old keys.new) }
 {
     for member in class.fields.as_slice() {
         keys.insert(KeyRef::of_member(member))?;

@@ -4,7 +4,5 @@
 pub mod find;
 pub mod keys;
 pub mod plain;
-#[cfg(test)]
-mod tests;
 
 pub use jc_table::ids::Found;

@@ -2,11 +2,11 @@
 //!
 //! It looks at an interface again for each way that leads to it, so it is for small sides alone.
 ghost use Rattle.std.specs.Prelude.{◌≡◌, ◌<◌};
-ghost use Rattle.jc_facts.specs.World.{size};
-ghost use Rattle.jc_facts.specs.Lookup.{field_found};
+ghost use Rattle.jc_facts.specs.world.World.{size};
+ghost use Rattle.jc_facts.specs.world.Lookup.{field_found};
 ghost use Rattle.jc_table.specs.Ids.{name_at};
 ghost use Rattle.jc_table.specs.Lookups.{IsAnswer};
-ghost use Rattle.jc_field.specs.Fields.{found_to};
+ghost use Rattle.jc_field.specs.steps.Fields.{found_to};
 
 use crate::find::own;
 use jc_facts::key::Key;

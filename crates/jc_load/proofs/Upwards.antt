@@ -3,38 +3,38 @@ use Rattle.std.proofs.Common.{◌≡◌, ℕ, suc, Bool, true, false, ◌||◌, 
 use Rattle.std.specs.List.{list_any}
 use Rattle.jc_facts.specs.declared.class_facts.ClassFacts.{ClassFacts}
 use Rattle.jc_facts.specs.declared.key.Key.{Key}
-use Rattle.jc_facts.specs.World.{World, find, size}
-use Rattle.jc_facts.specs.Hierarchy.{chain}
-use Rattle.jc_facts.specs.Words.{declares_final, finals}
+use Rattle.jc_facts.specs.world.World.{World, find_class, size}
+use Rattle.jc_facts.specs.world.Hierarchy.{chain}
+use Rattle.jc_facts.specs.rule.Bases.{declares_as_final, is_final_in_chain}
 use Rattle.jc_table.specs.Ids.{name_at, superclass_of}
-use Rattle.jc_table.specs.Walking.{chain_from}
+use Rattle.jc_table.specs.steps.Walking.{chain_from}
 use Rattle.jc_table.proofs.Walking.{from-step, from-none, from-nothing}
 
 -- a class from this number up, so many of them at most, declares the key so
 abbrev pub declared_from : World → Key → ℕ → Option ℕ → Bool
-declared_from W k n next = list_any (declares_final k) (chain_from W n next)
+declared_from W k n next = list_any (declares_as_final k) (chain_from W n next)
 
-pub finals-from : (W : World) (id m : ℕ) (k : Key) → m ≡ size W → finals W (name_at W id) k ≡ declared_from W k m (Some id)
-unfolding finals chain chain_from
+pub finals-from : (W : World) (id m : ℕ) (k : Key) → m ≡ size W → is_final_in_chain W (name_at W id) k ≡ declared_from W k m (Some id)
+unfolding is_final_in_chain chain chain_from
 finals-from W id m k e = rw e refl
 
-declared-step : (W : World) (k : Key) (m n id : ℕ) (next : Option ℕ) (c : ClassFacts) → m ≡ suc n → next ≡ Some id → Some c ≡ find W (name_at W id)
-    → declared_from W k m next ≡ (declares_final k c || declared_from W k n (superclass_of W (name_at W id)))
-declared-step W k m n id next c q e f = ap (declared_from W k m) e ∙ ap (list_any (declares_final k)) (from-step W m n id c q (sym f))
+declared-step : (W : World) (k : Key) (m n id : ℕ) (next : Option ℕ) (c : ClassFacts) → m ≡ suc n → next ≡ Some id → Some c ≡ find_class W (name_at W id)
+    → declared_from W k m next ≡ (declares_as_final k c || declared_from W k n (superclass_of W (name_at W id)))
+declared-step W k m n id next c q e f = ap (declared_from W k m) e ∙ ap (list_any (declares_as_final k)) (from-step W m n id c q (sym f))
 
-pub declared-here : (W : World) (k : Key) (m n id : ℕ) (next : Option ℕ) (c : ClassFacts) (b : Bool) → m ≡ suc n → next ≡ Some id → Some c ≡ find W (name_at W id) → b ≡ declares_final k c → b ≡ true → declared_from W k m next ≡ true
+pub declared-here : (W : World) (k : Key) (m n id : ℕ) (next : Option ℕ) (c : ClassFacts) (b : Bool) → m ≡ suc n → next ≡ Some id → Some c ≡ find_class W (name_at W id) → b ≡ declares_as_final k c → b ≡ true → declared_from W k m next ≡ true
 declared-here W k m n id next c b q e f h t =
-    let d : declares_final k c ≡ true = sym h ∙ t in
+    let d : declares_as_final k c ≡ true = sym h ∙ t in
     declared-step W k m n id next c q e f ∙ ap (λ a. a || declared_from W k n (superclass_of W (name_at W id))) d
 
-pub declared-above : (W : World) (k : Key) (m n id : ℕ) (next up : Option ℕ) (c : ClassFacts) (b : Bool) → m ≡ suc n → next ≡ Some id → Some c ≡ find W (name_at W id) → b ≡ declares_final k c → b ≡ false → up ≡ superclass_of W (name_at W id)
+pub declared-above : (W : World) (k : Key) (m n id : ℕ) (next up : Option ℕ) (c : ClassFacts) (b : Bool) → m ≡ suc n → next ≡ Some id → Some c ≡ find_class W (name_at W id) → b ≡ declares_as_final k c → b ≡ false → up ≡ superclass_of W (name_at W id)
     → declared_from W k m next ≡ declared_from W k n up
 declared-above W k m n id next up c b q e f h t u =
-    let d : declares_final k c ≡ false = sym h ∙ t in
+    let d : declares_as_final k c ≡ false = sym h ∙ t in
     declared-step W k m n id next c q e f ∙ ap (λ a. a || declared_from W k n (superclass_of W (name_at W id))) d ∙ ap (declared_from W k n) (sym u)
 
 pub declared-out : (W : World) (k : Key) (m : ℕ) (next : Option ℕ) → next ≡ None → declared_from W k m next ≡ false
-declared-out W k m next e = ap (declared_from W k m) e ∙ ap (list_any (declares_final k)) (from-nothing W m)
+declared-out W k m next e = ap (declared_from W k m) e ∙ ap (list_any (declares_as_final k)) (from-nothing W m)
 
 pub declared-end : (W : World) (k : Key) (m : ℕ) (next : Option ℕ) → m ≡ 0 → declared_from W k m next ≡ false
-declared-end W k m next e = ap (λ n. declared_from W k n next) e ∙ ap (list_any (declares_final k)) (from-none W next)
+declared-end W k m next e = ap (λ n. declared_from W k n next) e ∙ ap (list_any (declares_as_final k)) (from-none W next)

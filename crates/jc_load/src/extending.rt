@@ -1,14 +1,14 @@
 //! Who may name a class above itself (JVMS 4.7.31, 5.3.5).
 ghost use Rattle.std.specs.Prelude.{◌≡◌, ◌<◌};
-ghost use Rattle.jc_facts.specs.World.{size};
+ghost use Rattle.jc_facts.specs.world.World.{size};
 ghost use Rattle.jc_table.specs.Ids.{name_at};
-ghost use Rattle.jc_load.specs.Extending.{permits as permits_name, lets_extend as lets, is_extendable};
+ghost use Rattle.jc_load.specs.Extending.{permits_name, lets_name_extend, is_extendable};
 
 use jc_base::name::Name;
 use jc_facts::class_facts::ClassFacts;
 use jc_facts::flags::{is_final, is_public};
 use jc_table::ids::ClassId;
-use jc_table::refusal::is_among;
+use jc_table::supertypes::is_among;
 use jc_table::table::Table;
 
 // Whether the class has no permitted names, or has this one among them.
@@ -22,7 +22,7 @@ fn permits(class: &ClassFacts, name: &Name) -> bool
 }
 
 fn lets_extend(class: &ClassFacts, name: &Name) -> bool
-    ensures { result ≡ lets name.now class.now }
+    ensures { result ≡ lets_name_extend name.now class.now }
 {
     is_public(class.flags) && !is_final(class.flags) && permits(class, name)
 }

@@ -1,7 +1,7 @@
 //! Methods that may not be overridden (JVMS 5.4.5).
 ghost use Rattle.std.specs.Prelude.{◌≡◌, ◌<◌};
-ghost use Rattle.jc_facts.specs.World.{size};
-ghost use Rattle.jc_facts.specs.Words.{is_final_method as final_method, declares_final as declares, finals as finals_of};
+ghost use Rattle.jc_facts.specs.world.World.{size};
+ghost use Rattle.jc_facts.specs.rule.Bases.{is_open_final, declares_as_final, is_final_in_chain};
 ghost use Rattle.jc_table.specs.Ids.{name_at};
 
 use jc_facts::class_facts::{ClassFacts, Member};
@@ -13,14 +13,14 @@ use jc_table::members::own_method;
 use jc_table::table::Table;
 
 fn is_final_method(method: &Member) -> bool
-    ensures { result ≡ final_method method.now }
+    ensures { result ≡ is_open_final method.now }
 {
     let flags = method.flags;
     is_final(flags) && !is_static(flags) && (is_public(flags) || is_protected(flags))
 }
 
 fn declares_final(class: &ClassFacts, key: &Key) -> bool
-    ensures { result ≡ declares key.now class.now }
+    ensures { result ≡ declares_as_final key.now class.now }
 {
     match own_method(class, &KeyRef::of_key(key)) {
         None => false,
@@ -33,7 +33,7 @@ fn declares_final(class: &ClassFacts, key: &Key) -> bool
 /// that load.
 pub fn finals(table: &Table, class: ClassId, key: &Key) -> bool
     requires { class < size table.now }
-    ensures { result ≡ finals_of table.now (name_at table.now class) key.now }
+    ensures { result ≡ is_final_in_chain table.now (name_at table.now class) key.now }
 {
     let mut next = Some(class);
     for done in 0..table.count() {

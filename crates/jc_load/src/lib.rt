@@ -4,5 +4,3 @@
 pub mod extending;
 pub mod finals;
 pub mod loading;
-#[cfg(test)]
-mod tests;

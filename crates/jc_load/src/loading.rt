@@ -1,7 +1,7 @@
 //! The load fault of a class (JVMS 5.3.5).
 ghost use Rattle.std.specs.Prelude.{◌≡◌, ◌<◌, IfOk};
-ghost use Rattle.jc_facts.specs.World.{size};
-ghost use Rattle.jc_facts.specs.Loading.{load_fault};
+ghost use Rattle.jc_facts.specs.world.World.{size};
+ghost use Rattle.jc_facts.specs.world.Loading.{load_fault};
 ghost use Rattle.jc_table.specs.Ids.{name_at};
 
 use jc_facts::link_error::LinkError;
@@ -27,7 +27,7 @@ pub fn load_error(table: &Table, class: ClassId) -> Option<LinkError>
 /// # Errors
 ///
 /// `AllocError` where memory runs out.
-#[tactic(auto, unfolding(jc_facts::specs::Loading::load_fault))]
+#[tactic(auto, unfolding(jc_facts::specs::world::Loading::load_fault))]
 pub fn search_fault(
     alloc: Global,
     table: &Table,

@@ -5,63 +5,63 @@ use Rattle.jc_facts.specs.declared.class_facts.ClassFacts.{ClassFacts}
 use Rattle.jc_facts.specs.declared.class_facts.Member.{Member}
 use Rattle.jc_facts.specs.declared.key.Key.{Key}
 use Rattle.jc_facts.specs.Names.{Bytes, object_name}
-use Rattle.jc_facts.specs.Flags.{is_public, is_static}
+use Rattle.jc_facts.specs.Flags.{public_flag, static_flag}
 use Rattle.jc_facts.specs.Options.{or_else, and_then}
-use Rattle.jc_facts.specs.World.{World, find, size, classes, own_method, found_in, declares, Found as Method}
-use Rattle.jc_facts.specs.Clients.{names_differ}
-use Rattle.jc_facts.specs.Hierarchy.{chain}
-use Rattle.jc_facts.specs.Lookup.{first_declared, if_public_instance, object_method, or_choices}
-use Rattle.jc_facts.proofs.Listed.{here}
-use Rattle.jc_laws.proofs.Worlds.{find-name}
+use Rattle.jc_facts.specs.world.World.{World, find_class, size, classes, own_method_of, found_in, declared_method, DeclaredMember}
+use Rattle.jc_facts.specs.client.Clients.{differ_by_name}
+use Rattle.jc_facts.specs.world.Hierarchy.{chain}
+use Rattle.jc_facts.specs.world.Lookup.{first_declared, if_public_instance, public_method_of_object, or_choices}
+use Rattle.jc_lemmas.proofs.Listed.{here}
+use Rattle.jc_facts.proofs.World.{find-name}
 use Rattle.jc_table.specs.Ids.{name_at, id_of, superclass_of}
 use Rattle.jc_table.specs.Lookups.{IsAnswer, IsChoice}
-use Rattle.jc_table.specs.Walking.{chain_from}
+use Rattle.jc_table.specs.steps.Walking.{chain_from}
 use Rattle.jc_table.specs.declared.ids.Found.{Found}
 use Rattle.jc_table.proofs.Numbers.{IsClass, class_at, find-None, id_of-Some}
 use Rattle.jc_table.proofs.Walking.{from-step, from-none, from-nothing}
-use Rattle.jc_method.specs.Choosing.{own_at, as_found}
+use Rattle.jc_method.specs.steps.Choosing.{own_at, as_found}
 
 -- ---- what a class itself declares
 
 -- by its number and by its name
-pub own_answer : (W : World) (k : Key) (n : ℕ) → n < size W → IsAnswer W (own_at W k n) (and_then (declares k) (find W (name_at W n)))
+pub own_answer : (W : World) (k : Key) (n : ℕ) → n < size W → IsAnswer W (own_at W k n) (and_then (declared_method k) (find_class W (name_at W n)))
 unfolding and_then found_in
-own_answer W k n b = class_of (find W (name_at W n)) refl
+own_answer W k n b = class_of (find_class W (name_at W n)) refl
   where
-    member_of : (c : ClassFacts) → find W (name_at W n) ≡ Some c → (o : Option Member) → IsAnswer W (as_found n o) (found_in c o)
+    member_of : (c : ClassFacts) → find_class W (name_at W n) ≡ Some c → (o : Option Member) → IsAnswer W (as_found n o) (found_in c o)
     member_of c e None = tt
     member_of c e (Some m) = record { below = b; owner = sym (find-name W (name_at W n) c e); flags = refl }
 
-    class_of : (o : Option ClassFacts) → find W (name_at W n) ≡ o → IsAnswer W (as_found n (and_then (λ c. own_method c k) o)) (and_then (declares k) o)
+    class_of : (o : Option ClassFacts) → find_class W (name_at W n) ≡ o → IsAnswer W (as_found n (and_then (λ c. own_method_of c k) o)) (and_then (declared_method k) o)
     class_of None e = tt
-    class_of (Some c) e = member_of c e (own_method c k)
+    class_of (Some c) e = member_of c e (own_method_of c k)
 
 -- ---- along the chain
 
 -- the walk up from a class, so many classes at most
-abbrev pub first_from : World → Key → ℕ → Option ℕ → Option Method
+abbrev pub first_from : World → Key → ℕ → Option ℕ → Option DeclaredMember
 first_from W k n next = first_declared k (chain_from W n next)
 
 pub first_starts : (W : World) (id m : ℕ) (k : Key) → m ≡ size W → first_declared k (chain W (name_at W id)) ≡ first_from W k m (Some id)
 unfolding chain chain_from
 first_starts W id m k e = rw e refl
 
-module _ (W : World) (d : IsTrue (names_differ (classes W))) (k : Key) where
+module _ (W : World) (d : IsTrue (differ_by_name (classes W))) (k : Key) where
   step : (m n id : ℕ) (next : Option ℕ) → m ≡ suc n → next ≡ Some id → id < size W
-      → first_from W k m next ≡ or_else (and_then (declares k) (find W (name_at W id))) (first_from W k n (superclass_of W (name_at W id)))
+      → first_from W k m next ≡ or_else (and_then (declared_method k) (find_class W (name_at W id))) (first_from W k n (superclass_of W (name_at W id)))
   unfolding first_declared and_then
   step m n id next q e l =
       let c : IsClass W (name_at W id) = class_at W id d l in
       ap (first_from W k m) e ∙ ap (first_declared k) (from-step W m n id c.facts q c.found)
-      ∙ ap (λ (o : Option ClassFacts). or_else (and_then (declares k) o) (first_from W k n (superclass_of W (name_at W id)))) (sym c.found)
+      ∙ ap (λ (o : Option ClassFacts). or_else (and_then (declared_method k) o) (first_from W k n (superclass_of W (name_at W id)))) (sym c.found)
 
   pub first_here : (m n id : ℕ) (next : Option ℕ) (o : Option Found) (f : Found) → m ≡ suc n → next ≡ Some id → id < size W → o ≡ own_at W k id → o ≡ Some f → IsAnswer W (Some f) (first_from W k m next)
   unfolding or_else
   first_here m n id next o f q e l p s =
       subst (IsAnswer W (Some f)) (sym (step m n id next q e l))
-      (go (and_then (declares k) (find W (name_at W id))) (subst (λ (v : Option Found). IsAnswer W v (and_then (declares k) (find W (name_at W id)))) (sym p ∙ s) (own_answer W k id l)))
+      (go (and_then (declared_method k) (find_class W (name_at W id))) (subst (λ (v : Option Found). IsAnswer W v (and_then (declared_method k) (find_class W (name_at W id)))) (sym p ∙ s) (own_answer W k id l)))
     where
-      go : (w : Option Method) → IsAnswer W (Some f) w → IsAnswer W (Some f) (or_else w (first_from W k n (superclass_of W (name_at W id))))
+      go : (w : Option DeclaredMember) → IsAnswer W (Some f) w → IsAnswer W (Some f) (or_else w (first_from W k n (superclass_of W (name_at W id))))
       go None h = absurd h
       go (Some v) h = h
 
@@ -70,10 +70,10 @@ module _ (W : World) (d : IsTrue (names_differ (classes W))) (k : Key) where
   unfolding or_else
   first_above m n id next up o q e l p s u =
       step m n id next q e l
-      ∙ go (and_then (declares k) (find W (name_at W id))) (subst (λ (v : Option Found). IsAnswer W v (and_then (declares k) (find W (name_at W id)))) (sym p ∙ s) (own_answer W k id l))
+      ∙ go (and_then (declared_method k) (find_class W (name_at W id))) (subst (λ (v : Option Found). IsAnswer W v (and_then (declared_method k) (find_class W (name_at W id)))) (sym p ∙ s) (own_answer W k id l))
       ∙ ap (first_from W k n) (sym u)
     where
-      go : (w : Option Method) → IsAnswer W None w → or_else w (first_from W k n (superclass_of W (name_at W id))) ≡ first_from W k n (superclass_of W (name_at W id))
+      go : (w : Option DeclaredMember) → IsAnswer W None w → or_else w (first_from W k n (superclass_of W (name_at W id))) ≡ first_from W k n (superclass_of W (name_at W id))
       go None h = refl
       go (Some v) h = absurd h
 
@@ -86,74 +86,74 @@ module _ (W : World) (d : IsTrue (names_differ (classes W))) (k : Key) where
   first_end m next e = ap (λ n. first_from W k n next) e ∙ ap (first_declared k) (from-none W next)
 
 -- nothing is found
-pub no_answer : (W : World) (o : Option Method) → o ≡ None → IsAnswer W None o
+pub no_answer : (W : World) (o : Option DeclaredMember) → o ≡ None → IsAnswer W None o
 no_answer W None e = tt
 no_answer W (Some m) e = absurd (let clash : Some m ≡ None = e in cc)
 
 -- ---- java/lang/Object
 
 module _ (W : World) (k : Key) where
-  pub no_object : id_of W object_name ≡ None → IsAnswer W None (object_method W k)
-  unfolding object_method and_then
-  no_object e = no_answer W (object_method W k) (rw (find-None W object_name e) refl)
+  pub no_object : id_of W object_name ≡ None → IsAnswer W None (public_method_of_object W k)
+  unfolding public_method_of_object and_then
+  no_object e = no_answer W (public_method_of_object W k) (rw (find-None W object_name e) refl)
 
   module _ (n : ℕ) (e : id_of W object_name ≡ Some n) where
-    whole : and_then (declares k) (find W (name_at W n)) ≡ and_then (declares k) (find W object_name)
-    whole = ap (λ (y : Bytes). and_then (declares k) (find W y)) (id_of-Some W object_name n e).1
+    whole : and_then (declared_method k) (find_class W (name_at W n)) ≡ and_then (declared_method k) (find_class W object_name)
+    whole = ap (λ (y : Bytes). and_then (declared_method k) (find_class W y)) (id_of-Some W object_name n e).1
 
-    own_object : (o : Option Found) → o ≡ own_at W k n → IsAnswer W o (and_then (declares k) (find W object_name))
-    own_object o p = subst (λ (v : Option Found). IsAnswer W v (and_then (declares k) (find W object_name))) (sym p) (subst (IsAnswer W (own_at W k n)) whole (own_answer W k n (id_of-Some W object_name n e).0))
+    own_object : (o : Option Found) → o ≡ own_at W k n → IsAnswer W o (and_then (declared_method k) (find_class W object_name))
+    own_object o p = subst (λ (v : Option Found). IsAnswer W v (and_then (declared_method k) (find_class W object_name))) (sym p) (subst (IsAnswer W (own_at W k n)) whole (own_answer W k n (id_of-Some W object_name n e).0))
 
-    pub object_without : (o : Option Found) → o ≡ own_at W k n → o ≡ None → IsAnswer W None (object_method W k)
-    unfolding object_method and_then
-    object_without o p q = go (and_then (declares k) (find W object_name)) (subst (λ (v : Option Found). IsAnswer W v (and_then (declares k) (find W object_name))) q (own_object o p))
+    pub object_without : (o : Option Found) → o ≡ own_at W k n → o ≡ None → IsAnswer W None (public_method_of_object W k)
+    unfolding public_method_of_object and_then
+    object_without o p q = go (and_then (declared_method k) (find_class W object_name)) (subst (λ (v : Option Found). IsAnswer W v (and_then (declared_method k) (find_class W object_name))) q (own_object o p))
       where
-        go : (w : Option Method) → IsAnswer W None w → IsAnswer W None (and_then if_public_instance w)
+        go : (w : Option DeclaredMember) → IsAnswer W None w → IsAnswer W None (and_then if_public_instance w)
         go None h = tt
         go (Some m) h = absurd h
 
-    pub object_hidden : (o : Option Found) (f : Found) → o ≡ own_at W k n → o ≡ Some f → (is_public f.flags ≡ false) ⊎ (is_static f.flags ≡ true) → IsAnswer W None (object_method W k)
-    unfolding object_method and_then if_public_instance
-    object_hidden o f p q c = go (and_then (declares k) (find W object_name)) (subst (λ (v : Option Found). IsAnswer W v (and_then (declares k) (find W object_name))) q (own_object o p))
+    pub object_hidden : (o : Option Found) (f : Found) → o ≡ own_at W k n → o ≡ Some f → (public_flag f.flags ≡ false) ⊎ (static_flag f.flags ≡ true) → IsAnswer W None (public_method_of_object W k)
+    unfolding public_method_of_object and_then if_public_instance
+    object_hidden o f p q c = go (and_then (declared_method k) (find_class W object_name)) (subst (λ (v : Option Found). IsAnswer W v (and_then (declared_method k) (find_class W object_name))) q (own_object o p))
       where
-        by : (m : Method) (a b : Bool) → (a ≡ false) ⊎ (b ≡ true) → IsAnswer W None (cond (a && not b) (Some m) None)
+        by : (m : DeclaredMember) (a b : Bool) → (a ≡ false) ⊎ (b ≡ true) → IsAnswer W None (cond (a && not b) (Some m) None)
         by m a b (inl e) = rw e tt
         by m true b (inr e) = rw e tt
         by m false b (inr e) = tt
 
-        go : (w : Option Method) → IsAnswer W (Some f) w → IsAnswer W None (and_then if_public_instance w)
+        go : (w : Option DeclaredMember) → IsAnswer W (Some f) w → IsAnswer W None (and_then if_public_instance w)
         go None h = absurd h
-        go (Some m) h = by m (is_public m.member.flags) (is_static m.member.flags) (subst (λ g. (is_public g ≡ false) ⊎ (is_static g ≡ true)) h.flags c)
+        go (Some m) h = by m (public_flag m.member.flags) (static_flag m.member.flags) (subst (λ g. (public_flag g ≡ false) ⊎ (static_flag g ≡ true)) h.flags c)
 
-    pub object_found : (o : Option Found) (f : Found) → o ≡ own_at W k n → o ≡ Some f → is_public f.flags ≡ true → is_static f.flags ≡ false → IsAnswer W (Some f) (object_method W k)
-    unfolding object_method and_then if_public_instance
-    object_found o f p q a b = go (and_then (declares k) (find W object_name)) (subst (λ (v : Option Found). IsAnswer W v (and_then (declares k) (find W object_name))) q (own_object o p))
+    pub object_found : (o : Option Found) (f : Found) → o ≡ own_at W k n → o ≡ Some f → public_flag f.flags ≡ true → static_flag f.flags ≡ false → IsAnswer W (Some f) (public_method_of_object W k)
+    unfolding public_method_of_object and_then if_public_instance
+    object_found o f p q a b = go (and_then (declared_method k) (find_class W object_name)) (subst (λ (v : Option Found). IsAnswer W v (and_then (declared_method k) (find_class W object_name))) q (own_object o p))
       where
-        go : (w : Option Method) → IsAnswer W (Some f) w → IsAnswer W (Some f) (and_then if_public_instance w)
+        go : (w : Option DeclaredMember) → IsAnswer W (Some f) w → IsAnswer W (Some f) (and_then if_public_instance w)
         go None h = absurd h
         go (Some m) h =
-            let x : is_public m.member.flags ≡ true = ap is_public (sym h.flags) ∙ a in
-            let y : is_static m.member.flags ≡ false = ap is_static (sym h.flags) ∙ b in
+            let x : public_flag m.member.flags ≡ true = ap public_flag (sym h.flags) ∙ a in
+            let y : static_flag m.member.flags ≡ false = ap static_flag (sym h.flags) ∙ b in
             rw (x, y) h
 
 -- ---- one step of the lookup and the next
 
-pub answer_here : (W : World) (f : Found) (o p : Option Method) → IsAnswer W (Some f) o → IsAnswer W (Some f) (or_else o p)
+pub answer_here : (W : World) (f : Found) (o p : Option DeclaredMember) → IsAnswer W (Some f) o → IsAnswer W (Some f) (or_else o p)
 unfolding or_else
 answer_here W f None p h = absurd h
 answer_here W f (Some m) p h = h
 
-pub answer_next : (W : World) (r : Option Found) (o p : Option Method) → IsAnswer W None o → IsAnswer W r p → IsAnswer W r (or_else o p)
+pub answer_next : (W : World) (r : Option Found) (o p : Option DeclaredMember) → IsAnswer W None o → IsAnswer W r p → IsAnswer W r (or_else o p)
 unfolding or_else
 answer_next W r None p h k = k
 answer_next W r (Some m) p h k = absurd h
 
-pub choice_here : (W : World) (f : Found) (o : Option Method) (ms : List Method) → IsAnswer W (Some f) o → IsChoice W (Some f) (or_choices o ms)
+pub choice_here : (W : World) (f : Found) (o : Option DeclaredMember) (ms : List DeclaredMember) → IsAnswer W (Some f) o → IsChoice W (Some f) (or_choices o ms)
 unfolding or_choices
 choice_here W f None ms h = absurd h
 choice_here W f (Some m) ms h = (m, here m [], h)
 
-pub choice_next : (W : World) (r : Option Found) (o : Option Method) (ms : List Method) → IsAnswer W None o → IsChoice W r ms → IsChoice W r (or_choices o ms)
+pub choice_next : (W : World) (r : Option Found) (o : Option DeclaredMember) (ms : List DeclaredMember) → IsAnswer W None o → IsChoice W r ms → IsChoice W r (or_choices o ms)
 unfolding or_choices
 choice_next W r None ms h k = k
 choice_next W r (Some m) ms h k = absurd h

@@ -2,5 +2,4 @@ pub mod Walks
 pub mod Choices
 pub mod Chains
 pub mod Offering
-pub mod Sets
 pub mod Declared

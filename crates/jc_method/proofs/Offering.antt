@@ -5,25 +5,26 @@ use Rattle.jc_facts.specs.declared.class_facts.ClassFacts.{ClassFacts}
 use Rattle.jc_facts.specs.declared.class_facts.Member.{Member}
 use Rattle.jc_facts.specs.declared.key.Key.{Key}
 use Rattle.jc_facts.specs.Names.{Bytes}
-use Rattle.jc_facts.specs.Flags.{is_private, is_static, is_interface}
+use Rattle.jc_facts.specs.Flags.{private_flag, static_flag, interface_flag}
 use Rattle.jc_facts.specs.Options.{and_then, some_and}
-use Rattle.jc_facts.specs.World.{World, find, own_method, Found as Method}
-use Rattle.jc_facts.specs.Hierarchy.{superinterfaces}
-use Rattle.jc_facts.specs.Loading.{load_fault}
-use Rattle.jc_facts.specs.Lookup.{declared_by}
-use Rattle.jc_facts.specs.Assignment.{is_interface_of}
-use Rattle.jc_facts.specs.Words.{offers, is_inheritable, itself_and, inherits}
-use Rattle.jc_facts.proofs.Listed.{none}
-use Rattle.jc_laws.proofs.Offers.{IsCons, declared_by-some, declared_by-offers}
+use Rattle.jc_facts.specs.world.World.{World, find_class, own_method_of, DeclaredMember}
+use Rattle.jc_facts.specs.world.Hierarchy.{superinterfaces}
+use Rattle.jc_facts.specs.world.Loading.{load_fault}
+use Rattle.jc_facts.specs.world.Lookup.{declared_by}
+use Rattle.jc_facts.specs.world.Assignment.{is_interface_of}
+use Rattle.jc_facts.specs.rule.Bases.{offers, is_inheritable, itself_and, inherits}
+use Rattle.jc_lemmas.proofs.Listed.{none}
+use Rattle.jc_lemmas.proofs.Lists.{IsCons}
+use Rattle.jc_worlds.proofs.Offers.{declared_by-some, declared_by-offers}
 use Rattle.jc_table.specs.Ids.{name_at}
 use Rattle.jc_table.specs.Lookups.{IsChoice}
 use Rattle.jc_table.specs.declared.ids.Found.{Found}
 use Rattle.jc_method.specs.Inheriting.{inherits_from}
-use Rattle.jc_method.specs.Choosing.{as_found, if_candidate, candidate_at, FindsAbove}
+use Rattle.jc_method.specs.steps.Choosing.{as_found, if_candidate, candidate_at, FindsAbove}
 use Rattle.jc_method.proofs.Choices.{any_choice}
 
 -- a list that contains something
-cons_of : (ms : List Method) (m : Method) → Contains ms m → IsCons ms
+cons_of : (ms : List DeclaredMember) (m : DeclaredMember) → Contains ms m → IsCons ms
 cons_of [] m c = absurd (none m c)
 cons_of (n ∷ ns) m c = record { head = n; tail = ns; is = refl }
 
@@ -35,7 +36,7 @@ offered W x l k o h = go o (any_choice W x l k o h)
     without e false p = refl
     without e true p =
         let c : IsCons (declared_by k (superinterfaces W x)) = declared_by-some k (superinterfaces W x) p in
-        absurd (let ms : List Method = c.head ∷ c.tail in let z : [] ≡ ms = sym e ∙ c.is in cc)
+        absurd (let ms : List DeclaredMember = c.head ∷ c.tail in let z : [] ≡ ms = sym e ∙ c.is in cc)
 
     go : (o : Option Found) → IsChoice W o (declared_by k (superinterfaces W x)) → is_some o ≡ list_any (offers k) (superinterfaces W x)
     go None e = without e (list_any (offers k) (superinterfaces W x)) refl
@@ -44,7 +45,7 @@ offered W x l k o h = go o (any_choice W x l k o h)
 -- a class offers the method exactly where it has a candidate
 offers_at : (k : Key) (n : ℕ) (c : ClassFacts) (o : Option Member) → is_some (if_candidate (as_found n o)) ≡ some_and is_inheritable o
 offers_at k n c None = refl
-offers_at k n c (Some m) = go (is_private m.flags) (is_static m.flags)
+offers_at k n c (Some m) = go (private_flag m.flags) (static_flag m.flags)
   where
     go : (p s : Bool) → is_some {T = Found} (cond (p || s) None (Some (record { owner = n; flags = m.flags }))) ≡ (not s && not p)
     go true true = refl
@@ -59,15 +60,15 @@ module _ (W : World) (k : Key) (n : ℕ) where
 
   whole : inherits_from W (name_at W n) k ≡ ((is_interface_of W (name_at W n) && is_some (candidate_at W k n)) || list_any (offers k) (superinterfaces W (name_at W n)))
   unfolding inherits and_then
-  whole = go (find W (name_at W n)) refl
+  whole = go (find_class W (name_at W n)) refl
     where
-      go : (o : Option ClassFacts) → find W (name_at W n) ≡ o
-          → cond (some_and (λ c. is_interface c.flags) o) (list_any (offers k) (itself_and (superinterfaces W (name_at W n)) o)) (list_any (offers k) (superinterfaces W (name_at W n)))
-          ≡ ((some_and (λ c. is_interface c.flags) o && is_some (if_candidate (as_found n (and_then (λ c. own_method c k) o)))) || list_any (offers k) (superinterfaces W (name_at W n)))
+      go : (o : Option ClassFacts) → find_class W (name_at W n) ≡ o
+          → cond (some_and (λ c. interface_flag c.flags) o) (list_any (offers k) (itself_and (superinterfaces W (name_at W n)) o)) (list_any (offers k) (superinterfaces W (name_at W n)))
+          ≡ ((some_and (λ c. interface_flag c.flags) o && is_some (if_candidate (as_found n (and_then (λ c. own_method_of c k) o)))) || list_any (offers k) (superinterfaces W (name_at W n)))
       go None e = refl
       go (Some c) e =
-          chosen (is_interface c.flags) (offers k c) (list_any (offers k) (superinterfaces W (name_at W n)))
-          ∙ ap (λ b. (is_interface c.flags && b) || list_any (offers k) (superinterfaces W (name_at W n))) (sym (offers_at k n c (own_method c k)))
+          chosen (interface_flag c.flags) (offers k c) (list_any (offers k) (superinterfaces W (name_at W n)))
+          ∙ ap (λ b. (interface_flag c.flags && b) || list_any (offers k) (superinterfaces W (name_at W n))) (sym (offers_at k n c (own_method_of c k)))
 
   -- the interface itself
   pub inherits_own : (b : Bool) → b ≡ (is_interface_of W (name_at W n) && is_some (candidate_at W k n)) → b ≡ true → inherits_from W (name_at W n) k ≡ true

@@ -5,15 +5,15 @@ use Rattle.std.specs.List.{list_any}
 use Rattle.std.proofs.lemmas.Bool.{eqb-true, eq-eqb, or_cases, or_left, or_right}
 use Rattle.std.proofs.lemmas.List.Elements.{recursion_from_All}
 use Rattle.jc_facts.specs.Names.{Bytes}
-use Rattle.jc_facts.specs.World.{World, size, classes}
-use Rattle.jc_facts.specs.Clients.{names_differ}
-use Rattle.jc_facts.specs.Hierarchy.{has_superinterface}
-use Rattle.jc_facts.proofs.Listed.{EachOf}
+use Rattle.jc_facts.specs.world.World.{World, size, classes}
+use Rattle.jc_facts.specs.client.Clients.{differ_by_name}
+use Rattle.jc_facts.specs.world.Hierarchy.{is_superinterface}
+use Rattle.jc_lemmas.proofs.Listed.{EachOf}
 use Rattle.jc_table.specs.Ids.{name_at, superclass_of}
 use Rattle.jc_table.specs.Above.{leads_by, AreAbove}
 use Rattle.jc_table.specs.declared.ids.Found.{Found}
 use Rattle.jc_table.proofs.Aboves.{any_up, superinterface-is, any-none_left, any-here, any-top, any-above}
-use Rattle.jc_method.specs.Choosing.{found_or, first_at, FindsAbove}
+use Rattle.jc_method.specs.steps.Choosing.{found_or, first_at, FindsAbove}
 
 -- ---- the first of some numbers
 
@@ -58,7 +58,7 @@ number_within W x ns n up h = each_number (λ j. j < size W) ns n (recursion_fro
 -- the walk has come to the class of number `at`: what f gives of a superinterface of x, it gives of one from there up
 pub record IsOnWay (W : World) (x : Bytes) (f : ℕ → Option Found) (left at : ℕ) : Type 0 where
   pub within : at < size W
-  pub same : (n : ℕ) → n < size W → is_some (f n) ≡ true → has_superinterface W x (name_at W n) ≡ any_up W left (name_at W at) (name_at W n)
+  pub same : (n : ℕ) → n < size W → is_some (f n) ≡ true → is_superinterface W x (name_at W n) ≡ any_up W left (name_at W at) (name_at W n)
 
 pub way_starts : (W : World) (f : ℕ → Option Found) (a m : ℕ) → a < size W → m ≡ size W → IsOnWay W (name_at W a) f m a
 way_starts W f a m l e = record {
@@ -66,7 +66,7 @@ way_starts W f a m l e = record {
   same = λ n b s. superinterface-is W (name_at W a) (name_at W n) ∙ ap (λ j. any_up W j (name_at W a) (name_at W n)) (sym e);
 }
 
-module _ (W : World) (d : IsTrue (names_differ (classes W))) (x : Bytes) (f : ℕ → Option Found) where
+module _ (W : World) (d : IsTrue (differ_by_name (classes W))) (x : Bytes) (f : ℕ → Option Found) where
   -- it is found here
   pub way_found : (m a : ℕ) (ids : List ℕ) (o : Option Found) (r : Found) → IsOnWay W x f m a → 0 < m → AreAbove W (name_at W a) ids → o ≡ first_at f ids → o ≡ Some r → FindsAbove W x f (Some r)
   way_found m a ids o r h l up p q =
@@ -90,7 +90,7 @@ module _ (W : World) (d : IsTrue (names_differ (classes W))) (x : Bytes) (f : �
     same = λ j b s. h.same j b s ∙ any-above W d a h.within (name_at W j) m n t e (not_led a ids o up p q j b s) u;
   }
 
-  nothing : ((n : ℕ) → n < size W → is_some (f n) ≡ true → has_superinterface W x (name_at W n) ≡ false) → FindsAbove W x f None
+  nothing : ((n : ℕ) → n < size W → is_some (f n) ≡ true → is_superinterface W x (name_at W n) ≡ false) → FindsAbove W x f None
   nothing h n b s = go (f n) refl
     where
       go : (o : Option Found) → f n ≡ o → o ≡ None

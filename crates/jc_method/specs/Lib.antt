@@ -1,3 +1,2 @@
 pub mod Inheriting
-pub mod Choosing
-pub mod Collecting
+pub mod steps

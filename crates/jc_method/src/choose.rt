@@ -1,13 +1,13 @@
 //! The steps of the lookup on superinterfaces (JVMS 5.4.3.3).
 ghost use Rattle.std.specs.Prelude.{◌≡◌, ◌<◌, None, IsTrue};
 ghost use Rattle.std.specs.List.{All};
-ghost use Rattle.jc_facts.specs.World.{size, classes};
-ghost use Rattle.jc_facts.specs.Clients.{names_differ};
-ghost use Rattle.jc_facts.specs.Lookup.{superinterface_choices};
-ghost use Rattle.jc_facts.specs.Loading.{load_fault};
+ghost use Rattle.jc_facts.specs.world.World.{size, classes};
+ghost use Rattle.jc_facts.specs.client.Clients.{differ_by_name};
+ghost use Rattle.jc_facts.specs.world.Lookup.{superinterface_choices};
+ghost use Rattle.jc_facts.specs.world.Loading.{load_fault};
 ghost use Rattle.jc_table.specs.Ids.{name_at};
 ghost use Rattle.jc_table.specs.Lookups.{IsChoice};
-ghost use Rattle.jc_method.specs.Choosing.{candidate_at, rival_at, best_at, has_rival as has_rival_of, first_at, FindsAbove};
+ghost use Rattle.jc_method.specs.steps.Choosing.{candidate_at, rival_at, best_at, has_rival_below, first_at, FindsAbove};
 
 use crate::own::candidate;
 use jc_facts::flags::is_abstract;
@@ -54,7 +54,7 @@ pub(crate) fn any_candidate(table: &Table, class: ClassId, key: &Key) -> Option<
 
 // The candidate of the class, where it stands below the other.
 fn rival(table: &Table, class: ClassId, key: &Key, of: ClassId) -> Option<Found>
-    requires differ { IsTrue (names_differ (classes table.now)) }
+    requires differ { IsTrue (differ_by_name (classes table.now)) }
     requires class { class < size table.now }
     requires above { of < size table.now }
     ensures { result ≡ rival_at table.now key.now of class }
@@ -70,7 +70,7 @@ fn rival(table: &Table, class: ClassId, key: &Key, of: ClassId) -> Option<Found>
 
 // The first of these.
 fn rival_among(table: &Table, ids: &[ClassId], key: &Key, of: ClassId) -> Option<Found>
-    requires differ { IsTrue (names_differ (classes table.now)) }
+    requires differ { IsTrue (differ_by_name (classes table.now)) }
     requires within { All (λ id. id < size table.now) ids.now }
     requires above { of < size table.now }
     ensures { result ≡ first_at (rival_at table.now key.now of) ids.now }
@@ -109,7 +109,7 @@ fn has_rival(table: &Table, class: ClassId, key: &Key, of: ClassId) -> bool
     requires class { class < size table.now }
     requires above { of < size table.now }
     requires loads { load_fault table.now (name_at table.now class) ≡ None }
-    ensures { result ≡ has_rival_of table.now (name_at table.now class) key.now (name_at table.now of) }
+    ensures { result ≡ has_rival_below table.now (name_at table.now class) key.now (name_at table.now of) }
 {
     any_rival(table, class, key, of).is_some()
 }

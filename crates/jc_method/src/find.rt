@@ -1,12 +1,12 @@
 //! Resolution of methods (JVMS 5.4.3.3, 5.4.3.4).
 ghost use Rattle.std.specs.Prelude.{◌≡◌, ◌<◌, ◌&&◌, None, IsTrue, IsFalse, is_some};
 ghost use Rattle.jc_facts.specs.Options.{or_else, and_then};
-ghost use Rattle.jc_facts.specs.World.{size, find, declares};
-ghost use Rattle.jc_facts.specs.Assignment.{is_interface_of};
-ghost use Rattle.jc_facts.specs.Hierarchy.{chain};
-ghost use Rattle.jc_facts.specs.Loading.{load_fault};
-ghost use Rattle.jc_facts.specs.Lookup.{first_declared, method_choices, interface_choices, object_method as public_method_of_object};
-ghost use Rattle.jc_method.specs.Choosing.{candidate_at};
+ghost use Rattle.jc_facts.specs.world.World.{size, find_class, declared_method};
+ghost use Rattle.jc_facts.specs.world.Assignment.{is_interface_of};
+ghost use Rattle.jc_facts.specs.world.Hierarchy.{chain};
+ghost use Rattle.jc_facts.specs.world.Loading.{load_fault};
+ghost use Rattle.jc_facts.specs.world.Lookup.{first_declared, method_choices, interface_choices, public_method_of_object};
+ghost use Rattle.jc_method.specs.steps.Choosing.{candidate_at};
 ghost use Rattle.jc_method.specs.Inheriting.{inherits_from};
 ghost use Rattle.jc_table.specs.Ids.{name_at};
 ghost use Rattle.jc_table.specs.Lookups.{IsAnswer, IsChoice};
@@ -77,7 +77,7 @@ fn object_method(table: &Table, key: &Key) -> Option<Found>
 // The interface's own method of the key, else that of `java/lang/Object`.
 fn own_or_object(table: &Table, class: ClassId, key: &Key) -> Option<Found>
     requires { class < size table.now }
-    ensures { IsAnswer table.now result (or_else (and_then (declares key.now) (find table.now (name_at table.now class))) (public_method_of_object table.now key.now)) }
+    ensures { IsAnswer table.now result (or_else (and_then (declared_method key.now) (find_class table.now (name_at table.now class))) (public_method_of_object table.now key.now)) }
 {
     match declared(table, class, key) {
         Some(found) => Some(found),

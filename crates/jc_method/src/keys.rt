@@ -2,14 +2,14 @@
 ghost use Rattle.std.specs.Prelude.{◌≡◌, ◌<◌, None, IfOk, IsTrue, is_some};
 ghost use Rattle.std.specs.List.{All, list_any};
 ghost use Rattle.std.specs.BTreeSet.{IsOrdered};
-ghost use Rattle.jc_facts.specs.World.{size, own_method};
+ghost use Rattle.jc_facts.specs.world.World.{size, own_method_of};
 ghost use Rattle.jc_facts.specs.KeyOrder.{key_cmp};
-ghost use Rattle.jc_facts.specs.Loading.{load_fault};
-ghost use Rattle.jc_facts.specs.Orders.{HasExactly};
-ghost use Rattle.jc_laws.specs.Findings.{above};
+ghost use Rattle.jc_facts.specs.world.Loading.{load_fault};
+ghost use Rattle.jc_facts.specs.Exactly.{HasExactly};
+ghost use Rattle.jc_worlds.specs.Hierarchy.{above};
 ghost use Rattle.jc_table.specs.Ids.{name_at};
 ghost use Rattle.jc_table.specs.Lookups.{declare_method};
-ghost use Rattle.jc_method.specs.Collecting.{Adds, declares_at, HasKeys};
+ghost use Rattle.jc_method.specs.steps.Collecting.{Adds, declares_at, HasKeys};
 
 use jc_facts::class_facts::ClassFacts;
 use jc_facts::key::Key;
@@ -21,7 +21,7 @@ use std::collections::BTreeSet;
 
 // Adds the keys of the class's own methods.
 fn add_class<'a>(keys: &mut BTreeSet<KeyRef<'a>>, class: &'a ClassFacts) -> Result<(), AllocError>
-    ensures { IfOk result (λ _. Adds (λ k. is_some (own_method class.now k)) keys.old keys.new) }
+    ensures { IfOk result (λ _. Adds (λ k. is_some (own_method_of class.now k)) keys.old keys.new) }
 {
     for member in class.methods.as_slice() {
         keys.insert(KeyRef::of_member(member))?;

@@ -5,7 +5,5 @@ mod choose;
 pub mod find;
 pub mod keys;
 mod own;
-#[cfg(test)]
-mod tests;
 
 pub use jc_table::ids::Found;

@@ -1,8 +1,8 @@
 //! Methods that a class itself declares (JVMS 4.6).
 ghost use Rattle.std.specs.Prelude.{◌≡◌, ◌<◌};
-ghost use Rattle.jc_facts.specs.World.{size};
+ghost use Rattle.jc_facts.specs.world.World.{size};
 ghost use Rattle.jc_table.specs.Ids.{name_at};
-ghost use Rattle.jc_method.specs.Choosing.{own_at, candidate_at};
+ghost use Rattle.jc_method.specs.steps.Choosing.{own_at, candidate_at};
 
 use jc_facts::flags::{is_private, is_static};
 use jc_facts::key::Key;

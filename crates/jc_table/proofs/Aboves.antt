@@ -4,7 +4,7 @@ use Rattle.std.specs.Prelude.{IsTrue, is_some, nat_lt}
 use Rattle.std.specs.List.{All, Any, Contains, list_any, filter_map, cons_option}
 use Rattle.std.specs.Ordering.{nat_cmp}
 use Rattle.std.specs.BTreeSet.{BTreeSet, contains}
-use Rattle.std.proofs.lemmas.Bool.{eqb-true, eq-eqb, ltb-true, lt-ltb}
+use Rattle.std.proofs.lemmas.Bool.{eqb-true, eq-eqb, ltb-true, lt-ltb, cases_lt}
 use Rattle.std.proofs.lemmas.List.{map-append, get_or-map, length-map, take_more, get_or_past, get_or_append_left}
 use Rattle.std.proofs.Math.Seq.{get_or-append_seam}
 use Rattle.std.proofs.lemmas.List.Folds.{list_any-append, Any-from_list_any}
@@ -12,38 +12,23 @@ use Rattle.std.proofs.lemmas.List.Elements.{All-contains, All-from_recursion, Al
 use Rattle.jc_facts.specs.declared.class_facts.ClassFacts.{ClassFacts}
 use Rattle.jc_facts.specs.Names.{Bytes, same}
 use Rattle.jc_facts.specs.Options.{some_and, and_then}
-use Rattle.jc_facts.specs.World.{World, find, size, classes}
-use Rattle.jc_facts.specs.Clients.{names_differ}
-use Rattle.jc_facts.specs.Search.{descend}
-use Rattle.jc_facts.specs.Hierarchy.{chain, chain_step, of_super, each, interfaces_step, with_interfaces, names_in, interfaces_of, superinterfaces, has_superinterface}
+use Rattle.jc_facts.specs.world.World.{World, find_class, size, classes}
+use Rattle.jc_facts.specs.client.Clients.{differ_by_name}
+use Rattle.jc_facts.specs.world.Search.{descend}
+use Rattle.jc_facts.specs.world.Hierarchy.{chain, chain_step, of_super, each, interfaces_step, with_interfaces, names_in, interfaces_of, superinterfaces, is_superinterface}
 use Rattle.jc_facts.proofs.Same.{same_is, same_itself}
-use Rattle.jc_facts.proofs.Listed.{here, there, cases, none}
-use Rattle.jc_laws.proofs.Descent.{descend-absent, descend-none_left, descend-found}
-use Rattle.jc_laws.proofs.AboveKeys.{any_weaker}
-use Rattle.jc_laws.proofs.Worlds.{find-name}
-use Rattle.jc_laws.proofs.Interfaces.{levels_suffice, above_is_one_step}
+use Rattle.jc_lemmas.proofs.Listed.{here, there, cases, none, any_has}
+use Rattle.jc_worlds.proofs.Descent.{descend-absent, descend-none_left, descend-found}
+use Rattle.jc_lemmas.proofs.Lists.{any_weaker}
+use Rattle.jc_facts.proofs.World.{find-name}
+use Rattle.jc_worlds.proofs.Interfaces.{levels_suffice, above_is_one_step}
 use Rattle.jc_table.specs.Ids.{names, name_at, id_of, superclass_of}
-use Rattle.jc_table.specs.Reach.{Has, next_of, IsLedTo}
-use Rattle.jc_table.specs.Above.{leads_to, leads_by, named_by, edges_of, AreRows}
+use Rattle.jc_table.specs.steps.Reach.{Has, next_of, IsLedTo}
+use Rattle.jc_table.specs.Above.{leads_to, leads_by, AreRows}
+use Rattle.jc_table.specs.steps.Named.{named_by, edges_of}
 use Rattle.jc_table.proofs.Numbers.{IsClass, is_class, class_at, superclass_is, find-None, id_of-Some, id_of-name_at, id-find, names-length}
-use Rattle.jc_table.proofs.NameSets.{both_ways, cases_lt}
-
-any_has : {A : Type 0} (p : A → Bool) (xs : List A) (x : A) → Contains xs x → p x ≡ true → list_any p xs ≡ true
-any_has p [] x c h = absurd (none x c)
-any_has p (y ∷ ys) x c h = go (cases y ys x c) (any_has p ys x)
-  where
-    go : (y ≡ x) ⊎ Contains ys x → (Contains ys x → p x ≡ true → list_any p ys ≡ true) → (p y || list_any p ys) ≡ true
-    go (inl e) more = ap (λ b. b || list_any p ys) (ap p e ∙ h)
-    go (inr k) more = last (p y) (more k h)
-      where
-        last : (b : Bool) → list_any p ys ≡ true → (b || list_any p ys) ≡ true
-        last true e = refl
-        last false e = e
-
-names_in-each : (f : Bytes → List ClassFacts) (xs : List Bytes) (y : Bytes) → names_in (each f xs) y ≡ list_any (λ x. names_in (f x) y) xs
-unfolding each
-names_in-each f [] y = refl
-names_in-each f (x ∷ xs) y = list_any-append (λ c. same c.name y) (f x) (each f xs) ∙ ap (λ b. names_in (f x) y || b) (names_in-each f xs y)
+use Rattle.jc_lemmas.proofs.Bools.{tests_agree}
+use Rattle.jc_facts.proofs.Hierarchy.{names_in-each}
 
 -- ---- what interfaces lead to, level by level
 
@@ -52,55 +37,33 @@ module _ (W : World) where
   led : ℕ → Bytes → Bytes → Bool
   led n x y = names_in (descend W [] [] interfaces_step n x) y
 
-  led-absent : (n : ℕ) (x y : Bytes) → find W x ≡ None → led n x y ≡ false
+  led-absent : (n : ℕ) (x y : Bytes) → find_class W x ≡ None → led n x y ≡ false
   unfolding led
   led-absent n x y e = ap (λ cs. names_in cs y) (descend-absent W [] [] interfaces_step n x e)
 
-  led-found : (n : ℕ) (x y : Bytes) (c : ClassFacts) → find W x ≡ Some c → led (suc n) x y ≡ (same c.name y || list_any (λ i. led n i y) c.interfaces)
+  led-found : (n : ℕ) (x y : Bytes) (c : ClassFacts) → find_class W x ≡ Some c → led (suc n) x y ≡ (same c.name y || list_any (λ i. led n i y) c.interfaces)
   unfolding led interfaces_step
   led-found n x y c e =
       ap (λ cs. names_in cs y) (descend-found W [] [] interfaces_step n x c e) ∙ ap (λ b. same c.name y || b) (names_in-each (descend W [] [] interfaces_step n) c.interfaces y)
 
   led-none : (x y : Bytes) → led zero x y ≡ false
   unfolding led
-  led-none x y = go (find W x) refl
+  led-none x y = go (find_class W x) refl
     where
-      go : (o : Option ClassFacts) → find W x ≡ o → names_in (descend W [] [] interfaces_step zero x) y ≡ false
+      go : (o : Option ClassFacts) → find_class W x ≡ o → names_in (descend W [] [] interfaces_step zero x) y ≡ false
       go None e = ap (λ cs. names_in cs y) (descend-absent W [] [] interfaces_step zero x e)
       go (Some c) e = ap (λ cs. names_in cs y) (descend-none_left W [] [] interfaces_step x c e)
 
-  -- what is reached is there
-  led-there : (n : ℕ) (x y : Bytes) → led n x y ≡ true → is_some (find W y) ≡ true
-  led-there zero x y h = absurd (let c : false ≡ true = sym (led-none x y) ∙ h in cc)
-  led-there (suc n) x y h = go (find W x) refl (led-there n)
-    where
-      go : (o : Option ClassFacts) → find W x ≡ o → ((z w : Bytes) → led n z w ≡ true → is_some (find W w) ≡ true) → is_some (find W y) ≡ true
-      go None e more = absurd (let c : false ≡ true = sym (led-absent (suc n) x y e) ∙ h in cc)
-      go (Some c) e more = by (same c.name y) refl (sym (led-found n x y c e) ∙ h)
-        where
-          by : (b : Bool) → same c.name y ≡ b → (b || list_any (λ i. led n i y) c.interfaces) ≡ true → is_some (find W y) ≡ true
-          by true s k = subst (λ z. is_some (find W z) ≡ true) (sym (find-name W x c e) ∙ same_is c.name y s) (ap is_some e)
-          by false s k = more (some_passes c.interfaces k).0 y (some_passes c.interfaces k).1
-            where
-              some_passes : (xs : List Bytes) → list_any (λ i. led n i y) xs ≡ true → (i : Bytes) × (led n i y ≡ true)
-              some_passes [] p = absurd (let q : false ≡ true = p in cc)
-              some_passes (z ∷ zs) p = pick (led n z y) refl p (some_passes zs)
-                where
-                  pick : (b : Bool) → led n z y ≡ b → (b || list_any (λ i. led n i y) zs) ≡ true → (list_any (λ i. led n i y) zs ≡ true → (i : Bytes) × (led n i y ≡ true))
-                      → (i : Bytes) × (led n i y ≡ true)
-                  pick true s p rest = (z, s)
-                  pick false s p rest = rest p
-
   -- from where something is reached there is a class
-  led-from : (n : ℕ) (x y : Bytes) → led n x y ≡ true → is_some (find W x) ≡ true
-  led-from n x y h = go (find W x) refl
+  led-from : (n : ℕ) (x y : Bytes) → led n x y ≡ true → is_some (find_class W x) ≡ true
+  led-from n x y h = go (find_class W x) refl
     where
-      go : (o : Option ClassFacts) → find W x ≡ o → is_some o ≡ true
+      go : (o : Option ClassFacts) → find_class W x ≡ o → is_some o ≡ true
       go None e = absurd (let c : false ≡ true = sym (led-absent n x y e) ∙ h in cc)
       go (Some c) e = refl
 
   -- a class that is there has a number
-  number_of : (x : Bytes) → is_some (find W x) ≡ true → (k : ℕ) × (id_of W x ≡ Some k)
+  number_of : (x : Bytes) → is_some (find_class W x) ≡ true → (k : ℕ) × (id_of W x ≡ Some k)
   number_of x h = go (id_of W x) refl (id-find W x ∙ h)
     where
       go : (o : Option ℕ) → id_of W x ≡ o → is_some o ≡ true → (k : ℕ) × (id_of W x ≡ Some k)
@@ -108,18 +71,18 @@ module _ (W : World) where
       go (Some k) e q = (k, e)
 
   -- from what is reached, what it names is reached
-  led-on : (n : ℕ) (x y z : Bytes) (c : ClassFacts) → led n x y ≡ true → find W y ≡ Some c → Contains c.interfaces z → is_some (find W z) ≡ true → led (suc n) x z ≡ true
+  led-on : (n : ℕ) (x y z : Bytes) (c : ClassFacts) → led n x y ≡ true → find_class W y ≡ Some c → Contains c.interfaces z → is_some (find_class W z) ≡ true → led (suc n) x z ≡ true
   led-on zero x y z c h e k f = absurd (let q : false ≡ true = sym (led-none x y) ∙ h in cc)
-  led-on (suc n) x y z c h e k f = go (find W x) refl (λ i p. led-on n i y z c p e k f)
+  led-on (suc n) x y z c h e k f = go (find_class W x) refl (λ i p. led-on n i y z c p e k f)
     where
       itself : led (suc n) z z ≡ true
-      itself = by (find W z) refl f
+      itself = by (find_class W z) refl f
         where
-          by : (o : Option ClassFacts) → find W z ≡ o → is_some o ≡ true → led (suc n) z z ≡ true
+          by : (o : Option ClassFacts) → find_class W z ≡ o → is_some o ≡ true → led (suc n) z z ≡ true
           by None p q = absurd (let q2 : false ≡ true = q in cc)
           by (Some d) p q = led-found n z z d p ∙ ap (λ b. b || list_any (λ i. led n i z) d.interfaces) (ap (λ w. same w z) (find-name W z d p) ∙ same_itself z)
 
-      go : (o : Option ClassFacts) → find W x ≡ o → ((i : Bytes) → led n i y ≡ true → led (suc n) i z ≡ true) → led (suc (suc n)) x z ≡ true
+      go : (o : Option ClassFacts) → find_class W x ≡ o → ((i : Bytes) → led n i y ≡ true → led (suc n) i z ≡ true) → led (suc (suc n)) x z ≡ true
       go None p more = absurd (let q : false ≡ true = sym (led-absent (suc n) x y p) ∙ h in cc)
       go (Some d) p more = led-found (suc n) x z d p ∙ any_or (same d.name z) (by (same d.name y) refl (sym (led-found n x y d p) ∙ h))
         where
@@ -129,7 +92,7 @@ module _ (W : World) where
 
           by : (b : Bool) → same d.name y ≡ b → (b || list_any (λ i. led n i y) d.interfaces) ≡ true → list_any (λ i. led (suc n) i z) d.interfaces ≡ true
           by true s q =
-              let is : d ≡ c = (let w : Some d ≡ Some c = sym p ∙ ap (find W) (sym (find-name W x d p) ∙ same_is d.name y s) ∙ e in cc) in
+              let is : d ≡ c = (let w : Some d ≡ Some c = sym p ∙ ap (find_class W) (sym (find-name W x d p) ∙ same_is d.name y s) ∙ e in cc) in
               any_has (λ i. led (suc n) i z) d.interfaces z (subst (λ (g : ClassFacts). Contains g.interfaces z) (sym is) k) itself
           by false s q = any_weaker (λ i. led n i y) (λ i. led (suc n) i z) more d.interfaces q
 
@@ -142,14 +105,11 @@ module _ (W : World) where
   unfolding led
   whole_next x y = (levels_suffice W (suc (size W)) (omega arith) x y).1
 
-  pub leads-there : (x y : Bytes) → names_in (with_interfaces W x) y ≡ true → is_some (find W y) ≡ true
-  leads-there x y h = led-there (size W) x y (whole x y ∙ h)
-
-  pub leads-on : (x y z : Bytes) (c : ClassFacts) → names_in (with_interfaces W x) y ≡ true → find W y ≡ Some c → Contains c.interfaces z → is_some (find W z) ≡ true
+  pub leads-on : (x y z : Bytes) (c : ClassFacts) → names_in (with_interfaces W x) y ≡ true → find_class W y ≡ Some c → Contains c.interfaces z → is_some (find_class W z) ≡ true
       → names_in (with_interfaces W x) z ≡ true
   leads-on x y z c h e k f = sym (whole_next x z) ∙ led-on (size W) x y z c (whole x y ∙ h) e k f
 
-  pub leads-itself : (x : Bytes) (c : ClassFacts) → find W x ≡ Some c → names_in (with_interfaces W x) x ≡ true
+  pub leads-itself : (x : Bytes) (c : ClassFacts) → find_class W x ≡ Some c → names_in (with_interfaces W x) x ≡ true
   leads-itself x c e = (above_is_one_step W x x c e).1 ∙ ap (λ b. b || list_any (λ i. names_in (with_interfaces W i) x) c.interfaces) (ap (λ w. same w x) (find-name W x c e) ∙ same_itself x)
 
 -- one row more
@@ -209,42 +169,42 @@ module _ (W : World) where
   named_within (Some c) = numbers_within c.interfaces
 
   edges_count : length (edges_of W) ≡ size W
-  edges_count = length-map (names W) (λ x. named_by W (find W x)) ∙ names-length W
+  edges_count = length-map (names W) (λ x. named_by W (find_class W x)) ∙ names-length W
 
   -- what a number names is there
   next_within : (n : ℕ) → All (λ k. k < size W) (next_of (edges_of W) n)
   next_within n = go (cases_lt n (size W))
     where
       go : (n < size W) ⊎ (size W ≤ n) → All (λ k. k < size W) (next_of (edges_of W) n)
-      go (inl l) = subst (λ (ks : List ℕ). All (λ k. k < size W) ks) (sym (get_or-map (λ x. named_by W (find W x)) (names W) n [] [] (subst (λ m. n < m) (sym (names-length W)) l))) (named_within (find W (name_at W n)))
+      go (inl l) = subst (λ (ks : List ℕ). All (λ k. k < size W) ks) (sym (get_or-map (λ x. named_by W (find_class W x)) (names W) n [] [] (subst (λ m. n < m) (sym (names-length W)) l))) (named_within (find_class W (name_at W n)))
       go (inr past) = subst (λ (ks : List ℕ). All (λ k. k < size W) ks) (sym (get_or_past (edges_of W) n [] (subst (λ m. m ≤ n) (sym edges_count) past))) (All-from_recursion (λ k. k < size W) [] tt)
 
   -- what the number n names
-  pub next-is : (n : ℕ) → n < size W → next_of (edges_of W) n ≡ named_by W (find W (name_at W n))
-  next-is n l = get_or-map (λ x. named_by W (find W x)) (names W) n [] [] (subst (λ m. n < m) (sym (names-length W)) l)
+  pub next-is : (n : ℕ) → n < size W → next_of (edges_of W) n ≡ named_by W (find_class W (name_at W n))
+  next-is n l = get_or-map (λ x. named_by W (find_class W x)) (names W) n [] [] (subst (λ m. n < m) (sym (names-length W)) l)
 
   pub edges-length : length (edges_of W) ≡ size W
-  edges-length = length-map (names W) (λ x. named_by W (find W x)) ∙ names-length W
+  edges-length = length-map (names W) (λ x. named_by W (find_class W x)) ∙ names-length W
 
   all_mapped : {A : Type 0} (P : A → Type 0) (f : Bytes → A) (h : (x : Bytes) → P (f x)) (xs : List Bytes) → All P (map f xs)
   all_mapped P f h xs i d l = subst P (sym (get_or-map f xs i [] d (subst (λ m. i < m) (length-map xs f) l))) (h (get_or xs i []))
 
   pub edges-within : All (λ ids. All (λ id. id < length (edges_of W)) ids) (edges_of W)
-  edges-within = all_mapped (λ (ids : List ℕ). All (λ id. id < length (edges_of W)) ids) (λ x. named_by W (find W x))
-      (λ x. subst (λ m. All (λ id. id < m) (named_by W (find W x))) (sym edges-length) (named_within (find W x))) (names W)
+  edges-within = all_mapped (λ (ids : List ℕ). All (λ id. id < length (edges_of W)) ids) (λ x. named_by W (find_class W x))
+      (λ x. subst (λ m. All (λ id. id < m) (named_by W (find_class W x))) (sym edges-length) (named_within (find_class W x))) (names W)
 
-  pub edge_step : (n : ℕ) (done : List (List ℕ)) (c : ClassFacts) (ids : List ℕ) → n < size W → done ≡ map (λ x. named_by W (find W x)) (take n (names W)) → Some c ≡ find W (name_at W n)
-      → ids ≡ filter_map (id_of W) c.interfaces → done ++ ids ∷ [] ≡ map (λ x. named_by W (find W x)) (take (n + 1) (names W))
+  pub edge_step : (n : ℕ) (done : List (List ℕ)) (c : ClassFacts) (ids : List ℕ) → n < size W → done ≡ map (λ x. named_by W (find_class W x)) (take n (names W)) → Some c ≡ find_class W (name_at W n)
+      → ids ≡ filter_map (id_of W) c.interfaces → done ++ ids ∷ [] ≡ map (λ x. named_by W (find_class W x)) (take (n + 1) (names W))
   edge_step n done c ids l e f i =
-      let g : ids ≡ named_by W (find W (name_at W n)) = i ∙ ap (named_by W) f in
+      let g : ids ≡ named_by W (find_class W (name_at W n)) = i ∙ ap (named_by W) f in
       let k : n < length (names W) = subst (λ m. n < m) (sym (names-length W)) l in
-      ap (λ (xs : List (List ℕ)). xs ++ ids ∷ []) e ∙ ap (λ (x : List ℕ). map (λ x. named_by W (find W x)) (take n (names W)) ++ x ∷ []) g
-      ∙ sym (map-append (λ x. named_by W (find W x)) (take n (names W)) (name_at W n ∷ [])) ∙ ap (map (λ x. named_by W (find W x))) (sym (take_more (names W) n [] k))
+      ap (λ (xs : List (List ℕ)). xs ++ ids ∷ []) e ∙ ap (λ (x : List ℕ). map (λ x. named_by W (find_class W x)) (take n (names W)) ++ x ∷ []) g
+      ∙ sym (map-append (λ x. named_by W (find_class W x)) (take n (names W)) (name_at W n ∷ [])) ∙ ap (map (λ x. named_by W (find_class W x))) (sym (take_more (names W) n [] k))
 
   -- ---- rows
 
   -- the search from a number has exactly what its class leads to
-  module _ (d : IsTrue (names_differ (classes W))) (n : ℕ) (l : n < size W) (set : BTreeSet ℕ) (s : IsLedTo (edges_of W) n set) where
+  module _ (d : IsTrue (differ_by_name (classes W))) (n : ℕ) (l : n < size W) (set : BTreeSet ℕ) (s : IsLedTo (edges_of W) n set) where
     passes : ℕ → Bool
     passes k = leads_by W (name_at W n) (name_at W k)
 
@@ -284,7 +244,7 @@ module _ (W : World) where
             (All-weaker (Contains (filter_map (id_of W) r.facts.interfaces)) (λ j. passes j ≡ true) (one r.facts r.found) (filter_map (id_of W) r.facts.interfaces)
             (All-contains_itself (filter_map (id_of W) r.facts.interfaces)))
           where
-            one : (c : ClassFacts) → find W (name_at W k) ≡ Some c → (j : ℕ) → Contains (filter_map (id_of W) c.interfaces) j → passes j ≡ true
+            one : (c : ClassFacts) → find_class W (name_at W k) ≡ Some c → (j : ℕ) → Contains (filter_map (id_of W) c.interfaces) j → passes j ≡ true
             one c e j k2 =
                 let m = number_in c.interfaces j k2 in
                 let is : name_at W j ≡ m.name = (id_of-Some W m.name j m.numbered).1 in
@@ -293,10 +253,10 @@ module _ (W : World) where
                 (λ i p. ap (names_in (with_interfaces W i)) is ∙ leads-on W i (name_at W k) m.name c p e m.is_in (sym (id-find W m.name) ∙ ap is_some m.numbered)) cls.facts.interfaces (sym (led_by (name_at W k)) ∙ h)
 
     -- what a class of the set names is in the set
-    step_in : (x z : Bytes) (i j : ℕ) (c : ClassFacts) → id_of W x ≡ Some i → find W x ≡ Some c → Contains c.interfaces z → id_of W z ≡ Some j → Has set i → Has set j
+    step_in : (x z : Bytes) (i j : ℕ) (c : ClassFacts) → id_of W x ≡ Some i → find_class W x ≡ Some c → Contains c.interfaces z → id_of W z ≡ Some j → Has set i → Has set j
     step_in x z i j c ex e k ez h =
         let at = id_of-Some W x i ex in
-        let is : next_of (edges_of W) i ≡ filter_map (id_of W) c.interfaces = next-is i at.0 ∙ ap (λ y. named_by W (find W y)) at.1 ∙ ap (named_by W) e in
+        let is : next_of (edges_of W) i ≡ filter_map (id_of W) c.interfaces = next-is i at.0 ∙ ap (λ y. named_by W (find_class W y)) at.1 ∙ ap (named_by W) e in
         All-contains (Has set) (next_of (edges_of W) i) j (s.further i h) (subst (λ (ks : List ℕ). Contains ks j) (sym is) (in_numbers c.interfaces z j k ez))
 
     -- what is reached from a number of the set is in the set
@@ -336,9 +296,9 @@ module _ (W : World) where
 
     pub row_exact : (k : ℕ) → k < size W → contains nat_cmp set k ≡ leads_by W (name_at W n) (name_at W k)
     unfolding passes
-    row_exact k m = both_ways (contains nat_cmp set k) (passes k) (s.least passes first_passes more_pass k) (held k m)
+    row_exact k m = tests_agree (contains nat_cmp set k) (passes k) (s.least passes first_passes more_pass k) (held k m)
 
-  pub rows_exact : IsTrue (names_differ (classes W)) → (rows : List (BTreeSet ℕ)) → length rows ≡ length (edges_of W)
+  pub rows_exact : IsTrue (differ_by_name (classes W)) → (rows : List (BTreeSet ℕ)) → length rows ≡ length (edges_of W)
       → ((n : ℕ) (e : BTreeSet ℕ) → n < length (edges_of W) → IsLedTo (edges_of W) n (get_or rows n e)) → AreRows W rows
   rows_exact d rows c h = record {
     count = c ∙ edges-length;
@@ -360,11 +320,11 @@ module _ (W : World) where
       list_any-append (λ z. same z.name y) (each (with_interfaces W) c.interfaces) (interfaces_of W cs)
       ∙ ap (λ b. b || names_in (interfaces_of W cs) y) (names_in-each (with_interfaces W) c.interfaces y) ∙ ap (λ b. leads_to W c y || b) (in_interfaces cs y)
 
-  pub superinterface-is : (x y : Bytes) → has_superinterface W x y ≡ any_up W (size W) x y
+  pub superinterface-is : (x y : Bytes) → is_superinterface W x y ≡ any_up W (size W) x y
   unfolding superinterfaces chain
   superinterface-is x y = in_interfaces (chain W x) y
 
-  module _ (d : IsTrue (names_differ (classes W))) (a : ℕ) (l : a < size W) (y : Bytes) where
+  module _ (d : IsTrue (differ_by_name (classes W))) (a : ℕ) (l : a < size W) (y : Bytes) where
     at : IsClass W (name_at W a)
     at = class_at W a d l
 
@@ -405,8 +365,8 @@ module _ (W : World) where
     any-above m n t s h e = subst (λ k. any_up W k (name_at W a) y ≡ any_up W n (name_at W t) y) s (one_above n t h e)
 
   -- two numbers are one where their names are
-  pub same_number : IsTrue (names_differ (classes W)) → (a b : ℕ) → a < size W → b < size W → same (name_at W a) (name_at W b) ≡ eqb a b
-  same_number d a b l m = both_ways (same (name_at W a) (name_at W b)) (eqb a b) forth back
+  pub same_number : IsTrue (differ_by_name (classes W)) → (a b : ℕ) → a < size W → b < size W → same (name_at W a) (name_at W b) ≡ eqb a b
+  same_number d a b l m = tests_agree (same (name_at W a) (name_at W b)) (eqb a b) forth back
     where
       forth : same (name_at W a) (name_at W b) ≡ true → eqb a b ≡ true
       forth h = let p : Some a ≡ Some b = sym (id_of-name_at W a d l) ∙ ap (id_of W) (same_is (name_at W a) (name_at W b) h) ∙ id_of-name_at W b d m in eq-eqb a b cc

@@ -8,31 +8,31 @@ use Rattle.jc_facts.specs.declared.link_error.LinkError.{LinkError}
 use Rattle.jc_facts.specs.declared.link_error.LinkError.TheVariants.{NoClassDefFoundError, ClassCircularityError}
 use Rattle.jc_facts.specs.Names.{Bytes}
 use Rattle.jc_facts.specs.Options.{or_else, first_some, and_then}
-use Rattle.jc_facts.specs.World.{World, find, size}
-use Rattle.jc_facts.specs.Search.{supers}
-use Rattle.jc_facts.specs.Loading.{own_fault, load_step, fault_at, load_fault}
-use Rattle.jc_laws.proofs.Settles.{EachOf, EachOf-map}
-use Rattle.jc_laws.proofs.Descent.{descend-absent, descend-none_left, descend-found}
-use Rattle.jc_laws.proofs.Depth.{is_done, fault_at-from, fault_at-deep}
-use Rattle.jc_laws.proofs.Loaded.{first_some-none}
+use Rattle.jc_facts.specs.world.World.{World, find_class, size}
+use Rattle.jc_facts.specs.world.Search.{supers}
+use Rattle.jc_facts.specs.world.Loading.{fault_of_itself, load_step, fault_at, load_fault}
+use Rattle.jc_lemmas.proofs.Listed.{EachOf, EachOf-map}
+use Rattle.jc_worlds.proofs.Descent.{descend-absent, descend-none_left, descend-found}
+use Rattle.jc_worlds.proofs.Depth.{is_done, fault_at-from, fault_at-deep}
+use Rattle.jc_facts.proofs.Options.{first_some-none}
 use Rattle.jc_table.specs.Ids.{name_at, id_of}
 use Rattle.jc_table.proofs.Numbers.{id_of-Some, id-find, is_class}
 use Rattle.jc_table.specs.declared.faults.State.{State}
 use Rattle.jc_table.specs.declared.faults.State.TheVariants as states
-use Rattle.jc_table.specs.Entering.{Leads, AreRight, IsRight, state_of, is_known}
+use Rattle.jc_table.specs.steps.Entering.{Leads, AreRight, IsRight, state_of, is_known}
 
 -- ---- the load fault as an equation
 
 -- a class that isn't there
-pub absent : (W : World) (x : Bytes) → find W x ≡ None → load_fault W x ≡ Some NoClassDefFoundError
+pub absent : (W : World) (x : Bytes) → find_class W x ≡ None → load_fault W x ≡ Some NoClassDefFoundError
 unfolding load_fault
 absent W x e = descend-absent W _ _ (load_step W) (size W) x e
 
 -- a class that is there: the first fault above it, and then its own
-pub known : (W : World) (x : Bytes) (c : ClassFacts) → find W x ≡ Some c → load_fault W x ≡ or_else (first_some (load_fault W) (supers c)) (own_fault W c)
+pub known : (W : World) (x : Bytes) (c : ClassFacts) → find_class W x ≡ Some c → load_fault W x ≡ or_else (first_some (load_fault W) (supers c)) (fault_of_itself W c)
 unfolding load_step load_fault
 known W x c e =
-    let p : fault_at W (suc (size W)) x ≡ or_else (first_some (fault_at W (size W)) (supers c)) (own_fault W c) = descend-found W _ _ (load_step W) (size W) x c e in
+    let p : fault_at W (suc (size W)) x ≡ or_else (first_some (fault_at W (size W)) (supers c)) (fault_of_itself W c) = descend-found W _ _ (load_step W) (size W) x c e in
     sym (fault_at-deep W (suc (size W)) (omega arith) x) ∙ p
 
 -- ---- lists of names
@@ -102,7 +102,7 @@ circle W S lead x h = go (size W) x h
         EachOf-map (late W n) (take w.0 (supers l.class)) (first_some-none (load_fault W) (take w.0 (supers l.class)) l.before) in
         let p : first_some (fault_at W n) (supers l.class) ≡ Some ClassCircularityError =
         ap (λ zs. first_some (fault_at W n) zs) a.1 ∙ first-late (fault_at W n) (take w.0 (supers l.class)) a.0 w.1 b (go n w.1 w.2) in
-        let q : fault_at W (suc n) y ≡ or_else (first_some (fault_at W n) (supers l.class)) (own_fault W l.class) = descend-found W _ _ (load_step W) n y l.class l.found in
+        let q : fault_at W (suc n) y ≡ or_else (first_some (fault_at W n) (supers l.class)) (fault_of_itself W l.class) = descend-found W _ _ (load_step W) n y l.class l.found in
         q ∙ rw p refl
 
 -- ---- what is known
@@ -132,13 +132,13 @@ pub loads-all : (f : Bytes → Option LinkError) (xs : List Bytes) (n : ℕ) →
 loads-all f xs n l h = ap (first_some f) (sym (take_all n xs l)) ∙ h
 
 -- where all above it loads, its own fault decides
-pub all-load : (W : World) (x : Bytes) (c : ClassFacts) → find W x ≡ Some c → first_some (load_fault W) (supers c) ≡ None → load_fault W x ≡ and_then (own_fault W) (find W x)
+pub all-load : (W : World) (x : Bytes) (c : ClassFacts) → find_class W x ≡ Some c → first_some (load_fault W) (supers c) ≡ None → load_fault W x ≡ and_then (fault_of_itself W) (find_class W x)
 unfolding or_else and_then
 all-load W x c e h = known W x c e ∙ rw (h, e) refl
 
 -- the class of a name that has a number
-pub found-by : (W : World) (x : Bytes) (n : ℕ) (c : ClassFacts) → id_of W x ≡ Some n → Some c ≡ find W (name_at W n) → find W x ≡ Some c
-found-by W x n c e f = ap (find W) (sym (id_of-Some W x n e).1) ∙ sym f
+pub found-by : (W : World) (x : Bytes) (n : ℕ) (c : ClassFacts) → id_of W x ≡ Some n → Some c ≡ find_class W (name_at W n) → find_class W x ≡ Some c
+found-by W x n c e f = ap (find_class W) (sym (id_of-Some W x n e).1) ∙ sym f
 
 -- ---- the first fault along a list
 
@@ -164,17 +164,17 @@ first-end f xs i l = ap (first_some f) (drop_all i xs l)
 
 -- ---- a search to a depth
 
-pub level-absent : (W : World) (n : ℕ) (x : Bytes) → find W x ≡ None → fault_at W n x ≡ Some NoClassDefFoundError
+pub level-absent : (W : World) (n : ℕ) (x : Bytes) → find_class W x ≡ None → fault_at W n x ≡ Some NoClassDefFoundError
 level-absent W n x e = descend-absent W _ _ (load_step W) n x e
 
-level-none : (W : World) (n : ℕ) (x : Bytes) (c : ClassFacts) → n ≡ 0 → find W x ≡ Some c → fault_at W n x ≡ Some ClassCircularityError
+level-none : (W : World) (n : ℕ) (x : Bytes) (c : ClassFacts) → n ≡ 0 → find_class W x ≡ Some c → fault_at W n x ≡ Some ClassCircularityError
 level-none W n x c z e = ap (λ m. fault_at W m x) z ∙ descend-none_left W _ _ (load_step W) x c e
 
-level-step : (W : World) (m n : ℕ) (x : Bytes) (c : ClassFacts) → m ≡ suc n → find W x ≡ Some c → fault_at W m x ≡ or_else (first_some (fault_at W n) (supers c)) (own_fault W c)
+level-step : (W : World) (m n : ℕ) (x : Bytes) (c : ClassFacts) → m ≡ suc n → find_class W x ≡ Some c → fault_at W m x ≡ or_else (first_some (fault_at W n) (supers c)) (fault_of_itself W c)
 unfolding load_step
 level-step W m n x c q e = ap (λ k. fault_at W k x) q ∙ descend-found W _ _ (load_step W) n x c e
 
-pub level-fault : (W : World) (m n : ℕ) (x : Bytes) (c : ClassFacts) (at : ℕ) (s : Bytes) (fault : LinkError) → m ≡ suc n → find W x ≡ Some c → first_some (fault_at W n) (take at (supers c)) ≡ None → slice_get (supers c) at ≡ Some s → fault_at W n s ≡ Some fault → fault_at W m x ≡ Some fault
+pub level-fault : (W : World) (m n : ℕ) (x : Bytes) (c : ClassFacts) (at : ℕ) (s : Bytes) (fault : LinkError) → m ≡ suc n → find_class W x ≡ Some c → first_some (fault_at W n) (take at (supers c)) ≡ None → slice_get (supers c) at ≡ Some s → fault_at W n s ≡ Some fault → fault_at W m x ≡ Some fault
 unfolding first_some or_else
 level-fault W m n x c at s fault q e h g f =
     let a = around (supers c) at s g in
@@ -182,9 +182,9 @@ level-fault W m n x c at s fault q e h g f =
     ap (λ zs. first_some (fault_at W n) zs) a.1 ∙ first_some-append (fault_at W n) (take at (supers c)) (s ∷ a.0) in
     level-step W m n x c q e ∙ rw (p, h, f) refl
 
-pub level-own : (W : World) (m n : ℕ) (x : Bytes) (c : ClassFacts) (at : ℕ) → m ≡ suc n → find W x ≡ Some c → length (supers c) ≤ at → first_some (fault_at W n) (take at (supers c)) ≡ None → fault_at W m x ≡ own_fault W c
+pub level-own : (W : World) (m n : ℕ) (x : Bytes) (c : ClassFacts) (at : ℕ) → m ≡ suc n → find_class W x ≡ Some c → length (supers c) ≤ at → first_some (fault_at W n) (take at (supers c)) ≡ None → fault_at W m x ≡ fault_of_itself W c
 unfolding or_else
-level-own W m n x c at q e l h = level-step W m n x c q e ∙ ap (λ o. or_else o (own_fault W c)) (loads-all (fault_at W n) (supers c) at l h)
+level-own W m n x c at q e l h = level-step W m n x c q e ∙ ap (λ o. or_else o (fault_of_itself W c)) (loads-all (fault_at W n) (supers c) at l h)
 
 pub level-zero : (W : World) (n : ℕ) (x : Bytes) (id : ℕ) → n ≡ 0 → id_of W x ≡ Some id → fault_at W n x ≡ Some ClassCircularityError
 level-zero W n x id z e =

@@ -8,20 +8,20 @@ use Rattle.std.proofs.lemmas.List.{length-map}
 use Rattle.std.proofs.lemmas.Map.Text.{is_eq-slice_cmp}
 use Rattle.jc_facts.specs.declared.class_facts.ClassFacts.{ClassFacts}
 use Rattle.jc_facts.specs.Names.{Bytes}
-use Rattle.jc_facts.specs.Orders.{name_order}
-use Rattle.jc_facts.specs.Exact.{Before, NamesRise}
-use Rattle.jc_facts.proofs.Listed.{each_in}
+use Rattle.jc_facts.specs.Exactly.{name_order, Rises}
+use Rattle.jc_facts.specs.Exactly.{Before, NamesRise}
+use Rattle.jc_lemmas.proofs.Listed.{each_in}
 use Rattle.jc_facts.proofs.OneList.{not_self}
 use Rattle.jc_facts.proofs.Same.{same_is}
 use Rattle.jc_table.specs.Ids.{names_of, place_of}
-use Rattle.jc_table.specs.Order.{name_in, IsOrder}
+use Rattle.jc_table.specs.steps.Order.{name_in, IsOrder}
 use Rattle.jc_table.proofs.Numbers.{at-in, place-at, place-back, IsAt}
 
 pub order_length : (cs : List ClassFacts) (order : List ℕ) → IsOrder cs order → length order ≡ length (names_of cs)
 order_length cs order o = sym (length-map order (name_in cs)) ∙ ap length o.named
 
 apart : (ns : List Bytes) (k j : ℕ) → NamesRise (λ (z : Bytes). z) ns → k < j → j < length ns → Before (get_or ns k []) (get_or ns j [])
-unfolding NamesRise
+unfolding Rises
 apart [] k j r h l = absurd (omega arith)
 apart (n ∷ ns) k zero r h l = absurd (omega arith)
 apart (n ∷ ns) zero (suc j) r h l = each_in (λ z. Before n z) ns (get_or ns j []) r.0 (at-in ns j (omega arith))

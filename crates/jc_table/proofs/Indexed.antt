@@ -5,10 +5,10 @@ use Rattle.std.proofs.lemmas.List.{append-nil, take-append-drop, get_or-map}
 use Rattle.std.proofs.lemmas.Option.{slice_get_read, slice_get_cases}
 use Rattle.jc_facts.specs.declared.class_facts.ClassFacts.{ClassFacts}
 use Rattle.jc_facts.specs.Names.{Bytes}
-use Rattle.jc_facts.specs.World.{World, side, classes, size, find, class_named}
-use Rattle.jc_facts.specs.Clients.{names_differ}
+use Rattle.jc_facts.specs.world.World.{World, side, classes, size, find_class, class_named}
+use Rattle.jc_facts.specs.client.Clients.{differ_by_name}
 use Rattle.jc_table.specs.Ids.{names_of, names, name_at, place_of, id_of}
-use Rattle.jc_table.specs.Order.{name_or, name_in, IsIndex}
+use Rattle.jc_table.specs.steps.Order.{name_or, name_in, IsIndex}
 use Rattle.jc_table.specs.declared.index.Index.TheInside.{Inside}
 use Rattle.jc_table.proofs.Numbers.{names_of-length}
 use Rattle.jc_table.proofs.Places.{found_there, in_front}
@@ -22,15 +22,15 @@ module _ (i : Inside) (h : IsIndex i) (W : World) (v : side (take i.platform i.c
   classes_are : classes W ≡ i.classes.items
   classes_are = ap classes (sym v) ∙ cut i.classes.items i.platform
 
-  pub differ : IsTrue (names_differ i.classes.items)
-  differ = subst (λ (cs : List ClassFacts). IsTrue (names_differ cs)) (cut i.classes.items i.platform) h.side.differ
+  pub differ : IsTrue (differ_by_name i.classes.items)
+  differ = subst (λ (cs : List ClassFacts). IsTrue (differ_by_name cs)) (cut i.classes.items i.platform) h.side.differ
 
   names_are : names W ≡ names_of i.classes.items
   unfolding names
   names_are = ap names_of classes_are
 
-  find_is : (x : Bytes) → find W x ≡ class_named i.classes.items x
-  unfolding find
+  find_is : (x : Bytes) → find_class W x ≡ class_named i.classes.items x
+  unfolding find_class
   find_is x = ap (λ (cs : List ClassFacts). class_named cs x) classes_are
 
   pub count_is : length i.order.items ≡ size W
@@ -58,7 +58,7 @@ module _ (i : Inside) (h : IsIndex i) (W : World) (v : side (take i.platform i.c
       ∙ ap (λ (ns : List Bytes). get_or ns n []) (h.order.named ∙ sym names_are)
 
   -- and is the one that it finds
-  pub class_is : (n at : ℕ) (c : ClassFacts) → n < size W → at ≡ get_or i.order.items n at → c ≡ get_or i.classes.items at c → Some c ≡ find W (name_at W n)
+  pub class_is : (n at : ℕ) (c : ClassFacts) → n < size W → at ≡ get_or i.order.items n at → c ≡ get_or i.classes.items at c → Some c ≡ find_class W (name_at W n)
   class_is n at c l a e =
       let there : slice_get i.classes.items at ≡ Some c = slice_get_read i.classes.items (length i.classes.items) at c refl (within n at l a) e in
       sym (found_there i.classes.items at c differ there) ∙ ap (class_named i.classes.items) (name_is n at c l a there) ∙ sym (find_is (name_at W n))

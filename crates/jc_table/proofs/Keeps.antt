@@ -11,7 +11,7 @@ use Rattle.std.proofs.lemmas.Map.Views.{All-set_contains}
 use Rattle.jc_facts.specs.declared.class_facts.ClassFacts.{ClassFacts}
 use Rattle.jc_facts.specs.Names.{Bytes}
 use Rattle.jc_facts.specs.Options.{and_then}
-use Rattle.jc_facts.specs.World.{World, size, find}
+use Rattle.jc_facts.specs.world.World.{World, size, find_class}
 use Rattle.jc_table.specs.Ids.{names, name_at, id_of, superclass_of}
 use Rattle.jc_table.specs.Above.{AreRows, AreAbove}
 use Rattle.jc_table.proofs.Numbers.{names-length, id_of-Some}
@@ -39,7 +39,7 @@ supers-at W supers n d h l =
 -- the number of a superclass is one of the world's
 pub super-below : (W : World) (x : Bytes) (k : ℕ) → superclass_of W x ≡ Some k → k < size W
 unfolding superclass_of and_then
-super-below W x k h = go (find W x) h
+super-below W x k h = go (find_class W x) h
   where
     by : (s : Option Bytes) → and_then (id_of W) s ≡ Some k → k < size W
     by None e = absurd (let clash : None ≡ Some k = e in cc)

@@ -4,7 +4,6 @@ pub mod Paths
 pub mod Turns
 pub mod Slashes
 pub mod Walking
-pub mod Fixed
 pub mod Places
 pub mod Halves
 pub mod Indexed
@@ -17,4 +16,7 @@ pub mod Mentions
 pub mod Queues
 pub mod Aboves
 pub mod Keeps
-pub mod Exactly
+pub mod Sides
+pub mod Reached
+pub mod MemberKeys
+pub mod FinalKeys

@@ -6,10 +6,10 @@ use Rattle.std.specs.List.Sorted.{IsPermutation}
 use Rattle.std.proofs.lemmas.List.Folds.{list_any-append}
 use Rattle.std.proofs.lemmas.List.Sorted.{list_any-IsPermutation}
 use Rattle.jc_facts.specs.declared.class_facts.ClassFacts.{ClassFacts}
-use Rattle.jc_facts.specs.Names.{Bytes, same, package_of}
-use Rattle.jc_facts.specs.Search.{supers}
-use Rattle.jc_facts.specs.Mentioned.{mentions}
-use Rattle.jc_table.specs.Texts.{AreTexts}
+use Rattle.jc_facts.specs.Names.{Bytes, same, package_name}
+use Rattle.jc_facts.specs.world.Search.{supers}
+use Rattle.jc_facts.specs.world.Mentioned.{mentions}
+use Rattle.jc_table.specs.MentionedNames.{AreMentionedNames}
 
 module _ {A B : Type 0} (p : B → Bool) where
   any_mapped : (f : A → B) (xs : List A) → list_any p (map f xs) ≡ list_any (λ x. p (f x)) xs
@@ -21,10 +21,10 @@ module _ {A B : Type 0} (p : B → Bool) where
   any_flat f (x ∷ xs) = list_any-append p (f x) (flat_map f xs) ∙ ap (λ r. list_any p (f x) || r) (any_flat f xs)
 
 module _ (cs : List ClassFacts) (ps ss ms : List Bytes) where
-  pub are_texts : IsPermutation (map (λ c. package_of c.name) cs) ps → IsPermutation (flat_map supers cs) ss → IsPermutation (flat_map mentions cs) ms
-      → AreTexts cs (record { packages = ps; supers = ss; mentioned = ms })
-  are_texts h k l = record {
-    packages = λ x. sym (list_any-IsPermutation (λ y. same y x) _ ps h) ∙ any_mapped (λ y. same y x) (λ c. package_of c.name) cs;
+  pub are_mentioned : IsPermutation (map (λ c. package_name c.name) cs) ps → IsPermutation (flat_map supers cs) ss → IsPermutation (flat_map mentions cs) ms
+      → AreMentionedNames cs (record { packages = ps; supers = ss; mentioned = ms })
+  are_mentioned h k l = record {
+    packages = λ x. sym (list_any-IsPermutation (λ y. same y x) _ ps h) ∙ any_mapped (λ y. same y x) (λ c. package_name c.name) cs;
     supers = λ x. sym (list_any-IsPermutation (λ y. same y x) _ ss k) ∙ any_flat (λ y. same y x) supers cs;
     mentioned = λ front. sym (list_any-IsPermutation (λ y. starts_with nat_eq y front) _ ms l) ∙ any_flat (λ y. starts_with nat_eq y front) mentions cs;
   }

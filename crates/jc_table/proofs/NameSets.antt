@@ -1,6 +1,5 @@
 -- Searches in names that are sorted.
-use Rattle.std.proofs.Common.{◌≡◌, ◌<◌, ◌≤◌, ℕ, Bool, true, false, ◌&&◌, List, [], ◌∷◌, length, get_or, refl, sym, ◌∙◌, ap, subst, ◌⊎◌, inl, inr, arith, ltb}
-use Rattle.std.proofs.Common.{Ordering}
+use Rattle.std.proofs.Common.{◌≡◌, ◌<◌, ◌≤◌, ℕ, Bool, true, false, List, [], ◌∷◌, length, get_or, refl, sym, ◌∙◌, ap, subst, ◌⊎◌, inl, inr, arith, Ordering}
 use Rattle.std.specs.Prelude.{nat_eq}
 use Rattle.std.specs.Ordering.{is_lt, is_eq, nat_cmp, ordering_reverse}
 use Rattle.std.specs.declared.cmp.Ordering.TheVariants.{Less, Equal, Greater}
@@ -12,34 +11,14 @@ use Rattle.std.proofs.lemmas.List.{get_or_default}
 use Rattle.std.proofs.lemmas.Map.Text.{is_eq-slice_cmp}
 use Rattle.std.proofs.lemmas.Cmp.{nat_list_cmp_total}
 use Rattle.jc_facts.specs.Names.{Bytes, same}
-use Rattle.jc_facts.specs.Orders.{name_order}
+use Rattle.jc_facts.specs.Exactly.{name_order}
 use Rattle.jc_facts.proofs.Same.{same_is, same_itself}
-
--- two tests that follow from each other are one
-pub both_ways : (a b : Bool) → (a ≡ true → b ≡ true) → (b ≡ true → a ≡ true) → a ≡ b
-both_ways true true h k = refl
-both_ways true false h k = sym (h refl)
-both_ways false true h k = k refl
-both_ways false false h k = refl
-
-and_left : (a b : Bool) → (a && b) ≡ true → a ≡ true
-and_left true b h = refl
-and_left false b h = h
-
-and_right : (a b : Bool) → (a && b) ≡ true → b ≡ true
-and_right true b h = h
-and_right false b h = absurd (cc)
+use Rattle.std.proofs.lemmas.Bool.{cases_lt}
+use Rattle.jc_lemmas.proofs.Bools.{both_last, tests_agree, both_first}
 
 -- x is less than y
 abbrev pub less : Bytes → Bytes → Bool
 less x y = is_lt (name_order x y)
-
-pub cases_lt : (a b : ℕ) → (a < b) ⊎ (b ≤ a)
-cases_lt a b = go (ltb a b) refl
-  where
-    go : (r : Bool) → ltb a b ≡ r → (a < b) ⊎ (b ≤ a)
-    go true e = inl (grind arith)
-    go false e = inr (grind arith)
 
 -- no name is less than itself
 irreflexive : (x : Bytes) → less x x ≡ false
@@ -93,11 +72,11 @@ module _ (b : Bytes) (t : Bytes → Bool) (low : (y : Bytes) → less y b ≡ tr
     any_there inside x e =
         let is : get_or xs i [] ≡ x = get_or_default xs i [] x inside ∙ e in
         subst (λ (z : Bytes). list_any t xs ≡ t z) is
-        (both_ways (list_any t xs) (t (get_or xs i [])) (λ h. first_passes inside (Any-from_list_any t xs h)) (list_any_at t xs i [] inside))
+        (tests_agree (list_any t xs) (t (get_or xs i [])) (λ h. first_passes inside (Any-from_list_any t xs h)) (list_any_at t xs i [] inside))
 
     -- and none does where there is none
     pub any_past : length xs ≤ i → list_any t xs ≡ false
-    any_past past = both_ways (list_any t xs) false (λ h. none_past past (Any-from_list_any t xs h)) (λ h. absurd (cc))
+    any_past past = tests_agree (list_any t xs) false (λ h. none_past past (Any-from_list_any t xs h)) (λ h. absurd (cc))
 
 -- ---- the name itself
 
@@ -151,13 +130,13 @@ begins_down (b ∷ bs) (x ∷ xs) (y ∷ ys) h k e = go (nat_cmp x b) refl (nat_
     go Less p s q more = absurd (let c : true ≡ false = rw p at h in cc)
     go Equal p Less q more = absurd (let c : true ≡ false = rw q at k in cc)
     go Equal p Equal q more =
-        let first : nat_eq b y ≡ true = and_left (nat_eq b y) (begins ys bs) e in
-        let rest : begins xs bs ≡ true = more (rw p at h) (rw q at k) (and_right (nat_eq b y) (begins ys bs) e) in
+        let first : nat_eq b y ≡ true = both_first (nat_eq b y) (begins ys bs) e in
+        let rest : begins xs bs ≡ true = more (rw p at h) (rw q at k) (both_last (nat_eq b y) (begins ys bs) e) in
         rw rest (grind arith)
-    go Equal p Greater q more = absurd (let first : nat_eq b y ≡ true = and_left (nat_eq b y) (begins ys bs) e in grind arith)
+    go Equal p Greater q more = absurd (let first : nat_eq b y ≡ true = both_first (nat_eq b y) (begins ys bs) e in grind arith)
     go Greater p Less q more = absurd (let c : true ≡ false = rw q at k in cc)
-    go Greater p Equal q more = absurd (let first : nat_eq b y ≡ true = and_left (nat_eq b y) (begins ys bs) e in grind arith)
-    go Greater p Greater q more = absurd (let first : nat_eq b y ≡ true = and_left (nat_eq b y) (begins ys bs) e in grind arith)
+    go Greater p Equal q more = absurd (let first : nat_eq b y ≡ true = both_first (nat_eq b y) (begins ys bs) e in grind arith)
+    go Greater p Greater q more = absurd (let first : nat_eq b y ≡ true = both_first (nat_eq b y) (begins ys bs) e in grind arith)
 
 module _ (b : Bytes) (xs : List Bytes) (i : ℕ) (s : IsSorted name_order xs) (p : IsPartitionPoint (λ x. less x b ≡ true) (λ x. less x b ≡ false) xs i) where
   pub begins_there : i < length xs → (x : Bytes) → get_or xs i x ≡ x → list_any (λ y. starts_with nat_eq y b) xs ≡ starts_with nat_eq x b

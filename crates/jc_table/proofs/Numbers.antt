@@ -9,14 +9,14 @@ use Rattle.std.proofs.lemmas.Map.Text.{is_eq-slice_cmp}
 use Rattle.jc_facts.specs.declared.class_facts.ClassFacts.{ClassFacts}
 use Rattle.jc_facts.specs.Names.{Bytes, same}
 use Rattle.jc_facts.specs.Options.{and_then}
-use Rattle.jc_facts.specs.Orders.{name_order}
-use Rattle.jc_facts.specs.Exact.{Before, NamesRise}
-use Rattle.jc_facts.specs.World.{World, classes, size, find, class_named}
-use Rattle.jc_facts.specs.Clients.{names_differ}
-use Rattle.jc_facts.proofs.Listed.{EachOf, EachOf-map, here, there, none, cases, each_in}
+use Rattle.jc_facts.specs.Exactly.{name_order, Rises}
+use Rattle.jc_facts.specs.Exactly.{Before, NamesRise}
+use Rattle.jc_facts.specs.world.World.{World, classes, size, find_class, class_named}
+use Rattle.jc_facts.specs.client.Clients.{differ_by_name}
+use Rattle.jc_lemmas.proofs.Listed.{EachOf, EachOf-map, here, there, none, cases, each_in}
 use Rattle.jc_facts.proofs.OneList.{not_self}
 use Rattle.jc_facts.proofs.Same.{same_is, same_itself}
-use Rattle.jc_laws.proofs.Worlds.{class_named-name}
+use Rattle.jc_facts.proofs.World.{class_named-name}
 use Rattle.jc_table.specs.Ids.{insert, names_of, names, name_at, place_of, id_of, superclass_of}
 
 -- ---- how many
@@ -52,7 +52,7 @@ insert-each P x (y ∷ ys) h k = go (is_lt (name_order x y)) (insert-each P x ys
     go false r = (k.0, r)
 
 insert-rises : (x : Bytes) (ys : List Bytes) → EachOf (λ y. x ≢ y) ys → NamesRise (λ (z : Bytes). z) ys → NamesRise (λ (z : Bytes). z) (insert x ys)
-unfolding insert NamesRise
+unfolding insert Rises
 insert-rises x [] d r = (tt, tt)
 insert-rises x (y ∷ ys) d r = go (name_order x y) refl (insert-rises x ys d.1 r.1)
   where
@@ -65,10 +65,6 @@ insert-rises x (y ∷ ys) d r = go (name_order x y) refl (insert-rises x ys d.1 
     go Greater e s =
         let q : Before y x = nat_list_cmp_total.antisymm y x ∙ ap ordering_reverse e in
         (insert-each (λ z. Before y z) x ys q r.0, s)
-
-or_false : (a b : Bool) → (a || b) ≡ false → (a ≡ false) × (b ≡ false)
-or_false true b h = absurd (cc)
-or_false false b h = (refl, h)
 
 pub and_true : (a b : Bool) → IsTrue (a && b) → IsTrue a × IsTrue b
 and_true true b h = (refl, h)
@@ -88,19 +84,19 @@ pub is_none-None : {A : Type 0} (o : Option A) → IsTrue (is_none o) → o ≡ 
 is_none-None None h = refl
 is_none-None (Some x) h = absurd (cc)
 
-pub names_of-rise : (cs : List ClassFacts) → IsTrue (names_differ cs) → NamesRise (λ (z : Bytes). z) (names_of cs)
-unfolding names_of names_differ NamesRise
+pub names_of-rise : (cs : List ClassFacts) → IsTrue (differ_by_name cs) → NamesRise (λ (z : Bytes). z) (names_of cs)
+unfolding names_of differ_by_name Rises
 names_of-rise [] h = tt
 names_of-rise (c ∷ cs) h =
-    let k = and_true (is_none (class_named cs c.name)) (names_differ cs) h in
+    let k = and_true (is_none (class_named cs c.name)) (differ_by_name cs) h in
     insert-rises c.name (names_of cs) (absent-each cs c.name (is_none-None (class_named cs c.name) k.0)) (names_of-rise cs k.1)
 
-pub names_of-rest : (c : ClassFacts) (cs : List ClassFacts) → IsTrue (names_differ (c ∷ cs)) → IsTrue (names_differ cs)
-unfolding names_differ
-names_of-rest c cs h = (and_true (is_none (class_named cs c.name)) (names_differ cs) h).1
+pub names_of-rest : (c : ClassFacts) (cs : List ClassFacts) → IsTrue (differ_by_name (c ∷ cs)) → IsTrue (differ_by_name cs)
+unfolding differ_by_name
+names_of-rest c cs h = (and_true (is_none (class_named cs c.name)) (differ_by_name cs) h).1
 
 -- the names rise, where they differ
-pub names-rise : (W : World) → IsTrue (names_differ (classes W)) → NamesRise (λ (z : Bytes). z) (names W)
+pub names-rise : (W : World) → IsTrue (differ_by_name (classes W)) → NamesRise (λ (z : Bytes). z) (names W)
 unfolding names
 names-rise W h = names_of-rise (classes W) h
 
@@ -147,19 +143,16 @@ place-class (c ∷ cs) x = insert-place c.name (names_of cs) x ∙ go (same c.na
     go false r = r
 
 -- a name has a number exactly where a class has it
-pub id-find : (W : World) (x : Bytes) → is_some (id_of W x) ≡ is_some (find W x)
-unfolding id_of names find
+pub id-find : (W : World) (x : Bytes) → is_some (id_of W x) ≡ is_some (find_class W x)
+unfolding id_of names find_class
 id-find W x = place-class (classes W) x
 
 none_from : {A B : Type 0} (o : Option A) (p : Option B) → is_some o ≡ is_some p → o ≡ None → p ≡ None
 none_from o None h e = refl
 none_from o (Some x) h e = absurd (let k : is_some o ≡ false = ap is_some e in cc)
 
-pub id_of-None : (W : World) (x : Bytes) → find W x ≡ None → id_of W x ≡ None
-id_of-None W x e = none_from (find W x) (id_of W x) (sym (id-find W x)) e
-
-pub find-None : (W : World) (x : Bytes) → id_of W x ≡ None → find W x ≡ None
-find-None W x e = none_from (id_of W x) (find W x) (id-find W x) e
+pub find-None : (W : World) (x : Bytes) → id_of W x ≡ None → find_class W x ≡ None
+find-None W x e = none_from (id_of W x) (find_class W x) (id-find W x) e
 
 -- ---- a name by its number, and back
 
@@ -197,7 +190,7 @@ not_same y x h = go (same y x) refl
     go false p = refl
 
 pub place-back : (ys : List Bytes) (n : ℕ) → NamesRise (λ (z : Bytes). z) ys → n < length ys → place_of ys (get_or ys n []) ≡ Some n
-unfolding place_of NamesRise
+unfolding place_of Rises
 place-back [] n r h = absurd (omega arith)
 place-back (y ∷ ys) zero r h = rw (same_itself y) refl
 place-back (y ∷ ys) (suc n) r h =
@@ -206,7 +199,7 @@ place-back (y ∷ ys) (suc n) r h =
     rw (e, place-back ys n r.1 l) refl
 
 -- the number of the name of a number is that number
-pub id_of-name_at : (W : World) (n : ℕ) → IsTrue (names_differ (classes W)) → n < size W → id_of W (name_at W n) ≡ Some n
+pub id_of-name_at : (W : World) (n : ℕ) → IsTrue (differ_by_name (classes W)) → n < size W → id_of W (name_at W n) ≡ Some n
 unfolding id_of
 id_of-name_at W n d h = place-back (names W) n (names-rise W d) (let e = names-length W in omega arith)
 
@@ -222,22 +215,22 @@ id_of-Some W x n e =
 -- the class of a name
 pub record IsClass (W : World) (x : Bytes) : Type 0 where
   pub facts : ClassFacts
-  pub found : find W x ≡ Some facts
+  pub found : find_class W x ≡ Some facts
   pub name : facts.name ≡ x
 
 some_true : {A : Type 0} (o : Option A) (x : A) → o ≡ Some x → is_some o ≡ true
 some_true o x e = ap is_some e
 
-pub is_class : (W : World) (x : Bytes) → is_some (find W x) ≡ true → IsClass W x
-unfolding find
-is_class W x h = go (find W x) refl h
+pub is_class : (W : World) (x : Bytes) → is_some (find_class W x) ≡ true → IsClass W x
+unfolding find_class
+is_class W x h = go (find_class W x) refl h
   where
-    go : (o : Option ClassFacts) → find W x ≡ o → is_some o ≡ true → IsClass W x
+    go : (o : Option ClassFacts) → find_class W x ≡ o → is_some o ≡ true → IsClass W x
     go None e k = absurd (cc)
     go (Some c) e k = record { facts = c; found = e; name = class_named-name (classes W) x c e }
 
 -- each number below the count has a class of its name
-pub class_at : (W : World) (n : ℕ) → IsTrue (names_differ (classes W)) → n < size W → IsClass W (name_at W n)
+pub class_at : (W : World) (n : ℕ) → IsTrue (differ_by_name (classes W)) → n < size W → IsClass W (name_at W n)
 class_at W n d h = is_class W (name_at W n) (sym (id-find W (name_at W n)) ∙ some_true (id_of W (name_at W n)) n (id_of-name_at W n d h))
 
 -- ---- what the names have
@@ -269,17 +262,17 @@ pub in-named : (cs : List ClassFacts) (x : Bytes) → Contains (names_of cs) x �
 in-named cs x k = sym (place-class cs x) ∙ in-place (names_of cs) x k
 
 -- the names have a name exactly where the world has a class of it
-pub names-in : (W : World) (x : Bytes) → is_some (find W x) ≡ true → Contains (names W) x
-unfolding names find
+pub names-in : (W : World) (x : Bytes) → is_some (find_class W x) ≡ true → Contains (names W) x
+unfolding names find_class
 names-in W x h = named-in (classes W) x h
 
-pub names-find : (W : World) (x : Bytes) → Contains (names W) x → is_some (find W x) ≡ true
-unfolding names find
+pub names-find : (W : World) (x : Bytes) → Contains (names W) x → is_some (find_class W x) ≡ true
+unfolding names find_class
 names-find W x k = in-named (classes W) x k
 
 -- ---- superclasses
 
 -- the number of what the class names as its superclass
-pub superclass_is : (W : World) (x : Bytes) (c : ClassFacts) → Some c ≡ find W x → superclass_of W x ≡ and_then (id_of W) c.superclass
+pub superclass_is : (W : World) (x : Bytes) (c : ClassFacts) → Some c ≡ find_class W x → superclass_of W x ≡ and_then (id_of W) c.superclass
 unfolding superclass_of and_then
 superclass_is W x c e = rw (← e) refl

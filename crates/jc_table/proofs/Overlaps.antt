@@ -1,23 +1,23 @@
 -- The least name of a list that passes is the first that passes in byte order.
-use Rattle.std.proofs.Common.{◌≡◌, ℕ, ◌+◌, ◌<◌, ◌≤◌, Bool, true, false, cond, List, [], ◌∷◌, length, drop, get_or, refl, sym, ◌∙◌, ap, Option, Some, None, Ordering}
+use Rattle.std.proofs.Common.{◌≡◌, ℕ, ◌+◌, ◌<◌, Bool, true, false, cond, List, [], ◌∷◌, length, drop, get_or, refl, sym, ◌∙◌, ap, Option, Some, Ordering}
 use Rattle.std.specs.Prelude.{is_some, IsTrue}
 use Rattle.std.specs.List.{find as first_where}
 use Rattle.std.specs.Ordering.{is_lt, is_eq, ordering_reverse}
 use Rattle.std.specs.Cmp.Lexicographic.{nat_list_cmp_total}
 use Rattle.std.specs.declared.cmp.Ordering.TheVariants.{Less, Equal, Greater}
-use Rattle.std.proofs.lemmas.List.{at_drop_more, at_drop_all}
+use Rattle.std.proofs.lemmas.List.{at_drop_more}
 use Rattle.std.proofs.lemmas.Map.Text.{is_eq-slice_cmp}
 use Rattle.jc_facts.specs.declared.class_facts.ClassFacts.{ClassFacts}
 use Rattle.jc_facts.specs.Names.{Bytes}
-use Rattle.jc_facts.specs.Orders.{name_order}
-use Rattle.jc_facts.specs.Exact.{Before, NamesRise}
-use Rattle.jc_facts.specs.World.{class_named}
-use Rattle.jc_facts.specs.Clients.{names_differ}
-use Rattle.jc_facts.specs.Seats.{least, lower}
-use Rattle.jc_facts.proofs.Listed.{EachOf, EachOf-map}
+use Rattle.jc_facts.specs.Exactly.{name_order, Rises}
+use Rattle.jc_facts.specs.Exactly.{Before, NamesRise}
+use Rattle.jc_facts.specs.world.World.{class_named}
+use Rattle.jc_facts.specs.client.Clients.{differ_by_name}
+use Rattle.jc_facts.specs.rule.OpenActs.{least, lower}
+use Rattle.jc_lemmas.proofs.Listed.{EachOf, EachOf-map}
 use Rattle.jc_facts.proofs.Same.{same_is}
 use Rattle.jc_table.specs.Ids.{insert, names_of, place_of}
-use Rattle.jc_table.specs.Sides.{first_overlap}
+use Rattle.jc_table.specs.Sides.{overlap_of}
 use Rattle.jc_table.proofs.Numbers.{names_of-rise, names_of-rest, place-class}
 
 lower-before : (x z : Bytes) → Before x z → cond (is_lt (name_order z x)) z x ≡ x
@@ -42,7 +42,7 @@ module _ (test : Bytes → Bool) where
       go false r = r
 
   insert-first : (x : Bytes) (ys : List Bytes) → NamesRise (λ (z : Bytes). z) ys → first_where test (insert x ys) ≡ cond (test x) (Some (lower x (first_where test ys))) (first_where test ys)
-  unfolding insert NamesRise
+  unfolding insert Rises
   insert-first x [] r = refl
   insert-first x (y ∷ ys) r = go (name_order x y) refl (insert-first x ys r.1)
     where
@@ -62,7 +62,7 @@ module _ (test : Bytes → Bool) where
       go Equal e s = ap (cond (test y) (Some y)) s ∙ after (test y) (test x) (ap is_lt e)
       go Greater e s = ap (cond (test y) (Some y)) s ∙ after (test y) (test x) (ap is_lt e)
 
-  pub least_is : (cs : List ClassFacts) → IsTrue (names_differ cs) → first_where test (names_of cs) ≡ least test cs
+  pub least_is : (cs : List ClassFacts) → IsTrue (differ_by_name cs) → first_where test (names_of cs) ≡ least test cs
   unfolding names_of least
   least_is [] d = refl
   least_is (c ∷ cs) d =
@@ -78,7 +78,7 @@ is_known P x = is_some (class_named P x)
 pub known_is : (P : List ClassFacts) (x : Bytes) (o : Option ℕ) → o ≡ place_of (names_of P) x → is_some o ≡ is_known P x
 known_is P x o e = ap is_some e ∙ place-class P x
 
-pub overlap_is : (P R : List ClassFacts) → IsTrue (names_differ R) → first_where (is_known P) (names_of R) ≡ first_overlap P R
+pub overlap_is : (P R : List ClassFacts) → IsTrue (differ_by_name R) → first_where (is_known P) (names_of R) ≡ overlap_of P R
 overlap_is P R d = least_is (is_known P) R d
 
 step : (test : Bytes → Bool) (y : Bytes) (ys : List Bytes) (b : Bool) → test y ≡ b → first_where test (y ∷ ys) ≡ cond b (Some y) (first_where test ys)
@@ -91,6 +91,3 @@ found_next test ns n x l e t =
 pub not_next : (test : Bytes → Bool) (ns : List Bytes) (n : ℕ) (x : Bytes) → n < length ns → x ≡ get_or ns n [] → test x ≡ false → first_where test (drop n ns) ≡ first_where test (drop (n + 1) ns)
 not_next test ns n x l e t =
     at_drop_more (first_where test) ns n [] l ∙ ap (λ (y : Bytes). first_where test (y ∷ drop (n + 1) ns)) (sym e) ∙ step test x (drop (n + 1) ns) false t
-
-pub none_left : (test : Bytes → Bool) (ns : List Bytes) (n : ℕ) → length ns ≤ n → first_where test (drop n ns) ≡ None
-none_left test ns n l = at_drop_all (first_where test) ns n l

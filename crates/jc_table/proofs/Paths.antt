@@ -2,21 +2,22 @@
 use Rattle.std.proofs.Common.{◌≡◌, ℕ, ◌<◌, Bool, true, false, cond, ◌||◌, List, [], ◌∷◌, ◌++◌, length, get_or, set, eqb, refl, sym, ◌∙◌, ap, subst, Some, ◌⊎◌, inl, inr, get_or-set_other, ◌≢◌}
 use Rattle.std.specs.List.{All}
 use Rattle.std.proofs.lemmas.List.Elements.{All-from_recursion}
-use Rattle.jc_laws.proofs.Settles.{EachOf}
-use Rattle.std.proofs.lemmas.Bool.{eqb-true, eq-eqb}
+use Rattle.jc_lemmas.proofs.Listed.{EachOf}
+use Rattle.std.proofs.lemmas.Bool.{eqb-true, eq-eqb, or_cases}
 use Rattle.std.proofs.lemmas.Bool.Decides.{eqb_tells}
 use Rattle.std.proofs.lemmas.Grind.{get_or-set_at}
 use Rattle.jc_facts.specs.declared.link_error.LinkError.{LinkError}
 use Rattle.jc_facts.specs.declared.link_error.LinkError.TheVariants.{ClassCircularityError}
 use Rattle.jc_facts.specs.Names.{Bytes}
-use Rattle.jc_facts.specs.World.{World, size}
-use Rattle.jc_facts.specs.Loading.{load_fault}
+use Rattle.jc_facts.specs.world.World.{World, size}
+use Rattle.jc_facts.specs.world.Loading.{load_fault}
 use Rattle.jc_table.specs.Ids.{name_at}
 use Rattle.jc_table.specs.declared.faults.State.{State}
 use Rattle.jc_table.specs.declared.faults.State.TheVariants as states
 use Rattle.jc_table.specs.declared.faults.Frame.{Frame}
-use Rattle.jc_table.specs.Entering.{Leads, LeadsAlong, state_of, is_on, bottom}
+use Rattle.jc_table.specs.steps.Entering.{Leads, LeadsAlong, state_of, is_on, bottom}
 use Rattle.jc_table.proofs.Entering.{leads-fault, circle}
+use Rattle.jc_lemmas.proofs.Bools.{or_true}
 
 -- ---- a state that is written
 
@@ -26,14 +27,6 @@ written ss k n s l = go (eqb_tells k n)
     go : ((eqb k n ≡ true) × (k ≡ n)) ⊎ ((eqb k n ≡ false) × (k ≢ n)) → get_or (set ss k s) n states.Fresh ≡ cond (eqb k n) s (get_or ss n states.Fresh)
     go (inl e) = rw e.0 (get_or-set_at ss k n s states.Fresh (sym e.1) l)
     go (inr e) = rw e.0 (get_or-set_other ss k n s states.Fresh (λ q. e.1 (sym q)))
-
-or_true : (b : Bool) → (b || true) ≡ true
-or_true true = refl
-or_true false = refl
-
-or_split : (a b : Bool) → (a || b) ≡ true → (a ≡ true) ⊎ (b ≡ true)
-or_split true b h = inl refl
-or_split false b h = inr h
 
 -- ---- along the path
 
@@ -116,7 +109,7 @@ along-circle W fs top above id h l o = circle W S lead (name_at W top) (top, rw 
         (above, name_at W id, (id, o, refl), subst (λ y. Leads W y above (name_at W id)) q l)
 
     lead : (x : Bytes) → S x → (m : ℕ) × (s : Bytes) × S s × Leads W x m s
-    lead x s = from x s.0 s.2 (or_split (is_on s.0 fs) (eqb top s.0) s.1)
+    lead x s = from x s.0 s.2 (or_cases (is_on s.0 fs) (eqb top s.0) s.1)
 
 -- the classes of the path are there
 each-inside : (W : World) (fs : List Frame) (top : ℕ) → LeadsAlong W fs top → EachOf (λ (f : Frame). f.class < size W) fs

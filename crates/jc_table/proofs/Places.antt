@@ -11,16 +11,16 @@ use Rattle.std.proofs.lemmas.List.Elements.{All-push, All-map, All-weaker, recur
 use Rattle.std.proofs.lemmas.List.Sorted.{All-permutation, Contains-permutation, IsPermutation-map, IsPermutation-sym}
 use Rattle.jc_facts.specs.declared.class_facts.ClassFacts.{ClassFacts}
 use Rattle.jc_facts.specs.Names.{Bytes, same}
-use Rattle.jc_facts.specs.Orders.{name_order}
-use Rattle.jc_facts.specs.Exact.{Before, NamesRise}
-use Rattle.jc_facts.specs.World.{class_named}
-use Rattle.jc_facts.specs.Clients.{names_differ}
-use Rattle.jc_facts.proofs.Listed.{EachOf, here, there, none, cases}
+use Rattle.jc_facts.specs.Exactly.{name_order, Rises}
+use Rattle.jc_facts.specs.Exactly.{Before, NamesRise}
+use Rattle.jc_facts.specs.world.World.{class_named}
+use Rattle.jc_facts.specs.client.Clients.{differ_by_name}
+use Rattle.jc_lemmas.proofs.Listed.{EachOf, here, there, none, cases}
 use Rattle.jc_facts.proofs.OneList.{same_list}
 use Rattle.jc_facts.proofs.Apart.{Apart, ApartRec, rec-Apart, Apart-permutation, NamesRise-sorted}
 use Rattle.jc_facts.proofs.Same.{same_is, same_itself}
 use Rattle.jc_table.specs.Ids.{names_of}
-use Rattle.jc_table.specs.Order.{name_or, name_in, names_at, IsPlace, IsOrder}
+use Rattle.jc_table.specs.steps.Order.{name_or, name_in, names_at, IsPlace, IsOrder}
 use Rattle.jc_table.proofs.Numbers.{is_none-None, and_true, named-in, in-named, names_of-rise}
 
 -- ---- the names as they stand
@@ -34,11 +34,11 @@ absent (c ∷ cs) x e = go (same c.name x) refl e (absent cs x)
     go true p q r = absurd (let clash : Some c ≡ None = q in cc)
     go false p q r = (λ is. let k : same c.name x ≡ true = ap (λ (z : Bytes). same c.name z) is ∙ same_itself c.name in absurd (cc), r q)
 
-apart : (cs : List ClassFacts) → IsTrue (names_differ cs) → ApartRec (λ (z : Bytes). z) (names_at cs)
-unfolding names_differ
+apart : (cs : List ClassFacts) → IsTrue (differ_by_name cs) → ApartRec (λ (z : Bytes). z) (names_at cs)
+unfolding differ_by_name
 apart [] h = tt
 apart (c ∷ cs) h =
-    let k = and_true (is_none (class_named cs c.name)) (names_differ cs) h in
+    let k = and_true (is_none (class_named cs c.name)) (differ_by_name cs) h in
     (absent cs c.name (is_none-None (class_named cs c.name) k.0), apart cs k.1)
 
 stands : (cs : List ClassFacts) (x : Bytes) → is_some (class_named cs x) ≡ true → Contains (names_at cs) x
@@ -75,7 +75,7 @@ one_more cs ps qs at c l is e h = (
 -- ---- the names in order
 
 rises-map : {A : Type 0} (f : A → Bytes) (xs : List A) → NamesRise f xs → NamesRise (λ (z : Bytes). z) (map f xs)
-unfolding NamesRise
+unfolding Rises
 rises-map f [] r = tt
 rises-map {A} f (x ∷ xs) r = (each xs r.0, rises-map f xs r.1)
   where
@@ -84,7 +84,7 @@ rises-map {A} f (x ∷ xs) r = (each xs r.0, rises-map f xs r.1)
     each (y ∷ ys) h = (h.0, each ys h.1)
 
 -- the names in order are those that stand, where they rise
-in_order : (cs : List ClassFacts) (ys : List Bytes) → IsTrue (names_differ cs) → IsPermutation (names_at cs) ys → NamesRise (λ (z : Bytes). z) ys → ys ≡ names_of cs
+in_order : (cs : List ClassFacts) (ys : List Bytes) → IsTrue (differ_by_name cs) → IsPermutation (names_at cs) ys → NamesRise (λ (z : Bytes). z) ys → ys ≡ names_of cs
 in_order cs ys d p r =
     same_list (λ (z : Bytes). z) ys (names_of cs) r (names_of-rise cs d)
     (λ z k. named-in cs z (has cs z (Contains-permutation ys (names_at cs) z (IsPermutation-sym (names_at cs) ys p) k)))
@@ -95,7 +95,7 @@ named cs [] h = refl
 named cs (p ∷ ps) h = ap (λ (x : Bytes). x ∷ map (name_in cs) (map (λ p. p.1) ps)) h.0.1 ∙ ap (λ (xs : List Bytes). p.0 ∷ xs) (named cs ps h.1)
 
 -- the places of all classes, sorted by their names
-pub sorted_order : (cs : List ClassFacts) (ps qs : List (Bytes × ℕ)) → IsTrue (names_differ cs) → map (λ p. p.0) ps ≡ names_at cs → All (IsPlace cs) ps
+pub sorted_order : (cs : List ClassFacts) (ps qs : List (Bytes × ℕ)) → IsTrue (differ_by_name cs) → map (λ p. p.0) ps ≡ names_at cs → All (IsPlace cs) ps
     → IsPermutation ps qs → IsSortedBy (λ x y. is_lt (name_order x.0 y.0)) qs → IsOrder cs (map (λ p. p.1) qs)
 sorted_order cs ps qs d e all p s = record {
   within = All-map (λ at. at < length cs) (λ (p : Bytes × ℕ). p.1) qs (All-weaker (IsPlace cs) (λ p. p.1 < length cs) (λ p h. h.0) qs places);
@@ -122,24 +122,24 @@ sorted_order cs ps qs d e all p s = record {
 -- ---- the class of a place
 
 -- where names differ, the class of a place is the one that its name finds
-pub found_there : (cs : List ClassFacts) (at : ℕ) (c : ClassFacts) → IsTrue (names_differ cs) → slice_get cs at ≡ Some c → class_named cs c.name ≡ Some c
-unfolding class_named names_differ
+pub found_there : (cs : List ClassFacts) (at : ℕ) (c : ClassFacts) → IsTrue (differ_by_name cs) → slice_get cs at ≡ Some c → class_named cs c.name ≡ Some c
+unfolding class_named differ_by_name
 found_there [] at c d e = absurd (let clash : None ≡ Some c = e in cc)
 found_there (b ∷ cs) zero c d e =
     let q : b ≡ c = cc in
     subst (λ (z : ClassFacts). cond (same b.name z.name) (Some b) (class_named cs z.name) ≡ Some z) q (rw (same_itself b.name) refl)
 found_there (b ∷ cs) (suc at) c d e = go (same b.name c.name) refl (found_there cs at c k.1 e)
   where
-    k : (is_none (class_named cs b.name) ≡ true) × (names_differ cs ≡ true)
-    k = and_true (is_none (class_named cs b.name)) (names_differ cs) d
+    k : (is_none (class_named cs b.name) ≡ true) × (differ_by_name cs ≡ true)
+    k = and_true (is_none (class_named cs b.name)) (differ_by_name cs) d
 
     go : (t : Bool) → same b.name c.name ≡ t → class_named cs c.name ≡ Some c → cond t (Some b) (class_named cs c.name) ≡ Some c
     go true p r = absurd (let clash : None ≡ Some c = sym (is_none-None (class_named cs b.name) k.0) ∙ ap (class_named cs) (same_is b.name c.name p) ∙ r in cc)
     go false p r = r
 
 -- the first p classes have the name exactly where its place is one of the first p
-pub in_front : (cs : List ClassFacts) (p at : ℕ) (c : ClassFacts) → IsTrue (names_differ cs) → slice_get cs at ≡ Some c → nat_lt at p ≡ is_some (class_named (take p cs) c.name)
-unfolding class_named names_differ
+pub in_front : (cs : List ClassFacts) (p at : ℕ) (c : ClassFacts) → IsTrue (differ_by_name cs) → slice_get cs at ≡ Some c → nat_lt at p ≡ is_some (class_named (take p cs) c.name)
+unfolding class_named differ_by_name
 in_front cs zero at c d e = none_less at
   where
     none_less : (n : ℕ) → nat_lt n 0 ≡ false
@@ -154,8 +154,8 @@ in_front (b ∷ cs) (suc p) zero c d e =
     first n = grind (arith, nat_tests)
 in_front (b ∷ cs) (suc p) (suc at) c d e = less at p ∙ in_front cs p at c k.1 e ∙ go (same b.name c.name) refl
   where
-    k : (is_none (class_named cs b.name) ≡ true) × (names_differ cs ≡ true)
-    k = and_true (is_none (class_named cs b.name)) (names_differ cs) d
+    k : (is_none (class_named cs b.name) ≡ true) × (differ_by_name cs ≡ true)
+    k = and_true (is_none (class_named cs b.name)) (differ_by_name cs) d
 
     less : (m n : ℕ) → nat_lt (suc m) (suc n) ≡ nat_lt m n
     less m n = grind (arith, nat_tests)

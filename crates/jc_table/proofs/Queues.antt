@@ -1,19 +1,17 @@
 -- A set that grows with its queue.
-use Rattle.std.proofs.Common.{◌≡◌, ◌<◌, ◌≤◌, ◌+◌, ◌-◌, ℕ, zero, suc, Bool, true, false, cond, List, [], ◌∷◌, ◌++◌, length, get_or, refl, sym, ◌∙◌, ap, subst, ◌⊎◌, inl, inr, arith, eqb, ltb, append_assoc}
+use Rattle.std.proofs.Common.{◌≡◌, ◌<◌, ◌≤◌, ◌+◌, ◌-◌, ℕ, zero, suc, Bool, true, false, cond, List, [], ◌∷◌, ◌++◌, length, get_or, refl, sym, ◌∙◌, ap, subst, ◌⊎◌, inl, inr, arith, eqb, ltb, append_assoc, not}
 use Rattle.std.specs.List.{All, Contains, list_any}
 use Rattle.std.specs.Ordering.{nat_cmp, is_eq}
-use Rattle.std.proofs.Common.{not}
 use Rattle.std.specs.declared.cmp.Ordering.{Ordering}
 use Rattle.std.specs.Cmp.{nat_cmp_is}
 use Rattle.std.specs.declared.cmp.Ordering.TheVariants.{Less, Equal, Greater}
 use Rattle.std.specs.BTreeMap.{is_at}
 use Rattle.std.specs.BTreeSet.{BTreeSet, contains, Updates}
-use Rattle.std.proofs.lemmas.Bool.{cases_eq, eq-eqb, ne_eqb}
+use Rattle.std.proofs.lemmas.Bool.{cases_eq, eq-eqb, ne_eqb, cases_lt}
 use Rattle.std.proofs.lemmas.List.{append-nil, length-append, get_or_append_left, get_or_past, get_or_default}
 use Rattle.std.proofs.lemmas.List.Elements.{All-append, All-contains, All-from_recursion, All-weaker, All-contains_itself, Contains-push, Contains-append_left}
-use Rattle.jc_table.proofs.NameSets.{cases_lt}
-use Rattle.jc_table.specs.Reach.{Has, next_of, IsLedTo}
-use Rattle.jc_table.specs.Queue.{IsQueueOf, missing, Adds}
+use Rattle.jc_table.specs.steps.Reach.{Has, next_of, IsLedTo}
+use Rattle.jc_table.specs.steps.Queue.{IsQueueOf, missing, Adds}
 
 none_all : (P : ℕ → Type 0) → All P []
 none_all P i d h = absurd (omega arith)
@@ -142,17 +140,6 @@ module _ (before after : BTreeSet ℕ) (id : ℕ) (u : Puts before after id) whe
       go : IsQueueOf before queue → (k : ℕ) → (id ≡ k) ⊎ Has before k → Contains queue k
       go q k (inl e) = q.queued k (subst (λ j. Has before j) e old)
       go q k (inr b) = q.queued k b
-
-pub adds_nothing : (set : BTreeSet ℕ) (queue : List ℕ) → Adds set set queue queue []
-adds_nothing set queue = record {
-  keeps = λ k h. h;
-  has = none_all (Has set);
-  only = λ p old new k h. old k h;
-  end = [];
-  longer_by = sym (append-nil queue);
-  is_queue = λ q. q;
-  counted = λ n ids. refl;
-}
 
 pub adds_more : (a b c : BTreeSet ℕ) (p q r : List ℕ) (ids : List ℕ) (id : ℕ) → Adds a b p q ids → Adds b c q r (id ∷ []) → Adds a c p r (ids ++ id ∷ [])
 adds_more a b c p q r ids id h k = record {

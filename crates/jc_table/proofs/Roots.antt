@@ -6,18 +6,20 @@ use Rattle.std.proofs.lemmas.Bool.Decides.{nat_tests}
 use Rattle.std.proofs.lemmas.List.{append-nil}
 use Rattle.jc_facts.specs.declared.class_facts.ClassFacts.{ClassFacts}
 use Rattle.jc_facts.specs.Names.{Bytes, same, object_name}
-use Rattle.jc_facts.specs.Flags.{is_public, is_final, is_interface}
+use Rattle.jc_facts.specs.Flags.{public_flag, final_flag, interface_flag}
 use Rattle.jc_facts.specs.Options.{or_else, some_where}
-use Rattle.jc_facts.specs.World.{side, class_named}
-use Rattle.jc_facts.specs.Clients.{names_differ, HasRoot}
-use Rattle.jc_facts.specs.Seats.{least, lower}
-use Rattle.jc_facts.specs.Valid.{IsValidClass}
-use Rattle.jc_facts.proofs.Listed.{EachOf}
+use Rattle.jc_facts.specs.world.World.{side, class_named}
+use Rattle.jc_facts.specs.client.Clients.{differ_by_name, HasRoot}
+use Rattle.jc_facts.specs.rule.OpenActs.{least, lower}
+use Rattle.jc_facts.specs.file.Valid.{IsValidClass}
+use Rattle.jc_lemmas.proofs.Listed.{EachOf}
 use Rattle.jc_facts.proofs.Same.{same_is, same_itself}
 use Rattle.jc_table.specs.declared.root.RootPart.TheVariants as parts
-use Rattle.jc_table.specs.Root.{has_wrong_flags, root_part, root_by, root_fault}
-use Rattle.jc_table.specs.Sides.{IsSide, first_overlap}
+use Rattle.jc_table.specs.Root.{flags_are_wrong, faulty_part, root_by, fault_of_root}
+use Rattle.jc_table.specs.Sides.{IsSide, overlap_of}
 use Rattle.jc_table.proofs.Numbers.{is_none-None, and_true}
+use Rattle.jc_lemmas.proofs.Options.{none_from}
+use Rattle.jc_facts.proofs.World.{class_named-front}
 
 -- ---- the root
 
@@ -26,10 +28,6 @@ passed : {A : Type 0} (b : Bool) (x : A) (o : Option A) → or_else (some_where 
 unfolding or_else
 passed true x o e = absurd (let clash : Some x ≡ None = e in cc)
 passed false x o e = (refl, e)
-
-no_some : {A : Type 0} (o : Option A) → is_some o ≡ false → o ≡ None
-no_some None e = refl
-no_some (Some x) e = absurd (cc)
 
 some_items : (n : ℕ) → not (suc n == 0) ≡ true
 some_items n = grind (arith, nat_tests)
@@ -43,26 +41,26 @@ flags true true c e = absurd (cc)
 flags true false c e = (refl, e)
 flags false b c e = absurd (cc)
 
-root_of : (platform : List ClassFacts) (c : ClassFacts) → class_named platform object_name ≡ Some c → root_part c ≡ None → HasRoot platform
-unfolding root_part
+root_of : (platform : List ClassFacts) (c : ClassFacts) → class_named platform object_name ≡ Some c → faulty_part c ≡ None → HasRoot platform
+unfolding faulty_part
 root_of platform c there e =
-    let a = passed (has_wrong_flags c) parts.Flags _ e in
+    let a = passed (flags_are_wrong c) parts.Flags _ e in
     let b = passed (is_some c.superclass) parts.Super _ a.1 in
     let d = passed (not (length c.interfaces == 0)) parts.Interfaces _ b.1 in
     let f = passed (not (length c.fields == 0)) parts.Fields _ d.1 in
-    let g = flags (is_public c.flags) (is_final c.flags) (is_interface c.flags) a.0 in
+    let g = flags (public_flag c.flags) (final_flag c.flags) (interface_flag c.flags) a.0 in
     record {
       root = c;
       is_there = there;
-      superclass = no_some c.superclass b.0;
+      superclass = none_from c.superclass b.0;
       interfaces = no_items c.interfaces d.0;
       fields = no_items c.fields f.0;
       public = g.0;
       class = g.1;
     }
 
-pub has_root : (platform : List ClassFacts) → None ≡ root_fault platform → HasRoot platform
-unfolding root_fault
+pub has_root : (platform : List ClassFacts) → None ≡ fault_of_root platform → HasRoot platform
+unfolding fault_of_root
 has_root platform e = go (class_named platform object_name) refl (sym e)
   where
     go : (o : Option ClassFacts) → class_named platform object_name ≡ o → root_by o ≡ None → HasRoot platform
@@ -80,12 +78,6 @@ none_of test (c ∷ cs) e = go (test c.name) refl e (none_of test cs)
     go true p q r = absurd (let clash : Some (lower c.name (least test cs)) ≡ None = q in cc)
     go false p q r = (p, r q)
 
--- what none of the second list has is what the first alone has
-named-append : (xs ys : List ClassFacts) (x : Bytes) → class_named ys x ≡ None → class_named (xs ++ ys) x ≡ class_named xs x
-unfolding class_named
-named-append [] ys x e = e
-named-append (c ∷ xs) ys x e = ap (cond (same c.name x) (Some c)) (named-append xs ys x e)
-
 -- none of the list has the first's name, where the first list has none of their names
 others : (p : ClassFacts) (ps cs : List ClassFacts) → EachOf (λ c. is_some (class_named (p ∷ ps) c.name) ≡ false) cs → (class_named cs p.name ≡ None) × EachOf (λ c. is_some (class_named ps c.name) ≡ false) cs
 unfolding class_named
@@ -99,23 +91,23 @@ others p ps (c ∷ cs) h = go (same p.name c.name) refl h.0 (same c.name p.name)
     go false q k true s r = absurd (let t : same p.name c.name ≡ true = ap (same p.name) (same_is c.name p.name s) ∙ same_itself p.name in cc)
     go false q k false s r = (r.0, (k, r.1))
 
-differ-append : (ps cs : List ClassFacts) → IsTrue (names_differ ps) → IsTrue (names_differ cs) → EachOf (λ c. is_some (class_named ps c.name) ≡ false) cs → IsTrue (names_differ (ps ++ cs))
-unfolding names_differ
+differ-append : (ps cs : List ClassFacts) → IsTrue (differ_by_name ps) → IsTrue (differ_by_name cs) → EachOf (λ c. is_some (class_named ps c.name) ≡ false) cs → IsTrue (differ_by_name (ps ++ cs))
+unfolding differ_by_name
 differ-append [] cs d e h = e
 differ-append (p ∷ ps) cs d e h =
-    let k = and_true (is_none (class_named ps p.name)) (names_differ ps) d in
+    let k = and_true (is_none (class_named ps p.name)) (differ_by_name ps) d in
     let o = others p ps cs h in
-    let r : names_differ (ps ++ cs) ≡ true = differ-append ps cs k.1 e o.1 in
-    rw (named-append ps cs p.name o.0, is_none-None (class_named ps p.name) k.0) r
+    let r : differ_by_name (ps ++ cs) ≡ true = differ-append ps cs k.1 e o.1 in
+    rw (class_named-front ps cs p.name o.0, is_none-None (class_named ps p.name) k.0) r
 
 -- a platform and a release that are refused for nothing are a side
-pub is_side : (platform release : List ClassFacts) → All IsValidClass platform → All IsValidClass release → IsTrue (names_differ platform) → IsTrue (names_differ release)
-    → None ≡ root_fault platform → None ≡ first_overlap platform release → IsSide (side platform release)
+pub is_side : (platform release : List ClassFacts) → All IsValidClass platform → All IsValidClass release → IsTrue (differ_by_name platform) → IsTrue (differ_by_name release)
+    → None ≡ fault_of_root platform → None ≡ overlap_of platform release → IsSide (side platform release)
 is_side platform release v w d e root overlap = record {
   no_clients = refl;
   root = has_root platform root;
   platform = v;
   release = w;
-  differ = subst (λ (cs : List ClassFacts). IsTrue (names_differ cs)) (sym (append-nil (platform ++ release)))
+  differ = subst (λ (cs : List ClassFacts). IsTrue (differ_by_name cs)) (sym (append-nil (platform ++ release)))
       (differ-append platform release d e (none_of (λ x. is_some (class_named platform x)) release (sym overlap)));
 }

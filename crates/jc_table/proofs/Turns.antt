@@ -3,24 +3,25 @@ use Rattle.std.proofs.Common.{◌≡◌, ◌≢◌, ℕ, ◌<◌, ◌+◌, ◌�
 use Rattle.std.specs.Prelude.{sum_by}
 use Rattle.std.specs.List.{All}
 use Rattle.std.proofs.lemmas.List.Sums.{sum_by-set}
-use Rattle.std.proofs.lemmas.Bool.{eq-eqb}
+use Rattle.std.proofs.lemmas.Bool.{eq-eqb, or_left, or_right}
 use Rattle.std.proofs.lemmas.Bool.Decides.{eqb_tells}
 use Rattle.jc_facts.specs.declared.class_facts.ClassFacts.{ClassFacts}
 use Rattle.jc_facts.specs.declared.link_error.LinkError.{LinkError}
 use Rattle.jc_facts.specs.declared.link_error.LinkError.TheVariants.{ClassCircularityError}
 use Rattle.jc_facts.specs.Names.{Bytes}
 use Rattle.jc_facts.specs.Options.{first_some, and_then}
-use Rattle.jc_facts.specs.Search.{supers}
-use Rattle.jc_facts.specs.World.{World, find, size}
-use Rattle.jc_facts.specs.Loading.{load_fault, own_fault}
+use Rattle.jc_facts.specs.world.Search.{supers}
+use Rattle.jc_facts.specs.world.World.{World, find_class, size}
+use Rattle.jc_facts.specs.world.Loading.{load_fault, fault_of_itself}
 use Rattle.jc_table.specs.Ids.{name_at, names}
 use Rattle.jc_table.proofs.Numbers.{names-length}
 use Rattle.std.proofs.lemmas.List.{take_more, take_all, map-append, length-map, get_or-map}
 use Rattle.jc_table.specs.declared.faults.State.{State}
 use Rattle.jc_table.specs.declared.faults.State.TheVariants as states
 use Rattle.jc_table.specs.declared.faults.Frame.{Frame}
-use Rattle.jc_table.specs.Entering.{Leads, AreRight, IsRight, IsSettled, IsUnderWay, AllHave, state_of, is_known, is_entered, is_fresh, is_on, bottom, work}
+use Rattle.jc_table.specs.steps.Entering.{Leads, AreRight, IsRight, IsSettled, IsUnderWay, AllHave, state_of, is_known, is_entered, is_fresh, is_on, bottom, work}
 use Rattle.jc_table.proofs.Paths.{written, along-push, along-pop, along-fault, along-circle, bottom-fault, bottom-push, inside-states}
+use Rattle.jc_lemmas.proofs.Bools.{or_without}
 
 -- ---- one state is written
 
@@ -63,17 +64,6 @@ on-push n (g ∷ fs) f = go (eqb g.class n) (is_on n (fs ++ f ∷ [])) (is_on n 
     go true b c d e = refl
     go false b c d e = e
 
-or_left_true : (a b : Bool) → a ≡ true → (a || b) ≡ true
-or_left_true a b h = rw h refl
-
-or_right_true : (a b : Bool) → b ≡ true → (a || b) ≡ true
-or_right_true true b h = refl
-or_right_true false b h = h
-
-or_right_false : (a b : Bool) → b ≡ false → (a || b) ≡ true → a ≡ true
-or_right_false true b h k = refl
-or_right_false false b h k = absurd (cc)
-
 -- ---- one class more is entered
 
 pub enter : (W : World) (ss : List State) (fs : List Frame) (top : Frame) (above id : ℕ) → IsUnderWay W ss fs top → id < size W → Leads W (name_at W top.class) above (name_at W id)
@@ -88,8 +78,8 @@ enter W ss fs top above id u i l = record {
 }
   where
     go : (n : ℕ) → ((id ≡ n) × (is_entered states.Entered ≡ true)) ⊎ ((eqb id n ≡ false) × (is_entered (state_of ss n) ≡ true)) → (is_on n (fs ++ record { class = top.class; above = above } ∷ []) || eqb id n) ≡ true
-    go n (inl e) = or_right_true (is_on n (fs ++ record { class = top.class; above = above } ∷ [])) (eqb id n) (eq-eqb id n e.0)
-    go n (inr e) = or_left_true (is_on n (fs ++ record { class = top.class; above = above } ∷ [])) (eqb id n) (on-push n fs (record { class = top.class; above = above }) ∙ u.entered n e.1)
+    go n (inl e) = or_right (is_on n (fs ++ record { class = top.class; above = above } ∷ [])) (eqb id n) (eq-eqb id n e.0)
+    go n (inr e) = or_left (is_on n (fs ++ record { class = top.class; above = above } ∷ [])) (eqb id n) (on-push n fs (record { class = top.class; above = above }) ∙ u.entered n e.1)
 
 -- less is left, since it was fresh
 pub enter-work : (ss : List State) (fs : List Frame) (f : Frame) (id : ℕ) → id < length ss → is_fresh (state_of ss id) ≡ true → work (set ss id states.Entered) (fs ++ f ∷ []) < work ss fs
@@ -114,7 +104,7 @@ leave W ss fs f top u h =
   where
     go : (n : ℕ) → ((top.class ≡ n) × (false ≡ true)) ⊎ ((eqb top.class n ≡ false) × (is_entered (state_of ss n) ≡ true)) → (is_on n fs || eqb f.class n) ≡ true
     go n (inl e) = absurd (let q = e.1 in cc)
-    go n (inr e) = sym (on-push n fs f) ∙ or_right_false (is_on n (fs ++ f ∷ [])) (eqb top.class n) e.0 (u.entered n e.1)
+    go n (inr e) = sym (on-push n fs f) ∙ or_without (is_on n (fs ++ f ∷ [])) (eqb top.class n) e.0 (u.entered n e.1)
 
 pub leave-work : (ss : List State) (fs : List Frame) (f : Frame) (k : ℕ) → k < length ss → work (set ss k (states.Known None)) fs < work ss (fs ++ f ∷ [])
 leave-work ss fs f k l =
@@ -176,9 +166,9 @@ entered-known s (inl e) k = ap is_entered e
 entered-known s (inr e) k = absurd (let p : is_known s ≡ true = ap is_known e.1 in cc)
 
 -- the fault of a class above which all loads
-pub top-fault : (W : World) (x : Bytes) (c : ClassFacts) (fault f : Option LinkError) → load_fault W x ≡ and_then (own_fault W) (find W x) → Some c ≡ find W x → fault ≡ own_fault W c → fault ≡ f → load_fault W x ≡ f
+pub top-fault : (W : World) (x : Bytes) (c : ClassFacts) (fault f : Option LinkError) → load_fault W x ≡ and_then (fault_of_itself W) (find_class W x) → Some c ≡ find_class W x → fault ≡ fault_of_itself W c → fault ≡ f → load_fault W x ≡ f
 unfolding and_then
-top-fault W x c fault f h e o g = h ∙ ap (and_then (own_fault W)) (sym e) ∙ sym o ∙ g
+top-fault W x c fault f h e o g = h ∙ ap (and_then (fault_of_itself W)) (sym e) ∙ sym o ∙ g
 
 pub no-frames : (fs : List Frame) → length fs ≡ 0 → fs ≡ []
 no-frames [] h = refl

@@ -4,12 +4,12 @@ use Rattle.std.specs.Prelude.{IsTrue}
 use Rattle.jc_facts.specs.declared.class_facts.ClassFacts.{ClassFacts}
 use Rattle.jc_facts.specs.Names.{Bytes, same}
 use Rattle.jc_facts.specs.Options.{and_then}
-use Rattle.jc_facts.specs.World.{World, classes, size, find}
-use Rattle.jc_facts.specs.Clients.{names_differ}
-use Rattle.jc_facts.specs.Search.{descend}
-use Rattle.jc_facts.specs.Hierarchy.{chain, in_chain, chain_step, of_super, names_in}
+use Rattle.jc_facts.specs.world.World.{World, classes, size, find_class}
+use Rattle.jc_facts.specs.client.Clients.{differ_by_name}
+use Rattle.jc_facts.specs.world.Search.{descend}
+use Rattle.jc_facts.specs.world.Hierarchy.{chain, in_chain, chain_step, of_super, names_in}
 use Rattle.jc_facts.proofs.Same.{same_is, same_itself}
-use Rattle.jc_laws.proofs.Descent.{descend-absent, descend-none_left, descend-found}
+use Rattle.jc_worlds.proofs.Descent.{descend-absent, descend-none_left, descend-found}
 use Rattle.jc_table.specs.Ids.{name_at, id_of, superclass_of}
 use Rattle.jc_table.proofs.Numbers.{IsClass, class_at, superclass_is, find-None, id_of-Some, id_of-name_at}
 
@@ -22,9 +22,9 @@ pub up-chain : (W : World) (x y : Bytes) → in_chain W x y ≡ is_up W (size W)
 unfolding chain
 up-chain W x y = refl
 
-module _ (W : World) (d : IsTrue (names_differ (classes W))) (a : ℕ) (l : a < size W) where
+module _ (W : World) (d : IsTrue (differ_by_name (classes W))) (a : ℕ) (l : a < size W) where
   -- it is the class, or among those above what it names
-  one_step : (n : ℕ) (y : Bytes) (c : ClassFacts) → find W (name_at W a) ≡ Some c → c.name ≡ name_at W a
+  one_step : (n : ℕ) (y : Bytes) (c : ClassFacts) → find_class W (name_at W a) ≡ Some c → c.name ≡ name_at W a
       → is_up W (suc n) (name_at W a) y ≡ (same (name_at W a) y || names_in (of_super (descend W [] [] chain_step n) c.superclass) y)
   unfolding chain_step
   one_step n y c e name =
@@ -51,7 +51,7 @@ module _ (W : World) (d : IsTrue (names_differ (classes W))) (a : ℕ) (l : a < 
       go false e = refl
 
   -- where it is another class, it is among those above what the class names
-  other : (n b : ℕ) → b < size W → a ≢ b → (c : ClassFacts) → find W (name_at W a) ≡ Some c → c.name ≡ name_at W a
+  other : (n b : ℕ) → b < size W → a ≢ b → (c : ClassFacts) → find_class W (name_at W a) ≡ Some c → c.name ≡ name_at W a
       → is_up W (suc n) (name_at W a) (name_at W b) ≡ names_in (of_super (descend W [] [] chain_step n) c.superclass) (name_at W b)
   other n b m ne c e name =
       one_step n (name_at W b) c e name ∙ ap (λ (t : Bool). t || names_in (of_super (descend W [] [] chain_step n) c.superclass) (name_at W b)) (not_same b m ne)

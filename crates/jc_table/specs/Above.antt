@@ -1,14 +1,14 @@
 -- The interfaces that stand above each class, by numbers.
-use Rattle.std.specs.Prelude.{ℕ, ◌<◌, ◌==◌, Bool, true, List, [], ◌≡◌, Option, None, Some, map, length, slice_index_or}
-use Rattle.std.specs.List.{All, list_any, filter_map}
+use Rattle.std.specs.Prelude.{ℕ, ◌<◌, ◌==◌, Bool, true, List, ◌≡◌, length, slice_index_or}
+use Rattle.std.specs.List.{All, list_any}
 use Rattle.std.specs.Ordering.{nat_cmp}
 use Rattle.std.specs.BTreeSet.{BTreeSet, contains}
 use Rattle.jc_facts.specs.declared.class_facts.ClassFacts.{ClassFacts}
 use Rattle.jc_facts.specs.Names.{Bytes}
 use Rattle.jc_facts.specs.Options.{some_and}
-use Rattle.jc_facts.specs.World.{World, find, size}
-use Rattle.jc_facts.specs.Hierarchy.{names_in, with_interfaces}
-use Rattle.jc_table.specs.Ids.{names, name_at, id_of}
+use Rattle.jc_facts.specs.world.World.{World, find_class, size}
+use Rattle.jc_facts.specs.world.Hierarchy.{names_in, with_interfaces}
+use Rattle.jc_table.specs.Ids.{name_at}
 
 -- y is an interface that the class names, or one that such an interface leads to
 abbrev pub leads_to : World → ClassFacts → Bytes → Bool
@@ -16,16 +16,7 @@ leads_to W c y = list_any (λ i. names_in (with_interfaces W i) y) c.interfaces
 
 -- the same of the class x, where there is one
 abbrev pub leads_by : World → Bytes → Bytes → Bool
-leads_by W x y = some_and (λ c. leads_to W c y) (find W x)
-
--- the numbers of the interfaces that the class names, where the world has them
-abbrev pub named_by : World → Option ClassFacts → List ℕ
-named_by W None = []
-named_by W (Some c) = filter_map (id_of W) c.interfaces
-
--- these for each class, in order
-abbrev pub edges_of : World → List (List ℕ)
-edges_of W = map (λ x. named_by W (find W x)) (names W)
+leads_by W x y = some_and (λ c. leads_to W c y) (find_class W x)
 
 -- for each class, in order, the numbers of those that it leads to
 pub record AreRows (W : World) (rows : List (BTreeSet ℕ)) : Type 0 where

@@ -1,7 +1,7 @@
 -- A class that two sides have.
 use Rattle.std.specs.Prelude.{◌<◌, ◌≡◌}
 use Rattle.jc_facts.specs.Names.{Bytes}
-use Rattle.jc_facts.specs.World.{World, size}
+use Rattle.jc_facts.specs.world.World.{World, size}
 use Rattle.jc_table.specs.Ids.{name_at}
 use Rattle.jc_table.specs.declared.ids.Both.{Both}
 

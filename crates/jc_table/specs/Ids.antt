@@ -7,8 +7,8 @@ use Rattle.std.specs.Ordering.{is_lt}
 use Rattle.jc_facts.specs.declared.class_facts.ClassFacts.{ClassFacts}
 use Rattle.jc_facts.specs.Names.{Bytes, same}
 use Rattle.jc_facts.specs.Options.{and_then}
-use Rattle.jc_facts.specs.Orders.{name_order}
-use Rattle.jc_facts.specs.World.{World, classes, find}
+use Rattle.jc_facts.specs.Exactly.{name_order}
+use Rattle.jc_facts.specs.world.World.{World, classes, find_class}
 
 -- the name at its place in the order
 unfoldable pub insert : Bytes → List Bytes → List Bytes
@@ -39,4 +39,4 @@ id_of W x = place_of (names W) x
 
 -- the number of the class that the class x names as its superclass, none where the world has no such class
 unfoldable pub superclass_of : World → Bytes → Option ℕ
-superclass_of W x = and_then (λ c. and_then (id_of W) c.superclass) (find W x)
+superclass_of W x = and_then (λ c. and_then (id_of W) c.superclass) (find_class W x)

@@ -2,14 +2,10 @@ pub mod Ids
 pub mod Root
 pub mod Sides
 pub mod Mentioned
-pub mod Order
-pub mod Entering
-pub mod Walking
 pub mod Tables
 pub mod TableFields
-pub mod Texts
-pub mod Reach
-pub mod Queue
 pub mod Above
 pub mod Lookups
 pub mod Both
+pub mod steps
+pub mod MentionedNames

@@ -6,34 +6,34 @@ use Rattle.std.specs.Prelude.{◌<◌, ◌≡◌, Bool, List, [], Option, None, 
 use Rattle.std.specs.List.{list_any, Contains}
 use Rattle.jc_facts.specs.declared.class_facts.ClassFacts.{ClassFacts}
 use Rattle.jc_facts.specs.declared.key.Key.{Key}
-use Rattle.jc_facts.specs.World.{World, size, own_field, own_method, Found as Member}
+use Rattle.jc_facts.specs.world.World.{World, size, own_field_of, own_method_of, DeclaredMember}
 use Rattle.jc_table.specs.Ids.{name_at}
 use Rattle.jc_table.specs.declared.ids.Found.{Found}
 
 -- the class of the number is the owner, and the flags are the member's
-pub record IsFound (W : World) (f : Found) (m : Member) : Type 0 where
+pub record IsFound (W : World) (f : Found) (m : DeclaredMember) : Type 0 where
   pub below : f.owner < size W
   pub owner : name_at W f.owner ≡ m.owner
   pub flags : f.flags ≡ m.member.flags
 
 -- the table's lookup finds what the world's finds
-abbrev pub IsAnswer : World → Option Found → Option Member → Type 0
+abbrev pub IsAnswer : World → Option Found → Option DeclaredMember → Type 0
 IsAnswer W None None = Unit {0}
 IsAnswer W None (Some m) = ⊥
 IsAnswer W (Some f) None = ⊥
 IsAnswer W (Some f) (Some m) = IsFound W f m
 
 -- the table's lookup finds one of those that the world's may find, and nothing where it finds none
-abbrev pub IsChoice : World → Option Found → List Member → Type 0
+abbrev pub IsChoice : World → Option Found → List DeclaredMember → Type 0
 IsChoice W None ms = ms ≡ []
-IsChoice W (Some f) ms = (m : Member) × Contains ms m × IsFound W f m
+IsChoice W (Some f) ms = (m : DeclaredMember) × Contains ms m × IsFound W f m
 
 -- ---- which keys are declared
 
 -- one of the classes declares a field of the key (JVMS 4.5)
 abbrev pub declare_field : List ClassFacts → Key → Bool
-declare_field cs k = list_any (λ c. is_some (own_field c k)) cs
+declare_field cs k = list_any (λ c. is_some (own_field_of c k)) cs
 
 -- one of the classes declares a method of the key (JVMS 4.6)
 abbrev pub declare_method : List ClassFacts → Key → Bool
-declare_method cs k = list_any (λ c. is_some (own_method c k)) cs
+declare_method cs k = list_any (λ c. is_some (own_method_of c k)) cs

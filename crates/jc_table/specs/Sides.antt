@@ -3,14 +3,14 @@ use Rattle.std.specs.Prelude.{List, [], Option, is_some, ◌≡◌, IsTrue}
 use Rattle.std.specs.List.{All}
 use Rattle.jc_facts.specs.declared.class_facts.ClassFacts.{ClassFacts}
 use Rattle.jc_facts.specs.Names.{Bytes}
-use Rattle.jc_facts.specs.World.{World, class_named, classes}
-use Rattle.jc_facts.specs.Clients.{HasRoot, names_differ}
-use Rattle.jc_facts.specs.Seats.{least}
-use Rattle.jc_facts.specs.Valid.{IsValidClass}
+use Rattle.jc_facts.specs.world.World.{World, class_named, classes}
+use Rattle.jc_facts.specs.client.Clients.{HasRoot, differ_by_name}
+use Rattle.jc_facts.specs.rule.OpenActs.{least}
+use Rattle.jc_facts.specs.file.Valid.{IsValidClass}
 
 -- the first name in byte order that both the platform and the release declare
-abbrev pub first_overlap : List ClassFacts → List ClassFacts → Option Bytes
-first_overlap platform release = least (λ x. is_some (class_named platform x)) release
+abbrev pub overlap_of : List ClassFacts → List ClassFacts → Option Bytes
+overlap_of platform release = least (λ x. is_some (class_named platform x)) release
 
 -- a side: a platform with its root and a release, of valid classes whose names differ, and no clients
 pub record IsSide (W : World) : Type 0 where
@@ -18,4 +18,4 @@ pub record IsSide (W : World) : Type 0 where
   pub root : HasRoot W.platform
   pub platform : All IsValidClass W.platform
   pub release : All IsValidClass W.release
-  pub differ : IsTrue (names_differ (classes W))
+  pub differ : IsTrue (differ_by_name (classes W))

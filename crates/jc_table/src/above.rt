@@ -2,11 +2,12 @@
 ghost use Rattle.std.specs.Prelude.{◌≡◌, ◌<◌, ℕ, length, map, slice_index_or, IfOk, IsTrue};
 ghost use Rattle.std.specs.List.{All, filter_map};
 ghost use Rattle.std.specs.BTreeSet.{BTreeSet as SetOf, keys};
-ghost use Rattle.jc_facts.specs.World.{size, classes};
-ghost use Rattle.jc_facts.specs.Clients.{names_differ};
+ghost use Rattle.jc_facts.specs.world.World.{size, classes};
+ghost use Rattle.jc_facts.specs.client.Clients.{differ_by_name};
 ghost use Rattle.jc_table.specs.Ids.{names, id_of, superclass_of};
-ghost use Rattle.jc_table.specs.Reach.{IsLedTo};
-ghost use Rattle.jc_table.specs.Above.{edges_of, AreRows};
+ghost use Rattle.jc_table.specs.steps.Reach.{IsLedTo};
+ghost use Rattle.jc_table.specs.Above.{AreRows};
+ghost use Rattle.jc_table.specs.steps.Named.{edges_of};
 
 use crate::ids::ClassId;
 use crate::index::Index;
@@ -44,7 +45,7 @@ fn ids_of(alloc: Global, index: &Index, names: &[Name]) -> Result<Vec<u32>, Allo
 fn edges(alloc: Global, index: &Index) -> Result<Vec<Items<u32>>, AllocError>
     ensures exact { IfOk result (λ edges. edges.items ≡ edges_of index.now) }
     ensures few { size index.now < 4294967296 }
-    ensures differ { IsTrue (names_differ (classes index.now)) }
+    ensures differ { IsTrue (differ_by_name (classes index.now)) }
 {
     let mut edges = Vec::new(alloc);
     for n in 0..index.count() {

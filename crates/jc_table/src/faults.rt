@@ -1,17 +1,17 @@
 //! The load faults of all classes, in one pass (JVMS 5.3.5).
 ghost use Rattle.std.specs.Prelude.{◌≡◌, ℕ, ◌+◌, ◌<◌, cond, length, map, slice_get, vec_len, false, IfOk, Some, None};
 ghost use Rattle.std.specs.List.{All};
-ghost use Rattle.jc_facts.specs.Loading.{load_fault, own_fault as own_fault_of};
-ghost use Rattle.jc_facts.specs.Search.{supers};
-ghost use Rattle.jc_facts.specs.World.{World, size};
+ghost use Rattle.jc_facts.specs.world.Loading.{load_fault, fault_of_itself};
+ghost use Rattle.jc_facts.specs.world.Search.{supers};
+ghost use Rattle.jc_facts.specs.world.World.{World, size};
 ghost use Rattle.jc_table.specs.Ids.{name_at, names};
-ghost use Rattle.jc_table.specs.Walking.{HasFixed};
-ghost use Rattle.jc_table.specs.Entering.{state_of, is_on, is_known, is_entered, is_fresh, work, bottom, Says, Goes, Leads, IsSettled, IsUnderWay, AreRight, AllHave, Turns, LoadsBefore};
+ghost use Rattle.jc_table.specs.steps.Walking.{HasAllFinal};
+ghost use Rattle.jc_table.specs.steps.Entering.{state_of, is_on, is_known, is_entered, is_fresh, work, bottom, Says, Goes, Leads, IsSettled, IsUnderWay, AreRight, AllHave, Turns, LoadsBefore};
 
 use crate::ids::ClassId;
 use crate::index::Index;
-use crate::overriding::{fixed_keys, overrides_final};
-use crate::refusal::{own_interfaces_fault, own_superclass_fault};
+use crate::overriding::{final_keys, overrides_final};
+use crate::supertypes::{own_interfaces_fault, own_superclass_fault};
 use jc_base::name::Name;
 use jc_facts::class_facts::ClassFacts;
 use jc_facts::flags::is_interface;
@@ -168,15 +168,15 @@ fn go_up(
 
 // Why the class doesn't load though all that it names above itself does: its superclass, then its
 // interfaces, then a method that overrides a final one.
-#[tactic(auto, unfolding(jc_facts::specs::Loading::own_fault, jc_facts::specs::Options::or_else))]
+#[tactic(auto, unfolding(jc_facts::specs::world::Loading::fault_of_itself, jc_facts::specs::Options::or_else))]
 fn own_fault<'a>(
     alloc: Global,
     index: &'a Index,
-    fixed: &BTreeSet<KeyRef<'a>>,
+    finals: &BTreeSet<KeyRef<'a>>,
     class: &'a ClassFacts,
 ) -> Result<Option<LinkError>, AllocError>
-    requires { HasFixed index.now fixed.now }
-    ensures { IfOk result (λ fault. fault ≡ own_fault_of index.now class.now) }
+    requires { HasAllFinal index.now finals.now }
+    ensures { IfOk result (λ fault. fault ≡ fault_of_itself index.now class.now) }
 {
     let superclass = own_superclass_fault(index, class);
     if superclass.is_some() {
@@ -189,7 +189,7 @@ fn own_fault<'a>(
     if is_interface(class.flags) {
         return Ok(None);
     }
-    if overrides_final(alloc, index, fixed, class)? {
+    if overrides_final(alloc, index, finals, class)? {
         Ok(Some(LinkError::IncompatibleClassChangeError))
     } else {
         Ok(None)
@@ -200,17 +200,17 @@ fn own_fault<'a>(
 fn leave<'a>(
     alloc: Global,
     index: &'a Index,
-    fixed: &BTreeSet<KeyRef<'a>>,
+    finals: &BTreeSet<KeyRef<'a>>,
     states: &mut [State],
     path: &mut Vec<Frame>,
     top: Frame,
 ) -> Result<Turn, AllocError>
-    requires fixed { HasFixed index.now fixed.now }
+    requires finals { HasAllFinal index.now finals.now }
     requires way { IsUnderWay index.now states.old path.old.items top }
     requires above { Goes index.now states.old (name_at index.now top.class) Way.Done }
     ensures { IfOk result (λ turn. Turns index.now (bottom path.old.items top.class) (work states.old path.old.items) states.new path.new.items turn) }
 {
-    if let Some(fault) = own_fault(alloc, index, fixed, index.facts(top.class))? {
+    if let Some(fault) = own_fault(alloc, index, finals, index.facts(top.class))? {
         note(states, path.as_slice(), top.class, fault);
         return Ok(Turn::Over(Some(fault)));
     }
@@ -225,12 +225,12 @@ fn leave<'a>(
 fn go_on<'a>(
     alloc: Global,
     index: &'a Index,
-    fixed: &BTreeSet<KeyRef<'a>>,
+    finals: &BTreeSet<KeyRef<'a>>,
     states: &mut [State],
     path: &mut Vec<Frame>,
     top: Frame,
 ) -> Result<Turn, AllocError>
-    requires fixed { HasFixed index.now fixed.now }
+    requires finals { HasAllFinal index.now finals.now }
     requires way { IsUnderWay index.now states.old path.old.items top }
     ensures { IfOk result (λ turn. Turns index.now (bottom path.old.items top.class) (work states.old path.old.items) states.new path.new.items turn) }
 {
@@ -243,7 +243,7 @@ fn go_on<'a>(
             Ok(turn) => Ok(turn),
             Err(error) => Err(error),
         },
-        Way::Done => match leave(alloc, index, fixed, states, path, top) {
+        Way::Done => match leave(alloc, index, finals, states, path, top) {
             Ok(turn) => Ok(turn),
             Err(error) => Err(error),
         },
@@ -254,11 +254,11 @@ fn go_on<'a>(
 fn enter<'a>(
     alloc: Global,
     index: &'a Index,
-    fixed: &BTreeSet<KeyRef<'a>>,
+    finals: &BTreeSet<KeyRef<'a>>,
     states: &mut [State],
     class: ClassId,
 ) -> Result<Option<LinkError>, AllocError>
-    requires fixed { HasFixed index.now fixed.now }
+    requires finals { HasAllFinal index.now finals.now }
     requires inside { class < size index.now }
     requires settled { IsSettled index.now states.old }
     ensures { IfOk result (λ fault. IsSettled index.now states.new × (load_fault index.now (name_at index.now class) ≡ fault)) }
@@ -267,7 +267,7 @@ fn enter<'a>(
     let mut path = Vec::new(alloc);
     let mut top = Frame { class, above: 0 };
     'up: loop {
-        match go_on(alloc, index, fixed, states, &mut path, top)? {
+        match go_on(alloc, index, finals, states, &mut path, top)? {
             Turn::Over(fault) => return Ok(fault),
             Turn::On(next) => top = next,
         }
@@ -278,18 +278,18 @@ fn enter<'a>(
 fn fault_of<'a>(
     alloc: Global,
     index: &'a Index,
-    fixed: &BTreeSet<KeyRef<'a>>,
+    finals: &BTreeSet<KeyRef<'a>>,
     states: &mut [State],
     class: ClassId,
 ) -> Result<Option<LinkError>, AllocError>
-    requires fixed { HasFixed index.now fixed.now }
+    requires finals { HasAllFinal index.now finals.now }
     requires inside { class < size index.now }
     requires settled { IsSettled index.now states.old }
     ensures { IfOk result (λ fault. IsSettled index.now states.new × (load_fault index.now (name_at index.now class) ≡ fault)) }
 {
     match states[class.number() as usize] {
         State::Known(fault) => Ok(fault),
-        State::Fresh | State::Entered => match enter(alloc, index, fixed, states, class) {
+        State::Fresh | State::Entered => match enter(alloc, index, finals, states, class) {
             Ok(fault) => Ok(fault),
             Err(error) => Err(error),
         },
@@ -300,16 +300,16 @@ fn fault_of<'a>(
 fn all_faults<'a>(
     alloc: Global,
     index: &'a Index,
-    fixed: &BTreeSet<KeyRef<'a>>,
+    finals: &BTreeSet<KeyRef<'a>>,
     states: &mut [State],
 ) -> Result<Vec<Option<LinkError>>, AllocError>
-    requires fixed { HasFixed index.now fixed.now }
+    requires finals { HasAllFinal index.now finals.now }
     requires settled { IsSettled index.now states.old }
     ensures { IfOk result (λ faults. faults.items ≡ map (load_fault index.now) (names index.now)) }
 {
     let mut faults = Vec::with_capacity(alloc, states.len())?;
     for n in 0..index.count() {
-        let fault = fault_of(alloc, index, fixed, states, ClassId::new(n))?;
+        let fault = fault_of(alloc, index, finals, states, ClassId::new(n))?;
         faults.push(fault)?;
     }
     Ok(faults)
@@ -321,8 +321,8 @@ fn all_faults<'a>(
 pub fn load_faults(alloc: Global, index: &Index) -> Result<Vec<Option<LinkError>>, AllocError>
     ensures { IfOk result (λ faults. faults.items ≡ map (load_fault index.now) (names index.now)) }
 {
-    let fixed = fixed_keys(alloc, index)?;
+    let finals = final_keys(alloc, index)?;
     let mut states = vec![in alloc; State::Fresh; index.count() as usize]?;
-    let faults = all_faults(alloc, index, &fixed, &mut states)?;
+    let faults = all_faults(alloc, index, &finals, &mut states)?;
     Ok(faults)
 }

@@ -3,9 +3,9 @@ ghost use Rattle.std.specs.Prelude.{◌≡◌, ◌≤◌, ◌<◌, ◌+◌, ◌+
 ghost use Rattle.std.specs.List.{All};
 ghost use Rattle.jc_facts.specs.Names.{Bytes};
 ghost use Rattle.jc_facts.specs.Options.{some_where};
-ghost use Rattle.jc_facts.specs.Valid.{IsValidClass};
-ghost use Rattle.jc_facts.specs.Clients.{names_differ, HasRoot};
-ghost use Rattle.jc_facts.specs.World.{World, side, classes, size, find, class_named};
+ghost use Rattle.jc_facts.specs.file.Valid.{IsValidClass};
+ghost use Rattle.jc_facts.specs.client.Clients.{differ_by_name, HasRoot};
+ghost use Rattle.jc_facts.specs.world.World.{World, side, classes, size, find_class, class_named};
 ghost use Rattle.jc_table.specs.Ids.{names, names_of, name_at, id_of, superclass_of};
 ghost use Rattle.jc_table.specs.Sides.{IsSide};
 
@@ -27,11 +27,11 @@ pub struct Index {
 
 impl Model for Index {
     ghost use Rattle.std.specs.Prelude.{take, drop};
-    ghost use Rattle.jc_facts.specs.World.{World, side};
+    ghost use Rattle.jc_facts.specs.world.World.{World, side};
 
     ghost Value = { World };
 
-    ghost use Rattle.jc_table.specs.Order.{IsIndex};
+    ghost use Rattle.jc_table.specs.steps.Order.{IsIndex};
 
     ghost view = { λ i. side (take i.platform i.classes.items) (drop i.platform i.classes.items) };
 
@@ -118,7 +118,7 @@ impl Index {
     /// The record of the class.
     pub fn facts(&self, id: ClassId) -> &ClassFacts
         requires { id < size self.now }
-        ensures { Some result.now ≡ find self.now (name_at self.now id) }
+        ensures { Some result.now ≡ find_class self.now (name_at self.now id) }
     {
         &self.classes[self.order[id.number() as usize]]
     }

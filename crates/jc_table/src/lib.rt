@@ -2,21 +2,19 @@
 #![tactic(auto)]
 
 mod above;
-pub mod faults;
+mod faults;
 pub mod ids;
-pub mod index;
+mod index;
 pub mod members;
-pub mod name_set;
+mod mentioned;
+mod name_set;
 mod order;
 mod overlap;
 mod overriding;
 pub mod packages;
 pub mod plain;
 mod reach;
-pub mod refusal;
 pub mod root;
 pub mod search;
+pub mod supertypes;
 pub mod table;
-#[cfg(test)]
-mod tests;
-mod texts;

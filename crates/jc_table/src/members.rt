@@ -1,6 +1,6 @@
 //! What a class itself declares (JVMS 4.5, 4.6).
 ghost use Rattle.std.specs.Prelude.{◌≡◌, option_map};
-ghost use Rattle.jc_facts.specs.World.{own_field as own_field_of, own_method as own_method_of};
+ghost use Rattle.jc_facts.specs.world.World.{own_field_of, own_method_of};
 
 use jc_facts::class_facts::{ClassFacts, Member};
 use jc_facts::key_set::KeyRef;

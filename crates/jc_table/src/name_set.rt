@@ -3,8 +3,8 @@ ghost use Rattle.std.specs.Prelude.{◌≡◌, ◌≤◌, ℕ, List, true, false
 ghost use Rattle.std.specs.List.{list_any, starts_with};
 ghost use Rattle.std.specs.List.Sorted.{IsPermutation, IsPartitionPoint, IsSorted};
 ghost use Rattle.std.specs.Ordering.{is_lt};
-ghost use Rattle.jc_facts.specs.Orders.{name_order};
-ghost use Rattle.jc_facts.specs.Names.{is_among};
+ghost use Rattle.jc_facts.specs.Exactly.{name_order};
+ghost use Rattle.jc_facts.specs.Names.{is_name_among};
 
 use jc_base::name::Name;
 use std::alloc::AllocError;
@@ -20,7 +20,7 @@ pub struct NameSet {
 impl Model for NameSet {
     ghost use Rattle.std.specs.Prelude.{List, ℕ};
     ghost use Rattle.std.specs.List.Sorted.{IsSorted};
-    ghost use Rattle.jc_facts.specs.Orders.{name_order};
+    ghost use Rattle.jc_facts.specs.Exactly.{name_order};
 
     ghost Value = { List (List ℕ) };
 
@@ -52,7 +52,7 @@ impl NameSet {
 
     /// Whether one of the names is this one.
     pub fn has(&self, name: &[u8]) -> bool
-        ensures { result ≡ is_among self.now name.now }
+        ensures { result ≡ is_name_among self.now name.now }
     {
         match self.names.as_slice().get(self.rank(name)) {
             Some(first) => first.as_bytes() == name,

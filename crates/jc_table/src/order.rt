@@ -3,10 +3,10 @@ ghost use Rattle.std.specs.Prelude.{◌≡◌, ◌≤◌, ◌<◌, IfOk, OnOk, I
 ghost use Rattle.std.specs.List.{All};
 ghost use Rattle.std.specs.List.Sorted.{IsPermutation, IsSortedBy};
 ghost use Rattle.std.specs.Ordering.{is_lt};
-ghost use Rattle.jc_facts.specs.Clients.{names_differ};
-ghost use Rattle.jc_facts.specs.Orders.{name_order};
+ghost use Rattle.jc_facts.specs.client.Clients.{differ_by_name};
+ghost use Rattle.jc_facts.specs.Exactly.{name_order};
 ghost use Rattle.jc_table.specs.Ids.{names_of, place_of};
-ghost use Rattle.jc_table.specs.Order.{IsOrder, IsPlace, names_at};
+ghost use Rattle.jc_table.specs.steps.Order.{IsOrder, IsPlace, names_at};
 
 use jc_facts::class_facts::ClassFacts;
 use std::alloc::{AllocError, Global};
@@ -54,7 +54,7 @@ fn sort_by_name(places: &mut Vec<Place<'_>>) -> Result<(), AllocError>
 
 /// The places of the classes, in byte order of their names.
 pub fn ordered(alloc: Global, classes: &[ClassFacts]) -> Result<Vec<usize>, AllocError>
-    requires { IsTrue (names_differ classes.now) }
+    requires { IsTrue (differ_by_name classes.now) }
     ensures { IfOk result (λ order. IsOrder classes.now order.items) }
 {
     let mut places = places(alloc, classes)?;
@@ -77,7 +77,7 @@ pub fn name_there<'a>(classes: &'a [ClassFacts], order: &[usize], at: usize) -> 
 
 /// How many classes stand before the one of this name; none where there is none.
 pub fn search(classes: &[ClassFacts], order: &[usize], name: &[u8]) -> Option<usize>
-    requires differ { IsTrue (names_differ classes.now) }
+    requires differ { IsTrue (differ_by_name classes.now) }
     requires order { IsOrder classes.now order.now }
     ensures { result ≡ place_of (names_of classes.now) name.now }
 {

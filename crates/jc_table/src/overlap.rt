@@ -1,9 +1,9 @@
 //! Names that a platform and a release both declare.
 ghost use Rattle.std.specs.Prelude.{◌≡◌, IfOk, IsTrue};
 ghost use Rattle.std.specs.Option.{option_copied};
-ghost use Rattle.jc_facts.specs.Clients.{names_differ};
-ghost use Rattle.jc_table.specs.Order.{IsOrder};
-ghost use Rattle.jc_table.specs.Sides.{first_overlap as overlap_of};
+ghost use Rattle.jc_facts.specs.client.Clients.{differ_by_name};
+ghost use Rattle.jc_table.specs.steps.Order.{IsOrder};
+ghost use Rattle.jc_table.specs.Sides.{overlap_of};
 
 use crate::order::{name_there, ordered, search};
 use jc_base::name::Name;
@@ -17,8 +17,8 @@ fn first_known<'a>(
     release: &'a [ClassFacts],
     order: &[usize],
 ) -> Option<&'a [u8]>
-    requires platform_differs { IsTrue (names_differ platform.now) }
-    requires release_differs { IsTrue (names_differ release.now) }
+    requires platform_differs { IsTrue (differ_by_name platform.now) }
+    requires release_differs { IsTrue (differ_by_name release.now) }
     requires known { IsOrder platform.now known.now }
     requires order { IsOrder release.now order.now }
     ensures { option_copied result ≡ overlap_of platform.now release.now }
@@ -39,8 +39,8 @@ pub fn first_overlap(
     platform: &[ClassFacts],
     release: &[ClassFacts],
 ) -> Result<Option<Name>, AllocError>
-    requires platform_differs { IsTrue (names_differ platform.now) }
-    requires release_differs { IsTrue (names_differ release.now) }
+    requires platform_differs { IsTrue (differ_by_name platform.now) }
+    requires release_differs { IsTrue (differ_by_name release.now) }
     ensures { IfOk result (λ overlap. overlap ≡ overlap_of platform.now release.now) }
 {
     let known = ordered(alloc, platform)?;

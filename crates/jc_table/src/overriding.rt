@@ -1,15 +1,15 @@
 //! Methods that override final ones (JVMS 5.4.5).
-ghost use Rattle.jc_desc.specs.Names.{is_init, is_clinit};
+ghost use Rattle.jc_desc.specs.Names.{is_init_name, is_clinit_name};
 ghost use Rattle.std.specs.Prelude.{◌≡◌, ◌<◌, ◌++◌, ◌∷◌, ◌&&◌, ◌||◌, not, [], IfOk, Some, None, IfSome, map};
 ghost use Rattle.std.specs.List.{filter};
 ghost use Rattle.jc_facts.specs.Names.{key_of};
-ghost use Rattle.jc_facts.specs.Flags.{is_package_private as package_private, is_final as final_flag};
+ghost use Rattle.jc_facts.specs.Flags.{package_private, final_flag};
 ghost use Rattle.jc_facts.specs.Options.{and_then};
-ghost use Rattle.jc_facts.specs.World.{size, declares as declares_of};
-ghost use Rattle.jc_facts.specs.Hierarchy.{chain, of_super};
-ghost use Rattle.jc_facts.specs.Overriding.{overrides_directly as directly, any_overrides as any_below, overrides_one_final as one_final, meets_final as meets, overrides_final as overrides};
+ghost use Rattle.jc_facts.specs.world.World.{size, declared_method};
+ghost use Rattle.jc_facts.specs.world.Hierarchy.{chain, of_super};
+ghost use Rattle.jc_facts.specs.world.Overriding.{directly_overrides, is_overridden_by_any, overrides_this_final, reaches_final, overrides_some_final};
 ghost use Rattle.jc_table.specs.Ids.{id_of, name_at};
-ghost use Rattle.jc_table.specs.Walking.{chain_from, linked_last, HasFixed, is_fixed};
+ghost use Rattle.jc_table.specs.steps.Walking.{chain_from, linked_last, HasAllFinal, is_final_instance};
 
 use crate::ids::ClassId;
 use crate::index::Index;
@@ -32,9 +32,9 @@ pub(crate) struct Method<'a> {
 }
 
 impl<'a> Model for Method<'a> {
-    ghost use Rattle.jc_facts.specs.World.{Found};
+    ghost use Rattle.jc_facts.specs.world.World.{DeclaredMember};
 
-    ghost Value = { Found };
+    ghost Value = { DeclaredMember };
 
     ghost view = { λ m. record { owner = m.owner.now; member = m.member.now } };
 }
@@ -47,7 +47,7 @@ fn is_package_private(flags: u16) -> bool
 
 // Whether the method below overrides the one above by their access alone.
 fn overrides_directly(below: &Method<'_>, above: &Method<'_>) -> bool
-    ensures { result ≡ directly below.now above.now }
+    ensures { result ≡ directly_overrides below.now above.now }
 {
     let here = below.member.flags;
     let there = above.member.flags;
@@ -59,7 +59,7 @@ fn overrides_directly(below: &Method<'_>, above: &Method<'_>) -> bool
 
 // Whether one of the methods below does.
 fn any_overrides(below: &[Method<'_>], above: &Method<'_>) -> bool
-    ensures { result ≡ any_below below.now above.now }
+    ensures { result ≡ is_overridden_by_any below.now above.now }
 {
     for method in below {
         if overrides_directly(method, above) {
@@ -70,9 +70,9 @@ fn any_overrides(below: &[Method<'_>], above: &Method<'_>) -> bool
 }
 
 // The method of the key that the class itself declares.
-#[tactic(auto, unfolding(jc_facts::specs::World::found_in))]
+#[tactic(auto, unfolding(jc_facts::specs::world::World::found_in))]
 fn declared<'a>(class: &'a ClassFacts, key: &KeyRef<'_>) -> Option<Method<'a>>
-    ensures { result ≡ declares_of key.now class.now }
+    ensures { result ≡ declared_method key.now class.now }
 {
     match own_method(class, key) {
         None => None,
@@ -86,14 +86,14 @@ fn declared<'a>(class: &'a ClassFacts, key: &KeyRef<'_>) -> Option<Method<'a>>
 // Takes a method of a class further up to those below where one of them overrides it, and says
 // whether it is final then.
 fn link<'a>(below: &mut Vec<Method<'a>>, above: Method<'a>) -> Result<bool, AllocError>
-    ensures { IfOk result (λ met. (met ≡ (any_below below.old.items above.entry && final_flag above.entry.member.flags)) × (below.new.items ≡ linked_last below.old.items (Some above.entry))) }
+    ensures { IfOk result (λ met. (met ≡ (is_overridden_by_any below.old.items above.entry && final_flag above.entry.member.flags)) × (below.new.items ≡ linked_last below.old.items (Some above.entry))) }
 {
     if !any_overrides(below.as_slice(), &above) {
         return Ok(false);
     }
-    let fixed = is_final(above.member.flags);
+    let met = is_final(above.member.flags);
     below.push(above)?;
-    Ok(fixed)
+    Ok(met)
 }
 
 // The same with the method of the key that a class further up declares, where it declares one.
@@ -102,7 +102,7 @@ fn link_class<'a>(
     class: &'a ClassFacts,
     key: &KeyRef<'_>,
 ) -> Result<bool, AllocError>
-    ensures { IfOk result (λ met. (met ≡ one_final below.old.items (declares_of key.now class.now)) × (below.new.items ≡ linked_last below.old.items (declares_of key.now class.now))) }
+    ensures { IfOk result (λ met. (met ≡ overrides_this_final below.old.items (declared_method key.now class.now)) × (below.new.items ≡ linked_last below.old.items (declared_method key.now class.now))) }
 {
     match declared(class, key) {
         None => Ok(false),
@@ -122,7 +122,7 @@ pub(crate) fn meets_final<'a>(
     above: Option<ClassId>,
 ) -> Result<bool, AllocError>
     requires { IfSome above (λ id. id < size index.now) }
-    ensures { IfOk result (λ met. met ≡ meets key.now (method.entry ∷ []) (chain_from index.now (size index.now) above)) }
+    ensures { IfOk result (λ met. met ≡ reaches_final key.now (method.entry ∷ []) (chain_from index.now (size index.now) above)) }
 {
     let mut below = Vec::new(alloc);
     below.push(method)?;
@@ -140,8 +140,8 @@ pub(crate) fn meets_final<'a>(
 }
 
 // Adds the keys of the class's final instance methods.
-fn push_fixed<'a>(keys: &mut Vec<KeyRef<'a>>, class: &'a ClassFacts) -> Result<(), AllocError>
-    ensures { IfOk result (λ _. keys.new.items ≡ keys.old.items ++ map key_of (filter is_fixed class.now.methods)) }
+fn push_finals<'a>(keys: &mut Vec<KeyRef<'a>>, class: &'a ClassFacts) -> Result<(), AllocError>
+    ensures { IfOk result (λ _. keys.new.items ≡ keys.old.items ++ map key_of (filter is_final_instance class.now.methods)) }
 {
     for member in class.methods.as_slice() {
         if is_final(member.flags) && !is_static(member.flags) {
@@ -152,15 +152,15 @@ fn push_fixed<'a>(keys: &mut Vec<KeyRef<'a>>, class: &'a ClassFacts) -> Result<(
 }
 
 // The keys of all final instance methods.
-pub(crate) fn fixed_keys<'a>(
+pub(crate) fn final_keys<'a>(
     alloc: Global,
     index: &'a Index,
 ) -> Result<BTreeSet<KeyRef<'a>>, AllocError>
-    ensures { IfOk result (λ set. HasFixed index.now set) }
+    ensures { IfOk result (λ set. HasAllFinal index.now set) }
 {
     let mut keys = Vec::new(alloc);
     for n in 0..index.count() {
-        push_fixed(&mut keys, index.facts(ClassId::new(n)))?;
+        push_finals(&mut keys, index.facts(ClassId::new(n)))?;
     }
     let set = set_of(alloc, keys)?;
     Ok(set)
@@ -178,17 +178,17 @@ pub(crate) fn number_above(index: &Index, class: &ClassFacts) -> Option<ClassId>
     }
 }
 
-// Whether a method of the class overrides a final one of the classes above it. `fixed` are the keys
+// Whether a method of the class overrides a final one of the classes above it. `finals` are the keys
 // of all final instance methods: without its key there is nothing to look for.
 fn method_overrides<'a>(
     alloc: Global,
     index: &'a Index,
-    fixed: &BTreeSet<KeyRef<'a>>,
+    finals: &BTreeSet<KeyRef<'a>>,
     class: &'a ClassFacts,
     member: &'a Member,
 ) -> Result<bool, AllocError>
-    requires { HasFixed index.now fixed.now }
-    ensures { IfOk result (λ met. met ≡ (not (is_init member.now.name || is_clinit member.now.name) && meets (key_of member.now) (record { owner = class.now.name; member = member.now } ∷ []) (of_super (chain index.now) class.now.superclass))) }
+    requires { HasAllFinal index.now finals.now }
+    ensures { IfOk result (λ met. met ≡ (not (is_init_name member.now.name || is_clinit_name member.now.name) && reaches_final (key_of member.now) (record { owner = class.now.name; member = member.now } ∷ []) (of_super (chain index.now) class.now.superclass))) }
 {
     let key = KeyRef::of_member(member);
     if is_initializer(member.name.as_bytes()) {
@@ -200,7 +200,7 @@ fn method_overrides<'a>(
     if is_static(member.flags) {
         return Ok(false);
     }
-    if !holds(fixed, &key) {
+    if !holds(finals, &key) {
         return Ok(false);
     }
     let method = Method {
@@ -215,14 +215,14 @@ fn method_overrides<'a>(
 pub(crate) fn overrides_final<'a>(
     alloc: Global,
     index: &'a Index,
-    fixed: &BTreeSet<KeyRef<'a>>,
+    finals: &BTreeSet<KeyRef<'a>>,
     class: &'a ClassFacts,
 ) -> Result<bool, AllocError>
-    requires { HasFixed index.now fixed.now }
-    ensures { IfOk result (λ met. met ≡ overrides class.now.name class.now.methods (of_super (chain index.now) class.now.superclass)) }
+    requires { HasAllFinal index.now finals.now }
+    ensures { IfOk result (λ met. met ≡ overrides_some_final class.now.name class.now.methods (of_super (chain index.now) class.now.superclass)) }
 {
     for member in class.methods.as_slice() {
-        if method_overrides(alloc, index, fixed, class, member)? {
+        if method_overrides(alloc, index, finals, class, member)? {
             return Ok(true);
         }
     }

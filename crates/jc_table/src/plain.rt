@@ -2,16 +2,16 @@
 ghost use Rattle.std.specs.Prelude.{◌≡◌, ◌↔◌, IfOk, IsTrue};
 ghost use Rattle.std.specs.Option.{option_copied};
 ghost use Rattle.std.specs.List.{All};
-ghost use Rattle.jc_facts.specs.Valid.{IsValidClass};
-ghost use Rattle.jc_facts.specs.Clients.{names_differ as differ};
-ghost use Rattle.jc_facts.specs.World.{class_named, find as find_in, side};
+ghost use Rattle.jc_facts.specs.file.Valid.{IsValidClass};
+ghost use Rattle.jc_facts.specs.client.Clients.{differ_by_name};
+ghost use Rattle.jc_facts.specs.world.World.{class_named, find_class, side};
 
 use jc_facts::class_facts::ClassFacts;
 use jc_facts::validity::is_valid;
 use std::alloc::{AllocError, Global};
 
 /// The first of the classes with this name.
-#[tactic(auto, unfolding(jc_facts::specs::World::class_named))]
+#[tactic(auto, unfolding(jc_facts::specs::world::World::class_named))]
 pub fn named<'a>(classes: &'a [ClassFacts], name: &[u8]) -> Option<&'a ClassFacts>
     ensures { option_copied result ≡ class_named classes.now name.now }
 {
@@ -29,7 +29,7 @@ pub fn find<'a>(
     release: &'a [ClassFacts],
     name: &[u8],
 ) -> Option<&'a ClassFacts>
-    ensures { option_copied result ≡ find_in (side platform.now release.now) name.now }
+    ensures { option_copied result ≡ find_class (side platform.now release.now) name.now }
 {
     match named(platform, name) {
         Some(class) => Some(class),
@@ -39,7 +39,7 @@ pub fn find<'a>(
 
 /// Whether no two of the classes have one name. The time grows with the square of their number.
 pub fn names_differ(classes: &[ClassFacts]) -> bool
-    ensures { result ≡ differ classes.now }
+    ensures { result ≡ differ_by_name classes.now }
 {
     for (at, class) in classes.iter().enumerate() {
         if named(&classes[at + 1..], class.name.as_bytes()).is_some() {

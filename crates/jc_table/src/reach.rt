@@ -1,8 +1,8 @@
 //! What is led to in a graph.
 ghost use Rattle.std.specs.Prelude.{◌≡◌, ◌<◌, ◌∷◌, [], length, IfOk, OnOk};
 ghost use Rattle.std.specs.List.{All};
-ghost use Rattle.jc_table.specs.Reach.{IsLedTo};
-ghost use Rattle.jc_table.specs.Queue.{Adds};
+ghost use Rattle.jc_table.specs.steps.Reach.{IsLedTo};
+ghost use Rattle.jc_table.specs.steps.Queue.{Adds};
 
 use jc_base::items::Items;
 use std::alloc::{AllocError, Global};

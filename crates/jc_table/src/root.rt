@@ -2,8 +2,8 @@
 ghost use Rattle.std.specs.Prelude.{◌≡◌};
 ghost use Rattle.std.specs.Option.{option_copied};
 ghost use Rattle.jc_facts.specs.Names.{object_name};
-ghost use Rattle.jc_facts.specs.World.{class_named};
-ghost use Rattle.jc_table.specs.Root.{has_wrong_flags as are_wrong, has_public_init as declares_init, root_part as part_of, root_fault as fault_of};
+ghost use Rattle.jc_facts.specs.world.World.{class_named};
+ghost use Rattle.jc_table.specs.Root.{flags_are_wrong, declares_public_init, faulty_part, fault_of_root};
 
 use crate::plain::named;
 use jc_facts::class_facts::ClassFacts;
@@ -31,13 +31,13 @@ pub enum RootPart {
 const OBJECT: &[u8] = b"java/lang/Object";
 
 fn has_wrong_flags(root: &ClassFacts) -> bool
-    ensures { result ≡ are_wrong root.now }
+    ensures { result ≡ flags_are_wrong root.now }
 {
     !is_public(root.flags) || is_final(root.flags) || is_interface(root.flags)
 }
 
 fn has_public_init(root: &ClassFacts) -> bool
-    ensures { result ≡ declares_init root.now }
+    ensures { result ≡ declares_public_init root.now }
 {
     for method in root.methods.as_slice() {
         if method.name.as_bytes() == b"<init>".as_slice()
@@ -50,9 +50,9 @@ fn has_public_init(root: &ClassFacts) -> bool
 }
 
 // The first part that isn't as it has to be.
-#[tactic(auto, unfolding(crate::specs::Root::root_part, jc_facts::specs::Options::or_else))]
+#[tactic(auto, unfolding(crate::specs::Root::faulty_part, jc_facts::specs::Options::or_else))]
 fn root_part(root: &ClassFacts) -> Option<RootPart>
-    ensures { result ≡ part_of root.now }
+    ensures { result ≡ faulty_part root.now }
 {
     if has_wrong_flags(root) {
         Some(RootPart::Flags)
@@ -73,9 +73,9 @@ fn root_part(root: &ClassFacts) -> Option<RootPart>
 
 /// The first part of the platform's `java/lang/Object` that isn't as it has to be; none where all
 /// are (JVMS 4.1, 5.3.5).
-#[tactic(auto, unfolding(crate::specs::Root::root_fault))]
+#[tactic(auto, unfolding(crate::specs::Root::fault_of_root))]
 pub fn root_fault(platform: &[ClassFacts]) -> Option<RootPart>
-    ensures { result ≡ fault_of platform.now }
+    ensures { result ≡ fault_of_root platform.now }
 {
     match named(platform, OBJECT) {
         None => Some(RootPart::Missing),

@@ -2,16 +2,16 @@
 //!
 //! It looks at a class again for each way that leads to it, so it is for small sides alone.
 ghost use Rattle.std.specs.Prelude.{◌≡◌, ◌∷◌, ◌&&◌, ◌||◌, [], not, IfOk};
-ghost use Rattle.jc_desc.specs.Names.{is_init, is_clinit};
+ghost use Rattle.jc_desc.specs.Names.{is_init_name, is_clinit_name};
 ghost use Rattle.jc_facts.specs.Names.{key_of};
-ghost use Rattle.jc_facts.specs.Hierarchy.{chain, of_super};
-ghost use Rattle.jc_facts.specs.Overriding.{meets_final as meets, overrides_final as overrides};
-ghost use Rattle.jc_facts.specs.Loading.{fault_at, own_fault as own_fault_of};
+ghost use Rattle.jc_facts.specs.world.Hierarchy.{chain, of_super};
+ghost use Rattle.jc_facts.specs.world.Overriding.{reaches_final, overrides_some_final};
+ghost use Rattle.jc_facts.specs.world.Loading.{fault_at, fault_of_itself};
 
 use crate::faults::{super_at, super_count};
 use crate::index::Index;
 use crate::overriding::{Method, meets_final, number_above};
-use crate::refusal::{own_interfaces_fault, own_superclass_fault};
+use crate::supertypes::{own_interfaces_fault, own_superclass_fault};
 use jc_base::name::Name;
 use jc_desc::names::is_initializer;
 use jc_facts::class_facts::{ClassFacts, Member};
@@ -27,7 +27,7 @@ fn method_overrides<'a>(
     class: &'a ClassFacts,
     member: &'a Member,
 ) -> Result<bool, AllocError>
-    ensures { IfOk result (λ met. met ≡ (not (is_init member.now.name || is_clinit member.now.name) && meets (key_of member.now) (record { owner = class.now.name; member = member.now } ∷ []) (of_super (chain index.now) class.now.superclass))) }
+    ensures { IfOk result (λ met. met ≡ (not (is_init_name member.now.name || is_clinit_name member.now.name) && reaches_final (key_of member.now) (record { owner = class.now.name; member = member.now } ∷ []) (of_super (chain index.now) class.now.superclass))) }
 {
     if is_initializer(member.name.as_bytes()) {
         return Ok(false);
@@ -47,7 +47,7 @@ fn overrides_final<'a>(
     index: &'a Index,
     class: &'a ClassFacts,
 ) -> Result<bool, AllocError>
-    ensures { IfOk result (λ met. met ≡ overrides class.now.name class.now.methods (of_super (chain index.now) class.now.superclass)) }
+    ensures { IfOk result (λ met. met ≡ overrides_some_final class.now.name class.now.methods (of_super (chain index.now) class.now.superclass)) }
 {
     for member in class.methods.as_slice() {
         if method_overrides(alloc, index, class, member)? {
@@ -58,13 +58,13 @@ fn overrides_final<'a>(
 }
 
 // Why the class doesn't load though all that it names above itself does.
-#[tactic(auto, unfolding(jc_facts::specs::Loading::own_fault, jc_facts::specs::Options::or_else))]
+#[tactic(auto, unfolding(jc_facts::specs::world::Loading::fault_of_itself, jc_facts::specs::Options::or_else))]
 fn own_fault<'a>(
     alloc: Global,
     index: &'a Index,
     class: &'a ClassFacts,
 ) -> Result<Option<LinkError>, AllocError>
-    ensures { IfOk result (λ fault. fault ≡ own_fault_of index.now class.now) }
+    ensures { IfOk result (λ fault. fault ≡ fault_of_itself index.now class.now) }
 {
     let superclass = own_superclass_fault(index, class);
     if superclass.is_some() {

@@ -2,26 +2,26 @@
 ghost use Rattle.std.specs.Prelude.{◌≡◌, ◌≤◌, ◌<◌, ◌+◌, ◌||◌, length, map, is_some, nat_lt, Some, None, IfOk, IfErr, IfSome, IsTrue};
 ghost use Rattle.std.specs.List.{All};
 ghost use Rattle.jc_facts.specs.Options.{some_where};
-ghost use Rattle.jc_facts.specs.Valid.{IsValidClass};
+ghost use Rattle.jc_facts.specs.file.Valid.{IsValidClass};
 ghost use Rattle.jc_facts.specs.Names.{same};
-ghost use Rattle.jc_facts.specs.Clients.{names_differ, names_super as names_above};
-ghost use Rattle.jc_facts.specs.World.{side, size, find, class_named};
-ghost use Rattle.jc_facts.specs.Hierarchy.{in_chain, has_superinterface as is_superinterface};
-ghost use Rattle.jc_facts.specs.Loading.{load_fault};
+ghost use Rattle.jc_facts.specs.client.Clients.{differ_by_name, is_named_above};
+ghost use Rattle.jc_facts.specs.world.World.{side, size, find_class, class_named};
+ghost use Rattle.jc_facts.specs.world.Hierarchy.{in_chain, is_superinterface};
+ghost use Rattle.jc_facts.specs.world.Loading.{load_fault};
 ghost use Rattle.jc_table.specs.Above.{leads_by, AreAbove};
 ghost use Rattle.jc_table.specs.Ids.{name_at, names, id_of, superclass_of};
 ghost use Rattle.jc_table.specs.Mentioned.{is_package, mentions_front};
-ghost use Rattle.jc_table.specs.Root.{root_fault as fault_of};
-ghost use Rattle.jc_table.specs.Sides.{IsSide, first_overlap as overlap_of};
+ghost use Rattle.jc_table.specs.Root.{fault_of_root};
+ghost use Rattle.jc_table.specs.Sides.{IsSide, overlap_of};
 ghost use Rattle.jc_table.specs.Tables.{HasCause};
 
 use crate::above::{interfaces_above, lists, superclasses};
 use crate::faults::load_faults;
 use crate::ids::ClassId;
 use crate::index::Index;
+use crate::mentioned::MentionedNames;
 use crate::overlap::first_overlap;
 use crate::root::{RootPart, root_fault};
-use crate::texts::Texts;
 use jc_base::items::Items;
 use jc_base::name::Name;
 use jc_facts::class_facts::ClassFacts;
@@ -50,7 +50,7 @@ pub enum TableError {
 #[derive(Drop)]
 pub struct Table {
     index: Index,
-    texts: Texts,
+    mentioned: MentionedNames,
     // For each class the one that it names as its superclass.
     supers: Vec<Option<ClassId>>,
     // For each class the interfaces that it names, and those that they lead to.
@@ -62,7 +62,7 @@ pub struct Table {
 }
 
 impl Model for Table {
-    ghost use Rattle.jc_facts.specs.World.{World};
+    ghost use Rattle.jc_facts.specs.world.World.{World};
 
     ghost Value = { World };
 
@@ -77,14 +77,14 @@ impl Model for Table {
 fn of_index(alloc: Global, index: Index) -> Result<Table, AllocError>
     ensures { IfOk result (λ table. table ≡ index) }
 {
-    let texts = Texts::new(alloc, index.classes())?;
+    let mentioned = MentionedNames::new(alloc, index.classes())?;
     let supers = superclasses(alloc, &index)?;
     let rows = interfaces_above(alloc, &index)?;
     let interfaces = lists(alloc, rows.as_slice())?;
     let faults = load_faults(alloc, &index)?;
     Ok(Table {
         index,
-        texts,
+        mentioned,
         supers,
         rows,
         interfaces,
@@ -104,11 +104,11 @@ impl Table {
     ) -> Result<Table, TableError>
         requires valid_platform { All IsValidClass platform.now }
         requires valid_release { All IsValidClass release.items }
-        requires platform_differs { IsTrue (names_differ platform.now) }
-        requires release_differs { IsTrue (names_differ release.items) }
+        requires platform_differs { IsTrue (differ_by_name platform.now) }
+        requires release_differs { IsTrue (differ_by_name release.items) }
         requires few { length platform.now + length release.items ≤ 120000 }
         ensures built { IfOk result (λ table. table ≡ side platform.now release.items) }
-        ensures sound { IfOk result (λ _. (fault_of platform.now ≡ None) × (overlap_of platform.now release.items ≡ None)) }
+        ensures sound { IfOk result (λ _. (fault_of_root platform.now ≡ None) × (overlap_of platform.now release.items ≡ None)) }
         ensures refused { IfErr result (HasCause platform.now release.items) }
     {
         if let Some(part) = root_fault(platform) {
@@ -163,7 +163,7 @@ impl Table {
     /// The record of the class.
     pub fn facts(&self, id: ClassId) -> &ClassFacts
         requires { id < size self.now }
-        ensures { Some result.now ≡ find self.now (name_at self.now id) }
+        ensures { Some result.now ≡ find_class self.now (name_at self.now id) }
     {
         self.index.facts(id)
     }
@@ -260,14 +260,14 @@ impl Table {
     pub fn has_package(&self, package: &[u8]) -> bool
         ensures { result ≡ is_package self.now «package».now }
     {
-        self.texts.packages.has(package)
+        self.mentioned.packages.has(package)
     }
 
     /// Whether a class names this one as its superclass or as an interface (JVMS 4.1).
     pub fn names_super(&self, name: &Name) -> bool
-        ensures { result ≡ names_above self.now name.now }
+        ensures { result ≡ is_named_above self.now name.now }
     {
-        self.texts.supers.has(name.as_bytes())
+        self.mentioned.supers.has(name.as_bytes())
     }
 
     /// Whether a name that a class has, names above itself or permits to extend it begins with these
@@ -275,7 +275,7 @@ impl Table {
     pub fn begins(&self, front: &[u8]) -> bool
         ensures { result ≡ mentions_front self.now front.now }
     {
-        self.texts.mentioned.begins(front)
+        self.mentioned.mentioned.begins(front)
     }
 
     /// The load faults of all classes, in byte order of their names; none where a class loads

@@ -1,8 +1,8 @@
 use Rattle.std.proofs.Common.{◌≡◌, sym, ◌∙◌, subst}
-use Rattle.jc_facts.specs.Access.{is_member_accessible}
+use Rattle.jc_facts.specs.world.Access.{is_member_accessible}
 use Rattle.jc_table.specs.Ids.{name_at}
 use Rattle.jc_access.specs.declared.access.Seat.{Seat}
-use Rattle.jc_access.specs.Seats.{member_open}
+use Rattle.jc_access.specs.SeatAccess.{member_open}
 use Rattle.jc_access.specs.Speaking.{SpeaksFor}
 use Rattle.jc_access.proofs.Spoken.{member_spoken, found_inside}
 use Rattle.jc_access.proofs.access.accessible.Goals as goal

@@ -1,8 +1,8 @@
 use Rattle.std.proofs.Common.{◌≡◌, sym, subst, false}
-use Rattle.jc_facts.specs.Access.{is_class_accessible}
+use Rattle.jc_facts.specs.world.Access.{is_class_accessible}
 use Rattle.jc_table.specs.Ids.{name_at}
 use Rattle.jc_access.specs.declared.access.Seat.{Seat}
-use Rattle.jc_access.specs.Seats.{class_open}
+use Rattle.jc_access.specs.SeatAccess.{class_open}
 use Rattle.jc_access.specs.Speaking.{SpeaksFor}
 use Rattle.jc_access.proofs.Spoken.{class_spoken, class_inside}
 use Rattle.jc_access.proofs.access.class_access.Goals as goal

@@ -1,6 +1,6 @@
 use Rattle.std.proofs.Common.{◌≡◌, drop}
 use Rattle.std.specs.List.{list_any}
-use Rattle.jc_field.specs.Fields.{declares_at}
+use Rattle.jc_field.specs.steps.Fields.{declares_at}
 use Rattle.jc_field.proofs.find.any_declares.Given as goal
 
 abbrev pub invariant-loop-class : goal.invariant-loop-class

@@ -1,7 +1,7 @@
 use Rattle.std.proofs.Common.{◌≡◌, ◌<◌, ◌-◌, None}
-use Rattle.jc_facts.specs.World.{size}
-use Rattle.jc_facts.specs.Loading.{fault_at}
-use Rattle.jc_facts.specs.Lookup.{field_found}
+use Rattle.jc_facts.specs.world.World.{size}
+use Rattle.jc_facts.specs.world.Loading.{fault_at}
+use Rattle.jc_facts.specs.world.Lookup.{field_found}
 use Rattle.jc_table.specs.Ids.{name_at}
 use Rattle.jc_field.proofs.find.find_field.Given as goal
 

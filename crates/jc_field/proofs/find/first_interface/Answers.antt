@@ -1,6 +1,6 @@
 use Rattle.std.proofs.Common.{List, sym, subst}
 use Rattle.jc_facts.specs.Names.{Bytes}
-use Rattle.jc_field.specs.Fields.{AreReady}
+use Rattle.jc_field.specs.steps.Fields.{AreReady}
 use Rattle.jc_field.proofs.Steps.{all_ready}
 use Rattle.jc_field.proofs.find.first_interface.Goals as goal
 

@@ -1,6 +1,6 @@
 use Rattle.std.proofs.Common.{◌≡◌, drop}
 use Rattle.jc_facts.specs.Options.{first_some}
-use Rattle.jc_facts.specs.Lookup.{field_found}
+use Rattle.jc_facts.specs.world.Lookup.{field_found}
 use Rattle.jc_field.proofs.find.first_of.Given as goal
 
 abbrev pub invariant-loop-name : goal.invariant-loop-name

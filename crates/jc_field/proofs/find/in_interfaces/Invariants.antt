@@ -1,8 +1,8 @@
 use Rattle.std.proofs.Common.{◌≡◌, ◌<◌, ◌-◌, None}
-use Rattle.jc_facts.specs.World.{size}
-use Rattle.jc_facts.specs.Loading.{fault_at}
+use Rattle.jc_facts.specs.world.World.{size}
+use Rattle.jc_facts.specs.world.Loading.{fault_at}
 use Rattle.jc_table.specs.Ids.{name_at}
-use Rattle.jc_field.specs.Fields.{interfaces_found}
+use Rattle.jc_field.specs.steps.Fields.{interfaces_found}
 use Rattle.jc_field.proofs.find.in_interfaces.Given as goal
 
 abbrev pub invariant-loop : goal.invariant-loop

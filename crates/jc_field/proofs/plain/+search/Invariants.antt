@@ -1,6 +1,6 @@
 use Rattle.std.proofs.Common.{◌≡◌, ◌-◌, drop}
 use Rattle.jc_facts.specs.Options.{first_some}
-use Rattle.jc_field.specs.Fields.{found_to}
+use Rattle.jc_field.specs.steps.Fields.{found_to}
 use Rattle.jc_field.proofs.plain.+search.Given as goal
 
 abbrev pub decreases-search : goal.decreases-search

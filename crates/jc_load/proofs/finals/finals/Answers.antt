@@ -1,5 +1,5 @@
 use Rattle.std.proofs.Common.{◌≡◌, ◌-◌, ◌+◌, suc, None, sym, ◌∙◌, arith}
-use Rattle.jc_facts.specs.World.{size}
+use Rattle.jc_facts.specs.world.World.{size}
 use Rattle.jc_load.proofs.Upwards.{finals-from, declared-here, declared-above, declared-out, declared-end}
 use Rattle.jc_load.proofs.finals.finals.Goals as goal
 

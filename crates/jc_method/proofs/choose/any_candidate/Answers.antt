@@ -1,7 +1,7 @@
 use Rattle.std.proofs.Common.{◌≡◌, ◌<◌, ◌-◌, ◌+◌, suc, Some, None, arith, refl}
-use Rattle.jc_facts.specs.World.{size}
+use Rattle.jc_facts.specs.world.World.{size}
 use Rattle.jc_table.specs.Ids.{name_at}
-use Rattle.jc_method.specs.Choosing.{candidate_at}
+use Rattle.jc_method.specs.steps.Choosing.{candidate_at}
 use Rattle.jc_method.proofs.Walks.{way_starts, way_found, way_on, way_top, way_out}
 use Rattle.jc_method.proofs.choose.any_candidate.Goals as goal
 

@@ -1,7 +1,7 @@
 use Rattle.std.proofs.Common.{◌-◌}
-use Rattle.jc_facts.specs.World.{size}
+use Rattle.jc_facts.specs.world.World.{size}
 use Rattle.jc_table.specs.Ids.{name_at}
-use Rattle.jc_method.specs.Choosing.{candidate_at}
+use Rattle.jc_method.specs.steps.Choosing.{candidate_at}
 use Rattle.jc_method.proofs.Walks.{IsOnWay}
 use Rattle.jc_method.proofs.choose.any_candidate.Given as goal
 

@@ -1,6 +1,6 @@
 use Rattle.std.proofs.Common.{◌≡◌, drop}
 use Rattle.jc_table.specs.Ids.{name_at}
-use Rattle.jc_method.specs.Choosing.{first_at, best_at}
+use Rattle.jc_method.specs.steps.Choosing.{first_at, best_at}
 use Rattle.jc_method.proofs.choose.best_among.Given as goal
 
 abbrev pub invariant-loop-id : goal.invariant-loop-id

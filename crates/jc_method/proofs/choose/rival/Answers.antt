@@ -1,5 +1,5 @@
 use Rattle.std.proofs.Common.{◌≡◌, true, sym, ◌∙◌}
-use Rattle.jc_method.specs.Choosing.{is_strictly_below}
+use Rattle.jc_method.specs.steps.Choosing.{is_strictly_below}
 use Rattle.jc_method.proofs.Choices.{strictly, strictly_chosen}
 use Rattle.jc_method.proofs.choose.rival.Goals as goal
 

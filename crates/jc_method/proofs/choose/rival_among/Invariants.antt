@@ -1,5 +1,5 @@
 use Rattle.std.proofs.Common.{◌≡◌, drop}
-use Rattle.jc_method.specs.Choosing.{first_at, rival_at}
+use Rattle.jc_method.specs.steps.Choosing.{first_at, rival_at}
 use Rattle.jc_method.proofs.choose.rival_among.Given as goal
 
 abbrev pub invariant-loop-id : goal.invariant-loop-id

@@ -1,5 +1,5 @@
-use Rattle.jc_facts.specs.Hierarchy.{chain}
-use Rattle.jc_facts.specs.Lookup.{first_declared, superinterface_choices, method_choices}
+use Rattle.jc_facts.specs.world.Hierarchy.{chain}
+use Rattle.jc_facts.specs.world.Lookup.{first_declared, superinterface_choices, method_choices}
 use Rattle.jc_table.specs.Ids.{name_at}
 use Rattle.jc_method.proofs.Chains.{choice_here, choice_next}
 use Rattle.jc_method.proofs.find.find_method.Goals as goal

@@ -3,7 +3,8 @@ use Rattle.std.specs.BTreeSet as sorted
 use Rattle.jc_facts.specs.declared.class_facts.Member.{Member}
 use Rattle.jc_facts.specs.declared.key.Key.{Key}
 use Rattle.jc_facts.specs.KeyOrder.{key_cmp}
-use Rattle.jc_method.proofs.Sets.{comes_more, comes_all}
+use Rattle.jc_facts.proofs.KeySets.{comes_more}
+use Rattle.jc_table.proofs.MemberKeys.{comes_all}
 use Rattle.jc_method.proofs.keys.add_class.Goals as goal
 
 pub loop-member-preserved : goal.loop-member-preserved
@@ -13,4 +14,4 @@ loop-member-preserved c =
     (subst (λ (k : Key). sorted.Updates key_cmp c.loop-member.keys c.insert.new.self k true) c.of_member.ensures c.in_ok-insert.ensures.updates) c.loop-member.invariant
 
 pub returns : goal.returns
-returns c = comes_all c.args.keys.now c.loop-member.keys c.args.class.now c.loop-member.member-index (subst (λ (ms : List Member). length ms ≤ c.loop-member.member-index) c.as_slice-member-items.ensures c.loop-member-test.false) c.loop-member.invariant
+returns c = comes_all c.args.keys.now c.loop-member.keys c.args.class.now.methods c.loop-member.member-index (subst (λ (ms : List Member). length ms ≤ c.loop-member.member-index) c.as_slice-member-items.ensures c.loop-member-test.false) c.loop-member.invariant

@@ -1,5 +1,5 @@
 use Rattle.std.proofs.Common.{drop}
-use Rattle.jc_method.proofs.Sets.{Comes}
+use Rattle.jc_facts.proofs.KeySets.{Comes}
 use Rattle.jc_method.proofs.keys.add_class.Given as goal
 
 abbrev pub invariant-loop-member : goal.invariant-loop-member

@@ -1,7 +1,7 @@
 use Rattle.std.proofs.Common.{◌≡◌, ◌<◌, ◌∙◌, ℕ, List, length, slice_index_or, sym, ap, subst}
 use Rattle.std.specs.List.{All}
 use Rattle.std.specs.BTreeSet.{BTreeSet}
-use Rattle.jc_table.specs.Reach.{IsLedTo}
+use Rattle.jc_table.specs.steps.Reach.{IsLedTo}
 use Rattle.jc_table.proofs.Aboves.{rows_exact, edges-within, edges-length}
 use Rattle.jc_table.proofs.above.interfaces_above.Goals as goal
 

@@ -1,7 +1,7 @@
 use Rattle.std.proofs.Common.{◌≡◌, ◌<◌, ◌+◌, ◌∙◌, ◌++◌, ℕ, List, [], ◌∷◌, length, slice_index_or, sym, ap, subst}
 use Rattle.std.proofs.lemmas.List.{length-append}
 use Rattle.std.specs.BTreeSet.{BTreeSet}
-use Rattle.jc_table.specs.Reach.{IsLedTo}
+use Rattle.jc_table.specs.steps.Reach.{IsLedTo}
 use Rattle.jc_table.proofs.Aboves.{rows_step}
 use Rattle.jc_table.proofs.above.rows.Goals as goal
 

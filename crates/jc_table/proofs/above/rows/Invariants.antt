@@ -1,6 +1,6 @@
 use Rattle.std.proofs.Common.{◌≡◌, ◌<◌, ℕ, length, slice_index_or}
 use Rattle.std.specs.BTreeSet.{BTreeSet}
-use Rattle.jc_table.specs.Reach.{IsLedTo}
+use Rattle.jc_table.specs.steps.Reach.{IsLedTo}
 use Rattle.jc_table.proofs.above.rows.Given as goal
 
 abbrev pub invariant-loop-start : goal.invariant-loop-start

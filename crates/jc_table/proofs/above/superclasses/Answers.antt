@@ -1,5 +1,5 @@
 use Rattle.std.proofs.Common.{◌≤◌, ◌∙◌, arith}
-use Rattle.jc_facts.specs.World.{size}
+use Rattle.jc_facts.specs.world.World.{size}
 use Rattle.jc_table.proofs.Keeps.{supers-more, supers-all}
 use Rattle.jc_table.proofs.above.superclasses.Goals as goal
 

@@ -1,5 +1,5 @@
 use Rattle.std.proofs.Common.{◌≤◌, ◌∙◌, arith}
-use Rattle.jc_facts.specs.World.{size}
+use Rattle.jc_facts.specs.world.World.{size}
 use Rattle.jc_table.proofs.Turns.{faults-more, faults-all}
 use Rattle.jc_table.proofs.faults.all_faults.Goals as goal
 

@@ -1,7 +1,7 @@
 use Rattle.std.proofs.Common.{◌≡◌, map, take}
-use Rattle.jc_facts.specs.Loading.{load_fault}
+use Rattle.jc_facts.specs.world.Loading.{load_fault}
 use Rattle.jc_table.specs.Ids.{names}
-use Rattle.jc_table.specs.Entering.{IsSettled}
+use Rattle.jc_table.specs.steps.Entering.{IsSettled}
 use Rattle.jc_table.proofs.faults.all_faults.Given as goal
 
 abbrev pub invariant-loop-n : goal.invariant-loop-n

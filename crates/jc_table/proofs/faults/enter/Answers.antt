@@ -1,5 +1,5 @@
 use Rattle.std.proofs.Common.{ap}
-use Rattle.jc_table.specs.Entering.{bottom}
+use Rattle.jc_table.specs.steps.Entering.{bottom}
 use Rattle.jc_table.proofs.Turns.{start}
 use Rattle.jc_table.proofs.faults.enter.Goals as goal
 

@@ -1,5 +1,5 @@
 use Rattle.std.proofs.Common.{◌≡◌}
-use Rattle.jc_table.specs.Entering.{IsUnderWay, bottom, work}
+use Rattle.jc_table.specs.steps.Entering.{IsUnderWay, bottom, work}
 use Rattle.jc_table.proofs.faults.enter.Given as goal
 
 abbrev pub invariant-up : goal.invariant-up

@@ -2,7 +2,7 @@ use Rattle.std.proofs.Common.{◌≡◌, ◌<◌, ◌++◌, ◌∷◌, [], List,
 use Rattle.std.specs.List.{All}
 use Rattle.jc_facts.specs.declared.link_error.LinkError.TheVariants.{ClassCircularityError}
 use Rattle.jc_table.specs.declared.faults.Frame.{Frame}
-use Rattle.jc_table.specs.Entering.{is_fresh, is_entered, state_of, AllHave}
+use Rattle.jc_table.specs.steps.Entering.{is_fresh, is_entered, state_of, AllHave}
 use Rattle.jc_table.proofs.Paths.{inside-states, bottom-push}
 use Rattle.jc_table.proofs.Turns.{enter, enter-work, fail, back, entered-known}
 use Rattle.jc_table.proofs.faults.go_up.Goals as goal

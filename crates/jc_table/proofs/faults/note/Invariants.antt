@@ -1,6 +1,6 @@
 use Rattle.std.proofs.Common.{◌≡◌, ℕ, cond, take, Some}
 use Rattle.jc_table.specs.declared.faults.State.TheVariants as states
-use Rattle.jc_table.specs.Entering.{state_of, is_on}
+use Rattle.jc_table.specs.steps.Entering.{state_of, is_on}
 use Rattle.jc_table.proofs.faults.note.Given as goal
 
 abbrev pub invariant-loop-frame : goal.invariant-loop-frame

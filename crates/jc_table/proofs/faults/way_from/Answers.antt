@@ -1,6 +1,6 @@
 use Rattle.std.proofs.Common.{◌≡◌, ◌≤◌, length, sym, ◌∙◌, arith, None}
-use Rattle.jc_facts.specs.Search.{supers}
-use Rattle.jc_facts.specs.Loading.{load_fault}
+use Rattle.jc_facts.specs.world.Search.{supers}
+use Rattle.jc_facts.specs.world.Loading.{load_fault}
 use Rattle.jc_table.specs.Ids.{name_at}
 use Rattle.jc_table.proofs.Entering.{leads-fault, loads-more, loads-all, all-load}
 use Rattle.jc_table.proofs.faults.way_from.Goals as goal

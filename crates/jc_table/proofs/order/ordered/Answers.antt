@@ -1,7 +1,7 @@
 use Rattle.std.proofs.Common.{◌≡◌, sym, ◌∙◌, ap, subst, map, List, ℕ}
 use Rattle.std.proofs.lemmas.List.{take_all}
 use Rattle.jc_facts.specs.Names.{Bytes}
-use Rattle.jc_table.specs.Order.{IsOrder}
+use Rattle.jc_table.specs.steps.Order.{IsOrder}
 use Rattle.jc_table.proofs.Places.{sorted_order}
 use Rattle.jc_table.proofs.order.ordered.Goals as goal
 

@@ -1,6 +1,6 @@
 use Rattle.std.proofs.Common.{◌≡◌, map, take}
 use Rattle.std.specs.List.{All}
-use Rattle.jc_table.specs.Order.{IsPlace, names_at}
+use Rattle.jc_table.specs.steps.Order.{IsPlace, names_at}
 use Rattle.jc_table.proofs.order.places.Given as goal
 
 abbrev pub invariant-loop-at : goal.invariant-loop-at

@@ -1,7 +1,7 @@
 use Rattle.std.proofs.Common.{◌≡◌, ◌+◌, ◌-◌, ◌/◌, ℕ, length, arith, ◌∙◌, ap}
 use Rattle.jc_facts.specs.Names.{Bytes}
 use Rattle.std.proofs.Common.{List}
-use Rattle.jc_facts.specs.Orders.{name_order}
+use Rattle.jc_facts.specs.Exactly.{name_order}
 use Rattle.jc_table.specs.Ids.{names_of}
 use Rattle.jc_table.proofs.Numbers.{names_of-rise}
 use Rattle.jc_table.proofs.Halves.{order_length, below, above, found_at, not_there}

@@ -1,5 +1,5 @@
 use Rattle.std.proofs.Common.{ℕ, ◌≤◌, ◌<◌, ◌-◌, length, [], get_or}
-use Rattle.jc_facts.specs.Exact.{Before}
+use Rattle.jc_facts.specs.Exactly.{Before}
 use Rattle.jc_table.specs.Ids.{names_of}
 use Rattle.jc_table.proofs.order.search.Given as goal
 

@@ -2,7 +2,7 @@ use Rattle.std.proofs.Common.{rules, ℕ, List}
 use Rattle.std.proofs.lemmas.List.Sorted.{ranks_by, answers_always}
 use Rattle.std.proofs.lemmas.Cmp.{nat_list_cmp_total}
 use Rattle.std.specs.Ordering.{is_lt}
-use Rattle.jc_facts.specs.Orders.{name_order}
+use Rattle.jc_facts.specs.Exactly.{name_order}
 use Rattle.jc_table.proofs.order.sort_by_name.Goals as goal
 
 pub returns-clause-sorted : goal.returns-clause-sorted

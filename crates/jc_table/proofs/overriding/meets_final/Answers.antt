@@ -1,5 +1,5 @@
 use Rattle.std.proofs.Common.{◌≡◌, ◌-◌, ◌+◌, suc, None, sym, ◌∙◌, arith}
-use Rattle.jc_facts.specs.World.{size}
+use Rattle.jc_facts.specs.world.World.{size}
 use Rattle.jc_table.proofs.Walking.{meets-found, meets-on, meets-out, meets-end}
 use Rattle.jc_table.proofs.overriding.meets_final.Goals as goal
 

@@ -3,7 +3,7 @@ use Rattle.std.specs.List.{All}
 use Rattle.std.proofs.lemmas.List.{take_all}
 use Rattle.std.proofs.lemmas.List.Elements.{All-more}
 use Rattle.jc_facts.specs.declared.class_facts.ClassFacts.{ClassFacts}
-use Rattle.jc_facts.specs.Valid.{IsValidClass}
+use Rattle.jc_facts.specs.file.Valid.{IsValidClass}
 use Rattle.jc_table.proofs.plain.are_valid.Goals as goal
 
 pub loop-class-preserved : goal.loop-class-preserved

@@ -1,6 +1,6 @@
 use Rattle.std.proofs.Common.{take}
 use Rattle.std.specs.List.{All}
-use Rattle.jc_facts.specs.Valid.{IsValidClass}
+use Rattle.jc_facts.specs.file.Valid.{IsValidClass}
 use Rattle.jc_table.proofs.plain.are_valid.Given as goal
 
 abbrev pub invariant-loop-class : goal.invariant-loop-class

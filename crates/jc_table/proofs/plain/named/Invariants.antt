@@ -1,5 +1,5 @@
 use Rattle.std.proofs.Common.{◌≡◌, drop}
-use Rattle.jc_facts.specs.World.{class_named}
+use Rattle.jc_facts.specs.world.World.{class_named}
 use Rattle.jc_table.proofs.plain.named.Given as goal
 
 abbrev pub invariant-loop-class : goal.invariant-loop-class

@@ -1,6 +1,6 @@
 use Rattle.std.proofs.Common.{◌≡◌, drop}
-use Rattle.jc_facts.specs.Clients.{names_differ}
+use Rattle.jc_facts.specs.client.Clients.{differ_by_name}
 use Rattle.jc_table.proofs.plain.names_differ.Given as goal
 
 abbrev pub invariant-loop-at : goal.invariant-loop-at
-invariant-loop-at l = names_differ l.classes ≡ names_differ (drop l.at l.classes)
+invariant-loop-at l = differ_by_name l.classes ≡ differ_by_name (drop l.at l.classes)

@@ -1,6 +1,6 @@
 use Rattle.std.proofs.Common.{List, ℕ, take, subst}
 use Rattle.std.proofs.lemmas.List.{take_more, take_all}
-use Rattle.jc_table.specs.Queue.{Adds}
+use Rattle.jc_table.specs.steps.Queue.{Adds}
 use Rattle.jc_table.proofs.Queues.{adds_more}
 use Rattle.jc_table.proofs.reach.add.Goals as goal
 

@@ -1,5 +1,5 @@
 use Rattle.std.proofs.Common.{take}
-use Rattle.jc_table.specs.Queue.{Adds}
+use Rattle.jc_table.specs.steps.Queue.{Adds}
 use Rattle.jc_table.proofs.reach.add.Given as goal
 
 abbrev pub invariant-loop-id : goal.invariant-loop-id

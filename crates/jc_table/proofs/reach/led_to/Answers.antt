@@ -1,8 +1,8 @@
 use Rattle.std.proofs.Common.{◌≡◌, ◌∙◌, ◌<◌, ℕ, List, [], length, get_or, sym, ap, subst, arith}
 use Rattle.std.proofs.lemmas.List.{get_or_default}
 use Rattle.std.specs.BTreeSet.{BTreeSet}
-use Rattle.jc_table.specs.Reach.{next_of}
-use Rattle.jc_table.specs.Queue.{Adds}
+use Rattle.jc_table.specs.steps.Reach.{next_of}
+use Rattle.jc_table.specs.steps.Queue.{Adds}
 use Rattle.jc_table.proofs.Queues.{nothing_in, starts, goes, smaller, ends, inside_edges, names_within}
 use Rattle.jc_table.proofs.reach.led_to.Goals as goal
 

@@ -1,5 +1,5 @@
 use Rattle.std.proofs.Common.{◌+◌, ◌-◌, length}
-use Rattle.jc_table.specs.Queue.{missing}
+use Rattle.jc_table.specs.steps.Queue.{missing}
 use Rattle.jc_table.proofs.Queues.{Searching}
 use Rattle.jc_table.proofs.reach.led_to.Given as goal
 

@@ -1,7 +1,7 @@
 use Rattle.std.proofs.Common.{◌≡◌, ◌-◌, take, None}
 use Rattle.jc_facts.specs.Options.{first_some}
-use Rattle.jc_facts.specs.Search.{supers}
-use Rattle.jc_facts.specs.Loading.{fault_at}
+use Rattle.jc_facts.specs.world.Search.{supers}
+use Rattle.jc_facts.specs.world.Loading.{fault_at}
 use Rattle.jc_table.proofs.search.+search_fault.Given as goal
 
 abbrev pub decreases-search_fault : goal.decreases-search_fault

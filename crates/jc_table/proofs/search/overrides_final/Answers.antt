@@ -1,6 +1,6 @@
 use Rattle.std.proofs.Common.{◌≡◌, ◌<◌, ◌≤◌, length, get_or, sym, ◌∙◌}
-use Rattle.jc_facts.specs.Hierarchy.{chain, of_super}
-use Rattle.jc_table.proofs.Fixed.{overrides-found, overrides-next, overrides-end}
+use Rattle.jc_facts.specs.world.Hierarchy.{chain, of_super}
+use Rattle.jc_table.proofs.FinalKeys.{overrides-found, overrides-next, overrides-end}
 use Rattle.jc_table.proofs.search.overrides_final.Goals as goal
 
 pub returns-then-branch : goal.returns-then-branch

@@ -1,5 +1,5 @@
 use Rattle.std.proofs.Common.{◌∙◌, sym, ap}
-use Rattle.jc_facts.specs.World.{classes}
+use Rattle.jc_facts.specs.world.World.{classes}
 use Rattle.jc_table.proofs.Indexed.{cut}
 use Rattle.jc_table.proofs.index.Index.classes.Goals as goal
 

@@ -1,6 +1,6 @@
 use Rattle.std.proofs.Common.{◌≡◌, ◌<◌, ℕ, List, Some, arith, ◌∙◌, sym, ap, subst}
 use Rattle.jc_facts.specs.declared.class_facts.ClassFacts.{ClassFacts}
-use Rattle.jc_facts.specs.World.{size}
+use Rattle.jc_facts.specs.world.World.{size}
 use Rattle.jc_table.specs.Ids.{names_of, place_of, id_of}
 use Rattle.jc_table.proofs.Indexed.{id_is, size_is}
 use Rattle.jc_table.proofs.Numbers.{id_of-Some}

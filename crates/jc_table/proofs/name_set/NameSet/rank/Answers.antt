@@ -1,7 +1,7 @@
 use Rattle.std.proofs.Common.{rules}
 use Rattle.std.specs.Ordering.{is_lt}
 use Rattle.std.proofs.lemmas.List.Sorted.{IsPartitionPoint-from_clause}
-use Rattle.jc_facts.specs.Orders.{name_order}
+use Rattle.jc_facts.specs.Exactly.{name_order}
 use Rattle.jc_table.proofs.NameSets.{parted}
 use Rattle.jc_table.proofs.name_set.NameSet.rank.Goals as goal
 

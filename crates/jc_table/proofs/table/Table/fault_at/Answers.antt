@@ -1,6 +1,6 @@
 use Rattle.std.proofs.Common.{◌<◌, sym, ◌∙◌, ap, subst, arith}
-use Rattle.jc_facts.specs.World.{World, size}
-use Rattle.jc_facts.specs.Loading.{load_fault}
+use Rattle.jc_facts.specs.world.World.{World, size}
+use Rattle.jc_facts.specs.world.Loading.{load_fault}
 use Rattle.jc_table.specs.Ids.{name_at}
 use Rattle.jc_table.proofs.Turns.{faults-length, faults-at}
 use Rattle.jc_table.proofs.table.Table.fault_at.Goals as goal

@@ -1,6 +1,6 @@
 use Rattle.std.proofs.Common.{◌≡◌, ◌<◌, ◌-◌, ◌+◌, ℕ, suc, arith, sym, ◌∙◌, ap}
 use Rattle.std.proofs.lemmas.Bool.{eqb-true, eqb-false}
-use Rattle.jc_facts.specs.World.{size}
+use Rattle.jc_facts.specs.world.World.{size}
 use Rattle.jc_table.specs.Ids.{name_at}
 use Rattle.jc_table.proofs.Upwards.{is_up, up-chain, up-none_left, up-itself, up-top, up-above}
 use Rattle.jc_table.proofs.table.Table.has_super.Goals as goal

@@ -1,6 +1,6 @@
 use Rattle.std.proofs.Common.{◌≡◌, ◌<◌, ◌-◌}
-use Rattle.jc_facts.specs.World.{size}
-use Rattle.jc_facts.specs.Hierarchy.{in_chain}
+use Rattle.jc_facts.specs.world.World.{size}
+use Rattle.jc_facts.specs.world.Hierarchy.{in_chain}
 use Rattle.jc_table.specs.Ids.{name_at}
 use Rattle.jc_table.proofs.Upwards.{is_up}
 use Rattle.jc_table.proofs.table.Table.has_super.Given as goal

@@ -1,5 +1,5 @@
 use Rattle.std.proofs.Common.{◌≡◌, ◌<◌, ◌-◌, ◌+◌, ℕ, suc, arith, sym, ◌∙◌, ap}
-use Rattle.jc_facts.specs.World.{size}
+use Rattle.jc_facts.specs.world.World.{size}
 use Rattle.jc_table.specs.Ids.{name_at}
 use Rattle.jc_table.proofs.Aboves.{any_up, superinterface-is, any-none_left, any-here, any-top, any-above}
 use Rattle.jc_table.proofs.table.Table.has_superinterface.Goals as goal

@@ -1,5 +1,5 @@
 use Rattle.std.proofs.Common.{◌≡◌, ◌<◌, ℕ, List, get_or, sym, ◌∙◌, ap, subst, arith}
-use Rattle.jc_facts.specs.World.{World, size}
+use Rattle.jc_facts.specs.world.World.{World, size}
 use Rattle.jc_table.specs.Ids.{name_at}
 use Rattle.jc_table.specs.Above.{AreAbove}
 use Rattle.jc_table.proofs.Keeps.{lists-length, list-at}

@@ -1,7 +1,7 @@
 use Rattle.std.proofs.Common.{◌≡◌, ◌<◌, ℕ, get_or, sym, ◌∙◌, ap, subst, arith}
 use Rattle.std.specs.Ordering.{nat_cmp}
 use Rattle.std.specs.BTreeSet.{BTreeSet, contains}
-use Rattle.jc_facts.specs.World.{World, size}
+use Rattle.jc_facts.specs.world.World.{World, size}
 use Rattle.jc_table.specs.Ids.{name_at}
 use Rattle.jc_table.specs.Above.{AreRows, leads_by}
 use Rattle.jc_table.proofs.table.Table.leads_to.Goals as goal

@@ -1,5 +1,5 @@
 use Rattle.std.proofs.Common.{◌<◌, sym, ◌∙◌, ap, subst, arith}
-use Rattle.jc_facts.specs.World.{World, size}
+use Rattle.jc_facts.specs.world.World.{World, size}
 use Rattle.jc_table.specs.Ids.{name_at, superclass_of}
 use Rattle.jc_table.proofs.Keeps.{supers-length, supers-at, super-some}
 use Rattle.jc_table.proofs.table.Table.superclass.Goals as goal

@@ -1,0 +1,6 @@
+pub mod Entering
+pub mod Order
+pub mod Queue
+pub mod Reach
+pub mod Walking
+pub mod Named
