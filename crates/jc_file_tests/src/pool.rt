@@ -1,0 +1,279 @@
+//! Pools byte by byte, by the steps of reading and JVMS 4.4.
+use jc_desc::fault::Reason;
+use jc_desc::tags;
+use jc_pool::pool::{HandleRef, MemberRef, Pool, PoolConstant, PoolError};
+use std::alloc::{AllocError, AllocGlobal, Global};
+use std::process::Abort;
+use std::test::Fail;
+
+/// The class `p/A` without members: its pool ends at 41.
+const PLAIN: [u8; 55] = [
+    0xca, 0xfe, 0xba, 0xbe, 0, 0, 0, 0x34, 0, 5, 7, 0, 2, 1, 0, 3, 0x70, 0x2f, 0x41, 7, 0, 4, 1, 0,
+    16, 0x6a, 0x61, 0x76, 0x61, 0x2f, 0x6c, 0x61, 0x6e, 0x67, 0x2f, 0x4f, 0x62, 0x6a, 0x65, 0x63,
+    0x74, 0, 0x21, 0, 1, 0, 3, 0, 0, 0, 0, 0, 0, 0, 0,
+];
+
+/// Entries 1 to 17, behind a count that is still to be written.
+const ENTRIES: &[u8] =
+    b"\x01\x00\x01A\x07\x00\x01\x01\x00\x01m\x01\x00\x03()V\x0c\x00\x03\x00\x04\x01\x00\x01I\x0c\x00\x03\x00\x06\x01\x00\x06<init>\x0c\x00\x08\x00\x04\x01\x00\x08<clinit>\x0c\x00\x0a\x00\x04\x01\x00\x03()I\x0c\x00\x08\x00\x0c\x0a\x00\x02\x00\x05\x0a\x00\x02\x00\x09\x0b\x00\x02\x00\x05\x09\x00\x02\x00\x07";
+
+/// Where the first fault is, and which.
+type Fault = Option<(u32, Reason)>;
+
+fn fault_of(alloc: Global, bytes: &[u8]) -> Result<Fault, AllocError> {
+    if bytes.len() > 4_194_304 {
+        return Ok(None);
+    }
+    match Pool::read(alloc, bytes) {
+        Ok(_) => Ok(None),
+        Err(PoolError::Malformed(fault)) => Ok(Some((fault.offset, fault.reason))),
+        Err(PoolError::Memory) => Err(AllocError),
+    }
+}
+
+const CUTS: &[u32] = &[0, 3, 5, 7, 9, 10, 12, 15, 18, 24, 40];
+
+#[test]
+fn plain_class_cut_short(rt: HostRuntime) -> Result<(), Fail> {
+    for len in CUTS {
+        let (front, _) = PLAIN.split_at((*len as usize).min(PLAIN.len()));
+        let fault = fault_of(rt.alloc(), front)?;
+        assert_eq!(rt; fault, Some((*len, Reason::Short)), "the first {len}");
+    }
+    assert_eq!(rt; fault_of(rt.alloc(), &PLAIN[..41])?, None);
+    Ok(())
+}
+
+/// The plain class with other bytes from a place on.
+fn changed(alloc: Global, place: usize, new: &[u8]) -> Result<Vec<u8>, AllocError> {
+    let mut bytes = Vec::new(alloc);
+    let (front, rest) = PLAIN.split_at(place.min(PLAIN.len()));
+    bytes.extend_from_slice(front)?;
+    bytes.extend_from_slice(new)?;
+    let (_, behind) = rest.split_at(new.len().min(rest.len()));
+    bytes.extend_from_slice(behind)?;
+    Ok(bytes)
+}
+
+/// A place, what stands there, and the first fault.
+type Change = (usize, &'static [u8], Fault);
+
+fn check(rt: &(impl Abort + AllocGlobal), changes: &[Change]) -> Result<(), AllocError> {
+    for (place, new, want) in changes {
+        let bytes = changed(rt.alloc(), *place, new)?;
+        assert_eq!(rt; fault_of(rt.alloc(), &bytes)?, *want, "{new:?} at {place}");
+    }
+    Ok(())
+}
+
+const CHANGES: &[Change] = &[
+    (0, b"\0", Some((0, Reason::BadMagic))),
+    (7, b"\x3e", Some((4, Reason::BadVersion))),
+    (7, b"\x2c", Some((4, Reason::BadVersion))),
+    (7, b"\x2d", None),
+    (19, b"\x02", Some((19, Reason::BadTag))),
+    (16, b"\x80", Some((13, Reason::BadUtf8))),
+    (16, b"\0", Some((13, Reason::BadUtf8))),
+    (12, b"\x01", Some((10, Reason::BadIndex))),
+    (12, b"\0", Some((10, Reason::BadIndex))),
+    (21, b"\x05", Some((19, Reason::BadIndex))),
+    (18, b"\x2e", Some((10, Reason::BadName))),
+    (16, b"\x5b", Some((10, Reason::BadName))),
+    (10, b"\x08", None),
+];
+
+/// Versions: the minor and the major.
+const VERSIONS: &[Change] = &[
+    (4, b"\0\x01\0\x37", None),
+    (4, b"\0\x01\0\x38", Some((4, Reason::BadVersion))),
+    (4, b"\0\0\0\x3d", None),
+    (4, b"\xff\xff\0\x3d", None),
+];
+
+#[test]
+fn plain_class_with_one_byte_changed(rt: HostRuntime) -> Result<(), Fail> {
+    check(&rt, CHANGES)?;
+    Ok(())
+}
+
+#[test]
+fn minor_is_strict_from_major_56_on(rt: HostRuntime) -> Result<(), Fail> {
+    check(&rt, VERSIONS)?;
+    Ok(())
+}
+
+fn with_entries(alloc: Global, count: u8, entries: &[u8]) -> Result<Vec<u8>, AllocError> {
+    let mut bytes = Vec::new(alloc);
+    bytes.extend_from_slice(b"\xca\xfe\xba\xbe\x00\x00\x00\x34\x00")?;
+    bytes.push(count)?;
+    bytes.extend_from_slice(ENTRIES)?;
+    bytes.extend_from_slice(entries)?;
+    Ok(bytes)
+}
+
+/// A count, entries from 18 on at offset 102, and the first fault.
+const ENTRY_ROWS: &[(u8, &[u8], Fault)] = &[
+    (19, b"\x08\x00\x02", Some((102, Reason::BadIndex))),
+    (19, b"\x08\x00\x12", Some((102, Reason::BadIndex))),
+    (19, b"\x08\x00\x01", None),
+    (19, b"\x09\x00\x01\x00\x07", Some((102, Reason::BadIndex))),
+    (19, b"\x0a\x00\x02\x00\x02", Some((102, Reason::BadIndex))),
+    (
+        19,
+        b"\x09\x00\x02\x00\x05",
+        Some((102, Reason::BadDescriptor)),
+    ),
+    (
+        19,
+        b"\x0a\x00\x02\x00\x07",
+        Some((102, Reason::BadDescriptor)),
+    ),
+    (19, b"\x0a\x00\x02\x00\x0b", Some((102, Reason::BadName))),
+    (19, b"\x0b\x00\x02\x00\x0b", Some((102, Reason::BadName))),
+    (19, b"\x0b\x00\x02\x00\x09", Some((102, Reason::BadName))),
+    (
+        19,
+        b"\x0a\x00\x02\x00\x0d",
+        Some((102, Reason::BadDescriptor)),
+    ),
+    (19, b"\x0c\x00\x03\x00\x02", Some((102, Reason::BadIndex))),
+    (
+        19,
+        b"\x0c\x00\x03\x00\x01",
+        Some((102, Reason::BadDescriptor)),
+    ),
+    (
+        20,
+        b"\x01\x00\x03a/b\x0c\x00\x12\x00\x06",
+        Some((108, Reason::BadName)),
+    ),
+    (19, b"\x0f\x00\x00\x0e", Some((102, Reason::BadIndex))),
+    (19, b"\x0f\x0a\x00\x0e", Some((102, Reason::BadIndex))),
+    (19, b"\x0f\x01\x00\x0e", Some((102, Reason::BadIndex))),
+    (19, b"\x0f\x05\x00\x10", Some((102, Reason::BadIndex))),
+    (19, b"\x0f\x09\x00\x0e", Some((102, Reason::BadIndex))),
+    (19, b"\x0f\x08\x00\x0e", Some((102, Reason::BadName))),
+    (19, b"\x0f\x05\x00\x0f", Some((102, Reason::BadName))),
+    (19, b"\x0f\x06\x00\x10", None),
+    (19, b"\x0f\x08\x00\x0f", None),
+    (19, b"\x0f\x04\x00\x11", None),
+    (19, b"\x10\x00\x06", Some((102, Reason::BadDescriptor))),
+    (19, b"\x10\x00\x02", Some((102, Reason::BadIndex))),
+    (
+        19,
+        b"\x11\x00\x00\x00\x05",
+        Some((102, Reason::BadDescriptor)),
+    ),
+    (
+        19,
+        b"\x12\x00\x00\x00\x07",
+        Some((102, Reason::BadDescriptor)),
+    ),
+    (19, b"\x12\x00\x00\x00\x01", Some((102, Reason::BadIndex))),
+    (19, b"\x13\x00\x02", Some((102, Reason::BadIndex))),
+    (19, b"\x14\x00\x01", None),
+    (
+        19,
+        b"\x05\x00\x00\x00\x00\x00\x00\x00\x01",
+        Some((102, Reason::BadIndex)),
+    ),
+    (
+        19,
+        b"\x05\x00\x00\x00\x00\x00\x00\x00",
+        Some((110, Reason::Short)),
+    ),
+    (20, b"\x06\x00\x00\x00\x00\x00\x00\x00\x01", None),
+    (20, b"\x03\x00\x00\x00\x01", Some((107, Reason::Short))),
+    (19, b"\x02\x00\x00\x00\x01", Some((102, Reason::BadTag))),
+    (19, b"\x01\x00\x02\xc3\x28", Some((102, Reason::BadUtf8))),
+    (
+        20,
+        b"\x0c\x00\x03\x00\x01\x08\x00\x02",
+        Some((107, Reason::BadIndex)),
+    ),
+];
+
+#[test]
+fn entry_18_and_what_it_names(rt: HostRuntime) -> Result<(), Fail> {
+    for (count, entries, want) in ENTRY_ROWS {
+        let bytes = with_entries(rt.alloc(), *count, entries)?;
+        assert_eq!(rt; fault_of(rt.alloc(), &bytes)?, *want, "{count} {entries:?}");
+    }
+    Ok(())
+}
+
+#[test]
+fn plain_class_answers(rt: HostRuntime) -> Result<(), Fail> {
+    let (pool, offset) = Pool::read(rt.alloc(), &PLAIN)?;
+    assert_eq!(rt; offset, 41);
+    assert_eq!(rt; pool.major(), 52);
+    assert_eq!(rt; pool.class(1), Some(b"p/A".as_slice()));
+    assert_eq!(rt; pool.utf8(1), None);
+    assert_eq!(rt; pool.utf8(2), Some(b"p/A".as_slice()));
+    assert_eq!(rt; pool.class(2), None);
+    assert_eq!(rt; pool.tag(4), Some(1));
+    assert_eq!(rt; pool.tag(0), None);
+    assert_eq!(rt; pool.tag(5), None);
+    Ok(())
+}
+
+/// The entries of `KIND_ENTRIES`: an index, its tag, its bootstrap method and its constant.
+type Kind = (u16, Option<u8>, Option<u16>, Option<PoolConstant<'static>>);
+
+const KINDS: &[Kind] = &[
+    (1, Some(1), None, None),
+    (18, Some(5), None, Some(PoolConstant::Long(0x1_0000_0002))),
+    (19, None, None, None),
+    (20, Some(15), None, None),
+    (21, Some(18), Some(7), None),
+    (22, Some(3), None, Some(PoolConstant::Int(64))),
+    (23, Some(8), None, Some(PoolConstant::Text(b"m"))),
+    (24, Some(4), None, Some(PoolConstant::Float(0x3f80_0000))),
+    (25, None, None, None),
+];
+
+const KIND_ENTRIES: &[u8] =
+    b"\x05\x00\x00\x00\x01\x00\x00\x00\x02\x0f\x08\x00\x0f\x12\x00\x07\x00\x05\x03\x00\x00\x00\x40\x08\x00\x03\x04\x3f\x80\x00\x00";
+
+#[test]
+fn entries_answer_by_their_kind(rt: HostRuntime) -> Result<(), Fail> {
+    let bytes = with_entries(rt.alloc(), 25, KIND_ENTRIES)?;
+    assert!(rt; bytes.len() < 200);
+    let (pool, _) = Pool::read(rt.alloc(), &bytes)?;
+    for (index, tag, dynamic, constant) in KINDS {
+        assert_eq!(rt; pool.tag(*index), *tag, "tag of {index}");
+        assert_eq!(rt; pool.dynamic(*index), *dynamic, "bootstrap of {index}");
+        assert_eq!(rt; pool.constant(*index), *constant, "constant of {index}");
+    }
+    Ok(())
+}
+
+#[test]
+fn members_and_handles(rt: HostRuntime) -> Result<(), Fail> {
+    let bytes = with_entries(rt.alloc(), 19, b"\x0f\x08\x00\x0f")?;
+    assert!(rt; bytes.len() < 200);
+    let (pool, _) = Pool::read(rt.alloc(), &bytes)?;
+    let method = MemberRef {
+        tag: tags::INTERFACE_METHOD_REF,
+        class: b"A",
+        name: b"m",
+        descriptor: b"()V",
+    };
+    let constructor = MemberRef {
+        tag: tags::METHOD_REF,
+        class: b"A",
+        name: b"<init>",
+        descriptor: b"()V",
+    };
+    assert_eq!(rt; pool.member_ref(16), Some(method));
+    assert_eq!(rt; pool.member_ref(18), None);
+    assert_eq!(rt;
+        pool.handle(18),
+        Some(HandleRef {
+            kind: 8,
+            member: constructor
+        })
+    );
+    assert_eq!(rt; pool.handle(16), None);
+    Ok(())
+}

@@ -1,0 +1,182 @@
+//! Access, assignment and the check on protected members on a small side.
+use crate::sides::{INTERFACE, OBJECT, PLAIN, Row, classes, table};
+use jc_access::access::{Seat, accessible, class_access};
+use jc_access::assigning::assignable;
+use jc_access::protection::protected_ok;
+use jc_base::name::Name;
+use jc_table::ids::Found;
+use jc_table::table::Table;
+use std::process::Abort;
+use std::test::Fail;
+
+const PUBLIC: u16 = 0x0001;
+
+const PRIVATE: u16 = 0x0002;
+
+const PROTECTED: u16 = 0x0004;
+
+const STATIC: u16 = 0x0008;
+
+const ROWS: &[Row] = &[
+    Row {
+        name: b"p/Base",
+        ..PLAIN
+    },
+    Row {
+        name: b"p/Near",
+        ..PLAIN
+    },
+    Row {
+        name: b"p/Hidden",
+        flags: 0x0020,
+        ..PLAIN
+    },
+    Row {
+        name: b"p/Face",
+        flags: INTERFACE,
+        ..PLAIN
+    },
+    Row {
+        name: b"q/Child",
+        superclass: b"p/Base",
+        nest_members: &[b"q/Child$In"],
+        ..PLAIN
+    },
+    Row {
+        name: b"q/Child$In",
+        nest_host: b"q/Child",
+        ..PLAIN
+    },
+    // It says that it is of the nest, but isn't named back.
+    Row {
+        name: b"q/Child$Out",
+        nest_host: b"q/Child",
+        ..PLAIN
+    },
+    Row {
+        name: b"q/Other",
+        superclass: b"p/Base",
+        ..PLAIN
+    },
+];
+
+// Whether a member of the owner with these flags, named through the class, is accessible from the
+// class itself, and from clients that have it as their seat.
+fn access(
+    rt: &impl Abort,
+    table: &Table,
+    from: &[u8],
+    owner: &[u8],
+    flags: u16,
+    named: &[u8],
+) -> (bool, bool) {
+    let class = table.get(from).expect(rt, "a class of the table");
+    let owner = table.get(owner).expect(rt, "a class of the table");
+    let named = table.get(named).expect(rt, "a class of the table");
+    let inside = accessible(table, Seat::Inside(class), Found { owner, flags }, named);
+    let client = accessible(table, Seat::Client(class), Found { owner, flags }, named);
+    (inside, client)
+}
+
+/// The class of the seat, the owner and flags of a member, the class through which it is named, and whether it is accessible from
+/// the class itself and from clients that have it as their seat.
+type SeatRow = (&'static [u8], &'static [u8], u16, &'static [u8], bool, bool);
+
+const SEATS: &[SeatRow] = &[
+    (b"p/Near", b"p/Base", 0, b"p/Base", true, false),
+    (b"q/Child", b"p/Base", 0, b"q/Child", false, false),
+    (b"q/Other", b"q/Child", PUBLIC, b"q/Child", true, true),
+    (b"p/Near", b"p/Base", PROTECTED, b"p/Base", true, false),
+    (b"q/Child", b"p/Base", PROTECTED, b"q/Child", true, true),
+    (b"q/Child", b"p/Base", PROTECTED, b"p/Base", true, true),
+    (b"q/Child", b"p/Base", PROTECTED, b"q/Other", false, false),
+    (
+        b"q/Child",
+        b"p/Base",
+        PROTECTED | STATIC,
+        b"q/Other",
+        true,
+        true,
+    ),
+    (b"q/Child$In", b"q/Child", PRIVATE, b"q/Child", true, false),
+    (
+        b"q/Child$Out",
+        b"q/Child",
+        PRIVATE,
+        b"q/Child",
+        false,
+        false,
+    ),
+    (b"q/Other", b"q/Child", PRIVATE, b"q/Child", false, false),
+];
+
+#[test]
+fn members_by_seat(rt: HostRuntime) -> Result<(), Fail> {
+    let alloc = rt.alloc();
+    let table = table(&rt, alloc, classes(alloc, ROWS)?)?;
+    for (from, owner, flags, named, inside, client) in SEATS {
+        let answers = access(&rt, &table, from, owner, *flags, named);
+        assert_eq!(rt; answers, (*inside, *client));
+    }
+    Ok(())
+}
+
+#[test]
+fn classes_by_seat(rt: HostRuntime) -> Result<(), Fail> {
+    let alloc = rt.alloc();
+    let table = table(&rt, alloc, classes(alloc, ROWS)?)?;
+    let near = table.get(b"p/Near").expect(&rt, "a class of the table");
+    let child = table.get(b"q/Child").expect(&rt, "a class of the table");
+    let hidden = table.get(b"p/Hidden").expect(&rt, "a class of the table");
+    assert!(rt; class_access(&table, Seat::Inside(near), hidden));
+    assert!(rt; !class_access(&table, Seat::Inside(child), hidden));
+    assert!(rt; !class_access(&table, Seat::Client(near), hidden));
+    assert!(rt; class_access(&table, Seat::Client(near), child));
+    Ok(())
+}
+
+const TYPES: &[(&[u8], &[u8], bool)] = &[
+    (b"q/Child", b"p/Base", true),
+    (b"p/Base", b"q/Child", false),
+    (b"p/Base", b"p/Face", true),
+    (b"r/None", b"r/None", true),
+    (b"r/None", b"p/Base", false),
+    (b"[I", OBJECT, true),
+    (b"[I", b"java/lang/Cloneable", true),
+    (b"[I", b"java/io/Serializable", true),
+    (b"[I", b"java/lang/Comparable", false),
+    (b"[I", b"p/Face", false),
+    (b"[I", b"[I", true),
+    (b"[I", b"[J", false),
+    (b"[[I", b"[Ljava/lang/Object;", true),
+    (b"[Lq/Child;", b"[Lp/Base;", true),
+    (OBJECT, b"[I", false),
+    (b"[", OBJECT, false),
+];
+
+#[test]
+fn assignment_of_types(rt: HostRuntime) -> Result<(), Fail> {
+    let alloc = rt.alloc();
+    let table = table(&rt, alloc, classes(alloc, ROWS)?)?;
+    for (from, to, expected) in TYPES {
+        let one = Name::from_bytes(alloc, from)?;
+        let other = Name::from_bytes(alloc, to)?;
+        assert_eq!(rt; assignable(&table, &one, &other), *expected);
+    }
+    Ok(())
+}
+
+#[test]
+fn receivers_of_protected_members(rt: HostRuntime) -> Result<(), Fail> {
+    let alloc = rt.alloc();
+    let table = table(&rt, alloc, classes(alloc, ROWS)?)?;
+    let child = table.get(b"q/Child").expect(&rt, "a class of the table");
+    let base = table.get(b"p/Base").expect(&rt, "a class of the table");
+    let own = Name::from_bytes(alloc, b"q/Child")?;
+    let above = Name::from_bytes(alloc, b"p/Base")?;
+    let flags = PROTECTED;
+    assert!(rt; protected_ok(&table, child, base, Found { owner: base, flags }, &own));
+    assert!(rt; !protected_ok(&table, child, base, Found { owner: base, flags }, &above));
+    assert!(rt; protected_ok(&table, base, base, Found { owner: base, flags }, &above));
+    Ok(())
+}

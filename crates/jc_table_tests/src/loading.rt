@@ -1,0 +1,273 @@
+//! Load faults of small sides, by the pass over all classes and by the plain search.
+use crate::sides::{INTERFACE, PLAIN, Row, class, table};
+use jc_base::name::Name;
+use jc_facts::class_facts::ClassFacts;
+use jc_facts::key::Key;
+use jc_facts::link_error::LinkError;
+use jc_load::extending::extendable;
+use jc_load::finals::finals;
+use jc_load::loading::{load_error, search_fault};
+use jc_table::table::Table;
+use std::alloc::{AllocError, Global};
+use std::process::Abort;
+use std::test::Fail;
+
+const FINAL: u16 = 0x0031;
+
+// A class and its load fault.
+const ROWS: &[(Row, Option<LinkError>)] = &[
+    (PLAIN, None),
+    // What isn't there, and what is above it.
+    (
+        Row {
+            name: b"p/Orphan",
+            superclass: b"q/None",
+            ..PLAIN
+        },
+        Some(LinkError::NoClassDefFoundError),
+    ),
+    (
+        Row {
+            name: b"p/Grandchild",
+            superclass: b"p/Orphan",
+            ..PLAIN
+        },
+        Some(LinkError::NoClassDefFoundError),
+    ),
+    // Cycles; the superclass comes before the interfaces.
+    (
+        Row {
+            name: b"p/Left",
+            superclass: b"p/Right",
+            interfaces: &[b"q/None"],
+            ..PLAIN
+        },
+        Some(LinkError::ClassCircularityError),
+    ),
+    (
+        Row {
+            name: b"p/Right",
+            superclass: b"p/Left",
+            ..PLAIN
+        },
+        Some(LinkError::ClassCircularityError),
+    ),
+    (
+        Row {
+            name: b"p/Self",
+            superclass: b"p/Self",
+            ..PLAIN
+        },
+        Some(LinkError::ClassCircularityError),
+    ),
+    (
+        Row {
+            name: b"p/Above",
+            superclass: b"p/Left",
+            ..PLAIN
+        },
+        Some(LinkError::ClassCircularityError),
+    ),
+    // Kinds, and access before kinds.
+    (
+        Row {
+            name: b"p/Final",
+            flags: FINAL,
+            ..PLAIN
+        },
+        None,
+    ),
+    (
+        Row {
+            name: b"p/OfFinal",
+            superclass: b"p/Final",
+            ..PLAIN
+        },
+        Some(LinkError::IncompatibleClassChangeError),
+    ),
+    (
+        Row {
+            name: b"q/Hidden",
+            flags: 0x0030,
+            ..PLAIN
+        },
+        None,
+    ),
+    (
+        Row {
+            name: b"p/OfHidden",
+            superclass: b"q/Hidden",
+            ..PLAIN
+        },
+        Some(LinkError::IllegalAccessError),
+    ),
+    (
+        Row {
+            name: b"p/Interface",
+            flags: INTERFACE,
+            ..PLAIN
+        },
+        None,
+    ),
+    (
+        Row {
+            name: b"p/Implements",
+            interfaces: &[b"p/Interface"],
+            ..PLAIN
+        },
+        None,
+    ),
+    (
+        Row {
+            name: b"p/Extends",
+            superclass: b"p/Interface",
+            ..PLAIN
+        },
+        Some(LinkError::IncompatibleClassChangeError),
+    ),
+    (
+        Row {
+            name: b"p/NoInterface",
+            interfaces: &[b"p/Plain"],
+            ..PLAIN
+        },
+        Some(LinkError::IncompatibleClassChangeError),
+    ),
+    // Seals.
+    (
+        Row {
+            name: b"p/Sealed",
+            permits: Some(&[b"p/Let", b"q/Private"]),
+            ..PLAIN
+        },
+        None,
+    ),
+    (
+        Row {
+            name: b"p/Let",
+            superclass: b"p/Sealed",
+            ..PLAIN
+        },
+        None,
+    ),
+    (
+        Row {
+            name: b"p/Unlet",
+            superclass: b"p/Sealed",
+            ..PLAIN
+        },
+        Some(LinkError::IncompatibleClassChangeError),
+    ),
+    (
+        Row {
+            name: b"q/Private",
+            flags: 0x0020,
+            superclass: b"p/Sealed",
+            ..PLAIN
+        },
+        Some(LinkError::IncompatibleClassChangeError),
+    ),
+    // Final methods: a package-private one is overridden in its package alone.
+    (
+        Row {
+            name: b"p/Fixed",
+            methods: &[(b"m", b"()V", 0x0011)],
+            ..PLAIN
+        },
+        None,
+    ),
+    (
+        Row {
+            name: b"p/Overrides",
+            superclass: b"p/Fixed",
+            methods: &[(b"m", b"()V", 0x0001)],
+            ..PLAIN
+        },
+        Some(LinkError::IncompatibleClassChangeError),
+    ),
+    (
+        Row {
+            name: b"p/Hides",
+            superclass: b"p/Fixed",
+            methods: &[(b"m", b"()V", 0x0002)],
+            ..PLAIN
+        },
+        None,
+    ),
+    (
+        Row {
+            name: b"p/Near",
+            methods: &[(b"m", b"()V", 0x0010)],
+            ..PLAIN
+        },
+        None,
+    ),
+    (
+        Row {
+            name: b"q/Far",
+            superclass: b"p/Near",
+            methods: &[(b"m", b"()V", 0x0001)],
+            ..PLAIN
+        },
+        None,
+    ),
+    (
+        Row {
+            name: b"p/Nearer",
+            superclass: b"q/Far",
+            methods: &[(b"m", b"()V", 0x0001)],
+            ..PLAIN
+        },
+        Some(LinkError::IncompatibleClassChangeError),
+    ),
+];
+
+fn classes(alloc: Global) -> Result<Vec<ClassFacts>, AllocError> {
+    let mut classes = Vec::new(alloc);
+    for (row, _) in ROWS {
+        classes.push(class(alloc, row)?)?;
+    }
+    Ok(classes)
+}
+
+#[test]
+fn load_faults_of_small_sides(rt: HostRuntime) -> Result<(), Fail> {
+    let alloc = rt.alloc();
+    let table = table(&rt, alloc, classes(alloc)?)?;
+    for (row, fault) in ROWS {
+        let class = table.get(row.name).expect(&rt, "a class of the table");
+        assert_eq!(rt; load_error(&table, class), *fault);
+        assert_eq!(rt; search_fault(alloc, &table, class)?, *fault);
+    }
+    Ok(())
+}
+
+// A class, whether `p/Let` may extend it, and whether `m()V` is final in it.
+const OPEN: &[(&[u8], bool, bool)] = &[
+    (b"p/Plain", true, false),
+    (b"p/Final", false, false),
+    (b"q/Private", false, false),
+    (b"p/Sealed", true, false),
+    (b"p/Hides", true, true),
+    (b"q/Far", true, false),
+];
+
+#[test]
+fn who_may_extend_and_override(rt: HostRuntime) -> Result<(), Fail> {
+    let alloc = rt.alloc();
+    let table = table(&rt, alloc, classes(alloc)?)?;
+    let client = Name::from_bytes(alloc, b"p/Let")?;
+    let key = Key {
+        name: Name::from_bytes(alloc, b"m")?,
+        descriptor: Name::from_bytes(alloc, b"()V")?,
+    };
+    for (name, extends, is_final) in OPEN {
+        let class = table.get(name).expect(&rt, "a class of the table");
+        assert_eq!(rt; extendable(&table, class, &client), *extends);
+        assert_eq!(rt; finals(&table, class, &key), *is_final);
+    }
+    let other = Name::from_bytes(alloc, b"p/Other")?;
+    let sealed = table.get(b"p/Sealed").expect(&rt, "a class of the table");
+    assert!(rt; !extendable(&table, sealed, &other));
+    Ok(())
+}

@@ -1,0 +1,210 @@
+//! Lookups of one method from the classes of a small side.
+use crate::sides::{self, INTERFACE, PLAIN, class, table};
+use jc_base::name::Name;
+use jc_facts::class_facts::ClassFacts;
+use jc_facts::flags::is_interface;
+use jc_facts::key::Key;
+use jc_method::find::{find_in_chain, find_interface_method, find_method, inherits_instance};
+use jc_method::keys::method_keys;
+use jc_table::ids::{ClassId, Found};
+use jc_table::table::Table;
+use std::alloc::{AllocError, Global};
+use std::process::Abort;
+use std::test::Fail;
+
+// A class; which class's method `m()V` the chain has, and which one a reference to the class finds;
+// whether it inherits the method; and how many keys it has.
+#[derive(Clone, Copy)]
+struct Row {
+    class: sides::Row,
+    chain: Option<&'static [u8]>,
+    found: Option<&'static [u8]>,
+    inherits: bool,
+    keys: usize,
+}
+
+const NONE: Row = Row {
+    class: PLAIN,
+    chain: None,
+    found: None,
+    inherits: false,
+    keys: 1,
+};
+
+const ROWS: &[Row] = &[
+    NONE,
+    Row {
+        class: sides::Row {
+            name: b"p/Abstract",
+            flags: INTERFACE,
+            methods: &[(b"m", b"()V", 0x0401)],
+            ..PLAIN
+        },
+        chain: Some(b"p/Abstract"),
+        found: Some(b"p/Abstract"),
+        inherits: true,
+        keys: 2,
+        ..NONE
+    },
+    Row {
+        class: sides::Row {
+            name: b"p/Default",
+            flags: INTERFACE,
+            interfaces: &[b"p/Abstract"],
+            methods: &[(b"m", b"()V", 0x0001)],
+            ..PLAIN
+        },
+        chain: Some(b"p/Default"),
+        found: Some(b"p/Default"),
+        inherits: true,
+        keys: 2,
+        ..NONE
+    },
+    Row {
+        class: sides::Row {
+            name: b"p/Private",
+            flags: INTERFACE,
+            methods: &[(b"m", b"()V", 0x0002)],
+            ..PLAIN
+        },
+        chain: Some(b"p/Private"),
+        found: Some(b"p/Private"),
+        keys: 2,
+        ..NONE
+    },
+    Row {
+        class: sides::Row {
+            name: b"p/Empty",
+            flags: INTERFACE,
+            interfaces: &[b"p/Default", b"p/Private"],
+            ..PLAIN
+        },
+        found: Some(b"p/Default"),
+        inherits: true,
+        keys: 2,
+        ..NONE
+    },
+    // The maximally specific method, and not the abstract one that is named first.
+    Row {
+        class: sides::Row {
+            name: b"p/Both",
+            interfaces: &[b"p/Abstract", b"p/Default"],
+            ..PLAIN
+        },
+        found: Some(b"p/Default"),
+        inherits: true,
+        keys: 2,
+        ..NONE
+    },
+    Row {
+        class: sides::Row {
+            name: b"p/Below",
+            superclass: b"p/Both",
+            interfaces: &[b"p/Private"],
+            ..PLAIN
+        },
+        found: Some(b"p/Default"),
+        inherits: true,
+        keys: 2,
+        ..NONE
+    },
+    // A private method of an interface is no one's, a private static one of a class is found.
+    Row {
+        class: sides::Row {
+            name: b"p/None",
+            interfaces: &[b"p/Private"],
+            ..PLAIN
+        },
+        keys: 2,
+        ..NONE
+    },
+    Row {
+        class: sides::Row {
+            name: b"p/Own",
+            superclass: b"p/Below",
+            methods: &[(b"m", b"()V", 0x000a)],
+            ..PLAIN
+        },
+        chain: Some(b"p/Own"),
+        found: Some(b"p/Own"),
+        inherits: true,
+        keys: 2,
+        ..NONE
+    },
+    Row {
+        class: sides::Row {
+            name: b"p/Last",
+            superclass: b"p/Own",
+            ..PLAIN
+        },
+        chain: Some(b"p/Own"),
+        found: Some(b"p/Own"),
+        inherits: true,
+        keys: 2,
+        ..NONE
+    },
+];
+
+fn classes(alloc: Global) -> Result<Vec<ClassFacts>, AllocError> {
+    let mut classes = Vec::new(alloc);
+    for row in ROWS {
+        classes.push(class(alloc, &row.class)?)?;
+    }
+    Ok(classes)
+}
+
+fn key(alloc: Global, name: &[u8]) -> Result<Key, AllocError> {
+    Ok(Key {
+        name: Name::from_bytes(alloc, name)?,
+        descriptor: Name::from_bytes(alloc, b"()V")?,
+    })
+}
+
+// The number of the class whose method is found.
+fn owner(found: Option<Found>) -> Option<ClassId> {
+    match found {
+        Some(found) => Some(found.owner),
+        None => None,
+    }
+}
+
+// The number of the class of this name, where there is a name.
+fn number(table: &Table, name: Option<&[u8]>) -> Option<ClassId> {
+    match name {
+        Some(name) => table.get(name),
+        None => None,
+    }
+}
+
+// Whether all calls answer for the class of the row as it says.
+fn agrees(alloc: Global, table: &Table, row: &Row, key: &Key) -> Result<bool, AllocError> {
+    let Some(class) = table.get(row.class.name) else {
+        return Ok(false);
+    };
+    let None = table.fault_at(class) else {
+        return Ok(false);
+    };
+    let found = if is_interface(table.facts(class).flags) {
+        find_interface_method(table, class, key)
+    } else {
+        find_method(table, class, key)
+    };
+    let keys = method_keys(alloc, table, class)?;
+    Ok(
+        owner(find_in_chain(table, class, key)) == number(table, row.chain)
+            && owner(found) == number(table, row.found)
+            && inherits_instance(table, class, key) == row.inherits
+            && keys.len() == row.keys,
+    )
+}
+
+#[test]
+fn lookups_of_a_method(rt: HostRuntime) -> Result<(), Fail> {
+    let alloc = rt.alloc();
+    let table = table(&rt, alloc, classes(alloc)?)?;
+    let key = key(alloc, b"m")?;
+    for row in ROWS {
+        assert!(rt; agrees(alloc, &table, row, &key)?);
+    }
+    Ok(())
+}
