@@ -1,0 +1,67 @@
+-- What a rule on a class alone finds of all classes.
+use Rattle.std.proofs.Common.{◌≡◌, ◌<◌, ◌≤◌, ◌+◌, ◌++◌, ◌∷◌, [], ℕ, Bool, true, false, List, Option, sym, ◌∙◌, ap, subst, Some, take, nat_lt}
+use Rattle.std.specs.List.{filter_map, cons_option}
+use Rattle.std.specs.declared.cmp.Ordering.TheVariants.{Less}
+use Rattle.std.proofs.lemmas.List.{take_more, take_all}
+use Rattle.std.proofs.lemmas.List.Elements.{filter_map-append}
+use Rattle.jc_facts.specs.declared.finding.Finding.{Finding}
+use Rattle.jc_facts.specs.Names.{Bytes}
+use Rattle.jc_facts.specs.Exactly.{Before}
+use Rattle.jc_facts.specs.Options.{some_where}
+use Rattle.jc_facts.specs.world.World.{World, size}
+use Rattle.jc_facts.specs.rule.Orders.{finding_order}
+use Rattle.jc_facts.specs.Exactly.{HasExactly}
+use Rattle.jc_facts.proofs.Exact.{Gives}
+use Rattle.jc_facts.proofs.InOrder.{exact_given}
+use Rattle.jc_table.specs.Ids.{names, name_at}
+use Rattle.jc_table.specs.Sides.{IsSide}
+use Rattle.jc_table.proofs.Numbers.{names-rise, names-length}
+use Rattle.jc_sides.specs.Rules.{on_class, class_finding, IsFinding, IsOnClass}
+use Rattle.jc_sides.specs.SidesOf.{SidesOf, AreSides}
+use Rattle.jc_sides.proofs.Subjects.{ordered_as, subject_class_before, of_rule, to_rule, class_in}
+
+-- ---- loops over the numbers of a side's classes
+
+-- one more number
+pub step : {F : Type 0} (h : Bytes → Option F) (W : World) (n : ℕ) (fs gs : List F) (o : Option F) → n < size W → fs ≡ filter_map h (take n (names W)) → o ≡ h (name_at W n) → gs ≡ fs ++ cons_option o []
+    → gs ≡ filter_map h (take (n + 1) (names W))
+step h W n fs gs o l e k g =
+    g ∙ ap (λ fs. fs ++ cons_option o []) e ∙ ap (λ p. filter_map h (take n (names W)) ++ cons_option p []) k
+    ∙ sym (filter_map-append h (take n (names W)) (name_at W n ∷ []))
+    ∙ ap (filter_map h) (sym (take_more (names W) n [] (subst (λ m. n < m) (sym (names-length W)) l)))
+
+-- all numbers
+pub whole : {F : Type 0} (h : Bytes → Option F) (W : World) (n : ℕ) (fs : List F) → size W ≤ n → fs ≡ filter_map h (take n (names W)) → fs ≡ filter_map h (names W)
+whole h W n fs l e = e ∙ ap (filter_map h) (take_all n (names W) (subst (λ m. m ≤ n) (sym (names-length W)) l))
+
+-- the number that a side gives
+pub number_is : (b : Bool) (n k : ℕ) → some_where b n ≡ Some k → k ≡ n
+number_is true n k e = let q : n ≡ k = cc in sym q
+number_is false n k e = absurd (cc)
+
+-- ---- a rule on a class alone
+
+module _ (r : ℕ) (i : IsOnClass r) (s : SidesOf) where
+  class_exact : IsSide s.old → HasExactly finding_order (IsFinding r s) (filter_map (class_finding r s) (names s.old))
+  class_exact side = exact_given finding_order (class_finding r s) later (IsFinding r s) (names s.old) (names-rise s.old side.differ) (λ x f c e. (to_rule s r x f e).1) complete
+    where
+      later : (x y : Bytes) (f g : Finding) → Before x y → class_finding r s x ≡ Some f → class_finding r s y ≡ Some g → finding_order f g ≡ Less
+      later x y f g b e k = ordered_as (on_class r x) (on_class r y) f g (to_rule s r x f e).0 (to_rule s r y g k).0 (subject_class_before r x y b)
+
+      complete : (f : Finding) → IsFinding r s f → Gives (class_finding r s) (names s.old) f
+      complete f p = record { place = f.«class»; is_in = class_in s r f p; gives = of_rule s r i f p }
+
+  -- one more class; the table's world is the old side's
+  pub one_more : (W : World) → W ≡ s.old → (n k : ℕ) (fs gs : List Finding) (o : Option Finding) → n < size W → some_where (nat_lt n (size W)) n ≡ Some k → fs ≡ filter_map (class_finding r s) (take n (names s.old))
+      → o ≡ class_finding r s (name_at s.old k) → gs ≡ fs ++ cons_option o [] → gs ≡ filter_map (class_finding r s) (take (n + 1) (names s.old))
+  one_more W v n k fs gs o l is e q g =
+      step (class_finding r s) s.old n fs gs o (subst (λ (V : World). n < size V) v l) e (q ∙ ap (λ m. class_finding r s (name_at s.old m)) (number_is (nat_lt n (size W)) n k is)) g
+
+  -- all classes
+  pub all_classes : AreSides s → (W : World) → W ≡ s.old → (n : ℕ) (fs : List Finding) → size W ≤ n → fs ≡ filter_map (class_finding r s) (take n (names s.old)) → HasExactly finding_order (IsFinding r s) fs
+  all_classes are W v n fs l e =
+      subst (HasExactly finding_order (IsFinding r s)) (sym (whole (class_finding r s) s.old n fs (subst (λ (V : World). size V ≤ n) v l) e)) (class_exact are.old_side)
+
+-- what is found of the two sides' tables is found of the sides
+pub seen : (r n : ℕ) (t s : SidesOf) → t ≡ s → (o : Option Finding) → o ≡ class_finding r t (name_at t.old n) → o ≡ class_finding r s (name_at s.old n)
+seen r n t s v o e = subst (λ (w : SidesOf). o ≡ class_finding r w (name_at w.old n)) v e

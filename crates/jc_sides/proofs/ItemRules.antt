@@ -1,0 +1,111 @@
+-- Rules that find something of a class and a key, and rules that make a collision of them.
+use Rattle.std.proofs.Common.{◌≡◌, ℕ, Bool, true, false, cond, List, refl, sym, ◌∙◌, ap, subst, Option, Some, None, is_some, ◌==◌}
+use Rattle.std.specs.Prelude.{IsTrue}
+use Rattle.std.specs.declared.cmp.Ordering.TheVariants.{Less}
+use Rattle.std.specs.Cmp.Lexicographic.{nat_list_cmp_total}
+use Rattle.std.proofs.lemmas.Cmp.{nat_cmp_total, tied_itself}
+use Rattle.jc_facts.specs.declared.act.Act.{Act}
+use Rattle.jc_facts.specs.declared.finding.Finding.{Finding}
+use Rattle.jc_facts.specs.declared.key.Key.{Key}
+use Rattle.jc_facts.specs.declared.link_error.LinkError.{LinkError}
+use Rattle.jc_facts.specs.declared.verdict.Collision.{Collision}
+use Rattle.jc_facts.specs.rule.Collisions.{made_collision, collision_at}
+use Rattle.jc_facts.specs.Exactly.{Before}
+use Rattle.jc_facts.specs.KeyOrder.{key_cmp}
+use Rattle.jc_facts.specs.Names.{Bytes}
+use Rattle.jc_facts.specs.Options.{some_where}
+use Rattle.jc_facts.specs.rule.Orders.{finding_order, collision_order}
+use Rattle.jc_facts.specs.Exactly.{HasExactly}
+use Rattle.jc_facts.specs.world.World.{find_class}
+use Rattle.jc_table.proofs.Numbers.{names-in}
+use Rattle.jc_sides.specs.Rules.{on_key, key_finding, key_collision, IsFinding, IsCollision, HasEachKey, IsItemRule, IsOf}
+use Rattle.jc_sides.specs.SidesOf.{SidesOf}
+use Rattle.jc_sides.proofs.Subjects.{ordered_as, subject_key_before, finding_class_before, class_in, IsOnKey, of_key, to_key}
+
+-- an exact list of keys that has each of which something is made
+pub each_key : {F : Type 0} (makes : Key → Option F) (P : Key → Type 0) (keys : List Key) → HasExactly key_cmp P keys → ((k : Key) (f : F) → makes k ≡ Some f → P k) → HasEachKey makes keys
+each_key makes P keys h listed = record { in_order = h.in_order; each = λ k f e. h.complete k (listed k f e) }
+
+-- ---- findings
+
+-- a rule that finds something of such classes alone
+pub finding_rule : (r : ℕ) → IsOnKey r → (covers : SidesOf → Bytes → Bool) → ((s : SidesOf) (x : Bytes) (k : Key) (f : Finding) → key_finding r s x k ≡ Some f → IsTrue (covers s x))
+    → IsItemRule finding_order (λ f. f.«class») (key_finding r) (IsFinding r) covers
+finding_rule r i covers covered = record {
+  stands = λ s x k f e. (to_key s r x k f e).1;
+  made = λ s f p. of_key s r i f p;
+  by_key = λ s x k l f g b e d. ordered_as (on_key r x k) (on_key r x l) f g (to_key s r x k f e).0 (to_key s r x l g d).0 (subject_key_before r x k l b);
+  by_class = λ s f g p q b. finding_class_before f g (p.0 ∙ sym q.0) b;
+  on_covered = λ s are f p. let w = of_key s r i f p in (class_in s r f p, covered s f.«class» w.0 f w.1);
+}
+
+-- ---- collisions
+
+-- what is made passes the test
+pub made_where : {F : Type 0} (b : Bool) (c d : F) → some_where b c ≡ Some d → (b ≡ true) × (c ≡ d)
+made_where true c d e = (refl, let q : c ≡ d = cc in q)
+made_where false c d e = absurd (cc)
+
+-- what is there is of these parts
+Has : ℕ → Bytes → Key → Option Collision → Type 0
+Has rule x k o = (c : Collision) → o ≡ Some c → (c.rule ≡ rule) × (c.«class» ≡ x) × (c.key ≡ k)
+
+none_has : (rule : ℕ) (x : Bytes) (k : Key) → Has rule x k None
+unfolding Has
+none_has rule x k c e = absurd (cc)
+
+where_has : (rule : ℕ) (x : Bytes) (k : Key) (b : Bool) (a : Act) (e : LinkError) → Has rule x k (some_where b (made_collision rule x k a e))
+unfolding Has
+where_has rule x k true a e c h =
+    let w : made_collision rule x k a e ≡ c = cc in
+    (sym (ap (λ (d : Collision). d.rule) w), sym (ap (λ (d : Collision). d.«class») w), sym (ap (λ (d : Collision). d.key) w))
+where_has rule x k false a e c h = absurd (cc)
+
+cond_has : (rule : ℕ) (x : Bytes) (k : Key) (b : Bool) (o p : Option Collision) → Has rule x k o → Has rule x k p → Has rule x k (cond b o p)
+cond_has rule x k true o p h l = h
+cond_has rule x k false o p h l = l
+
+parts_of : (s : SidesOf) (rule : ℕ) (x : Bytes) (k : Key) → Has rule x k (key_collision rule s x k)
+unfolding collision_at
+parts_of s rule x k =
+    cond_has rule x k (rule == 10) _ _ (where_has rule x k _ _ _) (cond_has rule x k (rule == 11) _ _ (where_has rule x k _ _ _) (cond_has rule x k (rule == 12) _ None (where_has rule x k _ _ _) (none_has rule x k)))
+
+has : (s : SidesOf) (rule : ℕ) (x : Bytes) (k : Key) (c : Collision) → key_collision rule s x k ≡ Some c → (c.rule ≡ rule) × (c.«class» ≡ x) × (c.key ≡ k)
+unfolding Has
+has s rule x k c e = parts_of s rule x k c e
+
+collision_stands : (s : SidesOf) (rule : ℕ) (x : Bytes) (k : Key) (c : Collision) → key_collision rule s x k ≡ Some c → IsOf (λ (d : Collision). d.«class») (IsCollision rule s) x c
+collision_stands s rule x k c e =
+    let p = has s rule x k c e in
+    (p.1, (p.0, moved c.rule c.«class» c.key p.0 p.1 p.2))
+  where
+    moved : (r : ℕ) (y : Bytes) (l : Key) → r ≡ rule → y ≡ x → l ≡ k → key_collision r s y l ≡ Some c
+    moved r y l a b d = rw (a, b, d) e
+
+-- where the rules and the classes are the same the keys decide
+collision_key_before : (c d : Collision) → c.rule ≡ d.rule → c.«class» ≡ d.«class» → key_cmp c.key d.key ≡ Less → collision_order c d ≡ Less
+collision_key_before c d a b h = rw (a, b, tied_itself nat_cmp_total d.rule, tied_itself nat_list_cmp_total d.«class», h) refl
+
+-- of collisions of one rule the class decides
+collision_class_before : (c d : Collision) → c.rule ≡ d.rule → Before c.«class» d.«class» → collision_order c d ≡ Less
+collision_class_before c d e h = rw (e, tied_itself nat_cmp_total d.rule, h) refl
+
+-- a rule that makes a collision of such classes alone, which are there
+pub collision_rule : (r : ℕ) (covers : SidesOf → Bytes → Bool) → ((s : SidesOf) (x : Bytes) → IsTrue (covers s x) → is_some (find_class s.old x) ≡ true) → ((s : SidesOf) (x : Bytes) (k : Key) (c : Collision) → key_collision r s x k ≡ Some c → IsTrue (covers s x))
+    → IsItemRule collision_order (λ c. c.«class») (key_collision r) (IsCollision r) covers
+collision_rule r covers there covered = record {
+  stands = λ s x k c e. collision_stands s r x k c e;
+  made = λ s c p. (c.key, itself s c p);
+  by_key = λ s x k l c d b e g. by_keys s x k l c d b (has s r x k c e) (has s r x l d g);
+  by_class = λ s c d p q b. collision_class_before c d (p.0 ∙ sym q.0) b;
+  on_covered = λ s are c p. let b = covered s c.«class» c.key c (itself s c p) in (names-in s.old c.«class» (there s c.«class» b), b);
+}
+  where
+    itself : (s : SidesOf) (c : Collision) → IsCollision r s c → key_collision r s c.«class» c.key ≡ Some c
+    itself s c p = subst (λ (n : ℕ). key_collision n s c.«class» c.key ≡ Some c) p.0 p.1
+
+    by_keys : (s : SidesOf) (x : Bytes) (k l : Key) (c d : Collision) → key_cmp k l ≡ Less → (c.rule ≡ r) × (c.«class» ≡ x) × (c.key ≡ k) → (d.rule ≡ r) × (d.«class» ≡ x) × (d.key ≡ l) → collision_order c d ≡ Less
+    by_keys s x k l c d b p q = collision_key_before c d (p.0 ∙ sym q.0) (p.1 ∙ sym q.1) (moved c.key d.key p.2 q.2)
+      where
+        moved : (i j : Key) → i ≡ k → j ≡ l → key_cmp i j ≡ Less
+        moved i j u v = rw (u, v) b

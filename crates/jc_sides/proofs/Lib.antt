@@ -1,0 +1,10 @@
+pub mod KeptOnSides
+pub mod NamedAbove
+pub mod Subjects
+pub mod ByClass
+mod TestedClasses
+mod ByItems
+pub mod ItemRules
+pub mod BaseParts
+mod Utf8
+pub mod Seen

@@ -1,0 +1,8 @@
+use Rattle.std.proofs.Common.{take, map}
+use Rattle.jc_facts.specs.Exactly.{HasExactly}
+use Rattle.jc_facts.proofs.Exactly.{OfNames}
+use Rattle.jc_sides.specs.SharedOf.{name_of}
+use Rattle.jc_sides.proofs.item_rule.by_items.Given as goal
+
+abbrev pub invariant-loop-class : goal.invariant-loop-class
+invariant-loop-class g l = HasExactly g.R.ItemRule.order (OfNames g.R.ItemRule.class_of (g.R.ItemRule.stands l.sides) (take l.class-index (map name_of l.classes))) l.items.items

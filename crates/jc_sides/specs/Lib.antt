@@ -1,0 +1,6 @@
+pub mod SidesOf
+pub mod SidesFields
+pub mod SharedOf
+pub mod SharedFields
+pub mod Rules
+pub mod ClientsOf

@@ -1,0 +1,15 @@
+-- A platform with an old and with a new release, as two worlds.
+use Rattle.std.specs.Prelude.{◌≡◌}
+use Rattle.jc_facts.specs.world.World.{World}
+use Rattle.jc_table.specs.Sides.{IsSide}
+
+-- the two worlds
+pub record SidesOf : Type 0 where
+  pub old : World
+  pub new : World
+
+-- both are sides, of one platform
+pub record AreSides (s : SidesOf) : Type 0 where
+  pub old_side : IsSide s.old
+  pub new_side : IsSide s.new
+  pub platform : s.old.platform ≡ s.new.platform

@@ -1,0 +1,123 @@
+//! Lists of the kept classes that pass a test.
+ghost use Rattle.std.specs.Prelude.{◌≡◌, ◌<◌, Bool, IfOk, OnOk, IsTrue};
+ghost use Rattle.jc_facts.specs.Names.{Bytes};
+ghost use Rattle.jc_facts.specs.world.World.{size};
+ghost use Rattle.jc_facts.specs.rule.Bases.{is_kept, is_steady, is_base_class, is_base_interface};
+ghost use Rattle.jc_table.specs.Ids.{name_at};
+ghost use Rattle.jc_sides.specs.SharedOf.{IsShared, AddsWhere, AreThose, OfKept, name_of};
+ghost use Rattle.jc_sides.specs.SidesOf.{SidesOf};
+
+use crate::clients::{is_base_class, is_base_interface, is_steady};
+use crate::kept::kept;
+use crate::shared::Shared;
+use crate::sides::Sides;
+use jc_table::ids::ClassId;
+use std::alloc::{AllocError, Global};
+
+/// A test of kept classes.
+pub trait ClassTest {
+    ghost test: { SidesOf → Bytes → Bool };
+
+    /// Whether the kept class passes.
+    fn passes(&self, sides: &Sides<'_>, class: &Shared<'_>) -> bool
+        requires shared { IsShared sides.now «class».now }
+        requires kept { IsTrue (is_kept sides.now.old sides.now.new (name_of «class».now)) }
+        ensures { result ≡ test sides.now (name_of «class».now) };
+}
+
+// Adds the class of this number, if it passes.
+fn push_where<'a, T: ClassTest>(
+    classes: &mut Vec<Shared<'a>>,
+    sides: &Sides<'a>,
+    test: &T,
+    id: ClassId,
+) -> Result<(), AllocError>
+    requires below { id < size sides.now.old }
+    requires test { OfKept T.test }
+    ensures { OnOk result (AddsWhere (T.test sides.now (name_at sides.now.old id)) sides.now (name_at sides.now.old id) classes.old.items classes.new.items) }
+{
+    let Some(class) = kept(sides, id) else {
+        return Ok(());
+    };
+    if !test.passes(sides, &class) {
+        return Ok(());
+    }
+    classes.push(class)?;
+    Ok(())
+}
+
+/// The kept classes that pass the test, in byte order of their names.
+pub fn classes_where<'a, T: ClassTest>(
+    alloc: Global,
+    sides: &Sides<'a>,
+    test: &T,
+) -> Result<Vec<Shared<'a>>, AllocError>
+    requires { OfKept T.test }
+    ensures { IfOk result (λ classes. AreThose (T.test sides.now) sides.now classes.items) }
+{
+    let mut classes = Vec::new(alloc);
+    for n in 0..sides.old.count() {
+        let id = sides.old.id(n).unwrap();
+        push_where(&mut classes, sides, test, id)?;
+    }
+    Ok(classes)
+}
+
+// Whether a class hasn't stopped to be an interface.
+struct Steady;
+
+impl ClassTest for Steady {
+    ghost test = { λ s x. is_steady s.old s.new x };
+
+    fn passes(&self, sides: &Sides<'_>, class: &Shared<'_>) -> bool {
+        is_steady(sides, class)
+    }
+}
+
+// Whether clients could extend a class and still can.
+struct BaseClass;
+
+impl ClassTest for BaseClass {
+    ghost test = { λ s x. is_base_class s.old s.new x };
+
+    fn passes(&self, sides: &Sides<'_>, class: &Shared<'_>) -> bool {
+        is_base_class(sides, class)
+    }
+}
+
+// Whether clients could implement an interface and still can.
+struct BaseInterface;
+
+impl ClassTest for BaseInterface {
+    ghost test = { λ s x. is_base_interface s.old s.new x };
+
+    fn passes(&self, sides: &Sides<'_>, class: &Shared<'_>) -> bool {
+        is_base_interface(sides, class)
+    }
+}
+
+/// The kept classes that haven't stopped to be interfaces, in byte order of their names.
+pub fn steady_classes<'a>(alloc: Global, sides: &Sides<'a>) -> Result<Vec<Shared<'a>>, AllocError>
+    ensures { IfOk result (λ classes. AreThose (is_steady sides.now.old sides.now.new) sides.now classes.items) }
+{
+    let classes = classes_where(alloc, sides, &Steady)?;
+    Ok(classes)
+}
+
+/// The classes that clients could extend and still can (JVMS 4.7.31, 5.3.5), in byte order of
+/// their names.
+pub fn base_classes<'a>(alloc: Global, sides: &Sides<'a>) -> Result<Vec<Shared<'a>>, AllocError>
+    ensures { IfOk result (λ classes. AreThose (is_base_class sides.now.old sides.now.new) sides.now classes.items) }
+{
+    let classes = classes_where(alloc, sides, &BaseClass)?;
+    Ok(classes)
+}
+
+/// The interfaces that clients could implement and still can (JVMS 4.7.31, 5.3.5), in byte order
+/// of their names.
+pub fn base_interfaces<'a>(alloc: Global, sides: &Sides<'a>) -> Result<Vec<Shared<'a>>, AllocError>
+    ensures { IfOk result (λ classes. AreThose (is_base_interface sides.now.old sides.now.new) sides.now classes.items) }
+{
+    let classes = classes_where(alloc, sides, &BaseInterface)?;
+    Ok(classes)
+}

@@ -1,0 +1,120 @@
+//! Rules that speak of a class and a key.
+ghost use Rattle.std.specs.Prelude.{◌≡◌, Bool, IfOk, IsTrue, Option};
+ghost use Rattle.std.specs.List.{filter_map};
+ghost use Rattle.std.specs.declared.cmp.Ordering.{Ordering};
+ghost use Rattle.jc_facts.specs.declared.key.Key.{Key};
+ghost use Rattle.jc_facts.specs.Names.{Bytes};
+ghost use Rattle.jc_facts.specs.Exactly.{HasExactly};
+ghost use Rattle.jc_sides.specs.Rules.{HasEachKey, IsItemRule, IsOf};
+ghost use Rattle.jc_sides.specs.SharedOf.{IsShared, AreThose, name_of};
+ghost use Rattle.jc_sides.specs.SidesOf.{SidesOf, AreSides};
+
+use crate::found::push_some;
+use crate::shared::Shared;
+use crate::sides::Sides;
+use jc_facts::key::Key;
+use std::alloc::{AllocError, Global};
+
+/// A rule that speaks of a class and a key, whatever it makes: findings, collisions or notes.
+pub trait ItemRule {
+    type Item: Drop;
+
+    // The order of what it makes, and the class of one.
+    ghost order: { Self.Item → Self.Item → Ordering };
+
+    ghost class_of: { Self.Item → Bytes };
+
+    // What it makes of a class and a key, and what stands.
+    ghost makes: { SidesOf → Bytes → Key → Option Self.Item };
+
+    ghost stands: { SidesOf → Self.Item → Type 0 };
+
+    // The classes of which it speaks.
+    ghost covers: { SidesOf → Bytes → Bool };
+
+    // What has to be true of the rule's own values, as of lists that it keeps of the sides.
+    ghost ready: { Self → SidesOf → Type 0 };
+
+    /// Keys in their order, each of which it makes something among them.
+    fn keys(
+        &self,
+        alloc: Global,
+        sides: &Sides<'_>,
+        class: &Shared<'_>,
+    ) -> Result<Vec<Key>, AllocError>
+        requires ready { ready self.now sides.now }
+        requires shared { IsShared sides.now «class».now }
+        requires covered { IsTrue (covers sides.now (name_of «class».now)) }
+        ensures { IfOk result (λ keys. HasEachKey (makes sides.now (name_of «class».now)) keys.items) };
+
+    /// What it makes of the class and the key.
+    fn on_key(
+        &self,
+        alloc: Global,
+        sides: &Sides<'_>,
+        class: &Shared<'_>,
+        key: &Key,
+    ) -> Result<Option<Self::Item>, AllocError>
+        requires ready { ready self.now sides.now }
+        requires shared { IsShared sides.now «class».now }
+        requires covered { IsTrue (covers sides.now (name_of «class».now)) }
+        ensures { IfOk result (λ made. made ≡ makes sides.now (name_of «class».now) key.now) };
+}
+
+// What the rule makes of the class and these keys, in their order.
+fn on_keys<R: ItemRule>(
+    alloc: Global,
+    rule: &R,
+    sides: &Sides<'_>,
+    class: &Shared<'_>,
+    keys: &[Key],
+) -> Result<Vec<R::Item>, AllocError>
+    requires ready { R.ready rule.now sides.now }
+    requires shared { IsShared sides.now «class».now }
+    requires covered { IsTrue (R.covers sides.now (name_of «class».now)) }
+    ensures { IfOk result (λ made. made.items ≡ filter_map (R.makes sides.now (name_of «class».now)) keys.now) }
+{
+    let mut items = Vec::new(alloc);
+    for key in keys {
+        push_some(&mut items, rule.on_key(alloc, sides, class, key)?)?;
+    }
+    Ok(items)
+}
+
+// What the rule makes of the class, in the order of the keys.
+fn of_class<R: ItemRule>(
+    alloc: Global,
+    rule: &R,
+    sides: &Sides<'_>,
+    class: &Shared<'_>,
+) -> Result<Vec<R::Item>, AllocError>
+    requires ready { R.ready rule.now sides.now }
+    requires rule { IsItemRule R.order R.class_of R.makes R.stands R.covers }
+    requires shared { IsShared sides.now «class».now }
+    requires covered { IsTrue (R.covers sides.now (name_of «class».now)) }
+    ensures { IfOk result (λ made. HasExactly R.order (IsOf R.class_of (R.stands sides.now) (name_of «class».now)) made.items) }
+{
+    let keys = rule.keys(alloc, sides, class)?;
+    let made = on_keys(alloc, rule, sides, class, keys.as_slice())?;
+    Ok(made)
+}
+
+/// What the rule makes of these classes, in byte order of their names and in the order of the keys.
+/// They have to be all of which it speaks.
+pub fn by_items<R: ItemRule>(
+    alloc: Global,
+    rule: &R,
+    sides: &Sides<'_>,
+    classes: &[Shared<'_>],
+) -> Result<Vec<R::Item>, AllocError>
+    requires ready { R.ready rule.now sides.now }
+    requires rule { IsItemRule R.order R.class_of R.makes R.stands R.covers }
+    requires classes { AreThose (R.covers sides.now) sides.now classes.now }
+    ensures { IfOk result (λ made. HasExactly R.order (R.stands sides.now) made.items) }
+{
+    let mut items = Vec::new(alloc);
+    for class in classes {
+        items.append(&mut of_class(alloc, rule, sides, class)?)?;
+    }
+    Ok(items)
+}

@@ -1,0 +1,44 @@
+//! Classes that clients could use and still can.
+ghost use Rattle.std.specs.Prelude.{◌≡◌, ◌<◌};
+ghost use Rattle.jc_facts.specs.world.World.{size};
+ghost use Rattle.jc_facts.specs.rule.Bases.{is_class_usable, is_kept};
+ghost use Rattle.jc_table.specs.Ids.{name_at};
+ghost use Rattle.jc_sides.specs.SharedOf.{IsWhere};
+
+use crate::shared::Shared;
+use crate::sides::Sides;
+use jc_facts::flags::is_public;
+use jc_table::ids::ClassId;
+use jc_table::table::Table;
+
+/// Whether clients can use the class: it is public and loads (JVMS 5.3.5, 5.4.4).
+#[tactic(auto, unfolding(jc_facts::specs::rule::Bases::is_class_usable))]
+pub fn is_usable(table: &Table, id: ClassId) -> bool
+    requires { id < size table.now }
+    ensures { result ≡ is_class_usable table.now (name_at table.now id) }
+{
+    is_public(table.facts(id).flags) && table.fault_at(id).is_none()
+}
+
+/// The class of this number on the old side, if it is kept: clients could use it and still can.
+pub fn kept<'a>(sides: &Sides<'a>, id: ClassId) -> Option<Shared<'a>>
+    requires { id < size sides.now.old }
+    ensures { IsWhere (is_kept sides.now.old sides.now.new (name_at sides.now.old id)) sides.now (name_at sides.now.old id) result }
+{
+    if !is_usable(sides.old, id) {
+        return None;
+    }
+    let name = &sides.old.facts(id).name;
+    let Some(after) = sides.new.get(name.as_bytes()) else {
+        return None;
+    };
+    if is_usable(sides.new, after) {
+        Some(Shared {
+            name,
+            old: id,
+            new: after,
+        })
+    } else {
+        None
+    }
+}

@@ -1,0 +1,11 @@
+//! Two releases side by side, and what every rule that compares them is made of.
+#![tactic(auto)]
+
+pub mod class_rule;
+pub mod classes;
+pub mod clients;
+pub mod found;
+pub mod item_rule;
+pub mod kept;
+pub mod shared;
+pub mod sides;
