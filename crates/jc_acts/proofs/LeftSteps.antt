@@ -1,37 +1,21 @@
 -- A loop over the numbers of a side's classes that keeps those whose names pass.
-use Rattle.std.proofs.Common.{◌≡◌, ℕ, ◌+◌, ◌<◌, ◌≤◌, Bool, true, false, cond, List, [], ◌∷◌, ◌++◌, take, map, refl, sym, ◌∙◌, ap, subst}
+use Rattle.std.proofs.Common.{◌≡◌, ℕ, ◌+◌, ◌<◌, ◌≤◌, Bool, true, false, cond, List, [], ◌∷◌, ◌++◌, take, map, sym, ◌∙◌, ap, subst}
 use Rattle.std.specs.List.{filter, All}
-use Rattle.std.proofs.lemmas.List.Elements.{All-append, All-from_recursion}
-use Rattle.std.proofs.lemmas.List.{take_more, take_all}
+use Rattle.std.proofs.lemmas.List.Elements.{All-append, All-from_recursion, filter-append}
+use Rattle.std.proofs.lemmas.List.{append-nil, map-append, take_more, take_all}
 use Rattle.jc_facts.specs.Names.{Bytes}
-use Rattle.jc_facts.specs.World.{World, size}
-use Rattle.jc_facts.proofs.Listed.{EachOf}
+use Rattle.jc_facts.specs.world.World.{World, size}
+use Rattle.jc_lemmas.proofs.Listed.{EachOf}
 use Rattle.jc_table.specs.Ids.{names, name_at}
 use Rattle.jc_table.proofs.Numbers.{names-length}
 
-nothing_more : {A : Type 0} (xs : List A) → xs ++ [] ≡ xs
-nothing_more [] = refl
-nothing_more (x ∷ xs) = ap (λ ys. x ∷ ys) (nothing_more xs)
-
-map_last : (f : ℕ → Bytes) (ks : List ℕ) (k : ℕ) → map f (ks ++ k ∷ []) ≡ map f ks ++ f k ∷ []
-map_last f [] k = refl
-map_last f (j ∷ ks) k = ap (λ ys. f j ∷ ys) (map_last f ks k)
-
-filter_append : (p : Bytes → Bool) (xs ys : List Bytes) → filter p (xs ++ ys) ≡ filter p xs ++ filter p ys
-filter_append p [] ys = refl
-filter_append p (x ∷ xs) ys = go (p x) (filter_append p xs ys)
-  where
-    go : (b : Bool) → filter p (xs ++ ys) ≡ filter p xs ++ filter p ys → cond b (x ∷ filter p (xs ++ ys)) (filter p (xs ++ ys)) ≡ cond b (x ∷ filter p xs) (filter p xs) ++ filter p ys
-    go true r = ap (λ zs. x ∷ zs) r
-    go false r = r
-
 module _ (W : World) (p : Bytes → Bool) where
   more : (n : ℕ) → n < size W → filter p (take (n + 1) (names W)) ≡ filter p (take n (names W)) ++ cond (p (name_at W n)) (name_at W n ∷ []) []
-  more n l = ap (filter p) (take_more (names W) n [] (subst (λ m. n < m) (sym (names-length W)) l)) ∙ filter_append p (take n (names W)) (name_at W n ∷ [])
+  more n l = ap (filter p) (take_more (names W) n [] (subst (λ m. n < m) (sym (names-length W)) l)) ∙ filter-append p (take n (names W)) (name_at W n ∷ [])
 
   map_more : (ks : List ℕ) (k : ℕ) (b : Bool) → map (name_at W) (ks ++ cond b (k ∷ []) []) ≡ map (name_at W) ks ++ cond b (name_at W k ∷ []) []
-  map_more ks k true = map_last (name_at W) ks k
-  map_more ks k false = ap (map (name_at W)) (nothing_more ks) ∙ sym (nothing_more (map (name_at W) ks))
+  map_more ks k true = map-append (name_at W) ks (k ∷ [])
+  map_more ks k false = ap (map (name_at W)) (append-nil ks) ∙ sym (append-nil (map (name_at W) ks))
 
   -- one more number
   pub one_more : (ks js : List ℕ) (n k : ℕ) (b : Bool) → n < size W → k ≡ n → b ≡ p (name_at W k) → js ≡ ks ++ cond b (k ∷ []) [] → map (name_at W) ks ≡ filter p (take n (names W)) → map (name_at W) js ≡ filter p (take (n + 1) (names W))

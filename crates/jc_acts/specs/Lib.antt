@@ -1,5 +1,3 @@
-pub mod Settled
+pub mod ClosedActs
 pub mod Seats
-pub mod Closed
-pub mod Uses
-pub mod Firsts
+pub mod steps

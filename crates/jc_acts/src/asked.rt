@@ -1,55 +1,56 @@
 //! Which seats have to be asked: most acts are open to all of them or to none.
-ghost use Rattle.std.specs.Prelude.{◌≡◌, ◌∷◌, ◌&&◌, not};
+ghost use Rattle.std.specs.Prelude.{◌≡◌, ◌&&◌, not, map};
 ghost use Rattle.std.specs.List.{All};
 ghost use Rattle.jc_facts.specs.declared.act.Act.{Act as ActOf};
-ghost use Rattle.jc_facts.specs.Flags.{is_public as public_of, is_protected as protected_of};
-ghost use Rattle.jc_facts.specs.Names.{object_name};
-ghost use Rattle.jc_table.specs.Ids.{name_at};
-ghost use Rattle.jc_table.specs.Both.{IsBoth};
-ghost use Rattle.jc_acts.specs.Firsts.{first_at, old_names, all_seats};
-ghost use Rattle.jc_acts.specs.Seats.{AreSeats};
-ghost use Rattle.jc_acts.specs.Uses.{closed_use, IsUse, is_alike};
+ghost use Rattle.jc_facts.specs.Flags.{public_flag, protected_flag};
+ghost use Rattle.jc_facts.specs.Names.{Bytes};
+ghost use Rattle.jc_sides.specs.SharedOf.{IsShared, name_of};
+ghost use Rattle.jc_acts.specs.Seats.{AreSeats, all_seats};
+ghost use Rattle.jc_acts.specs.steps.Firsts.{first_at};
+ghost use Rattle.jc_acts.specs.steps.LookedUp.{IsLooked, closed_use, is_alike as alike};
 
+use crate::lookup::Looked;
 use crate::seats::Seats;
-use crate::uses::{Looked, Use};
 use jc_facts::flags::{is_protected, is_public};
-use jc_table::ids::Both;
-use jc_table::table::Table;
+use jc_sides::shared::Shared;
+use jc_sides::sides::Sides;
 
 // Whether access to a member of these flags depends on the seat.
 fn is_by_seat(flags: u16) -> bool
-    ensures { result ≡ (not (public_of flags) && protected_of flags) }
+    ensures { result ≡ (not (public_flag flags) && protected_flag flags) }
 {
     !is_public(flags) && is_protected(flags)
 }
 
-// Whether the member that is found now has the same owner, by name, and the same flags.
-fn is_alike(old: &Table, new: &Table, used: &Use) -> bool
-    requires { IsUse old.now new.now (name_at old.now used.now.class.old) used.now }
-    ensures { result ≡ is_alike old.now new.now used.now }
+// Whether the member that is found now has the owner, by name, and the flags of the one before.
+fn is_alike(sides: &Sides<'_>, looked: &Looked) -> bool
+    requires { IsLooked sides.now looked.now }
+    ensures { result ≡ alike sides.now looked.now }
 {
-    let Looked::Member(found) = &used.after else {
+    let Ok(found) = &looked.after else {
         return false;
     };
-    let before = used.before;
-    found.flags == before.flags && old.facts(before.owner).name == new.facts(found.owner).name
+    let before = looked.before;
+    found.flags == before.flags
+        && sides.old.facts(before.owner).name == sides.new.facts(found.owner).name
 }
 
-/// The base classes that have to be asked beside `java/lang/Object`. A public member that is closed
-/// to some seat now is closed to that one; a protected one with the owner and the flags that it had
-/// is closed only to those whose chain lost a class.
-pub fn others<'a>(old: &Table, new: &Table, seats: &'a Seats, used: &Use) -> &'a [Both]
-    requires seats { AreSeats old.now new.now seats.now }
-    requires used { IsUse old.now new.now (name_at old.now used.now.class.old) used.now }
-    ensures both { All (λ b. IsBoth old.now new.now (name_at old.now b.old) b) result.now }
-    ensures enough { (what : ActOf) → first_at (closed_use old.now new.now (name_at old.now used.now.class.old) used.now what) (object_name ∷ old_names old.now result.now) ≡ first_at (closed_use old.now new.now (name_at old.now used.now.class.old) used.now what) (all_seats old.now new.now) }
+/// Seats among which the first is that to which an act is closed first. A public member that is
+/// closed to some seat now is closed to `java/lang/Object`; a protected one with the owner and the
+/// flags that it had is closed only to those whose chain lost a class.
+pub fn asked<'a, 'b>(sides: &Sides<'_>, seats: &'b Seats<'a>, looked: &Looked) -> &'b [Shared<'a>]
+    requires seats { AreSeats sides.now seats.now }
+    requires looked { IsLooked sides.now looked.now }
+    ensures shared { All (IsShared sides.now) result.now }
+    ensures enough { (x : Bytes) (what : ActOf) → first_at (closed_use sides.now x looked.now what) (map name_of result.now) ≡ first_at (closed_use sides.now x looked.now what) (all_seats sides.now) }
 {
-    if !is_by_seat(used.before.flags) {
-        return &[];
+    let all = seats.all.as_slice();
+    if !is_by_seat(looked.before.flags) {
+        return &all[..1];
     }
-    if is_alike(old, new, used) {
+    if is_alike(sides, looked) {
         seats.shrunk.as_slice()
     } else {
-        seats.bases.as_slice()
+        all
     }
 }

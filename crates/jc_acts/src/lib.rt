@@ -1,12 +1,13 @@
-//! Acts on members that were open to clients and aren't any more.
+//! Acts on members: which is the first that is closed to a seat now, and to which seat.
 #![tactic(auto)]
 
-pub mod asked;
+mod asked;
 pub mod chains;
-pub mod closed;
-pub mod lookup;
+pub mod closed_act;
+mod closing;
+mod lookup;
 pub mod members;
+mod open;
 pub mod plain;
-pub mod platform;
+mod platform;
 pub mod seats;
-pub mod uses;

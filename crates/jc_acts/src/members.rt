@@ -1,115 +1,77 @@
-//! The first of a rule's acts on a key that is closed to a seat now.
-ghost use Rattle.std.specs.Prelude.{◌≡◌, ◌<◌, IsTrue, IfSome, None, option_map};
-ghost use Rattle.jc_facts.specs.World.{size};
-ghost use Rattle.jc_facts.specs.Loading.{load_fault};
-ghost use Rattle.jc_facts.specs.Seats.{closed_act, field_acts, method_acts};
-ghost use Rattle.jc_facts.specs.Words.{is_method_key};
-ghost use Rattle.jc_table.specs.Ids.{name_at};
-ghost use Rattle.jc_table.specs.Both.{IsBoth};
-ghost use Rattle.jc_acts.specs.Firsts.{first_at, all_seats, closed_view};
+//! The first act on a member that is closed to a seat now.
+ghost use Rattle.std.specs.Prelude.{IsTrue};
+ghost use Rattle.jc_facts.specs.rule.OpenActs.{field_acts, method_acts};
+ghost use Rattle.jc_facts.specs.rule.Bases.{is_key_of_method, is_steady};
+ghost use Rattle.jc_sides.specs.SharedOf.{IsShared, name_of};
+ghost use Rattle.jc_acts.specs.ClosedActs.{IsFirstClosed};
 ghost use Rattle.jc_acts.specs.Seats.{AreSeats};
-ghost use Rattle.jc_acts.specs.Uses.{class_acts, interface_acts, closed_use, IsUse};
+ghost use Rattle.jc_acts.specs.steps.References.{acts_of, form, MayName};
 
-use crate::asked::others;
-use crate::lookup::{class_use, field_use, interface_use};
+use crate::asked::asked;
+use crate::closed_act::ClosedAct;
+use crate::closing::first_closed;
+use crate::lookup::{Looked, Reference, acts, look_up};
 use crate::seats::Seats;
-use crate::uses::{CLASS_ACTS, Closed, FIELD_ACTS, INTERFACE_ACTS, Use, first_closed};
-use jc_facts::act::Act;
 use jc_facts::key::Key;
-use jc_table::ids::Both;
-use jc_table::table::Table;
+use jc_sides::shared::Shared;
+use jc_sides::sides::Sides;
 
-// The first of the acts that is closed to a seat now.
-fn closed_of(old: &Table, new: &Table, seats: &Seats, used: &Use, acts: &[Act]) -> Option<Closed>
-    requires seats { AreSeats old.now new.now seats.now }
-    requires used { IsUse old.now new.now (name_at old.now used.now.class.old) used.now }
-    ensures below { IfSome result (λ c. c.seat.old < size old.now) }
-    ensures first { option_map (closed_view old.now) result ≡ first_at (λ what. first_at (closed_use old.now new.now (name_at old.now used.now.class.old) used.now what) (all_seats old.now new.now)) acts.now }
-{
-    let others = others(old, new, seats, used);
-    first_closed(old, new, used, acts, &seats.root, others)
-}
-
-/// The first act on a field of the key that was open to a seat and isn't any more, with the first
-/// such seat, `java/lang/Object` or else a base class (JVMS 5.4.3.2, 5.4.4).
-pub fn closed_field(
-    old: &Table,
-    new: &Table,
-    seats: &Seats,
-    class: &Both,
+// The first act by such references that is closed to a seat now.
+fn closed_by<'a>(
+    sides: &Sides<'_>,
+    seats: &Seats<'a>,
+    class: &Shared<'_>,
+    reference: Reference,
     key: &Key,
-) -> Option<Closed>
-    requires seats { AreSeats old.now new.now seats.now }
-    requires class { IsBoth old.now new.now (name_at old.now class.now.old) class.now }
-    requires loads { (load_fault old.now (name_at old.now class.now.old) ≡ None) × (load_fault new.now (name_at old.now class.now.old) ≡ None) }
-    ensures below { IfSome result (λ c. c.seat.old < size old.now) }
-    ensures first { option_map (closed_view old.now) result ≡ first_at (λ what. first_at (closed_act old.now new.now (name_at old.now class.now.old) key.now what) (all_seats old.now new.now)) field_acts }
+) -> Option<ClosedAct<'a>>
+    requires seats { AreSeats sides.now seats.now }
+    requires class { IsShared sides.now «class».now }
+    requires steady { IsTrue (is_steady sides.now.old sides.now.new (name_of «class».now)) }
+    requires key { MayName (form reference) key.now }
+    ensures { IsFirstClosed sides.now (name_of «class».now) key.now (acts_of reference) result }
 {
-    let Some(used) = field_use(old, new, class, key) else {
+    let Ok(before) = look_up(sides.old, reference, class.old, key) else {
         return None;
     };
-    closed_of(old, new, seats, &used, FIELD_ACTS)
+    let after = look_up(sides.new, reference, class.new, key);
+    let looked = Looked { before, after };
+    let asked = asked(sides, seats, &looked);
+    first_closed(sides, class, &looked, acts(reference), asked)
 }
 
-// The same of acts by references to methods of classes.
-fn closed_in_class(
-    old: &Table,
-    new: &Table,
-    seats: &Seats,
-    class: &Both,
+/// The first act on the field of the key, named through the steady class, that was open to a seat
+/// and isn't any more: the first such seat is `java/lang/Object`, or else the first such base class
+/// (JVMS 5.4.3.2, 5.4.4).
+pub fn field_closed<'a>(
+    sides: &Sides<'_>,
+    seats: &Seats<'a>,
+    class: &Shared<'_>,
     key: &Key,
-) -> Option<Closed>
-    requires seats { AreSeats old.now new.now seats.now }
-    requires class { IsBoth old.now new.now (name_at old.now class.now.old) class.now }
-    requires loads { (load_fault old.now (name_at old.now class.now.old) ≡ None) × (load_fault new.now (name_at old.now class.now.old) ≡ None) }
-    requires key { IsTrue (is_method_key key.now) }
-    ensures below { IfSome result (λ c. c.seat.old < size old.now) }
-    ensures first { option_map (closed_view old.now) result ≡ first_at (λ what. first_at (closed_act old.now new.now (name_at old.now class.now.old) key.now what) (all_seats old.now new.now)) class_acts }
+) -> Option<ClosedAct<'a>>
+    requires seats { AreSeats sides.now seats.now }
+    requires class { IsShared sides.now «class».now }
+    requires steady { IsTrue (is_steady sides.now.old sides.now.new (name_of «class».now)) }
+    ensures { IsFirstClosed sides.now (name_of «class».now) key.now field_acts result }
 {
-    let Some(used) = class_use(old, new, class, key) else {
-        return None;
-    };
-    closed_of(old, new, seats, &used, CLASS_ACTS)
+    closed_by(sides, seats, class, Reference::Field, key)
 }
 
-// The same of acts by references to methods of interfaces.
-fn closed_in_interface(
-    old: &Table,
-    new: &Table,
-    seats: &Seats,
-    class: &Both,
+/// The same of acts on the method of the key, which is no initializer's (JVMS 5.4.3.3, 5.4.3.4,
+/// 5.4.4).
+pub fn method_closed<'a>(
+    sides: &Sides<'_>,
+    seats: &Seats<'a>,
+    class: &Shared<'_>,
     key: &Key,
-) -> Option<Closed>
-    requires seats { AreSeats old.now new.now seats.now }
-    requires class { IsBoth old.now new.now (name_at old.now class.now.old) class.now }
-    requires loads { (load_fault old.now (name_at old.now class.now.old) ≡ None) × (load_fault new.now (name_at old.now class.now.old) ≡ None) }
-    requires key { IsTrue (is_method_key key.now) }
-    ensures below { IfSome result (λ c. c.seat.old < size old.now) }
-    ensures first { option_map (closed_view old.now) result ≡ first_at (λ what. first_at (closed_act old.now new.now (name_at old.now class.now.old) key.now what) (all_seats old.now new.now)) interface_acts }
+) -> Option<ClosedAct<'a>>
+    requires seats { AreSeats sides.now seats.now }
+    requires class { IsShared sides.now «class».now }
+    requires steady { IsTrue (is_steady sides.now.old sides.now.new (name_of «class».now)) }
+    requires key { IsTrue (is_key_of_method key.now) }
+    ensures { IsFirstClosed sides.now (name_of «class».now) key.now method_acts result }
 {
-    let Some(used) = interface_use(old, new, class, key) else {
-        return None;
-    };
-    closed_of(old, new, seats, &used, INTERFACE_ACTS)
-}
-
-/// The same of acts on methods of the key, which is no initializer's (JVMS 5.4.3.3, 5.4.3.4, 5.4.4).
-pub fn closed_method(
-    old: &Table,
-    new: &Table,
-    seats: &Seats,
-    class: &Both,
-    key: &Key,
-) -> Option<Closed>
-    requires seats { AreSeats old.now new.now seats.now }
-    requires class { IsBoth old.now new.now (name_at old.now class.now.old) class.now }
-    requires loads { (load_fault old.now (name_at old.now class.now.old) ≡ None) × (load_fault new.now (name_at old.now class.now.old) ≡ None) }
-    requires key { IsTrue (is_method_key key.now) }
-    ensures below { IfSome result (λ c. c.seat.old < size old.now) }
-    ensures first { option_map (closed_view old.now) result ≡ first_at (λ what. first_at (closed_act old.now new.now (name_at old.now class.now.old) key.now what) (all_seats old.now new.now)) method_acts }
-{
-    match closed_in_class(old, new, seats, class, key) {
+    match closed_by(sides, seats, class, Reference::Method, key) {
         Some(closed) => Some(closed),
-        None => closed_in_interface(old, new, seats, class, key),
+        None => closed_by(sides, seats, class, Reference::InterfaceMethod, key),
     }
 }

@@ -3,18 +3,21 @@
 ghost use Rattle.std.specs.Prelude.{◌≡◌, ◌<◌, ◌&&◌, ◌∷◌, ◌++◌, [], cond, not, map, IfOk, OnOk};
 ghost use Rattle.std.specs.List.{All, filter, list_all, list_any};
 ghost use Rattle.jc_facts.specs.Names.{same, object_name};
-ghost use Rattle.jc_facts.specs.Search.{supers};
-ghost use Rattle.jc_facts.specs.World.{size};
-ghost use Rattle.jc_facts.specs.Hierarchy.{in_chain};
+ghost use Rattle.jc_facts.specs.world.Search.{supers};
+ghost use Rattle.jc_facts.specs.world.World.{size};
+ghost use Rattle.jc_facts.specs.world.Hierarchy.{in_chain};
 ghost use Rattle.jc_table.specs.Ids.{name_at, names};
-ghost use Rattle.jc_table.specs.Both.{IsBoth};
-ghost use Rattle.jc_acts.specs.Firsts.{old_names};
-ghost use Rattle.jc_acts.specs.Settled.{is_unreleased as unreleased, is_untouched as untouched, has_above as is_above, is_apart as apart, has_left as left_by, is_plain as plain, is_below_any as below_any, is_settled as settled};
+ghost use Rattle.jc_sides.specs.SharedOf.{IsShared, name_of};
+ghost use Rattle.jc_acts.specs.Seats.{is_below_any as below_any};
+ghost use Rattle.jc_acts.specs.steps.Platforms.{is_unreleased as unreleased, is_untouched as untouched, is_apart as apart, has_left as left_by, is_plain as plain, is_settled as settled};
 
+use crate::chains::has_above;
 use jc_base::name::Name;
 use jc_facts::class_facts::ClassFacts;
 use jc_facts::flags::is_interface;
-use jc_table::ids::{Both, ClassId};
+use jc_sides::shared::Shared;
+use jc_sides::sides::Sides;
+use jc_table::ids::ClassId;
 use jc_table::table::Table;
 use std::alloc::{AllocError, Global};
 
@@ -29,99 +32,81 @@ fn is_unreleased(table: &Table, name: &Name) -> bool
 }
 
 // Whether neither release declares the name.
-fn is_untouched(old: &Table, new: &Table, name: &Name) -> bool
-    ensures { result ≡ untouched old.now new.now name.now }
+fn is_untouched(sides: &Sides<'_>, name: &Name) -> bool
+    ensures { result ≡ untouched sides.now name.now }
 {
-    is_unreleased(old, name) && is_unreleased(new, name)
+    is_unreleased(sides.old, name) && is_unreleased(sides.new, name)
 }
 
 // Whether neither release declares any of the names.
-fn are_untouched(old: &Table, new: &Table, names: &[Name]) -> bool
-    ensures { result ≡ list_all (untouched old.now new.now) names.now }
+fn are_untouched(sides: &Sides<'_>, names: &[Name]) -> bool
+    ensures { result ≡ list_all (untouched sides.now) names.now }
 {
-    for name in names {
-        if !is_untouched(old, new, name) {
-            return false;
-        }
-    }
-    true
+    names.iter().all(|name| is_untouched(sides, name))
 }
 
 // Whether the class names none above itself that a release declares.
-fn names_untouched(old: &Table, new: &Table, class: &ClassFacts) -> bool
-    ensures { result ≡ list_all (untouched old.now new.now) (supers «class».now) }
+fn names_untouched(sides: &Sides<'_>, class: &ClassFacts) -> bool
+    ensures { result ≡ list_all (untouched sides.now) (supers «class».now) }
 {
-    let interfaces = are_untouched(old, new, class.interfaces.as_slice());
+    let interfaces = are_untouched(sides, class.interfaces.as_slice());
     match &class.superclass {
-        Some(name) => is_untouched(old, new, name) && interfaces,
+        Some(name) => is_untouched(sides, name) && interfaces,
         None => interfaces,
     }
 }
 
 // Whether the class, where it is the platform's, names none above itself that a release declares.
-fn is_apart(old: &Table, new: &Table, id: ClassId) -> bool
-    requires { id < size old.now }
-    ensures { result ≡ apart old.now new.now (name_at old.now id) }
+fn is_apart(sides: &Sides<'_>, id: ClassId) -> bool
+    requires { id < size sides.now.old }
+    ensures { result ≡ apart sides.now (name_at sides.now.old id) }
 {
-    !old.in_platform(id) || names_untouched(old, new, old.facts(id))
+    !sides.old.in_platform(id) || names_untouched(sides, sides.old.facts(id))
 }
 
 // Whether this is so of all classes.
-fn are_apart(old: &Table, new: &Table) -> bool
-    ensures { result ≡ list_all (apart old.now new.now) (names old.now) }
+fn are_apart(sides: &Sides<'_>) -> bool
+    ensures { result ≡ list_all (apart sides.now) (names sides.now.old) }
 {
-    for n in 0..old.count() {
-        let Some(id) = old.id(n) else {
-            return true;
-        };
-        if !is_apart(old, new, id) {
+    for n in 0..sides.old.count() {
+        let id = sides.old.id(n).unwrap();
+        if !is_apart(sides, id) {
             return false;
         }
     }
     true
 }
 
-/// Whether there is a class of this name, and it is the class or stands above it.
-pub fn has_above(table: &Table, class: ClassId, name: &Name) -> bool
-    requires { class < size table.now }
-    ensures { result ≡ is_above table.now (name_at table.now class) name.now }
-{
-    match table.get(name.as_bytes()) {
-        Some(above) => table.has_super(class, above),
-        None => false,
-    }
-}
-
-// Whether the class left the chain of the other.
-fn has_left_chain(old: &Table, new: &Table, base: &Both, id: ClassId) -> bool
-    requires base { IsBoth old.now new.now (name_at old.now base.now.old) base.now }
-    requires class { id < size old.now }
-    ensures { result ≡ (in_chain old.now (name_at old.now base.now.old) (name_at old.now id) && not (is_above new.now (name_at old.now base.now.old) (name_at old.now id))) }
-{
-    old.has_super(base.old, id) && !has_above(new, base.new, &old.facts(id).name)
-}
-
 // Whether the class left the chain of one of the others.
-fn has_left_any(old: &Table, new: &Table, bases: &[Both], id: ClassId) -> bool
-    requires bases { All (λ b. IsBoth old.now new.now (name_at old.now b.old) b) bases.now }
-    requires class { id < size old.now }
-    ensures { result ≡ list_any (λ a. in_chain old.now a (name_at old.now id) && not (is_above new.now a (name_at old.now id))) (old_names old.now bases.now) }
+fn has_left_any(sides: &Sides<'_>, seats: &[Shared<'_>], id: ClassId) -> bool
+    requires seats { All (IsShared sides.now) seats.now }
+    requires class { id < size sides.now.old }
+    ensures { result ≡ list_any (λ a. in_chain sides.now.old a (name_at sides.now.old id) && not (in_chain sides.now.new a (name_at sides.now.old id))) (map name_of seats.now) }
 {
-    for base in bases {
-        if has_left_chain(old, new, base, id) {
+    for seat in seats {
+        if has_left_chain(sides, seat, id) {
             return true;
         }
     }
     false
 }
 
-// Whether the class is the platform's and left the chain of one of the others.
-fn has_left(old: &Table, new: &Table, bases: &[Both], id: ClassId) -> bool
-    requires bases { All (λ b. IsBoth old.now new.now (name_at old.now b.old) b) bases.now }
-    requires class { id < size old.now }
-    ensures { result ≡ left_by old.now new.now (old_names old.now bases.now) (name_at old.now id) }
+// Whether the class left the chain of the other.
+fn has_left_chain(sides: &Sides<'_>, seat: &Shared<'_>, id: ClassId) -> bool
+    requires seat { IsShared sides.now seat.now }
+    requires class { id < size sides.now.old }
+    ensures { result ≡ (in_chain sides.now.old (name_of seat.now) (name_at sides.now.old id) && not (in_chain sides.now.new (name_of seat.now) (name_at sides.now.old id))) }
 {
-    old.in_platform(id) && has_left_any(old, new, bases, id)
+    sides.old.has_super(seat.old, id) && !has_above(sides.new, seat.new, &sides.old.facts(id).name)
+}
+
+// Whether the class is the platform's and left the chain of one of the others.
+fn has_left(sides: &Sides<'_>, seats: &[Shared<'_>], id: ClassId) -> bool
+    requires seats { All (IsShared sides.now) seats.now }
+    requires class { id < size sides.now.old }
+    ensures { result ≡ left_by sides.now (map name_of seats.now) (name_at sides.now.old id) }
+{
+    sides.old.in_platform(id) && has_left_any(sides, seats, id)
 }
 
 // Adds the class, where the test passed.
@@ -136,23 +121,20 @@ fn push_where(left: &mut Vec<ClassId>, id: ClassId, passes: bool) -> Result<(), 
     }
 }
 
-/// The classes of the platform that left the chain of one of the others.
+/// The classes of the platform that left the chain of one of the seats.
 pub fn left_of(
     alloc: Global,
-    old: &Table,
-    new: &Table,
-    bases: &[Both],
+    sides: &Sides<'_>,
+    seats: &[Shared<'_>],
 ) -> Result<Vec<ClassId>, AllocError>
-    requires { All (λ b. IsBoth old.now new.now (name_at old.now b.old) b) bases.now }
-    ensures within { IfOk result (λ left. All (λ n. n < size old.now) left.items) }
-    ensures exact { IfOk result (λ left. map (name_at old.now) left.items ≡ filter (left_by old.now new.now (old_names old.now bases.now)) (names old.now)) }
+    requires { All (IsShared sides.now) seats.now }
+    ensures within { IfOk result (λ left. All (λ n. n < size sides.now.old) left.items) }
+    ensures exact { IfOk result (λ left. map (name_at sides.now.old) left.items ≡ filter (left_by sides.now (map name_of seats.now)) (names sides.now.old)) }
 {
     let mut left = Vec::new(alloc);
-    for n in 0..old.count() {
-        let Some(id) = old.id(n) else {
-            return Ok(left);
-        };
-        push_where(&mut left, id, has_left(old, new, bases, id))?;
+    for n in 0..sides.old.count() {
+        let id = sides.old.id(n).unwrap();
+        push_where(&mut left, id, has_left(sides, seats, id))?;
     }
     Ok(left)
 }
@@ -202,9 +184,9 @@ pub fn is_below_any(table: &Table, ids: &[ClassId], class: ClassId) -> bool
 
 /// Whether the platform's classes name none above themselves that a release declares, and those that
 /// left some chain are plain classes.
-pub fn is_settled(old: &Table, new: &Table, left: &[ClassId]) -> bool
-    requires { All (λ n. n < size old.now) left.now }
-    ensures { result ≡ settled old.now new.now (map (name_at old.now) left.now) }
+pub fn is_settled(sides: &Sides<'_>, left: &[ClassId]) -> bool
+    requires { All (λ n. n < size sides.now.old) left.now }
+    ensures { result ≡ settled sides.now (map (name_at sides.now.old) left.now) }
 {
-    are_apart(old, new) && are_plain(old, left)
+    are_apart(sides) && are_plain(sides.old, left)
 }

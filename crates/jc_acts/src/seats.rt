@@ -2,119 +2,141 @@
 ghost use Rattle.std.specs.Prelude.{◌≡◌, ◌<◌, IfOk};
 ghost use Rattle.std.specs.List.{All, filter};
 ghost use Rattle.jc_facts.specs.Names.{object_name};
-ghost use Rattle.jc_facts.specs.World.{size};
+ghost use Rattle.jc_facts.specs.world.World.{size};
 ghost use Rattle.jc_table.specs.Ids.{name_at};
-ghost use Rattle.jc_table.specs.Both.{IsBoth};
 ghost use Rattle.jc_table.specs.Sides.{IsSide};
-ghost use Rattle.jc_acts.specs.Seats.{AreBases, AreSeats, has_lost as loses};
+ghost use Rattle.jc_sides.specs.SharedOf.{AreThose, IsShared, name_of};
+ghost use Rattle.jc_acts.specs.Seats.{AreSeats, has_lost as loses};
 
-use crate::chains::keeps_chain;
-use crate::platform::{has_above, is_settled, left_of};
-use jc_table::ids::{Both, ClassId};
+use crate::chains::has_lost;
+use crate::platform::{is_below_any, is_settled, left_of};
+use jc_sides::shared::Shared;
+use jc_sides::sides::Sides;
+use jc_table::ids::ClassId;
 use jc_table::table::Table;
 use std::alloc::{AllocError, Global};
 
-/// The seats that clients may have, `java/lang/Object` and the base classes.
+/// The seats that clients may have.
 #[derive(Drop)]
-pub struct Seats {
-    pub(crate) root: Both,
-    pub(crate) bases: Vec<Both>,
-    // Those of the base classes whose chain lost a class.
-    pub(crate) shrunk: Vec<Both>,
+pub struct Seats<'a> {
+    // java/lang/Object, and then the base classes.
+    pub(crate) all: Vec<Shared<'a>>,
+    // Those whose chain lost a class.
+    pub(crate) shrunk: Vec<Shared<'a>>,
     // The classes of the platform that left one of their chains.
-    pub(crate) left: Vec<ClassId>,
-    // Whether the platform's other classes have no finding.
-    pub(crate) settled: bool,
+    left: Vec<ClassId>,
+    // Whether the platform's classes that stand below none of these have no closed act.
+    settled: bool,
 }
 
-// The root of all classes.
+// The number of the root of all classes.
 fn root_of(table: &Table) -> ClassId
     requires { IsSide table.now }
     ensures below { result < size table.now }
     ensures name { name_at table.now result ≡ object_name }
 {
-    match table.get(b"java/lang/Object") {
-        Some(root) => root,
-        None => unreachable!(),
-    }
+    table.get(b"java/lang/Object").unwrap()
 }
 
-// Whether a class of the class's chain on the old side isn't in its chain on the new side.
-fn has_lost(old: &Table, new: &Table, class: &Both) -> bool
-    requires { IsBoth old.now new.now (name_at old.now class.now.old) class.now }
-    ensures { result ≡ loses old.now new.now (name_at old.now class.now.old) }
+// The root of all classes.
+fn root<'a>(sides: &Sides<'a>) -> Shared<'a>
+    ensures shared { IsShared sides.now result }
+    ensures name { name_of result ≡ object_name }
 {
-    if keeps_chain(old, new, class) {
-        return false;
+    let old = root_of(sides.old);
+    let new = root_of(sides.new);
+    Shared {
+        name: &sides.old.facts(old).name,
+        old,
+        new,
     }
-    let mut next = Some(class.old);
-    for _ in 0..old.count() {
-        let Some(above) = next else {
-            return false;
-        };
-        if !has_above(new, class.new, &old.facts(above).name) {
-            return true;
-        }
-        next = old.superclass(above);
-    }
-    false
 }
 
-// Those of the classes whose chain lost a class.
-fn shrunk_of(
+// The same class once more.
+fn copy<'a>(class: &Shared<'a>) -> Shared<'a>
+    ensures { result ≡ «class».now }
+{
+    Shared {
+        name: class.name,
+        old: class.old,
+        new: class.new,
+    }
+}
+
+// Those of the seats whose chain lost a class.
+fn shrunk_of<'a>(
     alloc: Global,
-    old: &Table,
-    new: &Table,
-    bases: &[Both],
-) -> Result<Vec<Both>, AllocError>
-    requires { All (λ b. IsBoth old.now new.now (name_at old.now b.old) b) bases.now }
-    ensures { IfOk result (λ shrunk. shrunk.items ≡ filter (λ b. loses old.now new.now (name_at old.now b.old)) bases.now) }
+    sides: &Sides<'_>,
+    seats: &[Shared<'a>],
+) -> Result<Vec<Shared<'a>>, AllocError>
+    requires { All (IsShared sides.now) seats.now }
+    ensures { IfOk result (λ shrunk. shrunk.items ≡ filter (λ b. loses sides.now (name_of b)) seats.now) }
 {
     let mut shrunk = Vec::new(alloc);
-    for base in bases {
-        if has_lost(old, new, base) {
-            shrunk.push(*base)?;
+    for seat in seats {
+        if has_lost(sides, seat) {
+            shrunk.push(copy(seat))?;
         }
     }
     Ok(shrunk)
 }
 
-impl Seats {
-    ghost use Rattle.std.specs.Prelude.{◌≡◌};
+impl<'a> Seats<'a> {
+    ghost use Rattle.std.specs.Prelude.{◌≡◌, false, IsTrue, IfOk};
+    ghost use Rattle.jc_facts.specs.rule.Bases.{is_base_class, is_steady};
+    ghost use Rattle.jc_sides.specs.SharedOf.{AreThose, IsShared, name_of};
+    ghost use Rattle.jc_sides.specs.SidesOf.{SidesOf};
+    ghost use Rattle.jc_acts.specs.ClosedActs.{HasNoneClosed};
+    ghost use Rattle.jc_acts.specs.Seats.{AreSeats};
+
+    /// The seats that these base classes make, with `java/lang/Object`.
+    pub fn new(
+        alloc: Global,
+        sides: &Sides<'a>,
+        bases: Vec<Shared<'a>>,
+    ) -> Result<Seats<'a>, AllocError>
+        requires { AreThose (is_base_class sides.now.old sides.now.new) sides.now bases.items }
+        ensures { IfOk result (λ seats. AreSeats sides.now seats) }
+    {
+        let mut bases = bases;
+        let mut all = Vec::new(alloc);
+        all.push(root(sides))?;
+        all.append(&mut bases)?;
+        let shrunk = shrunk_of(alloc, sides, all.as_slice())?;
+        let left = left_of(alloc, sides, shrunk.as_slice())?;
+        let settled = is_settled(sides, left.as_slice());
+        Ok(Seats {
+            all,
+            shrunk,
+            left,
+            settled,
+        })
+    }
 
     /// The base classes.
-    pub fn bases(&self) -> &[Both]
-        ensures { result.now ≡ self.now.bases.items }
+    pub fn bases(&self) -> &[Shared<'a>]
+        ensures { (s : SidesOf) → AreSeats s self.now → AreThose (is_base_class s.old s.new) s result.now }
     {
-        self.bases.as_slice()
+        match self.all.as_slice() {
+            [] => &[],
+            [_, bases @ ..] => bases,
+        }
     }
-}
 
-/// The seats that these base classes make.
-pub fn seats_of(
-    alloc: Global,
-    old: &Table,
-    new: &Table,
-    bases: Vec<Both>,
-) -> Result<Seats, AllocError>
-    requires platform { old.now.platform ≡ new.now.platform }
-    requires bases { AreBases old.now new.now bases.items }
-    ensures { IfOk result (λ seats. AreSeats old.now new.now seats) }
-{
-    let _classes = old.count();
-    let _others = new.count();
-    let root = Both {
-        old: root_of(old),
-        new: root_of(new),
-    };
-    let shrunk = shrunk_of(alloc, old, new, bases.as_slice())?;
-    let left = left_of(alloc, old, new, shrunk.as_slice())?;
-    let settled = is_settled(old, new, left.as_slice());
-    Ok(Seats {
-        root,
-        bases,
-        shrunk,
-        left,
-        settled,
-    })
+    /// Whether an act on a member of the steady class may be closed now to a seat that could do it.
+    /// Of most classes of the platform none is, whatever the key.
+    pub fn may_close(&self, sides: &Sides<'_>, class: &Shared<'_>) -> bool
+        requires seats { AreSeats sides.now self.now }
+        requires class { IsShared sides.now «class».now }
+        requires steady { IsTrue (is_steady sides.now.old sides.now.new (name_of «class».now)) }
+        ensures { result ≡ false → HasNoneClosed sides.now (name_of «class».now) }
+    {
+        if !self.settled {
+            return true;
+        }
+        if !sides.old.in_platform(class.old) {
+            return true;
+        }
+        is_below_any(sides.old, self.left.as_slice(), class.old)
+    }
 }

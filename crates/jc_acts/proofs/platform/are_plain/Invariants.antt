@@ -1,7 +1,7 @@
 use Rattle.std.proofs.Common.{◌≡◌, drop, map}
 use Rattle.std.specs.List.{list_all}
 use Rattle.jc_table.specs.Ids.{name_at}
-use Rattle.jc_acts.specs.Settled.{is_plain}
+use Rattle.jc_acts.specs.steps.Platforms.{is_plain}
 use Rattle.jc_acts.proofs.platform.are_plain.Given as goal
 
 abbrev pub invariant-loop-id : goal.invariant-loop-id

@@ -1,6 +1,6 @@
 use Rattle.std.proofs.Common.{◌≡◌, drop, map}
 use Rattle.std.specs.List.{list_any}
-use Rattle.jc_facts.specs.Hierarchy.{in_chain}
+use Rattle.jc_facts.specs.world.Hierarchy.{in_chain}
 use Rattle.jc_table.specs.Ids.{name_at}
 use Rattle.jc_acts.proofs.platform.is_below_any.Given as goal
 

@@ -1,0 +1,4 @@
+pub mod Firsts
+pub mod LookedUp
+pub mod Platforms
+pub mod References

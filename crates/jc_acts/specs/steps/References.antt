@@ -1,0 +1,28 @@
+-- References to members, by their form.
+use Rattle.std.specs.Prelude.{List, [], ◌∷◌, IsTrue}
+use Rattle.jc_facts.specs.declared.act.Act.{Act}
+use Rattle.jc_facts.specs.declared.act.Act.TheVariants as act
+use Rattle.jc_facts.specs.declared.key.Key.{Key}
+use Rattle.jc_facts.specs.client.Acts.{Form, FieldForm, MethodForm, InterfaceForm}
+use Rattle.jc_facts.specs.rule.OpenActs.{field_acts}
+use Rattle.jc_facts.specs.rule.Bases.{is_key_of_method}
+use Rattle.jc_acts.specs.declared.lookup.Reference.{Reference}
+use Rattle.jc_acts.specs.declared.lookup.Reference.TheVariants as to
+
+-- the form of the reference (JVMS 4.4.2)
+abbrev pub form : Reference → Form
+form to.Field = FieldForm
+form to.Method = MethodForm
+form to.InterfaceMethod = InterfaceForm
+
+-- the acts by such references that a rule looks at, in this order
+abbrev pub acts_of : Reference → List Act
+acts_of to.Field = field_acts
+acts_of to.Method = act.InvokeVirtual ∷ act.InvokeStatic ∷ []
+acts_of to.InterfaceMethod = act.InvokeInterface ∷ act.InvokeStaticInterface ∷ []
+
+-- the key is one that references of the form name: no initializer's, where they are to methods
+abbrev pub MayName : Form → Key → Type 0
+MayName FieldForm k = Unit {0}
+MayName MethodForm k = IsTrue (is_key_of_method k)
+MayName InterfaceForm k = IsTrue (is_key_of_method k)
