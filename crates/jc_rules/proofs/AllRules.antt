@@ -1,5 +1,5 @@
 -- What all rules find together, and what it means.
-use Rattle.std.proofs.Common.{◌≡◌, ◌≤◌, ◌<◌, ℕ, Bool, true, false, cond, List, [], ◌++◌, refl, sym, ◌∙◌, ap, subst, Option, Some, None, ◌==◌, ◌⊎◌, inl, inr, arith}
+use Rattle.std.proofs.Common.{◌≡◌, ◌≤◌, ◌<◌, ℕ, suc, Bool, true, false, cond, List, [], ◌++◌, refl, sym, ◌∙◌, ap, subst, Option, Some, None, ◌==◌, ◌⊎◌, inl, inr, arith}
 use Rattle.std.specs.List.{All}
 use Rattle.std.specs.declared.cmp.Ordering.TheVariants.{Less}
 use Rattle.std.specs.Cmp.{nat_cmp_is}
@@ -13,23 +13,26 @@ use Rattle.jc_facts.specs.declared.verdict.Note.{Note}
 use Rattle.jc_facts.specs.declared.verdict.Note.TheVariants as note
 use Rattle.jc_facts.specs.declared.verdict.Verdict.{Verdict}
 use Rattle.jc_facts.specs.Names.{Bytes}
-use Rattle.jc_facts.specs.World.{World, side, with_clients}
-use Rattle.jc_facts.specs.Clients.{IsInScope, Keeps, facts_of}
-use Rattle.jc_facts.specs.Collisions.{collision_at, CollisionStands}
-use Rattle.jc_facts.specs.Findings.{Subject, finding_at, finding_by, subject_of, Stands}
-use Rattle.jc_facts.specs.Kept.{BreaksClass}
-use Rattle.jc_facts.specs.Meets.{Meets}
-use Rattle.jc_facts.specs.Notes.{NoteStands}
-use Rattle.jc_facts.specs.Orders.{finding_order, collision_order, note_order, HasExactly}
-use Rattle.jc_facts.specs.Verdict.{IsVerdict}
-use Rattle.jc_laws.proofs.GoneLaw.{gone_breaks}
-use Rattle.jc_laws.proofs.InOrder.{exact_same, exact_append}
-use Rattle.jc_laws.proofs.SoundnessLaws.{keeps}
+use Rattle.jc_facts.specs.world.World.{World, side, with_clients}
+use Rattle.jc_facts.specs.client.Clients.{IsInScope, Keeps, facts_of}
+use Rattle.jc_facts.specs.rule.Collisions.{collision_at, CollisionStands}
+use Rattle.jc_facts.specs.rule.Findings.{Subject, finding_at, finding_by, subject_of, Stands}
+use Rattle.jc_facts.specs.client.Kept.{BreaksClass}
+use Rattle.jc_facts.specs.client.Meets.{Meets}
+use Rattle.jc_facts.specs.rule.Notes.{NoteStands}
+use Rattle.jc_facts.specs.rule.Orders.{finding_order, collision_order, note_order}
+use Rattle.jc_facts.specs.Exactly.{HasExactly}
+use Rattle.jc_facts.specs.rule.Verdict.{IsVerdict}
+use Rattle.jc_sound.proofs.ClassGoneLaw.{class_gone_breaks}
+use Rattle.jc_facts.proofs.InOrder.{exact_same, exact_append}
+use Rattle.jc_sound.proofs.SoundnessLaws.{keeps}
 use Rattle.jc_table.specs.Sides.{IsSide}
-use Rattle.jc_rules.specs.Members.{OfCollision}
-use Rattle.jc_rules.specs.Steps.{OfRule, IsUnloadable, IsFixed}
+use Rattle.jc_rules.specs.steps.Notes.{NoteIn, IsUnloadable, IsFixed, IsConstantNote}
 use Rattle.jc_rules.proofs.ByRule.{Between, first_rule, next_rule, all_rules}
-use Rattle.jc_rules.proofs.SubjectOrder.{rule_before}
+use Rattle.jc_rules.proofs.NoteUnloadable.{notes_exact}
+use Rattle.jc_sides.specs.Rules.{IsFinding, IsCollision}
+use Rattle.jc_sides.specs.SidesOf.{SidesOf, AreSides}
+use Rattle.jc_sides.proofs.Subjects.{rule_before}
 
 -- ---- which rules there are
 
@@ -76,51 +79,49 @@ known_collision O N c h =
 
 -- ---- together
 
-collision_rule_before : (c d : Collision) → c.rule < d.rule → collision_order c d ≡ Less
+pub collision_rule_before : (c d : Collision) → c.rule < d.rule → collision_order c d ≡ Less
 collision_rule_before c d h = rw (sym (nat_cmp_is c.rule d.rule Less h)) refl
 
-module _ (O N : World) where
+module _ (s : SidesOf) where
   -- what stands of the first rules, up to this one
   abbrev pub UpTo : ℕ → Finding → Type 0
-  UpTo high = Between finding_order (λ f. f.rule) (Stands O N) rule_before 1 high
+  UpTo high = Between finding_order (λ f. f.rule) (Stands s.old s.new) rule_before 1 high
 
-  pub rules_on_classes : (a b c d : List Finding) → HasExactly finding_order (OfRule 1 O N) a → HasExactly finding_order (OfRule 2 O N) b → HasExactly finding_order (OfRule 3 O N) c → HasExactly finding_order (OfRule 4 O N) d
-      → HasExactly finding_order (UpTo 5) (a ++ b ++ c ++ d)
-  rules_on_classes a b c d ha hb hc hd =
-      next_rule finding_order (λ f. f.rule) (Stands O N) rule_before 1 4 (omega arith) (a ++ b ++ c) d
-      (next_rule finding_order (λ f. f.rule) (Stands O N) rule_before 1 3 (omega arith) (a ++ b) c
-      (next_rule finding_order (λ f. f.rule) (Stands O N) rule_before 1 2 (omega arith) a b
-      (first_rule finding_order (λ f. f.rule) (Stands O N) rule_before 1 a ha) hb) hc) hd
+  pub first : {xs : List Finding} → HasExactly finding_order (IsFinding 1 s) xs → HasExactly finding_order (UpTo 2) xs
+  first {xs} h = first_rule finding_order (λ f. f.rule) (Stands s.old s.new) rule_before 1 xs h
 
-  pub rules_on_members : (front a b c d e : List Finding) → HasExactly finding_order (UpTo 5) front → HasExactly finding_order (OfRule 5 O N) a → HasExactly finding_order (OfRule 6 O N) b → HasExactly finding_order (OfRule 7 O N) c
-      → HasExactly finding_order (OfRule 8 O N) d → HasExactly finding_order (OfRule 9 O N) e → HasExactly finding_order (Stands O N) (front ++ a ++ b ++ c ++ d ++ e)
-  rules_on_members front a b c d e h ha hb hc hd he =
-      all_rules finding_order (λ f. f.rule) (Stands O N) rule_before 1 10 (known_finding O N) (front ++ a ++ b ++ c ++ d ++ e)
-      (next_rule finding_order (λ f. f.rule) (Stands O N) rule_before 1 9 (omega arith) (front ++ a ++ b ++ c ++ d) e
-      (next_rule finding_order (λ f. f.rule) (Stands O N) rule_before 1 8 (omega arith) (front ++ a ++ b ++ c) d
-      (next_rule finding_order (λ f. f.rule) (Stands O N) rule_before 1 7 (omega arith) (front ++ a ++ b) c
-      (next_rule finding_order (λ f. f.rule) (Stands O N) rule_before 1 6 (omega arith) (front ++ a) b
-      (next_rule finding_order (λ f. f.rule) (Stands O N) rule_before 1 5 (omega arith) front a h ha) hb) hc) hd) he)
+  -- one more rule
+  pub next : (high : ℕ) → 1 ≤ high → {xs ys zs : List Finding} → HasExactly finding_order (UpTo high) xs → HasExactly finding_order (IsFinding high s) ys → zs ≡ xs ++ ys → HasExactly finding_order (UpTo (suc high)) zs
+  next high l {xs} {ys} {zs} h k e = subst (HasExactly finding_order (UpTo (suc high))) (sym e) (next_rule finding_order (λ f. f.rule) (Stands s.old s.new) rule_before 1 high l xs ys h k)
 
-  pub all_collisions : (a b c : List Collision) → HasExactly collision_order (OfCollision 10 O N) a → HasExactly collision_order (OfCollision 11 O N) b → HasExactly collision_order (OfCollision 12 O N) c
-      → HasExactly collision_order (CollisionStands O N) (a ++ b ++ c)
-  all_collisions a b c ha hb hc =
-      all_rules collision_order (λ c. c.rule) (CollisionStands O N) collision_rule_before 10 13 (known_collision O N) (a ++ b ++ c)
-      (next_rule collision_order (λ c. c.rule) (CollisionStands O N) collision_rule_before 10 12 (omega arith) (a ++ b) c
-      (next_rule collision_order (λ c. c.rule) (CollisionStands O N) collision_rule_before 10 11 (omega arith) a b
-      (first_rule collision_order (λ c. c.rule) (CollisionStands O N) collision_rule_before 10 a ha) hb) hc)
+  pub all_findings : {xs : List Finding} → HasExactly finding_order (UpTo 10) xs → HasExactly finding_order (Stands s.old s.new) xs
+  all_findings {xs} h = all_rules finding_order (λ f. f.rule) (Stands s.old s.new) rule_before 1 10 (known_finding s.old s.new) xs h
 
-  pub all_notes : (a b : List Note) → HasExactly note_order (λ n. IsUnloadable n × NoteStands O N n) a → HasExactly note_order (λ n. IsFixed n × NoteStands O N n) b
-      → HasExactly note_order (NoteStands O N) (a ++ b)
-  all_notes a b ha hb =
-      exact_same note_order (λ n. (IsUnloadable n × NoteStands O N n) ⊎ (IsFixed n × NoteStands O N n)) (NoteStands O N) (a ++ b) to from
-      (exact_append note_order (λ n. IsUnloadable n × NoteStands O N n) (λ n. IsFixed n × NoteStands O N n) a b ha hb (λ m n p q. before m n p.0 q.0))
+  -- the same of collisions
+  abbrev pub ToCollision : ℕ → Collision → Type 0
+  ToCollision high = Between collision_order (λ c. c.rule) (CollisionStands s.old s.new) collision_rule_before 10 high
+
+  pub first_collision : {xs : List Collision} → HasExactly collision_order (IsCollision 10 s) xs → HasExactly collision_order (ToCollision 11) xs
+  first_collision {xs} h = first_rule collision_order (λ c. c.rule) (CollisionStands s.old s.new) collision_rule_before 10 xs h
+
+  pub next_collision : (high : ℕ) → 10 ≤ high → {xs ys zs : List Collision} → HasExactly collision_order (ToCollision high) xs → HasExactly collision_order (IsCollision high s) ys → zs ≡ xs ++ ys → HasExactly collision_order (ToCollision (suc high)) zs
+  next_collision high l {xs} {ys} {zs} h k e = subst (HasExactly collision_order (ToCollision (suc high))) (sym e) (next_rule collision_order (λ c. c.rule) (CollisionStands s.old s.new) collision_rule_before 10 high l xs ys h k)
+
+  pub all_collisions : {xs : List Collision} → HasExactly collision_order (ToCollision 13) xs → HasExactly collision_order (CollisionStands s.old s.new) xs
+  all_collisions {xs} h = all_rules collision_order (λ c. c.rule) (CollisionStands s.old s.new) collision_rule_before 10 13 (known_collision s.old s.new) xs h
+
+  -- notes on classes, and then on constants
+  pub all_notes : {ms ns ds es fs : List Note} → HasExactly note_order (NoteIn s.old true) ms → HasExactly note_order (NoteIn s.new false) ns → es ≡ ms ++ ns → HasExactly note_order (IsConstantNote s) ds → fs ≡ es ++ ds → HasExactly note_order (NoteStands s.old s.new) fs
+  all_notes {ms} {ns} {ds} {es} {fs} ha hb e hd g =
+      subst (HasExactly note_order (NoteStands s.old s.new)) (sym (g ∙ ap (λ (xs : List Note). xs ++ ds) e))
+      (exact_same note_order (λ n. (IsUnloadable n × NoteStands s.old s.new n) ⊎ IsConstantNote s n) (NoteStands s.old s.new) (ms ++ ns ++ ds) to from
+      (exact_append note_order (λ n. IsUnloadable n × NoteStands s.old s.new n) (IsConstantNote s) (ms ++ ns) ds (notes_exact s.old s.new ms ns ha hb) hd (λ m n p q. before m n p.0 q.0)))
     where
-      to : (n : Note) → (IsUnloadable n × NoteStands O N n) ⊎ (IsFixed n × NoteStands O N n) → NoteStands O N n
+      to : (n : Note) → (IsUnloadable n × NoteStands s.old s.new n) ⊎ IsConstantNote s n → NoteStands s.old s.new n
       to n (inl p) = p.1
       to n (inr p) = p.1
 
-      from : (n : Note) → NoteStands O N n → (IsUnloadable n × NoteStands O N n) ⊎ (IsFixed n × NoteStands O N n)
+      from : (n : Note) → NoteStands s.old s.new n → (IsUnloadable n × NoteStands s.old s.new n) ⊎ IsConstantNote s n
       from (note.Unloadable old x e) h = inl (tt, h)
       from (note.Fixed x k) h = inr (tt, h)
 
@@ -140,19 +141,19 @@ side_of W p s e = ap (λ cs. record { platform = W.platform; release = W.release
 abbrev pub MeetsNone : World → List ClientClass → List Collision → Type 0
 MeetsNone O cs = All (λ c. ¬ (Meets (with_clients O (facts_of cs)) cs c))
 
-module _ (O N : World) (so : IsSide O) (sn : IsSide N) (same : O.platform ≡ N.platform) where
+module _ (O N : World) (are : AreSides (record { old = O; new = N })) where
   old_is : O ≡ side O.platform O.release
-  old_is = side_of O O.platform so refl
+  old_is = side_of O O.platform are.old_side refl
 
   new_is : N ≡ side O.platform N.release
-  new_is = side_of N O.platform sn (sym same)
+  new_is = side_of N O.platform are.new_side (sym are.platform)
 
   abbrev Kept : Verdict → World → World → Type 0
   Kept v A B = IsVerdict A B v → v.findings ≡ [] → (cs : List ClientClass) → IsInScope A B cs → MeetsNone A cs v.collisions → Keeps A B cs
 
   kept : (v : Verdict) → Kept v O N
   kept v = subst (λ (A : World). Kept v A N) (sym old_is) (subst (λ (B : World). Kept v (side O.platform O.release) B) (sym new_is)
-      (λ verdict e cs scope met. keeps O.platform O.release N.release v cs so.root so.platform so.release sn.release verdict e scope met))
+      (λ verdict e cs scope met. keeps O.platform O.release N.release v cs are.old_side.root are.old_side.platform are.old_side.release are.new_side.release verdict e scope met))
 
   pub nothing_breaks : (v : Verdict) → IsVerdict O N v → v.findings ≡ [] → (cs : List ClientClass) → IsInScope O N cs → MeetsNone O cs v.collisions → Keeps O N cs
   nothing_breaks v = kept v
@@ -161,7 +162,7 @@ module _ (O N : World) (so : IsSide O) (sn : IsSide N) (same : O.platform ≡ N.
   Breaks A B = (s : Subject) (f : Finding) → s.rule ≡ 1 → finding_at A B s ≡ Some f → BreaksClass A B f.«class» f.error
 
   breaks : Breaks O N
-  breaks = subst (λ (A : World). Breaks A N) (sym old_is) (subst (λ (B : World). Breaks (side O.platform O.release) B) (sym new_is) (gone_breaks O.platform O.release N.release so.platform so.release))
+  breaks = subst (λ (A : World). Breaks A N) (sym old_is) (subst (λ (B : World). Breaks (side O.platform O.release) B) (sym new_is) (class_gone_breaks O.platform O.release N.release are.old_side.platform are.old_side.release))
 
   pub gone_break : (fs : List Finding) → HasExactly finding_order (Stands O N) fs → All (λ f. f.rule ≡ 1 → BreaksClass O N f.«class» f.error) fs
   gone_break fs h = All-weaker (Stands O N) (λ f. f.rule ≡ 1 → BreaksClass O N f.«class» f.error) (λ f p r. breaks (subject_of f) f r p) fs h.sound

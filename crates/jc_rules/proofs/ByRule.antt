@@ -4,8 +4,8 @@ use Rattle.std.proofs.Math.Dec.{eqb}
 use Rattle.std.proofs.lemmas.Bool.Decides.{eqb_tells}
 use Rattle.std.specs.declared.cmp.Ordering.{Ordering}
 use Rattle.std.specs.declared.cmp.Ordering.TheVariants.{Less}
-use Rattle.jc_facts.specs.Orders.{HasExactly}
-use Rattle.jc_laws.proofs.InOrder.{exact_same, exact_append}
+use Rattle.jc_facts.specs.Exactly.{HasExactly}
+use Rattle.jc_facts.proofs.InOrder.{exact_same, exact_append}
 
 -- the rules of things, which decide their order
 module _ {F : Type 0} (order : F → F → Ordering) (rule_of : F → ℕ) (Stand : F → Type 0) (apart : (f g : F) → rule_of f < rule_of g → order f g ≡ Less) where

@@ -7,18 +7,17 @@ use Rattle.std.proofs.lemmas.Bool.{both_ways, eq-eqb, ltb-true, lt-ltb}
 use Rattle.std.proofs.lemmas.Map.Views.{exact_unsigned_eq}
 use Rattle.jc_facts.specs.declared.class_facts.ClassFacts.{ClassFacts}
 use Rattle.jc_facts.specs.Names.{Bytes, same}
-use Rattle.jc_facts.specs.World.{World, find, size}
+use Rattle.jc_facts.specs.world.World.{World, find_class, size}
 use Rattle.jc_facts.specs.Options.{and_then}
-use Rattle.jc_facts.specs.Search.{descend, of_class}
-use Rattle.jc_facts.specs.Hierarchy.{chain, chain_step, of_super, names_in, in_chain}
+use Rattle.jc_facts.specs.world.Search.{descend, of_class}
+use Rattle.jc_facts.specs.world.Hierarchy.{chain, chain_step, of_super, names_in, in_chain}
 use Rattle.jc_table.specs.Ids.{name_at, id_of, superclass_of}
 use Rattle.jc_table.specs.Sides.{IsSide}
-use Rattle.jc_rules.specs.Chains.{HasChain}
-use Rattle.jc_laws.proofs.Descent.{descend-absent, descend-found}
-use Rattle.jc_laws.proofs.Worlds.{find-name, same_is, same_itself}
-use Rattle.jc_rules.proofs.Numbers.{id_below, name_of_id, id_of_name}
-use Rattle.jc_table.proofs.Numbers.{id-find}
-use Rattle.jc_rules.proofs.Unusable.{absent}
+use Rattle.jc_rules.specs.steps.Chains.{HasChain}
+use Rattle.jc_worlds.proofs.Descent.{descend-absent, descend-found}
+use Rattle.jc_facts.proofs.World.{find-name}
+use Rattle.jc_facts.proofs.Same.{same_is, same_itself}
+use Rattle.jc_table.proofs.Numbers.{find-None, id-find, id_of-Some, id_of-name_at}
 
 -- the classes that n levels lead to from the number that is next
 abbrev pub walk : World → ℕ → Option ℕ → List ClassFacts
@@ -33,26 +32,26 @@ pub record HasWalked (W : World) (x : Bytes) (left : ℕ) (next : Option ℕ) (s
 
 -- ---- the classes of two levels
 
-of_no_class : {B : Type 0} (W : World) (missing deep : B) (step : (Bytes → B) → ClassFacts → B) (n : ℕ) (x : Bytes) → find W x ≡ None → descend W missing deep step n x ≡ missing
+of_no_class : {B : Type 0} (W : World) (missing deep : B) (step : (Bytes → B) → ClassFacts → B) (n : ℕ) (x : Bytes) → find_class W x ≡ None → descend W missing deep step n x ≡ missing
 of_no_class W missing deep step n x e = descend-absent W missing deep step n x e
 
 -- no level is left
 walked_out : (W : World) (next : Option ℕ) → walk W 0 next ≡ []
 unfolding descend
 walked_out W None = refl
-walked_out W (Some k) = go (find W (name_at W k))
+walked_out W (Some k) = go (find_class W (name_at W k))
   where
     go : (o : Option ClassFacts) → of_class {B = List ClassFacts} [] (λ c. []) o ≡ []
     go None = refl
     go (Some c) = refl
 
 -- a class that is there
-there : (W : World) → IsSide W → (k : ℕ) → k < size W → (c : ClassFacts) × (find W (name_at W k) ≡ Some c)
-there W s k h = go (find W (name_at W k)) refl
+there : (W : World) → IsSide W → (k : ℕ) → k < size W → (c : ClassFacts) × (find_class W (name_at W k) ≡ Some c)
+there W s k h = go (find_class W (name_at W k)) refl
   where
-    go : (o : Option ClassFacts) → find W (name_at W k) ≡ o → (c : ClassFacts) × (find W (name_at W k) ≡ Some c)
+    go : (o : Option ClassFacts) → find_class W (name_at W k) ≡ o → (c : ClassFacts) × (find_class W (name_at W k) ≡ Some c)
     go (Some c) e = (c, e)
-    go None e = absurd (let z : true ≡ false = ap is_some (sym (id_of_name W s k h)) ∙ id-find W (name_at W k) ∙ ap is_some e in cc)
+    go None e = absurd (let z : true ≡ false = ap is_some (sym (id_of-name_at W k s.differ h)) ∙ id-find W (name_at W k) ∙ ap is_some e in cc)
 
 -- what the superclass leads to
 from_super : (W : World) (m : ℕ) (o : Option Bytes) → of_super (descend W [] [] chain_step m) o ≡ walk W m (and_then (id_of W) o)
@@ -61,14 +60,14 @@ from_super W m None = refl
 from_super W m (Some s) = go (id_of W s) refl
   where
     go : (i : Option ℕ) → id_of W s ≡ i → descend W [] [] chain_step m s ≡ walk W m i
-    go None e = of_no_class W [] [] chain_step m s (absent W s e)
-    go (Some k) e = ap (descend W [] [] chain_step m) (sym (name_of_id W s k e))
+    go None e = of_no_class W [] [] chain_step m s (find-None W s e)
+    go (Some k) e = ap (descend W [] [] chain_step m) (sym ((id_of-Some W s k e).1))
 
-unrolled : (W : World) (m : ℕ) (x : Bytes) (c : ClassFacts) → find W x ≡ Some c → descend W [] [] chain_step (suc m) x ≡ c ∷ of_super (descend W [] [] chain_step m) c.superclass
+unrolled : (W : World) (m : ℕ) (x : Bytes) (c : ClassFacts) → find_class W x ≡ Some c → descend W [] [] chain_step (suc m) x ≡ c ∷ of_super (descend W [] [] chain_step m) c.superclass
 unfolding chain_step
 unrolled W m x c e = descend-found W [] [] chain_step m x c e
 
-super_of_found : (W : World) (x : Bytes) (c : ClassFacts) → find W x ≡ Some c → superclass_of W x ≡ and_then (id_of W) c.superclass
+super_of_found : (W : World) (x : Bytes) (c : ClassFacts) → find_class W x ≡ Some c → superclass_of W x ≡ and_then (id_of W) c.superclass
 unfolding superclass_of and_then
 super_of_found W x c e = rw e refl
 
@@ -83,15 +82,15 @@ level W s m k h y =
 
 -- names of two numbers
 names_apart : (W : World) → IsSide W → (k q : ℕ) → k < size W → q < size W → same (name_at W k) (name_at W q) ≡ true → k ≡ q
-names_apart W s k q h j e = let z : Some k ≡ Some q = sym (id_of_name W s k h) ∙ ap (id_of W) (same_is (name_at W k) (name_at W q) e) ∙ id_of_name W s q j in cc
+names_apart W s k q h j e = let z : Some k ≡ Some q = sym (id_of-name_at W k s.differ h) ∙ ap (id_of W) (same_is (name_at W k) (name_at W q) e) ∙ id_of-name_at W q s.differ j in cc
 
 super_below : (W : World) (x : Bytes) (q : ℕ) → superclass_of W x ≡ Some q → q < size W
 unfolding superclass_of and_then
-super_below W x q e = go (find W x) e
+super_below W x q e = go (find_class W x) e
   where
     named : (o : Option Bytes) → and_then (id_of W) o ≡ Some q → q < size W
     named None e = absurd (cc)
-    named (Some z) e = id_below W z q e
+    named (Some z) e = (id_of-Some W z q e).0
 
     go : (o : Option ClassFacts) → and_then (λ c. and_then (id_of W) c.superclass) o ≡ Some q → q < size W
     go None e = absurd (cc)

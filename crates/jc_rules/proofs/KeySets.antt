@@ -1,28 +1,24 @@
 -- Ordered sets of keys, and what a loop over them collects.
-use Rattle.std.proofs.Common.{◌≡◌, ◌<◌, ◌≤◌, ◌+◌, ℕ, Bool, true, false, cond, ◌||◌, ◌&&◌, List, [], ◌∷◌, ◌++◌, length, get_or, refl, sym, ◌∙◌, ap, Option, Some, take, append_assoc}
+use Rattle.std.proofs.Common.{◌≡◌, ◌<◌, ◌≤◌, ◌+◌, ℕ, Bool, true, false, cond, ◌||◌, ◌&&◌, List, [], ◌∷◌, ◌++◌, length, get_or, refl, sym, ◌∙◌, ap, subst, Option, Some, take}
 use Rattle.std.specs.BTreeSet as sorted
-use Rattle.std.specs.List.{list_any, find as first_where, filter_map, cons_option}
+use Rattle.std.specs.List.{list_any, find as first_where}
 use Rattle.std.specs.List.Sorted.{IsStrictlySortedBy}
-use Rattle.std.specs.declared.cmp.Ordering.{Ordering}
-use Rattle.std.specs.declared.cmp.Ordering.TheVariants.{Less}
 use Rattle.std.specs.Ordering.{is_eq}
 use Rattle.std.proofs.lemmas.Map.Lookups.{CmpEqualImpliesEq}
 use Rattle.std.proofs.lemmas.Map.Views.{btree_set_contains_iff}
-use Rattle.std.proofs.lemmas.List.{append-nil, take_more, take_all}
-use Rattle.std.proofs.lemmas.List.Elements.{filter_map-append, All-from_recursion}
+use Rattle.std.proofs.lemmas.List.{take_more, take_all}
 use Rattle.jc_facts.specs.declared.class_facts.Member.{Member}
 use Rattle.jc_facts.specs.declared.class_facts.Fixed.{Fixed}
 use Rattle.jc_facts.specs.declared.key.Key.{Key}
 use Rattle.jc_facts.specs.Names.{same, same_key, is_key, key_of}
 use Rattle.jc_facts.specs.Options.{some_and}
 use Rattle.jc_facts.specs.KeyOrder.{key_cmp, key_total, key_ties}
-use Rattle.jc_facts.specs.Orders.{Rises, HasExactly}
+use Rattle.jc_facts.specs.Exactly.{Rises}
 use Rattle.jc_facts.proofs.Same.{same_is}
-use Rattle.jc_facts.proofs.Tests.{parts}
-use Rattle.jc_laws.proofs.InOrder.{each_from}
-use Rattle.jc_laws.proofs.Finals.{any-append}
-use Rattle.jc_table.proofs.Exactly.{exact_over}
-use Rattle.jc_rules.specs.Keys.{Adds, HasEach, has_member, has_constant}
+use Rattle.std.proofs.lemmas.Bool.{and_parts}
+use Rattle.std.proofs.lemmas.List.Folds.{list_any-append}
+use Rattle.jc_sides.specs.Rules.{HasEachKey}
+use Rattle.jc_rules.specs.steps.Keys.{Adds, HasEach, has_member, has_constant}
 
 -- ---- one more key
 
@@ -42,12 +38,6 @@ put_adds k wanted before after w u o = record {
 or_none : (a : Bool) → a ≡ (a || false)
 or_none true = refl
 or_none false = refl
-
-pub put_nothing : (k : Key) (wanted : Bool) (keys : sorted.BTreeSet Key) → wanted ≡ false → Adds (λ q. wanted && same_key k q) keys keys
-put_nothing k wanted keys w = record {
-  ordered = λ o. o;
-  has = λ q. or_none (sorted.contains key_cmp keys q) ∙ ap (λ (b : Bool). sorted.contains key_cmp keys q || (b && same_key k q)) (sym w);
-}
 
 -- ---- a loop that adds
 
@@ -70,7 +60,7 @@ adds_more p d xs i first before after l h k = record {
   ordered = λ o. k.ordered (h.ordered o);
   has = λ q. k.has q ∙ ap (λ (b : Bool). b || p q (get_or xs i d)) (h.has q)
       ∙ or_assoc (sorted.contains key_cmp first q) (list_any (p q) (take i xs)) (p q (get_or xs i d))
-      ∙ ap (λ (b : Bool). sorted.contains key_cmp first q || b) (ap (λ (b : Bool). list_any (p q) (take i xs) || b) (or_none (p q (get_or xs i d))) ∙ sym (any-append (p q) (take i xs) (get_or xs i d ∷ [])) ∙ ap (list_any (p q)) (sym (take_more xs i d l)));
+      ∙ ap (λ (b : Bool). sorted.contains key_cmp first q || b) (ap (λ (b : Bool). list_any (p q) (take i xs) || b) (or_none (p q (get_or xs i d))) ∙ sym (list_any-append (p q) (take i xs) (get_or xs i d ∷ [])) ∙ ap (list_any (p q)) (sym (take_more xs i d l)));
 }
 
 -- the same is listed
@@ -126,7 +116,7 @@ some_member test (m ∷ ms) q h = go (is_key q m) refl h (some_member test ms q)
 key_exact : CmpEqualImpliesEq key_cmp
 key_exact x y e =
     let tied : same_key x y ≡ true = key_ties x y ∙ ap is_eq e in
-    let p = parts (same x.name y.name) (same x.descriptor y.descriptor) tied in
+    let p = and_parts (same x.name y.name) (same x.descriptor y.descriptor) tied in
     ap (λ n. record { name = n; descriptor = x.descriptor }) (same_is x.name y.name p.0) ∙ ap (λ d. record { name = y.name; descriptor = d }) (same_is x.descriptor y.descriptor p.1)
 
 rising : (ks : List Key) → IsStrictlySortedBy key_cmp ks → Rises key_cmp ks
@@ -134,44 +124,8 @@ unfolding IsStrictlySortedBy Rises
 rising [] o = tt
 rising (k ∷ ks) o = (o.0, rising ks o.1)
 
--- the keys of a set are exactly those that it has
-keys_exact : (keys : sorted.BTreeSet Key) → sorted.IsOrdered key_cmp keys → HasExactly key_cmp (λ k. sorted.contains key_cmp keys k ≡ true) keys.keys
-keys_exact keys o = record {
-  in_order = rising keys.keys o;
-  sound = All-from_recursion (λ k. sorted.contains key_cmp keys k ≡ true) keys.keys (each_from (λ k. sorted.contains key_cmp keys k ≡ true) keys.keys (λ k c. (btree_set_contains_iff key_total key_exact keys k).1 c));
-  complete = λ k c. (btree_set_contains_iff key_total key_exact keys k).0 c;
-}
-
--- a key of the set gives the thing
-pub record OfKey {F : Type 0} (h : Key → Option F) (keys : sorted.BTreeSet Key) (f : F) : Type 0 where
-  pub key : Key
-  pub has : sorted.contains key_cmp keys key ≡ true
-  pub gives : h key ≡ Some f
-
-module _ {F : Type 0} (order : F → F → Ordering) (h : Key → Option F) (later : (k l : Key) (f g : F) → key_cmp k l ≡ Less → h k ≡ Some f → h l ≡ Some g → order f g ≡ Less) where
-  pub set_exact : (Stand : F → Type 0) (keys : sorted.BTreeSet Key) → sorted.IsOrdered key_cmp keys → ((k : Key) (f : F) → h k ≡ Some f → Stand f) → ((f : F) → Stand f → OfKey h keys f) → HasExactly order Stand (filter_map h keys.keys)
-  set_exact Stand keys o sound complete =
-      exact_over key_cmp order h later (λ k. sorted.contains key_cmp keys k ≡ true) Stand keys.keys (keys_exact keys o) (λ k f c e. sound k f e)
-      (λ f s. let g = complete f s in record { place = g.key; stands = g.has; gives = g.gives })
-
--- what has been collected of the front, with what is ahead
-pub record IsFront {F : Type 0} (h : Key → Option F) (all ahead : List Key) (fs : List F) : Type 0 where
-  pub front : List Key
-  pub whole : all ≡ front ++ ahead
-  pub items : fs ≡ filter_map h front
-
-module _ {F : Type 0} (h : Key → Option F) where
-  pub front_start : (all ahead : List Key) (fs : List F) → ahead ≡ all → fs ≡ [] → IsFront h all ahead fs
-  front_start all ahead fs a e = record { front = []; whole = sym a; items = e }
-
-  -- one more key
-  pub front_more : (all ahead rest : List Key) (k : Key) (o : Option F) (fs gs : List F) → IsFront h all ahead fs → ahead ≡ k ∷ rest → o ≡ h k → gs ≡ fs ++ cons_option o [] → IsFront h all rest gs
-  front_more all ahead rest k o fs gs i e q g = record {
-    front = i.front ++ k ∷ [];
-    whole = i.whole ∙ ap (λ (ks : List Key). i.front ++ ks) e ∙ sym (append_assoc i.front (k ∷ []) rest);
-    items = g ∙ ap (λ (xs : List F). xs ++ cons_option o []) i.items ∙ ap (λ (p : Option F). filter_map h i.front ++ cons_option p []) q ∙ sym (filter_map-append h i.front (k ∷ []));
-  }
-
-  -- all keys
-  pub front_all : (all ahead : List Key) (fs : List F) → IsFront h all ahead fs → ahead ≡ [] → fs ≡ filter_map h all
-  front_all all ahead fs i e = i.items ∙ ap (filter_map h) (sym (i.whole ∙ ap (λ (ks : List Key). i.front ++ ks) e ∙ append-nil i.front))
+-- a set that has each key of which something is made, as a list
+pub set_keys : {F : Type 0} (makes : Key → Option F) (listed : Key → Bool) (set : sorted.BTreeSet Key) (keys : List Key) → HasEach listed set → keys ≡ set.keys → ((k : Key) (f : F) → makes k ≡ Some f → listed k ≡ true) → HasEachKey makes keys
+set_keys makes listed set keys h e says =
+    subst (HasEachKey makes) (sym e)
+    (record { in_order = rising set.keys h.ordered; each = λ k f m. (btree_set_contains_iff key_total key_exact set k).0 (h.has k (says k f m)) })

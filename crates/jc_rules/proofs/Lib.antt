@@ -1,32 +1,18 @@
-pub mod Numbers
-pub mod Kept
-pub mod BecameClass
-pub mod SubjectOrder
-pub mod ChainFinding
-pub mod ClassRules
-pub mod AllRules
-pub mod NoteMade
-pub mod Notes
-pub mod AllChains
-pub mod Inverted
-pub mod Unusable
-pub mod ChainWalk
-pub mod ClosedFinding
-pub mod Utf8
-pub mod Reported
-pub mod Loops
-pub mod BaseClasses
-pub mod OnKeys
-pub mod OverBases
-pub mod BaseParts
-pub mod LostMethods
-pub mod NewConstants
-pub mod Captured
-pub mod ClosedActs
-pub mod KeySets
-pub mod KeyRules
-pub mod ByClasses
-pub mod LostInits
-pub mod NewFinals
-pub mod LostConstants
-pub mod ByRule
+mod KeySets
+mod ClassGone
+mod ClassClosed
+mod InterfaceBecameClass
+mod ConstructorClosed
+mod MethodMadeFinal
+mod InterfaceMethodLost
+mod ConstantAdded
+mod CaptureAdded
+mod NoteUnloadable
+mod NoteConstant
+mod ClosedActs
+mod FieldClosed
+mod MethodClosed
+mod ChainWalk
+mod SuperclassLost
+mod ByRule
+mod AllRules

@@ -1,8 +1,1 @@
-pub mod Steps
-pub mod Chains
-pub mod Bases
-pub mod Members
-pub mod Keys
-pub mod Inits
-pub mod Finals
-pub mod Constants
+pub mod steps

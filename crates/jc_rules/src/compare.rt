@@ -1,103 +1,106 @@
 //! The comparison of two sides.
 ghost use Rattle.std.specs.Prelude.{◌≡◌, List, [], IfOk};
 ghost use Rattle.std.specs.List.{All};
+ghost use Rattle.jc_acts.specs.Seats.{AreSeats};
 ghost use Rattle.jc_facts.specs.declared.client.ClientClass.{ClientClass};
-ghost use Rattle.jc_facts.specs.Clients.{IsInScope, Keeps, facts_of};
-ghost use Rattle.jc_facts.specs.Collisions.{CollisionStands};
-ghost use Rattle.jc_facts.specs.Findings.{Stands};
-ghost use Rattle.jc_facts.specs.Kept.{BreaksClass};
-ghost use Rattle.jc_facts.specs.Meets.{Meets};
-ghost use Rattle.jc_facts.specs.Notes.{NoteStands};
-ghost use Rattle.jc_facts.specs.Orders.{finding_order, collision_order, note_order, HasExactly};
-ghost use Rattle.jc_facts.specs.Verdict.{IsVerdict};
-ghost use Rattle.jc_facts.specs.World.{with_clients};
-ghost use Rattle.jc_acts.specs.Seats.{AreBases, AreSeats};
-ghost use Rattle.jc_table.specs.Sides.{IsSide};
-ghost use Rattle.jc_rules.specs.Bases.{AreBaseInterfaces};
-ghost use Rattle.jc_rules.specs.Steps.{UpToRule};
+ghost use Rattle.jc_facts.specs.client.Clients.{IsInScope, Keeps, facts_of};
+ghost use Rattle.jc_facts.specs.rule.Collisions.{CollisionStands};
+ghost use Rattle.jc_facts.specs.rule.Findings.{Stands};
+ghost use Rattle.jc_facts.specs.client.Kept.{BreaksClass};
+ghost use Rattle.jc_facts.specs.client.Meets.{Meets};
+ghost use Rattle.jc_facts.specs.rule.Notes.{NoteStands};
+ghost use Rattle.jc_facts.specs.rule.Orders.{finding_order, collision_order, note_order};
+ghost use Rattle.jc_facts.specs.Exactly.{HasExactly};
+ghost use Rattle.jc_facts.specs.rule.Verdict.{IsVerdict};
+ghost use Rattle.jc_facts.specs.rule.Bases.{is_steady, is_base_class, is_base_interface};
+ghost use Rattle.jc_facts.specs.world.World.{with_clients};
+ghost use Rattle.jc_rules.specs.steps.Classes.{UpToRule};
+ghost use Rattle.jc_sides.specs.SharedOf.{AreThose};
 
-use crate::acts::{closed_field_acts, closed_method_acts};
-use crate::bases::{base_classes, base_interfaces};
-use crate::captures::captures;
-use crate::chain::left_chains;
-use crate::closed::closed_classes;
-use crate::constants::new_constants;
-use crate::finals::{final_collisions, new_finals};
-use crate::fixed::changed_constants;
-use crate::gone::gone_classes;
-use crate::inherits::lost_methods;
-use crate::inits::closed_inits;
-use crate::kind::stopped_interfaces;
-use crate::unloadable::unloadable_classes;
-use jc_acts::seats::{Seats, seats_of};
+use crate::capture_added::CaptureAdded;
+use crate::class_closed::ClassClosed;
+use crate::class_gone::ClassGone;
+use crate::constant_added::ConstantAdded;
+use crate::constructor_closed::ConstructorClosed;
+use crate::field_closed::FieldClosed;
+use crate::interface_became_class::InterfaceBecameClass;
+use crate::interface_method_lost::InterfaceMethodLost;
+use crate::method_closed::MethodClosed;
+use crate::method_made_final::{MethodMadeFinal, MethodMadeFinalMet};
+use crate::note_constant::{InBothReleases, NoteConstant};
+use crate::note_unloadable::note_unloadable;
+use crate::superclass_lost::superclass_lost;
+use jc_acts::seats::Seats;
 use jc_base::items::Items;
 use jc_facts::finding::Finding;
 use jc_facts::verdict::{Collision, Note, Verdict};
-use jc_table::ids::Both;
+use jc_sides::class_rule::by_class;
+use jc_sides::classes::{base_classes, base_interfaces, classes_where, steady_classes};
+use jc_sides::item_rule::by_items;
+use jc_sides::shared::Shared;
+use jc_sides::sides::Sides;
 use jc_table::table::Table;
 use std::alloc::{AllocError, Global};
 
 // The findings on classes and their hierarchies, rule by rule.
-fn findings_on_classes(alloc: Global, old: &Table, new: &Table) -> Result<Vec<Finding>, AllocError>
-    ensures { IfOk result (λ found. HasExactly finding_order (UpToRule 4 old.now new.now) found.items) }
+fn findings_on_classes(alloc: Global, sides: &Sides<'_>) -> Result<Vec<Finding>, AllocError>
+    ensures { IfOk result (λ found. HasExactly finding_order (UpToRule 4 sides.now) found.items) }
 {
-    let mut findings = gone_classes(alloc, old, new)?;
-    findings.append(&mut closed_classes(alloc, old, new)?)?;
-    findings.append(&mut stopped_interfaces(alloc, old, new)?)?;
-    findings.append(&mut left_chains(alloc, old, new)?)?;
+    let mut findings = by_class(alloc, sides, &ClassGone)?;
+    findings.append(&mut by_class(alloc, sides, &ClassClosed)?)?;
+    findings.append(&mut by_class(alloc, sides, &InterfaceBecameClass)?)?;
+    findings.append(&mut superclass_lost(alloc, sides)?)?;
     Ok(findings)
 }
 
 // All findings, rule by rule.
 fn findings(
     alloc: Global,
-    old: &Table,
-    new: &Table,
-    seats: &Seats,
-    interfaces: &[Both],
+    sides: &Sides<'_>,
+    seats: &Seats<'_>,
+    steady: &[Shared<'_>],
+    interfaces: &[Shared<'_>],
 ) -> Result<Vec<Finding>, AllocError>
-    requires platform { old.now.platform ≡ new.now.platform }
-    requires seats { AreSeats old.now new.now seats.now }
-    requires interfaces { AreBaseInterfaces old.now new.now interfaces.now }
-    ensures { IfOk result (λ found. HasExactly finding_order (Stands old.now new.now) found.items) }
+    requires seats { AreSeats sides.now seats.now }
+    requires steady { AreThose (is_steady sides.now.old sides.now.new) sides.now steady.now }
+    requires interfaces { AreThose (is_base_interface sides.now.old sides.now.new) sides.now interfaces.now }
+    ensures { IfOk result (λ found. HasExactly finding_order (Stands sides.now.old sides.now.new) found.items) }
 {
-    let mut findings = findings_on_classes(alloc, old, new)?;
-    findings.append(&mut closed_inits(alloc, old, new)?)?;
-    findings.append(&mut new_finals(alloc, old, new, seats.bases())?)?;
-    findings.append(&mut closed_field_acts(alloc, old, new, seats)?)?;
-    findings.append(&mut closed_method_acts(alloc, old, new, seats)?)?;
-    findings.append(&mut lost_methods(alloc, old, new, interfaces)?)?;
+    let mut findings = findings_on_classes(alloc, sides)?;
+    findings.append(&mut by_items(alloc, &ConstructorClosed, sides, steady)?)?;
+    findings.append(&mut by_items(alloc, &MethodMadeFinal, sides, seats.bases())?)?;
+    findings.append(&mut by_items(alloc, &FieldClosed { seats }, sides, steady)?)?;
+    findings.append(&mut by_items(alloc, &MethodClosed { seats }, sides, steady)?)?;
+    findings.append(&mut by_items(alloc, &InterfaceMethodLost, sides, interfaces)?)?;
     Ok(findings)
 }
 
 // All collisions, rule by rule.
 fn collisions(
     alloc: Global,
-    old: &Table,
-    new: &Table,
-    classes: &[Both],
-    interfaces: &[Both],
+    sides: &Sides<'_>,
+    classes: &[Shared<'_>],
+    interfaces: &[Shared<'_>],
 ) -> Result<Vec<Collision>, AllocError>
-    requires platform { old.now.platform ≡ new.now.platform }
-    requires classes { AreBases old.now new.now classes.now }
-    requires interfaces { AreBaseInterfaces old.now new.now interfaces.now }
-    ensures { IfOk result (λ found. HasExactly collision_order (CollisionStands old.now new.now) found.items) }
+    requires classes { AreThose (is_base_class sides.now.old sides.now.new) sides.now classes.now }
+    requires interfaces { AreThose (is_base_interface sides.now.old sides.now.new) sides.now interfaces.now }
+    ensures { IfOk result (λ made. HasExactly collision_order (CollisionStands sides.now.old sides.now.new) made.items) }
 {
-    let mut collisions = new_constants(alloc, old, new, interfaces)?;
-    collisions.append(&mut captures(alloc, old, new, classes)?)?;
-    collisions.append(&mut final_collisions(alloc, old, new, classes)?)?;
+    let mut collisions = by_items(alloc, &ConstantAdded, sides, interfaces)?;
+    collisions.append(&mut by_items(alloc, &CaptureAdded, sides, classes)?)?;
+    collisions.append(&mut by_items(alloc, &MethodMadeFinalMet, sides, classes)?)?;
     Ok(collisions)
 }
 
 // All notes: on the classes of the old release that don't load, on those of the new one, and on
 // constants.
-fn notes(alloc: Global, old: &Table, new: &Table) -> Result<Vec<Note>, AllocError>
-    requires platform { old.now.platform ≡ new.now.platform }
-    ensures { IfOk result (λ notes. IsSide old.now × IsSide new.now × HasExactly note_order (NoteStands old.now new.now) notes.items) }
+fn notes(alloc: Global, sides: &Sides<'_>) -> Result<Vec<Note>, AllocError>
+    ensures { IfOk result (λ notes. HasExactly note_order (NoteStands sides.now.old sides.now.new) notes.items) }
 {
-    let mut notes = unloadable_classes(alloc, old, true)?;
-    notes.append(&mut unloadable_classes(alloc, new, false)?)?;
-    notes.append(&mut changed_constants(alloc, old, new)?)?;
+    let classes = classes_where(alloc, sides, &InBothReleases)?;
+    let mut notes = note_unloadable(alloc, sides.old, true)?;
+    notes.append(&mut note_unloadable(alloc, sides.new, false)?)?;
+    notes.append(&mut by_items(alloc, &NoteConstant, sides, classes.as_slice())?)?;
     Ok(notes)
 }
 
@@ -115,11 +118,19 @@ pub fn compare(alloc: Global, old: &Table, new: &Table) -> Result<Verdict, Alloc
     // Whatever clients there are, whoever names a class that is gone has the finding's error.
     ensures broken { IfOk result (λ v. All (λ f. f.rule ≡ 1 → BreaksClass old.now new.now f.class f.error) v.findings) }
 {
-    let interfaces = base_interfaces(alloc, old, new)?;
-    let seats = seats_of(alloc, old, new, base_classes(alloc, old, new)?)?;
-    let findings = findings(alloc, old, new, &seats, interfaces.as_slice())?;
-    let collisions = collisions(alloc, old, new, seats.bases(), interfaces.as_slice())?;
-    let notes = notes(alloc, old, new)?;
+    let sides = Sides::new(old, new);
+    let steady = steady_classes(alloc, &sides)?;
+    let interfaces = base_interfaces(alloc, &sides)?;
+    let seats = Seats::new(alloc, &sides, base_classes(alloc, &sides)?)?;
+    let findings = findings(
+        alloc,
+        &sides,
+        &seats,
+        steady.as_slice(),
+        interfaces.as_slice(),
+    )?;
+    let collisions = collisions(alloc, &sides, seats.bases(), interfaces.as_slice())?;
+    let notes = notes(alloc, &sides)?;
     Ok(Verdict {
         findings: Items::from_vec(findings),
         collisions: Items::from_vec(collisions),

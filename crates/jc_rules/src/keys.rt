@@ -1,10 +1,11 @@
 //! Ordered sets of the keys that a rule may speak of.
-ghost use Rattle.std.specs.Prelude.{◌&&◌, OnOk};
+ghost use Rattle.std.specs.Prelude.{◌≡◌, ◌&&◌, IfOk, OnOk};
 ghost use Rattle.jc_facts.specs.Names.{same_key};
-ghost use Rattle.jc_rules.specs.Keys.{Adds};
+ghost use Rattle.jc_rules.specs.steps.Keys.{Adds};
 
+use jc_facts::key::Key;
 use jc_facts::key_set::KeyRef;
-use std::alloc::AllocError;
+use std::alloc::{AllocError, Global};
 use std::collections::BTreeSet;
 
 /// Adds the key, if it is wanted.
@@ -19,4 +20,15 @@ pub fn put_if<'a>(
         keys.insert(key)?;
     }
     Ok(())
+}
+
+/// The keys, each as one of its own, in their order.
+pub fn to_keys(alloc: Global, set: &BTreeSet<KeyRef<'_>>) -> Result<Vec<Key>, AllocError>
+    ensures { IfOk result (λ keys. keys.items ≡ set.now.keys) }
+{
+    let mut keys = Vec::new(alloc);
+    for key in set {
+        keys.push(key.to_key(alloc)?)?;
+    }
+    Ok(keys)
 }

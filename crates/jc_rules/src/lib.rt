@@ -1,23 +1,21 @@
 //! The rules that compare two releases of a library.
 #![tactic(auto)]
 
-mod acts;
-mod bases;
-mod captures;
-mod chain;
-mod clients;
-mod closed;
+mod capture_added;
+mod class_closed;
+mod class_gone;
 pub mod compare;
-mod constants;
-mod finals;
-mod fixed;
+mod constant_added;
+mod constructor_closed;
+mod field_closed;
 mod found;
-mod gone;
-mod inherits;
-mod inits;
+mod interface_became_class;
+mod interface_method_lost;
 mod keys;
-mod kind;
+mod method_closed;
+mod method_made_final;
+mod note_constant;
+mod note_unloadable;
+mod superclass_lost;
 #[cfg(test)]
 mod tests;
-mod unloadable;
-mod words;

@@ -1,11 +1,10 @@
-//! The verdict on a small release in which each rule finds something.
+//! The verdict on a small release in which each rule on classes finds something.
 ghost use Rattle.std.specs.Prelude.{◌≡◌, IfOk};
 ghost use Rattle.jc_acts.specs.Seats.{AreSeats};
 
-use crate::bases::{base_classes, steady_class};
 use crate::compare::compare;
-use jc_acts::seats::{Seats, seats_of};
-use jc_acts::uses::Closed;
+use jc_acts::closed_act::ClosedAct;
+use jc_acts::seats::Seats;
 use jc_acts::{members, plain};
 use jc_base::items::Items;
 use jc_base::name::Name;
@@ -15,36 +14,41 @@ use jc_facts::finding::Finding;
 use jc_facts::key::Key;
 use jc_facts::link_error::LinkError;
 use jc_facts::verdict::{Note, Verdict};
+use jc_sides::classes::base_classes;
+use jc_sides::clients::is_steady;
+use jc_sides::kept::kept;
+use jc_sides::sides::Sides;
 use jc_table::plain::{are_valid, names_differ};
 use jc_table::table::Table;
 use std::alloc::{AllocError, Global};
 use std::process::Abort;
 use std::test::Fail;
 
-// A class: its name, its superclass or nothing, and its flags.
-type Row = (&'static [u8], &'static [u8], u16);
+// A class: its name, its superclass or nothing, its flags, and whether it has the field
+// `protected static int f`.
+type Row = (&'static [u8], &'static [u8], u16, bool);
 
 const OBJECT: &[u8] = b"java/lang/Object";
 
-const PLATFORM: &[Row] = &[(OBJECT, b"", 0x0021)];
+const PLATFORM: &[Row] = &[(OBJECT, b"", 0x0021, false)];
 
 const OLD: &[Row] = &[
-    (b"p/Sub", b"p/Base", 0x0021),
-    (b"p/Shut", OBJECT, 0x0021),
-    (b"p/Base", OBJECT, 0x0021),
-    (b"p/Hidden", OBJECT, 0x0021),
-    (b"p/Own", OBJECT, 0x0020),
-    (b"p/Lost", b"q/None", 0x0021),
-    (b"p/Kind", OBJECT, 0x0601),
-    (b"p/Gone", OBJECT, 0x0021),
+    (b"p/Sub", b"p/Base", 0x0021, false),
+    (b"p/Shut", OBJECT, 0x0021, false),
+    (b"p/Base", OBJECT, 0x0021, false),
+    (b"p/Hidden", OBJECT, 0x0021, false),
+    (b"p/Own", OBJECT, 0x0020, false),
+    (b"p/Lost", b"q/None", 0x0021, false),
+    (b"p/Kind", OBJECT, 0x0601, false),
+    (b"p/Gone", OBJECT, 0x0021, false),
 ];
 
 const NEW: &[Row] = &[
-    (b"p/Base", OBJECT, 0x0021),
-    (b"p/Hidden", OBJECT, 0x0020),
-    (b"p/Kind", OBJECT, 0x0021),
-    (b"p/Shut", OBJECT, 0x0031),
-    (b"p/Sub", OBJECT, 0x0021),
+    (b"p/Base", OBJECT, 0x0021, false),
+    (b"p/Hidden", OBJECT, 0x0020, false),
+    (b"p/Kind", OBJECT, 0x0021, false),
+    (b"p/Shut", OBJECT, 0x0031, false),
+    (b"p/Sub", OBJECT, 0x0021, false),
 ];
 
 // A finding: its rule, class, target or nothing, act and error.
@@ -82,33 +86,39 @@ const FINDINGS: &[Found] = &[
     ),
 ];
 
-// The methods of a class: an interface has no instance initializer.
-fn methods(alloc: Global, flags: u16) -> Result<Vec<Member>, AllocError> {
-    let mut methods = Vec::new(alloc);
-    if flags & 0x0200 == 0 {
-        methods.push(Member {
-            name: Name::from_bytes(alloc, b"<init>")?,
-            descriptor: Name::from_bytes(alloc, b"()V")?,
-            flags: 0x0001,
+// A list of one member, where it is wanted.
+fn member_if(
+    alloc: Global,
+    wanted: bool,
+    name: &[u8],
+    descriptor: &[u8],
+    flags: u16,
+) -> Result<Items<Member>, AllocError> {
+    let mut members = Vec::new(alloc);
+    if wanted {
+        members.push(Member {
+            name: Name::from_bytes(alloc, name)?,
+            descriptor: Name::from_bytes(alloc, descriptor)?,
+            flags,
         })?;
     }
-    Ok(methods)
+    Ok(Items::from_vec(members))
 }
 
+// The class; one that is no interface has a public constructor.
 fn class(alloc: Global, row: &Row) -> Result<ClassFacts, AllocError> {
-    let (name, superclass, flags) = *row;
-    let superclass = match superclass {
-        [] => None,
-        _ => Some(Name::from_bytes(alloc, superclass)?),
-    };
+    let (name, superclass, flags, has_field) = *row;
     Ok(ClassFacts {
         name: Name::from_bytes(alloc, name)?,
         major: 52,
         flags,
-        superclass,
+        superclass: match superclass {
+            [] => None,
+            _ => Some(Name::from_bytes(alloc, superclass)?),
+        },
         interfaces: Items::from_vec(Vec::new(alloc)),
-        fields: Items::from_vec(Vec::new(alloc)),
-        methods: Items::from_vec(methods(alloc, flags)?),
+        fields: member_if(alloc, has_field, b"f", b"I", 0x000c)?,
+        methods: member_if(alloc, flags & 0x0200 == 0, b"<init>", b"()V", 0x0001)?,
         permits: None,
         nest_host: None,
         nest_members: Items::from_vec(Vec::new(alloc)),
@@ -130,10 +140,11 @@ fn table(
     rt: &impl Abort,
     alloc: Global,
     platform: &[ClassFacts],
-    release: Vec<ClassFacts>,
+    rows: &[Row],
 ) -> Result<Table, Fail>
     ensures { IfOk result (λ table. table.platform ≡ platform.now) }
 {
+    let release = classes(alloc, rows)?;
     let valid = are_valid(alloc, platform)? && are_valid(alloc, release.as_slice())?;
     assert!(rt; valid);
     assert!(rt; names_differ(platform) && names_differ(release.as_slice()));
@@ -143,8 +154,8 @@ fn table(
 
 fn verdict(rt: &impl Abort, alloc: Global, old: &[Row], new: &[Row]) -> Result<Verdict, Fail> {
     let platform = classes(alloc, PLATFORM)?;
-    let before = table(rt, alloc, platform.as_slice(), classes(alloc, old)?)?;
-    let after = table(rt, alloc, platform.as_slice(), classes(alloc, new)?)?;
+    let before = table(rt, alloc, platform.as_slice(), old)?;
+    let after = table(rt, alloc, platform.as_slice(), new)?;
     Ok(compare(alloc, &before, &after)?)
 }
 
@@ -199,48 +210,23 @@ fn a_release_against_itself(rt: HostRuntime) -> Result<(), Fail> {
 
 // ---- acts that few seats are asked about
 
-// A class, and whether it has the field `protected static int f`.
-type Holder = (Row, bool);
-
-const BEFORE: &[Holder] = &[
-    ((b"p/B", OBJECT, 0x0020), true),
-    ((b"p/C", b"p/B", 0x0021), false),
-    ((b"p/D", b"p/B", 0x0021), false),
+const BEFORE: &[Row] = &[
+    (b"p/B", OBJECT, 0x0020, true),
+    (b"p/C", b"p/B", 0x0021, false),
+    (b"p/D", b"p/B", 0x0021, false),
 ];
 
-const AFTER: &[Holder] = &[
-    ((b"p/B", OBJECT, 0x0020), false),
-    ((b"p/C", b"p/B", 0x0021), true),
-    ((b"p/D", b"p/B", 0x0021), false),
+const AFTER: &[Row] = &[
+    (b"p/B", OBJECT, 0x0020, false),
+    (b"p/C", b"p/B", 0x0021, true),
+    (b"p/D", b"p/B", 0x0021, false),
 ];
 
-fn holder(alloc: Global, row: &Holder) -> Result<ClassFacts, AllocError> {
-    let mut class = class(alloc, &row.0)?;
-    if row.1 {
-        let mut fields = Vec::new(alloc);
-        fields.push(Member {
-            name: Name::from_bytes(alloc, b"f")?,
-            descriptor: Name::from_bytes(alloc, b"I")?,
-            flags: 0x000c,
-        })?;
-        class.fields = Items::from_vec(fields);
-    }
-    Ok(class)
-}
-
-fn holders(alloc: Global, rows: &[Holder]) -> Result<Vec<ClassFacts>, AllocError> {
-    let mut classes = Vec::new(alloc);
-    for row in rows {
-        classes.push(holder(alloc, row)?)?;
-    }
-    Ok(classes)
-}
-
-fn is_same(one: &Option<Closed>, other: &Option<Closed>) -> bool {
+fn is_same(one: &Option<ClosedAct<'_>>, other: &Option<ClosedAct<'_>>) -> bool {
     match (one, other) {
         (None, None) => true,
         (Some(one), Some(other)) => {
-            one.act == other.act && one.seat == other.seat && one.error == other.error
+            one.act == other.act && *one.seat == *other.seat && one.error == other.error
         }
         _ => false,
     }
@@ -248,30 +234,20 @@ fn is_same(one: &Option<Closed>, other: &Option<Closed>) -> bool {
 
 // Whether an act on the field, named through this class, is closed now; both programs have to say
 // the same.
-fn is_closed(
-    rt: &impl Abort,
-    old: &Table,
-    new: &Table,
-    seats: &Seats,
-    name: &[u8],
-    key: &Key,
-) -> bool
-    requires { AreSeats old.now new.now seats.now }
+fn is_closed(rt: &impl Abort, sides: &Sides<'_>, seats: &Seats<'_>, name: &[u8], key: &Key) -> bool
+    requires { AreSeats sides.now seats.now }
 {
-    let Some(id) = old.get(name) else {
+    let Some(id) = sides.old.get(name) else {
         return false;
     };
-    let Some(class) = steady_class(old, new, id) else {
+    let Some(class) = kept(sides, id) else {
         return false;
     };
-    let None = old.fault_at(class.old) else {
+    if !is_steady(sides, &class) {
         return false;
-    };
-    let None = new.fault_at(class.new) else {
-        return false;
-    };
-    let few = members::closed_field(old, new, seats, &class, key);
-    let all = plain::closed_field(old, new, seats, &class, key);
+    }
+    let few = members::field_closed(sides, seats, &class, key);
+    let all = plain::field_closed(sides, seats, &class, key);
     assert!(rt; is_same(&few, &all));
     few.is_some()
 }
@@ -280,14 +256,15 @@ fn is_closed(
 fn asking_few_seats_gives_what_asking_all_gives(rt: HostRuntime) -> Result<(), Fail> {
     let alloc = rt.alloc();
     let platform = classes(alloc, PLATFORM)?;
-    let old = table(&rt, alloc, platform.as_slice(), holders(alloc, BEFORE)?)?;
-    let new = table(&rt, alloc, platform.as_slice(), holders(alloc, AFTER)?)?;
-    let seats = seats_of(alloc, &old, &new, base_classes(alloc, &old, &new)?)?;
+    let old = table(&rt, alloc, platform.as_slice(), BEFORE)?;
+    let new = table(&rt, alloc, platform.as_slice(), AFTER)?;
+    let sides = Sides::new(&old, &new);
+    let seats = Seats::new(alloc, &sides, base_classes(alloc, &sides)?)?;
     let key = Key {
         name: Name::from_bytes(alloc, b"f")?,
         descriptor: Name::from_bytes(alloc, b"I")?,
     };
-    assert!(rt; is_closed(&rt, &old, &new, &seats, b"p/C", &key));
-    assert!(rt; is_closed(&rt, &old, &new, &seats, b"p/D", &key));
+    assert!(rt; is_closed(&rt, &sides, &seats, b"p/C", &key));
+    assert!(rt; is_closed(&rt, &sides, &seats, b"p/D", &key));
     Ok(())
 }

@@ -1,16 +1,20 @@
-use Rattle.std.proofs.Common.{◌≡◌, List, ◌++◌, sym, ap, subst, ◌∙◌}
-use Rattle.jc_facts.specs.declared.verdict.Collision.{Collision}
-use Rattle.jc_facts.specs.Collisions.{CollisionStands}
-use Rattle.jc_facts.specs.Orders.{collision_order, HasExactly}
-use Rattle.jc_rules.proofs.AllRules.{all_collisions}
+use Rattle.std.proofs.Common.{arith}
+use Rattle.jc_rules.proofs.AllRules.{first_collision, next_collision, all_collisions}
+use Rattle.jc_rules.proofs.CaptureAdded.{is_rule as capture_added}
+use Rattle.jc_rules.proofs.ConstantAdded.{is_rule as constant_added}
+use Rattle.jc_rules.proofs.MethodMadeFinal.{is_collision as method_made_final}
 use Rattle.jc_rules.proofs.compare.collisions.Goals as goal
+
+pub by_items-requires-clause-rule : goal.by_items-requires-clause-rule
+by_items-requires-clause-rule c = constant_added
+
+pub by_items-requires-2-clause-rule : goal.by_items-requires-2-clause-rule
+by_items-requires-2-clause-rule c = capture_added
+
+pub by_items-requires-3-clause-rule : goal.by_items-requires-3-clause-rule
+by_items-requires-3-clause-rule c = method_made_final
 
 pub returns : goal.returns
 returns c =
-    let a : List Collision = c.in_ok-collisions.collisions.items in
-    let b : List Collision = c.in_ok-captures.field-0.items in
-    let d : List Collision = c.in_ok-final_collisions.field-0.items in
-    let two : c.append.new.self.items ≡ a ++ b = c.in_ok-append.ensures.items in
-    let three : c.append-2.new.self.items ≡ a ++ b ++ d = c.in_ok-append-2.ensures.items ∙ ap (λ (xs : List Collision). xs ++ d) two in
-    subst (HasExactly collision_order (CollisionStands c.args.old.now c.args.new.now)) (sym three)
-    (all_collisions c.args.old.now c.args.new.now a b d c.in_ok-collisions.ensures c.in_ok-captures.ensures c.in_ok-final_collisions.ensures)
+    all_collisions c.args.sides.now (next_collision c.args.sides.now 12 (omega arith) (next_collision c.args.sides.now 11 (omega arith) (first_collision c.args.sides.now c.in_ok-collisions.ensures)
+    c.in_ok-by_items.ensures c.in_ok-append.ensures.items) c.in_ok-by_items-2.ensures c.in_ok-append-2.ensures.items)

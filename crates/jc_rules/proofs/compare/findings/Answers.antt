@@ -1,22 +1,32 @@
-use Rattle.std.proofs.Common.{◌≡◌, List, ◌++◌, sym, ap, subst, ◌∙◌}
-use Rattle.jc_facts.specs.declared.finding.Finding.{Finding}
-use Rattle.jc_facts.specs.Findings.{Stands}
-use Rattle.jc_facts.specs.Orders.{finding_order, HasExactly}
-use Rattle.jc_rules.proofs.AllRules.{rules_on_members}
+use Rattle.std.proofs.Common.{arith}
+use Rattle.jc_rules.proofs.AllRules.{next, all_findings}
+use Rattle.jc_rules.proofs.ConstructorClosed.{is_rule as constructor_closed}
+use Rattle.jc_rules.proofs.FieldClosed.{is_rule as field_closed}
+use Rattle.jc_rules.proofs.InterfaceMethodLost.{is_rule as interface_method_lost}
+use Rattle.jc_rules.proofs.MethodClosed.{is_rule as method_closed}
+use Rattle.jc_rules.proofs.MethodMadeFinal.{is_rule as method_made_final}
 use Rattle.jc_rules.proofs.compare.findings.Goals as goal
+
+pub by_items-requires-clause-rule : goal.by_items-requires-clause-rule
+by_items-requires-clause-rule c = constructor_closed
+
+pub by_items-requires-2-clause-rule : goal.by_items-requires-2-clause-rule
+by_items-requires-2-clause-rule c = method_made_final
+
+pub by_items-requires-2-clause-classes : goal.by_items-requires-2-clause-classes
+by_items-requires-2-clause-classes c = c.bases.ensures c.args.sides.now c.requires.seats
+
+pub by_items-requires-3-clause-rule : goal.by_items-requires-3-clause-rule
+by_items-requires-3-clause-rule c = field_closed
+
+pub by_items-requires-4-clause-rule : goal.by_items-requires-4-clause-rule
+by_items-requires-4-clause-rule c = method_closed
+
+pub by_items-requires-5-clause-rule : goal.by_items-requires-5-clause-rule
+by_items-requires-5-clause-rule c = interface_method_lost
 
 pub returns : goal.returns
 returns c =
-    let front : List Finding = c.in_ok-findings.findings.items in
-    let a : List Finding = c.in_ok-closed_inits.field-0.items in
-    let b : List Finding = c.in_ok-new_finals.field-0.items in
-    let k : List Finding = c.in_ok-closed_field_acts.field-0.items in
-    let d : List Finding = c.in_ok-closed_method_acts.field-0.items in
-    let e : List Finding = c.in_ok-lost_methods.field-0.items in
-    let one : c.append.new.self.items ≡ front ++ a = c.in_ok-append.ensures.items in
-    let two : c.append-2.new.self.items ≡ front ++ a ++ b = c.in_ok-append-2.ensures.items ∙ ap (λ (xs : List Finding). xs ++ b) one in
-    let three : c.append-3.new.self.items ≡ front ++ a ++ b ++ k = c.in_ok-append-3.ensures.items ∙ ap (λ (xs : List Finding). xs ++ k) two in
-    let four : c.append-4.new.self.items ≡ front ++ a ++ b ++ k ++ d = c.in_ok-append-4.ensures.items ∙ ap (λ (xs : List Finding). xs ++ d) three in
-    let five : c.append-5.new.self.items ≡ front ++ a ++ b ++ k ++ d ++ e = c.in_ok-append-5.ensures.items ∙ ap (λ (xs : List Finding). xs ++ e) four in
-    subst (HasExactly finding_order (Stands c.args.old.now c.args.new.now)) (sym five)
-    (rules_on_members c.args.old.now c.args.new.now front a b k d e c.in_ok-findings.ensures c.in_ok-closed_inits.ensures c.in_ok-new_finals.ensures c.in_ok-closed_field_acts.ensures c.in_ok-closed_method_acts.ensures c.in_ok-lost_methods.ensures)
+    all_findings c.args.sides.now (next c.args.sides.now 9 (omega arith) (next c.args.sides.now 8 (omega arith) (next c.args.sides.now 7 (omega arith) (next c.args.sides.now 6 (omega arith)
+    (next c.args.sides.now 5 (omega arith) c.in_ok-findings.ensures c.in_ok-by_items.ensures c.in_ok-append.ensures.items) c.in_ok-by_items-2.ensures c.in_ok-append-2.ensures.items)
+    c.in_ok-by_items-3.ensures c.in_ok-append-3.ensures.items) c.in_ok-by_items-4.ensures c.in_ok-append-4.ensures.items) c.in_ok-by_items-5.ensures c.in_ok-append-5.ensures.items)

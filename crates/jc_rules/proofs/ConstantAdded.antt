@@ -1,0 +1,91 @@
+-- What the collision of fields that interfaces have now makes.
+use Rattle.std.proofs.Common.{◌≡◌, ℕ, Bool, true, false, not, List, refl, sym, ◌∙◌, ap, Option, Some, None, is_some, is_none, ◌&&◌}
+use Rattle.std.proofs.lemmas.Bool.{and_parts}
+use Rattle.jc_facts.specs.declared.act.Act.TheVariants.{GetField}
+use Rattle.jc_facts.specs.declared.key.Key.{Key}
+use Rattle.jc_facts.specs.declared.link_error.LinkError.TheVariants.{IncompatibleClassChangeError}
+use Rattle.jc_facts.specs.declared.verdict.Collision.{Collision}
+use Rattle.jc_facts.specs.rule.Collisions.{made_collision, collision_at, constant_added}
+use Rattle.jc_facts.specs.KeyOrder.{key_cmp}
+use Rattle.jc_facts.specs.world.Lookup.{field_found}
+use Rattle.jc_facts.specs.Names.{Bytes}
+use Rattle.jc_facts.specs.Options.{some_where}
+use Rattle.jc_facts.specs.rule.Orders.{collision_order}
+use Rattle.jc_facts.specs.Exactly.{HasExactly}
+use Rattle.jc_facts.specs.rule.Bases.{is_base_interface}
+use Rattle.jc_facts.specs.world.World.{World, DeclaredMember}
+use Rattle.jc_field.proofs.Declared.{found_is_declared}
+use Rattle.jc_worlds.specs.Hierarchy.{above}
+use Rattle.jc_sides.specs.Rules.{key_collision, IsCollision, HasEachKey, IsItemRule}
+use Rattle.jc_sides.specs.SidesOf.{SidesOf}
+use Rattle.jc_sides.proofs.BaseParts.{base_interface_parts}
+use Rattle.jc_sides.proofs.ItemRules.{each_key, made_where, collision_rule}
+use Rattle.jc_table.specs.Lookups.{IsAnswer, declare_field}
+use Rattle.jc_table.specs.Sides.{IsSide}
+use Rattle.jc_table.specs.declared.ids.Found.{Found}
+
+-- the table's lookup finds something where the world's does
+answer_there : (W : World) (f : Option Found) (m : Option DeclaredMember) → IsAnswer W f m → is_some f ≡ is_some m
+answer_there W None None a = refl
+answer_there W None (Some m) a = absurd a
+answer_there W (Some f) None a = absurd a
+answer_there W (Some f) (Some m) a = refl
+
+constant_is : (s : SidesOf) (x : Bytes) (k : Key) → key_collision 10 s x k ≡ some_where (constant_added s.old s.new x k) (made_collision 10 x k GetField IncompatibleClassChangeError)
+unfolding collision_at
+constant_is s x k = refl
+
+-- y is the interface under its own name
+pub constant : (s : SidesOf) (x y : Bytes) (k : Key) (b : Bool) (o : Option Collision) → y ≡ x → b ≡ constant_added s.old s.new x k → o ≡ some_where b (made_collision 10 y k GetField IncompatibleClassChangeError) → o ≡ key_collision 10 s x k
+constant s x y k b o n e r = r ∙ ap (λ (z : Bytes). some_where b (made_collision 10 z k GetField IncompatibleClassChangeError)) n ∙ ap (λ p. some_where p (made_collision 10 x k GetField IncompatibleClassChangeError)) e ∙ sym (constant_is s x k)
+
+-- ---- as the code tests it
+
+module _ (s : SidesOf) (x : Bytes) (k : Key) (now : Option Found) (after : IsAnswer s.new now (field_found s.new x k)) where
+  -- where there is a field now
+  pub constant_then : (old : Option Found) (r : Bool) → is_base_interface s.old s.new x ≡ true → IsAnswer s.old old (field_found s.old x k) → is_some now ≡ true → is_some old ≡ not r → r ≡ constant_added s.old s.new x k
+  unfolding constant_added
+  constant_then old r base before e q =
+      go (is_base_interface s.old s.new x) (field_found s.old x k) (field_found s.new x k) r base (sym (answer_there s.new now (field_found s.new x k) after) ∙ e) (sym (answer_there s.old old (field_found s.old x k) before) ∙ q)
+    where
+      go : (b : Bool) (o n : Option DeclaredMember) (r : Bool) → b ≡ true → is_some n ≡ true → is_some o ≡ not r → r ≡ (b && is_none o && is_some n)
+      go true None (Some n) true b h e = refl
+      go true (Some o) (Some n) false b h e = refl
+      go true None (Some n) false b h e = absurd (cc)
+      go true (Some o) (Some n) true b h e = absurd (cc)
+      go true o None r b h e = absurd (cc)
+      go false o n r b h e = absurd (cc)
+
+  -- where there is none
+  pub constant_else : (r : Bool) → is_some now ≡ false → r ≡ is_some now → r ≡ constant_added s.old s.new x k
+  unfolding constant_added
+  constant_else r e q = go (is_base_interface s.old s.new x && is_none (field_found s.old x k)) (field_found s.new x k) r (sym (answer_there s.new now (field_found s.new x k) after) ∙ e) (q ∙ e)
+    where
+      go : (b : Bool) (n : Option DeclaredMember) (r : Bool) → is_some n ≡ false → r ≡ false → r ≡ (b && is_some n)
+      go true None r h e = e
+      go false None r h e = e
+      go b (Some n) r h e = absurd (cc)
+
+-- ---- where it stands
+
+record IsConstant (s : SidesOf) (x : Bytes) (k : Key) : Type 0 where
+  base : is_base_interface s.old s.new x ≡ true
+  found : is_some (field_found s.new x k) ≡ true
+
+constant_parts : (s : SidesOf) (x : Bytes) (k : Key) (c : Collision) → key_collision 10 s x k ≡ Some c → IsConstant s x k
+unfolding constant_added
+constant_parts s x k c h =
+    let t = (made_where (constant_added s.old s.new x k) (made_collision 10 x k GetField IncompatibleClassChangeError) c (sym (constant_is s x k) ∙ h)).0 in
+    let a = and_parts (is_base_interface s.old s.new x && is_none (field_found s.old x k)) (is_some (field_found s.new x k)) t in
+    record { base = (and_parts (is_base_interface s.old s.new x) (is_none (field_found s.old x k)) a.0).0; found = a.1 }
+
+-- the interface, or one above it, declares the key
+pub constant_keys : (s : SidesOf) (x : Bytes) → IsSide s.new → is_base_interface s.old s.new x ≡ true → (keys : List Key) → HasExactly key_cmp (λ k. declare_field (above s.new x) k ≡ true) keys → HasEachKey (key_collision 10 s x) keys
+constant_keys s x side base keys h = each_key (key_collision 10 s x) (λ k. declare_field (above s.new x) k ≡ true) keys h (λ k c e. go k (field_found s.new x k) refl (constant_parts s x k c e).found)
+  where
+    go : (k : Key) (o : Option DeclaredMember) → field_found s.new x k ≡ o → is_some o ≡ true → declare_field (above s.new x) k ≡ true
+    go k None q h = absurd (cc)
+    go k (Some m) q h = found_is_declared s.new side x k m q (base_interface_parts s x base).both.loads_now
+
+pub is_rule : IsItemRule collision_order (λ (c : Collision). c.«class») (key_collision 10) (IsCollision 10) (λ s x. is_base_interface s.old s.new x)
+is_rule = collision_rule 10 (λ s x. is_base_interface s.old s.new x) (λ s x b. (base_interface_parts s x b).both.there) (λ s x k c e. (constant_parts s x k c e).base)

@@ -1,0 +1,278 @@
+-- What the rule on superclasses that left the chain finds.
+use Rattle.std.proofs.Common.{◌≡◌, ◌<◌, ◌≤◌, ◌+◌, ◌==◌, ℕ, zero, suc, Bool, true, false, List, [], ◌∷◌, ◌++◌, length, get_or, take, arith, refl, sym, ◌∙◌, ap, subst, Option, Some, None, not, map, ◌&&◌, nat_lt, is_some, ◌⊎◌, inl, inr}
+use Rattle.std.specs.BTreeSet as sorted
+use Rattle.std.specs.Ordering.{nat_cmp}
+use Rattle.std.specs.List.{Contains, filter_map, cons_option}
+use Rattle.std.proofs.lemmas.Bool.{and_parts, both_ways, lt-ltb, ltb-true}
+use Rattle.std.specs.declared.cmp.Ordering.TheVariants.{Less}
+use Rattle.std.proofs.lemmas.Cmp.{nat_cmp_total}
+use Rattle.std.proofs.lemmas.List.{map-append}
+use Rattle.std.proofs.lemmas.List.Elements.{filter_map-append, Contains-append_right}
+use Rattle.std.proofs.lemmas.Map.Lookups.{exact_unsigned}
+use Rattle.std.proofs.lemmas.Map.Views.{btree_set_contains_iff}
+use Rattle.jc_facts.specs.declared.act.Act.TheVariants.{Assignment}
+use Rattle.jc_facts.specs.declared.class_facts.ClassFacts.{ClassFacts}
+use Rattle.jc_facts.specs.declared.finding.Finding.{Finding}
+use Rattle.jc_facts.specs.declared.link_error.LinkError.TheVariants.{VerifyError}
+use Rattle.jc_facts.specs.Names.{Bytes}
+use Rattle.jc_facts.specs.Flags.{interface_flag}
+use Rattle.jc_facts.specs.world.World.{World, find_class, size}
+use Rattle.jc_facts.specs.world.Hierarchy.{in_chain}
+use Rattle.jc_facts.specs.world.Assignment.{is_interface_of}
+use Rattle.jc_facts.specs.rule.Bases.{is_class_usable, is_kept}
+use Rattle.jc_facts.specs.rule.Findings.{Subject, finding_at, finding_by, subject_of, superclass_lost, report_where}
+use Rattle.jc_facts.specs.rule.Orders.{finding_order}
+use Rattle.jc_facts.specs.Exactly.{HasExactly, Rises}
+use Rattle.jc_sound.proofs.Standing.{usable_parts}
+use Rattle.jc_sound.proofs.ClassGoneLaw.{report_where-some}
+use Rattle.jc_facts.specs.Exactly.{Before, NamesRise}
+use Rattle.jc_facts.proofs.Exact.{Gives}
+use Rattle.jc_lemmas.proofs.Listed.{EachOf, here, there, none, cases, each_from}
+use Rattle.jc_facts.proofs.InOrder.{exact_none, exact_given}
+use Rattle.jc_facts.proofs.Exactly.{OfNames, grown_start, grown_more, grown_all}
+use Rattle.jc_table.proofs.Numbers.{id-find, id_of-Some, names-length, names-rise}
+use Rattle.jc_table.specs.Ids.{names, name_at, id_of}
+use Rattle.jc_table.specs.Sides.{IsSide}
+use Rattle.std.specs.List.Sorted.{IsStrictlySortedBy}
+use Rattle.std.proofs.lemmas.Map.Keys.{below_from_sorted}
+use Rattle.jc_facts.specs.declared.key.Key.{Key}
+use Rattle.jc_facts.specs.Options.{some_where}
+use Rattle.jc_sound.proofs.FindingLaws.{finding_is_on_its_subject}
+use Rattle.jc_rules.specs.steps.Chains.{HasChain, on_target, target_finding, has_left, OfChain}
+use Rattle.jc_sides.specs.Rules.{IsFinding}
+use Rattle.jc_sides.specs.SharedOf.{SharedOf, IsShared, name_of}
+use Rattle.jc_sides.specs.SidesOf.{SidesOf, AreSides}
+use Rattle.jc_sides.proofs.ByClass.{number_is}
+use Rattle.jc_sides.proofs.Subjects.{subject_order, ordered_as, same_name, subject_is, passed, finding_class_before, class_in}
+
+-- ---- the form of the finding
+
+target_there : (s : SidesOf) (on : Subject) → on.rule ≡ 4 → (k : Option Key) (t : Option Bytes) (f : Finding) → finding_by s.old s.new on k t ≡ Some f → (k ≡ None) × ((u : Bytes) × (t ≡ Some u))
+target_there s on e None None f h =
+    absurd (let z : None ≡ Some f = passed (on.rule == 3) _ _ _ (ap (λ n. n == 3) e) (passed (on.rule == 2) _ _ _ (ap (λ n. n == 2) e) (passed (on.rule == 1) _ _ _ (ap (λ n. n == 1) e) h)) in cc)
+target_there s on e None (Some t) f h = (refl, (t, refl))
+target_there s on e (Some k) None f h =
+    absurd (let z : None ≡ Some f = passed (on.rule == 9) _ _ _ (ap (λ n. n == 9) e) (passed (on.rule == 8) _ _ _ (ap (λ n. n == 8) e) (passed (on.rule == 7) _ _ _ (ap (λ n. n == 7) e)
+    (passed (on.rule == 6) _ _ _ (ap (λ n. n == 6) e) (passed (on.rule == 5) _ _ _ (ap (λ n. n == 5) e) h)))) in cc)
+target_there s on e (Some k) (Some t) f h = absurd (cc)
+
+of_chain : (s : SidesOf) (x : Bytes) (f : Finding) → OfChain s x f → (t : Bytes) × (target_finding s x t ≡ Some f)
+unfolding target_finding finding_at
+of_chain s x f h =
+    let p = target_there s (subject_of f) h.1.0 f.key f.target f h.1.1 in
+    (p.1.0, subst (λ (on : Subject). finding_by s.old s.new on on.key on.target ≡ Some f) (subject_is f (on_target x p.1.0) h.1.0 h.0 p.0 p.1.1) h.1.1)
+
+to_chain : (s : SidesOf) (x t : Bytes) (f : Finding) → target_finding s x t ≡ Some f → (subject_of f ≡ on_target x t) × OfChain s x f
+unfolding target_finding
+to_chain s x t f h =
+    let e : subject_of f ≡ on_target x t = finding_is_on_its_subject s.old s.new (on_target x t) f h in
+    (e, (ap (λ (z : Subject). z.«class») e, (ap (λ (z : Subject). z.rule) e, subst (λ (z : Subject). finding_at s.old s.new z ≡ Some f) (sym e) h)))
+
+target_before : (x t u : Bytes) → Before t u → subject_order (on_target x t) (on_target x u) ≡ Less
+target_before x t u h = rw (same_name x, h) refl
+
+-- ---- a class of the old chain
+
+module _ (s : SidesOf) (x t : Bytes) where
+  pub left_unkept : is_kept s.old s.new t ≡ false → has_left s x t ≡ false
+  left_unkept h = rw h refl
+
+  pub left_still : is_kept s.old s.new t ≡ true → in_chain s.new x t ≡ true → has_left s x t ≡ false
+  left_still k h = rw (k, h) refl
+
+  pub left_of : (d : ClassFacts) → is_kept s.old s.new t ≡ true → in_chain s.new x t ≡ false → Some d ≡ find_class s.new t → has_left s x t ≡ not (interface_flag d.flags)
+  left_of d k h f = rw (k, h, ← f) refl
+
+-- the set has the class where the chain has
+pub chain_has : (N : World) (x t : Bytes) (chain : sorted.BTreeSet ℕ) (k : ℕ) → HasChain N x chain → k < size N → name_at N k ≡ t → sorted.contains nat_cmp chain k ≡ in_chain N x t
+chain_has N x t chain k h l n = h.has k ∙ ap (λ (b : Bool). b && in_chain N x (name_at N k)) (lt-ltb k (size N) l) ∙ ap (in_chain N x) n
+
+-- whether the set has a class that both sides have; k is its number
+pub chain_holds : (s : SidesOf) (x : Bytes) (b : SharedOf) (chain : sorted.BTreeSet ℕ) (k : ℕ) (r : Bool) → IsShared s b → k ≡ b.new → HasChain s.new x chain → r ≡ sorted.contains nat_cmp chain k → r ≡ in_chain s.new x (name_of b)
+chain_holds s x b chain k r shared e h q = q ∙ ap (sorted.contains nat_cmp chain) e ∙ chain_has s.new x (name_of b) chain b.new h shared.new_below shared.new_name
+
+-- ---- the finding
+
+target_is : (s : SidesOf) (x t : Bytes) → target_finding s x t ≡ report_where (is_kept s.old s.new x && is_kept s.old s.new t && in_chain s.old x t && not (in_chain s.new x t) && not (is_interface_of s.new t)) (on_target x t) Assignment VerifyError
+unfolding target_finding finding_at superclass_lost
+target_is s x t = refl
+
+four : (a b c d e : Bool) → a ≡ true → c ≡ true → (a && b && c && d && e) ≡ (b && d && e)
+four true true true d e h k = refl
+four true false true d e h k = refl
+four false b c d e h k = absurd (cc)
+four true b false d e h k = absurd (cc)
+
+pub target_of : (s : SidesOf) (x t : Bytes) → is_kept s.old s.new x ≡ true → in_chain s.old x t ≡ true → target_finding s x t ≡ report_where (has_left s x t) (on_target x t) Assignment VerifyError
+target_of s x t k w = target_is s x t ∙ ap (λ (b : Bool). report_where b (on_target x t) Assignment VerifyError) (four (is_kept s.old s.new x) (is_kept s.old s.new t) (in_chain s.old x t) (not (in_chain s.new x t)) (not (is_interface_of s.new t)) k w)
+
+-- a superclass that isn't kept has left no chain
+pub unkept_target : (s : SidesOf) (x t : Bytes) → is_kept s.old s.new x ≡ true → in_chain s.old x t ≡ true → is_kept s.old s.new t ≡ false → None ≡ target_finding s x t
+unkept_target s x t k w h = sym (target_of s x t k w ∙ ap (λ b. report_where b (on_target x t) Assignment VerifyError) (left_unkept s x t h))
+
+-- y and z are the superclass under its own names
+pub left : (s : SidesOf) (x t y z : Bytes) (b : Bool) (o : Option Finding) → is_kept s.old s.new x ≡ true → in_chain s.old x t ≡ true → y ≡ t → z ≡ y → b ≡ has_left s x y → o ≡ report_where b (on_target x z) Assignment VerifyError
+    → o ≡ target_finding s x t
+left s x t y z b o k w n m e r =
+    r ∙ ap (λ (u : Bytes). report_where b (on_target x u) Assignment VerifyError) m ∙ ap (λ p. report_where p (on_target x y) Assignment VerifyError) e
+    ∙ ap (λ (u : Bytes). report_where (has_left s x u) (on_target x u) Assignment VerifyError) n ∙ sym (target_of s x t k w)
+
+-- what the finding says of the two
+target_says : (s : SidesOf) (x t : Bytes) (f : Finding) → target_finding s x t ≡ Some f → (is_kept s.old s.new x ≡ true) × (is_kept s.old s.new t ≡ true) × (in_chain s.old x t ≡ true)
+target_says s x t f h =
+    let w = report_where-some _ (on_target x t) Assignment VerifyError f (sym (target_is s x t) ∙ h) in
+    let a = and_parts (is_kept s.old s.new x && is_kept s.old s.new t && in_chain s.old x t && not (in_chain s.new x t)) (not (is_interface_of s.new t)) w.0 in
+    let b = and_parts (is_kept s.old s.new x && is_kept s.old s.new t && in_chain s.old x t) (not (in_chain s.new x t)) a.0 in
+    let c = and_parts (is_kept s.old s.new x && is_kept s.old s.new t) (in_chain s.old x t) b.0 in
+    let d = and_parts (is_kept s.old s.new x) (is_kept s.old s.new t) c.0 in
+    (d.0, d.1, c.1)
+
+-- the superclass isn't in the new chain
+target_left : (s : SidesOf) (x t : Bytes) (f : Finding) → target_finding s x t ≡ Some f → not (in_chain s.new x t) ≡ true
+target_left s x t f h =
+    let w = report_where-some _ (on_target x t) Assignment VerifyError f (sym (target_is s x t) ∙ h) in
+    let a = and_parts (is_kept s.old s.new x && is_kept s.old s.new t && in_chain s.old x t && not (in_chain s.new x t)) (not (is_interface_of s.new t)) w.0 in
+    (and_parts (is_kept s.old s.new x && is_kept s.old s.new t && in_chain s.old x t) (not (in_chain s.new x t)) a.0).1
+
+-- a class that isn't kept has left no chain
+pub unkept_chain : (s : SidesOf) (x : Bytes) → is_kept s.old s.new x ≡ false → HasExactly finding_order (OfChain s x) []
+unkept_chain s x h = exact_none finding_order (OfChain s x) (λ f p. let w = of_chain s x f p in both_ways (is_kept s.old s.new x) h (target_says s x w.0 f w.1).0)
+
+-- nothing is found of a chain that nothing has left
+pub whole_chain : (s : SidesOf) (x : Bytes) → ((y : Bytes) → in_chain s.old x y ≡ true → in_chain s.new x y ≡ true) → HasExactly finding_order (OfChain s x) []
+whole_chain s x h = exact_none finding_order (OfChain s x) still
+  where
+    still : (f : Finding) → OfChain s x f → ⊥
+    still f p =
+        let w = of_chain s x f p in
+        let stays : in_chain s.new x w.0 ≡ true = h w.0 (target_says s x w.0 f w.1).2 in
+        both_ways (not (in_chain s.new x w.0)) (ap not stays) (target_left s x w.0 f w.1)
+
+-- ---- rising numbers have rising names
+
+each_at : (P : Bytes → Type 0) (xs : List Bytes) (i : ℕ) → i < length xs → EachOf P xs → P (get_or xs i [])
+each_at P [] i h e = absurd (omega arith)
+each_at P (x ∷ xs) zero h e = e.0
+each_at P (x ∷ xs) (suc i) h e = each_at P xs i (omega arith) e.1
+
+rises_at : (xs : List Bytes) → NamesRise (λ x. x) xs → (i j : ℕ) → i < j → j < length xs → Before (get_or xs i []) (get_or xs j [])
+unfolding Rises
+rises_at [] r i j h k = absurd (omega arith)
+rises_at (x ∷ xs) r zero zero h k = absurd (omega arith)
+rises_at (x ∷ xs) r (suc i) zero h k = absurd (omega arith)
+rises_at (x ∷ xs) r zero (suc j) h k = each_at (λ y. Before x y) xs j (omega arith) r.0
+rises_at (x ∷ xs) r (suc i) (suc j) h k = rises_at xs r.1 i j (omega arith) (omega arith)
+
+name_before : (W : World) → IsSide W → (i j : ℕ) → i < j → j < size W → Before (name_at W i) (name_at W j)
+name_before W s i j h k = rises_at (names W) (names-rise W s.differ) i j h (let e = names-length W in omega arith)
+
+less_is : (k q : ℕ) → nat_cmp k q ≡ Less → k < q
+unfolding IsStrictlySortedBy
+less_is k q h = below_from_sorted (k ∷ q ∷ []) 0 1 0 ((h, tt), (tt, tt)) (omega arith) (omega arith)
+
+after : (W : World) → IsSide W → (k : ℕ) (ks : List ℕ) → EachOf (λ q. nat_cmp k q ≡ Less) ks → EachOf (λ q. q < size W) ks → EachOf (λ y. Before (name_at W k) y) (map (name_at W) ks)
+after W s k [] h b = tt
+after W s k (q ∷ ks) h b = (name_before W s k q (less_is k q h.0) b.0, after W s k ks h.1 b.1)
+
+numbers-rise : (W : World) → IsSide W → (ks : List ℕ) → IsStrictlySortedBy nat_cmp ks → EachOf (λ q. q < size W) ks → NamesRise (λ x. x) (map (name_at W) ks)
+unfolding IsStrictlySortedBy Rises
+numbers-rise W s [] o b = tt
+numbers-rise W s (k ∷ ks) o b = (after W s k ks o.0 b.1, numbers-rise W s ks o.1 b.1)
+
+-- ---- all of the old chain
+
+-- what the set has
+pub record IsUp (O : World) (x : Bytes) (k : ℕ) : Type 0 where
+  pub below : k < size O
+  pub up : in_chain O x (name_at O k) ≡ true
+
+is_up : (O : World) (x : Bytes) (chain : sorted.BTreeSet ℕ) → HasChain O x chain → (k : ℕ) → Contains chain.keys k → IsUp O x k
+is_up O x chain h k c =
+    let p = and_parts (nat_lt k (size O)) (in_chain O x (name_at O k)) (sym (h.has k) ∙ (btree_set_contains_iff nat_cmp_total exact_unsigned chain k).1 c) in
+    record { below = ltb-true k (size O) p.0; up = p.1 }
+
+pub up_at : (O : World) (x : Bytes) (chain : sorted.BTreeSet ℕ) → HasChain O x chain → (front rest : List ℕ) (k : ℕ) → chain.keys ≡ front ++ k ∷ rest → IsUp O x k
+up_at O x chain h front rest k e = is_up O x chain h k (subst (λ (ks : List ℕ). Contains ks k) (sym e) (Contains-append_right front (k ∷ rest) k (here k rest)))
+
+-- one more class
+pub chain_more : (h : Bytes → Option Finding) (O : World) (front : List ℕ) (k : ℕ) (o : Option Finding) (fs gs : List Finding) → fs ≡ filter_map h (map (name_at O) front) → o ≡ h (name_at O k) → gs ≡ fs ++ cons_option o []
+    → gs ≡ filter_map h (map (name_at O) (front ++ k ∷ []))
+chain_more h O front k o fs gs e q g =
+    g ∙ ap (λ (xs : List Finding). xs ++ cons_option o []) e ∙ ap (λ (p : Option Finding). filter_map h (map (name_at O) front) ++ cons_option p []) q
+    ∙ sym (filter_map-append h (map (name_at O) front) (name_at O k ∷ [])) ∙ ap (filter_map h) (sym (map-append (name_at O) front (k ∷ [])))
+
+in_map : (O : World) (ks : List ℕ) (k : ℕ) → Contains ks k → Contains (map (name_at O) ks) (name_at O k)
+in_map O [] k c = absurd (none k c)
+in_map O (q ∷ ks) k c = go (cases q ks k c) (in_map O ks k)
+  where
+    go : (q ≡ k) ⊎ Contains ks k → (Contains ks k → Contains (map (name_at O) ks) (name_at O k)) → Contains (name_at O q ∷ map (name_at O) ks) (name_at O k)
+    go (inl is) r = subst (λ n. Contains (name_at O q ∷ map (name_at O) ks) (name_at O n)) is (here (name_at O q) (map (name_at O) ks))
+    go (inr d) r = there (name_at O k) (name_at O q) (map (name_at O) ks) (r d)
+
+-- a usable class is there
+usable_found : (W : World) (x : Bytes) → is_class_usable W x ≡ true → is_some (find_class W x) ≡ true
+usable_found W x h = ap is_some (usable_parts W x h).is_there
+
+-- the number of a name that is there
+number_of : (W : World) (x : Bytes) → is_some (find_class W x) ≡ true → (k : ℕ) × (id_of W x ≡ Some k)
+number_of W x h = go (id_of W x) (id-find W x ∙ h)
+  where
+    go : (o : Option ℕ) → is_some o ≡ true → (k : ℕ) × (o ≡ Some k)
+    go None q = absurd (cc)
+    go (Some k) q = (k, refl)
+
+-- the set has each class of the chain
+in_set : (O : World) (x t : Bytes) (chain : sorted.BTreeSet ℕ) → HasChain O x chain → is_class_usable O t ≡ true → in_chain O x t ≡ true → Contains (map (name_at O) chain.keys) t
+in_set O x t chain h u i =
+    let k = number_of O t (usable_found O t u) in
+    let b : k.0 < size O = (id_of-Some O t k.0 k.1).0 in
+    let n : name_at O k.0 ≡ t = (id_of-Some O t k.0 k.1).1 in
+    let c : sorted.contains nat_cmp chain k.0 ≡ true = chain_has O x t chain k.0 h b n ∙ i in
+    subst (Contains (map (name_at O) chain.keys)) n (in_map O chain.keys k.0 ((btree_set_contains_iff nat_cmp_total exact_unsigned chain k.0).0 c))
+
+was_usable : (s : SidesOf) (x : Bytes) → is_kept s.old s.new x ≡ true → is_class_usable s.old x ≡ true
+unfolding is_kept
+was_usable s x h = (and_parts (is_class_usable s.old x) (is_class_usable s.new x) h).0
+
+-- what is found of all
+pub chain_exact : (s : SidesOf) → IsSide s.old → (x : Bytes) (chain : sorted.BTreeSet ℕ) → HasChain s.old x chain → HasExactly finding_order (OfChain s x) (filter_map (target_finding s x) (map (name_at s.old) chain.keys))
+chain_exact s side x chain h =
+    exact_given finding_order (target_finding s x) later (OfChain s x) (map (name_at s.old) chain.keys)
+    (numbers-rise s.old side chain.keys h.ordered (each_from (λ q. q < size s.old) chain.keys (λ k c. (is_up s.old x chain h k c).below)))
+    (λ t f c e. (to_chain s x t f e).1) complete
+  where
+    later : (t u : Bytes) (f g : Finding) → Before t u → target_finding s x t ≡ Some f → target_finding s x u ≡ Some g → finding_order f g ≡ Less
+    later t u f g b e k = ordered_as (on_target x t) (on_target x u) f g (to_chain s x t f e).0 (to_chain s x u g k).0 (target_before x t u b)
+
+    complete : (f : Finding) → OfChain s x f → Gives (target_finding s x) (map (name_at s.old) chain.keys) f
+    complete f p =
+        let t = of_chain s x f p in
+        let q = target_says s x t.0 f t.1 in
+        record { place = t.0; is_in = in_set s.old x t.0 chain h (was_usable s t.0 q.1) q.2; gives = t.1 }
+
+-- ---- of all classes
+
+rise_of : (s : SidesOf) → AreSides s → NamesRise (λ x. x) (names s.old)
+rise_of s are = names-rise s.old are.old_side.differ
+
+apart : (s : SidesOf) (f g : Finding) → IsFinding 4 s f → IsFinding 4 s g → Before f.«class» g.«class» → finding_order f g ≡ Less
+apart s f g p q b = finding_class_before f g (p.0 ∙ sym q.0) b
+
+module _ (s : SidesOf) (are : AreSides s) where
+  -- what is found of these classes
+  abbrev pub OfThese : List Bytes → Finding → Type 0
+  OfThese xs = OfNames (λ f. f.«class») (IsFinding 4 s) xs
+
+  pub start : (fs : List Finding) → fs ≡ [] → HasExactly finding_order (OfThese []) fs
+  start = grown_start finding_order (λ f. f.«class») (IsFinding 4 s) (apart s) (names s.old) (rise_of s are)
+
+  -- one more class; the table's world is the old side's
+  pub one_more : (W : World) → W ≡ s.old → (n k : ℕ) (fs found gs : List Finding) → n < size W → some_where (nat_lt n (size W)) n ≡ Some k → HasExactly finding_order (OfThese (take n (names s.old))) fs
+      → HasExactly finding_order (OfChain s (name_at s.old k)) found → gs ≡ fs ++ found → HasExactly finding_order (OfThese (take (n + 1) (names s.old))) gs
+  one_more W v n k fs found gs l is h e g =
+      grown_more finding_order (λ f. f.«class») (IsFinding 4 s) (apart s) (names s.old) (rise_of s are) n fs found gs (subst (λ m. n < m) (sym (names-length s.old)) (subst (λ (V : World). n < size V) v l)) h
+      (subst (λ (m : ℕ). HasExactly finding_order (OfChain s (name_at s.old m)) found) (number_is (nat_lt n (size W)) n k is) e) g
+
+  pub all_classes : (W : World) → W ≡ s.old → (n : ℕ) (fs : List Finding) → size W ≤ n → HasExactly finding_order (OfThese (take n (names s.old))) fs → HasExactly finding_order (IsFinding 4 s) fs
+  all_classes W v n fs l h =
+      grown_all finding_order (λ f. f.«class») (IsFinding 4 s) (apart s) (names s.old) (rise_of s are) n fs (subst (λ m. m ≤ n) (sym (names-length s.old)) (subst (λ (V : World). size V ≤ n) v l)) (class_in s 4) h

@@ -1,0 +1,15 @@
+use Rattle.std.proofs.Common.{◌≡◌, false}
+use Rattle.jc_facts.specs.world.Assignment.{is_interface_of}
+use Rattle.jc_facts.specs.world.Lookup.{method_choices}
+use Rattle.jc_sides.specs.SharedFields.{shared_of}
+use Rattle.jc_sides.specs.SharedOf.{name_of}
+use Rattle.jc_sides.specs.SidesFields.{worlds}
+use Rattle.jc_sides.proofs.BaseParts.{base_class_parts}
+use Rattle.jc_sides.proofs.Seen.{to_old, loads_before}
+use Rattle.jc_rules.proofs.capture_added.is_captured.Goals as goal
+
+pub find_method-requires-clause-loads : goal.find_method-requires-clause-loads
+find_method-requires-clause-loads c = loads_before (worlds c.sides.inside) c.args.sides.now c.sides.view_is (shared_of c.class.inside) c.args.class.now c.class.view_is c.requires.shared (base_class_parts c.args.sides.now (name_of c.args.class.now) c.requires.covered).both
+
+pub find_method-requires-clause-kind : goal.find_method-requires-clause-kind
+find_method-requires-clause-kind c = to_old (worlds c.sides.inside) c.args.sides.now c.sides.view_is (shared_of c.class.inside) c.args.class.now c.class.view_is c.requires.shared (λ W x. is_interface_of W x ≡ false) (base_class_parts c.args.sides.now (name_of c.args.class.now) c.requires.covered).kind

@@ -1,9 +1,0 @@
-use Rattle.std.proofs.Common.{◌≡◌, ℕ, List, ◌++◌, map}
-use Rattle.std.specs.List.{filter_map}
-use Rattle.jc_table.specs.Ids.{name_at}
-use Rattle.jc_rules.specs.Steps.{target_finding}
-use Rattle.jc_rules.proofs.chain.left_of.Given as goal
-
-abbrev pub invariant-loop-target : goal.invariant-loop-target
-invariant-loop-target l = (front : List ℕ) × (l.fn.before.keys ≡ front ++ l.target-iterator)
-    × (l.findings.items ≡ filter_map (target_finding l.old l.new l.class) (map (name_at l.old) front))

@@ -1,0 +1,26 @@
+use Rattle.std.proofs.Common.{sym, subst, ◌∙◌}
+use Rattle.std.specs.Prelude.{IsTrue}
+use Rattle.jc_facts.specs.KeyOrder.{key_cmp}
+use Rattle.jc_facts.specs.Exactly.{HasExactly}
+use Rattle.jc_worlds.specs.Hierarchy.{above}
+use Rattle.jc_sides.specs.SharedFields.{shared_of}
+use Rattle.jc_sides.specs.SharedOf.{name_of}
+use Rattle.jc_sides.specs.SidesFields.{worlds}
+use Rattle.jc_sides.specs.SidesOf.{AreSides}
+use Rattle.jc_sides.proofs.BaseParts.{steady_parts}
+use Rattle.jc_sides.proofs.Seen.{of_old, loads_before}
+use Rattle.jc_table.specs.Lookups.{declare_field}
+use Rattle.jc_rules.proofs.FieldClosed.{no_keys, keys_of}
+use Rattle.jc_rules.proofs.field_closed.FieldClosedItemRule.keys.Goals as goal
+
+pub returns-then-not-may_close : goal.returns-then-not-may_close
+returns-then-not-may_close c =
+    no_keys c.args.sides.now (name_of c.args.class.now) c.new.result.items c.requires.covered (c.may_close.ensures c.if-not-may_close.true) c.new.ensures.items
+
+pub field_keys-requires-clause-loads : goal.field_keys-requires-clause-loads
+field_keys-requires-clause-loads c = loads_before (worlds c.sides.inside) c.args.sides.now c.sides.view_is (shared_of c.class.inside) c.args.class.now c.class.view_is c.requires.shared (steady_parts c.args.sides.now (name_of c.args.class.now) c.requires.covered).both
+
+pub returns : goal.returns
+returns c =
+    keys_of c.args.sides.now c.requires.ready.sides.old_side (name_of c.args.class.now) c.requires.covered c.in_ok-keys.keys.items
+    (of_old (worlds c.sides.inside) c.args.sides.now c.sides.view_is (shared_of c.class.inside) c.args.class.now c.class.view_is c.requires.shared (λ W x. HasExactly key_cmp (λ k. IsTrue (declare_field (above W x) k)) c.in_ok-keys.keys.items) c.in_ok-keys.ensures)

@@ -1,7 +1,0 @@
-use Rattle.jc_table.specs.Ids.{name_at}
-use Rattle.jc_rules.specs.Constants.{fixed_note}
-use Rattle.jc_rules.proofs.KeySets.{IsFront}
-use Rattle.jc_rules.proofs.fixed.notes_of.Given as goal
-
-abbrev pub invariant-loop-key : goal.invariant-loop-key
-invariant-loop-key l = IsFront (fixed_note l.old l.new (name_at l.old l.class.old)) l.fn.keys.keys l.key-iterator l.notes.items

@@ -1,0 +1,7 @@
+-- Words of the clauses of private functions.
+pub mod Chains
+pub mod Classes
+pub mod Constructors
+pub mod Keys
+pub mod Methods
+pub mod Notes

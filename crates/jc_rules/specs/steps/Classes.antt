@@ -1,0 +1,17 @@
+-- Of classes that can't be used, and of the rules on classes together.
+use Rattle.std.specs.Prelude.{ℕ, suc, ◌≤◌, ◌<◌, Option, None, Some, cond}
+use Rattle.jc_facts.specs.declared.finding.Finding.{Finding}
+use Rattle.jc_facts.specs.declared.link_error.LinkError.{LinkError}
+use Rattle.jc_facts.specs.rule.Findings.{gone_error, Stands}
+use Rattle.jc_facts.specs.Names.{Bytes}
+use Rattle.jc_facts.specs.rule.Bases.{is_class_usable}
+use Rattle.jc_facts.specs.world.World.{World}
+use Rattle.jc_sides.specs.SidesOf.{SidesOf}
+
+-- why clients can't use the class of this name
+abbrev pub unusable : World → Bytes → Option LinkError
+unusable W x = cond (is_class_usable W x) None (Some (gone_error W x))
+
+-- the finding stands, and is one of the rules up to this one
+abbrev pub UpToRule : ℕ → SidesOf → Finding → Type 0
+UpToRule rule s f = ((1 ≤ f.rule) × (f.rule < suc rule)) × Stands s.old s.new f

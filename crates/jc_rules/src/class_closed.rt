@@ -1,0 +1,55 @@
+//! The rule on classes that clients can't extend or implement any more.
+ghost use Rattle.std.specs.Prelude.{◌≡◌, ◌<◌, cond, IfOk, refl};
+ghost use Rattle.jc_facts.specs.declared.act.Act.TheVariants.{Extend, Implement};
+ghost use Rattle.jc_facts.specs.Flags.{interface_flag};
+
+use jc_facts::act::Act;
+use jc_facts::class_facts::ClassFacts;
+use jc_facts::finding::Finding;
+use jc_facts::flags::is_interface;
+use jc_facts::link_error::LinkError;
+use jc_sides::class_rule::ClassRule;
+use jc_sides::clients::is_closed;
+use jc_sides::found::class_finding_where;
+use jc_sides::kept::kept;
+use jc_sides::shared::before;
+use jc_sides::sides::Sides;
+use jc_table::ids::ClassId;
+use std::alloc::{AllocError, Global};
+
+// How clients name the class above themselves.
+fn act_on(class: &ClassFacts) -> Act
+    ensures { result ≡ cond (interface_flag «class».now.flags) Implement Extend }
+{
+    if is_interface(class.flags) {
+        Act::Implement
+    } else {
+        Act::Extend
+    }
+}
+
+/// Kept classes that clients could extend or implement and some can't any more, since they are
+/// final, became interfaces or leave out names that they permitted (JVMS 4.7.31, 5.3.5).
+pub struct ClassClosed;
+
+impl ClassRule for ClassClosed {
+    ghost rule = { 2 };
+
+    ghost alone = { record { not_4 = refl; not_5 = refl; not_6 = refl; not_7 = refl; not_8 = refl; not_9 = refl } };
+
+    fn on_class(
+        &self,
+        alloc: Global,
+        sides: &Sides<'_>,
+        id: ClassId,
+    ) -> Result<Option<Finding>, AllocError> {
+        let Some(class) = kept(sides, id) else {
+            return Ok(None);
+        };
+        let closed = is_closed(sides, &class);
+        let act = act_on(before(sides, &class));
+        let error = LinkError::IncompatibleClassChangeError;
+        let found = class_finding_where(alloc, closed, 2, class.name, act, error)?;
+        Ok(found)
+    }
+}

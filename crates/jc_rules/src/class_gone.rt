@@ -1,0 +1,57 @@
+//! The rule on classes that are gone.
+ghost use Rattle.std.specs.Prelude.{◌≡◌, ◌<◌, IfOk, refl};
+ghost use Rattle.jc_rules.specs.steps.Classes.{unusable};
+
+use jc_base::name::Name;
+use jc_facts::act::Act;
+use jc_facts::finding::Finding;
+use jc_facts::flags::is_public;
+use jc_facts::link_error::LinkError;
+use jc_sides::class_rule::ClassRule;
+use jc_sides::found::class_finding_where;
+use jc_sides::kept::is_usable;
+use jc_sides::sides::Sides;
+use jc_table::ids::ClassId;
+use jc_table::table::Table;
+use std::alloc::{AllocError, Global};
+
+// Why clients can't use the class of this name; none where they can.
+fn unusable(table: &Table, name: &Name) -> Option<LinkError>
+    ensures { result ≡ unusable table.now name.now }
+{
+    let Some(id) = table.get(name.as_bytes()) else {
+        return Some(LinkError::NoClassDefFoundError);
+    };
+    if let Some(error) = table.fault_at(id) {
+        return Some(error);
+    }
+    if is_public(table.facts(id).flags) {
+        None
+    } else {
+        Some(LinkError::IllegalAccessError)
+    }
+}
+
+/// Classes that clients could use and can't use any more (JVMS 5.3.5, 5.4.4).
+pub struct ClassGone;
+
+impl ClassRule for ClassGone {
+    ghost rule = { 1 };
+
+    ghost alone = { record { not_4 = refl; not_5 = refl; not_6 = refl; not_7 = refl; not_8 = refl; not_9 = refl } };
+
+    fn on_class(
+        &self,
+        alloc: Global,
+        sides: &Sides<'_>,
+        id: ClassId,
+    ) -> Result<Option<Finding>, AllocError> {
+        let was_usable = is_usable(sides.old, id);
+        let name = &sides.old.facts(id).name;
+        let Some(error) = unusable(sides.new, name) else {
+            return Ok(None);
+        };
+        let found = class_finding_where(alloc, was_usable, 1, name, Act::ClassRef, error)?;
+        Ok(found)
+    }
+}
