@@ -3,10 +3,10 @@ use Rattle.std.proofs.Common.{◌≡◌, ℕ, ◌+◌, Bool, true, false, cond, 
 use Rattle.std.specs.List.{list_all}
 use Rattle.std.specs.Option.{option_map}
 use Rattle.std.proofs.lemmas.List.{length-map}
-use Rattle.jc_desc.specs.Names.{is_class_name}
+use Rattle.jc_desc.specs.Names.{spells_class_name}
 use Rattle.jc_desc.specs.PoolAnswers.{MemberRefOf}
 use Rattle.jc_desc.specs.Reading.{method_of, field_of}
-use Rattle.jc_desc.specs.Types.{Basic, byte, char, double as double_type, float as float_type, int as int_type, long as long_type, short, boolean, class, TypeOf, Method, basic_slots, type_text}
+use Rattle.jc_desc.specs.Types.{Basic, byte, char, double as double_type, float as float_type, int as int_type, long as long_type, short, boolean, class, TypeOf, Method, slots_of_basic, type_text}
 use Rattle.jc_facts.specs.declared.act.Act.{Act}
 use Rattle.jc_facts.specs.declared.act.Act.TheVariants as acts
 use Rattle.jc_facts.specs.declared.blueprint.Step.{Step}
@@ -14,16 +14,16 @@ use Rattle.jc_facts.specs.declared.blueprint.Step.TheVariants as steps
 use Rattle.jc_facts.specs.declared.class_facts.ClassFacts.{ClassFacts}
 use Rattle.jc_facts.specs.declared.client.Item.{Item}
 use Rattle.jc_facts.specs.declared.key.Key.{Key}
-use Rattle.jc_facts.specs.Acts.{is_static_act}
-use Rattle.jc_facts.specs.Attributes.{is_bracketed, ◌|>>◌}
+use Rattle.jc_facts.specs.client.Acts.{is_act_on_static}
+use Rattle.jc_facts.specs.file.Attributes.{is_array_name, ◌|>>◌}
 use Rattle.jc_facts.specs.Names.{Bytes}
-use Rattle.jc_facts.specs.Code.{Around}
-use Rattle.jc_facts.specs.Bodies.{act_tag}
-use Rattle.jc_facts.specs.Typing.{Kind, ref, Frame, basic_kind, kind_of, Kinds, method_kinds, field_kind, start_of, load, pop, pop_one, pop_two, leave, with_result, use_of, get_static, put_static, get_field, put_field, call_static, call, act_on, go, run}
-use Rattle.jc_facts.specs.TypedSteps.{typed_steps, step_len, reference}
-use Rattle.jc_facts.specs.TypedItems.{around_method, typed_body, is_callable, is_callable_step}
-use Rattle.jc_facts.specs.Planned.{takes_nothing, takes, use_method, act_item}
-use Rattle.jc_facts.specs.PlannedBodies.{zeros, params_of, result_of, taken_by, given_by, pops_of, first_local, act_steps}
+use Rattle.jc_facts.specs.code.Code.{Around}
+use Rattle.jc_facts.specs.written.Bodies.{tag_of_act}
+use Rattle.jc_facts.specs.code.Typing.{Kind, ref, Frame, basic_kind, kind_of, Kinds, method_kinds, field_kind, start_of, load, pop, pop_one, pop_two, leave, with_result, use_of, get_static, put_static, get_field, put_field, call_static, call, act_on, go, run}
+use Rattle.jc_facts.specs.written.TypedSteps.{typed_steps, step_len, reference}
+use Rattle.jc_facts.specs.written.TypedItems.{around_method, typed_body, is_callable, is_callable_step}
+use Rattle.jc_facts.specs.plan.Planned.{takes_nothing, takes, use_method, act_item}
+use Rattle.jc_facts.specs.plan.PlannedBodies.{zeros, params_of, result_of, taken_by, given_by, pops_of, first_local, act_steps}
 use Rattle.jc_bodies.proofs.Zeros.{pushed, no_items, zeros_typed, zero_fits, zeros_fit, last_taken}
 use Rattle.jc_bodies.proofs.InitBody.{init_kinds}
 use Rattle.jc_bodies.proofs.UseBodies.{started, takes_kinds}
@@ -35,7 +35,7 @@ pops_typed : (c : ClassFacts) (d : Bytes) (pc : ℕ) (ls : List Kind) (o : Optio
 unfolding typed_steps run pop_one pop_two pop leave kind_of
 pops_typed c d pc ls None = refl
 pops_typed c d pc ls (Some t) = by_dims (nat_eq t.dims 0) t.base where
-  by_dims : (b : Bool) (x : Basic) → typed_steps (around_method c (use_method d)) None pc (record { stack = cond b (basic_kind x) (ref (type_text t)) ∷ []; locals = ls }) (cond (nat_eq (cond b (basic_slots x) 1) 2) steps.Pop2 steps.Pop ∷ steps.Return None ∷ []) ≡ Some []
+  by_dims : (b : Bool) (x : Basic) → typed_steps (around_method c (use_method d)) None pc (record { stack = cond b (basic_kind x) (ref (type_text t)) ∷ []; locals = ls }) (cond (nat_eq (cond b (slots_of_basic x) 1) 2) steps.Pop2 steps.Pop ∷ steps.Return None ∷ []) ≡ Some []
   by_dims false x = refl
   by_dims true byte = refl
   by_dims true char = refl
@@ -47,7 +47,7 @@ pops_typed c d pc ls (Some t) = by_dims (nat_eq t.dims 0) t.base where
   by_dims true double_type = refl
   by_dims true (class name) = refl
 
-member_typed : (a : Around) (pc : ℕ) (f g : Frame) (what : Act) (x : Bytes) (k : Key) (found others : List Item) (ss : List Step) → is_bracketed x ≡ false → act_on a what (reference (act_tag what) x k.name k.descriptor) f ≡ Some (found, g)
+member_typed : (a : Around) (pc : ℕ) (f g : Frame) (what : Act) (x : Bytes) (k : Key) (found others : List Item) (ss : List Step) → is_array_name x ≡ false → act_on a what (reference (tag_of_act what) x k.name k.descriptor) f ≡ Some (found, g)
     → typed_steps a None (pc + step_len (steps.Member what x k)) g ss ≡ Some others → typed_steps a None pc f (steps.Member what x k ∷ ss) ≡ Some (found ++ others)
 unfolding typed_steps run
 member_typed a pc f g what x k found others ss b e n = rw (b, e, n) refl
@@ -56,8 +56,8 @@ member_typed a pc f g what x k found others ss b e n = rw (b, e, n) refl
 
 -- with this stack below the zeros, and this receiver
 abbrev pub Acts : Around → Act → Bytes → Key → List Kind → Option Bytes → Type 0
-Acts a what x k below r = (ls : List Kind) → act_on a what (reference (act_tag what) x k.name k.descriptor) (record { stack = below ++ map pushed (taken_by what k.descriptor); locals = ls })
-    ≡ go (use_of a what (reference (act_tag what) x k.name k.descriptor) r ∷ []) (with_result (option_map kind_of (given_by what k.descriptor)) []) ls
+Acts a what x k below r = (ls : List Kind) → act_on a what (reference (tag_of_act what) x k.name k.descriptor) (record { stack = below ++ map pushed (taken_by what k.descriptor); locals = ls })
+    ≡ go (use_of a what (reference (tag_of_act what) x k.name k.descriptor) r ∷ []) (with_result (option_map kind_of (given_by what k.descriptor)) []) ls
 
 static_called : (a : Around) (what : Act) (m : MemberRefOf) (d : Method) (ls : List Kind) → method_of m.descriptor ≡ Some d
     → call_static a what m (record { stack = [] ++ map pushed (params_of (method_of m.descriptor)); locals = ls }) ≡ go (use_of a what m None ∷ []) (with_result (option_map kind_of (result_of (method_of m.descriptor))) []) ls
@@ -91,34 +91,34 @@ put_field_acts a x r k t e ls = rw (e, zero_fits t) refl
 
 pub static_acts : (a : Around) (x : Bytes) (k : Key) (d : Method) → method_of k.descriptor ≡ Some d → Acts a acts.InvokeStatic x k [] None
 unfolding act_on
-static_acts a x k d e ls = static_called a acts.InvokeStatic (reference (act_tag acts.InvokeStatic) x k.name k.descriptor) d ls e
+static_acts a x k d e ls = static_called a acts.InvokeStatic (reference (tag_of_act acts.InvokeStatic) x k.name k.descriptor) d ls e
 
 pub static_interface_acts : (a : Around) (x : Bytes) (k : Key) (d : Method) → method_of k.descriptor ≡ Some d → Acts a acts.InvokeStaticInterface x k [] None
 unfolding act_on
-static_interface_acts a x k d e ls = static_called a acts.InvokeStaticInterface (reference (act_tag acts.InvokeStaticInterface) x k.name k.descriptor) d ls e
+static_interface_acts a x k d e ls = static_called a acts.InvokeStaticInterface (reference (tag_of_act acts.InvokeStaticInterface) x k.name k.descriptor) d ls e
 
 pub virtual_acts : (a : Around) (x r : Bytes) (k : Key) (d : Method) → method_of k.descriptor ≡ Some d → Acts a acts.InvokeVirtual x k (ref r ∷ []) (Some r)
 unfolding act_on
-virtual_acts a x r k d e ls = called a acts.InvokeVirtual (reference (act_tag acts.InvokeVirtual) x k.name k.descriptor) r d ls e
+virtual_acts a x r k d e ls = called a acts.InvokeVirtual (reference (tag_of_act acts.InvokeVirtual) x k.name k.descriptor) r d ls e
 
 pub interface_acts : (a : Around) (x r : Bytes) (k : Key) (d : Method) → method_of k.descriptor ≡ Some d → Acts a acts.InvokeInterface x k (ref r ∷ []) (Some r)
 unfolding act_on
-interface_acts a x r k d e ls = called a acts.InvokeInterface (reference (act_tag acts.InvokeInterface) x k.name k.descriptor) r d ls e
+interface_acts a x r k d e ls = called a acts.InvokeInterface (reference (tag_of_act acts.InvokeInterface) x k.name k.descriptor) r d ls e
 
 pub special_acts : (a : Around) (x r : Bytes) (k : Key) (d : Method) → method_of k.descriptor ≡ Some d → Acts a acts.InvokeSpecial x k (ref r ∷ []) (Some r)
 unfolding act_on
-special_acts a x r k d e ls = called a acts.InvokeSpecial (reference (act_tag acts.InvokeSpecial) x k.name k.descriptor) r d ls e
+special_acts a x r k d e ls = called a acts.InvokeSpecial (reference (tag_of_act acts.InvokeSpecial) x k.name k.descriptor) r d ls e
 
 pub special_interface_acts : (a : Around) (x r : Bytes) (k : Key) (d : Method) → method_of k.descriptor ≡ Some d → Acts a acts.InvokeSpecialInterface x k (ref r ∷ []) (Some r)
 unfolding act_on
-special_interface_acts a x r k d e ls = called a acts.InvokeSpecialInterface (reference (act_tag acts.InvokeSpecialInterface) x k.name k.descriptor) r d ls e
+special_interface_acts a x r k d e ls = called a acts.InvokeSpecialInterface (reference (tag_of_act acts.InvokeSpecialInterface) x k.name k.descriptor) r d ls e
 
 -- ---- the whole body
 
 abbrev last_steps : Act → Bytes → Key → List Step
 last_steps what x k = steps.Member what x k ∷ (pops_of (given_by what k.descriptor) ++ steps.Return None ∷ [])
 
-from_zeros : (c : ClassFacts) (u : Bytes) (what : Act) (x : Bytes) (k : Key) (below ls : List Kind) (r : Option Bytes) (pc : ℕ) → is_bracketed x ≡ false → Acts (around_method c (use_method u)) what x k below r
+from_zeros : (c : ClassFacts) (u : Bytes) (what : Act) (x : Bytes) (k : Key) (below ls : List Kind) (r : Option Bytes) (pc : ℕ) → is_array_name x ≡ false → Acts (around_method c (use_method u)) what x k below r
     → typed_steps (around_method c (use_method u)) None pc (record { stack = below; locals = ls }) (zeros (taken_by what k.descriptor) ++ last_steps what x k) ≡ Some (act_item what x k r ∷ [])
 from_zeros c u what x k below ls r pc b h =
     let a : Around = around_method c (use_method u) in
@@ -128,7 +128,7 @@ from_zeros c u what x k below ls r pc b h =
     (act_item what x k r ∷ []) [] (pops_of (given_by what k.descriptor) ++ steps.Return None ∷ []) b (h ls) p
 
 acts_callable : (what : Act) (x : Bytes) (k : Key) → is_callable what k ≡ true → list_all is_callable_step (act_steps what x k) ≡ true
-acts_callable what x k h = by_act (is_static_act what) where
+acts_callable what x k h = by_act (is_act_on_static what) where
   pops : (o : Option TypeOf) → list_all is_callable_step (pops_of o ++ steps.Return None ∷ []) ≡ true
   pops None = refl
   pops (Some t) = one _ where
@@ -147,7 +147,7 @@ abbrev after_receiver : Act → Bytes → Key → Bool → List Step
 after_receiver what x k b = cond b [] (first_local ∷ []) ++ (zeros (taken_by what k.descriptor) ++ last_steps what x k)
 
 -- a static act
-pub static_body : (c : ClassFacts) (what : Act) (x : Bytes) (k : Key) → is_static_act what ≡ true → is_bracketed x ≡ false → is_callable what k ≡ true → Acts (around_method c (use_method takes_nothing)) what x k [] None
+pub static_body : (c : ClassFacts) (what : Act) (x : Bytes) (k : Key) → is_act_on_static what ≡ true → is_array_name x ≡ false → is_callable what k ≡ true → Acts (around_method c (use_method takes_nothing)) what x k [] None
     → IsBody c (use_method takes_nothing) (act_steps what x k) (act_item what x k None ∷ [])
 unfolding typed_body
 static_body c what x k s b n h =
@@ -164,7 +164,7 @@ unfolding typed_steps run load
 loaded_receiver c u r ss = refl
 
 -- an act with a receiver
-pub receiver_body : (c : ClassFacts) (what : Act) (x r : Bytes) (k : Key) → is_static_act what ≡ false → is_class_name r ≡ true → is_bracketed x ≡ false → is_callable what k ≡ true → Acts (around_method c (use_method (takes r))) what x k (ref r ∷ []) (Some r)
+pub receiver_body : (c : ClassFacts) (what : Act) (x r : Bytes) (k : Key) → is_act_on_static what ≡ false → spells_class_name r ≡ true → is_array_name x ≡ false → is_callable what k ≡ true → Acts (around_method c (use_method (takes r))) what x k (ref r ∷ []) (Some r)
     → IsBody c (use_method (takes r)) (act_steps what x k) (act_item what x k (Some r) ∷ [])
 unfolding typed_body
 receiver_body c what x r k s i b n h =

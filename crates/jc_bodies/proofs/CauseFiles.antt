@@ -5,30 +5,29 @@ use Rattle.jc_facts.specs.declared.class_facts.ClassFacts.{ClassFacts}
 use Rattle.jc_facts.specs.declared.finding.Finding.{Finding}
 use Rattle.jc_facts.specs.declared.verdict.Collision.{Collision}
 use Rattle.jc_facts.specs.declared.verdict.Cause.TheVariants as cause
-use Rattle.jc_facts.specs.Collisions.{CollisionStands}
-use Rattle.jc_facts.specs.Findings.{Stands, subject_of, finds_overridable}
+use Rattle.jc_facts.specs.rule.Collisions.{CollisionStands}
+use Rattle.jc_facts.specs.rule.Findings.{Stands, subject_of, finds_overridable}
 use Rattle.jc_facts.specs.Names.{Bytes, object_name}
-use Rattle.jc_facts.specs.Seats.{field_acts, method_acts}
-use Rattle.jc_facts.specs.Words.{is_usable, is_method_key, is_base_class, finals}
-use Rattle.jc_facts.specs.World.{World, side, with_clients}
-use Rattle.jc_facts.specs.PlannedNames.{fresh_package}
-use Rattle.jc_facts.specs.Planned.{plan}
-use Rattle.jc_facts.specs.PlannedBodies.{plan_bodies}
-use Rattle.jc_facts.proofs.Listed.{each_in}
+use Rattle.jc_facts.specs.rule.OpenActs.{field_acts, method_acts}
+use Rattle.jc_facts.specs.rule.Bases.{is_class_usable, is_key_of_method, is_base_class, is_final_in_chain}
+use Rattle.jc_facts.specs.world.World.{World, side, with_clients}
+use Rattle.jc_facts.specs.plan.PlannedNames.{fresh_package}
+use Rattle.jc_facts.specs.plan.Planned.{plan}
+use Rattle.jc_facts.specs.plan.PlannedBodies.{plan_bodies}
+use Rattle.jc_lemmas.proofs.Listed.{each_in, EachOf}
 use Rattle.jc_complete.specs.Completeness.{Shows}
 use Rattle.jc_complete.proofs.CompletenessWhole.{finding_shown, collision_shown}
 use Rattle.jc_complete.proofs.PlanBase.{base_parts}
 use Rattle.jc_complete.proofs.PlanCollisions.{of_each_collision, by_constant, by_capture, by_final}
-use Rattle.jc_complete.proofs.PlanConstant.{constant_parts}
+use Rattle.jc_complete.proofs.PlanConstantAdded.{constant_parts}
 use Rattle.jc_complete.proofs.PlanGround.{Ready}
-use Rattle.jc_complete.proofs.PlanInherits.{base_interface}
+use Rattle.jc_complete.proofs.PlanInterfaceMethodLost.{base_interface}
 use Rattle.jc_complete.proofs.PlanMeets.{capture_parts, final_parts}
 use Rattle.jc_complete.proofs.PlanReady.{ready_of}
-use Rattle.jc_complete.proofs.PlanRules.{of_each_rule, Rule5, by_new, by_init, by_rule_1, by_rule_2, by_rule_3, by_rule_4, by_rule_5, by_rule_6, by_rule_7, by_rule_8, by_rule_9}
+use Rattle.jc_complete.proofs.PlanRules.{of_each_rule, ConstructorClosed, by_new, by_init, by_class_gone, by_class_closed, by_interface_became_class, by_superclass_lost, by_constructor_closed, by_method_made_final, by_field_closed, by_method_closed, by_interface_method_lost}
 use Rattle.jc_complete.proofs.PlanUses.{class_differs, cut_parts, cut_differs}
-use Rattle.jc_laws.proofs.Settles.{EachOf}
-use Rattle.jc_laws.proofs.Standing.{IsUsable, usable_parts}
-use Rattle.jc_laws.proofs.UsableLaw.{findings_are_of_usable}
+use Rattle.jc_sound.proofs.Standing.{IsUsable, usable_parts}
+use Rattle.jc_sound.proofs.UsableLaw.{findings_are_of_usable}
 use Rattle.jc_bodies.specs.Files.{CanWrite}
 use Rattle.jc_bodies.proofs.Entries.{IsNamed, IsShortKey}
 use Rattle.jc_bodies.proofs.Linking.{IsSound, named_there, is_instruction}
@@ -61,7 +60,7 @@ module _ (platform old new : List ClassFacts) (can : CanWrite platform old new) 
   usable_named_by : (x : Bytes) → IsUsable (side platform old) x → IsNamed x
   usable_named_by x p = named_there O (sound [] tt) x p.class p.is_there
 
-  usable_named : (x : Bytes) → is_usable (side platform old) x ≡ true → IsNamed x
+  usable_named : (x : Bytes) → is_class_usable (side platform old) x ≡ true → IsNamed x
   usable_named x u = usable_named_by x (usable_parts O x u)
 
   -- ---- findings
@@ -79,65 +78,65 @@ module _ (platform old new : List ClassFacts) (can : CanWrite platform old new) 
   class_named : (f : Finding) → Stands (side platform old) (side platform new) f → IsNamed f.«class»
   class_named f s = usable_named f.«class» (findings_are_of_usable O N (subject_of f) f s)
 
-  rule_1 : (f : Finding) → f.rule ≡ 1 → Stands (side platform old) (side platform new) f → Written f
+  class_gone : (f : Finding) → f.rule ≡ 1 → Stands (side platform old) (side platform new) f → Written f
   unfolding plan plan_bodies
-  rule_1 f e s = let g = by_rule_1 O N f e s in subst Writes g.is (names_class_files O N w sound f.«class» _ (class_named f s)) (shown f s)
+  class_gone f e s = let g = by_class_gone O N f e s in subst Writes g.is (names_class_files O N w sound f.«class» _ (class_named f s)) (shown f s)
 
-  rule_2 : (f : Finding) → f.rule ≡ 2 → Stands (side platform old) (side platform new) f → Written f
+  class_closed : (f : Finding) → f.rule ≡ 2 → Stands (side platform old) (side platform new) f → Written f
   unfolding plan plan_bodies
-  rule_2 f e s = let g = by_rule_2 O N f e s in subst Writes g.is (names_above_files O N w sound f.«class» _ (class_named f s)) (shown f s)
+  class_closed f e s = let g = by_class_closed O N f e s in subst Writes g.is (names_above_files O N w sound f.«class» _ (class_named f s)) (shown f s)
 
-  rule_3 : (f : Finding) → f.rule ≡ 3 → Stands (side platform old) (side platform new) f → Written f
+  interface_became_class : (f : Finding) → f.rule ≡ 3 → Stands (side platform old) (side platform new) f → Written f
   unfolding plan plan_bodies
-  rule_3 f e s =
-      let g = by_rule_3 O N f e s in
+  interface_became_class f e s =
+      let g = by_interface_became_class O N f e s in
       subst Writes g.is (assigns_files O N w sound object_name f.«class» _ (record { name = refl; size = lit≤ tt }) (class_named f s) (class_differs O N w r f.«class» g.stands)) (shown f s)
 
-  rule_4 : (f : Finding) → f.rule ≡ 4 → Stands (side platform old) (side platform new) f → Written f
+  superclass_lost : (f : Finding) → f.rule ≡ 4 → Stands (side platform old) (side platform new) f → Written f
   unfolding plan plan_bodies
-  rule_4 f e s =
-      let g = by_rule_4 O N f e s in
+  superclass_lost f e s =
+      let g = by_superclass_lost O N f e s in
       let cut = cut_parts O N f.«class» g.target g.stands in
       subst Writes g.is (assigns_files O N w sound f.«class» g.target _ (class_named f s) (usable_named_by g.target cut.target_was) (cut_differs O N w r f.«class» g.target cut)) (shown f s)
 
-  rule_5 : (f : Finding) → f.rule ≡ 5 → Stands (side platform old) (side platform new) f → Written f
+  constructor_closed : (f : Finding) → f.rule ≡ 5 → Stands (side platform old) (side platform new) f → Written f
   unfolding plan plan_bodies
-  rule_5 f e s = go (by_rule_5 O N f e s)
+  constructor_closed f e s = go (by_constructor_closed O N f e s)
     where
-      go : Rule5 O N f → Written f
+      go : ConstructorClosed O N f → Written f
       go (by_new k x b is) = subst Writes is (makes_object_files O N w sound f.«class» k.descriptor x) (shown f s)
       go (by_init k x b is) = subst Writes is (calls_constructor_files O N w sound f.«class» k.descriptor x) (shown f s)
 
-  rule_6 : (f : Finding) → f.rule ≡ 6 → Stands (side platform old) (side platform new) f → Written f
+  method_made_final : (f : Finding) → f.rule ≡ 6 → Stands (side platform old) (side platform new) f → Written f
   unfolding plan plan_bodies
-  rule_6 f e s =
-      let g = by_rule_6 O N f e s in
+  method_made_final f e s =
+      let g = by_method_made_final O N f e s in
       let x = f.«class» in
-      let a = and_parts (is_method_key g.key && is_base_class O N x && finals N x g.key && not (finals O x g.key)) (finds_overridable O x g.key) g.stands in
-      let b = and_parts (is_method_key g.key && is_base_class O N x && finals N x g.key) (not (finals O x g.key)) a.0 in
-      let d = and_parts (is_method_key g.key && is_base_class O N x) (finals N x g.key) b.0 in
-      let h = base_parts O N x (and_parts (is_method_key g.key) (is_base_class O N x) d.0).1 in
+      let a = and_parts (is_key_of_method g.key && is_base_class O N x && is_final_in_chain N x g.key && not (is_final_in_chain O x g.key)) (finds_overridable O x g.key) g.stands in
+      let b = and_parts (is_key_of_method g.key && is_base_class O N x && is_final_in_chain N x g.key) (not (is_final_in_chain O x g.key)) a.0 in
+      let d = and_parts (is_key_of_method g.key && is_base_class O N x) (is_final_in_chain N x g.key) b.0 in
+      let h = base_parts O N x (and_parts (is_key_of_method g.key) (is_base_class O N x) d.0).1 in
       let k = finding_key platform old new can f g.key (sym (ap (λ (z : Finding). z.key) g.is)) s h.was.loaded h.now.loaded in
       subst Writes g.is (overrides_files O N w sound x g.key _ k) (shown f s)
 
-  rule_7 : (f : Finding) → f.rule ≡ 7 → Stands (side platform old) (side platform new) f → Written f
+  field_closed : (f : Finding) → f.rule ≡ 7 → Stands (side platform old) (side platform new) f → Written f
   unfolding plan plan_bodies
-  rule_7 f e s =
-      let g = by_rule_7 O N f e s in
+  field_closed f e s =
+      let g = by_field_closed O N f e s in
       subst Writes g.acts.is (acts_files O N w sound f.«class» g.key g.acts.act g.acts.seat _ (class_named f s) (each_in (λ a. is_instruction a ≡ true) field_acts g.acts.act instructions_on_fields g.acts.listed)) (shown f s)
 
-  rule_8 : (f : Finding) → f.rule ≡ 8 → Stands (side platform old) (side platform new) f → Written f
+  method_closed : (f : Finding) → f.rule ≡ 8 → Stands (side platform old) (side platform new) f → Written f
   unfolding plan plan_bodies
-  rule_8 f e s =
-      let g = by_rule_8 O N f e s in
+  method_closed f e s =
+      let g = by_method_closed O N f e s in
       subst Writes g.acts.is (acts_files O N w sound f.«class» g.key g.acts.act g.acts.seat _ (class_named f s) (each_in (λ a. is_instruction a ≡ true) method_acts g.acts.act instructions_on_methods g.acts.listed)) (shown f s)
 
-  rule_9 : (f : Finding) → f.rule ≡ 9 → Stands (side platform old) (side platform new) f → Written f
+  interface_method_lost : (f : Finding) → f.rule ≡ 9 → Stands (side platform old) (side platform new) f → Written f
   unfolding plan plan_bodies
-  rule_9 f e s = let g = by_rule_9 O N f e s in subst Writes g.is (inherited_files O N w sound f.«class» g.key _ (class_named f s)) (shown f s)
+  interface_method_lost f e s = let g = by_interface_method_lost O N f e s in subst Writes g.is (inherited_files O N w sound f.«class» g.key _ (class_named f s)) (shown f s)
 
   pub finding_written : (f : Finding) → Stands (side platform old) (side platform new) f → Written f
-  finding_written = of_each_rule Written O N (record { of_1 = rule_1; of_2 = rule_2; of_3 = rule_3; of_4 = rule_4; of_5 = rule_5; of_6 = rule_6; of_7 = rule_7; of_8 = rule_8; of_9 = rule_9 })
+  finding_written = of_each_rule Written O N (record { of_1 = class_gone; of_2 = class_closed; of_3 = interface_became_class; of_4 = superclass_lost; of_5 = constructor_closed; of_6 = method_made_final; of_7 = field_closed; of_8 = method_closed; of_9 = interface_method_lost })
 
   -- ---- collisions
 

@@ -1,38 +1,38 @@
 -- Constructors and members that a body may name: what the pool entries of the body are asked for.
 use Rattle.std.proofs.Common.{◌≡◌, ◌≤◌, ℕ, Bool, true, false, cond, not, ◌&&◌, ◌||◌, List, [], ◌∷◌, ◌++◌, length, Option, Some, None, refl, ap, ◌∙◌, arith, nat_eq, lit≤}
 use Rattle.std.specs.List.{list_all}
-use Rattle.std.proofs.lemmas.Bool.{and_parts, and_from, le-leb}
+use Rattle.std.proofs.lemmas.Bool.{and_parts, and_from, le-leb, or_right}
 use Rattle.std.proofs.lemmas.List.{length-append}
-use Rattle.jc_desc.specs.Names.{is_class_name, is_member_name, is_init, is_clinit}
-use Rattle.jc_desc.specs.Pool.{is_field, is_method, is_any_member, is_used_method, no_result}
+use Rattle.jc_desc.specs.Names.{spells_class_name, spells_member_name, is_init_name, is_clinit_name}
+use Rattle.jc_desc.specs.Pool.{describes_field, describes_method, names_any_member, names_used_method, no_result}
 use Rattle.jc_desc.specs.Reading.{method_of}
-use Rattle.jc_desc.specs.Types.{Basic, byte, char, double as double_type, float as float_type, int as int_type, long as long_type, short, boolean, class as class_basic, TypeOf, basic_slots, type_slots, slots_of}
-use Rattle.jc_desc.specs.Utf8.{is_text}
+use Rattle.jc_desc.specs.Types.{Basic, byte, char, double as double_type, float as float_type, int as int_type, long as long_type, short, boolean, class as class_basic, TypeOf, slots_of_basic, slots_of_type, slots_of}
+use Rattle.jc_desc.specs.Utf8.{is_modified_utf8}
 use Rattle.jc_facts.specs.declared.act.Act.{Act}
 use Rattle.jc_facts.specs.declared.blueprint.Step.{Step}
 use Rattle.jc_facts.specs.declared.blueprint.Step.TheVariants as steps
 use Rattle.jc_facts.specs.declared.key.Key.{Key}
-use Rattle.jc_facts.specs.Acts.{is_static_act}
-use Rattle.jc_facts.specs.Attributes.{is_bracketed}
+use Rattle.jc_facts.specs.client.Acts.{is_act_on_static}
 use Rattle.jc_facts.specs.Names.{Bytes}
-use Rattle.jc_facts.specs.Valid.{is_name}
-use Rattle.jc_facts.specs.PoolEntries.{Entry, class, member, is_good, is_good_use}
-use Rattle.jc_facts.specs.Bodies.{act_tag, init_name, step_needs, steps_needs}
-use Rattle.jc_facts.specs.PlannedBodies.{basic_zero, zero_step, zeros, params_of, taken_by, given_by, pops_of, first_local, init_steps, cast_steps, turn_steps, make_steps, act_steps}
-use Rattle.jc_laws.proofs.Worlds.{same_itself}
-use Rattle.jc_laws.proofs.Allowed.{or_true}
-use Rattle.jc_laws.proofs.ValidFacts.{no_array}
+use Rattle.jc_facts.specs.file.Valid.{is_valid_name}
+use Rattle.jc_facts.specs.written.PoolEntries.{PoolEntry, class, member, is_good, use_is_good}
+use Rattle.jc_facts.specs.written.Bodies.{tag_of_act, init_name, step_needs, steps_needs}
+use Rattle.jc_facts.specs.plan.PlannedBodies.{basic_zero, zero_step, zeros, params_of, taken_by, given_by, pops_of, first_local, init_steps, cast_steps, turn_steps, make_steps, act_steps}
+use Rattle.jc_facts.proofs.Same.{same_itself}
+use Rattle.jc_worlds.proofs.ValidFacts.{no_array}
 use Rattle.jc_bodies.proofs.RowTypes.{IsAbove, IsUsable}
 use Rattle.jc_bodies.proofs.Keys.{IsMethodKey, IsFieldKey}
 use Rattle.jc_bodies.proofs.Limits.{is_short}
 use Rattle.jc_bodies.proofs.Written.{IsFine, is_short_text, class_short}
+use Rattle.jc_write.proofs.GoodNeeds.{name_good}
+use Rattle.jc_write.proofs.PiecesStand.{no_bracket}
 
 -- ---- zeros
 
-one_slot : (t : TypeOf) → 1 ≤ type_slots t
+one_slot : (t : TypeOf) → 1 ≤ slots_of_type t
 one_slot t = go (nat_eq t.dims 0) t.base
   where
-    go : (b : Bool) (x : Basic) → 1 ≤ cond b (basic_slots x) 1
+    go : (b : Bool) (x : Basic) → 1 ≤ cond b (slots_of_basic x) 1
     go false x = lit≤ tt
     go true byte = lit≤ tt
     go true char = lit≤ tt
@@ -61,7 +61,7 @@ zero_needs t = by_dims (nat_eq t.dims 0) t.base where
 
 zeros_need : (ts : List TypeOf) (ss : List Step) → steps_needs (zeros ts ++ ss) ≡ steps_needs ss
 zeros_need [] ss = refl
-zeros_need (t ∷ ts) ss = ap (λ (es : List Entry). es ++ steps_needs (zeros ts ++ ss)) (zero_needs t) ∙ zeros_need ts ss
+zeros_need (t ∷ ts) ss = ap (λ (es : List PoolEntry). es ++ steps_needs (zeros ts ++ ss)) (zero_needs t) ∙ zeros_need ts ss
 
 -- there are no more zeros than slots
 pub zeros_few : (ts : List TypeOf) → length (zeros ts) ≤ slots_of ts
@@ -71,36 +71,28 @@ zeros_few (t ∷ ts) = omega (arith, one_slot t, zeros_few ts)
 -- ---- names of classes
 
 pub record IsNamed (c : Bytes) : Type 0 where
-  pub name : is_name c ≡ true
+  pub name : is_valid_name c ≡ true
   pub size : length c ≤ 4090
 
 pub short_name : (c : Bytes) → IsNamed c → is_short_text c ≡ true
 short_name c h = le-leb (length c) 65535 (omega (arith, h.size))
 
-pub class_name_of : (c : Bytes) → is_name c ≡ true → is_class_name c ≡ true
-class_name_of c h = (and_parts (is_class_name c) (is_text c) h).0
-
-class_good : (c : Bytes) → is_name c ≡ true → is_good (class c) ≡ true
-class_good c h = let p = and_parts (is_class_name c) (is_text c) h in rw (p.0, p.1) refl
-
--- a class name is no array
-pub not_bracketed : (c : Bytes) → is_class_name c ≡ true → is_bracketed c ≡ false
-not_bracketed [] h = refl
-not_bracketed (b ∷ bs) h = no_array (b ∷ bs) h
+pub class_name_of : (c : Bytes) → is_valid_name c ≡ true → spells_class_name c ≡ true
+class_name_of c h = (and_parts (spells_class_name c) (is_modified_utf8 c) h).0
 
 -- ---- names and descriptors of members
 
-pub method_pair : (k : Key) → IsMethodKey k → is_any_member k.name k.descriptor ≡ true
-method_pair k h = and_from (is_member_name k.name false || is_member_name k.name true) (is_field k.descriptor || is_method k.descriptor)
-    (or_true (is_member_name k.name false) (is_member_name k.name true) h.named) (or_true (is_field k.descriptor) (is_method k.descriptor) (rw h.is refl))
+pub method_pair : (k : Key) → IsMethodKey k → names_any_member k.name k.descriptor ≡ true
+method_pair k h = and_from (spells_member_name k.name false || spells_member_name k.name true) (describes_field k.descriptor || describes_method k.descriptor)
+    (or_right (spells_member_name k.name false) (spells_member_name k.name true) h.named) (or_right (describes_field k.descriptor) (describes_method k.descriptor) (rw h.is refl))
 
-pub field_pair : (k : Key) → IsFieldKey k → is_any_member k.name k.descriptor ≡ true
+pub field_pair : (k : Key) → IsFieldKey k → names_any_member k.name k.descriptor ≡ true
 field_pair k h = rw (h.named, h.is) refl
 
 -- a reference to a member of a class
-member_good : (tag : ℕ) (c : Bytes) (k : Key) → is_name c ≡ true → is_text k.name ≡ true → is_text k.descriptor ≡ true → is_any_member k.name k.descriptor ≡ true → is_good_use tag k.name k.descriptor ≡ true
+member_good : (tag : ℕ) (c : Bytes) (k : Key) → is_valid_name c ≡ true → is_modified_utf8 k.name ≡ true → is_modified_utf8 k.descriptor ≡ true → names_any_member k.name k.descriptor ≡ true → use_is_good tag k.name k.descriptor ≡ true
     → is_good (member tag c k.name k.descriptor) ≡ true
-member_good tag c k h n d p u = let q = and_parts (is_class_name c) (is_text c) h in rw (q.0, q.1, n, d, p, u) refl
+member_good tag c k h n d p u = let q = and_parts (spells_class_name c) (is_modified_utf8 c) h in rw (q.0, q.1, n, d, p, u) refl
 
 -- short names and descriptors
 pub record IsShortKey (k : Key) : Type 0 where
@@ -110,8 +102,8 @@ pub record IsShortKey (k : Key) : Type 0 where
 member_short : (tag : ℕ) (c : Bytes) (k : Key) → is_short_text c ≡ true → IsShortKey k → is_short (member tag c k.name k.descriptor) ≡ true
 member_short tag c k h s = rw (h, s.name, s.descriptor) refl
 
-pub used_method : (interface : Bool) (k : Key) → IsMethodKey k → is_clinit k.name ≡ false → (is_init k.name && interface) ≡ false → is_used_method interface k.name k.descriptor ≡ true
-used_method interface k h c i = rw (h.is, h.named, c) (go (is_init k.name) interface (no_result (Some h.method)) i h.nothing)
+pub used_method : (interface : Bool) (k : Key) → IsMethodKey k → is_clinit_name k.name ≡ false → (is_init_name k.name && interface) ≡ false → names_used_method interface k.name k.descriptor ≡ true
+used_method interface k h c i = rw (h.is, h.named, c) (go (is_init_name k.name) interface (no_result (Some h.method)) i h.nothing)
   where
     go : (a b n : Bool) → (a && b) ≡ false → (not a || n) ≡ true → (not a || (not b && n)) ≡ true
     go false b n p q = refl
@@ -140,12 +132,12 @@ params_few c d h = rw h.key.is (omega (arith, zeros_few h.key.method.params, h.k
 
 -- a class below it can be written
 pub constructor_above : (c d : Bytes) → IsConstructor c d → IsAbove c d
-constructor_above c d h = record { itself = same_itself c; no_array = not_bracketed c (class_name_of c h.class.name); method = h.key.method; descriptor_is = h.key.is }
+constructor_above c d h = record { itself = same_itself c; no_array = no_bracket c (class_name_of c h.class.name); method = h.key.method; descriptor_is = h.key.is }
 
 -- ---- the bodies without an act
 
-behind_zeros : (p : Entry → Bool) (ts : List TypeOf) (ss : List Step) → list_all p (steps_needs ss) ≡ true → list_all p (steps_needs (zeros ts ++ ss)) ≡ true
-behind_zeros p ts ss h = ap (λ (es : List Entry). list_all p es) (zeros_need ts ss) ∙ h
+behind_zeros : (p : PoolEntry → Bool) (ts : List TypeOf) (ss : List Step) → list_all p (steps_needs ss) ≡ true → list_all p (steps_needs (zeros ts ++ ss)) ≡ true
+behind_zeros p ts ss h = ap (λ (es : List PoolEntry). list_all p es) (zeros_need ts ss) ∙ h
 
 pub init_fine : (c d : Bytes) → IsConstructor c d → IsFine (init_steps c d)
 init_fine c d h =
@@ -162,13 +154,13 @@ make_fine c d h =
     let ts : List TypeOf = params_of (method_of d) in
     let ss : List Step = steps.Construct c d ∷ steps.Pop ∷ steps.Return None ∷ [] in
     record {
-      good = and_from (is_good (class c)) (list_all is_good (steps_needs (zeros ts ++ ss))) (class_good c h.class.name) (behind_zeros is_good ts ss (rw (init_good c d h) refl));
+      good = and_from (is_good (class c)) (list_all is_good (steps_needs (zeros ts ++ ss))) (name_good c h.class.name) (behind_zeros is_good ts ss (rw (init_good c d h) refl));
       short = and_from (is_short (class c)) (list_all is_short (steps_needs (zeros ts ++ ss))) (class_short c (short_name c h.class)) (behind_zeros is_short ts ss (rw (init_short c d h) refl));
       few = omega (arith, length-append (zeros ts) ss, params_few c d h);
     }
 
 pub cast_fine : (c : Bytes) → IsNamed c → IsFine (cast_steps c)
-cast_fine c h = record { good = rw (class_good c h.name) refl; short = rw (class_short c (short_name c h)) refl; few = lit≤ tt }
+cast_fine c h = record { good = rw (name_good c h.name) refl; short = rw (class_short c (short_name c h)) refl; few = lit≤ tt }
 
 pub turn_fine : IsFine turn_steps
 turn_fine = record { good = refl; short = refl; few = lit≤ tt }
@@ -179,16 +171,16 @@ turn_fine = record { good = refl; short = refl; few = lit≤ tt }
 pub record IsActed (what : Act) (c : Bytes) (k : Key) : Type 0 where
   pub class : IsNamed c
   pub usable : IsUsable what c k
-  pub text : is_text k.name ≡ true
-  pub spelled : is_text k.descriptor ≡ true
-  pub pair : is_any_member k.name k.descriptor ≡ true
-  pub used : is_good_use (act_tag what) k.name k.descriptor ≡ true
+  pub text : is_modified_utf8 k.name ≡ true
+  pub spelled : is_modified_utf8 k.descriptor ≡ true
+  pub pair : names_any_member k.name k.descriptor ≡ true
+  pub used : use_is_good (tag_of_act what) k.name k.descriptor ≡ true
   pub short : IsShortKey k
   pub few : length (zeros (taken_by what k.descriptor)) ≤ 255
 
 pops_need : (o : Option TypeOf) → steps_needs (pops_of o ++ steps.Return None ∷ []) ≡ []
 pops_need None = refl
-pops_need (Some t) = go (nat_eq (type_slots t) 2)
+pops_need (Some t) = go (nat_eq (slots_of_type t) 2)
   where
     go : (b : Bool) → steps_needs (cond b steps.Pop2 steps.Pop ∷ steps.Return None ∷ []) ≡ []
     go true = refl
@@ -199,7 +191,7 @@ pops_few None = lit≤ tt
 pops_few (Some t) = lit≤ tt
 
 pub act_fine : (what : Act) (c : Bytes) (k : Key) → IsActed what c k → IsFine (act_steps what c k)
-act_fine what c k h = go (is_static_act what)
+act_fine what c k h = go (is_act_on_static what)
   where
     last : List Step
     last = steps.Member what c k ∷ (pops_of (given_by what k.descriptor) ++ steps.Return None ∷ [])
@@ -207,14 +199,14 @@ act_fine what c k h = go (is_static_act what)
     ts : List TypeOf
     ts = taken_by what k.descriptor
 
-    entries : (p : Entry → Bool) → p (member (act_tag what) c k.name k.descriptor) ≡ true → list_all p (steps_needs (zeros ts ++ last)) ≡ true
+    entries : (p : PoolEntry → Bool) → p (member (tag_of_act what) c k.name k.descriptor) ≡ true → list_all p (steps_needs (zeros ts ++ last)) ≡ true
     entries p q = behind_zeros p ts last (rw (pops_need (given_by what k.descriptor), q) refl)
 
     good : list_all is_good (steps_needs (zeros ts ++ last)) ≡ true
-    good = entries is_good (member_good (act_tag what) c k h.class.name h.text h.spelled h.pair h.used)
+    good = entries is_good (member_good (tag_of_act what) c k h.class.name h.text h.spelled h.pair h.used)
 
     short : list_all is_short (steps_needs (zeros ts ++ last)) ≡ true
-    short = entries is_short (member_short (act_tag what) c k (short_name c h.class) h.short)
+    short = entries is_short (member_short (tag_of_act what) c k (short_name c h.class) h.short)
 
     few : length (zeros ts ++ last) ≤ 258
     few = omega (arith, length-append (zeros ts) last, h.few, pops_few (given_by what k.descriptor))

@@ -8,17 +8,17 @@ use Rattle.jc_facts.specs.declared.blueprint.Blueprint.{Blueprint}
 use Rattle.jc_facts.specs.declared.class_facts.ClassFacts.{ClassFacts}
 use Rattle.jc_facts.specs.declared.client.ClientClass.{ClientClass}
 use Rattle.jc_facts.specs.declared.client.Item.{Item}
-use Rattle.jc_facts.specs.Clients.{facts_of, names_differ}
+use Rattle.jc_facts.specs.client.Clients.{facts_of, differ_by_name}
 use Rattle.jc_facts.specs.ByName.{placed, by_name}
 use Rattle.jc_facts.specs.Names.{Bytes, same}
-use Rattle.jc_facts.specs.Orders.{name_order}
-use Rattle.jc_facts.specs.World.{class_named}
-use Rattle.jc_facts.specs.Planned.{Plan, spot_of}
-use Rattle.jc_facts.specs.PlannedBodies.{Bodies, blueprint, blueprints}
+use Rattle.jc_facts.specs.Exactly.{name_order}
+use Rattle.jc_facts.specs.world.World.{class_named}
+use Rattle.jc_facts.specs.plan.Planned.{Plan, spot_of}
+use Rattle.jc_facts.specs.plan.PlannedBodies.{Bodies, blueprint, blueprints}
 use Rattle.jc_complete.proofs.PlanOrder.{name_of}
-use Rattle.jc_laws.proofs.SoundnessLaws.{client_there}
-use Rattle.jc_laws.proofs.Standing.{none_is}
-use Rattle.jc_laws.proofs.Worlds.{same_is}
+use Rattle.jc_sound.proofs.SoundnessLaws.{client_there}
+use Rattle.jc_lemmas.proofs.Options.{none_where}
+use Rattle.jc_facts.proofs.Same.{same_is}
 use Rattle.jc_write.proofs.WholeFile.{written_reads}
 use Rattle.jc_write.proofs.ItemsWritten.{written_items}
 use Rattle.jc_bodies.specs.Files.{IsFileOf, AreFilesOf}
@@ -103,20 +103,20 @@ none_named (c ∷ cs) x h = sum_by-cons (λ (c : ClientClass). cond (same c.fact
     go true q r = absurd (cc)
     go false q r = omega (arith, r q)
 
-one_named : (cs : List ClientClass) (x : Bytes) (d : ClassFacts) → names_differ (facts_of cs) ≡ true → class_named (facts_of cs) x ≡ Some d → count_by (λ (c : ClientClass). same c.facts.name x) cs ≡ 1
-unfolding class_named names_differ
+one_named : (cs : List ClientClass) (x : Bytes) (d : ClassFacts) → differ_by_name (facts_of cs) ≡ true → class_named (facts_of cs) x ≡ Some d → count_by (λ (c : ClientClass). same c.facts.name x) cs ≡ 1
+unfolding class_named differ_by_name
 one_named [] x d n h = absurd (cc)
 one_named (c ∷ cs) x d n h = sum_by-cons (λ (c : ClientClass). cond (same c.facts.name x) 1 0) c cs ∙ go (same c.facts.name x) refl h (one_named cs x d parts.1)
   where
-    parts : (is_none (class_named (facts_of cs) c.facts.name) ≡ true) × (names_differ (facts_of cs) ≡ true)
-    parts = and_parts (is_none (class_named (facts_of cs) c.facts.name)) (names_differ (facts_of cs)) n
+    parts : (is_none (class_named (facts_of cs) c.facts.name) ≡ true) × (differ_by_name (facts_of cs) ≡ true)
+    parts = and_parts (is_none (class_named (facts_of cs) c.facts.name)) (differ_by_name (facts_of cs)) n
 
     go : (b : Bool) → same c.facts.name x ≡ b → cond b (Some c.facts) (class_named (facts_of cs) x) ≡ Some d → (class_named (facts_of cs) x ≡ Some d → count_by (λ (c : ClientClass). same c.facts.name x) cs ≡ 1)
         → cond b 1 0 + count_by (λ (c : ClientClass). same c.facts.name x) cs ≡ 1
-    go true e q r = omega (arith, none_named cs x (subst (λ y. class_named (facts_of cs) y ≡ None) (same_is c.facts.name x e) (none_is (class_named (facts_of cs) c.facts.name) parts.0)))
+    go true e q r = omega (arith, none_named cs x (subst (λ y. class_named (facts_of cs) y ≡ None) (same_is c.facts.name x e) (none_where (class_named (facts_of cs) c.facts.name) parts.0)))
     go false e q r = omega (arith, r q)
 
-pub one_spot : (p : Plan) (bs : List Blueprint) (cs : List ClientClass) (c : ClientClass) → AreFilesOf bs cs → names_differ (facts_of cs) ≡ true → Contains cs c → c.facts.name ≡ p.name
+pub one_spot : (p : Plan) (bs : List Blueprint) (cs : List ClientClass) (c : ClientClass) → AreFilesOf bs cs → differ_by_name (facts_of cs) ≡ true → Contains cs c → c.facts.name ≡ p.name
     → count_by (λ (b : Blueprint). is_some (spot_of p b.facts.name)) bs ≡ 1
 one_spot p bs cs c t n i e =
     let w = client_there cs c i in

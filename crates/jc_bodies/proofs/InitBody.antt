@@ -3,24 +3,25 @@ use Rattle.std.proofs.Common.{◌≡◌, ℕ, ◌+◌, Bool, true, false, ◌||�
 use Rattle.std.specs.Prelude.{codes}
 use Rattle.std.proofs.lemmas.List.{length-map}
 use Rattle.jc_desc.specs.PoolAnswers.{MemberRefOf}
-use Rattle.jc_desc.specs.Reading.{method_of, params_at, result_of as descriptor_result}
+use Rattle.jc_desc.specs.Reading.{method_of, params_from, result_of as descriptor_result}
 use Rattle.jc_desc.specs.Types.{Method}
 use Rattle.jc_facts.specs.declared.class_facts.ClassFacts.{ClassFacts}
 use Rattle.jc_facts.specs.declared.client.Item.{Item}
 use Rattle.jc_facts.specs.declared.client.Item.TheVariants as item
 use Rattle.jc_facts.specs.declared.blueprint.Step.{Step}
 use Rattle.jc_facts.specs.declared.blueprint.Step.TheVariants as steps
-use Rattle.jc_facts.specs.Attributes.{is_bracketed, ◌|>>◌}
+use Rattle.jc_facts.specs.file.Attributes.{is_array_name, ◌|>>◌}
 use Rattle.jc_facts.specs.Names.{Bytes, same}
 use Rattle.jc_facts.specs.Options.{some_and}
-use Rattle.jc_facts.specs.Code.{Around, is_own}
-use Rattle.jc_facts.specs.Bodies.{init_name}
-use Rattle.jc_facts.specs.Typing.{Kind, unset, ref, Frame, kind_of, Kinds, method_kinds, start_of, initialized, construct, all_made, leave, run, load, go}
-use Rattle.jc_facts.specs.TypedSteps.{typed_steps, step_len, reference}
-use Rattle.jc_facts.specs.TypedItems.{around_method, typed_body}
-use Rattle.jc_facts.specs.Planned.{init_method}
-use Rattle.jc_facts.specs.PlannedBodies.{zeros, params_of, init_steps, first_local}
-use Rattle.jc_bodies.proofs.Zeros.{pushed, on, no_items, zeros_typed, zeros_fit, last_taken, last_popped}
+use Rattle.jc_facts.specs.code.Code.{Around, is_own}
+use Rattle.jc_facts.specs.written.Bodies.{init_name}
+use Rattle.jc_facts.specs.code.Typing.{Kind, unset, ref, Frame, kind_of, Kinds, method_kinds, start_of, initialized, construct, all_made, leave, run, load, go}
+use Rattle.jc_facts.specs.written.TypedSteps.{typed_steps, step_len, reference}
+use Rattle.jc_facts.specs.written.TypedItems.{around_method, typed_body}
+use Rattle.jc_facts.specs.plan.Planned.{init_method}
+use Rattle.jc_facts.specs.plan.PlannedBodies.{zeros, params_of, init_steps, first_local}
+use Rattle.jc_bodies.proofs.Zeros.{pushed, on, no_items, zeros_typed, zeros_fit, last_taken}
+use Rattle.jc_facts.proofs.Typing.{pop_push}
 
 -- a call with these arguments, by its parts
 pub constructed : (a : Around) (m : MemberRefOf) (stack locals : List Kind) (k : Kind) (d : Method) (i : Item × Bytes) → method_of m.descriptor ≡ Some d → initialized a m k ≡ Some i
@@ -28,10 +29,10 @@ pub constructed : (a : Around) (m : MemberRefOf) (stack locals : List Kind) (k :
 unfolding construct method_kinds
 constructed a m stack locals k d i e n =
     let size : length (map pushed d.params) ≡ length (map kind_of d.params) = length-map d.params pushed ∙ sym (length-map d.params kind_of) in
-    rw (e, last_taken (stack ++ k ∷ []) (map pushed d.params) (length (map kind_of d.params)) size, last_popped stack k, n, zeros_fit d.params) refl
+    rw (e, last_taken (stack ++ k ∷ []) (map pushed d.params) (length (map kind_of d.params)) size, pop_push stack k, n, zeros_fit d.params) refl
 
 -- a step that isn't a return, by its parts
-pub step_typed : (a : Around) (due : Option Kind) (pc : ℕ) (f g : Frame) (c d : Bytes) (found others : List Item) (ss : List Step) → is_bracketed c ≡ false → construct a (reference 10 c init_name d) f ≡ Some (found, g)
+pub step_typed : (a : Around) (due : Option Kind) (pc : ℕ) (f g : Frame) (c d : Bytes) (found others : List Item) (ss : List Step) → is_array_name c ≡ false → construct a (reference 10 c init_name d) f ≡ Some (found, g)
     → typed_steps a due (pc + step_len (steps.Construct c d)) g ss ≡ Some others → typed_steps a due pc f (steps.Construct c d ∷ ss) ≡ Some (found ++ others)
 unfolding typed_steps run
 step_typed a due pc f g c d found others ss b e n = rw (b, e, n) refl
@@ -69,11 +70,11 @@ unfolding typed_steps run load
 loaded_this c ss = refl
 
 pub init_kinds : method_kinds (codes "()V") ≡ Some (record { params = []; result = None })
-unfolding method_kinds method_of params_at descriptor_result
+unfolding method_kinds method_of params_from descriptor_result
 init_kinds = refl
 
 -- the call of this constructor of the superclass
-pub init_typed : (c : ClassFacts) (above descriptor : Bytes) (d : Method) → c.superclass ≡ Some above → same above above ≡ true → is_bracketed above ≡ false → method_of descriptor ≡ Some d
+pub init_typed : (c : ClassFacts) (above descriptor : Bytes) (d : Method) → c.superclass ≡ Some above → same above above ≡ true → is_array_name above ≡ false → method_of descriptor ≡ Some d
     → typed_body c init_method (record { steps = init_steps above descriptor }) ≡ Some (item.Init above descriptor ∷ [])
 unfolding typed_body all_made
 init_typed c above descriptor d e h b m =

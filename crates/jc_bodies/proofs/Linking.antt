@@ -2,8 +2,8 @@
 use Rattle.std.proofs.Common.{◌≡◌, ◌≤◌, Bool, true, false, cond, not, ◌||◌, length, Option, Some, None, refl, sym, subst, ◌∙◌, arith, nat_le, min, lit≤}
 use Rattle.std.specs.List.{list_all}
 use Rattle.std.proofs.lemmas.Bool.{and_parts, le-leb, not-true}
-use Rattle.jc_desc.specs.Names.{is_init, is_clinit}
-use Rattle.jc_desc.specs.Pool.{is_used_method}
+use Rattle.jc_desc.specs.Names.{is_init_name, is_clinit_name}
+use Rattle.jc_desc.specs.Pool.{names_used_method}
 use Rattle.jc_desc.specs.Reading.{field_of, method_of, slots_of_method}
 use Rattle.jc_desc.specs.Types.{Method, slots_of}
 use Rattle.jc_facts.specs.declared.act.Act.{Act}
@@ -15,32 +15,33 @@ use Rattle.jc_facts.specs.declared.client.Place.{Place}
 use Rattle.jc_facts.specs.declared.key.Key.{Key}
 use Rattle.jc_facts.specs.declared.link_error.LinkError.{LinkError}
 use Rattle.jc_facts.specs.declared.link_error.LinkError.TheVariants.{NoSuchMethodError}
-use Rattle.jc_facts.specs.Acts.{Form, FieldForm, form_of, is_static_act, is_field_act}
-use Rattle.jc_facts.specs.Bodies.{act_tag, param_slots}
-use Rattle.jc_facts.specs.Flags.{is_static}
-use Rattle.jc_facts.specs.Loading.{load_fault}
+use Rattle.jc_facts.specs.client.Acts.{Form, FieldForm, form_of, is_act_on_static, is_act_on_field}
+use Rattle.jc_facts.specs.written.Bodies.{tag_of_act, slots_or_none}
+use Rattle.jc_facts.specs.Flags.{static_flag}
+use Rattle.jc_facts.specs.world.Loading.{load_fault}
 use Rattle.jc_facts.specs.Names.{Bytes, is_key, key_of}
-use Rattle.jc_facts.specs.Outcome.{class_fault, class_step, outcome, use_fault, init_key, instantiation_fault, array_fault}
-use Rattle.jc_facts.specs.Types.{is_array}
-use Rattle.jc_facts.specs.Valid.{IsValidClass}
-use Rattle.jc_facts.specs.World.{World, find, Found, own_field, own_method}
-use Rattle.jc_facts.specs.PlannedBodies.{zeros, params_of, param_of, taken_by}
-use Rattle.jc_facts.specs.Attributes.{is_bracketed}
-use Rattle.jc_facts.specs.PoolEntries.{is_good_use}
-use Rattle.jc_laws.proofs.Context.{named_class}
-use Rattle.jc_laws.proofs.Declared.{IsDeclared}
-use Rattle.jc_laws.proofs.FieldActs.{IsField, field_found-declared}
-use Rattle.jc_laws.proofs.Inherited.{found_all}
-use Rattle.jc_laws.proofs.Inits.{cond-none}
-use Rattle.jc_laws.proofs.Loaded.{or_else-none, loads-found}
-use Rattle.jc_laws.proofs.Looked.{Takes, look_up-takes, looked, use-parts}
-use Rattle.jc_laws.proofs.MethodLooked.{looked-declared}
-use Rattle.jc_laws.proofs.NewInit.{IsOwn, own_init}
-use Rattle.jc_laws.proofs.Above.{or_left}
-use Rattle.jc_laws.proofs.Standing.{or_right}
-use Rattle.jc_laws.proofs.Worlds.{find-name}
+use Rattle.jc_facts.specs.client.Outcome.{class_fault, class_step, outcome, use_fault, init_key, instantiation_fault, array_fault}
+use Rattle.jc_facts.specs.world.Types.{is_array_text}
+use Rattle.jc_facts.specs.file.Valid.{IsValidClass}
+use Rattle.jc_facts.specs.world.World.{World, find_class, DeclaredMember, own_field_of, own_method_of}
+use Rattle.jc_facts.specs.plan.PlannedBodies.{zeros, params_of, param_of, taken_by}
+use Rattle.jc_facts.specs.file.Attributes.{is_array_name}
+use Rattle.jc_facts.specs.written.PoolEntries.{use_is_good}
+use Rattle.jc_sound.proofs.Context.{named_class}
+use Rattle.jc_worlds.proofs.Declared.{IsDeclared}
+use Rattle.jc_worlds.proofs.FieldActs.{IsField, field_found-declared}
+use Rattle.jc_worlds.proofs.Inherited.{found_all}
+use Rattle.jc_lemmas.proofs.Options.{cond-none}
+use Rattle.jc_facts.proofs.Options.{or_else-none}
+use Rattle.jc_worlds.proofs.Loaded.{loads-found}
+use Rattle.jc_sound.proofs.Looked.{Takes, look_up-takes, looked, use-parts}
+use Rattle.jc_sound.proofs.MethodLooked.{looked-declared}
+use Rattle.jc_sound.proofs.NewInit.{IsOwn, own_init}
+use Rattle.jc_lemmas.proofs.Bools.{neither_first, neither_last}
+use Rattle.jc_facts.proofs.World.{find-name}
 use Rattle.jc_bodies.proofs.RowTypes.{IsUsable}
-use Rattle.jc_bodies.proofs.Entries.{IsNamed, class_name_of, not_bracketed, IsShortKey, IsConstructor, IsActed, method_pair, field_pair, used_method, zeros_few}
+use Rattle.jc_bodies.proofs.Entries.{IsNamed, class_name_of, IsShortKey, IsConstructor, IsActed, method_pair, field_pair, used_method, zeros_few}
+use Rattle.jc_write.proofs.PiecesStand.{no_bracket}
 use Rattle.jc_bodies.proofs.Keys.{IsMethodKey, IsFieldKey, declared_method, declared_field, declared_method_key, declared_field_key, method_slots}
 use Rattle.jc_bodies.proofs.Written.{is_short_text, is_short_member}
 
@@ -54,33 +55,33 @@ pub record IsShort (c : ClassFacts) : Type 0 where
 
 -- a world of valid classes with short names
 pub record IsSound (V : World) : Type 0 where
-  pub valid : (x : Bytes) (c : ClassFacts) → find V x ≡ Some c → IsValidClass c
-  pub short : (x : Bytes) (c : ClassFacts) → find V x ≡ Some c → IsShort c
+  pub valid : (x : Bytes) (c : ClassFacts) → find_class V x ≡ Some c → IsValidClass c
+  pub short : (x : Bytes) (c : ClassFacts) → find_class V x ≡ Some c → IsShort c
 
 short_key : (k : Key) (m : Member) → is_short_member m ≡ true → key_of m ≡ k → IsShortKey k
 short_key k m h e = let p = and_parts (is_short_text m.name) (is_short_text m.descriptor) h in let s : IsShortKey (key_of m) = record { name = p.0; descriptor = p.1 } in subst IsShortKey e s
 
 -- a class that is there
-pub named_there : (V : World) → IsSound V → (x : Bytes) (c : ClassFacts) → find V x ≡ Some c → IsNamed x
+pub named_there : (V : World) → IsSound V → (x : Bytes) (c : ClassFacts) → find_class V x ≡ Some c → IsNamed x
 named_there V s x c e =
     let n : IsNamed c.name = record { name = (s.valid x c e).name; size = (s.short x c e).name } in
     subst IsNamed (find-name V x c e) n
 
-pub method_short : (c : ClassFacts) (k : Key) (m : Member) → IsValidClass c → IsShort c → own_method c k ≡ Some m → IsShortKey k
+pub method_short : (c : ClassFacts) (k : Key) (m : Member) → IsValidClass c → IsShort c → own_method_of c k ≡ Some m → IsShortKey k
 method_short c k m v s o = short_key k m (found_all (is_key k) is_short_member c.methods m o s.methods) (declared_method c k m v o).1
 
-pub field_short : (c : ClassFacts) (k : Key) (m : Member) → IsValidClass c → IsShort c → own_field c k ≡ Some m → IsShortKey k
+pub field_short : (c : ClassFacts) (k : Key) (m : Member) → IsValidClass c → IsShort c → own_field_of c k ≡ Some m → IsShortKey k
 field_short c k m v s o = short_key k m (found_all (is_key k) is_short_member c.fields m o s.fields) (declared_field c k m v o).1
 
 -- ---- classes
 
-class_loads : (V : World) (x t : Bytes) → is_array t ≡ false → class_step V x t ≡ None → load_fault V t ≡ None
+class_loads : (V : World) (x t : Bytes) → is_array_text t ≡ false → class_step V x t ≡ None → load_fault V t ≡ None
 unfolding class_step class_fault
 class_loads V x t p h = (or_else-none (load_fault V t) _ (rw (named_class t p) at h)).0
 
 -- ---- initializers
 
-own_constructor : (V : World) → IsSound V → (t d : Bytes) (f : Found → Option LinkError) → IsOwn V t d f → IsConstructor t d
+own_constructor : (V : World) → IsSound V → (t d : Bytes) (f : DeclaredMember → Option LinkError) → IsOwn V t d f → IsConstructor t d
 own_constructor V s t d f o = record {
   class = named_there V s t o.class o.is_there;
   key = declared_method_key o.class (init_key d) o.member (s.valid t o.class o.is_there) o.declares;
@@ -91,14 +92,14 @@ pub init_links : (V : World) → IsSound V → (x t d : Bytes) → outcome V x (
 unfolding outcome
 init_links V s x t d h =
     let p = or_else-none (class_step V x t) _ h in
-    let q = cond-none (is_array t) NoSuchMethodError _ p.1 in
+    let q = cond-none (is_array_text t) NoSuchMethodError _ p.1 in
     own_constructor V s t d _ (own_init V t d _ (class_loads V x t q.0 p.0) q.1)
 
 pub new_links : (V : World) → IsSound V → (x t d : Bytes) → outcome V x (item.New t d) ≡ None → IsConstructor t d
 unfolding outcome
 new_links V s x t d h =
     let p = or_else-none (class_step V x t) _ h in
-    let q = cond-none (is_array t) NoSuchMethodError _ p.1 in
+    let q = cond-none (is_array_text t) NoSuchMethodError _ p.1 in
     let r = or_else-none (instantiation_fault V t) _ q.1 in
     own_constructor V s t d _ (own_init V t d _ (class_loads V x t q.0 p.0) r.1)
 
@@ -106,11 +107,11 @@ new_links V s x t d h =
 
 -- the lookup of an act finds a member
 looked_up : (V : World) (x : Bytes) (what : Act) (t : Bytes) (k : Key) (r : Option Bytes) (place : Place) → outcome V x (item.Access what t k r place) ≡ None
-    → (is_array t ≡ false) × (load_fault V t ≡ None) × Takes V (form_of what) t k (use_fault V x what t r place)
+    → (is_array_text t ≡ false) × (load_fault V t ≡ None) × Takes V (form_of what) t k (use_fault V x what t r place)
 unfolding outcome
 looked_up V x what t k r place h =
     let p = or_else-none (class_step V x t) _ h in
-    let q = cond-none (is_array t) (array_fault (form_of what)) _ p.1 in
+    let q = cond-none (is_array_text t) (array_fault (form_of what)) _ p.1 in
     (q.0, class_loads V x t q.0 p.0, look_up-takes V (form_of what) t k (use_fault V x what t r place) q.1)
 
 -- a field that is there
@@ -123,12 +124,12 @@ record HasMethod (what : Act) (t : Bytes) (k : Key) : Type 0 where
   class : IsNamed t
   key : IsMethodKey k
   short : IsShortKey k
-  instance : is_static_act what ≡ false → slots_of key.method.params ≤ 254
+  instance : is_act_on_static what ≡ false → slots_of key.method.params ≤ 254
 
 class_there : (V : World) → IsSound V → (t : Bytes) → load_fault V t ≡ None → IsNamed t
 class_there V s t h = let c = loads-found V t h in named_there V s t c.0 c.1
 
-field_links : (V : World) → IsSound V → (t : Bytes) (k : Key) (f : Found → Option LinkError) → load_fault V t ≡ None → Takes V FieldForm t k f → HasField t k
+field_links : (V : World) → IsSound V → (t : Bytes) (k : Key) (f : DeclaredMember → Option LinkError) → load_fault V t ≡ None → Takes V FieldForm t k f → HasField t k
 unfolding looked
 field_links V s t k f l tk =
     let d : IsField V k tk.found = field_found-declared V k tk.found t l tk.taken in
@@ -152,7 +153,7 @@ method_links V s x what t k r place l n tk =
       short = method_short d.class k tk.found.member v (s.short tk.found.owner d.class d.is_there) d.declares;
       instance = λ i.
           let u = (use-parts V x what t r place tk.found tk.fine).kind in
-          let z : is_static tk.found.member.flags ≡ false = (rw i at u) in
+          let z : static_flag tk.found.member.flags ≡ false = (rw i at u) in
           let w = method_slots d.class tk.found.member m.0 z in
           let e : method_of k.descriptor ≡ Some w.0 = subst (λ (j : Key). method_of j.descriptor ≡ Some w.0) m.1 w.1 in
           let same : w.0 ≡ key.method = (let both : Some w.0 ≡ Some key.method = sym e ∙ key.is in cc) in
@@ -178,12 +179,12 @@ is_instruction _ = false
 few_params : (k : Key) (h : IsMethodKey k) → length (zeros (params_of (method_of k.descriptor))) ≤ 255
 few_params k h = rw h.is (omega (arith, zeros_few h.method.params, h.slots))
 
-callable_slots : (k : Key) (h : IsMethodKey k) → slots_of h.method.params ≤ 254 → nat_le (param_slots (slots_of_method k.descriptor)) 254 ≡ true
+callable_slots : (k : Key) (h : IsMethodKey k) → slots_of h.method.params ≤ 254 → nat_le (slots_or_none (slots_of_method k.descriptor)) 254 ≡ true
 unfolding slots_of_method
 callable_slots k h l = rw h.is (le-leb (min (slots_of h.method.params) 4294967295) 254 (omega (arith, l)))
 
 module _ (t : Bytes) (k : Key) where
-  of_field : (what : Act) → IsUsable what t k → act_tag what ≡ 9 → HasField t k → length (zeros (taken_by what k.descriptor)) ≤ 255 → IsActed what t k
+  of_field : (what : Act) → IsUsable what t k → tag_of_act what ≡ 9 → HasField t k → length (zeros (taken_by what k.descriptor)) ≤ 255 → IsActed what t k
   of_field what u g h l = record {
     class = h.class;
     usable = u;
@@ -195,7 +196,7 @@ module _ (t : Bytes) (k : Key) where
     few = l;
   }
 
-  of_method : (what : Act) (interface : Bool) → IsUsable what t k → act_tag what ≡ cond interface 11 10 → HasMethod what t k → is_clinit k.name ≡ false → is_init k.name ≡ false → length (zeros (taken_by what k.descriptor)) ≤ 255 → IsActed what t k
+  of_method : (what : Act) (interface : Bool) → IsUsable what t k → tag_of_act what ≡ cond interface 11 10 → HasMethod what t k → is_clinit_name k.name ≡ false → is_init_name k.name ≡ false → length (zeros (taken_by what k.descriptor)) ≤ 255 → IsActed what t k
   of_method what interface u g h c i l = record {
     class = h.class;
     usable = u;
@@ -207,12 +208,12 @@ module _ (t : Bytes) (k : Key) where
     few = l;
   }
     where
-      by : (b : Bool) → is_used_method b k.name k.descriptor ≡ true → is_good_use (cond b 11 10) k.name k.descriptor ≡ true
+      by : (b : Bool) → names_used_method b k.name k.descriptor ≡ true → use_is_good (cond b 11 10) k.name k.descriptor ≡ true
       by true q = q
       by false q = q
 
 module _ (V : World) (s : IsSound V) (x : Bytes) (t : Bytes) (k : Key) (r : Option Bytes) (place : Place) where
-  on_field : (what : Act) → form_of what ≡ FieldForm → act_tag what ≡ 9 → ((h : HasField t k) → IsUsable what t k × (length (zeros (taken_by what k.descriptor)) ≤ 255)) → outcome V x (item.Access what t k r place) ≡ None → IsActed what t k
+  on_field : (what : Act) → form_of what ≡ FieldForm → tag_of_act what ≡ 9 → ((h : HasField t k) → IsUsable what t k × (length (zeros (taken_by what k.descriptor)) ≤ 255)) → outcome V x (item.Access what t k r place) ≡ None → IsActed what t k
   on_field what f g u h =
       let l = looked_up V x what t k r place h in
       let tk : Takes V FieldForm t k (use_fault V x what t r place) = subst (λ (z : Form). Takes V z t k (use_fault V x what t r place)) f l.2 in
@@ -220,24 +221,24 @@ module _ (V : World) (s : IsSound V) (x : Bytes) (t : Bytes) (k : Key) (r : Opti
       let v = u w in
       of_field t k what v.0 g w v.1
 
-  on_method : (what : Act) (interface : Bool) → (form_of what ≡ FieldForm → ⊥) → act_tag what ≡ cond interface 11 10 → not (is_init k.name || is_clinit k.name) ≡ true
-      → ((h : HasMethod what t k) → is_init k.name ≡ false → IsUsable what t k × (length (zeros (taken_by what k.descriptor)) ≤ 255)) → outcome V x (item.Access what t k r place) ≡ None → IsActed what t k
+  on_method : (what : Act) (interface : Bool) → (form_of what ≡ FieldForm → ⊥) → tag_of_act what ≡ cond interface 11 10 → not (is_init_name k.name || is_clinit_name k.name) ≡ true
+      → ((h : HasMethod what t k) → is_init_name k.name ≡ false → IsUsable what t k × (length (zeros (taken_by what k.descriptor)) ≤ 255)) → outcome V x (item.Access what t k r place) ≡ None → IsActed what t k
   on_method what interface f g n u h =
       let l = looked_up V x what t k r place h in
       let w = method_links V s x what t k r place l.1 f l.2 in
-      let no_init = not-true (is_init k.name || is_clinit k.name) n in
-      let i = or_left (is_init k.name) (is_clinit k.name) no_init in
+      let no_init = not-true (is_init_name k.name || is_clinit_name k.name) n in
+      let i = neither_first (is_init_name k.name) (is_clinit_name k.name) no_init in
       let v = u w i in
-      of_method t k what interface v.0 g w (or_right (is_init k.name) (is_clinit k.name) no_init) i v.1
+      of_method t k what interface v.0 g w (neither_last (is_init_name k.name) (is_clinit_name k.name) no_init) i v.1
 
-  plain : IsNamed t → is_bracketed t ≡ false
-  plain c = not_bracketed t (class_name_of t c.name)
+  plain : IsNamed t → is_array_name t ≡ false
+  plain c = no_bracket t (class_name_of t c.name)
 
   one_value : HasField t k → length (zeros (param_of (field_of k.descriptor))) ≤ 255
   one_value w = rw w.key.is (lit≤ tt)
 
   -- what a body may name that acts so
-  pub access_links : (what : Act) → is_instruction what ≡ true → (is_field_act what || not (is_init k.name || is_clinit k.name)) ≡ true → outcome V x (item.Access what t k r place) ≡ None → IsActed what t k
+  pub access_links : (what : Act) → is_instruction what ≡ true → (is_act_on_field what || not (is_init_name k.name || is_clinit_name k.name)) ≡ true → outcome V x (item.Access what t k r place) ≡ None → IsActed what t k
   access_links acts.GetStatic i v h = on_field acts.GetStatic refl refl (λ w. (record { no_array = plain w.class; callable = refl; takes = (w.key.type, w.key.is) }, lit≤ tt)) h
   access_links acts.PutStatic i v h = on_field acts.PutStatic refl refl (λ w. (record { no_array = plain w.class; callable = refl; takes = (w.key.type, w.key.is) }, one_value w)) h
   access_links acts.GetField i v h = on_field acts.GetField refl refl (λ w. (record { no_array = plain w.class; callable = refl; takes = (w.key.type, w.key.is) }, lit≤ tt)) h

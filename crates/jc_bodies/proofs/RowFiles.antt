@@ -14,19 +14,19 @@ use Rattle.jc_facts.specs.declared.client.Item.TheVariants as item
 use Rattle.jc_facts.specs.declared.client.Place.TheVariants.{Other}
 use Rattle.jc_facts.specs.declared.key.Key.{Key}
 use Rattle.jc_facts.specs.declared.link_error.LinkError.{LinkError}
-use Rattle.jc_facts.specs.Acts.{form_of, is_static_act}
-use Rattle.jc_facts.specs.Flags.{is_public}
+use Rattle.jc_facts.specs.client.Acts.{form_of, is_act_on_static}
+use Rattle.jc_facts.specs.Flags.{public_flag}
 use Rattle.jc_facts.specs.Options.{some_and}
-use Rattle.jc_facts.specs.Assignment.{is_interface_of}
-use Rattle.jc_facts.specs.Clients.{IsValidClient, is_allowed, is_in_reach, facts_of}
+use Rattle.jc_facts.specs.world.Assignment.{is_interface_of}
+use Rattle.jc_facts.specs.client.Clients.{IsValidClient, is_allowed_name, is_in_reach, facts_of}
 use Rattle.jc_facts.specs.Names.{Bytes, same, object_name}
-use Rattle.jc_facts.specs.Outcome.{outcome}
-use Rattle.jc_facts.specs.World.{World, with_clients}
-use Rattle.jc_facts.specs.Planned.{Plan, class_type, takes_nothing, takes, turns, use_method, a_class, user, field_class, abstract_method, an_interface, found_by, act_item, names_class, names_above, assigns, makes_object, calls_constructor, overrides_method, receiver_for, acts_from, calls_inherited, reads_field, calls_captured}
-use Rattle.jc_facts.specs.PlannedNames.{in_package, own_name, closed_name, constructor}
-use Rattle.jc_facts.specs.PlannedBodies.{Bodies, init_body, object_init, cast_steps, turn_steps, make_steps, act_steps, user_bodies, above_bodies, overrides_bodies, acts_bodies, inherited_bodies, reads_bodies, captured_bodies}
+use Rattle.jc_facts.specs.client.Outcome.{outcome}
+use Rattle.jc_facts.specs.world.World.{World, with_clients}
+use Rattle.jc_facts.specs.plan.Planned.{Plan, class_type, takes_nothing, takes, turns, use_method, a_class, user, field_class, abstract_method, an_interface, found_by, act_item, names_class, names_above, assigns, makes_object, calls_constructor, overrides_method, receiver_for, acts_from, calls_inherited, reads_field, calls_captured}
+use Rattle.jc_facts.specs.plan.PlannedNames.{in_package, own_name, closed_name, constructor}
+use Rattle.jc_facts.specs.plan.PlannedBodies.{Bodies, init_body, object_init, cast_steps, turn_steps, make_steps, act_steps, user_bodies, above_bodies, overrides_bodies, acts_bodies, inherited_bodies, reads_bodies, captured_bodies}
 use Rattle.jc_complete.specs.Completeness.{LinksWhole, Shows}
-use Rattle.jc_laws.proofs.Settles.{EachOf, EachOf-map}
+use Rattle.jc_lemmas.proofs.Listed.{EachOf, EachOf-map}
 use Rattle.jc_bodies.proofs.RowTypes.{IsTypedAs, AreTypedAs}
 use Rattle.jc_bodies.proofs.AllRows.{names_class_row, assigns_row, makes_object_row, calls_constructor_row, overrides_row, acts_from_row, calls_inherited_row, reads_field_row, calls_captured_row}
 use Rattle.jc_bodies.proofs.ClassFiles.{IsHead, plain_head, head_of, class_file, abstract_file, using_file, interface_file, abstract_interface_file, object_constructor, user_file}
@@ -70,18 +70,18 @@ links_of V c h = EachOf-map (λ i k. k.1) c.items (recursion_from_All (λ i. (is
 
 record AreLinked (O : World) (cs : List ClientClass) : Type 0 where
   valid : EachOf IsValidClient cs
-  allowed : EachOf (λ c. is_allowed O c.facts.name ≡ true) cs
+  allowed : EachOf (λ c. is_allowed_name O c.facts.name ≡ true) cs
   link : EachOf (Link (with_clients O (facts_of cs))) cs
 
 shown_linked : (O N : World) (p : Plan) (e : LinkError) → Shows O N p e → AreLinked O p.clients
 shown_linked O N p e s = record {
   valid = recursion_from_All IsValidClient p.clients s.in_scope.valid;
-  allowed = recursion_from_All (λ c. is_allowed O c.facts.name ≡ true) p.clients s.in_scope.allowed_old;
+  allowed = recursion_from_All (λ c. is_allowed_name O c.facts.name ≡ true) p.clients s.in_scope.allowed_old;
   link = EachOf-map (links_of (with_clients O (facts_of p.clients))) p.clients (recursion_from_All (LinksWhole (with_clients O (facts_of p.clients))) p.clients s.links);
 }
 
 -- a client's own name
-own_named : (O : World) (c : ClientClass) → IsValidClient c → is_allowed O c.facts.name ≡ true → IsNamed c.facts.name
+own_named : (O : World) (c : ClientClass) → IsValidClient c → is_allowed_name O c.facts.name ≡ true → IsNamed c.facts.name
 own_named O c v a = record { name = v.facts.name; size = allowed_length O c.facts.name a }
 
 -- the test of the second of two items
@@ -174,10 +174,10 @@ module _ (O N : World) (w : Bytes) (sound : (cs : List ClassFacts) → EachOf Is
       r = receiver_for O what c k y
 
       u : Bytes
-      u = cond (is_static_act what) takes_nothing (takes r)
+      u = cond (is_act_on_static what) takes_nothing (takes r)
 
       act : Item
-      act = act_item what c k (cond (is_static_act what) None (Some r))
+      act = act_item what c k (cond (is_act_on_static what) None (Some r))
 
       client : ClientClass
       client = a_class y 0x0021 a d [] [] (use_method u ∷ []) (act ∷ [])
@@ -189,14 +189,14 @@ module _ (O N : World) (w : Bytes) (sound : (cs : List ClassFacts) → EachOf Is
       own = own_named O client v h.allowed.0
 
       rn : IsNamed r
-      rn = either (some_and (λ m. is_public m.member.flags) (found_by O (form_of what) c k))
+      rn = either (some_and (λ m. public_flag m.member.flags) (found_by O (form_of what) c k))
         where
           either : (b : Bool) → IsNamed (cond b c y)
           either true = n
           either false = own
 
       u_short : is_short_text u ≡ true
-      u_short = either (is_static_act what)
+      u_short = either (is_act_on_static what)
         where
           either : (b : Bool) → is_short_text (cond b takes_nothing (takes r)) ≡ true
           either true = refl
@@ -209,7 +209,7 @@ module _ (O N : World) (w : Bytes) (sound : (cs : List ClassFacts) → EachOf Is
       i = init_links (with_clients O (client.facts ∷ [])) sound_world y a d h.link.0.0
 
       acted : IsActed what c k
-      acted = access_links (with_clients O (client.facts ∷ [])) sound_world y c k (cond (is_static_act what) None (Some r)) Other what instruction (second _ _ v.items) h.link.0.1.0
+      acted = access_links (with_clients O (client.facts ∷ [])) sound_world y c k (cond (is_act_on_static what) None (Some r)) Other what instruction (second _ _ v.items) h.link.0.1.0
 
   -- ---- several clients
 

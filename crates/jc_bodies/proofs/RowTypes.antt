@@ -6,10 +6,10 @@ use Rattle.jc_facts.specs.declared.act.Act.{Act}
 use Rattle.jc_facts.specs.declared.act.Act.TheVariants as acts
 use Rattle.jc_facts.specs.declared.client.ClientClass.{ClientClass}
 use Rattle.jc_facts.specs.declared.key.Key.{Key}
-use Rattle.jc_facts.specs.Attributes.{is_bracketed}
+use Rattle.jc_facts.specs.file.Attributes.{is_array_name}
 use Rattle.jc_facts.specs.Names.{Bytes, same}
-use Rattle.jc_facts.specs.TypedItems.{typed_items, IsTyped, is_callable}
-use Rattle.jc_facts.specs.PlannedBodies.{Bodies, blueprint}
+use Rattle.jc_facts.specs.written.TypedItems.{typed_items, IsTyped, is_callable}
+use Rattle.jc_facts.specs.plan.PlannedBodies.{Bodies, blueprint}
 
 -- the bodies type, to the items of the client
 pub record IsTypedAs (c : ClientClass) (bodies : Bodies) : Type 0 where
@@ -26,7 +26,7 @@ AreTypedAs (c ∷ cs) (b ∷ bs) = IsTypedAs c b × AreTypedAs cs bs
 -- a class with a constructor of this descriptor
 pub record IsAbove (above descriptor : Bytes) : Type 0 where
   pub itself : same above above ≡ true
-  pub no_array : is_bracketed above ≡ false
+  pub no_array : is_array_name above ≡ false
   pub method : Method
   pub descriptor_is : method_of descriptor ≡ Some method
 
@@ -53,6 +53,6 @@ Takes _ d = ⊥
 
 -- an act on this class and key can be written
 pub record IsUsable (what : Act) (c : Bytes) (k : Key) : Type 0 where
-  pub no_array : is_bracketed c ≡ false
+  pub no_array : is_array_name c ≡ false
   pub callable : is_callable what k ≡ true
   pub takes : Takes what k.descriptor

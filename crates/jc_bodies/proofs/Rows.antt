@@ -2,8 +2,8 @@
 use Rattle.std.proofs.Common.{◌≡◌, ℕ, Bool, true, false, cond, List, [], ◌∷◌, ◌++◌, Some, None, refl, ap, ◌∙◌, nat_eq}
 use Rattle.std.specs.List.{list_all}
 use Rattle.std.proofs.lemmas.List.{append-nil}
-use Rattle.jc_desc.specs.Names.{is_class_name}
-use Rattle.jc_desc.specs.Reading.{method_of, params_at, result_of as descriptor_result}
+use Rattle.jc_desc.specs.Names.{spells_class_name}
+use Rattle.jc_desc.specs.Reading.{method_of, params_from, result_of as descriptor_result}
 use Rattle.jc_desc.specs.Types.{Basic, byte, char, double as double_type, float as float_type, int as int_type, long as long_type, short, boolean, class, TypeOf}
 use Rattle.jc_facts.specs.declared.blueprint.Step.{Step}
 use Rattle.jc_facts.specs.declared.blueprint.Step.TheVariants as steps
@@ -13,9 +13,9 @@ use Rattle.jc_facts.specs.declared.client.Item.{Item}
 use Rattle.jc_facts.specs.declared.client.Item.TheVariants as item
 use Rattle.jc_facts.specs.declared.key.Key.{Key}
 use Rattle.jc_facts.specs.Names.{Bytes, same, object_name}
-use Rattle.jc_facts.specs.TypedItems.{typed_body, or_nothing, body_items, typed_items, body_typed, is_callable_step}
-use Rattle.jc_facts.specs.Planned.{init_method, takes_nothing, takes, turns, use_method, a_class, an_interface, abstract_method, user}
-use Rattle.jc_facts.specs.PlannedBodies.{body_of, basic_zero, zero_step, zeros, params_of, init_steps, init_body, cast_steps, turn_steps, make_steps, user_bodies}
+use Rattle.jc_facts.specs.written.TypedItems.{typed_body, or_nothing, body_items, typed_items, body_typed, is_callable_step}
+use Rattle.jc_facts.specs.plan.Planned.{init_method, takes_nothing, takes, turns, use_method, a_class, an_interface, abstract_method, user}
+use Rattle.jc_facts.specs.plan.PlannedBodies.{body_of, basic_zero, zero_step, zeros, params_of, init_steps, init_body, cast_steps, turn_steps, make_steps, user_bodies}
 use Rattle.jc_bodies.proofs.RowTypes.{IsTypedAs, IsAbove}
 use Rattle.jc_bodies.proofs.InitBody.{init_typed}
 use Rattle.jc_bodies.proofs.UseBodies.{cast_typed, turn_typed, make_typed}
@@ -101,7 +101,7 @@ abstract_interface_typed name interfaces k = record { items = refl; typed = refl
 -- ---- java/lang/Object as the superclass
 
 pub nothing_is : method_of takes_nothing ≡ Some (record { params = []; result = None })
-unfolding method_of params_at descriptor_result
+unfolding method_of params_from descriptor_result
 nothing_is = refl
 
 pub object_above : IsAbove object_name takes_nothing
@@ -117,7 +117,7 @@ pub names_class_typed : (w k : Bytes) → IsTypedAs (user w (takes object_name) 
 names_class_typed w k = user_typed w (takes object_name) (cast_steps k) (item.Class k ∷ []) (record { types = cast_typed (user w (takes object_name) (item.Class k ∷ [])).facts object_name k refl; callable = refl })
 
 -- H3 and H4
-pub assigns_typed : (w s t : Bytes) → is_class_name s ≡ true → is_class_name t ≡ true → same s t ≡ false → IsTypedAs (user w (turns s t) (item.Assign s t ∷ [])) (user_bodies turn_steps)
+pub assigns_typed : (w s t : Bytes) → spells_class_name s ≡ true → spells_class_name t ≡ true → same s t ≡ false → IsTypedAs (user w (turns s t) (item.Assign s t ∷ [])) (user_bodies turn_steps)
 assigns_typed w s t h k e = user_typed w (turns s t) turn_steps (item.Assign s t ∷ []) (record { types = turn_typed (user w (turns s t) (item.Assign s t ∷ [])).facts s t h k e; callable = refl })
 
 -- H5 new

@@ -7,35 +7,36 @@ use Rattle.jc_facts.specs.declared.class_facts.Member.{Member}
 use Rattle.jc_facts.specs.declared.finding.Finding.{Finding}
 use Rattle.jc_facts.specs.declared.verdict.Collision.{Collision}
 use Rattle.jc_facts.specs.declared.key.Key.{Key}
-use Rattle.jc_facts.specs.Collisions.{CollisionStands}
-use Rattle.jc_facts.specs.Findings.{Stands, subject_of}
-use Rattle.jc_facts.specs.Hierarchy.{chain, superinterfaces}
-use Rattle.jc_facts.specs.Loading.{load_fault}
+use Rattle.jc_facts.specs.rule.Collisions.{CollisionStands}
+use Rattle.jc_facts.specs.rule.Findings.{Stands, subject_of}
+use Rattle.jc_facts.specs.world.Hierarchy.{chain, superinterfaces}
+use Rattle.jc_facts.specs.world.Loading.{load_fault}
 use Rattle.jc_facts.specs.Names.{Bytes}
-use Rattle.jc_facts.specs.World.{World, side, own_field, own_method}
-use Rattle.jc_laws.specs.Findings.{declares_key, above}
-use Rattle.jc_laws.proofs.Above.{chain-each, superinterfaces-each}
-use Rattle.jc_laws.proofs.KeyLaws.{keys_are_declared, collision_keys_are_declared}
-use Rattle.jc_laws.proofs.Settles.{EachOf, EachOf-append}
+use Rattle.jc_facts.specs.world.World.{World, side, own_field_of, own_method_of}
+use Rattle.jc_sound.specs.Findings.{declares_key}
+use Rattle.jc_worlds.specs.Hierarchy.{above}
+use Rattle.jc_worlds.proofs.Above.{chain-each, superinterfaces-each}
+use Rattle.jc_sound.proofs.KeyLaws.{keys_are_declared, collision_keys_are_declared}
+use Rattle.jc_lemmas.proofs.Listed.{EachOf, EachOf-append}
 use Rattle.jc_bodies.specs.Files.{CanWrite}
 use Rattle.jc_bodies.proofs.Entries.{IsShortKey}
 use Rattle.jc_bodies.proofs.Linking.{IsSound, method_short, field_short}
 use Rattle.jc_bodies.proofs.SoundWorlds.{IsGood, sound_old, sound_new}
 
 declared_short : (c : ClassFacts) (k : Key) → IsGood c → declares_key k c ≡ true → IsShortKey k
-declared_short c k g h = go (or_cases (is_some (own_field c k)) (is_some (own_method c k)) h)
+declared_short c k g h = go (or_cases (is_some (own_field_of c k)) (is_some (own_method_of c k)) h)
   where
-    of_field : (o : Option Member) → own_field c k ≡ o → is_some o ≡ true → IsShortKey k
+    of_field : (o : Option Member) → own_field_of c k ≡ o → is_some o ≡ true → IsShortKey k
     of_field None e q = absurd (let z : false ≡ true = q in cc)
     of_field (Some m) e q = field_short c k m g.0 g.1 e
 
-    of_method : (o : Option Member) → own_method c k ≡ o → is_some o ≡ true → IsShortKey k
+    of_method : (o : Option Member) → own_method_of c k ≡ o → is_some o ≡ true → IsShortKey k
     of_method None e q = absurd (let z : false ≡ true = q in cc)
     of_method (Some m) e q = method_short c k m g.0 g.1 e
 
-    go : (is_some (own_field c k) ≡ true) ⊎ (is_some (own_method c k) ≡ true) → IsShortKey k
-    go (inl q) = of_field (own_field c k) refl q
-    go (inr q) = of_method (own_method c k) refl q
+    go : (is_some (own_field_of c k) ≡ true) ⊎ (is_some (own_method_of c k) ≡ true) → IsShortKey k
+    go (inl q) = of_field (own_field_of c k) refl q
+    go (inr q) = of_method (own_method_of c k) refl q
 
 any_short : (cs : List ClassFacts) (k : Key) → EachOf IsGood cs → list_any (declares_key k) cs ≡ true → IsShortKey k
 any_short [] k g h = absurd (let z : false ≡ true = h in cc)

@@ -7,12 +7,12 @@ use Rattle.std.proofs.lemmas.List.Elements.{recursion_from_All}
 use Rattle.jc_facts.specs.declared.class_facts.ClassFacts.{ClassFacts}
 use Rattle.jc_facts.specs.declared.class_facts.Member.{Member}
 use Rattle.jc_facts.specs.declared.client.ClientClass.{ClientClass}
-use Rattle.jc_facts.specs.Clients.{IsValidClient, is_allowed, names_super, has_package, facts_of}
+use Rattle.jc_facts.specs.client.Clients.{IsValidClient, is_allowed_name, is_named_above, has_package, facts_of}
 use Rattle.jc_facts.specs.Names.{Bytes}
-use Rattle.jc_facts.specs.Valid.{IsValidClass}
-use Rattle.jc_facts.specs.World.{World, find, side, with_clients}
-use Rattle.jc_laws.proofs.Settles.{EachOf, EachOf-append, EachOf-both}
-use Rattle.jc_laws.proofs.Sound.{class_named-each}
+use Rattle.jc_facts.specs.file.Valid.{IsValidClass}
+use Rattle.jc_facts.specs.world.World.{World, find_class, side, with_clients}
+use Rattle.jc_lemmas.proofs.Listed.{EachOf, EachOf-append, EachOf-both}
+use Rattle.jc_facts.proofs.World.{class_named-each}
 use Rattle.jc_bodies.specs.Files.{IsShortMember, HasShortNames, CanWrite}
 use Rattle.jc_bodies.proofs.Linking.{IsShort, IsSound}
 use Rattle.jc_bodies.proofs.Written.{is_short_text, is_short_member}
@@ -34,14 +34,14 @@ all_good : (cs : List ClassFacts) → All IsValidClass cs → All HasShortNames 
 all_good cs v s = EachOf-both (λ c p q. (p, short_of c q)) cs (recursion_from_All IsValidClass cs v) (recursion_from_All HasShortNames cs s)
 
 -- a name that is allowed is short
-pub allowed_length : (W : World) (x : Bytes) → is_allowed W x ≡ true → length x ≤ 4090
-unfolding is_allowed
+pub allowed_length : (W : World) (x : Bytes) → is_allowed_name W x ≡ true → length x ≤ 4090
+unfolding is_allowed_name
 allowed_length W x h =
-    let p = and_parts (not (is_some (find W x)) && not (names_super W x) && not (has_package W x) && nat_le (length x) 4090) (is_utf8 x) h in
-    leb-true (length x) 4090 (and_parts (not (is_some (find W x)) && not (names_super W x) && not (has_package W x)) (nat_le (length x) 4090) p.0).1
+    let p = and_parts (not (is_some (find_class W x)) && not (is_named_above W x) && not (has_package W x) && nat_le (length x) 4090) (is_utf8 x) h in
+    leb-true (length x) 4090 (and_parts (not (is_some (find_class W x)) && not (is_named_above W x) && not (has_package W x)) (nat_le (length x) 4090) p.0).1
 
 sound_from : (platform release clients : List ClassFacts) → EachOf IsGood platform → EachOf IsGood release → EachOf IsGood clients → IsSound (with_clients (side platform release) clients)
-unfolding find
+unfolding find_class
 sound_from platform release clients p r c =
     let all : EachOf IsGood (platform ++ release ++ clients) = EachOf-append IsGood (platform ++ release) clients (EachOf-append IsGood platform release p r) c in
     record { valid = λ x d e. (class_named-each IsGood (platform ++ release ++ clients) x d all e).0; short = λ x d e. (class_named-each IsGood (platform ++ release ++ clients) x d all e).1 }
@@ -57,7 +57,7 @@ module _ (platform old new : List ClassFacts) (can : CanWrite platform old new) 
 abbrev pub HasShortMembers : ClientClass → Type 0
 HasShortMembers c = (list_all is_short_member c.facts.fields ≡ true) × (list_all is_short_member c.facts.methods ≡ true)
 
-pub clients_good : (O : World) (cs : List ClientClass) → EachOf IsValidClient cs → EachOf (λ c. is_allowed O c.facts.name ≡ true) cs → EachOf HasShortMembers cs → EachOf IsGood (facts_of cs)
+pub clients_good : (O : World) (cs : List ClientClass) → EachOf IsValidClient cs → EachOf (λ c. is_allowed_name O c.facts.name ≡ true) cs → EachOf HasShortMembers cs → EachOf IsGood (facts_of cs)
 clients_good O [] v a s = tt
 clients_good O (c ∷ cs) v a s =
     let w = s.0 in

@@ -1,7 +1,7 @@
 -- The bodies of the planned methods `use` type to the items of their rows.
 use Rattle.std.proofs.Common.{◌≡◌, ℕ, ◌+◌, true, false, List, [], ◌∷◌, ◌++◌, map, Option, Some, None, refl, ap, ◌∙◌, arith}
 use Rattle.jc_desc.proofs.Methods.{method_again}
-use Rattle.jc_desc.specs.Names.{is_class_name}
+use Rattle.jc_desc.specs.Names.{spells_class_name}
 use Rattle.jc_desc.specs.Reading.{method_of}
 use Rattle.jc_desc.specs.Types.{Method}
 use Rattle.jc_facts.specs.declared.class_facts.ClassFacts.{ClassFacts}
@@ -9,25 +9,25 @@ use Rattle.jc_facts.specs.declared.client.Item.{Item}
 use Rattle.jc_facts.specs.declared.client.Item.TheVariants as item
 use Rattle.jc_facts.specs.declared.blueprint.Step.{Step}
 use Rattle.jc_facts.specs.declared.blueprint.Step.TheVariants as steps
-use Rattle.jc_facts.specs.Attributes.{is_bracketed, ◌|>>◌}
+use Rattle.jc_facts.specs.file.Attributes.{is_array_name, ◌|>>◌}
 use Rattle.jc_facts.specs.Names.{Bytes, same}
-use Rattle.jc_facts.specs.Code.{Around}
-use Rattle.jc_facts.specs.Bodies.{init_name}
-use Rattle.jc_facts.specs.Typing.{Kind, ref, fresh, Frame, kind_of, Kinds, method_kinds, start_of, load, pop, pop_one, dup, cast, value_fits, leave, fit, initialized, all_made, run}
-use Rattle.jc_facts.specs.TypedSteps.{typed_steps, step_len, reference}
-use Rattle.jc_facts.specs.TypedItems.{around_method, typed_body}
-use Rattle.jc_facts.specs.Planned.{class_type, takes_nothing, takes, turns, use_method}
-use Rattle.jc_facts.specs.PlannedBodies.{zeros, params_of, cast_steps, turn_steps, make_steps}
+use Rattle.jc_facts.specs.code.Code.{Around}
+use Rattle.jc_facts.specs.written.Bodies.{init_name}
+use Rattle.jc_facts.specs.code.Typing.{Kind, ref, fresh, Frame, kind_of, Kinds, method_kinds, start_of, load, pop, pop_one, dup, cast, value_fits, leave, fit, initialized, all_made, run}
+use Rattle.jc_facts.specs.written.TypedSteps.{typed_steps, step_len, reference}
+use Rattle.jc_facts.specs.written.TypedItems.{around_method, typed_body}
+use Rattle.jc_facts.specs.plan.Planned.{class_type, takes_nothing, takes, turns, use_method}
+use Rattle.jc_facts.specs.plan.PlannedBodies.{zeros, params_of, cast_steps, turn_steps, make_steps}
 use Rattle.jc_bodies.proofs.Zeros.{pushed, on, no_items, zeros_typed}
 use Rattle.jc_bodies.proofs.InitBody.{made_none, constructed, step_typed, init_kinds}
 
 -- ---- descriptors
 
-pub takes_kinds : (x : Bytes) → is_class_name x ≡ true → method_kinds (takes x) ≡ Some (record { params = ref x ∷ []; result = None })
+pub takes_kinds : (x : Bytes) → spells_class_name x ≡ true → method_kinds (takes x) ≡ Some (record { params = ref x ∷ []; result = None })
 unfolding method_kinds kind_of
 takes_kinds x h = rw (method_again (takes x) (record { params = class_type x ∷ []; result = None }) (record { params = (record { dims = omega arith; base = h }, tt); result = tt }, refl)) refl
 
-turns_kinds : (s t : Bytes) → is_class_name s ≡ true → is_class_name t ≡ true → method_kinds (turns s t) ≡ Some (record { params = ref s ∷ []; result = Some (ref t) })
+turns_kinds : (s t : Bytes) → spells_class_name s ≡ true → spells_class_name t ≡ true → method_kinds (turns s t) ≡ Some (record { params = ref s ∷ []; result = Some (ref t) })
 unfolding method_kinds kind_of
 turns_kinds s t h k = rw (method_again (turns s t) (record { params = class_type s ∷ []; result = Some (class_type t) }) (record { params = (record { dims = omega arith; base = h }, tt); result = record { dims = omega arith; base = k } }, refl)) refl
 
@@ -40,7 +40,7 @@ cast_steps_typed : (c : ClassFacts) (d x k : Bytes) → typed_steps (around_meth
 unfolding typed_steps run load cast pop pop_one leave
 cast_steps_typed c d x k = refl
 
-pub cast_typed : (c : ClassFacts) (x k : Bytes) → is_class_name x ≡ true → typed_body c (use_method (takes x)) (record { steps = cast_steps k }) ≡ Some (item.Class k ∷ [])
+pub cast_typed : (c : ClassFacts) (x k : Bytes) → spells_class_name x ≡ true → typed_body c (use_method (takes x)) (record { steps = cast_steps k }) ≡ Some (item.Class k ∷ [])
 unfolding typed_body
 cast_typed c x k h =
     let a : Around = around_method c (use_method (takes x)) in
@@ -52,7 +52,7 @@ turn_steps_typed : (c : ClassFacts) (d s t : Bytes) → same s t ≡ false → t
 unfolding typed_steps run load pop leave value_fits fit
 turn_steps_typed c d s t e = rw e refl
 
-pub turn_typed : (c : ClassFacts) (s t : Bytes) → is_class_name s ≡ true → is_class_name t ≡ true → same s t ≡ false → typed_body c (use_method (turns s t)) (record { steps = turn_steps }) ≡ Some (item.Assign s t ∷ [])
+pub turn_typed : (c : ClassFacts) (s t : Bytes) → spells_class_name s ≡ true → spells_class_name t ≡ true → same s t ≡ false → typed_body c (use_method (turns s t)) (record { steps = turn_steps }) ≡ Some (item.Assign s t ∷ [])
 unfolding typed_body
 turn_typed c s t h k e =
     let a : Around = around_method c (use_method (turns s t)) in
@@ -80,7 +80,7 @@ ended : (c : ClassFacts) (x : Bytes) (pc : ℕ) → typed_steps (around_method c
 unfolding typed_steps run pop_one pop leave
 ended c x pc = refl
 
-pub make_typed : (c : ClassFacts) (x descriptor : Bytes) (d : Method) → same x x ≡ true → is_bracketed x ≡ false → method_of descriptor ≡ Some d → typed_body c (use_method takes_nothing) (record { steps = make_steps x descriptor }) ≡ Some (item.Class x ∷ item.New x descriptor ∷ [])
+pub make_typed : (c : ClassFacts) (x descriptor : Bytes) (d : Method) → same x x ≡ true → is_array_name x ≡ false → method_of descriptor ≡ Some d → typed_body c (use_method takes_nothing) (record { steps = make_steps x descriptor }) ≡ Some (item.Class x ∷ item.New x descriptor ∷ [])
 unfolding typed_body
 make_typed c x descriptor d h b m =
     let a : Around = around_method c (use_method takes_nothing) in

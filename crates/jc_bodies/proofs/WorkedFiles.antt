@@ -11,22 +11,22 @@ use Rattle.jc_facts.specs.declared.link_error.LinkError.TheVariants.{IllegalAcce
 use Rattle.jc_facts.specs.declared.verdict.Cause.{Cause}
 use Rattle.jc_facts.specs.declared.verdict.Cause.TheVariants as cause
 use Rattle.jc_facts.specs.ByName.{placed, by_name}
-use Rattle.jc_facts.specs.Collisions.{collision}
+use Rattle.jc_facts.specs.rule.Collisions.{made_collision}
 use Rattle.jc_facts.specs.Names.{object_name}
-use Rattle.jc_facts.specs.Planned.{plan}
-use Rattle.jc_facts.specs.PlannedBodies.{Bodies, body_of, plan_bodies, planned_files}
-use Rattle.jc_facts.specs.PlannedNames.{first_unused, least_name, constructors}
-use Rattle.jc_facts.specs.PoolEntries.{entries_bytes}
-use Rattle.jc_facts.specs.Written.{pool_of, written}
+use Rattle.jc_facts.specs.plan.Planned.{plan}
+use Rattle.jc_facts.specs.plan.PlannedBodies.{Bodies, body_of, plan_bodies, planned_files}
+use Rattle.jc_facts.specs.plan.PlannedNames.{first_unused, least_name, constructors}
+use Rattle.jc_facts.specs.written.PoolEntries.{entries_bytes}
+use Rattle.jc_facts.specs.written.Written.{pool_of_plan, written}
 use Rattle.jc_complete.proofs.WorkedPlans.{clients_can_be_planned}
-use Rattle.jc_laws.proofs.Examples.{computes, init, member, a_class, plain, public_class, over, object}
-use Rattle.jc_laws.proofs.Settles.{EachOf}
-use Rattle.jc_laws.proofs.WorkedClients.{p_A, run, run_key}
+use Rattle.jc_sound.proofs.Examples.{computes, init, member, a_class, plain, public_class, over, object}
+use Rattle.jc_lemmas.proofs.Listed.{EachOf}
+use Rattle.jc_sound.proofs.WorkedClients.{p_A, run, run_key}
 use Rattle.jc_bodies.specs.Files.{IsShortMember, HasShortNames, CanWrite}
 
 -- p/A, and p/A with a private run
 abbrev capture : Cause
-capture = cause.Collision (collision 11 p_A run_key act.InvokeVirtual IllegalAccessError)
+capture = cause.Collision (made_collision 11 p_A run_key act.InvokeVirtual IllegalAccessError)
 
 abbrev file : ClassFacts → Bodies → Blueprint
 file c bodies = record { facts = c; bodies = bodies }
@@ -50,7 +50,7 @@ interface_is_written : written J
     ≡ 0xca ∷ 0xfe ∷ 0xba ∷ 0xbe ∷ 0 ∷ 0 ∷ 0 ∷ 52 ∷ 0 ∷ 7
     ∷ (1 ∷ 0 ∷ 4 ∷ codes "w0/J") ++ (7 ∷ 0 ∷ 1 ∷ 1 ∷ 0 ∷ 16 ∷ object_name) ++ (7 ∷ 0 ∷ 3 ∷ 1 ∷ 0 ∷ 3 ∷ codes "run") ++ (1 ∷ 0 ∷ 3 ∷ codes "()V")
     ++ (6 ∷ 1 ∷ 0 ∷ 2 ∷ 0 ∷ 4 ∷ 0 ∷ 0 ∷ 0 ∷ 0 ∷ 0 ∷ 1 ∷ 4 ∷ 1 ∷ 0 ∷ 5 ∷ 0 ∷ 6 ∷ 0 ∷ 0 ∷ 0 ∷ 0 ∷ [])
-unfolding written pool_of entries_bytes
+unfolding written pool_of_plan entries_bytes
 interface_is_written = refl
 
 -- ---- the premises can be met

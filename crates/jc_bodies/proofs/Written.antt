@@ -11,12 +11,12 @@ use Rattle.jc_facts.specs.declared.class_facts.Member.{Member}
 use Rattle.jc_facts.specs.declared.client.ClientClass.{ClientClass}
 use Rattle.jc_facts.specs.declared.client.Item.{Item}
 use Rattle.jc_facts.specs.Names.{Bytes}
-use Rattle.jc_facts.specs.Valid.{IsValidClass}
-use Rattle.jc_facts.specs.PoolEntries.{Entry, class, is_good, fits, collected, all_parts}
-use Rattle.jc_facts.specs.Bodies.{steps_needs, steps_bytes, most_places}
-use Rattle.jc_facts.specs.Written.{classes_needs, member_needs, fields_needs, body_needs, first_body, other_bodies, methods_needs, needs_of, pool_of, body_good, IsFormed, HasShortFlags, count_fits, body_fits, bodies_fit, fits_format}
-use Rattle.jc_facts.specs.Planned.{a_client}
-use Rattle.jc_facts.specs.PlannedBodies.{Bodies, blueprint}
+use Rattle.jc_facts.specs.file.Valid.{IsValidClass}
+use Rattle.jc_facts.specs.written.PoolEntries.{PoolEntry, class, is_good, fits, collected, all_parts}
+use Rattle.jc_facts.specs.written.Bodies.{steps_needs, steps_bytes, places_at_most}
+use Rattle.jc_facts.specs.written.Written.{classes_needs, member_needs, fields_needs, body_needs, body_first, bodies_other, methods_needs, needs_of, pool_of_plan, body_is_good, IsFormed, HasShortFlags, fits_count, fits_body, fits_bodies, fits_whole}
+use Rattle.jc_facts.specs.plan.Planned.{a_client}
+use Rattle.jc_facts.specs.plan.PlannedBodies.{Bodies, blueprint}
 use Rattle.jc_write.proofs.Collected.{collected_all}
 use Rattle.jc_bodies.proofs.RowTypes.{IsTypedAs}
 use Rattle.jc_bodies.proofs.Limits.{is_short, code_length, stack_height, parts_fit, parts_length, collected_length, needs_length}
@@ -37,26 +37,26 @@ abbrev pub AreFine : Bodies → Type 0
 AreFine [] = Unit {0}
 AreFine (b ∷ bs) = IsFineBody b × AreFine bs
 
-first_fine : (bs : Bodies) → AreFine bs → IsFineBody (first_body bs) × AreFine (other_bodies bs)
+first_fine : (bs : Bodies) → AreFine bs → IsFineBody (body_first bs) × AreFine (bodies_other bs)
 first_fine [] h = (tt, tt)
 first_fine (b ∷ bs) h = (h.0, h.1)
 
-bodies_good : (bs : Bodies) → AreFine bs → list_all body_good bs ≡ true
+bodies_good : (bs : Bodies) → AreFine bs → list_all body_is_good bs ≡ true
 bodies_good [] h = refl
 bodies_good (None ∷ bs) h = bodies_good bs h.1
-bodies_good (Some body ∷ bs) h = and_from (body_good (Some body)) (list_all body_good bs) h.0.good (bodies_good bs h.1)
+bodies_good (Some body ∷ bs) h = and_from (body_is_good (Some body)) (list_all body_is_good bs) h.0.good (bodies_good bs h.1)
 
-counted : (n : ℕ) → n ≤ 65535 → count_fits n ≡ true
+counted : (n : ℕ) → n ≤ 65535 → fits_count n ≡ true
 counted n h = le-leb n 65535 h
 
-fine_fits : (pool : List Entry) (b : Option Body) → IsFineBody b → body_fits pool b ≡ true
+fine_fits : (pool : List PoolEntry) (b : Option Body) → IsFineBody b → fits_body pool b ≡ true
 fine_fits pool None h = refl
-fine_fits pool (Some body) h = and_from (count_fits (length (steps_bytes pool body.steps))) (count_fits (most_places body.steps))
-    (counted (length (steps_bytes pool body.steps)) (omega (arith, code_length pool body.steps, h.few))) (counted (most_places body.steps) (omega (arith, stack_height body.steps, h.few)))
+fine_fits pool (Some body) h = and_from (fits_count (length (steps_bytes pool body.steps))) (fits_count (places_at_most body.steps))
+    (counted (length (steps_bytes pool body.steps)) (omega (arith, code_length pool body.steps, h.few))) (counted (places_at_most body.steps) (omega (arith, stack_height body.steps, h.few)))
 
-all_fit : (pool : List Entry) (bs : Bodies) → AreFine bs → bodies_fit pool bs ≡ true
+all_fit : (pool : List PoolEntry) (bs : Bodies) → AreFine bs → fits_bodies pool bs ≡ true
 all_fit pool [] h = refl
-all_fit pool (b ∷ bs) h = and_from (body_fits pool b) (bodies_fit pool bs) (fine_fits pool b h.0) (all_fit pool bs h.1)
+all_fit pool (b ∷ bs) h = and_from (fits_body pool b) (fits_bodies pool bs) (fine_fits pool b h.0) (all_fit pool bs h.1)
 
 -- ---- what they need
 
@@ -68,7 +68,7 @@ methods_needed : (ms : List Member) (bs : Bodies) → AreFine bs → length (met
 methods_needed [] bs h = lit≤ tt
 methods_needed (m ∷ ms) bs h =
     let f = first_fine bs h in
-    omega (arith, length-append (body_needs (first_body bs)) (methods_needs ms (other_bodies bs)), body_needed (first_body bs) f.0, methods_needed ms (other_bodies bs) f.1)
+    omega (arith, length-append (body_needs (body_first bs)) (methods_needs ms (bodies_other bs)), body_needed (body_first bs) f.0, methods_needed ms (bodies_other bs) f.1)
 
 classes_needed : (cs : List Bytes) → length (classes_needs cs) ≡ length cs
 classes_needed [] = refl
@@ -98,7 +98,7 @@ classes_short (c ∷ cs) h =
     let p = and_parts (is_short_text c) (list_all is_short_text cs) h in
     and_from (is_short (class c)) (list_all is_short (classes_needs cs)) (class_short c p.0) (classes_short cs p.1)
 
-join : (xs ys : List Entry) → list_all is_short xs ≡ true → list_all is_short ys ≡ true → list_all is_short (xs ++ ys) ≡ true
+join : (xs ys : List PoolEntry) → list_all is_short xs ≡ true → list_all is_short ys ≡ true → list_all is_short (xs ++ ys) ≡ true
 join xs ys h k = list_all-append is_short xs ys ∙ and_from (list_all is_short xs) (list_all is_short ys) h k
 
 fields_short : (ms : List Member) → list_all is_short_member ms ≡ true → list_all is_short (fields_needs ms) ≡ true
@@ -116,8 +116,8 @@ methods_short [] bs h g = refl
 methods_short (m ∷ ms) bs h g =
     let p = and_parts (is_short_member m) (list_all is_short_member ms) h in
     let f = first_fine bs g in
-    join (member_needs m) (body_needs (first_body bs) ++ methods_needs ms (other_bodies bs)) (member_short m p.0)
-    (join (body_needs (first_body bs)) (methods_needs ms (other_bodies bs)) (body_short (first_body bs) f.0) (methods_short ms (other_bodies bs) p.1 f.1))
+    join (member_needs m) (body_needs (body_first bs) ++ methods_needs ms (bodies_other bs)) (member_short m p.0)
+    (join (body_needs (body_first bs)) (methods_needs ms (bodies_other bs)) (body_short (body_first bs) f.0) (methods_short ms (bodies_other bs) p.1 f.1))
 
 -- ---- a client
 
@@ -126,7 +126,7 @@ pub record IsWritten (c : ClientClass) (bodies : Bodies) : Type 0 where
   pub typed : IsTypedAs c bodies
   pub formed : IsFormed (blueprint c bodies)
   pub flags : HasShortFlags c.facts
-  pub fits : fits_format (blueprint c bodies) ≡ true
+  pub fits : fits_whole (blueprint c bodies) ≡ true
 
 -- short texts in a client's record
 pub record HasTexts (name above : Bytes) (interfaces : List Bytes) (fields methods : List Member) : Type 0 where
@@ -149,7 +149,7 @@ module _ (name : Bytes) (flags : ℕ) (above : Bytes) (interfaces : List Bytes) 
   abbrev b : Blueprint
   b = blueprint c bodies
 
-  abbrev rest : List Entry
+  abbrev rest : List PoolEntry
   rest = methods_needs methods bodies ++ []
 
   all_needed : IsSmall interfaces fields methods → AreFine bodies → length (needs_of b) ≤ 5000
@@ -174,15 +174,15 @@ module _ (name : Bytes) (flags : ℕ) (above : Bytes) (interfaces : List Bytes) 
       (join (methods_needs methods bodies) [] (methods_short methods bodies t.of_methods h) refl))))
 
   -- no limit is met
-  pub client_fits : IsSmall interfaces fields methods → HasTexts name above interfaces fields methods → AreFine bodies → fits_format b ≡ true
-  unfolding fits_format pool_of
+  pub client_fits : IsSmall interfaces fields methods → HasTexts name above interfaces fields methods → AreFine bodies → fits_whole b ≡ true
+  unfolding fits_whole pool_of_plan
   client_fits s t h =
-      let parts : List Entry = all_parts (needs_of b) in
+      let parts : List PoolEntry = all_parts (needs_of b) in
       let few : length (collected [] parts) ≤ 65534 = omega (arith, collected_length [] parts, parts_length (needs_of b), all_needed s h) in
       let texts : list_all fits (collected [] parts) ≡ true = collected_all fits [] parts refl (parts_fit (needs_of b) (all_short t h)) in
-      let i : count_fits (length interfaces) ≡ true = counted (length interfaces) (omega (arith, s.few_interfaces)) in
-      let f : count_fits (length fields) ≡ true = counted (length fields) (omega (arith, s.few_fields)) in
-      let m : count_fits (length methods) ≡ true = counted (length methods) (omega (arith, s.few_methods)) in
+      let i : fits_count (length interfaces) ≡ true = counted (length interfaces) (omega (arith, s.few_interfaces)) in
+      let f : fits_count (length fields) ≡ true = counted (length fields) (omega (arith, s.few_fields)) in
+      let m : fits_count (length methods) ≡ true = counted (length methods) (omega (arith, s.few_methods)) in
       rw (le-leb (length (collected [] parts)) 65534 few, texts, i, f, m, all_fit (collected [] parts) bodies h) refl
 
   -- it can be written

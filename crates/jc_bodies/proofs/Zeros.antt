@@ -7,11 +7,11 @@ use Rattle.jc_facts.specs.declared.client.Item.{Item}
 use Rattle.jc_facts.specs.declared.blueprint.Primitive.TheVariants as prims
 use Rattle.jc_facts.specs.declared.blueprint.Step.{Step}
 use Rattle.jc_facts.specs.declared.blueprint.Step.TheVariants as steps
-use Rattle.jc_facts.specs.Attributes.{◌|>>◌}
-use Rattle.jc_facts.specs.Code.{Around}
-use Rattle.jc_facts.specs.Typing.{Kind, int, long, float, double, null, ref, Frame, basic_kind, kind_of, fit, fit_all, popped, pop, taken, run}
-use Rattle.jc_facts.specs.TypedSteps.{typed_steps, step_len}
-use Rattle.jc_facts.specs.PlannedBodies.{basic_zero, zero_step, zeros}
+use Rattle.jc_facts.specs.file.Attributes.{◌|>>◌}
+use Rattle.jc_facts.specs.code.Code.{Around}
+use Rattle.jc_facts.specs.code.Typing.{Kind, int, long, float, double, null, ref, Frame, basic_kind, kind_of, fit, fit_all, taken, run}
+use Rattle.jc_facts.specs.written.TypedSteps.{typed_steps, step_len}
+use Rattle.jc_facts.specs.plan.PlannedBodies.{basic_zero, zero_step, zeros}
 
 -- ---- what they push
 
@@ -86,8 +86,3 @@ last_taken stack args n e =
     let few : nat_lt (length (stack ++ args)) n ≡ false = le-ltb _ _ (omega (arith, l, e)) in
     let k : length stack ≡ length (stack ++ args) - n = omega (arith, l, e) in
     rw (few, drop_at stack args (length (stack ++ args) - n) k, take_at stack args (length (stack ++ args) - n) k) refl
-
-pub last_popped : (ks : List Kind) (k : Kind) → pop (ks ++ k ∷ []) ≡ Some (k, ks)
-unfolding pop
-last_popped [] k = refl
-last_popped (j ∷ ks) k = ap (λ (o : Option (Kind × List Kind)). popped j o) (last_popped ks k)

@@ -8,14 +8,14 @@ use Rattle.jc_facts.specs.declared.link_error.LinkError.{LinkError}
 use Rattle.jc_facts.specs.declared.verdict.Cause.{Cause}
 use Rattle.jc_facts.specs.declared.verdict.Cause.TheVariants as cause
 use Rattle.jc_facts.specs.declared.verdict.Verdict.{Verdict}
-use Rattle.jc_facts.specs.World.{World, side}
-use Rattle.jc_facts.specs.ClassGrammar.{Reads}
-use Rattle.jc_facts.specs.ClientItems.{items as items_in}
-use Rattle.jc_facts.specs.Written.{written, HasShortFlags, fits_format}
-use Rattle.jc_facts.specs.TypedItems.{typed_items, IsWritable}
-use Rattle.jc_facts.specs.Planned.{planned, planned_for, spot_of}
-use Rattle.jc_facts.specs.PlannedBodies.{planned_files}
-use Rattle.jc_facts.specs.Verdict.{IsVerdict}
+use Rattle.jc_facts.specs.world.World.{World, side}
+use Rattle.jc_facts.specs.file.ClassGrammar.{Reads}
+use Rattle.jc_facts.specs.code.ClientItems.{items as items_in}
+use Rattle.jc_facts.specs.written.Written.{written, HasShortFlags, fits_whole}
+use Rattle.jc_facts.specs.written.TypedItems.{typed_items, IsWritable}
+use Rattle.jc_facts.specs.plan.Planned.{planned, planned_for, spot_of}
+use Rattle.jc_facts.specs.plan.PlannedBodies.{planned_files}
+use Rattle.jc_facts.specs.rule.Verdict.{IsVerdict}
 use Rattle.jc_complete.specs.Completeness.{CanPlan, PlannedShow, PlannedMeet}
 
 -- ---- of what releases it is said
@@ -46,7 +46,7 @@ pub record IsFileOf (b : Blueprint) (c : ClientClass) : Type 0 where
   pub typed : typed_items b ≡ c.items
   pub writable : IsWritable b
   pub flags : HasShortFlags b.facts
-  pub fits : IsTrue (fits_format b)
+  pub fits : IsTrue (fits_whole b)
   pub reads : Reads (written b) c.facts
   pub items : items_in (written b) ≡ Ok c.items
 

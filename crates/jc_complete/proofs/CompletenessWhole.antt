@@ -7,25 +7,25 @@ use Rattle.jc_facts.specs.declared.verdict.Spot.TheVariants as spot
 use Rattle.jc_facts.specs.declared.finding.Finding.{Finding}
 use Rattle.jc_facts.specs.declared.verdict.Collision.{Collision}
 use Rattle.jc_facts.specs.declared.verdict.Cause.TheVariants as cause
-use Rattle.jc_facts.specs.World.{World, side, with_clients}
+use Rattle.jc_facts.specs.world.World.{World, side, with_clients}
 use Rattle.jc_facts.specs.declared.client.ClientClass.{ClientClass}
 use Rattle.jc_facts.specs.declared.client.Item.{Item}
 use Rattle.jc_facts.specs.declared.link_error.LinkError.{LinkError}
-use Rattle.jc_facts.specs.Outcome.{outcome}
-use Rattle.jc_facts.specs.Clients.{facts_of, is_in_reach, Keeps}
-use Rattle.jc_facts.specs.Meets.{Meets}
-use Rattle.jc_facts.specs.Findings.{Stands}
-use Rattle.jc_facts.specs.Collisions.{CollisionStands}
-use Rattle.jc_facts.specs.Verdict.{holds_some}
-use Rattle.jc_facts.specs.PlannedNames.{fresh_package}
-use Rattle.jc_facts.specs.Planned.{Plan, plan, planned, planned_for}
+use Rattle.jc_facts.specs.client.Outcome.{outcome}
+use Rattle.jc_facts.specs.client.Clients.{facts_of, is_in_reach, Keeps}
+use Rattle.jc_facts.specs.client.Meets.{Meets}
+use Rattle.jc_facts.specs.rule.Findings.{Stands}
+use Rattle.jc_facts.specs.rule.Collisions.{CollisionStands}
+use Rattle.jc_facts.specs.rule.Verdict.{holds_some}
+use Rattle.jc_facts.specs.plan.PlannedNames.{fresh_package}
+use Rattle.jc_facts.specs.plan.Planned.{Plan, plan, planned, planned_for}
 use Rattle.jc_complete.specs.Completeness.{Completeness, FindingsShown, CollisionsShown, Shows, MeetsNothing, PlannedShow, PlannedMeet, LinksWhole, FailsBy, IsBroken, VerdictIsExact}
-use Rattle.jc_laws.proofs.SoundnessLaws.{keeps}
+use Rattle.jc_sound.proofs.SoundnessLaws.{keeps}
 use Rattle.jc_complete.proofs.PlanRules.{OfRules, of_each_rule}
 use Rattle.jc_complete.proofs.PlanCollisions.{of_each_collision}
 use Rattle.jc_complete.proofs.PlanOrder.{sorted_rise}
 use Rattle.jc_complete.proofs.PlanSorted.{shows_in_order, meets_nothing_in_order, meets_in_order}
-use Rattle.jc_complete.proofs.CompletenessLaws.{gone_shown, closed_shown, class_shown, cut_shown, inits_shown, override_shown, field_acts_shown, method_acts_shown, inherit_shown, constant_shown, capture_shown, final_shown}
+use Rattle.jc_complete.proofs.CompletenessLaws.{class_gone_shown, class_closed_shown, interface_became_class_shown, superclass_lost_shown, constructor_closed_shown, method_made_final_shown, field_closed_shown, method_closed_shown, interface_method_lost_shown, constant_added_shown, capture_added_shown, final_added_shown}
 
 -- every finding is of one of the nine rules
 pub finding_shown : FindingsShown (λ f. f ≡ f)
@@ -36,21 +36,21 @@ finding_shown platform old new c f e s = of_each_rule G (side platform old) (sid
 
     each : OfRules G (side platform old) (side platform new)
     each = record {
-      of_1 = gone_shown platform old new c;
-      of_2 = closed_shown platform old new c;
-      of_3 = class_shown platform old new c;
-      of_4 = cut_shown platform old new c;
-      of_5 = inits_shown platform old new c;
-      of_6 = override_shown platform old new c;
-      of_7 = field_acts_shown platform old new c;
-      of_8 = method_acts_shown platform old new c;
-      of_9 = inherit_shown platform old new c;
+      of_1 = class_gone_shown platform old new c;
+      of_2 = class_closed_shown platform old new c;
+      of_3 = interface_became_class_shown platform old new c;
+      of_4 = superclass_lost_shown platform old new c;
+      of_5 = constructor_closed_shown platform old new c;
+      of_6 = method_made_final_shown platform old new c;
+      of_7 = field_closed_shown platform old new c;
+      of_8 = method_closed_shown platform old new c;
+      of_9 = interface_method_lost_shown platform old new c;
     }
 
 -- and every collision of one of the three
 pub collision_shown : CollisionsShown (λ c. c ≡ c)
 collision_shown platform old new can c e s =
-    of_each_collision G (side platform old) (side platform new) (constant_shown platform old new can) (capture_shown platform old new can) (final_shown platform old new can) c s
+    of_each_collision G (side platform old) (side platform new) (constant_added_shown platform old new can) (capture_added_shown platform old new can) (final_added_shown platform old new can) c s
   where
     G : Collision → Type 0
     G c = let O = side platform old in let N = side platform new in let p = plan O N (fresh_package O N) (cause.Collision c) in Shows O N p c.error × Meets (with_clients O (facts_of p.clients)) p.clients c

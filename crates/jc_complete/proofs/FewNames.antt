@@ -4,10 +4,10 @@ use Rattle.std.proofs.lemmas.List.{length-append}
 use Rattle.std.proofs.lemmas.List.Elements.{recursion_from_All}
 use Rattle.jc_facts.specs.declared.class_facts.ClassFacts.{ClassFacts}
 use Rattle.jc_facts.specs.Names.{Bytes}
-use Rattle.jc_facts.specs.Mentioned.{permitted, mentions, all_mentions}
-use Rattle.jc_facts.specs.Search.{supers, supers_of}
+use Rattle.jc_facts.specs.world.Mentioned.{permitted, mentions, all_mentions}
+use Rattle.jc_facts.specs.world.Search.{supers, supers_of}
 use Rattle.jc_complete.specs.Premises.{HasCountedNames, FewAreMentioned}
-use Rattle.jc_laws.proofs.Settles.{EachOf, EachOf-append}
+use Rattle.jc_lemmas.proofs.Listed.{EachOf, EachOf-append}
 
 supers_few : (s : Option Bytes) (is : List Bytes) → length (supers_of s is) ≤ length is + 1
 supers_few None is = omega arith

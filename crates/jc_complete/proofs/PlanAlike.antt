@@ -10,30 +10,30 @@ use Rattle.jc_facts.specs.declared.act.Act.{Act}
 use Rattle.jc_facts.specs.declared.key.Key.{Key}
 use Rattle.jc_facts.specs.declared.link_error.LinkError.{LinkError}
 use Rattle.jc_facts.specs.declared.link_error.LinkError.TheVariants.{NoClassDefFoundError, ClassCircularityError, IncompatibleClassChangeError, IllegalAccessError, NoSuchFieldError, NoSuchMethodError, VerifyError}
-use Rattle.jc_facts.specs.Names.{Bytes, same, is_among, object_name}
-use Rattle.jc_facts.specs.Flags.{is_interface}
-use Rattle.jc_facts.specs.Types.{Element, Primitive, Class, TypeText, read_type, is_array}
+use Rattle.jc_facts.specs.Names.{Bytes, same, is_name_among, object_name}
+use Rattle.jc_facts.specs.Flags.{interface_flag}
+use Rattle.jc_facts.specs.world.Types.{Element, Primitive, Class, TypeText, type_read, is_array_text}
 use Rattle.jc_facts.specs.Options.{or_else, first_some, and_then, some_and}
-use Rattle.jc_facts.specs.World.{World, Found, find, size, is_client, declares}
-use Rattle.jc_facts.specs.Search.{of_class, descend, supers}
-use Rattle.jc_facts.specs.Hierarchy.{chain, chain_step, interfaces_step, with_interfaces, interfaces_of, superinterfaces, in_chain, has_superinterface, of_super, names_in, each}
-use Rattle.jc_facts.specs.Access.{is_class_accessible, host_of, host_if, is_member_accessible}
-use Rattle.jc_facts.specs.Overriding.{overrides_final}
-use Rattle.jc_facts.specs.Assignment.{is_assignable, assign_to, assign_element, assign_types, is_interface_of, passes_protected_check}
-use Rattle.jc_facts.specs.Acts.{Form, FieldForm, MethodForm, InterfaceForm, form_of}
-use Rattle.jc_facts.specs.Loading.{load_fault, load_step, own_fault, superclass_fault, interface_fault, superclass_error, interface_error, fault_where}
-use Rattle.jc_facts.specs.Lookup.{field_found, field_step, first_declared, declared_by, is_concrete, only_or, superinterface_choices, or_choices, method_choices, if_public_instance, object_method, interface_choices}
-use Rattle.jc_facts.specs.Outcome.{array_fault, outcome, class_step, class_fault, type_fault, element_fault, look_up, first_of, found_or, use_fault, assignment_ok, receiver_ok, is_direct_super, init_fault, init_key, instantiation_fault}
-use Rattle.jc_facts.specs.Clients.{is_in_reach, type_in_reach, text_in_reach, element_in_reach, seat, first_library}
-use Rattle.jc_facts.specs.Meets.{may_name}
+use Rattle.jc_facts.specs.world.World.{World, DeclaredMember, find_class, size, is_client, declared_method}
+use Rattle.jc_facts.specs.world.Search.{of_class, descend, supers}
+use Rattle.jc_facts.specs.world.Hierarchy.{chain, chain_step, interfaces_step, with_interfaces, interfaces_of, superinterfaces, in_chain, is_superinterface, of_super, names_in, each}
+use Rattle.jc_facts.specs.world.Access.{is_class_accessible, host_of, host_if, is_member_accessible}
+use Rattle.jc_facts.specs.world.Overriding.{overrides_some_final}
+use Rattle.jc_facts.specs.world.Assignment.{is_assignable, assign_to, is_element_assignable, assign_types, is_interface_of, passes_protected_check}
+use Rattle.jc_facts.specs.client.Acts.{Form, FieldForm, MethodForm, InterfaceForm, form_of}
+use Rattle.jc_facts.specs.world.Loading.{load_fault, load_step, fault_of_itself, fault_of_superclass, fault_of_interface, error_of_superclass, error_of_interface, fault_where}
+use Rattle.jc_facts.specs.world.Lookup.{field_found, field_step, first_declared, declared_by, is_concrete, only_or, superinterface_choices, or_choices, method_choices, if_public_instance, public_method_of_object, interface_choices}
+use Rattle.jc_facts.specs.client.Outcome.{array_fault, outcome, class_step, class_fault, type_fault, element_fault, look_up, first_of, found_or, use_fault, assignment_ok, receiver_ok, is_direct_super, init_fault, init_key, instantiation_fault}
+use Rattle.jc_facts.specs.client.Clients.{is_in_reach, type_in_reach, text_in_reach, element_in_reach, seat, first_library}
+use Rattle.jc_facts.specs.client.Meets.{may_name}
 
-module _ (V W : World) (found : (x : Bytes) → find V x ≡ find W x) (count : size V ≡ size W) (clients : (x : Bytes) → is_client V x ≡ is_client W x) where
+module _ (V W : World) (found : (x : Bytes) → find_class V x ≡ find_class W x) (count : size V ≡ size W) (clients : (x : Bytes) → is_client V x ≡ is_client W x) where
   search_same : {B : Type 0} (missing deep : B) (step : (Bytes → B) → ClassFacts → B) (n : ℕ) (x : Bytes) → descend V missing deep step n x ≡ descend W missing deep step n x
   unfolding descend
   search_same missing deep step zero x = ap (of_class missing (λ c. deep)) (found x)
   search_same {B} missing deep step (suc n) x =
       let f : descend V missing deep step n ≡ descend W missing deep step n = fun_ext (search_same missing deep step n) in
-      ap (λ (g : Bytes → B). of_class missing (λ c. step g c) (find V x)) f ∙ ap (of_class missing (λ c. step (descend W missing deep step n) c)) (found x)
+      ap (λ (g : Bytes → B). of_class missing (λ c. step g c) (find_class V x)) f ∙ ap (of_class missing (λ c. step (descend W missing deep step n) c)) (found x)
 
   whole_same : {B : Type 0} (missing deep : B) (step : (Bytes → B) → ClassFacts → B) (x : Bytes) → descend V missing deep step (size V) x ≡ descend W missing deep step (size W) x
   whole_same missing deep step x = ap (λ n. descend V missing deep step n x) count ∙ search_same missing deep step (size W) x
@@ -55,16 +55,16 @@ module _ (V W : World) (found : (x : Bytes) → find V x ≡ find W x) (count : 
   unfolding superinterfaces
   superinterfaces_same = fun_ext (λ x. interfaces_of_same (chain V x) ∙ ap (λ (g : Bytes → List ClassFacts). interfaces_of W (g x)) chain_same)
 
-  pub find_same : find V ≡ find W
+  pub find_same : find_class V ≡ find_class W
   find_same = fun_ext found
 
-  own_same : (c : ClassFacts) → own_fault V c ≡ own_fault W c
-  unfolding own_fault superclass_fault interface_fault
+  own_same : (c : ClassFacts) → fault_of_itself V c ≡ fault_of_itself W c
+  unfolding fault_of_itself fault_of_superclass fault_of_interface
   own_same c =
-      ap (λ (g : Bytes → Option ClassFacts). or_else (and_then (λ s. and_then (superclass_error c) (g s)) c.superclass) (or_else (first_some (λ s. and_then (interface_error c) (g s)) c.interfaces)
-      (fault_where (not (is_interface c.flags) && overrides_final c.name c.methods (of_super (chain V) c.superclass)) IncompatibleClassChangeError))) find_same
-      ∙ ap (λ (g : Bytes → List ClassFacts). or_else (and_then (λ s. and_then (superclass_error c) (find W s)) c.superclass) (or_else (first_some (λ s. and_then (interface_error c) (find W s)) c.interfaces)
-      (fault_where (not (is_interface c.flags) && overrides_final c.name c.methods (of_super g c.superclass)) IncompatibleClassChangeError))) chain_same
+      ap (λ (g : Bytes → Option ClassFacts). or_else (and_then (λ s. and_then (error_of_superclass c) (g s)) c.superclass) (or_else (first_some (λ s. and_then (error_of_interface c) (g s)) c.interfaces)
+      (fault_where (not (interface_flag c.flags) && overrides_some_final c.name c.methods (of_super (chain V) c.superclass)) IncompatibleClassChangeError))) find_same
+      ∙ ap (λ (g : Bytes → List ClassFacts). or_else (and_then (λ s. and_then (error_of_superclass c) (find_class W s)) c.superclass) (or_else (first_some (λ s. and_then (error_of_interface c) (find_class W s)) c.interfaces)
+      (fault_where (not (interface_flag c.flags) && overrides_some_final c.name c.methods (of_super g c.superclass)) IncompatibleClassChangeError))) chain_same
 
   steps_same : load_step V ≡ load_step W
   unfolding load_step
@@ -89,17 +89,17 @@ module _ (V W : World) (found : (x : Bytes) → find V x ≡ find W x) (count : 
   method_same x k = ap (λ (g : Bytes → List ClassFacts). or_choices (first_declared k (g x)) (superinterface_choices V x k)) chain_same ∙ ap (or_choices (first_declared k (chain W x))) (choices_same x k)
 
   interface_same : (x : Bytes) (k : Key) → interface_choices V x k ≡ interface_choices W x k
-  unfolding interface_choices object_method
+  unfolding interface_choices public_method_of_object
   interface_same x k =
-      ap (λ (g : Bytes → Option ClassFacts). or_choices (or_else (and_then (declares k) (g x)) (and_then if_public_instance (and_then (declares k) (g object_name)))) (superinterface_choices V x k)) find_same
-      ∙ ap (λ ms. or_choices (or_else (and_then (declares k) (find W x)) (and_then if_public_instance (and_then (declares k) (find W object_name)))) ms) (choices_same x k)
+      ap (λ (g : Bytes → Option ClassFacts). or_choices (or_else (and_then (declared_method k) (g x)) (and_then if_public_instance (and_then (declared_method k) (g object_name)))) (superinterface_choices V x k)) find_same
+      ∙ ap (λ ms. or_choices (or_else (and_then (declared_method k) (find_class W x)) (and_then if_public_instance (and_then (declared_method k) (find_class W object_name)))) ms) (choices_same x k)
 
-  look_same : (f : Form) (c : Bytes) (k : Key) (t : Found → Option LinkError) → look_up V f c k t ≡ look_up W f c k t
+  look_same : (f : Form) (c : Bytes) (k : Key) (t : DeclaredMember → Option LinkError) → look_up V f c k t ≡ look_up W f c k t
   unfolding look_up
   look_same FieldForm c k t = ap (λ o. found_or NoSuchFieldError o t) (field_same c k)
-  look_same MethodForm c k t = ap (λ o. cond (some_and (λ c. is_interface c.flags) o) (Some IncompatibleClassChangeError) (first_of NoSuchMethodError (method_choices V c k) t)) (found c)
+  look_same MethodForm c k t = ap (λ o. cond (some_and (λ c. interface_flag c.flags) o) (Some IncompatibleClassChangeError) (first_of NoSuchMethodError (method_choices V c k) t)) (found c)
       ∙ ap (λ ms. cond (is_interface_of W c) (Some IncompatibleClassChangeError) (first_of NoSuchMethodError ms t)) (method_same c k)
-  look_same InterfaceForm c k t = ap (λ o. cond (some_and (λ c. is_interface c.flags) o) (first_of NoSuchMethodError (interface_choices V c k) t) (Some IncompatibleClassChangeError)) (found c)
+  look_same InterfaceForm c k t = ap (λ o. cond (some_and (λ c. interface_flag c.flags) o) (first_of NoSuchMethodError (interface_choices V c k) t) (Some IncompatibleClassChangeError)) (found c)
       ∙ ap (λ ms. cond (is_interface_of W c) (first_of NoSuchMethodError ms t) (Some IncompatibleClassChangeError)) (interface_same c k)
 
   host_same : host_of V ≡ host_of W
@@ -117,18 +117,18 @@ module _ (V W : World) (found : (x : Bytes) → find V x ≡ find W x) (count : 
   chain_at : (x y : Bytes) → in_chain V x y ≡ in_chain W x y
   chain_at x y = ap (λ (g : Bytes → List ClassFacts). names_in (g x) y) chain_same
 
-  member_same : (x n : Bytes) (m : Found) → is_member_accessible V x n m ≡ is_member_accessible W x n m
+  member_same : (x n : Bytes) (m : DeclaredMember) → is_member_accessible V x n m ≡ is_member_accessible W x n m
   unfolding is_member_accessible
   member_same x n m = rw (chain_at x m.owner, chain_at x n, chain_at n x, host_same) refl
 
   interface_at : (x : Bytes) → is_interface_of V x ≡ is_interface_of W x
-  interface_at x = ap (some_and (λ c. is_interface c.flags)) (found x)
+  interface_at x = ap (some_and (λ c. interface_flag c.flags)) (found x)
 
   assign_same : (s t : Bytes) → is_assignable V s t ≡ is_assignable W s t
   unfolding is_assignable assign_to
-  assign_same s t = types (read_type s) (read_type t)
+  assign_same s t = types (type_read s) (type_read t)
     where
-      elements : (p q : Element) → assign_element V p q ≡ assign_element W p q
+      elements : (p q : Element) → is_element_assignable V p q ≡ is_element_assignable W p q
       elements (Primitive x) (Primitive y) = refl
       elements (Class x) (Class y) = rw (interface_at y, chain_at x y) refl
       elements (Class x) (Primitive y) = refl
@@ -145,16 +145,16 @@ module _ (V W : World) (found : (x : Bytes) → find V x ≡ find W x) (count : 
       types (Some a) None = refl
       types (Some a) (Some b) = dims a.dims b.dims a.element b.element
 
-  protected_same : (x n : Bytes) (m : Found) (s : Bytes) → passes_protected_check V x n m s ≡ passes_protected_check W x n m s
+  protected_same : (x n : Bytes) (m : DeclaredMember) (s : Bytes) → passes_protected_check V x n m s ≡ passes_protected_check W x n m s
   unfolding passes_protected_check
   protected_same x n m s = rw (chain_at x n, assign_same s x) refl
 
   class_same : (x t : Bytes) → class_step V x t ≡ class_step W x t
   unfolding class_step class_fault
-  class_same x t = go (read_type t)
+  class_same x t = go (type_read t)
     where
-      named : (c : Bytes) → or_else (load_fault V c) (and_then (λ d. fault_where (not (is_class_accessible x d)) IllegalAccessError) (find V c)) ≡ or_else (load_fault W c) (and_then (λ d. fault_where (not (is_class_accessible x d)) IllegalAccessError) (find W c))
-      named c = ap (λ (g : Bytes → Option LinkError). or_else (g c) (and_then (λ d. fault_where (not (is_class_accessible x d)) IllegalAccessError) (find V c))) fault_same
+      named : (c : Bytes) → or_else (load_fault V c) (and_then (λ d. fault_where (not (is_class_accessible x d)) IllegalAccessError) (find_class V c)) ≡ or_else (load_fault W c) (and_then (λ d. fault_where (not (is_class_accessible x d)) IllegalAccessError) (find_class W c))
+      named c = ap (λ (g : Bytes → Option LinkError). or_else (g c) (and_then (λ d. fault_where (not (is_class_accessible x d)) IllegalAccessError) (find_class V c))) fault_same
           ∙ ap (λ o. or_else (load_fault W c) (and_then (λ d. fault_where (not (is_class_accessible x d)) IllegalAccessError) o)) (found c)
 
       by : (a : Element) → element_fault V x a ≡ element_fault W x a
@@ -165,16 +165,16 @@ module _ (V W : World) (found : (x : Bytes) → find V x ≡ find W x) (count : 
       go None = refl
       go (Some a) = by a.element
 
-  receiver_same : (x : Bytes) (act : Act) (c : Bytes) (m : Found) (r : Option Bytes) → receiver_ok V x act c m r ≡ receiver_ok W x act c m r
+  receiver_same : (x : Bytes) (act : Act) (c : Bytes) (m : DeclaredMember) (r : Option Bytes) → receiver_ok V x act c m r ≡ receiver_ok W x act c m r
   unfolding receiver_ok
   receiver_same x act c m None = refl
   receiver_same x act c m (Some s) = rw (assign_same s c, protected_same x c m s, assign_same s x) refl
 
-  use_same : (x : Bytes) (act : Act) (c : Bytes) (r : Option Bytes) (place : Place) (m : Found) → use_fault V x act c r place m ≡ use_fault W x act c r place m
+  use_same : (x : Bytes) (act : Act) (c : Bytes) (r : Option Bytes) (place : Place) (m : DeclaredMember) → use_fault V x act c r place m ≡ use_fault W x act c r place m
   unfolding use_fault assignment_ok is_direct_super
   use_same x act c r place m = rw (member_same x c m, chain_at x c, found x, receiver_same x act c m r) refl
 
-  init_same : (c d : Bytes) (t : Found → Option LinkError) → init_fault V c d t ≡ init_fault W c d t
+  init_same : (c d : Bytes) (t : DeclaredMember → Option LinkError) → init_fault V c d t ≡ init_fault W c d t
   unfolding init_fault
   init_same c d t = look_same MethodForm c (init_key d) (λ m. cond (same m.owner c) (t m) (Some NoSuchMethodError))
 
@@ -185,25 +185,25 @@ module _ (V W : World) (found : (x : Bytes) → find V x ≡ find W x) (count : 
   outcome_same x (item.New t d) =
       let f : (λ m. or_else (fault_where (not (is_member_accessible V x t m)) IllegalAccessError) (fault_where (not (passes_protected_check V x t m t)) VerifyError)) ≡ (λ m. or_else (fault_where (not (is_member_accessible W x t m)) IllegalAccessError) (fault_where (not (passes_protected_check W x t m t)) VerifyError)) =
       fun_ext (λ m. ap (λ b. or_else (fault_where (not b) IllegalAccessError) (fault_where (not (passes_protected_check V x t m t)) VerifyError)) (member_same x t m) ∙ ap (λ b. or_else (fault_where (not (is_member_accessible W x t m)) IllegalAccessError) (fault_where (not b) VerifyError)) (protected_same x t m t)) in
-      rw (class_same x t, found t) (ap (λ o. or_else (class_step W x t) (cond (is_array t) (Some NoSuchMethodError) (or_else (instantiation_fault W t) o)))
+      rw (class_same x t, found t) (ap (λ o. or_else (class_step W x t) (cond (is_array_text t) (Some NoSuchMethodError) (or_else (instantiation_fault W t) o)))
       (init_same t d (λ m. or_else (fault_where (not (is_member_accessible V x t m)) IllegalAccessError) (fault_where (not (passes_protected_check V x t m t)) VerifyError)) ∙ ap (init_fault W t d) f))
   outcome_same x (item.Init t d) =
       let f : (λ m. fault_where (not (is_member_accessible V x t m)) IllegalAccessError) ≡ (λ m. fault_where (not (is_member_accessible W x t m)) IllegalAccessError) = fun_ext (λ m. ap (λ b. fault_where (not b) IllegalAccessError) (member_same x t m)) in
-      rw (class_same x t) (ap (λ o. or_else (class_step W x t) (cond (is_array t) (Some NoSuchMethodError) o)) (init_same t d (λ m. fault_where (not (is_member_accessible V x t m)) IllegalAccessError) ∙ ap (init_fault W t d) f))
+      rw (class_same x t) (ap (λ o. or_else (class_step W x t) (cond (is_array_text t) (Some NoSuchMethodError) o)) (init_same t d (λ m. fault_where (not (is_member_accessible V x t m)) IllegalAccessError) ∙ ap (init_fault W t d) f))
   outcome_same x (item.Access act t k r place) =
       let f : use_fault V x act t r place ≡ use_fault W x act t r place = fun_ext (use_same x act t r place) in
-      rw (class_same x t) (ap (λ o. or_else (class_step W x t) (cond (is_array t) (Some (array_fault (form_of act))) o)) (look_same (form_of act) t k (use_fault V x act t r place) ∙ ap (look_up W (form_of act) t k) f))
+      rw (class_same x t) (ap (λ o. or_else (class_step W x t) (cond (is_array_text t) (Some (array_fault (form_of act))) o)) (look_same (form_of act) t k (use_fault V x act t r place) ∙ ap (look_up W (form_of act) t k) f))
   outcome_same x (item.Assign s t) = ap (λ b. fault_where (not b) VerifyError) (assign_same s t)
 
   -- ---- reach, seats and names
 
   type_same : (x t : Bytes) → type_in_reach V x t ≡ type_in_reach W x t
   unfolding type_in_reach
-  type_same x t = go (read_type t)
+  type_same x t = go (type_read t)
     where
       by : (a : Element) → element_in_reach V x a ≡ element_in_reach W x a
       by (Primitive p) = refl
-      by (Class c) = ap (λ (g : Bytes → Option LinkError). is_none (g c) && some_and (is_class_accessible x) (find V c)) fault_same ∙ ap (λ o. is_none (load_fault W c) && some_and (is_class_accessible x) o) (found c)
+      by (Class c) = ap (λ (g : Bytes → Option LinkError). is_none (g c) && some_and (is_class_accessible x) (find_class V c)) fault_same ∙ ap (λ o. is_none (load_fault W c) && some_and (is_class_accessible x) o) (found c)
 
       go : (o : Option TypeText) → text_in_reach V x o ≡ text_in_reach W x o
       go None = refl
@@ -226,11 +226,11 @@ module _ (V W : World) (found : (x : Bytes) → find V x ≡ find W x) (count : 
   seat_same x = library_same (chain V x) ∙ ap (λ (g : Bytes → List ClassFacts). first_library W (g x)) chain_same
 
   pub names_same : (x i : Bytes) → may_name V x i ≡ may_name W x i
-  names_same x i = ap (λ (g : Bytes → Bool). list_any (λ c. g c.name && is_among c.interfaces i) (chain V x ++ superinterfaces V x)) (fun_ext clients)
-      ∙ ap (λ (g : Bytes → List ClassFacts). list_any (λ c. is_client W c.name && is_among c.interfaces i) (g x ++ superinterfaces V x)) chain_same
-      ∙ ap (λ (g : Bytes → List ClassFacts). list_any (λ c. is_client W c.name && is_among c.interfaces i) (chain W x ++ g x)) superinterfaces_same
+  names_same x i = ap (λ (g : Bytes → Bool). list_any (λ c. g c.name && is_name_among c.interfaces i) (chain V x ++ superinterfaces V x)) (fun_ext clients)
+      ∙ ap (λ (g : Bytes → List ClassFacts). list_any (λ c. is_client W c.name && is_name_among c.interfaces i) (g x ++ superinterfaces V x)) chain_same
+      ∙ ap (λ (g : Bytes → List ClassFacts). list_any (λ c. is_client W c.name && is_name_among c.interfaces i) (chain W x ++ g x)) superinterfaces_same
 
-  pub has_same : (x y : Bytes) → has_superinterface V x y ≡ has_superinterface W x y
+  pub has_same : (x y : Bytes) → is_superinterface V x y ≡ is_superinterface W x y
   has_same x y = ap (λ (g : Bytes → List ClassFacts). names_in (g x) y) superinterfaces_same
 
   pub interface_of_same : (x : Bytes) → is_interface_of V x ≡ is_interface_of W x

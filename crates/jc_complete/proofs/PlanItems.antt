@@ -9,61 +9,59 @@ use Rattle.jc_facts.specs.declared.client.Item.TheVariants as item
 use Rattle.jc_facts.specs.declared.key.Key.{Key}
 use Rattle.jc_facts.specs.declared.link_error.LinkError.TheVariants.{IllegalAccessError}
 use Rattle.jc_facts.specs.Names.{Bytes, same, object_name}
-use Rattle.jc_facts.specs.Flags.{is_public, is_interface}
-use Rattle.jc_facts.specs.Types.{is_array}
+use Rattle.jc_facts.specs.Flags.{public_flag, interface_flag}
+use Rattle.jc_facts.specs.world.Types.{is_array_text}
 use Rattle.jc_facts.specs.Options.{or_else, and_then}
-use Rattle.jc_facts.specs.World.{World, Found, find, class_named, with_clients, own_method, found_in}
-use Rattle.jc_facts.specs.Hierarchy.{chain}
-use Rattle.jc_facts.specs.Access.{is_class_accessible, is_member_accessible}
-use Rattle.jc_facts.specs.Overriding.{overrides_final}
-use Rattle.jc_facts.specs.Loading.{load_fault, fault_where}
-use Rattle.jc_facts.specs.Lookup.{first_declared, or_choices, superinterface_choices, method_choices}
-use Rattle.jc_facts.specs.Outcome.{outcome, class_fault, class_step, look_up, first_of, init_key, init_fault}
-use Rattle.jc_facts.specs.Clients.{IsInScope, IsValidClient, CallsSuper, facts_of, is_allowed, names_differ, is_in_reach}
-use Rattle.jc_facts.specs.Planned.{a_class}
+use Rattle.jc_facts.specs.world.World.{World, find_class, class_named, with_clients, own_method_of, found_in}
+use Rattle.jc_facts.specs.world.Hierarchy.{chain}
+use Rattle.jc_facts.specs.world.Access.{is_class_accessible, is_member_accessible}
+use Rattle.jc_facts.specs.world.Overriding.{overrides_some_final}
+use Rattle.jc_facts.specs.world.Loading.{load_fault, fault_where}
+use Rattle.jc_facts.specs.world.Lookup.{first_declared, or_choices, superinterface_choices, method_choices}
+use Rattle.jc_facts.specs.client.Outcome.{outcome, class_fault, class_step, look_up, first_of, init_key, init_fault}
+use Rattle.jc_facts.specs.client.Clients.{IsInScope, IsValidClient, CallsSuper, facts_of, is_allowed_name, differ_by_name, is_in_reach}
+use Rattle.jc_facts.specs.plan.Planned.{a_class}
 use Rattle.jc_complete.specs.Completeness.{LinksWhole}
-use Rattle.jc_laws.proofs.Settles.{EachOf}
-use Rattle.jc_laws.proofs.Worlds.{same_itself, find-name}
-use Rattle.jc_laws.proofs.Allowed.{or_first}
-use Rattle.jc_laws.proofs.Clients.{Fits}
-use Rattle.jc_laws.proofs.Context.{named_class}
-use Rattle.jc_laws.proofs.Named.{chain-unroll}
+use Rattle.jc_lemmas.proofs.Listed.{EachOf}
+use Rattle.jc_facts.proofs.Same.{same_itself}
+use Rattle.jc_facts.proofs.World.{find-name}
+use Rattle.std.proofs.lemmas.Bool.{or_left}
+use Rattle.jc_worlds.proofs.Clients.{Fits}
+use Rattle.jc_sound.proofs.Context.{named_class}
+use Rattle.jc_worlds.proofs.Unrolled.{chain-unroll}
 use Rattle.jc_complete.proofs.PlanGround.{Root, Planned}
 use Rattle.jc_complete.proofs.PlanLoads.{root_find, root_loads, root_taken, client_loads}
+use Rattle.jc_worlds.proofs.Choices.{is_member_accessible-public}
 
 -- ---- outcomes
 
 -- a class that loads and is accessible
-pub class_links : (V : World) (x t : Bytes) (d : ClassFacts) → is_array t ≡ false → find V t ≡ Some d → load_fault V t ≡ None → is_class_accessible x d ≡ true → class_step V x t ≡ None
+pub class_links : (V : World) (x t : Bytes) (d : ClassFacts) → is_array_text t ≡ false → find_class V t ≡ Some d → load_fault V t ≡ None → is_class_accessible x d ≡ true → class_step V x t ≡ None
 unfolding class_step class_fault or_else and_then
 class_links V x t d p e l a = rw (named_class t p) (rw (l, e, a) refl)
 
 -- the method that the class itself declares is found
-pub own_choice : (V : World) (t : Bytes) (d : ClassFacts) (k : Key) (m : Member) → find V t ≡ Some d → load_fault V t ≡ None → own_method d k ≡ Some m → method_choices V t k ≡ record { owner = d.name; member = m } ∷ []
+pub own_choice : (V : World) (t : Bytes) (d : ClassFacts) (k : Key) (m : Member) → find_class V t ≡ Some d → load_fault V t ≡ None → own_method_of d k ≡ Some m → method_choices V t k ≡ record { owner = d.name; member = m } ∷ []
 unfolding method_choices or_choices first_declared or_else found_in
 own_choice V t d k m e l o = ap (λ cs. or_choices (first_declared k cs) (superinterface_choices V t k)) (chain-unroll V t d e l) ∙ rw o refl
 
 -- the call of an initializer that the named class declares says what access says
-pub init_says : (V : World) (x t descriptor : Bytes) (d : ClassFacts) (m : Member) → is_array t ≡ false → find V t ≡ Some d → load_fault V t ≡ None → is_class_accessible x d ≡ true → is_interface d.flags ≡ false
-    → own_method d (init_key descriptor) ≡ Some m → outcome V x (item.Init t descriptor) ≡ fault_where (not (is_member_accessible V x t (record { owner = d.name; member = m }))) IllegalAccessError
+pub init_says : (V : World) (x t descriptor : Bytes) (d : ClassFacts) (m : Member) → is_array_text t ≡ false → find_class V t ≡ Some d → load_fault V t ≡ None → is_class_accessible x d ≡ true → interface_flag d.flags ≡ false
+    → own_method_of d (init_key descriptor) ≡ Some m → outcome V x (item.Init t descriptor) ≡ fault_where (not (is_member_accessible V x t (record { owner = d.name; member = m }))) IllegalAccessError
 unfolding outcome init_fault look_up first_of or_else
 init_says V x t descriptor d m p e l a i o =
     let named : same d.name t ≡ true = subst (λ z. same z t ≡ true) (sym (find-name V t d e)) (same_itself t) in
     rw (class_links V x t d p e l a, p, own_choice V t d (init_key descriptor) m e l o) (rw (e, i, named) refl)
 
-pub public_member : (V : World) (x t : Bytes) (m : Found) → is_public m.member.flags ≡ true → is_member_accessible V x t m ≡ true
-unfolding is_member_accessible
-public_member V x t m p = rw p refl
-
 -- ---- in scope
 
-pub scope_from : (O N : World) (cs : List ClientClass) → EachOf IsValidClient cs → names_differ (facts_of cs) ≡ true → EachOf (λ c. is_allowed O c.facts.name ≡ true) cs → EachOf (λ c. is_allowed N c.facts.name ≡ true) cs
+pub scope_from : (O N : World) (cs : List ClientClass) → EachOf IsValidClient cs → differ_by_name (facts_of cs) ≡ true → EachOf (λ c. is_allowed_name O c.facts.name ≡ true) cs → EachOf (λ c. is_allowed_name N c.facts.name ≡ true) cs
     → EachOf (CallsSuper (with_clients O (facts_of cs))) cs → IsInScope O N cs
 scope_from O N cs v d o n s = record {
   valid = All-from_recursion IsValidClient cs v;
   differ = d;
-  allowed_old = All-from_recursion (λ c. is_allowed O c.facts.name ≡ true) cs o;
-  allowed_new = All-from_recursion (λ c. is_allowed N c.facts.name ≡ true) cs n;
+  allowed_old = All-from_recursion (λ c. is_allowed_name O c.facts.name ≡ true) cs o;
+  allowed_new = All-from_recursion (λ c. is_allowed_name N c.facts.name ≡ true) cs n;
   calls_super = All-from_recursion (CallsSuper (with_clients O (facts_of cs))) cs s;
 }
 
@@ -87,12 +85,12 @@ module _ (W : World) (cs : List ClassFacts) (f : Fits W cs) (root : ClassFacts) 
   V = with_clients W cs
 
   -- it loads, where it names nothing else and overrides nothing final
-  pub below_root_loads : (x : Bytes) (c : ClassFacts) → class_named cs x ≡ Some c → c.superclass ≡ Some object_name → c.interfaces ≡ [] → (not (is_interface c.flags) && overrides_final c.name c.methods (chain V object_name)) ≡ false
+  pub below_root_loads : (x : Bytes) (c : ClassFacts) → class_named cs x ≡ Some c → c.superclass ≡ Some object_name → c.interfaces ≡ [] → (not (interface_flag c.flags) && overrides_some_final c.name c.methods (chain V object_name)) ≡ false
       → load_fault V x ≡ None
   below_root_loads x c k q is o = client_loads W cs f x c object_name root k q (root_find W cs f root r w p) (root_loads W cs f root r w p) (root_taken root r c) (subst (EachOf _) (sym is) tt) o
 
   -- it calls the initializer
   pub root_init_links : (x : Bytes) → outcome V x (item.Init object_name (codes "()V")) ≡ None
   root_init_links x =
-      init_says V x object_name (codes "()V") root r.init refl (root_find W cs f root r w p) (root_loads W cs f root r w p) (or_first (is_public root.flags) _ r.public) r.class r.declares
-      ∙ ap (λ b. fault_where (not b) IllegalAccessError) (public_member V x object_name (record { owner = root.name; member = r.init }) r.init_public)
+      init_says V x object_name (codes "()V") root r.init refl (root_find W cs f root r w p) (root_loads W cs f root r w p) (or_left (public_flag root.flags) _ r.public) r.class r.declares
+      ∙ ap (λ b. fault_where (not b) IllegalAccessError) (is_member_accessible-public V x object_name (record { owner = root.name; member = r.init }) r.init_public)

@@ -4,34 +4,35 @@ use Rattle.jc_facts.specs.declared.class_facts.ClassFacts.{ClassFacts}
 use Rattle.jc_facts.specs.declared.link_error.LinkError.{LinkError}
 use Rattle.jc_facts.specs.declared.link_error.LinkError.TheVariants.{IncompatibleClassChangeError}
 use Rattle.jc_facts.specs.Names.{Bytes, object_name}
-use Rattle.jc_facts.specs.Flags.{is_interface}
+use Rattle.jc_facts.specs.Flags.{interface_flag}
 use Rattle.jc_facts.specs.Options.{or_else, first_some, and_then}
-use Rattle.jc_facts.specs.World.{World, find, size, class_named, with_clients}
-use Rattle.jc_facts.specs.Search.{supers, supers_of}
-use Rattle.jc_facts.specs.Hierarchy.{chain, superinterfaces, of_super, each, with_interfaces, interfaces_of}
-use Rattle.jc_facts.specs.Overriding.{overrides_final}
-use Rattle.jc_facts.specs.Loading.{load_fault, fault_at, load_step, own_fault, superclass_fault, superclass_error, interface_fault, interface_error, fault_where}
-use Rattle.jc_laws.proofs.Settles.{EachOf, EachOf-map}
-use Rattle.jc_laws.proofs.Descent.{descend-found}
-use Rattle.jc_laws.proofs.Depth.{fault_at-deep}
-use Rattle.jc_laws.proofs.Loaded.{or_else-both, all_none}
-use Rattle.jc_laws.proofs.Sides.{find-library, load_fault-side, chain-side, superinterfaces-side}
-use Rattle.jc_laws.proofs.Clients.{Fits, find-client}
-use Rattle.jc_laws.proofs.ClientLoads.{superclass_taken}
-use Rattle.jc_laws.proofs.Reach.{declared_library}
-use Rattle.jc_laws.proofs.Ground.{bare_loads}
-use Rattle.jc_laws.proofs.Named.{chain-unroll, superinterfaces-unroll}
+use Rattle.jc_facts.specs.world.World.{World, find_class, size, class_named, with_clients}
+use Rattle.jc_facts.specs.world.Search.{supers, supers_of}
+use Rattle.jc_facts.specs.world.Hierarchy.{chain, superinterfaces, of_super, each, with_interfaces, interfaces_of}
+use Rattle.jc_facts.specs.world.Overriding.{overrides_some_final}
+use Rattle.jc_facts.specs.world.Loading.{load_fault, fault_at, load_step, fault_of_itself, fault_of_superclass, error_of_superclass, fault_of_interface, error_of_interface, fault_where}
+use Rattle.jc_lemmas.proofs.Listed.{EachOf, EachOf-map}
+use Rattle.jc_worlds.proofs.Descent.{descend-found}
+use Rattle.jc_worlds.proofs.Depth.{fault_at-deep}
+use Rattle.jc_facts.proofs.Options.{or_else-both}
+use Rattle.jc_worlds.proofs.Loaded.{all_none}
+use Rattle.jc_worlds.proofs.Sides.{find-library, load_fault-side, chain-side, superinterfaces-side}
+use Rattle.jc_worlds.proofs.Clients.{Fits, find-client}
+use Rattle.jc_sound.proofs.ClientLoads.{superclass_taken}
+use Rattle.jc_sound.proofs.Reach.{declared_library}
+use Rattle.jc_worlds.proofs.Bare.{bare_loads}
+use Rattle.jc_worlds.proofs.Unrolled.{chain-unroll, superinterfaces-unroll}
 use Rattle.jc_complete.proofs.PlanGround.{Root, Planned}
 
 -- where all that it names loads, the load fault of a class is what refuses the class itself
-pub load_fault-own : (W : World) (x : Bytes) (c : ClassFacts) → find W x ≡ Some c → EachOf (λ s. load_fault W s ≡ None) (supers c) → load_fault W x ≡ own_fault W c
+pub load_fault-own : (W : World) (x : Bytes) (c : ClassFacts) → find_class W x ≡ Some c → EachOf (λ s. load_fault W s ≡ None) (supers c) → load_fault W x ≡ fault_of_itself W c
 unfolding load_fault load_step or_else
 load_fault-own W x c e h =
-    let p : fault_at W (suc (size W)) x ≡ or_else (first_some (fault_at W (size W)) (supers c)) (own_fault W c) = descend-found W _ _ (load_step W) (size W) x c e in
-    sym (fault_at-deep W (suc (size W)) (omega arith) x) ∙ p ∙ ap (λ o. or_else o (own_fault W c)) (all_none (fault_at W (size W)) (supers c) h)
+    let p : fault_at W (suc (size W)) x ≡ or_else (first_some (fault_at W (size W)) (supers c)) (fault_of_itself W c) = descend-found W _ _ (load_step W) (size W) x c e in
+    sym (fault_at-deep W (suc (size W)) (omega arith) x) ∙ p ∙ ap (λ o. or_else o (fault_of_itself W c)) (all_none (fault_at W (size W)) (supers c) h)
 
 -- java/lang/Object may be the superclass of every class
-pub root_taken : (root : ClassFacts) → Root root → (c : ClassFacts) → superclass_error c root ≡ None
+pub root_taken : (root : ClassFacts) → Root root → (c : ClassFacts) → error_of_superclass c root ≡ None
 root_taken root r c = superclass_taken c root r.public r.class r.not_final (rw r.permits refl)
 
 module _ (W : World) (cs : List ClassFacts) (f : Fits W cs) where
@@ -40,16 +41,16 @@ module _ (W : World) (cs : List ClassFacts) (f : Fits W cs) where
 
   -- ---- a class of the side
 
-  pub lib_find : (s : Bytes) (d : ClassFacts) → find W s ≡ Some d → find V s ≡ Some d
+  pub lib_find : (s : Bytes) (d : ClassFacts) → find_class W s ≡ Some d → find_class V s ≡ Some d
   lib_find s d e = sym (find-library W cs f.bare s (declared_library W cs f s d e)) ∙ e
 
-  pub lib_fault : (s : Bytes) (d : ClassFacts) → find W s ≡ Some d → load_fault V s ≡ load_fault W s
+  pub lib_fault : (s : Bytes) (d : ClassFacts) → find_class W s ≡ Some d → load_fault V s ≡ load_fault W s
   lib_fault s d e = sym (load_fault-side W cs f.bare f.unused s (declared_library W cs f s d e))
 
-  pub lib_chain : (s : Bytes) (d : ClassFacts) → find W s ≡ Some d → load_fault W s ≡ None → chain V s ≡ chain W s
+  pub lib_chain : (s : Bytes) (d : ClassFacts) → find_class W s ≡ Some d → load_fault W s ≡ None → chain V s ≡ chain W s
   lib_chain s d e h = sym (chain-side W cs f.bare f.unused s (declared_library W cs f s d e) h)
 
-  pub lib_interfaces : (s : Bytes) (d : ClassFacts) → find W s ≡ Some d → load_fault W s ≡ None → superinterfaces V s ≡ superinterfaces W s
+  pub lib_interfaces : (s : Bytes) (d : ClassFacts) → find_class W s ≡ Some d → load_fault W s ≡ None → superinterfaces V s ≡ superinterfaces W s
   lib_interfaces s d e h = sym (superinterfaces-side W cs f.bare f.unused s (declared_library W cs f s d e) h)
 
   -- ---- a client
@@ -57,11 +58,11 @@ module _ (W : World) (cs : List ClassFacts) (f : Fits W cs) where
   -- an interface that the client c may name
   pub record TakesInterface (c : ClassFacts) (i : Bytes) : Type 0 where
     pub class : ClassFacts
-    pub is_there : find V i ≡ Some class
+    pub is_there : find_class V i ≡ Some class
     pub loaded : load_fault V i ≡ None
-    pub taken : interface_error c class ≡ None
+    pub taken : error_of_interface c class ≡ None
 
-  module _ (x : Bytes) (c : ClassFacts) (s : Bytes) (d : ClassFacts) (k : class_named cs x ≡ Some c) (q : c.superclass ≡ Some s) (t : find V s ≡ Some d) (l : load_fault V s ≡ None) where
+  module _ (x : Bytes) (c : ClassFacts) (s : Bytes) (d : ClassFacts) (k : class_named cs x ≡ Some c) (q : c.superclass ≡ Some s) (t : find_class V s ≡ Some d) (l : load_fault V s ≡ None) where
     supers_load : EachOf (λ i. load_fault V i ≡ None) c.interfaces → EachOf (λ y. load_fault V y ≡ None) (supers c)
     supers_load h = go c.superclass q
       where
@@ -70,44 +71,44 @@ module _ (W : World) (cs : List ClassFacts) (f : Fits W cs) where
         go (Some z) e = let w : z ≡ s = cc in (subst (λ y. load_fault V y ≡ None) (sym w) l, h)
 
     -- it loads
-    pub client_loads : superclass_error c d ≡ None → EachOf (TakesInterface c) c.interfaces → (not (is_interface c.flags) && overrides_final c.name c.methods (chain V s)) ≡ false → load_fault V x ≡ None
-    unfolding own_fault superclass_fault interface_fault and_then
+    pub client_loads : error_of_superclass c d ≡ None → EachOf (TakesInterface c) c.interfaces → (not (interface_flag c.flags) && overrides_some_final c.name c.methods (chain V s)) ≡ false → load_fault V x ≡ None
+    unfolding fault_of_itself fault_of_superclass fault_of_interface and_then
     client_loads e is o = load_fault-own V x c (find-client W cs f x c k) (supers_load (EachOf-map (λ i w. w.loaded) c.interfaces is)) ∙ own
       where
-        rest : first_some (interface_fault V c) c.interfaces ≡ None
-        rest = all_none (interface_fault V c) c.interfaces (EachOf-map (λ i w. rw w.is_there w.taken) c.interfaces is)
+        rest : first_some (fault_of_interface V c) c.interfaces ≡ None
+        rest = all_none (fault_of_interface V c) c.interfaces (EachOf-map (λ i w. rw w.is_there w.taken) c.interfaces is)
 
-        finals : fault_where (not (is_interface c.flags) && overrides_final c.name c.methods (of_super (chain V) c.superclass)) IncompatibleClassChangeError ≡ None
-        finals = ap (λ o. fault_where (not (is_interface c.flags) && overrides_final c.name c.methods (of_super (chain V) o)) IncompatibleClassChangeError) q ∙ rw o refl
+        finals : fault_where (not (interface_flag c.flags) && overrides_some_final c.name c.methods (of_super (chain V) c.superclass)) IncompatibleClassChangeError ≡ None
+        finals = ap (λ o. fault_where (not (interface_flag c.flags) && overrides_some_final c.name c.methods (of_super (chain V) o)) IncompatibleClassChangeError) q ∙ rw o refl
 
-        above : and_then (superclass_fault V c) c.superclass ≡ None
-        above = ap (and_then (superclass_fault V c)) q ∙ rw t e
+        above : and_then (fault_of_superclass V c) c.superclass ≡ None
+        above = ap (and_then (fault_of_superclass V c)) q ∙ rw t e
 
-        own : own_fault V c ≡ None
-        own = or_else-both (and_then (superclass_fault V c) c.superclass) _ above (or_else-both (first_some (interface_fault V c) c.interfaces) _ rest finals)
+        own : fault_of_itself V c ≡ None
+        own = or_else-both (and_then (fault_of_superclass V c) c.superclass) _ above (or_else-both (first_some (fault_of_interface V c) c.interfaces) _ rest finals)
 
     -- its superclass refuses it
-    pub super_refuses : (e : LinkError) → superclass_error c d ≡ Some e → EachOf (λ i. load_fault V i ≡ None) c.interfaces → load_fault V x ≡ Some e
-    unfolding own_fault superclass_fault and_then or_else
+    pub super_refuses : (e : LinkError) → error_of_superclass c d ≡ Some e → EachOf (λ i. load_fault V i ≡ None) c.interfaces → load_fault V x ≡ Some e
+    unfolding fault_of_itself fault_of_superclass and_then or_else
     super_refuses e g is =
-        let p : and_then (superclass_fault V c) c.superclass ≡ Some e = ap (and_then (superclass_fault V c)) q ∙ rw t g in
+        let p : and_then (fault_of_superclass V c) c.superclass ≡ Some e = ap (and_then (fault_of_superclass V c)) q ∙ rw t g in
         load_fault-own V x c (find-client W cs f x c k) (supers_load is) ∙ rw p refl
 
     -- its only interface does
-    pub interface_refuses : (i : Bytes) (b : ClassFacts) (e : LinkError) → superclass_error c d ≡ None → c.interfaces ≡ i ∷ [] → find V i ≡ Some b → load_fault V i ≡ None → interface_error c b ≡ Some e → load_fault V x ≡ Some e
-    unfolding own_fault superclass_fault interface_fault first_some and_then or_else
+    pub interface_refuses : (i : Bytes) (b : ClassFacts) (e : LinkError) → error_of_superclass c d ≡ None → c.interfaces ≡ i ∷ [] → find_class V i ≡ Some b → load_fault V i ≡ None → error_of_interface c b ≡ Some e → load_fault V x ≡ Some e
+    unfolding fault_of_itself fault_of_superclass fault_of_interface first_some and_then or_else
     interface_refuses i b e g is fi li r =
-        let p : and_then (superclass_fault V c) c.superclass ≡ None = ap (and_then (superclass_fault V c)) q ∙ rw t g in
-        let n : first_some (interface_fault V c) c.interfaces ≡ Some e = ap (first_some (interface_fault V c)) is ∙ rw (fi, r) refl in
+        let p : and_then (fault_of_superclass V c) c.superclass ≡ None = ap (and_then (fault_of_superclass V c)) q ∙ rw t g in
+        let n : first_some (fault_of_interface V c) c.interfaces ≡ Some e = ap (first_some (fault_of_interface V c)) is ∙ rw (fi, r) refl in
         load_fault-own V x c (find-client W cs f x c k) (supers_load (subst (EachOf (λ i. load_fault V i ≡ None)) (sym is) (li, tt))) ∙ rw (p, n) refl
 
     -- a final method above does
-    pub method_refuses : superclass_error c d ≡ None → c.interfaces ≡ [] → is_interface c.flags ≡ false → overrides_final c.name c.methods (chain V s) ≡ true → load_fault V x ≡ Some IncompatibleClassChangeError
-    unfolding own_fault superclass_fault first_some and_then or_else
+    pub method_refuses : error_of_superclass c d ≡ None → c.interfaces ≡ [] → interface_flag c.flags ≡ false → overrides_some_final c.name c.methods (chain V s) ≡ true → load_fault V x ≡ Some IncompatibleClassChangeError
+    unfolding fault_of_itself fault_of_superclass first_some and_then or_else
     method_refuses g is ci o =
-        let p : and_then (superclass_fault V c) c.superclass ≡ None = ap (and_then (superclass_fault V c)) q ∙ rw t g in
-        let n : first_some (interface_fault V c) c.interfaces ≡ None = ap (first_some (interface_fault V c)) is in
-        let u : overrides_final c.name c.methods (of_super (chain V) c.superclass) ≡ true = ap (λ o. overrides_final c.name c.methods (of_super (chain V) o)) q ∙ o in
+        let p : and_then (fault_of_superclass V c) c.superclass ≡ None = ap (and_then (fault_of_superclass V c)) q ∙ rw t g in
+        let n : first_some (fault_of_interface V c) c.interfaces ≡ None = ap (first_some (fault_of_interface V c)) is in
+        let u : overrides_some_final c.name c.methods (of_super (chain V) c.superclass) ≡ true = ap (λ o. overrides_some_final c.name c.methods (of_super (chain V) o)) q ∙ o in
         load_fault-own V x c (find-client W cs f x c k) (supers_load (subst (EachOf (λ i. load_fault V i ≡ None)) (sym is) tt)) ∙ rw (p, n, ci, u) refl
 
     -- what stands above it
@@ -121,7 +122,7 @@ module _ (W : World) (cs : List ClassFacts) (f : Fits W cs) where
   -- ---- java/lang/Object
 
   module _ (root : ClassFacts) (r : Root root) (w : Bytes) (p : Planned root w W) where
-    pub root_find : find V object_name ≡ Some root
+    pub root_find : find_class V object_name ≡ Some root
     root_find = lib_find object_name root p.there
 
     pub root_side : load_fault W object_name ≡ None

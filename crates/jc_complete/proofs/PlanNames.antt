@@ -1,6 +1,6 @@
 -- Names in a package that no name of a side begins with are class names and allowed; and what a platform, two releases and their fresh package are.
 use Rattle.std.proofs.Common.{◌≡◌, ℕ, ◌<◌, Bool, true, false, cond, List, [], ◌∷◌, ◌++◌, length, refl, sym, ◌∙◌, ap, subst, Option, Some, None, is_some, ◌||◌, ◌==◌, ◌⊎◌, inl, inr, nat_le, nat_lt, nat_eq, lit<, arith}
-use Rattle.std.proofs.lemmas.Bool.{and_from, both_ways, or_cases, lt-ltb, le-leb, ne_eqb}
+use Rattle.std.proofs.lemmas.Bool.{and_from, both_ways, or_cases, lt-ltb, le-leb, ne_eqb, or_left, or_right}
 use Rattle.std.proofs.lemmas.Map.Views.{exact_unsigned_eq}
 use Rattle.std.proofs.lemmas.List.{length-append}
 use Rattle.std.proofs.lemmas.List.Folds.{list_any-append}
@@ -8,22 +8,22 @@ use Rattle.std.proofs.lemmas.Fmt.{length-decimal-le_wide}
 use Rattle.std.specs.Str.{is_utf8}
 use Rattle.std.specs.Fmt.{decimal}
 use Rattle.std.specs.List.{list_any, starts_with}
-use Rattle.jc_desc.specs.Names.{is_class_name, is_rest_of_name}
-use Rattle.jc_desc.specs.Utf8.{is_text}
+use Rattle.jc_desc.specs.Names.{spells_class_name, is_rest_of_name}
+use Rattle.jc_desc.specs.Utf8.{is_modified_utf8}
 use Rattle.jc_facts.specs.declared.class_facts.ClassFacts.{ClassFacts}
-use Rattle.jc_facts.specs.Names.{Bytes, same, is_among, same_package, package_of}
-use Rattle.jc_facts.specs.Search.{supers}
-use Rattle.jc_facts.specs.World.{World, find, classes}
-use Rattle.jc_facts.specs.Valid.{is_name}
-use Rattle.jc_facts.specs.Clients.{is_allowed, names_super, has_package}
-use Rattle.jc_facts.specs.Mentioned.{permitted, mentions}
-use Rattle.jc_facts.specs.PlannedNames.{in_package}
-use Rattle.jc_laws.proofs.Settles.{EachOf, EachOf-map, EachOf-append}
-use Rattle.jc_laws.proofs.Worlds.{same_is, same_itself, find-name}
-use Rattle.jc_laws.proofs.Above.{or_left}
-use Rattle.jc_laws.proofs.Standing.{or_right}
-use Rattle.jc_laws.proofs.Allowed.{or_first, or_true, any_found}
-use Rattle.jc_laws.proofs.Examples.{ascii}
+use Rattle.jc_facts.specs.Names.{Bytes, same, is_name_among, in_same_package, package_name}
+use Rattle.jc_facts.specs.world.Search.{supers}
+use Rattle.jc_facts.specs.world.World.{World, find_class, classes}
+use Rattle.jc_facts.specs.file.Valid.{is_valid_name}
+use Rattle.jc_facts.specs.client.Clients.{is_allowed_name, is_named_above, has_package}
+use Rattle.jc_facts.specs.world.Mentioned.{permitted, mentions}
+use Rattle.jc_facts.specs.plan.PlannedNames.{in_package}
+use Rattle.jc_lemmas.proofs.Listed.{EachOf, EachOf-map, EachOf-append}
+use Rattle.jc_facts.proofs.Same.{same_is, same_itself}
+use Rattle.jc_facts.proofs.World.{find-name}
+use Rattle.jc_lemmas.proofs.Bools.{neither_first, neither_last}
+use Rattle.jc_worlds.proofs.Allowed.{any_found}
+use Rattle.jc_sound.proofs.Examples.{ascii}
 use Rattle.jc_complete.proofs.PlanGround.{is_letter, letter}
 use Rattle.jc_complete.proofs.PlanPackage.{IsDigit, digits_of_number, IsFree, begins_again}
 
@@ -58,7 +58,7 @@ digits_name (c ∷ cs) rest h k =
     let g : nat_eq c 47 ≡ false = ne_eqb c 47 (λ e. omega (arith, h.0.0, e)) in
     rw (a, b, d, g) (digits_name cs rest h.1 k)
 
-digits_text : (ds rest : Bytes) → EachOf IsDigit ds → is_text rest ≡ true → is_text (ds ++ rest) ≡ true
+digits_text : (ds rest : Bytes) → EachOf IsDigit ds → is_modified_utf8 rest ≡ true → is_modified_utf8 (ds ++ rest) ≡ true
 digits_text [] rest h k = k
 digits_text (c ∷ cs) rest h k =
     let a : nat_lt c 128 ≡ true = lt-ltb c 128 (omega (arith, h.0.1)) in
@@ -69,22 +69,22 @@ small_digits : (ds : Bytes) → EachOf IsDigit ds → EachOf (λ c. c < 128) ds
 small_digits ds h = EachOf-map (λ c k. omega (arith, k.1)) ds h
 
 -- the package of a name
-package_at : (a b : Bytes) → list_any (λ y. y == 47) b ≡ false → package_of (a ++ 47 ∷ b) ≡ a
-unfolding package_of
+package_at : (a b : Bytes) → list_any (λ y. y == 47) b ≡ false → package_name (a ++ 47 ∷ b) ≡ a
+unfolding package_name
 package_at [] b h = rw h refl
-package_at (x ∷ xs) b h = let s : list_any (λ y. y == 47) (xs ++ 47 ∷ b) ≡ true = list_any-append (λ y. y == 47) xs (47 ∷ b) ∙ or_true (list_any (λ y. y == 47) xs) true refl in rw (s, package_at xs b h) refl
+package_at (x ∷ xs) b h = let s : list_any (λ y. y == 47) (xs ++ 47 ∷ b) ≡ true = list_any-append (λ y. y == 47) xs (47 ∷ b) ∙ or_right (list_any (λ y. y == 47) xs) true refl in rw (s, package_at xs b h) refl
 
 -- a name begins with its package
-begins_package : (x y : Bytes) (c : ℕ) (w : Bytes) → package_of y ≡ c ∷ w → (rest : Bytes) × (y ≡ in_package (c ∷ w) [] ++ rest)
-unfolding package_of
+begins_package : (x y : Bytes) (c : ℕ) (w : Bytes) → package_name y ≡ c ∷ w → (rest : Bytes) × (y ≡ in_package (c ∷ w) [] ++ rest)
+unfolding package_name
 begins_package x [] c w h = absurd (cc)
 begins_package x (z ∷ zs) c w h = go (list_any (λ y. y == 47) zs) refl h w refl (λ d u e. begins_package x zs d u e)
   where
-    last : (zs : Bytes) → list_any (λ y. y == 47) zs ≡ true → package_of zs ≡ [] → (rest : Bytes) × (zs ≡ 47 ∷ rest)
+    last : (zs : Bytes) → list_any (λ y. y == 47) zs ≡ true → package_name zs ≡ [] → (rest : Bytes) × (zs ≡ 47 ∷ rest)
     last [] p q = absurd (let e : false ≡ true = p in cc)
     last (y ∷ ys) p q = by (list_any (λ y. y == 47) ys) refl q
       where
-        by : (b : Bool) → list_any (λ y. y == 47) ys ≡ b → cond b (y ∷ package_of ys) [] ≡ [] → (rest : Bytes) × (y ∷ ys ≡ 47 ∷ rest)
+        by : (b : Bool) → list_any (λ y. y == 47) ys ≡ b → cond b (y ∷ package_name ys) [] ≡ [] → (rest : Bytes) × (y ∷ ys ≡ 47 ∷ rest)
         by true e q = absurd (cc)
         by false e q = (ys, ap (λ n. n ∷ ys) (exact_unsigned_eq y 47 (or_else_first (y == 47) (list_any (λ y. y == 47) ys) e p)))
           where
@@ -92,16 +92,16 @@ begins_package x (z ∷ zs) c w h = go (list_any (λ y. y == 47) zs) refl h w re
             or_else_first true b e p = refl
             or_else_first false b e p = absurd (both_ways b e p)
 
-    go : (b : Bool) → list_any (λ y. y == 47) zs ≡ b → cond b (z ∷ package_of zs) [] ≡ c ∷ w → (v : Bytes) → w ≡ v → ((d : ℕ) (u : Bytes) → package_of zs ≡ d ∷ u → (rest : Bytes) × (zs ≡ in_package (d ∷ u) [] ++ rest)) → (rest : Bytes) × (z ∷ zs ≡ in_package (c ∷ w) [] ++ rest)
+    go : (b : Bool) → list_any (λ y. y == 47) zs ≡ b → cond b (z ∷ package_name zs) [] ≡ c ∷ w → (v : Bytes) → w ≡ v → ((d : ℕ) (u : Bytes) → package_name zs ≡ d ∷ u → (rest : Bytes) × (zs ≡ in_package (d ∷ u) [] ++ rest)) → (rest : Bytes) × (z ∷ zs ≡ in_package (c ∷ w) [] ++ rest)
     go false e q v p r = absurd (cc)
     go true e q [] p r =
         let a : z ≡ c = cc in
-        let b : package_of zs ≡ [] = let b0 : package_of zs ≡ w = cc in b0 ∙ p in
+        let b : package_name zs ≡ [] = let b0 : package_name zs ≡ w = cc in b0 ∙ p in
         let t = last zs e b in
         (t.0, ap (λ n. n ∷ zs) a ∙ ap (λ ns. c ∷ ns) t.1 ∙ ap (λ v. c ∷ (in_package v [] ++ t.0)) (sym p))
     go true e q (d ∷ u) p r =
         let a : z ≡ c = cc in
-        let b : package_of zs ≡ d ∷ u = let b0 : package_of zs ≡ w = cc in b0 ∙ p in
+        let b : package_name zs ≡ d ∷ u = let b0 : package_name zs ≡ w = cc in b0 ∙ p in
         let t = r d u b in
         (t.0, ap (λ n. n ∷ zs) a ∙ ap (λ ns. c ∷ ns) t.1 ∙ ap (λ v. c ∷ (in_package v [] ++ t.0)) (sym p))
 
@@ -114,14 +114,14 @@ module _ (names : List Bytes) (w : Bytes) (f : IsFree names w) where
   digits : EachOf IsDigit ds
   digits = digits_of_number f.number f.small
 
-  as_name : (l : ℕ) → is_letter l ≡ true → is_name (119 ∷ (ds ++ 47 ∷ l ∷ [])) ≡ true
-  as_name l h = each_letter (λ l. is_name (119 ∷ (ds ++ 47 ∷ l ∷ [])) ≡ true) (both 74 refl refl) (both 85 refl refl) (both 89 refl refl) (both 90 refl refl) l h
+  as_name : (l : ℕ) → is_letter l ≡ true → is_valid_name (119 ∷ (ds ++ 47 ∷ l ∷ [])) ≡ true
+  as_name l h = each_letter (λ l. is_valid_name (119 ∷ (ds ++ 47 ∷ l ∷ [])) ≡ true) (both 74 refl refl) (both 85 refl refl) (both 89 refl refl) (both 90 refl refl) l h
     where
-      both : (l : ℕ) → is_rest_of_name false (47 ∷ l ∷ []) ≡ true → is_text (47 ∷ l ∷ []) ≡ true → is_name (119 ∷ (ds ++ 47 ∷ l ∷ [])) ≡ true
-      both l p q = and_from (is_class_name (119 ∷ (ds ++ 47 ∷ l ∷ []))) (is_text (119 ∷ (ds ++ 47 ∷ l ∷ []))) (digits_name ds (47 ∷ l ∷ []) digits p) (digits_text ds (47 ∷ l ∷ []) digits q)
+      both : (l : ℕ) → is_rest_of_name false (47 ∷ l ∷ []) ≡ true → is_modified_utf8 (47 ∷ l ∷ []) ≡ true → is_valid_name (119 ∷ (ds ++ 47 ∷ l ∷ [])) ≡ true
+      both l p q = and_from (spells_class_name (119 ∷ (ds ++ 47 ∷ l ∷ []))) (is_modified_utf8 (119 ∷ (ds ++ 47 ∷ l ∷ []))) (digits_name ds (47 ∷ l ∷ []) digits p) (digits_text ds (47 ∷ l ∷ []) digits q)
 
-  pub free_name : (l : ℕ) → is_letter l ≡ true → is_name (letter w l) ≡ true
-  free_name l h = subst (λ z. is_name (letter z l) ≡ true) (sym f.is) (as_name l h)
+  pub free_name : (l : ℕ) → is_letter l ≡ true → is_valid_name (letter w l) ≡ true
+  free_name l h = subst (λ z. is_valid_name (letter z l) ≡ true) (sym f.is) (as_name l h)
 
   free_utf8 : (l : ℕ) → is_letter l ≡ true → is_utf8 (letter w l) ≡ true
   free_utf8 l h = subst (λ z. is_utf8 (letter z l) ≡ true) (sym f.is) (each_letter (λ l. is_utf8 (119 ∷ (ds ++ 47 ∷ l ∷ [])) ≡ true) (at 74 (lit< tt)) (at 85 (lit< tt)) (at 89 (lit< tt)) (at 90 (lit< tt)) l h)
@@ -137,16 +137,16 @@ module _ (names : List Bytes) (w : Bytes) (f : IsFree names w) where
   abbrev Uses : ClassFacts → Bool
   Uses c = list_any (λ x. starts_with nat_eq x (in_package w [])) (mentions c)
 
-  uses_name : (c : ClassFacts) (x rest : Bytes) → x ≡ in_package w [] ++ rest → is_among (mentions c) x ≡ true → Uses c ≡ true
+  uses_name : (c : ClassFacts) (x rest : Bytes) → x ≡ in_package w [] ++ rest → is_name_among (mentions c) x ≡ true → Uses c ≡ true
   uses_name c x rest e h = go (mentions c) h
     where
-      go : (xs : List Bytes) → is_among xs x ≡ true → list_any (λ x. starts_with nat_eq x (in_package w [])) xs ≡ true
+      go : (xs : List Bytes) → is_name_among xs x ≡ true → list_any (λ x. starts_with nat_eq x (in_package w [])) xs ≡ true
       go [] q = absurd (let z : false ≡ true = q in cc)
-      go (y ∷ ys) q = by (or_cases (same y x) (is_among ys x) q) (go ys)
+      go (y ∷ ys) q = by (or_cases (same y x) (is_name_among ys x) q) (go ys)
         where
-          by : (same y x ≡ true) ⊎ (is_among ys x ≡ true) → (is_among ys x ≡ true → list_any (λ x. starts_with nat_eq x (in_package w [])) ys ≡ true) → (starts_with nat_eq y (in_package w []) || list_any (λ x. starts_with nat_eq x (in_package w [])) ys) ≡ true
-          by (inl p) r = or_first (starts_with nat_eq y (in_package w [])) (list_any (λ x. starts_with nat_eq x (in_package w [])) ys) (begins_again w y rest (same_is y x p ∙ e))
-          by (inr p) r = or_true (starts_with nat_eq y (in_package w [])) (list_any (λ x. starts_with nat_eq x (in_package w [])) ys) (r p)
+          by : (same y x ≡ true) ⊎ (is_name_among ys x ≡ true) → (is_name_among ys x ≡ true → list_any (λ x. starts_with nat_eq x (in_package w [])) ys ≡ true) → (starts_with nat_eq y (in_package w []) || list_any (λ x. starts_with nat_eq x (in_package w [])) ys) ≡ true
+          by (inl p) r = or_left (starts_with nat_eq y (in_package w [])) (list_any (λ x. starts_with nat_eq x (in_package w [])) ys) (begins_again w y rest (same_is y x p ∙ e))
+          by (inr p) r = or_right (starts_with nat_eq y (in_package w [])) (list_any (λ x. starts_with nat_eq x (in_package w [])) ys) (r p)
 
   -- a side whose classes make no use of it
   module _ (W : World) (bare : W.clients ≡ []) (none : list_any Uses (classes W) ≡ false) where
@@ -155,11 +155,11 @@ module _ (names : List Bytes) (w : Bytes) (f : IsFree names w) where
       where
         go : (cs : List ClassFacts) → list_any Uses cs ≡ false → list_any test cs ≡ false
         go [] q = refl
-        go (c ∷ cs) q = by (test c) refl (go cs (or_right (Uses c) (list_any Uses cs) q))
+        go (c ∷ cs) q = by (test c) refl (go cs (neither_last (Uses c) (list_any Uses cs) q))
           where
             by : (b : Bool) → test c ≡ b → list_any test cs ≡ false → (test c || list_any test cs) ≡ false
             by false e r = rw (e, r) refl
-            by true e r = absurd (both_ways (Uses c) (or_left (Uses c) (list_any Uses cs) q) (h c e))
+            by true e r = absurd (both_ways (Uses c) (neither_first (Uses c) (list_any Uses cs) q) (h c e))
 
     in_it : (l : ℕ) → letter w l ≡ in_package w [] ++ l ∷ []
     in_it l = go w
@@ -168,39 +168,36 @@ module _ (names : List Bytes) (w : Bytes) (f : IsFree names w) where
         go [] = refl
         go (x ∷ xs) = ap (λ ys. x ∷ ys) (go xs)
 
-    among_later : (c : ClassFacts) (xs : List Bytes) (x : Bytes) → is_among xs x ≡ true → (ys : List Bytes) → ys ≡ c.name ∷ xs → is_among ys x ≡ true
-    among_later c xs x h ys e = ap (λ zs. is_among zs x) e ∙ or_true (same c.name x) (is_among xs x) h
-
-    absent : (l : ℕ) → (o : Option ClassFacts) → find W (letter w l) ≡ o → is_some o ≡ false
-    unfolding find
+    absent : (l : ℕ) → (o : Option ClassFacts) → find_class W (letter w l) ≡ o → is_some o ≡ false
+    unfolding find_class
     absent l None e = refl
     absent l (Some c) e = absurd (both_ways (list_any Uses (classes W)) none (any_found Uses (classes W) (letter w l) c e
-        (uses_name c (letter w l) (l ∷ []) (in_it l) (or_first (same c.name (letter w l)) (is_among (supers c ++ permitted c.permits) (letter w l)) (subst (λ z. same z (letter w l) ≡ true) (sym (find-name W (letter w l) c e)) (same_itself (letter w l)))))))
+        (uses_name c (letter w l) (l ∷ []) (in_it l) (or_left (same c.name (letter w l)) (is_name_among (supers c ++ permitted c.permits) (letter w l)) (subst (λ z. same z (letter w l) ≡ true) (sym (find-name W (letter w l) c e)) (same_itself (letter w l)))))))
 
-    not_super : (l : ℕ) → names_super W (letter w l) ≡ false
-    not_super l = fewer (λ c. is_among (supers c) (letter w l)) (λ c h. uses_name c (letter w l) (l ∷ []) (in_it l)
-        (or_true (same c.name (letter w l)) (is_among (supers c ++ permitted c.permits) (letter w l)) (list_any-append (λ y. same y (letter w l)) (supers c) (permitted c.permits) ∙ or_first (is_among (supers c) (letter w l)) (is_among (permitted c.permits) (letter w l)) h)))
+    not_super : (l : ℕ) → is_named_above W (letter w l) ≡ false
+    not_super l = fewer (λ c. is_name_among (supers c) (letter w l)) (λ c h. uses_name c (letter w l) (l ∷ []) (in_it l)
+        (or_right (same c.name (letter w l)) (is_name_among (supers c ++ permitted c.permits) (letter w l)) (list_any-append (λ y. same y (letter w l)) (supers c) (permitted c.permits) ∙ or_left (is_name_among (supers c) (letter w l)) (is_name_among (permitted c.permits) (letter w l)) h)))
 
-    pub not_permitted : (l : ℕ) (x : Bytes) (c : ClassFacts) → find W x ≡ Some c → is_among (permitted c.permits) (letter w l) ≡ false
-    unfolding find
-    not_permitted l x c e = go (is_among (permitted c.permits) (letter w l)) refl
+    pub not_permitted : (l : ℕ) (x : Bytes) (c : ClassFacts) → find_class W x ≡ Some c → is_name_among (permitted c.permits) (letter w l) ≡ false
+    unfolding find_class
+    not_permitted l x c e = go (is_name_among (permitted c.permits) (letter w l)) refl
       where
-        go : (b : Bool) → is_among (permitted c.permits) (letter w l) ≡ b → b ≡ false
+        go : (b : Bool) → is_name_among (permitted c.permits) (letter w l) ≡ b → b ≡ false
         go false p = refl
         go true p = absurd (both_ways (list_any Uses (classes W)) none (any_found Uses (classes W) x c e (uses_name c (letter w l) (l ∷ []) (in_it l)
-            (or_true (same c.name (letter w l)) (is_among (supers c ++ permitted c.permits) (letter w l)) (list_any-append (λ y. same y (letter w l)) (supers c) (permitted c.permits) ∙ or_true (is_among (supers c) (letter w l)) (is_among (permitted c.permits) (letter w l)) p)))))
+            (or_right (same c.name (letter w l)) (is_name_among (supers c ++ permitted c.permits) (letter w l)) (list_any-append (λ y. same y (letter w l)) (supers c) (permitted c.permits) ∙ or_right (is_name_among (supers c) (letter w l)) (is_name_among (permitted c.permits) (letter w l)) p)))))
 
     no_package : (l : ℕ) → (l == 47) ≡ false → has_package W (letter w l) ≡ false
-    no_package l n = fewer (λ c. same_package c.name (letter w l)) (λ c h. at c (same_is (package_of c.name) (package_of (letter w l)) h))
+    no_package l n = fewer (λ c. in_same_package c.name (letter w l)) (λ c h. at c (same_is (package_name c.name) (package_name (letter w l)) h))
       where
-        at : (c : ClassFacts) → package_of c.name ≡ package_of (letter w l) → Uses c ≡ true
+        at : (c : ClassFacts) → package_name c.name ≡ package_name (letter w l) → Uses c ≡ true
         at c e =
-            let p : package_of (letter w l) ≡ w = package_at w (l ∷ []) (rw n refl) in
+            let p : package_name (letter w l) ≡ w = package_at w (l ∷ []) (rw n refl) in
             let b = begins_package c.name c.name 119 ds (e ∙ p ∙ f.is) in
-            uses_name c c.name b.0 (b.1 ∙ ap (λ v. in_package v [] ++ b.0) (sym f.is)) (or_first (same c.name c.name) (is_among (supers c ++ permitted c.permits) c.name) (same_itself c.name))
+            uses_name c c.name b.0 (b.1 ∙ ap (λ v. in_package v [] ++ b.0) (sym f.is)) (or_left (same c.name c.name) (is_name_among (supers c ++ permitted c.permits) c.name) (same_itself c.name))
 
-    pub free_allowed : (l : ℕ) → is_letter l ≡ true → is_allowed W (letter w l) ≡ true
-    unfolding is_allowed
+    pub free_allowed : (l : ℕ) → is_letter l ≡ true → is_allowed_name W (letter w l) ≡ true
+    unfolding is_allowed_name
     free_allowed l h =
         let n : (l == 47) ≡ false = each_letter (λ l. (l == 47) ≡ false) refl refl refl refl l h in
-        rw (absent l (find W (letter w l)) refl, not_super l, no_package l n, free_length l, free_utf8 l h) refl
+        rw (absent l (find_class W (letter w l)) refl, not_super l, no_package l n, free_length l, free_utf8 l h) refl

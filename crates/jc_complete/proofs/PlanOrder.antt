@@ -7,19 +7,18 @@ use Rattle.std.specs.declared.cmp.Ordering.{Ordering}
 use Rattle.std.specs.declared.cmp.Ordering.TheVariants.{Less, Equal, Greater}
 use Rattle.std.specs.Ordering.{nat_cmp, is_lt, is_eq, ordering_reverse}
 use Rattle.std.specs.Cmp.Lexicographic.{slice_cmp, nat_list_cmp_total, texts_ties}
-use Rattle.jc_facts.specs.Exact.{Before, NamesRise}
+use Rattle.jc_facts.specs.Exactly.{Before, NamesRise, Rises}
 use Rattle.jc_facts.specs.declared.class_facts.ClassFacts.{ClassFacts}
 use Rattle.jc_facts.specs.declared.client.ClientClass.{ClientClass}
 use Rattle.jc_facts.specs.Names.{Bytes, same}
-use Rattle.jc_facts.specs.World.{World, find, size, class_named, with_clients, is_client}
-use Rattle.jc_facts.specs.Clients.{facts_of, names_differ}
+use Rattle.jc_facts.specs.world.World.{World, find_class, size, class_named, with_clients, is_client}
+use Rattle.jc_facts.specs.client.Clients.{facts_of, differ_by_name}
 use Rattle.jc_facts.specs.ByName.{placed, by_name}
-use Rattle.jc_facts.proofs.Listed.{each_in}
-use Rattle.jc_laws.proofs.Settles.{EachOf, EachOf-map}
-use Rattle.jc_laws.proofs.Worlds.{same_is, same_itself}
-use Rattle.jc_laws.proofs.Clients.{class_named-back}
-use Rattle.jc_laws.proofs.Scope.{class_named-first}
-use Rattle.jc_laws.proofs.Standing.{none_is}
+use Rattle.jc_lemmas.proofs.Listed.{each_in, EachOf, EachOf-map}
+use Rattle.jc_facts.proofs.Same.{same_is, same_itself}
+use Rattle.jc_worlds.proofs.Clients.{class_named-back}
+use Rattle.jc_facts.proofs.World.{class_named-first}
+use Rattle.jc_lemmas.proofs.Options.{none_where}
 
 abbrev pub name_of : ClientClass → Bytes
 name_of c = c.facts.name
@@ -95,26 +94,26 @@ placed_named c (d ∷ ds) h x = go (is_lt (slice_cmp nat_cmp d.facts.name c.fact
     go true r = ap (cond (same d.facts.name x) (Some d.facts)) r ∙ swapped c.facts d.facts x (class_named (facts_of ds) x) p.0
     go false r = refl
 
-differ_parts : (c : ClassFacts) (cs : List ClassFacts) → names_differ (c ∷ cs) ≡ true → (class_named cs c.name ≡ None) × (names_differ cs ≡ true)
-unfolding names_differ
-differ_parts c cs h = let p = and_parts (is_none (class_named cs c.name)) (names_differ cs) h in (none_is (class_named cs c.name) p.0, p.1)
+differ_parts : (c : ClassFacts) (cs : List ClassFacts) → differ_by_name (c ∷ cs) ≡ true → (class_named cs c.name ≡ None) × (differ_by_name cs ≡ true)
+unfolding differ_by_name
+differ_parts c cs h = let p = and_parts (is_none (class_named cs c.name)) (differ_by_name cs) h in (none_where (class_named cs c.name) p.0, p.1)
 
-pub sorted_named : (cs : List ClientClass) → names_differ (facts_of cs) ≡ true → (x : Bytes) → class_named (facts_of (by_name name_of cs)) x ≡ class_named (facts_of cs) x
+pub sorted_named : (cs : List ClientClass) → differ_by_name (facts_of cs) ≡ true → (x : Bytes) → class_named (facts_of (by_name name_of cs)) x ≡ class_named (facts_of cs) x
 unfolding by_name class_named
 sorted_named [] h x = refl
 sorted_named (c ∷ cs) h x =
     let p = differ_parts c.facts (facts_of cs) h in
     placed_named c (by_name name_of cs) (sorted_named cs p.1 c.facts.name ∙ p.0) x ∙ ap (cond (same c.facts.name x) (Some c.facts)) (sorted_named cs p.1 x)
 
-placed_differ : (c : ClientClass) (ds : List ClientClass) → class_named (facts_of ds) c.facts.name ≡ None → names_differ (facts_of ds) ≡ true → names_differ (facts_of (placed name_of c ds)) ≡ true
-unfolding placed names_differ class_named
+placed_differ : (c : ClientClass) (ds : List ClientClass) → class_named (facts_of ds) c.facts.name ≡ None → differ_by_name (facts_of ds) ≡ true → differ_by_name (facts_of (placed name_of c ds)) ≡ true
+unfolding placed differ_by_name class_named
 placed_differ c [] h k = refl
 placed_differ c (d ∷ ds) h k = go (is_lt (slice_cmp nat_cmp d.facts.name c.facts.name)) (placed_differ c ds p.1 q.1)
   where
     p : (same d.facts.name c.facts.name ≡ false) × (class_named (facts_of ds) c.facts.name ≡ None)
     p = class_named-parts d.facts (facts_of ds) c.facts.name h
 
-    q : (class_named (facts_of ds) d.facts.name ≡ None) × (names_differ (facts_of ds) ≡ true)
+    q : (class_named (facts_of ds) d.facts.name ≡ None) × (differ_by_name (facts_of ds) ≡ true)
     q = differ_parts d.facts (facts_of ds) k
 
     back : same c.facts.name d.facts.name ≡ false
@@ -127,11 +126,11 @@ placed_differ c (d ∷ ds) h k = go (is_lt (slice_cmp nat_cmp d.facts.name c.fac
     here : class_named (facts_of (placed name_of c ds)) d.facts.name ≡ None
     here = placed_named c ds p.1 d.facts.name ∙ rw (back, q.0) refl
 
-    go : (b : Bool) → names_differ (facts_of (placed name_of c ds)) ≡ true → names_differ (facts_of (cond b (d ∷ placed name_of c ds) (c ∷ d ∷ ds))) ≡ true
+    go : (b : Bool) → differ_by_name (facts_of (placed name_of c ds)) ≡ true → differ_by_name (facts_of (cond b (d ∷ placed name_of c ds) (c ∷ d ∷ ds))) ≡ true
     go true r = rw (here, r) refl
     go false r = rw h k
 
-pub sorted_differ : (cs : List ClientClass) → names_differ (facts_of cs) ≡ true → names_differ (facts_of (by_name name_of cs)) ≡ true
+pub sorted_differ : (cs : List ClientClass) → differ_by_name (facts_of cs) ≡ true → differ_by_name (facts_of (by_name name_of cs)) ≡ true
 unfolding by_name
 sorted_differ [] h = h
 sorted_differ (c ∷ cs) h =
@@ -160,7 +159,7 @@ before_cases c d h Equal e = (λ q. absurd (cc), λ q. absurd (both_ways (same d
 before_cases c d h Greater e = (λ q. absurd (cc), λ q. nat_list_cmp_total.antisymm c d ∙ ap ordering_reverse e)
 
 placed_rise : (c : ClientClass) (ds : List ClientClass) → class_named (facts_of ds) c.facts.name ≡ None → NamesRise (λ (c : ClientClass). c.facts.name) ds → NamesRise (λ (c : ClientClass). c.facts.name) (placed name_of c ds)
-unfolding placed NamesRise
+unfolding placed Rises
 placed_rise c [] h k = (tt, tt)
 placed_rise c (d ∷ ds) h k = go (is_lt (slice_cmp nat_cmp d.facts.name c.facts.name)) refl (placed_rise c ds p.1 k.1)
   where
@@ -175,8 +174,8 @@ placed_rise c (d ∷ ds) h k = go (is_lt (slice_cmp nat_cmp d.facts.name c.facts
     go false e r = let f = order.1 e in ((f, EachOf-map (λ (z : ClientClass) q. nat_list_cmp_total.trans c.facts.name d.facts.name z.facts.name f q) ds k.0), k)
 
 -- the names rise
-pub sorted_rise : (cs : List ClientClass) → names_differ (facts_of cs) ≡ true → NamesRise (λ (c : ClientClass). c.facts.name) (by_name name_of cs)
-unfolding by_name NamesRise
+pub sorted_rise : (cs : List ClientClass) → differ_by_name (facts_of cs) ≡ true → NamesRise (λ (c : ClientClass). c.facts.name) (by_name name_of cs)
+unfolding by_name Rises
 sorted_rise [] h = tt
 sorted_rise (c ∷ cs) h =
     let p = differ_parts c.facts (facts_of cs) h in
@@ -184,15 +183,15 @@ sorted_rise (c ∷ cs) h =
 
 -- ---- the two worlds
 
-module _ (W : World) (cs : List ClientClass) (differ : names_differ (facts_of cs) ≡ true) where
+module _ (W : World) (cs : List ClientClass) (differ : differ_by_name (facts_of cs) ≡ true) where
   abbrev V : World
   V = with_clients W (facts_of cs)
 
   abbrev S : World
   S = with_clients W (facts_of (by_name name_of cs))
 
-  pub found : (x : Bytes) → find V x ≡ find S x
-  unfolding find
+  pub found : (x : Bytes) → find_class V x ≡ find_class S x
+  unfolding find_class
   found x = go (class_named (W.platform ++ W.release) x) refl
     where
       go : (o : Option ClassFacts) → class_named (W.platform ++ W.release) x ≡ o → class_named (W.platform ++ W.release ++ facts_of cs) x ≡ class_named (W.platform ++ W.release ++ facts_of (by_name name_of cs)) x

@@ -6,19 +6,17 @@ use Rattle.std.specs.List.{list_any, starts_with}
 use Rattle.jc_facts.specs.declared.class_facts.ClassFacts.{ClassFacts}
 use Rattle.jc_facts.specs.declared.class_facts.Member.{Member}
 use Rattle.jc_facts.specs.Names.{Bytes, object_name}
-use Rattle.jc_facts.specs.Flags.{is_public}
+use Rattle.jc_facts.specs.Flags.{public_flag}
 use Rattle.jc_facts.specs.Options.{some_and}
-use Rattle.jc_facts.specs.World.{World, find, side, classes, class_named, own_method}
-use Rattle.jc_facts.specs.Outcome.{init_key}
-use Rattle.jc_facts.specs.Valid.{IsValidClass}
-use Rattle.jc_facts.specs.Mentioned.{mentions, all_mentions, mentioned}
-use Rattle.jc_facts.specs.PlannedNames.{in_package, fresh_package}
+use Rattle.jc_facts.specs.world.World.{World, find_class, side, classes, class_named, own_method_of}
+use Rattle.jc_facts.specs.client.Outcome.{init_key}
+use Rattle.jc_facts.specs.file.Valid.{IsValidClass}
+use Rattle.jc_facts.specs.world.Mentioned.{mentions, all_mentions, mentioned}
+use Rattle.jc_facts.specs.plan.PlannedNames.{in_package, fresh_package}
 use Rattle.jc_complete.specs.Completeness.{CanPlan}
-use Rattle.jc_laws.proofs.Settles.{EachOf, EachOf-append}
-use Rattle.jc_laws.proofs.Above.{or_left}
-use Rattle.jc_laws.proofs.Standing.{or_right}
-use Rattle.jc_laws.proofs.Scope.{class_named-first}
-use Rattle.jc_laws.proofs.Sound.{class_named-each}
+use Rattle.jc_lemmas.proofs.Listed.{EachOf, EachOf-append}
+use Rattle.jc_lemmas.proofs.Bools.{neither_first, neither_last}
+use Rattle.jc_facts.proofs.World.{class_named-first, class_named-each}
 use Rattle.jc_complete.proofs.PlanGround.{Root, Planned, Ready}
 use Rattle.jc_complete.proofs.PlanPackage.{IsFree, first_is_free}
 use Rattle.jc_complete.proofs.PlanNames.{free_name, free_allowed, not_permitted}
@@ -48,8 +46,8 @@ module _ (platform old new : List ClassFacts) (c : CanPlan platform old new) whe
   abbrev root : ClassFacts
   root = c.root.has.root
 
-  init : (m : Member) × (own_method root (init_key (codes "()V")) ≡ Some m) × (is_public m.flags ≡ true)
-  init = found_init (λ m. is_public m.flags) (own_method root (init_key (codes "()V"))) c.root.init
+  init : (m : Member) × (own_method_of root (init_key (codes "()V")) ≡ Some m) × (public_flag m.flags ≡ true)
+  init = found_init (λ m. public_flag m.flags) (own_method_of root (init_key (codes "()V"))) c.root.init
 
   abbrev is_root : Root root
   is_root = record {
@@ -65,15 +63,15 @@ module _ (platform old new : List ClassFacts) (c : CanPlan platform old new) whe
     init_public = init.2;
   }
 
-  root_in : (release : List ClassFacts) → find (side platform release) object_name ≡ Some root
-  unfolding find
+  root_in : (release : List ClassFacts) → find_class (side platform release) object_name ≡ Some root
+  unfolding find_class
   root_in release =
       let a : is_some (class_named platform object_name) ≡ true = rw c.root.has.is_there refl in
       let b = class_named-first platform release object_name a in
       class_named-first (platform ++ release) [] object_name (rw b a) ∙ b ∙ c.root.has.is_there
 
-  valid_in : (release : List ClassFacts) → EachOf IsValidClass release → (x : Bytes) (d : ClassFacts) → find (side platform release) x ≡ Some d → IsValidClass d
-  unfolding find
+  valid_in : (release : List ClassFacts) → EachOf IsValidClass release → (x : Bytes) (d : ClassFacts) → find_class (side platform release) x ≡ Some d → IsValidClass d
+  unfolding find_class
   valid_in release v x d e =
       class_named-each IsValidClass (platform ++ release ++ []) x d (EachOf-append IsValidClass (platform ++ release) [] (EachOf-append IsValidClass platform release (recursion_from_All IsValidClass platform c.platform_valid) v) tt) e
 
@@ -95,6 +93,6 @@ module _ (platform old new : List ClassFacts) (c : CanPlan platform old new) whe
     root = root;
     is_root = is_root;
     name = free_name (mentioned (side platform old) (side platform new)) w free;
-    old = side_ready old (recursion_from_All IsValidClass old c.old_valid) (sym (any_mentions (λ x. starts_with nat_eq x (in_package w [])) (classes O)) ∙ or_left (list_any (λ x. starts_with nat_eq x (in_package w [])) (all_mentions (classes O))) (list_any (λ x. starts_with nat_eq x (in_package w [])) (all_mentions (classes N))) unused);
-    new = side_ready new (recursion_from_All IsValidClass new c.new_valid) (sym (any_mentions (λ x. starts_with nat_eq x (in_package w [])) (classes N)) ∙ or_right (list_any (λ x. starts_with nat_eq x (in_package w [])) (all_mentions (classes O))) (list_any (λ x. starts_with nat_eq x (in_package w [])) (all_mentions (classes N))) unused);
+    old = side_ready old (recursion_from_All IsValidClass old c.old_valid) (sym (any_mentions (λ x. starts_with nat_eq x (in_package w [])) (classes O)) ∙ neither_first (list_any (λ x. starts_with nat_eq x (in_package w [])) (all_mentions (classes O))) (list_any (λ x. starts_with nat_eq x (in_package w [])) (all_mentions (classes N))) unused);
+    new = side_ready new (recursion_from_All IsValidClass new c.new_valid) (sym (any_mentions (λ x. starts_with nat_eq x (in_package w [])) (classes N)) ∙ neither_last (list_any (λ x. starts_with nat_eq x (in_package w [])) (all_mentions (classes O))) (list_any (λ x. starts_with nat_eq x (in_package w [])) (all_mentions (classes N))) unused);
   }

@@ -11,15 +11,15 @@ use Rattle.jc_facts.specs.declared.link_error.LinkError.{LinkError}
 use Rattle.jc_facts.specs.declared.link_error.LinkError.TheVariants.{IncompatibleClassChangeError, VerifyError, NoSuchMethodError}
 use Rattle.jc_facts.specs.Names.{Bytes, object_name}
 use Rattle.jc_facts.specs.Options.{and_then}
-use Rattle.jc_facts.specs.World.{World, classes}
-use Rattle.jc_facts.specs.Hierarchy.{in_chain}
-use Rattle.jc_facts.specs.Lookup.{object_method}
-use Rattle.jc_facts.specs.Assignment.{is_interface_of}
-use Rattle.jc_facts.specs.Words.{is_usable, is_kept, is_steady, became_class, is_closed, is_base_class, is_base_interface, is_method_key, finals, inherits}
-use Rattle.jc_facts.specs.Seats.{field_acts, method_acts, closed_act, first_seat, least}
-use Rattle.jc_facts.specs.Findings.{Subject, report, report_where, gone_error, new_broken, init_broken, act_finding, first_act, finds_overridable, rule_1, rule_2, rule_3, rule_4, init_finding, rule_6, rule_7, rule_8, rule_9, finding_by, finding_at, Stands, subject_of}
-use Rattle.jc_laws.proofs.FieldActs.{or_else-cases}
-use Rattle.jc_laws.proofs.OpenActs.{least-passes}
+use Rattle.jc_facts.specs.world.World.{World, classes}
+use Rattle.jc_facts.specs.world.Hierarchy.{in_chain}
+use Rattle.jc_facts.specs.world.Lookup.{public_method_of_object}
+use Rattle.jc_facts.specs.world.Assignment.{is_interface_of}
+use Rattle.jc_facts.specs.rule.Bases.{is_class_usable, is_kept, is_steady, became_class, is_class_closed, is_base_class, is_base_interface, is_key_of_method, is_final_in_chain, inherits}
+use Rattle.jc_facts.specs.rule.OpenActs.{field_acts, method_acts, closed_act, first_seat, least}
+use Rattle.jc_facts.specs.rule.Findings.{Subject, report, report_where, gone_error, new_broken, init_broken, act_finding, first_act, finds_overridable, class_gone, class_closed, interface_became_class, superclass_lost, constructor_closed, method_made_final, field_closed, method_closed, interface_method_lost, finding_by, finding_at, Stands, subject_of}
+use Rattle.jc_facts.proofs.Options.{or_else-cases}
+use Rattle.jc_sound.proofs.OpenActs.{least-passes}
 
 -- a finding of these parts
 abbrev pub made : ℕ → Bytes → Option Key → Option Bytes → Act → Option Bytes → LinkError → Finding
@@ -47,16 +47,16 @@ module _ (O N : World) (f : Finding) where
   abbrev By : ℕ → Option Key → Option Bytes → Type 0
   By n k t = finding_by O N (on n x k t) k t ≡ Some f
 
-  pub record Rule1 : Type 0 where
-    pub stands : (is_usable O x && not (is_usable N x)) ≡ true
+  pub record ClassGone : Type 0 where
+    pub stands : (is_class_usable O x && not (is_class_usable N x)) ≡ true
     pub is : made 1 x None None act.ClassRef None (gone_error N x) ≡ f
 
-  pub by_rule_1 : f.rule ≡ 1 → Stands O N f → Rule1
-  unfolding rule_1
-  by_rule_1 e h = go f.key f.target (of_rule O N 1 f e h)
+  pub by_class_gone : f.rule ≡ 1 → Stands O N f → ClassGone
+  unfolding class_gone
+  by_class_gone e h = go f.key f.target (of_rule O N 1 f e h)
     where
-      go : (k : Option Key) (t : Option Bytes) → By 1 k t → Rule1
-      go None None q = let w = reported (is_usable O x && not (is_usable N x)) 1 x None None act.ClassRef (gone_error N x) f q in record { stands = w.0; is = w.1 }
+      go : (k : Option Key) (t : Option Bytes) → By 1 k t → ClassGone
+      go None None q = let w = reported (is_class_usable O x && not (is_class_usable N x)) 1 x None None act.ClassRef (gone_error N x) f q in record { stands = w.0; is = w.1 }
       go None (Some t) q = absurd (let z : None ≡ Some f = q in cc)
       go (Some k) None q = absurd (let z : None ≡ Some f = q in cc)
       go (Some k) (Some t) q = absurd (let z : None ≡ Some f = q in cc)
@@ -64,44 +64,44 @@ module _ (O N : World) (f : Finding) where
   abbrev kind : Act
   kind = cond (is_interface_of O x) act.Implement act.Extend
 
-  pub record Rule2 : Type 0 where
-    pub stands : is_closed O N x ≡ true
+  pub record ClassClosed : Type 0 where
+    pub stands : is_class_closed O N x ≡ true
     pub is : made 2 x None None kind None IncompatibleClassChangeError ≡ f
 
-  pub by_rule_2 : f.rule ≡ 2 → Stands O N f → Rule2
-  unfolding rule_2
-  by_rule_2 e h = go f.key f.target (of_rule O N 2 f e h)
+  pub by_class_closed : f.rule ≡ 2 → Stands O N f → ClassClosed
+  unfolding class_closed
+  by_class_closed e h = go f.key f.target (of_rule O N 2 f e h)
     where
-      go : (k : Option Key) (t : Option Bytes) → By 2 k t → Rule2
-      go None None q = let w = reported (is_closed O N x) 2 x None None kind IncompatibleClassChangeError f q in record { stands = w.0; is = w.1 }
+      go : (k : Option Key) (t : Option Bytes) → By 2 k t → ClassClosed
+      go None None q = let w = reported (is_class_closed O N x) 2 x None None kind IncompatibleClassChangeError f q in record { stands = w.0; is = w.1 }
       go None (Some t) q = absurd (let z : None ≡ Some f = q in cc)
       go (Some k) None q = absurd (let z : None ≡ Some f = q in cc)
       go (Some k) (Some t) q = absurd (let z : None ≡ Some f = q in cc)
 
-  pub record Rule3 : Type 0 where
+  pub record InterfaceBecameClass : Type 0 where
     pub stands : became_class O N x ≡ true
     pub is : made 3 x None None act.Assignment None VerifyError ≡ f
 
-  pub by_rule_3 : f.rule ≡ 3 → Stands O N f → Rule3
-  unfolding rule_3
-  by_rule_3 e h = go f.key f.target (of_rule O N 3 f e h)
+  pub by_interface_became_class : f.rule ≡ 3 → Stands O N f → InterfaceBecameClass
+  unfolding interface_became_class
+  by_interface_became_class e h = go f.key f.target (of_rule O N 3 f e h)
     where
-      go : (k : Option Key) (t : Option Bytes) → By 3 k t → Rule3
+      go : (k : Option Key) (t : Option Bytes) → By 3 k t → InterfaceBecameClass
       go None None q = let w = reported (became_class O N x) 3 x None None act.Assignment VerifyError f q in record { stands = w.0; is = w.1 }
       go None (Some t) q = absurd (let z : None ≡ Some f = q in cc)
       go (Some k) None q = absurd (let z : None ≡ Some f = q in cc)
       go (Some k) (Some t) q = absurd (let z : None ≡ Some f = q in cc)
 
-  pub record Rule4 : Type 0 where
+  pub record SuperclassLost : Type 0 where
     pub target : Bytes
     pub stands : (is_kept O N x && is_kept O N target && in_chain O x target && not (in_chain N x target) && not (is_interface_of N target)) ≡ true
     pub is : made 4 x None (Some target) act.Assignment None VerifyError ≡ f
 
-  pub by_rule_4 : f.rule ≡ 4 → Stands O N f → Rule4
-  unfolding rule_4
-  by_rule_4 e h = go f.key f.target (of_rule O N 4 f e h)
+  pub by_superclass_lost : f.rule ≡ 4 → Stands O N f → SuperclassLost
+  unfolding superclass_lost
+  by_superclass_lost e h = go f.key f.target (of_rule O N 4 f e h)
     where
-      go : (k : Option Key) (t : Option Bytes) → By 4 k t → Rule4
+      go : (k : Option Key) (t : Option Bytes) → By 4 k t → SuperclassLost
       go None None q = absurd (let z : None ≡ Some f = q in cc)
       go None (Some t) q = let w = reported (is_kept O N x && is_kept O N t && in_chain O x t && not (in_chain N x t) && not (is_interface_of N t)) 4 x None (Some t) act.Assignment VerifyError f q in record { target = t; stands = w.0; is = w.1 }
       go (Some k) None q = absurd (let z : None ≡ Some f = q in cc)
@@ -113,37 +113,37 @@ module _ (O N : World) (f : Finding) where
   told n k a s None h = absurd (cc)
   told n k a s (Some e) h = (e, refl, let w : made n x k None a s e ≡ f = cc in w)
 
-  pub data Rule5 : Type 0 where
-    by_new : (k : Key) (e : LinkError) → new_broken O N x k ≡ Some e → made 5 x (Some k) None act.NewObject None e ≡ f → Rule5
-    by_init : (k : Key) (e : LinkError) → init_broken O N x k ≡ Some e → made 5 x (Some k) None act.InitSuper None e ≡ f → Rule5
+  pub data ConstructorClosed : Type 0 where
+    by_new : (k : Key) (e : LinkError) → new_broken O N x k ≡ Some e → made 5 x (Some k) None act.NewObject None e ≡ f → ConstructorClosed
+    by_init : (k : Key) (e : LinkError) → init_broken O N x k ≡ Some e → made 5 x (Some k) None act.InitSuper None e ≡ f → ConstructorClosed
 
-  pub by_rule_5 : f.rule ≡ 5 → Stands O N f → Rule5
-  unfolding init_finding
-  by_rule_5 e h = go f.key f.target (of_rule O N 5 f e h)
+  pub by_constructor_closed : f.rule ≡ 5 → Stands O N f → ConstructorClosed
+  unfolding constructor_closed
+  by_constructor_closed e h = go f.key f.target (of_rule O N 5 f e h)
     where
-      either : (k : Key) → (and_then (report (on 5 x (Some k) None) act.NewObject None) (new_broken O N x k) ≡ Some f) ⊎ (and_then (report (on 5 x (Some k) None) act.InitSuper None) (init_broken O N x k) ≡ Some f) → Rule5
+      either : (k : Key) → (and_then (report (on 5 x (Some k) None) act.NewObject None) (new_broken O N x k) ≡ Some f) ⊎ (and_then (report (on 5 x (Some k) None) act.InitSuper None) (init_broken O N x k) ≡ Some f) → ConstructorClosed
       either k (inl q) = let w = told 5 (Some k) act.NewObject None (new_broken O N x k) q in by_new k w.0 w.1 w.2
       either k (inr q) = let w = told 5 (Some k) act.InitSuper None (init_broken O N x k) q in by_init k w.0 w.1 w.2
 
-      go : (k : Option Key) (t : Option Bytes) → By 5 k t → Rule5
+      go : (k : Option Key) (t : Option Bytes) → By 5 k t → ConstructorClosed
       go None None q = absurd (let z : None ≡ Some f = q in cc)
       go None (Some t) q = absurd (let z : None ≡ Some f = q in cc)
       go (Some k) None q = either k (or_else-cases (and_then (report (on 5 x (Some k) None) act.NewObject None) (new_broken O N x k)) (and_then (report (on 5 x (Some k) None) act.InitSuper None) (init_broken O N x k)) f q)
       go (Some k) (Some t) q = absurd (let z : None ≡ Some f = q in cc)
 
-  pub record Rule6 : Type 0 where
+  pub record MethodMadeFinal : Type 0 where
     pub key : Key
-    pub stands : (is_method_key key && is_base_class O N x && finals N x key && not (finals O x key) && finds_overridable O x key) ≡ true
+    pub stands : (is_key_of_method key && is_base_class O N x && is_final_in_chain N x key && not (is_final_in_chain O x key) && finds_overridable O x key) ≡ true
     pub is : made 6 x (Some key) None act.Override None IncompatibleClassChangeError ≡ f
 
-  pub by_rule_6 : f.rule ≡ 6 → Stands O N f → Rule6
-  unfolding rule_6
-  by_rule_6 e h = go f.key f.target (of_rule O N 6 f e h)
+  pub by_method_made_final : f.rule ≡ 6 → Stands O N f → MethodMadeFinal
+  unfolding method_made_final
+  by_method_made_final e h = go f.key f.target (of_rule O N 6 f e h)
     where
-      go : (k : Option Key) (t : Option Bytes) → By 6 k t → Rule6
+      go : (k : Option Key) (t : Option Bytes) → By 6 k t → MethodMadeFinal
       go None None q = absurd (let z : None ≡ Some f = q in cc)
       go None (Some t) q = absurd (let z : None ≡ Some f = q in cc)
-      go (Some k) None q = let w = reported (is_method_key k && is_base_class O N x && finals N x k && not (finals O x k) && finds_overridable O x k) 6 x (Some k) None act.Override IncompatibleClassChangeError f q in record { key = k; stands = w.0; is = w.1 }
+      go (Some k) None q = let w = reported (is_key_of_method k && is_base_class O N x && is_final_in_chain N x k && not (is_final_in_chain O x k) && finds_overridable O x k) 6 x (Some k) None act.Override IncompatibleClassChangeError f q in record { key = k; stands = w.0; is = w.1 }
       go (Some k) (Some t) q = absurd (let z : None ≡ Some f = q in cc)
 
   -- an act that is closed to a seat now
@@ -185,53 +185,53 @@ module _ (O N : World) (f : Finding) where
   allowed_where true o h = (refl, h)
   allowed_where false o h = absurd (cc)
 
-  pub record Rule7 : Type 0 where
+  pub record FieldClosed : Type 0 where
     pub key : Key
     pub steady : is_steady O N x ≡ true
     pub acts : ClosedAct 7 key field_acts
 
-  pub by_rule_7 : f.rule ≡ 7 → Stands O N f → Rule7
-  unfolding rule_7
-  by_rule_7 e h = go f.key f.target (of_rule O N 7 f e h)
+  pub by_field_closed : f.rule ≡ 7 → Stands O N f → FieldClosed
+  unfolding field_closed
+  by_field_closed e h = go f.key f.target (of_rule O N 7 f e h)
     where
-      go : (k : Option Key) (t : Option Bytes) → By 7 k t → Rule7
+      go : (k : Option Key) (t : Option Bytes) → By 7 k t → FieldClosed
       go None None q = absurd (let z : None ≡ Some f = q in cc)
       go None (Some t) q = absurd (let z : None ≡ Some f = q in cc)
       go (Some k) None q = let w = allowed_where (is_steady O N x) (first_act O N (on 7 x (Some k) None) k field_acts) q in record { key = k; steady = w.0; acts = first_told 7 k field_acts w.1 }
       go (Some k) (Some t) q = absurd (let z : None ≡ Some f = q in cc)
 
-  pub record Rule8 : Type 0 where
+  pub record MethodClosed : Type 0 where
     pub key : Key
-    pub is_key : is_method_key key ≡ true
+    pub is_key : is_key_of_method key ≡ true
     pub steady : is_steady O N x ≡ true
     pub acts : ClosedAct 8 key method_acts
 
-  pub by_rule_8 : f.rule ≡ 8 → Stands O N f → Rule8
-  unfolding rule_8
-  by_rule_8 e h = go f.key f.target (of_rule O N 8 f e h)
+  pub by_method_closed : f.rule ≡ 8 → Stands O N f → MethodClosed
+  unfolding method_closed
+  by_method_closed e h = go f.key f.target (of_rule O N 8 f e h)
     where
-      go : (k : Option Key) (t : Option Bytes) → By 8 k t → Rule8
+      go : (k : Option Key) (t : Option Bytes) → By 8 k t → MethodClosed
       go None None q = absurd (let z : None ≡ Some f = q in cc)
       go None (Some t) q = absurd (let z : None ≡ Some f = q in cc)
       go (Some k) None q =
-          let w = allowed_where (is_method_key k && is_steady O N x) (first_act O N (on 8 x (Some k) None) k method_acts) q in
-          let p = and_parts (is_method_key k) (is_steady O N x) w.0 in
+          let w = allowed_where (is_key_of_method k && is_steady O N x) (first_act O N (on 8 x (Some k) None) k method_acts) q in
+          let p = and_parts (is_key_of_method k) (is_steady O N x) w.0 in
           record { key = k; is_key = p.0; steady = p.1; acts = first_told 8 k method_acts w.1 }
       go (Some k) (Some t) q = absurd (let z : None ≡ Some f = q in cc)
 
-  pub record Rule9 : Type 0 where
+  pub record InterfaceMethodLost : Type 0 where
     pub key : Key
-    pub stands : (is_method_key key && is_base_interface O N x && inherits O x key && not (inherits N x key) && is_none (object_method O key)) ≡ true
+    pub stands : (is_key_of_method key && is_base_interface O N x && inherits O x key && not (inherits N x key) && is_none (public_method_of_object O key)) ≡ true
     pub is : made 9 x (Some key) None act.Inherit None NoSuchMethodError ≡ f
 
-  pub by_rule_9 : f.rule ≡ 9 → Stands O N f → Rule9
-  unfolding rule_9
-  by_rule_9 e h = go f.key f.target (of_rule O N 9 f e h)
+  pub by_interface_method_lost : f.rule ≡ 9 → Stands O N f → InterfaceMethodLost
+  unfolding interface_method_lost
+  by_interface_method_lost e h = go f.key f.target (of_rule O N 9 f e h)
     where
-      go : (k : Option Key) (t : Option Bytes) → By 9 k t → Rule9
+      go : (k : Option Key) (t : Option Bytes) → By 9 k t → InterfaceMethodLost
       go None None q = absurd (let z : None ≡ Some f = q in cc)
       go None (Some t) q = absurd (let z : None ≡ Some f = q in cc)
-      go (Some k) None q = let w = reported (is_method_key k && is_base_interface O N x && inherits O x k && not (inherits N x k) && is_none (object_method O k)) 9 x (Some k) None act.Inherit NoSuchMethodError f q in record { key = k; stands = w.0; is = w.1 }
+      go (Some k) None q = let w = reported (is_key_of_method k && is_base_interface O N x && inherits O x k && not (inherits N x k) && is_none (public_method_of_object O k)) 9 x (Some k) None act.Inherit NoSuchMethodError f q in record { key = k; stands = w.0; is = w.1 }
       go (Some k) (Some t) q = absurd (let z : None ≡ Some f = q in cc)
 
 -- ---- one rule after the other

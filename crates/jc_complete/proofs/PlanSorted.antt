@@ -10,22 +10,22 @@ use Rattle.jc_facts.specs.declared.key.Key.{Key}
 use Rattle.jc_facts.specs.declared.verdict.Collision.{Collision}
 use Rattle.jc_facts.specs.declared.link_error.LinkError.{LinkError}
 use Rattle.jc_facts.specs.Names.{Bytes}
-use Rattle.jc_facts.specs.World.{World, Found, find, size, with_clients, is_client}
-use Rattle.jc_facts.specs.Loading.{load_fault}
-use Rattle.jc_facts.specs.Outcome.{outcome}
-use Rattle.jc_facts.specs.Clients.{IsValidClient, CallsSuper, facts_of, is_allowed, names_differ, is_in_reach}
-use Rattle.jc_facts.specs.Meets.{Meets, ConstantHits}
-use Rattle.jc_facts.specs.Planned.{Plan}
+use Rattle.jc_facts.specs.world.World.{World, DeclaredMember, find_class, size, with_clients, is_client}
+use Rattle.jc_facts.specs.world.Loading.{load_fault}
+use Rattle.jc_facts.specs.client.Outcome.{outcome}
+use Rattle.jc_facts.specs.client.Clients.{IsValidClient, CallsSuper, facts_of, is_allowed_name, differ_by_name, is_in_reach}
+use Rattle.jc_facts.specs.client.Meets.{Meets, ConstantHits}
+use Rattle.jc_facts.specs.plan.Planned.{Plan}
 use Rattle.jc_facts.specs.ByName.{by_name}
 use Rattle.jc_complete.specs.Completeness.{LinksWhole, FailsBy, Shows, MeetsNothing}
-use Rattle.jc_laws.proofs.Settles.{EachOf-map}
+use Rattle.jc_lemmas.proofs.Listed.{EachOf-map}
 use Rattle.jc_complete.proofs.PlanAlike.{fault_same, outcome_same, reach_same, names_same, field_same, method_same, interface_of_same, seat_same, has_same}
 use Rattle.jc_complete.proofs.PlanOrder.{name_of}
 use Rattle.jc_complete.proofs.PlanOrder as order
 
 -- ---- what moves from one world to one with the same classes
 
-module _ (V S : World) (found : (x : Bytes) → find V x ≡ find S x) (count : size V ≡ size S) (clients : (x : Bytes) → is_client V x ≡ is_client S x) where
+module _ (V S : World) (found : (x : Bytes) → find_class V x ≡ find_class S x) (count : size V ≡ size S) (clients : (x : Bytes) → is_client V x ≡ is_client S x) where
   fault_at : (x : Bytes) → load_fault S x ≡ load_fault V x
   fault_at x = ap (λ (g : Bytes → Option LinkError). g x) (sym (fault_same V S found count clients))
 
@@ -48,7 +48,7 @@ module _ (V S : World) (found : (x : Bytes) → find V x ≡ find S x) (count : 
   fails_move c (spot.Item n) e h = (fault_at c.facts.name ∙ h.0, (h.1.0, h.1.1, outcome_at c.facts.name h.1.0 ∙ h.1.2))
 
   module _ (cs ds : List ClientClass) (moves : (c : ClientClass) → Contains cs c → Contains ds c) where
-    hits_move : (y : Bytes) (k : Key) (m : Found) → ConstantHits V cs y k m → ConstantHits S ds y k m
+    hits_move : (y : Bytes) (k : Key) (m : DeclaredMember) → ConstantHits V cs y k m → ConstantHits S ds y k m
     hits_move y k m (inl h) = inl (sym (interface_of_same V S found count clients m.owner) ∙ h)
     hits_move y k m (inr h) = inr (h.0, moves h.0 h.1, h.2, h.3)
 
@@ -89,8 +89,8 @@ shows_in_order O N p e s = record {
   in_scope = record {
     valid = sorted (λ c. IsValidClient c) s.in_scope.valid;
     differ = order.sorted_differ p.clients s.in_scope.differ;
-    allowed_old = sorted (λ c. is_allowed O c.facts.name ≡ true) s.in_scope.allowed_old;
-    allowed_new = sorted (λ c. is_allowed N c.facts.name ≡ true) s.in_scope.allowed_new;
+    allowed_old = sorted (λ c. is_allowed_name O c.facts.name ≡ true) s.in_scope.allowed_old;
+    allowed_new = sorted (λ c. is_allowed_name N c.facts.name ≡ true) s.in_scope.allowed_new;
     calls_super = All-from_recursion (CallsSuper SO) (by_name name_of p.clients) (EachOf-map (calls_move VO SO fo co ko) (by_name name_of p.clients) (order.sorted_each (CallsSuper VO) p.clients (recursion_from_All (CallsSuper VO) p.clients s.in_scope.calls_super)));
   };
   links = All-from_recursion (LinksWhole SO) (by_name name_of p.clients) (EachOf-map (links_move VO SO fo co ko) (by_name name_of p.clients) (order.sorted_each (LinksWhole VO) p.clients (recursion_from_All (LinksWhole VO) p.clients s.links)));
@@ -112,7 +112,7 @@ shows_in_order O N p e s = record {
     SN : World
     SN = with_clients N (facts_of (by_name name_of p.clients))
 
-    fo : (x : Bytes) → find (with_clients O (facts_of p.clients)) x ≡ find (with_clients O (facts_of (by_name name_of p.clients))) x
+    fo : (x : Bytes) → find_class (with_clients O (facts_of p.clients)) x ≡ find_class (with_clients O (facts_of (by_name name_of p.clients))) x
     fo = order.found O p.clients s.in_scope.differ
 
     co : size (with_clients O (facts_of p.clients)) ≡ size (with_clients O (facts_of (by_name name_of p.clients)))
@@ -124,11 +124,11 @@ shows_in_order O N p e s = record {
     sorted : (P : ClientClass → Type 0) → All P p.clients → All P (by_name name_of p.clients)
     sorted P h = All-from_recursion P (by_name name_of p.clients) (order.sorted_each P p.clients (recursion_from_All P p.clients h))
 
-pub meets_nothing_in_order : (O N : World) (p : Plan) → names_differ (facts_of p.clients) ≡ true → MeetsNothing O N p.clients → MeetsNothing O N (by_name name_of p.clients)
+pub meets_nothing_in_order : (O N : World) (p : Plan) → differ_by_name (facts_of p.clients) ≡ true → MeetsNothing O N p.clients → MeetsNothing O N (by_name name_of p.clients)
 meets_nothing_in_order O N p d h c stands m =
     h c stands (meets_move (with_clients O (facts_of (by_name name_of p.clients))) (with_clients O (facts_of p.clients)) (λ x. sym (order.found O p.clients d x)) (sym (order.count O p.clients d)) (λ x. sym (order.clients O p.clients d x))
     (by_name name_of p.clients) p.clients (order.from_sorted p.clients) c m)
 
-pub meets_in_order : (O N : World) (p : Plan) (c : Collision) → names_differ (facts_of p.clients) ≡ true → Meets (with_clients O (facts_of p.clients)) p.clients c → Meets (with_clients O (facts_of (by_name name_of p.clients))) (by_name name_of p.clients) c
+pub meets_in_order : (O N : World) (p : Plan) (c : Collision) → differ_by_name (facts_of p.clients) ≡ true → Meets (with_clients O (facts_of p.clients)) p.clients c → Meets (with_clients O (facts_of (by_name name_of p.clients))) (by_name name_of p.clients) c
 meets_in_order O N p c d h =
     meets_move (with_clients O (facts_of p.clients)) (with_clients O (facts_of (by_name name_of p.clients))) (order.found O p.clients d) (order.count O p.clients d) (order.clients O p.clients d) p.clients (by_name name_of p.clients) (order.to_sorted p.clients) c h

@@ -1,31 +1,31 @@
 -- Rules 1, 3, 4 and, of new objects, 5: the client U shows them.
 use Rattle.std.proofs.Common.{◌≡◌, Bool, true, false, List, [], ◌∷◌, refl, sym, ◌∙◌, ap, subst, Some, None, not, ◌&&◌, ◌||◌}
-use Rattle.std.proofs.lemmas.Bool.{and_parts, and_from, both_ways, not-true}
+use Rattle.std.proofs.lemmas.Bool.{and_parts, and_from, both_ways, not-true, or_left, or_right}
 use Rattle.jc_facts.specs.declared.class_facts.ClassFacts.{ClassFacts}
 use Rattle.jc_facts.specs.declared.client.Item.{Item}
 use Rattle.jc_facts.specs.declared.client.Item.TheVariants as item
 use Rattle.jc_facts.specs.declared.link_error.LinkError.{LinkError}
 use Rattle.jc_facts.specs.declared.link_error.LinkError.TheVariants.{VerifyError}
-use Rattle.jc_facts.specs.Names.{Bytes, same, same_package, object_name}
-use Rattle.jc_facts.specs.Flags.{is_public}
-use Rattle.jc_facts.specs.Types.{is_array}
-use Rattle.jc_facts.specs.World.{World, find, with_clients}
-use Rattle.jc_facts.specs.Hierarchy.{in_chain, names_in}
-use Rattle.jc_facts.specs.Assignment.{is_assignable, assign_class, is_interface_of}
-use Rattle.jc_facts.specs.Loading.{fault_where}
-use Rattle.jc_facts.specs.Outcome.{outcome}
-use Rattle.jc_facts.specs.Clients.{type_in_reach}
-use Rattle.jc_facts.specs.Words.{is_usable, is_kept, became_class}
-use Rattle.jc_facts.specs.Findings.{gone_error}
-use Rattle.jc_facts.specs.Planned.{Plan, names_class, assigns, takes, turns}
+use Rattle.jc_facts.specs.Names.{Bytes, same, in_same_package, object_name}
+use Rattle.jc_facts.specs.Flags.{public_flag}
+use Rattle.jc_facts.specs.world.Types.{is_array_text}
+use Rattle.jc_facts.specs.world.World.{World, find_class, with_clients}
+use Rattle.jc_facts.specs.world.Hierarchy.{in_chain, names_in}
+use Rattle.jc_facts.specs.world.Assignment.{is_assignable, is_class_assignable, is_interface_of}
+use Rattle.jc_facts.specs.world.Loading.{fault_where}
+use Rattle.jc_facts.specs.client.Outcome.{outcome}
+use Rattle.jc_facts.specs.client.Clients.{type_in_reach}
+use Rattle.jc_facts.specs.rule.Bases.{is_class_usable, is_kept, became_class}
+use Rattle.jc_facts.specs.rule.Findings.{gone_error}
+use Rattle.jc_facts.specs.plan.Planned.{Plan, names_class, assigns, takes, turns}
 use Rattle.jc_complete.specs.Completeness.{Shows, MeetsNothing}
-use Rattle.jc_laws.proofs.Worlds.{same_is, find-name}
-use Rattle.jc_laws.proofs.Allowed.{or_first, or_true}
-use Rattle.jc_laws.proofs.Clients.{Fits}
-use Rattle.jc_laws.proofs.Context.{own_chain}
-use Rattle.jc_laws.proofs.Standing.{IsUsable, usable_parts}
-use Rattle.jc_laws.proofs.GoneLaw.{breaks}
-use Rattle.jc_laws.proofs.Ground.{bare_chain, bare_loads}
+use Rattle.jc_facts.proofs.Same.{same_is}
+use Rattle.jc_facts.proofs.World.{find-name}
+use Rattle.jc_worlds.proofs.Clients.{Fits}
+use Rattle.jc_worlds.proofs.Unrolled.{own_chain}
+use Rattle.jc_sound.proofs.Standing.{IsUsable, usable_parts}
+use Rattle.jc_sound.proofs.ClassGoneLaw.{breaks}
+use Rattle.jc_worlds.proofs.Bare.{bare_chain, bare_loads}
 use Rattle.jc_complete.proofs.PlanGround.{Planned, Ready, letter}
 use Rattle.jc_complete.proofs.PlanValid.{IsUse, use_takes, use_turns}
 use Rattle.jc_complete.proofs.PlanLoads.{lib_find, lib_fault, lib_chain}
@@ -37,14 +37,14 @@ abbrev pub ShowsAlone : World → World → Plan → LinkError → Type 0
 ShowsAlone O N p e = Shows O N p e × MeetsNothing O N p.clients
 
 -- of classes of the side the world of clients says the same
-assign_side : (W : World) (cs : List ClassFacts) (f : Fits W cs) (s t : Bytes) → IsUsable W s → IsUsable W t → assign_class (with_clients W cs) s t ≡ assign_class W s t
+assign_side : (W : World) (cs : List ClassFacts) (f : Fits W cs) (s t : Bytes) → IsUsable W s → IsUsable W t → is_class_assignable (with_clients W cs) s t ≡ is_class_assignable W s t
 assign_side W cs f s t u v =
-    let a : find (with_clients W cs) t ≡ find W t = lib_find W cs f t v.class v.is_there ∙ sym v.is_there in
+    let a : find_class (with_clients W cs) t ≡ find_class W t = lib_find W cs f t v.class v.is_there ∙ sym v.is_there in
     rw (a, lib_chain W cs f s u.class u.is_there u.loaded) refl
 
 kept_usable : (O N : World) (x : Bytes) → is_kept O N x ≡ true → IsUsable O x × IsUsable N x
 unfolding is_kept
-kept_usable O N x h = let p = and_parts (is_usable O x) (is_usable N x) h in (usable_parts O x p.0, usable_parts N x p.1)
+kept_usable O N x h = let p = and_parts (is_class_usable O x) (is_class_usable N x) h in (usable_parts O x p.0, usable_parts N x p.1)
 
 -- what rule 4 says: t left the chain of s, and is no interface
 pub record IsCut (O N : World) (s t : Bytes) : Type 0 where
@@ -68,8 +68,8 @@ cut_parts O N s t h =
 
 module _ (O N : World) (w : Bytes) (r : Ready O N w) where
   -- H1
-  pub gone_is_shown : (x : Bytes) → is_usable O x ≡ true → is_usable N x ≡ false → ShowsAlone O N (names_class w x) (gone_error N x)
-  gone_is_shown x was gone = (user.user_shows O N w r d fit items refl ((refl, both.0), tt) 1 (item.Class x) (gone_error N x) refl both.1, user.user_meets_nothing O N w r d fit items refl)
+  pub class_gone_is_shown : (x : Bytes) → is_class_usable O x ≡ true → is_class_usable N x ≡ false → ShowsAlone O N (names_class w x) (gone_error N x)
+  class_gone_is_shown x was gone = (user.user_shows O N w r d fit items refl ((refl, both.0), tt) 1 (item.Class x) (gone_error N x) refl both.1, user.user_meets_nothing O N w r d fit items refl)
     where
       d : Bytes
       d = takes object_name
@@ -87,7 +87,7 @@ module _ (O N : World) (w : Bytes) (r : Ready O N w) where
       both = breaks O N _ (user.fo O N w r d fit items refl) (user.fn O N w r d fit items refl) (user.allowed_n O N w r d fit items refl) (letter w 85) (user.U O N w r d fit items refl).facts (user.named O N w r d fit items refl) x (side_plain r.root w O r.old x u.class u.is_there) was gone
 
   -- U returns an s as a t, both usable
-  assign_is_shown : (s t : Bytes) → IsUsable O s → IsUsable O t → IsUsable N s → IsUsable N t → assign_class O s t ≡ true → assign_class N s t ≡ false → ShowsAlone O N (assigns w s t) VerifyError
+  assign_is_shown : (s t : Bytes) → IsUsable O s → IsUsable O t → IsUsable N s → IsUsable N t → is_class_assignable O s t ≡ true → is_class_assignable N s t ≡ false → ShowsAlone O N (assigns w s t) VerifyError
   unfolding outcome
   assign_is_shown s t us ut ns nt was now = (user.user_shows O N w r d fit items refl ((reach, old), tt) 1 (item.Assign s t) VerifyError refl new, user.user_meets_nothing O N w r d fit items refl)
     where
@@ -109,14 +109,14 @@ module _ (O N : World) (w : Bytes) (r : Ready O N w) where
       fn : Fits N cs
       fn = user.fn O N w r d fit items refl
 
-      ps : is_array s ≡ false
+      ps : is_array_text s ≡ false
       ps = side_plain r.root w O r.old s us.class us.is_there
 
-      pt : is_array t ≡ false
+      pt : is_array_text t ≡ false
       pt = side_plain r.root w O r.old t ut.class ut.is_there
 
-      reach_of : (y : Bytes) → is_array y ≡ false → (u : IsUsable O y) → type_in_reach (with_clients O cs) (letter w 85) y ≡ true
-      reach_of y p u = in_reach_if (with_clients O cs) (letter w 85) y u.class p (lib_find O cs fo y u.class u.is_there) (lib_fault O cs fo y u.class u.is_there ∙ u.loaded) (or_first (is_public u.class.flags) (same_package (letter w 85) u.class.name) u.public)
+      reach_of : (y : Bytes) → is_array_text y ≡ false → (u : IsUsable O y) → type_in_reach (with_clients O cs) (letter w 85) y ≡ true
+      reach_of y p u = in_reach_if (with_clients O cs) (letter w 85) y u.class p (lib_find O cs fo y u.class u.is_there) (lib_fault O cs fo y u.class u.is_there ∙ u.loaded) (or_left (public_flag u.class.flags) (in_same_package (letter w 85) u.class.name) u.public)
 
       reach : (type_in_reach (with_clients O cs) (letter w 85) s && type_in_reach (with_clients O cs) (letter w 85) t) ≡ true
       reach = and_from (type_in_reach (with_clients O cs) (letter w 85) s) (type_in_reach (with_clients O cs) (letter w 85) t) (reach_of s ps us) (reach_of t pt ut)
@@ -140,9 +140,9 @@ module _ (O N : World) (w : Bytes) (r : Ready O N w) where
       go false p = refl
       go true p = absurd (both_ways (in_chain N s t) h.cut (subst (λ z. in_chain N s z ≡ true) (same_is s t p) (own_chain N s h.now.loaded)))
 
-  pub cut_is_shown : (s t : Bytes) → IsCut O N s t → ShowsAlone O N (assigns w s t) VerifyError
-  cut_is_shown s t h =
-      assign_is_shown s t h.was h.target_was h.now h.target_now (or_true (same s t || is_interface_of O t) (in_chain O s t) h.chain)
+  pub superclass_lost_is_shown : (s t : Bytes) → IsCut O N s t → ShowsAlone O N (assigns w s t) VerifyError
+  superclass_lost_is_shown s t h =
+      assign_is_shown s t h.was h.target_was h.now h.target_now (or_right (same s t || is_interface_of O t) (in_chain O s t) h.chain)
       (none_of_three (same s t) (is_interface_of N t) (in_chain N s t) (cut_differs s t h) h.class h.cut)
 
   abbrev pub root_usable : (W : World) → Planned r.root w W → IsUsable W object_name
@@ -159,14 +159,14 @@ module _ (O N : World) (w : Bytes) (r : Ready O N w) where
       go false p q = refl
       go true p q = absurd (both_ways (is_interface_of O object_name) (rw r.old.there r.is_root.class) (subst (λ z. is_interface_of O z ≡ true) (sym (same_is object_name i p)) q))
 
-  pub class_is_shown : (i : Bytes) → became_class O N i ≡ true → ShowsAlone O N (assigns w object_name i) VerifyError
+  pub interface_became_class_is_shown : (i : Bytes) → became_class O N i ≡ true → ShowsAlone O N (assigns w object_name i) VerifyError
   unfolding became_class
-  class_is_shown i h =
+  interface_became_class_is_shown i h =
       let a = and_parts (is_kept O N i && is_interface_of O i) (not (is_interface_of N i)) h in
       let b = and_parts (is_kept O N i) (is_interface_of O i) a.0 in
       let u = kept_usable O N i b.0 in
       let o = class_differs i h in
-      assign_is_shown object_name i (root_usable O r.old) u.0 (root_usable N r.new) u.1 (or_first (same object_name i || is_interface_of O i) (in_chain O object_name i) (or_true (same object_name i) (is_interface_of O i) b.1))
+      assign_is_shown object_name i (root_usable O r.old) u.0 (root_usable N r.new) u.1 (or_left (same object_name i || is_interface_of O i) (in_chain O object_name i) (or_right (same object_name i) (is_interface_of O i) b.1))
       (none_of_three (same object_name i) (is_interface_of N i) (in_chain N object_name i) o (not-true (is_interface_of N i) a.1) (only_root o))
     where
       only_root : same object_name i ≡ false → in_chain N object_name i ≡ false

@@ -20,22 +20,22 @@ use Rattle.jc_facts.specs.declared.link_error.LinkError.TheVariants.{IllegalAcce
 use Rattle.jc_facts.specs.declared.verdict.Collision.{Collision}
 use Rattle.jc_facts.specs.Names.{Bytes, object_name, is_key}
 use Rattle.jc_facts.specs.Options.{or_else}
-use Rattle.jc_facts.specs.World.{World, Found, with_clients, own_method, found_in}
-use Rattle.jc_facts.specs.Hierarchy.{has_superinterface}
-use Rattle.jc_facts.specs.Loading.{load_fault}
-use Rattle.jc_facts.specs.Lookup.{field_found, method_choices, or_choices}
-use Rattle.jc_facts.specs.Assignment.{is_interface_of}
-use Rattle.jc_facts.specs.Outcome.{outcome, Links}
-use Rattle.jc_facts.specs.Valid.{head_test, members_test, nest_test, texts_test}
-use Rattle.jc_facts.specs.Clients.{is_valid_item, IsInScope, IsValidClient, CallsSuper, facts_of, is_allowed, seat, Keeps}
-use Rattle.jc_facts.specs.Meets.{ConstantHits, MeetsConstant, MeetsCapture, MeetsFinal, Meets}
-use Rattle.jc_facts.specs.Collisions.{collision, CollisionStands, constant_stands, capture_stands, final_stands}
-use Rattle.jc_facts.proofs.Listed.{EachOf, each_in, none, cases}
+use Rattle.jc_facts.specs.world.World.{World, DeclaredMember, with_clients, own_method_of, found_in}
+use Rattle.jc_facts.specs.world.Hierarchy.{is_superinterface}
+use Rattle.jc_facts.specs.world.Loading.{load_fault}
+use Rattle.jc_facts.specs.world.Lookup.{field_found, method_choices, or_choices}
+use Rattle.jc_facts.specs.world.Assignment.{is_interface_of}
+use Rattle.jc_facts.specs.client.Outcome.{outcome, Links}
+use Rattle.jc_facts.specs.steps.ValidTests.{head_test, members_test, nest_test, texts_test}
+use Rattle.jc_facts.specs.client.Clients.{is_item_of, IsInScope, IsValidClient, CallsSuper, facts_of, is_allowed_name, seat, Keeps}
+use Rattle.jc_facts.specs.client.Meets.{ConstantHits, MeetsConstant, MeetsCapture, MeetsFinal, Meets}
+use Rattle.jc_facts.specs.rule.Collisions.{made_collision, CollisionStands, constant_added, capture_added, final_added}
+use Rattle.jc_lemmas.proofs.Listed.{EachOf, each_in, none, cases}
 use Rattle.jc_facts.proofs.Tests.{valid_exactly}
 use Rattle.jc_complete.specs.Completeness.{MeetsNothing}
-use Rattle.jc_laws.proofs.Examples.{computes, init, key, member, a_class, plain, public_class, public_interface, object, over, Finds, ascii}
-use Rattle.jc_laws.proofs.WorkedClients.{p_A}
-use Rattle.jc_laws.proofs.FinalsKept.{key-same}
+use Rattle.jc_sound.proofs.Examples.{computes, init, key, member, a_class, plain, public_class, public_interface, object, over, Finds, ascii}
+use Rattle.jc_sound.proofs.WorkedClients.{p_A}
+use Rattle.jc_facts.proofs.KeySets.{key-same}
 use Rattle.jc_complete.proofs.PlanMeets.{meets_nothing_by}
 
 -- ---- the two releases
@@ -67,13 +67,13 @@ new = over (public_class p_A [] (method (codes "run") 2 ∷ method (codes "stop"
     ∷ public_interface p_I [] (field (codes "f") 0x19 ∷ field (codes "g") 0x19 ∷ []) [] ∷ [])
 
 abbrev constant_of : Bytes → Collision
-constant_of name = collision 10 p_I (field_key name) GetField IncompatibleClassChangeError
+constant_of name = made_collision 10 p_I (field_key name) GetField IncompatibleClassChangeError
 
 abbrev capture_of : Bytes → Collision
-capture_of name = collision 11 p_A (method_key name) InvokeVirtual IllegalAccessError
+capture_of name = made_collision 11 p_A (method_key name) InvokeVirtual IllegalAccessError
 
 abbrev final_of : Bytes → Collision
-final_of name = collision 12 p_A (method_key name) Override IncompatibleClassChangeError
+final_of name = made_collision 12 p_A (method_key name) Override IncompatibleClassChangeError
 
 -- two collisions of each kind stand, no other and no finding
 each_kind_stands_twice : Finds old new [] (constant_of (codes "f") ∷ constant_of (codes "g") ∷ capture_of (codes "run") ∷ capture_of (codes "stop") ∷ final_of (codes "end") ∷ final_of (codes "close") ∷ []) []
@@ -141,7 +141,7 @@ clients = E ∷ J ∷ X ∷ Y ∷ Z ∷ []
 abbrev before : World
 before = with_clients old (facts_of clients)
 
-valid : (c : ClientClass) → IsTrue (head_test c.facts && members_test c.facts && nest_test c.facts && texts_test c.facts) → IsTrue (list_all (is_valid_item c.facts) c.items) → IsValidClient c
+valid : (c : ClientClass) → IsTrue (head_test c.facts && members_test c.facts && nest_test c.facts && texts_test c.facts) → IsTrue (list_all (is_item_of c.facts) c.items) → IsValidClient c
 valid c facts items = record { facts = (valid_exactly c.facts).0 facts; items = items }
 
 utf8_E : is_utf8 q_E ≡ true
@@ -164,8 +164,8 @@ unfolding computes
 clients_in_scope = record {
   valid = All-from_recursion IsValidClient clients (valid E refl refl, (valid J refl refl, (valid X refl refl, (valid Y refl refl, (valid Z refl refl, tt)))));
   differ = refl;
-  allowed_old = All-from_recursion (λ c. IsTrue (is_allowed old c.facts.name)) clients (simp utf8_E, (simp utf8_J, (simp utf8_X, (simp utf8_Y, (simp utf8_Z, tt)))));
-  allowed_new = All-from_recursion (λ c. IsTrue (is_allowed new c.facts.name)) clients (simp utf8_E, (simp utf8_J, (simp utf8_X, (simp utf8_Y, (simp utf8_Z, tt)))));
+  allowed_old = All-from_recursion (λ c. IsTrue (is_allowed_name old c.facts.name)) clients (simp utf8_E, (simp utf8_J, (simp utf8_X, (simp utf8_Y, (simp utf8_Z, tt)))));
+  allowed_new = All-from_recursion (λ c. IsTrue (is_allowed_name new c.facts.name)) clients (simp utf8_E, (simp utf8_J, (simp utf8_X, (simp utf8_Y, (simp utf8_Z, tt)))));
   calls_super = All-from_recursion (CallsSuper before) clients (
     inr (refl, (p_A, codes "()V", refl, (0, lit< tt, refl), refl)),
     (
@@ -228,20 +228,20 @@ met_final_breaks = (refl, refl)
 -- ---- and not the other one, of a key that none of them finds or declares
 
 module _ (W : World) (cs : List ClientClass) (x : Bytes) (k : Key) (a : Act) (e : LinkError) where
-  constant_is_not_met : EachOf (λ (y : ClientClass). field_found W y.facts.name k ≡ None) cs → Meets W cs (collision 10 x k a e) → ⊥
+  constant_is_not_met : EachOf (λ (y : ClientClass). field_found W y.facts.name k ≡ None) cs → Meets W cs (made_collision 10 x k a e) → ⊥
   constant_is_not_met h (inl m) = let z : None ≡ Some m.1.4.0 = sym (each_in (λ (y : ClientClass). field_found W y.facts.name k ≡ None) cs m.1.0 h m.1.1) ∙ m.1.4.1 in cc
   constant_is_not_met h (inr (inl m)) = let z : ◌≡◌ {A = ℕ} 10 11 = m.0 in omega arith
   constant_is_not_met h (inr (inr m)) = let z : ◌≡◌ {A = ℕ} 10 12 = m.0 in omega arith
 
-  capture_is_not_met : EachOf (λ (y : ClientClass). method_choices W y.facts.name k ≡ []) cs → Meets W cs (collision 11 x k a e) → ⊥
+  capture_is_not_met : EachOf (λ (y : ClientClass). method_choices W y.facts.name k ≡ []) cs → Meets W cs (made_collision 11 x k a e) → ⊥
   capture_is_not_met h (inl m) = let z : ◌≡◌ {A = ℕ} 11 10 = m.0 in omega arith
   capture_is_not_met h (inr (inl m)) = none m.1.5.0 (subst (λ ms. Contains ms m.1.5.0) (each_in (λ (y : ClientClass). method_choices W y.facts.name k ≡ []) cs m.1.0 h m.1.1) m.1.5.1)
   capture_is_not_met h (inr (inr m)) = let z : ◌≡◌ {A = ℕ} 11 12 = m.0 in omega arith
 
-  final_is_not_met : EachOf (λ (y : ClientClass). own_method y.facts k ≡ None) cs → Meets W cs (collision 12 x k a e) → ⊥
+  final_is_not_met : EachOf (λ (y : ClientClass). own_method_of y.facts k ≡ None) cs → Meets W cs (made_collision 12 x k a e) → ⊥
   final_is_not_met h (inl m) = let z : ◌≡◌ {A = ℕ} 12 10 = m.0 in omega arith
   final_is_not_met h (inr (inl m)) = let z : ◌≡◌ {A = ℕ} 12 11 = m.0 in omega arith
-  final_is_not_met h (inr (inr m)) = let z : None ≡ Some m.1.5.0 = sym (each_in (λ (y : ClientClass). own_method y.facts k ≡ None) cs m.1.0 h m.1.1) ∙ m.1.5.1 in cc
+  final_is_not_met h (inr (inr m)) = let z : None ≡ Some m.1.5.0 = sym (each_in (λ (y : ClientClass). own_method_of y.facts k ≡ None) cs m.1.0 h m.1.1) ∙ m.1.5.1 in cc
 
 other_constant_is_not_met : Meets before clients (constant_of (codes "g")) → ⊥
 unfolding computes
@@ -284,13 +284,13 @@ utf8_K = ascii q_K (lit< tt, (lit< tt, (lit< tt, tt)))
 utf8_P : is_utf8 q_P ≡ true
 utf8_P = ascii q_P (lit< tt, (lit< tt, (lit< tt, tt)))
 
-both_in_scope : (is : List Item) → IsTrue (list_all (is_valid_item (K is).facts) is) → IsInScope old new (both is)
+both_in_scope : (is : List Item) → IsTrue (list_all (is_item_of (K is).facts) is) → IsInScope old new (both is)
 unfolding computes
 both_in_scope is h = record {
   valid = All-from_recursion IsValidClient (both is) (valid (K is) refl h, (valid P refl refl, tt));
   differ = refl;
-  allowed_old = All-from_recursion (λ c. IsTrue (is_allowed old c.facts.name)) (both is) (simp utf8_K, (simp utf8_P, tt));
-  allowed_new = All-from_recursion (λ c. IsTrue (is_allowed new c.facts.name)) (both is) (simp utf8_K, (simp utf8_P, tt));
+  allowed_old = All-from_recursion (λ c. IsTrue (is_allowed_name old c.facts.name)) (both is) (simp utf8_K, (simp utf8_P, tt));
+  allowed_new = All-from_recursion (λ c. IsTrue (is_allowed_name new c.facts.name)) (both is) (simp utf8_K, (simp utf8_P, tt));
   calls_super = All-from_recursion (CallsSuper (with_clients old (facts_of (both is)))) (both is) (inl refl, (inr (refl, (object_name, codes "()V", refl, (0, lit< tt, refl), refl)), tt));
 }
 
@@ -313,7 +313,7 @@ without_put_in_scope = both_in_scope [] refl
 abbrev without_put : World
 without_put = with_clients old (facts_of (both []))
 
-abbrev own_f : Found
+abbrev own_f : DeclaredMember
 own_f = record { owner = q_K; member = field (codes "f") 0x19 }
 
 -- each of them finds the constant of q/K
@@ -340,7 +340,7 @@ without_put_is_not_met (inl m) = go m.1.4.2
     found = let z : Some own_f ≡ Some m.1.4.0 = sym (each_in (λ (y : ClientClass). field_found without_put y.facts.name (field_key (codes "f")) ≡ Some own_f) (both []) m.1.0 finds_own_f m.1.1) ∙ m.1.4.1 in cc
 
     go : ConstantHits without_put (both []) m.1.0.facts.name (field_key (codes "f")) m.1.4.0 → ⊥
-    go (inl h) = both_ways (is_interface_of without_put q_K) (subst (λ (f : Found). IsFalse (is_interface_of without_put f.owner)) (sym found) h) own_f_is_of_an_interface
+    go (inl h) = both_ways (is_interface_of without_put q_K) (subst (λ (f : DeclaredMember). IsFalse (is_interface_of without_put f.owner)) (sym found) h) own_f_is_of_an_interface
     go (inr h) = each_in (λ (c : ClientClass). Contains c.items (item.Access PutStatic m.1.0.facts.name (field_key (codes "f")) h.3.0 h.3.1) → ⊥) (both []) h.0 (no_put m.1.0.facts.name (field_key (codes "f")) h.3.0 h.3.1) h.1 h.3.2
 
 -- ---- a client that meets none
@@ -363,8 +363,8 @@ unfolding computes
 client_in_scope = record {
   valid = All-from_recursion IsValidClient (V ∷ []) (valid V refl refl, tt);
   differ = refl;
-  allowed_old = All-from_recursion (λ c. IsTrue (is_allowed old c.facts.name)) (V ∷ []) (simp utf8_V, tt);
-  allowed_new = All-from_recursion (λ c. IsTrue (is_allowed new c.facts.name)) (V ∷ []) (simp utf8_V, tt);
+  allowed_old = All-from_recursion (λ c. IsTrue (is_allowed_name old c.facts.name)) (V ∷ []) (simp utf8_V, tt);
+  allowed_new = All-from_recursion (λ c. IsTrue (is_allowed_name new c.facts.name)) (V ∷ []) (simp utf8_V, tt);
   calls_super = All-from_recursion (CallsSuper alone) (V ∷ []) (inr (refl, (p_A, codes "()V", refl, (0, lit< tt, refl), refl)), tt);
 }
 
@@ -373,16 +373,16 @@ no_field : (k : Key) → field_found alone q_V k ≡ None
 unfolding computes
 no_field k = refl
 
-no_constant : (i : Bytes) (k : Key) → constant_stands old new i k ≡ true → MeetsConstant alone (V ∷ []) i k → ⊥
+no_constant : (i : Bytes) (k : Key) → constant_added old new i k ≡ true → MeetsConstant alone (V ∷ []) i k → ⊥
 no_constant i k s m = let z : None ≡ Some m.4.0 = sym (no_field k) ∙ ap (λ (y : ClientClass). field_found alone y.facts.name k) (only V m.0 m.1) ∙ m.4.1 in cc
 
 -- what q/V declares itself is of no superinterface
-own_is_not_above : (n : Member) (m : Found) → Contains (record { owner = q_V; member = n } ∷ []) m → has_superinterface alone q_V m.owner ≡ true → ⊥
+own_is_not_above : (n : Member) (m : DeclaredMember) → Contains (record { owner = q_V; member = n } ∷ []) m → is_superinterface alone q_V m.owner ≡ true → ⊥
 unfolding computes
-own_is_not_above n m c h = let z : false ≡ true = subst (λ (f : Found). has_superinterface alone q_V f.owner ≡ true) (sym (only (record { owner = q_V; member = n }) m c)) h in cc
+own_is_not_above n m c h = let z : false ≡ true = subst (λ (f : DeclaredMember). is_superinterface alone q_V f.owner ≡ true) (sym (only (record { owner = q_V; member = n }) m c)) h in cc
 
 -- what q/V finds is of a class, since its only superinterface p/I declares nothing
-found_is_not_above : (k : Key) (m : Found) → Contains (method_choices alone q_V k) m → has_superinterface alone q_V m.owner ≡ true → ⊥
+found_is_not_above : (k : Key) (m : DeclaredMember) → Contains (method_choices alone q_V k) m → is_superinterface alone q_V m.owner ≡ true → ⊥
 unfolding computes
 found_is_not_above k m c h = go (is_key k (init 1)) (is_key k (method (codes "work") 1)) c
   where
@@ -392,27 +392,27 @@ found_is_not_above k m c h = go (is_key k (init 1)) (is_key k (method (codes "wo
     go false true d = own_is_not_above (method (codes "work") 1) m d h
     go false false d = none m d
 
-no_capture : (a : Bytes) (k : Key) → capture_stands old new a k ≡ true → MeetsCapture alone (V ∷ []) a k → ⊥
+no_capture : (a : Bytes) (k : Key) → capture_added old new a k ≡ true → MeetsCapture alone (V ∷ []) a k → ⊥
 no_capture a k s m =
     found_is_not_above k m.5.0 (subst (λ (y : ClientClass). Contains (method_choices alone y.facts.name k) m.5.0) (sym (only V m.0 m.1)) m.5.1)
-    (subst (λ (y : ClientClass). has_superinterface alone y.facts.name m.5.0.owner ≡ true) (sym (only V m.0 m.1)) m.5.2)
+    (subst (λ (y : ClientClass). is_superinterface alone y.facts.name m.5.0.owner ≡ true) (sym (only V m.0 m.1)) m.5.2)
 
 -- of what q/V declares p/A makes nothing final, and an initializer is no method key
-nothing_final : (k : Key) (n : Member) → final_stands old new p_A k ≡ true → own_method V.facts k ≡ Some n → ⊥
+nothing_final : (k : Key) (n : Member) → final_added old new p_A k ≡ true → own_method_of V.facts k ≡ Some n → ⊥
 unfolding computes
 nothing_final k n s e = go (is_key k (init 1)) (is_key k (method (codes "work") 1)) refl refl e
   where
     go : (a b : Bool) → is_key k (init 1) ≡ a → is_key k (method (codes "work") 1) ≡ b → cond a (Some (init 1)) (cond b (Some (method (codes "work") 1)) None) ≡ Some n → ⊥
-    go true b p q r = let z : false ≡ true = subst (λ l. final_stands old new p_A l ≡ true) (sym (key-same k (init 1) p)) s in cc
-    go false true p q r = let z : false ≡ true = subst (λ l. final_stands old new p_A l ≡ true) (sym (key-same k (method (codes "work") 1) q)) s in cc
+    go true b p q r = let z : false ≡ true = subst (λ l. final_added old new p_A l ≡ true) (sym (key-same k (init 1) p)) s in cc
+    go false true p q r = let z : false ≡ true = subst (λ l. final_added old new p_A l ≡ true) (sym (key-same k (method (codes "work") 1) q)) s in cc
     go false false p q r = cc
 
 seat_of_V : seat alone q_V ≡ Some p_A
 unfolding computes
 seat_of_V = refl
 
-no_final : (a : Bytes) (k : Key) → final_stands old new a k ≡ true → MeetsFinal alone (V ∷ []) a k → ⊥
-no_final a k s m = nothing_final k m.5.0 (subst (λ x. final_stands old new x k ≡ true) at_a s) (subst (λ (y : ClientClass). own_method y.facts k ≡ Some m.5.0) (sym (only V m.0 m.1)) m.5.1)
+no_final : (a : Bytes) (k : Key) → final_added old new a k ≡ true → MeetsFinal alone (V ∷ []) a k → ⊥
+no_final a k s m = nothing_final k m.5.0 (subst (λ x. final_added old new x k ≡ true) at_a s) (subst (λ (y : ClientClass). own_method_of y.facts k ≡ Some m.5.0) (sym (only V m.0 m.1)) m.5.1)
   where
     at_a : a ≡ p_A
     at_a = let z : Some a ≡ Some p_A = sym m.4 ∙ ap (λ (y : ClientClass). seat alone y.facts.name) (sym (only V m.0 m.1)) ∙ seat_of_V in cc

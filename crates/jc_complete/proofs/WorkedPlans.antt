@@ -12,14 +12,14 @@ use Rattle.jc_facts.specs.declared.act.Act.TheVariants as act
 use Rattle.jc_facts.specs.declared.link_error.LinkError.TheVariants.{IllegalAccessError, NoSuchMethodError, NoSuchFieldError, NoClassDefFoundError, IncompatibleClassChangeError}
 use Rattle.jc_facts.specs.declared.verdict.Cause.TheVariants as cause
 use Rattle.jc_facts.specs.Names.{Bytes, object_name}
-use Rattle.jc_facts.specs.Collisions.{collision}
-use Rattle.jc_facts.specs.PlannedNames.{first_unused, least_name, constructors}
-use Rattle.jc_facts.specs.Planned.{plan, planned}
+use Rattle.jc_facts.specs.rule.Collisions.{made_collision}
+use Rattle.jc_facts.specs.plan.PlannedNames.{first_unused, least_name, constructors}
+use Rattle.jc_facts.specs.plan.Planned.{plan, planned}
 use Rattle.jc_facts.specs.ByName.{placed, by_name}
-use Rattle.jc_laws.proofs.Examples.{computes, init, key, member, a_class, plain, public_class, sealed_interface, over, ascii, object}
-use Rattle.jc_laws.proofs.WorkedClients.{p_A, run, run_key, root_is_valid}
+use Rattle.jc_sound.proofs.Examples.{computes, init, key, member, a_class, plain, public_class, sealed_interface, over, ascii, object}
+use Rattle.jc_sound.proofs.WorkedClients.{p_A, run, run_key, root_is_valid}
 use Rattle.std.proofs.lemmas.List.Elements.{All-from_recursion}
-use Rattle.jc_facts.specs.Valid.{IsValidClass}
+use Rattle.jc_facts.specs.file.Valid.{IsValidClass}
 use Rattle.jc_complete.specs.Completeness.{CanPlan}
 use Rattle.jc_complete.proofs.PlanRules.{made}
 
@@ -34,7 +34,7 @@ abbrev U : Bytes → Bytes → List Item → ClientClass
 U x descriptor is = client (a_class x 0x0021 (Some object_name) [] [] (init 1 ∷ member (codes "use") descriptor 9 ∷ [])) (object_init ∷ is)
 
 -- p/A, and p/A with a private run
-capture_is_planned : planned (over (plain p_A ∷ [])) (over (public_class p_A [] (run 2 ∷ []) ∷ [])) (cause.Collision (collision 11 p_A run_key act.InvokeVirtual IllegalAccessError))
+capture_is_planned : planned (over (plain p_A ∷ [])) (over (public_class p_A [] (run 2 ∷ []) ∷ [])) (cause.Collision (made_collision 11 p_A run_key act.InvokeVirtual IllegalAccessError))
     ≡ client (a_class (codes "w0/J") 0x0601 (Some object_name) [] [] (run 0x0401 ∷ [])) []
     ∷ U (codes "w0/U") (codes "(Lw0/Y;)V") (item.Access act.InvokeVirtual (codes "w0/Y") run_key (Some (codes "w0/Y")) Other ∷ [])
     ∷ client (a_class (codes "w0/Y") 0x0421 (Some p_A) (codes "w0/J" ∷ []) [] (init 1 ∷ [])) (item.Init p_A (codes "()V") ∷ [])

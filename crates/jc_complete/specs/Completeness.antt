@@ -11,30 +11,30 @@ use Rattle.jc_facts.specs.declared.verdict.Cause.TheVariants as cause
 use Rattle.jc_facts.specs.declared.verdict.Spot.{Spot}
 use Rattle.jc_facts.specs.declared.verdict.Spot.TheVariants as spot
 use Rattle.jc_facts.specs.declared.link_error.LinkError.{LinkError}
-use Rattle.jc_facts.specs.Flags.{is_public, is_final}
+use Rattle.jc_facts.specs.Flags.{public_flag, final_flag}
 use Rattle.jc_facts.specs.Options.{some_and}
-use Rattle.jc_facts.specs.World.{World, side, with_clients, own_method}
-use Rattle.jc_facts.specs.Loading.{load_fault}
-use Rattle.jc_facts.specs.Outcome.{outcome, Links, init_key}
-use Rattle.jc_facts.specs.Valid.{IsValidClass}
-use Rattle.jc_facts.specs.Clients.{IsInScope, facts_of, is_in_reach, HasRoot, Keeps}
-use Rattle.jc_facts.specs.Meets.{Meets}
-use Rattle.jc_facts.specs.Findings.{Stands}
-use Rattle.jc_facts.specs.Collisions.{CollisionStands}
-use Rattle.jc_facts.specs.Mentioned.{mentioned}
-use Rattle.jc_facts.specs.PlannedNames.{fresh_package}
-use Rattle.jc_facts.specs.Planned.{Plan, plan, planned, planned_for}
-use Rattle.jc_facts.specs.Exact.{NamesRise}
-use Rattle.jc_facts.specs.Verdict.{IsVerdict, is_incompatible}
+use Rattle.jc_facts.specs.world.World.{World, side, with_clients, own_method_of}
+use Rattle.jc_facts.specs.world.Loading.{load_fault}
+use Rattle.jc_facts.specs.client.Outcome.{outcome, Links, init_key}
+use Rattle.jc_facts.specs.file.Valid.{IsValidClass}
+use Rattle.jc_facts.specs.client.Clients.{IsInScope, facts_of, is_in_reach, HasRoot, Keeps}
+use Rattle.jc_facts.specs.client.Meets.{Meets}
+use Rattle.jc_facts.specs.rule.Findings.{Stands}
+use Rattle.jc_facts.specs.rule.Collisions.{CollisionStands}
+use Rattle.jc_facts.specs.world.Mentioned.{mentioned}
+use Rattle.jc_facts.specs.plan.PlannedNames.{fresh_package}
+use Rattle.jc_facts.specs.plan.Planned.{Plan, plan, planned, planned_for}
+use Rattle.jc_facts.specs.Exactly.{NamesRise}
+use Rattle.jc_facts.specs.rule.Verdict.{IsVerdict, is_incompatible}
 
 -- ---- of what releases it is said
 
 -- clients may extend the platform's java/lang/Object: it isn't final, permits everybody, and has a public initializer without parameters
 pub record HasOpenRoot (platform : List ClassFacts) : Type 0 where
   pub has : HasRoot platform
-  pub not_final : IsFalse (is_final has.root.flags)
+  pub not_final : IsFalse (final_flag has.root.flags)
   pub permits : has.root.permits ≡ None
-  pub init : IsTrue (some_and (λ m. is_public m.flags) (own_method has.root (init_key (codes "()V"))))
+  pub init : IsTrue (some_and (λ m. public_flag m.flags) (own_method_of has.root (init_key (codes "()V"))))
 
 -- valid records, a root that clients may extend, and a number of names of at most 64 digits, so that the package's name is short
 pub record CanPlan (platform old new : List ClassFacts) : Type 0 where

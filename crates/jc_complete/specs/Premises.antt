@@ -1,8 +1,8 @@
 -- The number of names that two sides mention, from their counts.
 use Rattle.std.specs.Prelude.{◌≤◌, ◌<◌, ◌+◌, ◌^◌, List, length, All}
 use Rattle.jc_facts.specs.declared.class_facts.ClassFacts.{ClassFacts}
-use Rattle.jc_facts.specs.World.{side}
-use Rattle.jc_facts.specs.Mentioned.{permitted, mentioned}
+use Rattle.jc_facts.specs.world.World.{side}
+use Rattle.jc_facts.specs.world.Mentioned.{permitted, mentioned}
 
 -- the class names fewer than 2^64 interfaces and permits fewer than 2^64 classes, as every list of the program is shorter
 pub record HasCountedNames (c : ClassFacts) : Type 0 where

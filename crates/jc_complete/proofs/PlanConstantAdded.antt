@@ -1,9 +1,9 @@
 -- Constant: Y extends Z, which has a field of the key, and implements the interface, and the client U, which reads the key of Y, shows it.
 use Rattle.std.proofs.Common.{◌≡◌, true, false, List, [], ◌∷◌, refl, sym, ◌∙◌, ap, subst, Option, Some, None, is_none, is_some, not, ◌&&◌, ◌||◌, inl, codes}
-use Rattle.std.proofs.lemmas.Bool.{and_parts, and_from}
+use Rattle.std.proofs.lemmas.Bool.{and_parts, and_from, or_left, or_right}
 use Rattle.std.proofs.lemmas.List.Elements.{All-from_recursion, Contains-push, Contains-append_left, Contains-append_right}
-use Rattle.jc_desc.specs.Names.{is_class_name}
-use Rattle.jc_desc.specs.Utf8.{is_text}
+use Rattle.jc_desc.specs.Names.{spells_class_name, spells_member_name}
+use Rattle.jc_desc.specs.Utf8.{is_modified_utf8}
 use Rattle.jc_facts.specs.declared.class_facts.ClassFacts.{ClassFacts}
 use Rattle.jc_facts.specs.declared.class_facts.Member.{Member}
 use Rattle.jc_facts.specs.declared.client.ClientClass.{ClientClass}
@@ -12,115 +12,101 @@ use Rattle.jc_facts.specs.declared.client.Item.TheVariants as item
 use Rattle.jc_facts.specs.declared.client.Place.TheVariants.{Other}
 use Rattle.jc_facts.specs.declared.key.Key.{Key}
 use Rattle.jc_facts.specs.declared.link_error.LinkError.TheVariants.{NoSuchFieldError, IllegalAccessError, IncompatibleClassChangeError}
-use Rattle.jc_facts.specs.Names.{Bytes, same, object_name}
-use Rattle.jc_facts.specs.Flags.{is_public, is_interface}
-use Rattle.jc_facts.specs.Types.{is_array}
+use Rattle.jc_facts.specs.Names.{Bytes, same, object_name, is_key}
+use Rattle.jc_facts.specs.Flags.{public_flag, interface_flag}
+use Rattle.jc_facts.specs.world.Types.{is_array_text}
 use Rattle.jc_facts.specs.Options.{or_else, and_then, first_some}
-use Rattle.jc_facts.specs.World.{World, Found, find, class_named, with_clients, found_in}
-use Rattle.jc_facts.specs.Hierarchy.{chain, in_chain}
-use Rattle.jc_facts.specs.Assignment.{is_interface_of, is_assignable}
-use Rattle.jc_facts.specs.Loading.{load_fault, sealed_by, fault_where}
-use Rattle.jc_facts.specs.Lookup.{field_found, field_step}
-use Rattle.jc_facts.specs.Outcome.{outcome, look_up, use_fault, assignment_ok, receiver_ok}
-use Rattle.jc_facts.specs.Valid.{IsValidClass}
-use Rattle.jc_facts.specs.Clients.{type_in_reach, IsInScope, IsValidClient, is_allowed, names_differ}
-use Rattle.jc_facts.specs.Collisions.{constant_stands}
-use Rattle.jc_facts.specs.Meets.{MeetsConstant}
-use Rattle.jc_facts.specs.Words.{is_base_interface}
-use Rattle.jc_facts.specs.PlannedNames.{own_name}
-use Rattle.jc_facts.specs.Planned.{user, takes, use_method, act_item}
+use Rattle.jc_facts.specs.world.World.{World, DeclaredMember, find_class, class_named, with_clients, found_in, own_field_of, is_client}
+use Rattle.jc_facts.specs.world.Hierarchy.{chain, in_chain}
+use Rattle.jc_facts.specs.world.Assignment.{is_interface_of, is_assignable}
+use Rattle.jc_facts.specs.world.Loading.{load_fault, sealed_by, fault_where}
+use Rattle.jc_facts.specs.world.Lookup.{field_found, field_step}
+use Rattle.jc_facts.specs.client.Outcome.{outcome, look_up, use_fault, assignment_ok, receiver_ok, found_or}
+use Rattle.jc_facts.specs.file.Valid.{IsValidClass, field_is_valid}
+use Rattle.jc_facts.specs.client.Clients.{type_in_reach, IsInScope, IsValidClient, is_allowed_name, differ_by_name}
+use Rattle.jc_facts.specs.rule.Collisions.{constant_added}
+use Rattle.jc_facts.specs.client.Meets.{MeetsConstant}
+use Rattle.jc_facts.specs.rule.Bases.{is_base_interface}
+use Rattle.jc_facts.specs.plan.PlannedNames.{own_name}
+use Rattle.jc_facts.specs.plan.Planned.{user, takes, use_method, act_item, a_class, init_method, field_class, reads_field}
 use Rattle.jc_complete.specs.Completeness.{LinksWhole, Shows}
-use Rattle.jc_laws.proofs.Worlds.{same_itself, same_is}
-use Rattle.jc_laws.proofs.Allowed.{or_first, or_true}
-use Rattle.jc_laws.proofs.Clients.{Fits, find-client}
-use Rattle.jc_laws.proofs.ClientLoads.{interface_taken}
-use Rattle.jc_laws.proofs.Loaded.{unroll}
-use Rattle.jc_laws.proofs.Locality.{field_step-local}
-use Rattle.jc_laws.proofs.Roots.{bare_field}
-use Rattle.jc_laws.proofs.Scope.{fits}
-use Rattle.jc_laws.proofs.Sides.{field_found-side}
-use Rattle.jc_laws.proofs.Reach.{declared_library}
-use Rattle.jc_laws.proofs.Standing.{IsUsable}
-use Rattle.jc_laws.proofs.ValidFacts.{no_array}
+use Rattle.jc_facts.proofs.Same.{same_itself, same_is}
+use Rattle.jc_worlds.proofs.Clients.{Fits, find-client}
+use Rattle.jc_sound.proofs.ClientLoads.{interface_taken, superclass_taken}
+use Rattle.jc_worlds.proofs.Loaded.{unroll}
+use Rattle.jc_worlds.proofs.Locality.{field_step-local}
+use Rattle.jc_worlds.proofs.Bare.{bare_field}
+use Rattle.jc_sound.proofs.Scope.{fits, overrides_none}
+use Rattle.jc_worlds.proofs.Sides.{field_found-side}
+use Rattle.jc_sound.proofs.Reach.{declared_library}
+use Rattle.jc_sound.proofs.Standing.{IsUsable}
+use Rattle.jc_worlds.proofs.ValidFacts.{no_array}
 use Rattle.jc_complete.proofs.PlanGround.{Planned, Ready, letter}
-use Rattle.jc_complete.proofs.PlanValid.{use_takes, plain_valid}
+use Rattle.jc_complete.proofs.PlanValid.{use_takes, plain_valid, with_init}
 use Rattle.jc_complete.proofs.PlanLoads.{lib_find, lib_fault, client_loads}
-use Rattle.jc_complete.proofs.PlanItems.{links_whole, scope_from, calls_above, below_root_loads, root_init_links, public_member}
+use Rattle.jc_complete.proofs.PlanItems.{links_whole, scope_from, calls_above, below_root_loads, root_init_links, init_says}
+use Rattle.jc_worlds.proofs.Choices.{is_member_accessible-public, passes_protected_check-public}
 use Rattle.jc_complete.proofs.PlanSeats.{side_name, assign_is, in_reach_if}
 use Rattle.jc_complete.proofs.PlanUser.{not_root, user_valid, user_overrides}
-use Rattle.jc_complete.proofs.PlanInits.{passes}
-use Rattle.jc_complete.proofs.PlanBase.{OwnName, own_is, own_other}
+use Rattle.jc_complete.proofs.PlanBase.{OwnName, own_is, own_other, letters_apart}
 use Rattle.jc_complete.proofs.PlanActs.{access_says}
-use Rattle.jc_facts.specs.Names.{is_key}
-use Rattle.jc_facts.specs.Planned.{a_class, init_method}
-use Rattle.jc_laws.proofs.Scope.{overrides_none}
-use Rattle.jc_laws.proofs.ClientLoads.{superclass_taken}
-use Rattle.jc_complete.proofs.PlanItems.{init_says}
-use Rattle.jc_complete.proofs.PlanValid.{with_init}
-use Rattle.jc_complete.proofs.PlanBase.{letters_apart}
-use Rattle.jc_complete.proofs.PlanInherits.{same_back}
-use Rattle.jc_desc.specs.Names.{is_member_name}
-use Rattle.jc_laws.proofs.Inherited.{found_all, found_passes}
+use Rattle.jc_complete.proofs.PlanInterfaceMethodLost.{same_back, IsBaseInterface}
+use Rattle.jc_worlds.proofs.Inherited.{found_all, found_passes}
 use Rattle.jc_facts.specs.declared.act.Act.TheVariants.{GetField}
-use Rattle.jc_facts.specs.World.{own_field, is_client}
-use Rattle.jc_facts.specs.Outcome.{found_or}
-use Rattle.jc_facts.specs.Rules.{is_field_descriptor, are_field_flags}
-use Rattle.jc_facts.specs.Valid.{is_valid_field}
-use Rattle.jc_facts.specs.Planned.{field_class, reads_field}
-use Rattle.jc_laws.proofs.FieldActs.{field_found-declared}
-use Rattle.jc_laws.proofs.FieldUse.{IsConstant, interface_fields}
-use Rattle.jc_laws.proofs.Named.{may_name-own}
-use Rattle.jc_complete.proofs.PlanInherits.{IsBaseInterface}
+use Rattle.jc_facts.specs.file.Rules.{field_descriptor_fits, field_flags_fit}
+use Rattle.jc_worlds.proofs.FieldActs.{field_found-declared}
+use Rattle.jc_sound.proofs.FieldUse.{IsConstant, interface_fields}
+use Rattle.jc_sound.proofs.Named.{may_name-own}
 
 -- ---- a field of the key
 
 -- what a valid class declares as a field, another may
 record IsFieldText (k : Key) : Type 0 where
-  name : is_member_name k.name false ≡ true
-  name_text : is_text k.name ≡ true
-  descriptor : is_field_descriptor k.descriptor ≡ true
-  descriptor_text : is_text k.descriptor ≡ true
+  name : spells_member_name k.name false ≡ true
+  name_text : is_modified_utf8 k.name ≡ true
+  descriptor : field_descriptor_fits k.descriptor ≡ true
+  descriptor_text : is_modified_utf8 k.descriptor ≡ true
 
-field_text-is : (c : ClassFacts) (k : Key) (m : Member) → IsValidClass c → own_field c k ≡ Some m → IsFieldText k
+field_text-is : (c : ClassFacts) (k : Key) (m : Member) → IsValidClass c → own_field_of c k ≡ Some m → IsFieldText k
 field_text-is c k m v o =
-    let h = found_all (is_key k) (is_valid_field c) c.fields m o v.fields in
+    let h = found_all (is_key k) (field_is_valid c) c.fields m o v.fields in
     let e = found_passes (is_key k) c.fields m o in
     let p = and_parts (same m.name k.name) (same m.descriptor k.descriptor) e in
     let n : m.name ≡ k.name = same_is m.name k.name p.0 in
     let d : m.descriptor ≡ k.descriptor = same_is m.descriptor k.descriptor p.1 in
-    let h1 = and_parts (is_member_name m.name false && is_text m.name && is_field_descriptor m.descriptor && is_text m.descriptor) (are_field_flags c.flags m.flags) h in
-    let h2 = and_parts (is_member_name m.name false && is_text m.name && is_field_descriptor m.descriptor) (is_text m.descriptor) h1.0 in
-    let h3 = and_parts (is_member_name m.name false && is_text m.name) (is_field_descriptor m.descriptor) h2.0 in
-    let h4 = and_parts (is_member_name m.name false) (is_text m.name) h3.0 in
+    let h1 = and_parts (spells_member_name m.name false && is_modified_utf8 m.name && field_descriptor_fits m.descriptor && is_modified_utf8 m.descriptor) (field_flags_fit c.flags m.flags) h in
+    let h2 = and_parts (spells_member_name m.name false && is_modified_utf8 m.name && field_descriptor_fits m.descriptor) (is_modified_utf8 m.descriptor) h1.0 in
+    let h3 = and_parts (spells_member_name m.name false && is_modified_utf8 m.name) (field_descriptor_fits m.descriptor) h2.0 in
+    let h4 = and_parts (spells_member_name m.name false) (is_modified_utf8 m.name) h3.0 in
     record {
-      name = subst (λ z. is_member_name z false ≡ true) n h4.0;
-      name_text = subst (λ z. is_text z ≡ true) n h4.1;
-      descriptor = subst (λ z. is_field_descriptor z ≡ true) d h3.1;
-      descriptor_text = subst (λ z. is_text z ≡ true) d h2.1;
+      name = subst (λ z. spells_member_name z false ≡ true) n h4.0;
+      name_text = subst (λ z. is_modified_utf8 z ≡ true) n h4.1;
+      descriptor = subst (λ z. field_descriptor_fits z ≡ true) d h3.1;
+      descriptor_text = subst (λ z. is_modified_utf8 z ≡ true) d h2.1;
     }
 
-field_valid : (c : ClassFacts) (k : Key) → is_interface c.flags ≡ false → IsFieldText k → is_valid_field c (record { name = k.name; descriptor = k.descriptor; flags = 0x0001 }) ≡ true
+field_valid : (c : ClassFacts) (k : Key) → interface_flag c.flags ≡ false → IsFieldText k → field_is_valid c (record { name = k.name; descriptor = k.descriptor; flags = 0x0001 }) ≡ true
 field_valid c k i t = rw (t.name, t.name_text, t.descriptor, t.descriptor_text, i) refl
 
 pub record StandsConstant (O N : World) (i : Bytes) (k : Key) : Type 0 where
   pub base : is_base_interface O N i ≡ true
   pub unknown : field_found O i k ≡ None
-  pub field : Found
+  pub field : DeclaredMember
   pub found : field_found N i k ≡ Some field
 
-pub constant_parts : (O N : World) (i : Bytes) (k : Key) → constant_stands O N i k ≡ true → StandsConstant O N i k
-unfolding constant_stands
+pub constant_parts : (O N : World) (i : Bytes) (k : Key) → constant_added O N i k ≡ true → StandsConstant O N i k
+unfolding constant_added
 constant_parts O N i k h =
     let p = and_parts (is_base_interface O N i && is_none (field_found O i k)) (is_some (field_found N i k)) h in
     let q = and_parts (is_base_interface O N i) (is_none (field_found O i k)) p.0 in
     let s = some (field_found N i k) p.1 in
     record { base = q.0; unknown = none_of (field_found O i k) q.1; field = s.0; found = s.1 }
   where
-    none_of : (o : Option Found) → is_none o ≡ true → o ≡ None
+    none_of : (o : Option DeclaredMember) → is_none o ≡ true → o ≡ None
     none_of None e = refl
     none_of (Some m) e = absurd (cc)
 
-    some : (o : Option Found) → is_some o ≡ true → (m : Found) × (o ≡ Some m)
+    some : (o : Option DeclaredMember) → is_some o ≡ true → (m : DeclaredMember) × (o ≡ Some m)
     some None e = absurd (cc)
     some (Some m) e = (m, refl)
 
@@ -187,10 +173,10 @@ module _ (O N : World) (w : Bytes) (r : Ready O N w) (c : Bytes) (b : IsBaseInte
       names = refl;
       differ = refl;
       distinct = refl;
-      field = λ c e. rw (field_valid c k (ap is_interface e) text) refl;
-      method = λ c e m. with_init c (ap is_interface e);
+      field = λ c e. rw (field_valid c k (ap interface_flag e) text) refl;
+      method = λ c e m. with_init c (ap interface_flag e);
     });
-    items = and_from (same object_name z || true) true (or_true (same object_name z) true refl) refl;
+    items = and_from (same object_name z || true) true (or_right (same object_name z) true refl) refl;
   }
 
   valid_Y : IsValidClient Y
@@ -205,24 +191,24 @@ module _ (O N : World) (w : Bytes) (r : Ready O N w) (c : Bytes) (b : IsBaseInte
       differ = refl;
       distinct = refl;
       field = λ c e. refl;
-      method = λ c e m. with_init c (ap is_interface e);
+      method = λ c e m. with_init c (ap interface_flag e);
     });
-    items = and_from (same z y || same z z) true (or_true (same z y) (same z z) (same_itself z)) refl;
+    items = and_from (same z y || same z z) true (or_right (same z y) (same z z) (same_itself z)) refl;
   }
 
   valid_U : IsValidClient U
   valid_U = user_valid O N w r (takes y) (use_takes y own.old.named) (read ∷ []) refl
 
-  y_plain : is_array y ≡ false
-  y_plain = no_array y (and_parts (is_class_name y) (is_text y) own.old.named).0
+  y_plain : is_array_text y ≡ false
+  y_plain = no_array y (and_parts (spells_class_name y) (is_modified_utf8 y) own.old.named).0
 
-  z_plain : is_array z ≡ false
-  z_plain = no_array z (and_parts (is_class_name z) (is_text z) (r.name 90 refl)).0
+  z_plain : is_array_text z ≡ false
+  z_plain = no_array z (and_parts (spells_class_name z) (is_modified_utf8 z) (r.name 90 refl)).0
 
   -- ---- one side
 
-  module _ (W : World) (p : Planned r.root w W) (v : IsUsable W c) (kind : is_interface v.class.flags ≡ true) (allowed : is_allowed W y ≡ true)
-      (sealed : (e : ClassFacts) → e.name ≡ y → is_public e.flags ≡ true → sealed_by e v.class.name v.class.permits ≡ false) where
+  module _ (W : World) (p : Planned r.root w W) (v : IsUsable W c) (kind : interface_flag v.class.flags ≡ true) (allowed : is_allowed_name W y ≡ true)
+      (sealed : (e : ClassFacts) → e.name ≡ y → public_flag e.flags ≡ true → sealed_by e v.class.name v.class.permits ≡ false) where
     abbrev V : World
     V = with_clients W (Z.facts ∷ Y.facts ∷ U.facts ∷ [])
 
@@ -232,10 +218,10 @@ module _ (O N : World) (w : Bytes) (r : Ready O N w) (c : Bytes) (b : IsBaseInte
     loads_z : load_fault V z ≡ None
     loads_z = below_root_loads W (Z.facts ∷ Y.facts ∷ U.facts ∷ []) f r.root r.is_root w p z Z.facts named_z refl refl (rw (overrides_none z (chain V object_name) (init_method ∷ []) (refl, tt)) refl)
 
-    find_z : find V z ≡ Some Z.facts
+    find_z : find_class V z ≡ Some Z.facts
     find_z = find-client W (Z.facts ∷ Y.facts ∷ U.facts ∷ []) f z Z.facts named_z
 
-    find_y : find V y ≡ Some Y.facts
+    find_y : find_class V y ≡ Some Y.facts
     find_y = find-client W (Z.facts ∷ Y.facts ∷ U.facts ∷ []) f y Y.facts named_y
 
     loads_y : load_fault V y ≡ None
@@ -253,7 +239,7 @@ module _ (O N : World) (w : Bytes) (r : Ready O N w) (c : Bytes) (b : IsBaseInte
     init_z = root_init_links W (Z.facts ∷ Y.facts ∷ U.facts ∷ []) f r.root r.is_root w p z
 
     init_y : outcome V y (item.Init z (codes "()V")) ≡ None
-    init_y = init_says V y z (codes "()V") Z.facts init_method z_plain find_z loads_z refl refl refl ∙ ap (λ t. fault_where (not t) IllegalAccessError) (public_member V y z (record { owner = z; member = init_method }) refl)
+    init_y = init_says V y z (codes "()V") Z.facts init_method z_plain find_z loads_z refl refl refl ∙ ap (λ t. fault_where (not t) IllegalAccessError) (is_member_accessible-public V y z (record { owner = z; member = init_method }) refl)
 
     -- what a read of Y looks at
     says : outcome V u read ≡ found_or NoSuchFieldError (field_found V y k) (use_fault V u GetField y (Some y) Other)
@@ -281,7 +267,7 @@ module _ (O N : World) (w : Bytes) (r : Ready O N w) (c : Bytes) (b : IsBaseInte
   abbrev VN : World
   VN = with_clients N (Z.facts ∷ Y.facts ∷ U.facts ∷ [])
 
-  abbrev zf : Found
+  abbrev zf : DeclaredMember
   zf = record { owner = z; member = record { name = k.name; descriptor = k.descriptor; flags = 0x0001 } }
 
   z_o : load_fault VO z ≡ None
@@ -300,10 +286,10 @@ module _ (O N : World) (w : Bytes) (r : Ready O N w) (c : Bytes) (b : IsBaseInte
   old : outcome VO u read ≡ None
   unfolding use_fault or_else assignment_ok receiver_ok
   old =
-      let t : is_assignable VO y y ≡ true = assign_is VO y y y_plain y_plain ∙ or_first (same y y || is_interface_of VO y) (in_chain VO y y) (or_first (same y y) (is_interface_of VO y) (same_itself y)) in
+      let t : is_assignable VO y y ≡ true = assign_is VO y y y_plain y_plain ∙ or_left (same y y || is_interface_of VO y) (in_chain VO y y) (or_left (same y y) (is_interface_of VO y) (same_itself y)) in
       says O r.old b.was b.kind_o own.old.allowed_o own.old.sealed_o
       ∙ ap (λ o. found_or NoSuchFieldError o (use_fault VO u GetField y (Some y) Other)) chosen
-      ∙ rw (public_member VO u y zf refl, t, passes VO u y zf y refl) refl
+      ∙ rw (is_member_accessible-public VO u y zf refl, t, passes_protected_check-public VO u y zf y refl) refl
 
   -- the interface's field is a constant
   is_constant : IsConstant g.field
@@ -315,13 +301,13 @@ module _ (O N : World) (w : Bytes) (r : Ready O N w) (c : Bytes) (b : IsBaseInte
       let q : field_found VN y k ≡ Some g.field = field_y N r.new b.now b.kind_n own.old.allowed_n own.sealed_n ∙ rw g.found refl in
       says N r.new b.now b.kind_n own.old.allowed_n own.sealed_n
       ∙ ap (λ o. found_or NoSuchFieldError o (use_fault VN u GetField y (Some y) Other)) q
-      ∙ rw (public_member VN u y g.field is_constant.public, is_constant.static) refl
+      ∙ rw (is_member_accessible-public VN u y g.field is_constant.public, is_constant.static) refl
 
   reach : type_in_reach VO u y ≡ true
   reach = in_reach_if VO u y Y.facts y_plain (find_y O r.old b.was b.kind_o own.old.allowed_o own.old.sealed_o) y_o refl
 
   scope : IsInScope O N (Z ∷ Y ∷ U ∷ [])
-  unfolding names_differ class_named
+  unfolding differ_by_name class_named
   scope = scope_from O N (Z ∷ Y ∷ U ∷ []) (valid_Z, (valid_Y, (valid_U, tt))) (rw (yz, same_back z u zu, same_back y u yu) refl)
       (r.old.free 90 refl, (own.old.allowed_o, (r.old.free 85 refl, tt))) (r.new.free 90 refl, (own.old.allowed_n, (r.new.free 85 refl, tt))) (
         calls_above VO z 0x0021 object_name (codes "()V") [] (record { name = k.name; descriptor = k.descriptor; flags = 0x0001 } ∷ []) [] [] z_o (init_z O r.old b.was b.kind_o own.old.allowed_o own.old.sealed_o),
@@ -353,6 +339,6 @@ module _ (O N : World) (w : Bytes) (r : Ready O N w) (c : Bytes) (b : IsBaseInte
     Y,
     Contains-append_right (Z ∷ []) (Y ∷ U ∷ []) Y (Contains-append_left (Y ∷ []) (U ∷ []) Y (Contains-push [] Y)),
     y_o,
-    may_name-own VO c y Y.facts (find_y O r.old b.was b.kind_o own.old.allowed_o own.old.sealed_o) y_o (rw named_y refl) (or_first (same c c) false (same_itself c)),
+    may_name-own VO c y Y.facts (find_y O r.old b.was b.kind_o own.old.allowed_o own.old.sealed_o) y_o (rw named_y refl) (or_left (same c c) false (same_itself c)),
     (zf, chosen, inl (rw (find_z O r.old b.was b.kind_o own.old.allowed_o own.old.sealed_o) refl)),
   )

@@ -1,9 +1,9 @@
 -- Capture: the interface J declares the key, Y below the class implements it, and the client U, which calls the key on Y, shows it.
 use Rattle.std.proofs.Common.{◌≡◌, Bool, true, false, cond, List, [], ◌∷◌, ◌++◌, refl, sym, ◌∙◌, ap, subst, Option, Some, None, not, ◌&&◌, ◌||◌, inl, codes, Contains}
-use Rattle.std.proofs.lemmas.Bool.{and_parts, and_from}
+use Rattle.std.proofs.lemmas.Bool.{and_parts, and_from, or_left, or_right}
 use Rattle.std.proofs.lemmas.List.Elements.{All-from_recursion, Contains-push, Contains-append_left, Contains-append_right}
-use Rattle.jc_desc.specs.Names.{is_init, is_clinit, is_class_name}
-use Rattle.jc_desc.specs.Utf8.{is_text}
+use Rattle.jc_desc.specs.Names.{is_init_name, is_clinit_name, spells_class_name}
+use Rattle.jc_desc.specs.Utf8.{is_modified_utf8}
 use Rattle.jc_facts.specs.declared.class_facts.ClassFacts.{ClassFacts}
 use Rattle.jc_facts.specs.declared.client.ClientClass.{ClientClass}
 use Rattle.jc_facts.specs.declared.client.Item.{Item}
@@ -11,63 +11,49 @@ use Rattle.jc_facts.specs.declared.client.Item.TheVariants as item
 use Rattle.jc_facts.specs.declared.client.Place.TheVariants.{Other}
 use Rattle.jc_facts.specs.declared.key.Key.{Key}
 use Rattle.jc_facts.specs.declared.link_error.LinkError.TheVariants.{NoSuchMethodError, IllegalAccessError, IncompatibleClassChangeError}
-use Rattle.jc_facts.specs.Names.{Bytes, same, same_package, object_name}
-use Rattle.jc_facts.specs.Flags.{is_public, is_static, is_interface, is_final}
-use Rattle.jc_facts.specs.Types.{is_array}
-use Rattle.jc_facts.specs.Options.{or_else}
-use Rattle.jc_facts.specs.World.{World, Found, find, class_named, with_clients, own_method, found_in}
-use Rattle.jc_facts.specs.Hierarchy.{chain, in_chain, superinterfaces, each, with_interfaces}
-use Rattle.jc_facts.specs.Assignment.{is_interface_of, is_assignable}
-use Rattle.jc_facts.specs.Loading.{load_fault, sealed_by}
-use Rattle.jc_facts.specs.Lookup.{or_choices, superinterface_choices}
-use Rattle.jc_facts.specs.Outcome.{outcome, look_up, first_of, use_fault, assignment_ok, receiver_ok}
-use Rattle.jc_facts.specs.Clients.{type_in_reach, IsInScope, IsValidClient, is_allowed, names_differ}
-use Rattle.jc_facts.specs.Meets.{MeetsCapture}
-use Rattle.jc_facts.specs.PlannedNames.{own_name}
-use Rattle.jc_facts.specs.Planned.{an_interface, user, takes, use_method, act_item}
+use Rattle.jc_facts.specs.Names.{Bytes, same, in_same_package, object_name}
+use Rattle.jc_facts.specs.Flags.{public_flag, static_flag, interface_flag, final_flag, no_static_flag}
+use Rattle.jc_facts.specs.world.Types.{is_array_text}
+use Rattle.jc_facts.specs.Options.{or_else, some_and}
+use Rattle.jc_facts.specs.world.World.{World, DeclaredMember, find_class, class_named, with_clients, own_method_of, found_in}
+use Rattle.jc_facts.specs.world.Hierarchy.{chain, in_chain, superinterfaces, each, with_interfaces, names_in}
+use Rattle.jc_facts.specs.world.Assignment.{is_interface_of, is_assignable}
+use Rattle.jc_facts.specs.world.Loading.{load_fault, sealed_by}
+use Rattle.jc_facts.specs.world.Lookup.{or_choices, superinterface_choices, first_declared, method_choices, declared_by, if_inheritable, is_concrete, is_maximal, only_or}
+use Rattle.jc_facts.specs.client.Outcome.{outcome, look_up, first_of, use_fault, assignment_ok, receiver_ok}
+use Rattle.jc_facts.specs.client.Clients.{type_in_reach, IsInScope, IsValidClient, is_allowed_name, differ_by_name}
+use Rattle.jc_facts.specs.client.Meets.{MeetsCapture}
+use Rattle.jc_facts.specs.plan.PlannedNames.{own_name, constructor}
+use Rattle.jc_facts.specs.plan.Planned.{an_interface, user, takes, use_method, act_item, a_class, init_method, abstract_method, calls_captured}
 use Rattle.jc_complete.specs.Completeness.{LinksWhole, Shows}
-use Rattle.jc_laws.proofs.Worlds.{same_itself, same_is}
-use Rattle.jc_laws.proofs.Allowed.{or_first, or_true}
-use Rattle.jc_laws.proofs.Clients.{Fits, find-client}
-use Rattle.jc_laws.proofs.ClientLoads.{interface_taken}
-use Rattle.jc_laws.proofs.Scope.{fits}
-use Rattle.jc_laws.proofs.Reach.{declared_library}
-use Rattle.jc_laws.proofs.Standing.{IsUsable}
-use Rattle.jc_laws.proofs.ValidFacts.{no_array}
+use Rattle.jc_facts.proofs.Same.{same_itself, same_is}
+use Rattle.jc_worlds.proofs.Clients.{Fits, find-client}
+use Rattle.jc_sound.proofs.ClientLoads.{interface_taken, superclass_taken}
+use Rattle.jc_sound.proofs.Scope.{fits, overrides_none}
+use Rattle.jc_sound.proofs.Reach.{declared_library}
+use Rattle.jc_sound.proofs.Standing.{IsUsable}
+use Rattle.jc_worlds.proofs.ValidFacts.{no_array}
 use Rattle.jc_complete.proofs.PlanGround.{Planned, Ready, letter}
-use Rattle.jc_complete.proofs.PlanValid.{use_takes, plain_valid}
-use Rattle.jc_complete.proofs.PlanLoads.{lib_find, lib_fault, client_loads, root_side}
-use Rattle.jc_complete.proofs.PlanItems.{links_whole, scope_from, calls_above, below_root_loads, root_init_links, public_member}
-use Rattle.jc_complete.proofs.PlanMeets.{seat_below}
-use Rattle.jc_complete.proofs.PlanSeats.{side_name, assign_is, in_reach_if}
+use Rattle.jc_complete.proofs.PlanValid.{use_takes, plain_valid, with_init}
+use Rattle.jc_complete.proofs.PlanLoads.{lib_find, lib_fault, client_loads, root_side, interfaces_of_client, lib_interfaces}
+use Rattle.jc_complete.proofs.PlanItems.{links_whole, scope_from, calls_above, below_root_loads, root_init_links}
+use Rattle.jc_worlds.proofs.Choices.{is_member_accessible-public, passes_protected_check-public}
+use Rattle.jc_complete.proofs.PlanMeets.{seat_below, StandsCapture, nothing_found, chain_below}
+use Rattle.jc_complete.proofs.PlanSeats.{side_name, assign_is, in_reach_if, side_plain, seat_chain}
 use Rattle.jc_complete.proofs.PlanUser.{not_root, user_valid, user_overrides}
-use Rattle.jc_complete.proofs.PlanInits.{passes}
-use Rattle.jc_complete.proofs.PlanBase.{OwnName, own_is, own_other}
+use Rattle.jc_complete.proofs.PlanBase.{OwnName, own_is, own_other, IsBase, IsConstructor, constructor_is, letters_apart}
 use Rattle.jc_complete.proofs.PlanActs.{access_says}
 use Rattle.std.specs.List.{filter}
 use Rattle.jc_facts.specs.declared.act.Act.TheVariants.{InvokeVirtual}
-use Rattle.jc_facts.specs.Flags.{is_instance}
-use Rattle.jc_facts.specs.Options.{some_and}
-use Rattle.jc_facts.specs.Hierarchy.{names_in}
-use Rattle.jc_facts.specs.Lookup.{first_declared, method_choices, declared_by, if_inheritable, is_concrete, is_maximal, only_or}
-use Rattle.jc_facts.specs.Collisions.{captures, capture_error}
-use Rattle.jc_facts.specs.PlannedNames.{constructor}
-use Rattle.jc_facts.specs.Planned.{a_class, init_method, abstract_method, calls_captured}
-use Rattle.jc_laws.proofs.Ground.{has_root, bare_chain}
-use Rattle.jc_laws.proofs.Above.{chain-each}
-use Rattle.jc_laws.proofs.Declared.{IsOf, IsDeclared, first_declared-declared}
-use Rattle.jc_laws.proofs.Named.{with_interfaces-unroll}
-use Rattle.jc_laws.proofs.Packages.{allowed_parts, same_package_apart}
-use Rattle.jc_laws.proofs.Scope.{overrides_none}
-use Rattle.jc_laws.proofs.ClientLoads.{superclass_taken}
-use Rattle.jc_complete.proofs.PlanLoads.{interfaces_of_client, lib_interfaces}
-use Rattle.jc_complete.proofs.PlanMeets.{StandsCapture, nothing_found, chain_below}
-use Rattle.jc_complete.proofs.PlanSeats.{side_plain, seat_chain}
-use Rattle.jc_complete.proofs.PlanValid.{with_init}
-use Rattle.jc_complete.proofs.PlanBase.{IsBase, IsConstructor, constructor_is, letters_apart}
-use Rattle.jc_complete.proofs.PlanOverrides.{IsMethodText, abstract_valid, init_apart, plain_key}
-use Rattle.jc_complete.proofs.PlanInherits.{same_back}
-use Rattle.jc_laws.proofs.Worlds.{find-name}
+use Rattle.jc_facts.specs.rule.Collisions.{captures, capture_error}
+use Rattle.jc_worlds.proofs.Bare.{has_root, bare_chain}
+use Rattle.jc_worlds.proofs.Above.{chain-each}
+use Rattle.jc_facts.proofs.World.{IsOf, find-name}
+use Rattle.jc_worlds.proofs.Declared.{IsDeclared, first_declared-declared}
+use Rattle.jc_worlds.proofs.Unrolled.{with_interfaces-unroll}
+use Rattle.jc_worlds.proofs.Packages.{allowed_parts, same_package_apart}
+use Rattle.jc_complete.proofs.PlanMethodMadeFinal.{IsMethodText, abstract_valid, init_apart, plain_key}
+use Rattle.jc_complete.proofs.PlanInterfaceMethodLost.{same_back}
 use Rattle.jc_complete.proofs.PlanLookups.{below_init, no_choices, none_declared, none_offered, declared_somewhere, closed_member, text_with_room}
 
 module _ (O N : World) (w : Bytes) (r : Ready O N w) (a : Bytes) (b : IsBase O N a) (k : Key) (g : StandsCapture O N a k) where
@@ -119,23 +105,23 @@ module _ (O N : World) (w : Bytes) (r : Ready O N w) (a : Bytes) (b : IsBase O N
   unfolding class_named
   named_u = rw (ju, yu, same_itself u) refl
 
-  plain_k : (is_init k.name ≡ false) × (is_clinit k.name ≡ false)
+  plain_k : (is_init_name k.name ≡ false) × (is_clinit_name k.name ≡ false)
   plain_k = plain_key k g.key
 
   no_init : same (codes "<init>") k.name ≡ false
   no_init = init_apart k plain_k.0
 
   -- the method that is declared now
-  found_now : (m : Found) × (first_declared k (chain N a) ≡ Some m) × (not (is_public m.member.flags && is_instance m.member.flags) ≡ true)
+  found_now : (m : DeclaredMember) × (first_declared k (chain N a) ≡ Some m) × (not (public_flag m.member.flags && no_static_flag m.member.flags) ≡ true)
   unfolding captures
   found_now = go (first_declared k (chain N a)) g.captured
     where
-      go : (o : Option Found) → some_and (λ m. not (is_public m.member.flags && is_instance m.member.flags)) o ≡ true → (m : Found) × (o ≡ Some m) × (not (is_public m.member.flags && is_instance m.member.flags) ≡ true)
+      go : (o : Option DeclaredMember) → some_and (λ m. not (public_flag m.member.flags && no_static_flag m.member.flags)) o ≡ true → (m : DeclaredMember) × (o ≡ Some m) × (not (public_flag m.member.flags && no_static_flag m.member.flags) ≡ true)
       go None h = absurd (cc)
       go (Some m) h = (m, refl, h)
 
   declared_now : IsDeclared N k found_now.0
-  declared_now = first_declared-declared N k found_now.0 (chain N a) (chain-each N (IsOf N) (λ x c e l. ap (find N) (find-name N x c e) ∙ e) a b.now.loaded) found_now.1
+  declared_now = first_declared-declared N k found_now.0 (chain N a) (chain-each N (IsOf N) (λ x c e l. ap (find_class N) (find-name N x c e) ∙ e) a b.now.loaded) found_now.1
 
   text : IsMethodText k
   text = text_with_room declared_now.class k found_now.0.member (r.new.valid found_now.0.owner declared_now.class declared_now.is_there) declared_now.declares g.room
@@ -174,27 +160,27 @@ module _ (O N : World) (w : Bytes) (r : Ready O N w) (a : Bytes) (b : IsBase O N
       differ = refl;
       distinct = refl;
       field = λ c e. refl;
-      method = λ c e m. with_init c (ap is_interface e);
+      method = λ c e m. with_init c (ap interface_flag e);
     });
-    items = and_from (same a y || same a a) true (or_true (same a y) (same a a) (same_itself a)) refl;
+    items = and_from (same a y || same a a) true (or_right (same a y) (same a a) (same_itself a)) refl;
   }
 
   valid_U : IsValidClient U
   valid_U = user_valid O N w r (takes y) (use_takes y own.old.named) (call ∷ []) (rw g.key refl)
 
-  y_plain : is_array y ≡ false
-  y_plain = no_array y (and_parts (is_class_name y) (is_text y) own.old.named).0
+  y_plain : is_array_text y ≡ false
+  y_plain = no_array y (and_parts (spells_class_name y) (is_modified_utf8 y) own.old.named).0
 
   ctor : IsConstructor b.was.class (constructor O a)
   ctor = constructor_is O r.root r.is_root r.old.there a b.was.class b.was.is_there (r.old.valid a b.was.class b.was.is_there) b.has
 
-  not_own : own_method Y.facts k ≡ None
+  not_own : own_method_of Y.facts k ≡ None
   not_own = rw no_init refl
 
   -- ---- one side
 
-  module _ (W : World) (p : Planned r.root w W) (v : IsUsable W a) (kind : is_interface v.class.flags ≡ false) (extensible : is_final v.class.flags ≡ false) (allowed : is_allowed W y ≡ true)
-      (sealed : (e : ClassFacts) → e.name ≡ y → is_public e.flags ≡ true → sealed_by e v.class.name v.class.permits ≡ false) where
+  module _ (W : World) (p : Planned r.root w W) (v : IsUsable W a) (kind : interface_flag v.class.flags ≡ false) (extensible : final_flag v.class.flags ≡ false) (allowed : is_allowed_name W y ≡ true)
+      (sealed : (e : ClassFacts) → e.name ≡ y → public_flag e.flags ≡ true → sealed_by e v.class.name v.class.permits ≡ false) where
     abbrev V : World
     V = with_clients W (J.facts ∷ Y.facts ∷ U.facts ∷ [])
 
@@ -204,10 +190,10 @@ module _ (O N : World) (w : Bytes) (r : Ready O N w) (a : Bytes) (b : IsBase O N
     loads_j : load_fault V j ≡ None
     loads_j = below_root_loads W (J.facts ∷ Y.facts ∷ U.facts ∷ []) f r.root r.is_root w p j J.facts named_j refl refl refl
 
-    find_j : find V j ≡ Some J.facts
+    find_j : find_class V j ≡ Some J.facts
     find_j = find-client W (J.facts ∷ Y.facts ∷ U.facts ∷ []) f j J.facts named_j
 
-    find_y : find V y ≡ Some Y.facts
+    find_y : find_class V y ≡ Some Y.facts
     find_y = find-client W (J.facts ∷ Y.facts ∷ U.facts ∷ []) f y Y.facts named_y
 
     loads_y : load_fault V y ≡ None
@@ -267,14 +253,14 @@ module _ (O N : World) (w : Bytes) (r : Ready O N w) (a : Bytes) (b : IsBase O N
   init_y = below_init O (J.facts ∷ Y.facts ∷ U.facts ∷ []) fo y Y.facts a b.was.class named_y refl b.was.is_there b.was.loaded y_o own.old.allowed_o (side_plain r.root w O r.old a b.was.class b.was.is_there) b.was.public b.class_o (constructor O a) ctor
 
   -- J's method
-  abbrev jm : Found
+  abbrev jm : DeclaredMember
   jm = record { owner = j; member = abstract_method k }
 
   inherited : superinterface_choices VO y k ≡ jm ∷ []
   unfolding superinterface_choices declared_by if_inheritable found_in only_or
   inherited = ap (λ all. only_or (filter is_concrete (filter (is_maximal VO all) all)) all) all_is ∙ go (is_maximal VO (jm ∷ []) jm)
     where
-      mine : own_method J.facts k ≡ Some (abstract_method k)
+      mine : own_method_of J.facts k ≡ Some (abstract_method k)
       mine = rw (same_itself k.name, same_itself k.descriptor) refl
 
       all_is : declared_by k (superinterfaces VO y) ≡ jm ∷ []
@@ -293,17 +279,17 @@ module _ (O N : World) (w : Bytes) (r : Ready O N w) (a : Bytes) (b : IsBase O N
   old : outcome VO u call ≡ None
   unfolding first_of use_fault or_else assignment_ok receiver_ok
   old =
-      let t : is_assignable VO y y ≡ true = assign_is VO y y y_plain y_plain ∙ or_first (same y y || is_interface_of VO y) (in_chain VO y y) (or_first (same y y) (is_interface_of VO y) (same_itself y)) in
+      let t : is_assignable VO y y ≡ true = assign_is VO y y y_plain y_plain ∙ or_left (same y y || is_interface_of VO y) (in_chain VO y y) (or_left (same y y) (is_interface_of VO y) (same_itself y)) in
       says O r.old b.was b.class_o b.not_final_o own.old.allowed_o own.old.sealed_o
       ∙ ap (λ ms. first_of NoSuchMethodError ms (use_fault VO u InvokeVirtual y (Some y) Other)) chosen
-      ∙ rw (public_member VO u y jm refl, t, passes VO u y jm y refl) refl
+      ∙ rw (is_member_accessible-public VO u y jm refl, t, passes_protected_check-public VO u y jm y refl) refl
 
   reach : type_in_reach VO u y ≡ true
   reach = in_reach_if VO u y Y.facts y_plain (find_y O r.old b.was b.class_o b.not_final_o own.old.allowed_o own.old.sealed_o) y_o refl
 
   -- ---- the new side
 
-  m : Found
+  m : DeclaredMember
   m = found_now.0
 
   -- its class isn't java/lang/Object, which would have declared it before
@@ -314,29 +300,29 @@ module _ (O N : World) (w : Bytes) (r : Ready O N w) (a : Bytes) (b : IsBase O N
       go false e = refl
       go true e = absurd (
           let o : found_now.0.owner ≡ object_name = sym (same_is r.root.name found_now.0.owner e) ∙ find-name O object_name r.root r.old.there in
-          let s : declared_now.class ≡ r.root = let z : Some declared_now.class ≡ Some r.root = sym declared_now.is_there ∙ ap (find N) o ∙ r.new.there in cc in
-          declared_somewhere O k object_name r.root found_now.0.member r.old.there (ap (λ c. own_method c k) (sym s) ∙ declared_now.declares) (chain O a)
-          (chain-each O (IsOf O) (λ x c e l. ap (find O) (find-name O x c e) ∙ e) a b.was.loaded) (has_root O r.old.valid a b.was.loaded) unknown.0)
+          let s : declared_now.class ≡ r.root = let z : Some declared_now.class ≡ Some r.root = sym declared_now.is_there ∙ ap (find_class N) o ∙ r.new.there in cc in
+          declared_somewhere O k object_name r.root found_now.0.member r.old.there (ap (λ c. own_method_of c k) (sym s) ∙ declared_now.declares) (chain O a)
+          (chain-each O (IsOf O) (λ x c e l. ap (find_class O) (find-name O x c e) ∙ e) a b.was.loaded) (has_root O r.old.valid a b.was.loaded) unknown.0)
 
   new : outcome VN u call ≡ Some (capture_error N a k)
   unfolding first_of or_choices use_fault or_else
   new =
       says N r.new b.now b.class_n b.not_final_n own.old.allowed_n own.sealed_n
       ∙ ap (λ ms. first_of NoSuchMethodError ms (use_fault VN u InvokeVirtual y (Some y) Other)) (choices_y N r.new b.now b.class_n b.not_final_n own.old.allowed_n own.sealed_n ∙ ap (λ o. or_choices o (superinterface_choices VN y k)) found_now.1)
-      ∙ go (is_public found_now.0.member.flags) refl found_now.2
-      ∙ sym (ap (λ o. Some (cond (some_and (λ m. is_public m.member.flags) o) IncompatibleClassChangeError IllegalAccessError)) found_now.1)
+      ∙ go (public_flag found_now.0.member.flags) refl found_now.2
+      ∙ sym (ap (λ o. Some (cond (some_and (λ m. public_flag m.member.flags) o) IncompatibleClassChangeError IllegalAccessError)) found_now.1)
     where
-      go : (t : Bool) → is_public found_now.0.member.flags ≡ t → not (t && is_instance found_now.0.member.flags) ≡ true
-          → use_fault VN u InvokeVirtual y (Some y) Other found_now.0 ≡ Some (cond (is_public found_now.0.member.flags) IncompatibleClassChangeError IllegalAccessError)
+      go : (t : Bool) → public_flag found_now.0.member.flags ≡ t → not (t && no_static_flag found_now.0.member.flags) ≡ true
+          → use_fault VN u InvokeVirtual y (Some y) Other found_now.0 ≡ Some (cond (public_flag found_now.0.member.flags) IncompatibleClassChangeError IllegalAccessError)
       go true p q =
-          let s : is_static found_now.0.member.flags ≡ true = static (is_static found_now.0.member.flags) q in
-          rw (public_member VN u y found_now.0 p, s, p) refl
+          let s : static_flag found_now.0.member.flags ≡ true = static (static_flag found_now.0.member.flags) q in
+          rw (is_member_accessible-public VN u y found_now.0 p, s, p) refl
         where
           static : (t : Bool) → not (true && not t) ≡ true → t ≡ true
           static true h = refl
           static false h = absurd (let z : false ≡ true = h in cc)
       go false p q =
-          let pk : same_package u found_now.0.owner ≡ false = subst (λ z. same_package u z ≡ false) (find-name N found_now.0.owner declared_now.class declared_now.is_there) (same_package_apart N u found_now.0.owner declared_now.class (allowed_parts N u (r.new.free 85 refl)).apart declared_now.is_there) in
+          let pk : in_same_package u found_now.0.owner ≡ false = subst (λ z. in_same_package u z ≡ false) (find-name N found_now.0.owner declared_now.class declared_now.is_there) (same_package_apart N u found_now.0.owner declared_now.class (allowed_parts N u (r.new.free 85 refl)).apart declared_now.is_there) in
           let ch : in_chain VN u found_now.0.owner ≡ false =
           seat_chain N (J.facts ∷ Y.facts ∷ U.facts ∷ []) fn u U.facts object_name r.root named_u refl r.new.there (root_side N (J.facts ∷ Y.facts ∷ U.facts ∷ []) fn r.root r.is_root w r.new) u_n found_now.0.owner (declared_library N (J.facts ∷ Y.facts ∷ U.facts ∷ []) fn found_now.0.owner declared_now.class declared_now.is_there)
           ∙ ap (λ cs. names_in cs found_now.0.owner) (bare_chain N object_name r.root r.new.there r.is_root.superclass r.is_root.interfaces) ∙ rw other refl in
@@ -345,7 +331,7 @@ module _ (O N : World) (w : Bytes) (r : Ready O N w) (a : Bytes) (b : IsBase O N
   -- ---- the plan
 
   scope : IsInScope O N (J ∷ Y ∷ U ∷ [])
-  unfolding names_differ class_named
+  unfolding differ_by_name class_named
   scope = scope_from O N (J ∷ Y ∷ U ∷ []) (valid_J, (valid_Y, (valid_U, tt))) (rw (yj, same_back j u ju, same_back y u yu) refl)
       (r.old.free 74 refl, (own.old.allowed_o, (r.old.free 85 refl, tt))) (r.new.free 74 refl, (own.old.allowed_n, (r.new.free 85 refl, tt))) (
         inl refl,
@@ -378,5 +364,5 @@ module _ (O N : World) (w : Bytes) (r : Ready O N w) (a : Bytes) (b : IsBase O N
     y_o,
     refl,
     seat_below O (J.facts ∷ Y.facts ∷ U.facts ∷ []) fo y Y.facts a b.was.class named_y refl b.was.is_there b.was.loaded y_o,
-    (jm, subst (λ ms. Contains ms jm) (sym chosen) (Contains-push [] jm), ap (λ cs. names_in cs j) (above_y O r.old b.was b.class_o b.not_final_o own.old.allowed_o own.old.sealed_o) ∙ or_first (same j j) (names_in (superinterfaces O a) j) (same_itself j)),
+    (jm, subst (λ ms. Contains ms jm) (sym chosen) (Contains-push [] jm), ap (λ cs. names_in cs j) (above_y O r.old b.was b.class_o b.not_final_o own.old.allowed_o own.old.sealed_o) ∙ or_left (same j j) (names_in (superinterfaces O a) j) (same_itself j)),
   )

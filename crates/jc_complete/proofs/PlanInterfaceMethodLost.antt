@@ -1,10 +1,10 @@
 -- Rule 9: the interface J below, and the client U that calls the key on it, show it.
 use Rattle.std.proofs.Common.{◌≡◌, Bool, true, false, List, [], ◌∷◌, refl, sym, ◌∙◌, ap, subst, Option, Some, None, is_none, not, ◌&&◌, ◌||◌, ◌⊎◌, inl, inr, codes, Contains}
-use Rattle.std.proofs.lemmas.Bool.{and_parts, and_from, both_ways, not-true, or_cases}
+use Rattle.std.proofs.lemmas.Bool.{and_parts, and_from, both_ways, not-true, or_cases, or_left, or_right}
 use Rattle.std.proofs.lemmas.List.Elements.{All-from_recursion, Contains-push, Contains-append_right}
 use Rattle.std.specs.List.{list_any}
-use Rattle.jc_desc.specs.Names.{is_init, is_clinit, is_class_name}
-use Rattle.jc_desc.specs.Utf8.{is_text}
+use Rattle.jc_desc.specs.Names.{is_init_name, is_clinit_name, spells_class_name}
+use Rattle.jc_desc.specs.Utf8.{is_modified_utf8}
 use Rattle.jc_facts.specs.declared.class_facts.ClassFacts.{ClassFacts}
 use Rattle.jc_facts.specs.declared.client.ClientClass.{ClientClass}
 use Rattle.jc_facts.specs.declared.client.Item.{Item}
@@ -15,56 +15,57 @@ use Rattle.jc_facts.specs.declared.act.Act.TheVariants.{InvokeInterface}
 use Rattle.jc_facts.specs.declared.link_error.LinkError.{LinkError}
 use Rattle.jc_facts.specs.declared.link_error.LinkError.TheVariants.{NoSuchMethodError}
 use Rattle.jc_facts.specs.Names.{Bytes, same, object_name}
-use Rattle.jc_facts.specs.Flags.{is_public, is_interface, is_final}
-use Rattle.jc_facts.specs.Types.{is_array}
+use Rattle.jc_facts.specs.Flags.{public_flag, interface_flag, final_flag}
+use Rattle.jc_facts.specs.world.Types.{is_array_text}
 use Rattle.jc_facts.specs.Options.{or_else, and_then, first_some}
-use Rattle.jc_facts.specs.World.{World, Found, find, class_named, with_clients, found_in, declares}
-use Rattle.jc_facts.specs.Hierarchy.{chain, in_chain, superinterfaces, each, with_interfaces}
-use Rattle.jc_facts.specs.Assignment.{is_interface_of, is_assignable}
-use Rattle.jc_facts.specs.Loading.{load_fault, sealed_by}
-use Rattle.jc_facts.specs.Acts.{form_of}
-use Rattle.jc_facts.specs.Lookup.{field_found, field_step, if_public_instance, object_method, or_choices, superinterface_choices, interface_choices}
-use Rattle.jc_facts.specs.Outcome.{outcome, look_up, first_of, use_fault, assignment_ok, receiver_ok}
-use Rattle.jc_facts.specs.Valid.{IsValidClass}
-use Rattle.jc_facts.specs.Clients.{type_in_reach, IsInScope, IsValidClient, is_allowed, names_differ, seat}
-use Rattle.jc_facts.specs.Collisions.{constant_stands, capture_stands, final_stands}
-use Rattle.jc_facts.specs.Meets.{MeetsConstant, MeetsCapture, MeetsFinal, may_name}
-use Rattle.jc_facts.specs.Words.{is_usable, is_steady, is_extendable, is_implementable, is_closed, is_base_interface, is_method_key, class_is, is_open, permits_some, leaves_out, inherits, offers}
-use Rattle.jc_facts.specs.PlannedNames.{own_name}
-use Rattle.jc_facts.specs.Planned.{an_interface, user, takes, use_method, act_item, calls_inherited}
-use Rattle.jc_facts.proofs.Listed.{none, cases}
-use Rattle.jc_laws.specs.Choices.{IsPublicInstance}
+use Rattle.jc_facts.specs.world.World.{World, DeclaredMember, find_class, class_named, with_clients, found_in, declared_method}
+use Rattle.jc_facts.specs.world.Hierarchy.{chain, in_chain, superinterfaces, each, with_interfaces}
+use Rattle.jc_facts.specs.world.Assignment.{is_interface_of, is_assignable}
+use Rattle.jc_facts.specs.world.Loading.{load_fault, sealed_by}
+use Rattle.jc_facts.specs.client.Acts.{form_of}
+use Rattle.jc_facts.specs.world.Lookup.{field_found, field_step, if_public_instance, public_method_of_object, or_choices, superinterface_choices, interface_choices}
+use Rattle.jc_facts.specs.client.Outcome.{outcome, look_up, first_of, use_fault, assignment_ok, receiver_ok}
+use Rattle.jc_facts.specs.file.Valid.{IsValidClass}
+use Rattle.jc_facts.specs.client.Clients.{type_in_reach, IsInScope, IsValidClient, is_allowed_name, differ_by_name, seat}
+use Rattle.jc_facts.specs.rule.Collisions.{constant_added, capture_added, final_added}
+use Rattle.jc_facts.specs.client.Meets.{MeetsConstant, MeetsCapture, MeetsFinal, may_name}
+use Rattle.jc_facts.specs.rule.Bases.{is_class_usable, is_steady, is_extendable, is_implementable, is_class_closed, is_base_interface, is_key_of_method, class_is, is_open, permits_some, leaves_out, inherits, offers}
+use Rattle.jc_facts.specs.plan.PlannedNames.{own_name}
+use Rattle.jc_facts.specs.plan.Planned.{an_interface, user, takes, use_method, act_item, calls_inherited}
+use Rattle.jc_lemmas.proofs.Listed.{none, cases, EachOf}
+use Rattle.jc_worlds.specs.Choices.{IsPublicInstance}
 use Rattle.jc_complete.specs.Completeness.{LinksWhole, Shows}
-use Rattle.jc_laws.proofs.Settles.{EachOf}
-use Rattle.jc_laws.proofs.Worlds.{same_itself, same_is}
-use Rattle.jc_laws.proofs.Allowed.{or_first, or_true}
-use Rattle.jc_laws.proofs.Clients.{Fits, find-client}
-use Rattle.jc_laws.proofs.ClientLoads.{interface_taken}
-use Rattle.jc_laws.proofs.Finals.{any-append}
-use Rattle.jc_laws.proofs.Inherited.{superinterface_choices-public}
-use Rattle.jc_laws.proofs.Loaded.{unroll}
-use Rattle.jc_laws.proofs.Locality.{field_step-local}
-use Rattle.jc_laws.proofs.MethodSets.{interface_super}
-use Rattle.jc_laws.proofs.Offers.{IsCons, choices-some, choices-offers, cons_or, superinterfaces-interface, inherits-with}
-use Rattle.jc_laws.proofs.Roots.{bare_field}
-use Rattle.jc_laws.proofs.Scope.{fits}
-use Rattle.jc_laws.proofs.Sides.{field_found-side, find-library}
-use Rattle.jc_laws.proofs.Reach.{declared_library}
-use Rattle.jc_laws.proofs.Sound.{class_named-each}
-use Rattle.jc_laws.proofs.Standing.{IsUsable, or_right, and_false}
-use Rattle.jc_laws.proofs.ValidFacts.{no_array}
+use Rattle.jc_facts.proofs.Same.{same_itself, same_is}
+use Rattle.jc_worlds.proofs.Clients.{Fits, find-client}
+use Rattle.jc_sound.proofs.ClientLoads.{interface_taken}
+use Rattle.std.proofs.lemmas.List.Folds.{list_any-append}
+use Rattle.jc_worlds.proofs.Inherited.{superinterface_choices-public}
+use Rattle.jc_worlds.proofs.Loaded.{unroll}
+use Rattle.jc_worlds.proofs.Locality.{field_step-local}
+use Rattle.jc_sound.proofs.MethodSets.{interface_super}
+use Rattle.jc_lemmas.proofs.Lists.{IsCons, cons_or}
+use Rattle.jc_worlds.proofs.Offers.{choices-some, choices-offers, superinterfaces-interface, inherits-with}
+use Rattle.jc_worlds.proofs.Bare.{bare_field}
+use Rattle.jc_sound.proofs.Scope.{fits}
+use Rattle.jc_worlds.proofs.Sides.{field_found-side, find-library}
+use Rattle.jc_sound.proofs.Reach.{declared_library}
+use Rattle.jc_facts.proofs.World.{class_named-each}
+use Rattle.jc_sound.proofs.Standing.{IsUsable}
+use Rattle.jc_lemmas.proofs.Bools.{neither_last, and_false}
+use Rattle.jc_worlds.proofs.ValidFacts.{no_array}
 use Rattle.jc_complete.proofs.PlanGround.{Planned, Ready, letter}
 use Rattle.jc_complete.proofs.PlanValid.{use_takes, plain_valid}
 use Rattle.jc_complete.proofs.PlanLoads.{lib_find, lib_fault, client_loads, root_find, root_loads, root_taken, root_side}
-use Rattle.jc_complete.proofs.PlanItems.{links_whole, scope_from, calls_above, below_root_loads, root_init_links, public_member}
+use Rattle.jc_complete.proofs.PlanItems.{links_whole, scope_from, calls_above, below_root_loads, root_init_links}
+use Rattle.jc_worlds.proofs.Choices.{is_member_accessible-public, passes_protected_check-public}
 use Rattle.jc_complete.proofs.PlanMeets.{meets_nothing_by, no_capture_root, no_final_root, seat_below, names_none}
 use Rattle.jc_complete.proofs.PlanInterfaces.{lib_with, names_only}
 use Rattle.jc_complete.proofs.PlanSeats.{side_name, assign_is, in_reach_if}
 use Rattle.jc_complete.proofs.PlanUser.{not_root, user_valid, user_overrides}
 use Rattle.jc_complete.proofs.PlanUses.{ShowsAlone}
-use Rattle.jc_complete.proofs.PlanInits.{passes, steady_usable}
+use Rattle.jc_complete.proofs.PlanConstructorClosed.{steady_usable}
 use Rattle.jc_complete.proofs.PlanBase.{OwnName, own_is, own_other, closes, closes_at, test_at}
-use Rattle.jc_complete.proofs.PlanClosed.{kept_kind}
+use Rattle.jc_complete.proofs.PlanClassClosed.{kept_kind}
 use Rattle.jc_complete.proofs.PlanActs.{access_says}
 
 -- ---- an interface that clients implement with both releases
@@ -72,22 +73,22 @@ use Rattle.jc_complete.proofs.PlanActs.{access_says}
 pub record IsBaseInterface (O N : World) (i : Bytes) : Type 0 where
   pub was : IsUsable O i
   pub now : IsUsable N i
-  pub kind_o : is_interface was.class.flags ≡ true
-  pub kind_n : is_interface now.class.flags ≡ true
+  pub kind_o : interface_flag was.class.flags ≡ true
+  pub kind_n : interface_flag now.class.flags ≡ true
   pub opens : permits_some O N was.class.permits ≡ true
   pub leaves : leaves_out O N was.class.permits now.class.permits ≡ false
 
 pub base_interface : (O N : World) (i : Bytes) → is_base_interface O N i ≡ true → IsBaseInterface O N i
-unfolding is_base_interface is_implementable is_closed
+unfolding is_base_interface is_implementable is_class_closed
 base_interface O N i h =
-    let p = and_parts (is_implementable O N i && is_steady O N i) (not (is_closed O N i)) h in
+    let p = and_parts (is_implementable O N i && is_steady O N i) (not (is_class_closed O N i)) h in
     let q = and_parts (is_implementable O N i) (is_steady O N i) p.0 in
     let u = steady_usable O N i q.1 in
-    let x = and_parts (is_usable O i) (class_is O (λ c. is_interface c.flags && is_open O N c) i) q.0 in
-    let y = test_at O (λ c. is_interface c.flags && is_open O N c) true i u.0.class u.0.is_there x.1 in
-    let z = and_parts (is_interface u.0.class.flags) (is_open O N u.0.class) y in
+    let x = and_parts (is_class_usable O i) (class_is O (λ c. interface_flag c.flags && is_open O N c) i) q.0 in
+    let y = test_at O (λ c. interface_flag c.flags && is_open O N c) true i u.0.class u.0.is_there x.1 in
+    let z = and_parts (interface_flag u.0.class.flags) (is_open O N u.0.class) y in
     let n : class_is O (λ c. class_is N (closes O N c) i) i ≡ false =
-    and_false (is_steady O N i && (is_extendable O N i || is_implementable O N i)) (class_is O (λ c. class_is N (closes O N c) i) i) (not-true (is_closed O N i) p.1) (and_from (is_steady O N i) (is_extendable O N i || is_implementable O N i) q.1 (or_true (is_extendable O N i) (is_implementable O N i) q.0)) in
+    and_false (is_steady O N i && (is_extendable O N i || is_implementable O N i)) (class_is O (λ c. class_is N (closes O N c) i) i) (not-true (is_class_closed O N i) p.1) (and_from (is_steady O N i) (is_extendable O N i || is_implementable O N i) q.1 (or_right (is_extendable O N i) (is_implementable O N i) q.0)) in
     let m = closes_at O N false i u.0.class u.1.class u.0.is_there u.1.is_there n in
     record {
       was = u.0;
@@ -95,11 +96,11 @@ base_interface O N i h =
       kind_o = z.0;
       kind_n = kept_kind O N i u.0.class u.1.class u.0.is_there u.1.is_there q.1 z.0;
       opens = z.1;
-      leaves = or_right (is_final u.1.class.flags || (is_interface u.1.class.flags && not (is_interface u.0.class.flags))) (leaves_out O N u.0.class.permits u.1.class.permits) m;
+      leaves = neither_last (final_flag u.1.class.flags || (interface_flag u.1.class.flags && not (interface_flag u.0.class.flags))) (leaves_out O N u.0.class.permits u.1.class.permits) m;
     }
 
 -- a world of valid clients over a side
-pub valid_with : (root : ClassFacts) (w : Bytes) (W : World) → Planned root w W → (cs : List ClassFacts) → Fits W cs → EachOf IsValidClass cs → (x : Bytes) (c : ClassFacts) → find (with_clients W cs) x ≡ Some c → IsValidClass c
+pub valid_with : (root : ClassFacts) (w : Bytes) (W : World) → Planned root w W → (cs : List ClassFacts) → Fits W cs → EachOf IsValidClass cs → (x : Bytes) (c : ClassFacts) → find_class (with_clients W cs) x ≡ Some c → IsValidClass c
 valid_with root w W p cs f v x c e = go (class_named cs x) refl
   where
     go : (o : Option ClassFacts) → class_named cs x ≡ o → IsValidClass c
@@ -113,7 +114,7 @@ same_back x y h = go (same y x) refl
     go false e = refl
     go true e = absurd (both_ways (same x y) h (subst (λ z. same z y ≡ true) (same_is y x e) (same_itself y)))
 
-module _ (O N : World) (w : Bytes) (r : Ready O N w) (c : Bytes) (b : IsBaseInterface O N c) (k : Key) (key : is_method_key k ≡ true) where
+module _ (O N : World) (w : Bytes) (r : Ready O N w) (c : Bytes) (b : IsBaseInterface O N c) (k : Key) (key : is_key_of_method k ≡ true) where
   abbrev j : Bytes
   j = own_name O N (letter w 74) c
 
@@ -169,13 +170,13 @@ module _ (O N : World) (w : Bytes) (r : Ready O N w) (c : Bytes) (b : IsBaseInte
   valid_U : IsValidClient U
   valid_U = user_valid O N w r (takes j) (use_takes j own.old.named) (call ∷ []) (rw key refl)
 
-  j_plain : is_array j ≡ false
-  j_plain = no_array j (and_parts (is_class_name j) (is_text j) own.old.named).0
+  j_plain : is_array_text j ≡ false
+  j_plain = no_array j (and_parts (spells_class_name j) (is_modified_utf8 j) own.old.named).0
 
   -- ---- one side
 
-  module _ (W : World) (p : Planned r.root w W) (v : IsUsable W c) (kind : is_interface v.class.flags ≡ true) (allowed : is_allowed W j ≡ true)
-      (sealed : (e : ClassFacts) → e.name ≡ j → is_public e.flags ≡ true → sealed_by e v.class.name v.class.permits ≡ false) where
+  module _ (W : World) (p : Planned r.root w W) (v : IsUsable W c) (kind : interface_flag v.class.flags ≡ true) (allowed : is_allowed_name W j ≡ true)
+      (sealed : (e : ClassFacts) → e.name ≡ j → public_flag e.flags ≡ true → sealed_by e v.class.name v.class.permits ≡ false) where
     abbrev V : World
     V = with_clients W (J.facts ∷ U.facts ∷ [])
 
@@ -192,7 +193,7 @@ module _ (O N : World) (w : Bytes) (r : Ready O N w) (c : Bytes) (b : IsBaseInte
     init_u : outcome V u (item.Init object_name (codes "()V")) ≡ None
     init_u = root_init_links W (J.facts ∷ U.facts ∷ []) f r.root r.is_root w p u
 
-    find_j : find V j ≡ Some J.facts
+    find_j : find_class V j ≡ Some J.facts
     find_j = find-client W (J.facts ∷ U.facts ∷ []) f j J.facts named_j
 
     -- what J inherits
@@ -200,7 +201,7 @@ module _ (O N : World) (w : Bytes) (r : Ready O N w) (c : Bytes) (b : IsBaseInte
     unfolding each
     offered =
         ap (list_any (offers k)) (superinterfaces-interface V r.root (root_find W (J.facts ∷ U.facts ∷ []) f r.root r.is_root w p) r.is_root.superclass r.is_root.interfaces j J.facts find_j loads_j refl)
-        ∙ any-append (offers k) (with_interfaces V c) [] ∙ last (list_any (offers k) (with_interfaces V c))
+        ∙ list_any-append (offers k) (with_interfaces V c) [] ∙ last (list_any (offers k) (with_interfaces V c))
         ∙ ap (list_any (offers k)) (lib_with W (J.facts ∷ U.facts ∷ []) f c (record { class = v.class; is_there = v.is_there; loaded = v.loaded; interface = kind }))
         ∙ sym (inherits-with W r.root p.there r.is_root.superclass r.is_root.interfaces c v.class k v.is_there v.loaded (interface_super W r.root p.there r.is_root.class c v.class v.is_there (p.valid c v.class v.is_there) kind))
       where
@@ -208,36 +209,36 @@ module _ (O N : World) (w : Bytes) (r : Ready O N w) (c : Bytes) (b : IsBaseInte
         last true = refl
         last false = refl
 
-    same_method : object_method V k ≡ object_method W k
-    unfolding object_method
-    same_method = ap (λ o. and_then if_public_instance (and_then (declares k) o)) (root_find W (J.facts ∷ U.facts ∷ []) f r.root r.is_root w p ∙ sym p.there)
+    same_method : public_method_of_object V k ≡ public_method_of_object W k
+    unfolding public_method_of_object
+    same_method = ap (λ o. and_then if_public_instance (and_then (declared_method k) o)) (root_find W (J.facts ∷ U.facts ∷ []) f r.root r.is_root w p ∙ sym p.there)
 
     -- without a method of java/lang/Object a call looks at what it inherits
-    looks : object_method W k ≡ None → (t : Found → Option LinkError) → look_up V (form_of InvokeInterface) j k t ≡ first_of NoSuchMethodError (superinterface_choices V j k) t
+    looks : public_method_of_object W k ≡ None → (t : DeclaredMember → Option LinkError) → look_up V (form_of InvokeInterface) j k t ≡ first_of NoSuchMethodError (superinterface_choices V j k) t
     unfolding look_up interface_choices or_else and_then or_choices found_in
     looks o t =
         let i : is_interface_of V j ≡ true = rw find_j refl in
-        let m : object_method V k ≡ None = same_method ∙ o in
-        rw i (ap (λ c. first_of NoSuchMethodError (or_choices (or_else (and_then (declares k) c) (object_method V k)) (superinterface_choices V j k)) t) find_j ∙ ap (λ q. first_of NoSuchMethodError (or_choices q (superinterface_choices V j k)) t) m)
+        let m : public_method_of_object V k ≡ None = same_method ∙ o in
+        rw i (ap (λ c. first_of NoSuchMethodError (or_choices (or_else (and_then (declared_method k) c) (public_method_of_object V k)) (superinterface_choices V j k)) t) find_j ∙ ap (λ q. first_of NoSuchMethodError (or_choices q (superinterface_choices V j k)) t) m)
 
-    says : object_method W k ≡ None → outcome V u call ≡ first_of NoSuchMethodError (superinterface_choices V j k) (use_fault V u InvokeInterface j (Some j) Other)
+    says : public_method_of_object W k ≡ None → outcome V u call ≡ first_of NoSuchMethodError (superinterface_choices V j k) (use_fault V u InvokeInterface j (Some j) Other)
     says o = access_says V u InvokeInterface j k (Some j) J.facts j_plain find_j loads_j refl ∙ looks o (use_fault V u InvokeInterface j (Some j) Other)
 
     -- where the interface inherits the key, the call links
-    links : object_method W k ≡ None → inherits W c k ≡ true → outcome V u call ≡ None
+    links : public_method_of_object W k ≡ None → inherits W c k ≡ true → outcome V u call ≡ None
     unfolding first_of use_fault or_else assignment_ok receiver_ok
-    links o h = says o ∙ go (choices-some V j k (offered ∙ h)) (superinterface_choices-public V (valid_with r.root w W p (J.facts ∷ U.facts ∷ []) f (valid_J.facts, (valid_U.facts, tt))) j k loads_j (or_right (is_init k.name) (is_clinit k.name) (not-true (is_init k.name || is_clinit k.name) key)))
+    links o h = says o ∙ go (choices-some V j k (offered ∙ h)) (superinterface_choices-public V (valid_with r.root w W p (J.facts ∷ U.facts ∷ []) f (valid_J.facts, (valid_U.facts, tt))) j k loads_j (neither_last (is_init_name k.name) (is_clinit_name k.name) (not-true (is_init_name k.name || is_clinit_name k.name) key)))
       where
-        fine : (m : Found) → IsPublicInstance m → use_fault V u InvokeInterface j (Some j) Other m ≡ None
+        fine : (m : DeclaredMember) → IsPublicInstance m → use_fault V u InvokeInterface j (Some j) Other m ≡ None
         fine m i =
-            let a : is_assignable V j j ≡ true = assign_is V j j j_plain j_plain ∙ or_first (same j j || is_interface_of V j) (in_chain V j j) (or_first (same j j) (is_interface_of V j) (same_itself j)) in
-            rw (public_member V u j m i.0, i.1, a, passes V u j m j i.2) refl
+            let a : is_assignable V j j ≡ true = assign_is V j j j_plain j_plain ∙ or_left (same j j || is_interface_of V j) (in_chain V j j) (or_left (same j j) (is_interface_of V j) (same_itself j)) in
+            rw (is_member_accessible-public V u j m i.0, i.1, a, passes_protected_check-public V u j m j i.2) refl
 
         go : IsCons (superinterface_choices V j k) → EachOf IsPublicInstance (superinterface_choices V j k) → first_of NoSuchMethodError (superinterface_choices V j k) (use_fault V u InvokeInterface j (Some j) Other) ≡ None
         go q ps = ap (λ ms. first_of NoSuchMethodError ms (use_fault V u InvokeInterface j (Some j) Other)) q.is ∙ fine q.head (subst (EachOf IsPublicInstance) q.is ps).0
 
     -- where it doesn't, it fails
-    misses : object_method W k ≡ None → inherits W c k ≡ false → outcome V u call ≡ Some NoSuchMethodError
+    misses : public_method_of_object W k ≡ None → inherits W c k ≡ false → outcome V u call ≡ Some NoSuchMethodError
     unfolding first_of
     misses o h = says o ∙ go (cons_or (superinterface_choices V j k))
       where
@@ -247,7 +248,7 @@ module _ (O N : World) (w : Bytes) (r : Ready O N w) (c : Bytes) (b : IsBaseInte
 
   -- ---- both sides
 
-  module _ (was : inherits O c k ≡ true) (now : inherits N c k ≡ false) (none_o : object_method O k ≡ None) where
+  module _ (was : inherits O c k ≡ true) (now : inherits N c k ≡ false) (none_o : public_method_of_object O k ≡ None) where
     abbrev VO : World
     VO = with_clients O (J.facts ∷ U.facts ∷ [])
 
@@ -269,9 +270,9 @@ module _ (O N : World) (w : Bytes) (r : Ready O N w) (c : Bytes) (b : IsBaseInte
     old : outcome VO u call ≡ None
     old = links O r.old b.was b.kind_o own.old.allowed_o own.old.sealed_o none_o was
 
-    none_n : object_method N k ≡ None
-    unfolding object_method
-    none_n = ap (λ o. and_then if_public_instance (and_then (declares k) o)) (r.new.there ∙ sym r.old.there) ∙ none_o
+    none_n : public_method_of_object N k ≡ None
+    unfolding public_method_of_object
+    none_n = ap (λ o. and_then if_public_instance (and_then (declared_method k) o)) (r.new.there ∙ sym r.old.there) ∙ none_o
 
     new : outcome VN u call ≡ Some NoSuchMethodError
     new = misses N r.new b.now b.kind_n own.old.allowed_n own.sealed_n none_n now
@@ -280,7 +281,7 @@ module _ (O N : World) (w : Bytes) (r : Ready O N w) (c : Bytes) (b : IsBaseInte
     reach = in_reach_if VO u j J.facts j_plain (find_j O r.old b.was b.kind_o own.old.allowed_o own.old.sealed_o) j_o refl
 
     scope : IsInScope O N (J ∷ U ∷ [])
-    unfolding names_differ class_named
+    unfolding differ_by_name class_named
     scope = scope_from O N (J ∷ U ∷ []) (valid_J, (valid_U, tt)) (rw uj refl) (own.old.allowed_o, (r.old.free 85 refl, tt)) (own.old.allowed_n, (r.new.free 85 refl, tt))
         (inl refl, (calls_above VO u 0x0021 object_name (codes "()V") [] [] (use_method (takes j) ∷ []) (call ∷ []) u_o init_o, tt))
 
@@ -315,11 +316,11 @@ module _ (O N : World) (w : Bytes) (r : Ready O N w) (c : Bytes) (b : IsBaseInte
         let e : field_found VO c l ≡ field_found O c l = sym (field_found-side O (J.facts ∷ U.facts ∷ []) fo.bare fo.unused c l (declared_library O (J.facts ∷ U.facts ∷ []) fo c b.was.class b.was.is_there) b.was.loaded) in
         a ∙ rw (e, d) refl
 
-    no_field : (l : Key) (m : Found) → is_none (field_found O c l) ≡ true → field_found VO j l ≡ Some m → ⊥
+    no_field : (l : Key) (m : DeclaredMember) → is_none (field_found O c l) ≡ true → field_found VO j l ≡ Some m → ⊥
     unfolding or_else
     no_field l m n q = go (field_found O c l) n (sym (fields l) ∙ q)
       where
-        go : (o : Option Found) → is_none o ≡ true → or_else (or_else o None) None ≡ Some m → ⊥
+        go : (o : Option DeclaredMember) → is_none o ≡ true → or_else (or_else o None) None ≡ Some m → ⊥
         go None p z = cc
         go (Some x) p z = cc
 
@@ -334,8 +335,8 @@ module _ (O N : World) (w : Bytes) (r : Ready O N w) (c : Bytes) (b : IsBaseInte
         go (inl e) = sym (same_is c i e)
         go (inr e) = absurd (cc)
 
-    constant : (i : Bytes) (l : Key) → constant_stands O N i l ≡ true → MeetsConstant VO (J ∷ U ∷ []) i l → ⊥
-    unfolding constant_stands
+    constant : (i : Bytes) (l : Key) → constant_added O N i l ≡ true → MeetsConstant VO (J ∷ U ∷ []) i l → ⊥
+    unfolding constant_added
     constant i l s m = go (either m.0 m.1)
       where
         unknown : is_none (field_found O i l) ≡ true
@@ -349,16 +350,16 @@ module _ (O N : World) (w : Bytes) (r : Ready O N w) (c : Bytes) (b : IsBaseInte
             (subst (λ (z : ClientClass). may_name VO z.facts.name i ≡ true) (sym e) m.3)
 
     -- a class among them has the seat java/lang/Object
-    at_root : (z : ClientClass) (a : Bytes) → (J ≡ z) ⊎ (U ≡ z) → is_interface z.facts.flags ≡ false → seat VO z.facts.name ≡ Some a → a ≡ object_name
-    at_root z a (inl e) i s = absurd (both_ways (is_interface z.facts.flags) i (subst (λ (z : ClientClass). is_interface z.facts.flags ≡ true) e refl))
+    at_root : (z : ClientClass) (a : Bytes) → (J ≡ z) ⊎ (U ≡ z) → interface_flag z.facts.flags ≡ false → seat VO z.facts.name ≡ Some a → a ≡ object_name
+    at_root z a (inl e) i s = absurd (both_ways (interface_flag z.facts.flags) i (subst (λ (z : ClientClass). interface_flag z.facts.flags ≡ true) e refl))
     at_root z a (inr e) i s = let q : Some a ≡ Some object_name = sym s ∙ ap (λ (z : ClientClass). seat VO z.facts.name) (sym e) ∙ u_seat in cc
 
-    capture : (a : Bytes) (l : Key) → capture_stands O N a l ≡ true → MeetsCapture VO (J ∷ U ∷ []) a l → ⊥
-    capture a l s m = no_capture_root O N r.root r.is_root r.old.there r.new.there l (subst (λ z. capture_stands O N z l ≡ true) (at_root m.0 a (either m.0 m.1) m.3 m.4) s)
+    capture : (a : Bytes) (l : Key) → capture_added O N a l ≡ true → MeetsCapture VO (J ∷ U ∷ []) a l → ⊥
+    capture a l s m = no_capture_root O N r.root r.is_root r.old.there r.new.there l (subst (λ z. capture_added O N z l ≡ true) (at_root m.0 a (either m.0 m.1) m.3 m.4) s)
 
-    final : (a : Bytes) (l : Key) → final_stands O N a l ≡ true → MeetsFinal VO (J ∷ U ∷ []) a l → ⊥
-    final a l s m = no_final_root O N r.root r.is_root r.old.there r.new.there l (subst (λ z. final_stands O N z l ≡ true) (at_root m.0 a (either m.0 m.1) m.3 m.4) s)
+    final : (a : Bytes) (l : Key) → final_added O N a l ≡ true → MeetsFinal VO (J ∷ U ∷ []) a l → ⊥
+    final a l s m = no_final_root O N r.root r.is_root r.old.there r.new.there l (subst (λ z. final_added O N z l ≡ true) (at_root m.0 a (either m.0 m.1) m.3 m.4) s)
 
     -- H9
-    pub inherit_is_shown : ShowsAlone O N (calls_inherited O N w c k) NoSuchMethodError
-    inherit_is_shown = (shows, meets_nothing_by O N (J ∷ U ∷ []) constant capture final)
+    pub interface_method_lost_is_shown : ShowsAlone O N (calls_inherited O N w c k) NoSuchMethodError
+    interface_method_lost_is_shown = (shows, meets_nothing_by O N (J ∷ U ∷ []) constant capture final)
