@@ -1,9 +1,7 @@
 //! The printed forms of verdicts.
 #![tactic(auto)]
 
-pub mod lines;
+mod lines;
 pub mod printed;
-#[cfg(test)]
-mod tests;
+mod printed_words;
 pub mod text;
-pub mod words;

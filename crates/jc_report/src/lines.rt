@@ -1,9 +1,9 @@
 //! The lines of a verdict.
 ghost use Rattle.std.specs.Prelude.{◌≡◌, ◌++◌, ◌+◌, ◌<◌, ◌^◌, codes, length, OnOk, IfOk};
-ghost use Rattle.jc_facts.specs.Text.{printed, printed_key, printed_member, side_word as side_word_of, error_name as error_name_of, finding_line as line_of_finding, finding_lines as lines_of_findings, collision_line as line_of_collision, collision_lines as lines_of_collisions, note_line as line_of_note, note_lines as lines_of_notes};
+ghost use Rattle.jc_facts.specs.print.Text.{printed, printed_key, printed_member, word_of_side, name_of_error, line_of_finding, lines_of_findings, line_of_collision, lines_of_collisions, line_of_note, lines_of_notes};
 
 use crate::printed::{push_decimal, push_key, push_name, push_printed};
-use crate::words::{act_word, error_name, push_rule, side_word};
+use crate::printed_words::{act_word, error_name, push_rule, side_word};
 use jc_base::name::Name;
 use jc_facts::finding::Finding;
 use jc_facts::key::Key;
@@ -21,7 +21,7 @@ fn push_member(text: &mut Vec<u8>, finding: &Finding) -> Result<(), AllocError>
 }
 
 // The line of a finding, its line end with it.
-#[tactic(auto, unfolding(jc_facts::specs::Text::finding_line))]
+#[tactic(auto, unfolding(jc_facts::specs::print::Text::line_of_finding))]
 fn finding_line(alloc: Global, number: usize, finding: &Finding) -> Result<Vec<u8>, AllocError>
     ensures { IfOk result (λ line. line.items ≡ line_of_finding number finding.now) }
 {
@@ -56,7 +56,7 @@ pub fn finding_lines(alloc: Global, findings: &[Finding]) -> Result<Vec<u8>, All
 }
 
 // The line of a collision, its line end with it.
-#[tactic(auto, unfolding(jc_facts::specs::Text::collision_line))]
+#[tactic(auto, unfolding(jc_facts::specs::print::Text::line_of_collision))]
 fn collision_line(
     alloc: Global,
     number: usize,
@@ -103,7 +103,7 @@ fn unloadable_line(
     class: &Name,
     error: LinkError,
 ) -> Result<Vec<u8>, AllocError>
-    ensures { IfOk result (λ line. line.items ≡ codes "note unloadable " ++ side_word_of old ++ codes " " ++ printed class.now ++ codes " " ++ error_name_of error ++ codes "\n") }
+    ensures { IfOk result (λ line. line.items ≡ codes "note unloadable " ++ word_of_side old ++ codes " " ++ printed class.now ++ codes " " ++ name_of_error error ++ codes "\n") }
 {
     let mut line = Vec::from_slice(alloc, b"note unloadable ")?;
     line.extend_from_slice(side_word(old).as_bytes())?;
@@ -127,7 +127,7 @@ fn constant_line(alloc: Global, class: &Name, key: &Key) -> Result<Vec<u8>, Allo
     Ok(line)
 }
 
-#[tactic(auto, unfolding(jc_facts::specs::Text::note_line))]
+#[tactic(auto, unfolding(jc_facts::specs::print::Text::line_of_note))]
 fn note_line(alloc: Global, note: &Note) -> Result<Vec<u8>, AllocError>
     ensures { IfOk result (λ line. line.items ≡ line_of_note note.now) }
 {

@@ -1,7 +1,7 @@
 //! Printed names, keys and numbers.
 ghost use Rattle.std.specs.Prelude.{◌≡◌, ◌++◌, ◌+◌, ◌<◌, ◌≤◌, ◌^◌, OnOk};
 ghost use Rattle.std.specs.Fmt.{decimal};
-ghost use Rattle.jc_facts.specs.Text.{hex_digit as hex_digit_of, printed_byte, printed, is_method_descriptor as is_method, printed_key, printed_name};
+ghost use Rattle.jc_facts.specs.print.Text.{hex_digit_of, printed_byte, printed, is_descriptor_of_method, printed_key, printed_name};
 
 use jc_base::name::Name;
 use jc_facts::key::Key;
@@ -50,7 +50,7 @@ pub fn push_decimal(alloc: Global, text: &mut Vec<u8>, number: usize) -> Result<
 }
 
 fn is_method_descriptor(descriptor: &[u8]) -> bool
-    ensures { result ≡ is_method descriptor.now }
+    ensures { result ≡ is_descriptor_of_method descriptor.now }
 {
     match descriptor {
         [first, ..] => *first == b'(',
@@ -60,7 +60,7 @@ fn is_method_descriptor(descriptor: &[u8]) -> bool
 
 /// Prints a key at the end of the text: a method's is its name and descriptor written together, a
 /// field's has a colon between them. After an error the text may hold a part.
-pub fn push_key(text: &mut Vec<u8>, key: &Key) -> Result<(), AllocError>
+pub(crate) fn push_key(text: &mut Vec<u8>, key: &Key) -> Result<(), AllocError>
     ensures { OnOk result (text.new.items ≡ text.old.items ++ printed_key key.now) }
 {
     push_printed(text, key.name.as_bytes())?;
@@ -72,7 +72,7 @@ pub fn push_key(text: &mut Vec<u8>, key: &Key) -> Result<(), AllocError>
 
 /// Prints a name at the end of the text, or `-` where there is none. After an error the text may hold
 /// a part.
-pub fn push_name(text: &mut Vec<u8>, name: &Option<Name>) -> Result<(), AllocError>
+pub(crate) fn push_name(text: &mut Vec<u8>, name: &Option<Name>) -> Result<(), AllocError>
     ensures { OnOk result (text.new.items ≡ text.old.items ++ printed_name name.now) }
 {
     match name {

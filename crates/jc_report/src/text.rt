@@ -1,7 +1,7 @@
 //! The text of a verdict.
 ghost use Rattle.std.specs.Prelude.{◌≡◌, ◌++◌, codes, length, IfOk};
 ghost use Rattle.std.specs.Fmt.{decimal};
-ghost use Rattle.jc_facts.specs.Text.{verdict_word, last_line as last_line_of, text_of};
+ghost use Rattle.jc_facts.specs.print.Text.{verdict_word, last_line_of, text_of};
 
 use crate::lines::{collision_lines, finding_lines, note_lines};
 use crate::printed::push_decimal;
@@ -37,7 +37,7 @@ fn last_line(alloc: Global, verdict: &Verdict) -> Result<Vec<u8>, AllocError>
 /// The text of a verdict: a line for each finding and each collision, `NUMBER RULE CLASS MEMBER ACT
 /// SEAT ERROR` with `-` for what isn't there and with numbers that go on; a line for each note; and
 /// the last line, which begins with `compatible` or, where there is a finding, with `incompatible`.
-#[tactic(auto, unfolding(jc_facts::specs::Text::text_of))]
+#[tactic(auto, unfolding(jc_facts::specs::print::Text::text_of))]
 pub fn text(alloc: Global, verdict: &Verdict) -> Result<Vec<u8>, AllocError>
     ensures exact { IfOk result (λ text. text.items ≡ text_of verdict.now) }
 {

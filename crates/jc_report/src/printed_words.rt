@@ -1,6 +1,6 @@
 //! The printed words of rules, acts, errors and releases.
 ghost use Rattle.std.specs.Prelude.{◌≡◌, ◌++◌, OnOk};
-ghost use Rattle.jc_facts.specs.Text.{rule_name, act_word as word_of, error_name as name_of, side_word as side_word_of};
+ghost use Rattle.jc_facts.specs.print.Text.{rule_name, word_of_act, name_of_error, word_of_side};
 
 use crate::printed::push_decimal;
 use jc_facts::act::Act;
@@ -26,7 +26,7 @@ pub fn push_rule(alloc: Global, text: &mut Vec<u8>, rule: u8) -> Result<(), Allo
 
 /// The word of an act.
 pub fn act_word(act: Act) -> &'static str
-    ensures { result.now ≡ word_of act }
+    ensures { result.now ≡ word_of_act act }
 {
     match act {
         Act::ClassRef => "class",
@@ -52,7 +52,7 @@ pub fn act_word(act: Act) -> &'static str
 
 /// The name of an error.
 pub fn error_name(error: LinkError) -> &'static str
-    ensures { result.now ≡ name_of error }
+    ensures { result.now ≡ name_of_error error }
 {
     match error {
         LinkError::NoClassDefFoundError => "NoClassDefFoundError",
@@ -68,7 +68,7 @@ pub fn error_name(error: LinkError) -> &'static str
 
 /// The word of the old or the new release.
 pub fn side_word(old: bool) -> &'static str
-    ensures { result.now ≡ side_word_of old }
+    ensures { result.now ≡ word_of_side old }
 {
     if old { "old" } else { "new" }
 }
