@@ -6,7 +6,7 @@ use Rattle.std.specs.declared.cmp.Ordering.{Ordering}
 use Rattle.std.specs.declared.cmp.Ordering.TheVariants.{Less, Equal, Greater}
 use Rattle.std.specs.Cmp.Lexicographic.{slice_cmp, nat_list_cmp_total, texts_ties}
 use Rattle.jc_base.specs.Outside.{has_bytes, are_distinct}
-use Rattle.jcompat.specs.Ascending.{ascends}
+use Rattle.jcompat.specs.steps.Ascending.{ascends}
 
 less : (o : Ordering) → is_lt o ≡ true → o ≡ Less
 less Less h = refl

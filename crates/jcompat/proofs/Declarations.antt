@@ -1,6 +1,6 @@
 -- Whom a side's classes name and what they declare, as lists of candidates.
 --     all_keys cs      the keys of all members of the classes
-use Rattle.std.proofs.Common.{◌≡◌, Bool, true, false, cond, ℕ, zero, suc, List, [], ◌∷◌, ◌++◌, map, refl, sym, ap, subst, Option, Some, None, ◌⊎◌, inl, inr, ◌&&◌, ◌||◌, ◌∙◌}
+use Rattle.std.proofs.Common.{◌≡◌, Bool, true, false, cond, ℕ, zero, suc, List, [], ◌∷◌, ◌++◌, map, refl, sym, ap, subst, Option, Some, None, ◌⊎◌, inl, inr, ◌∙◌}
 use Rattle.std.specs.Prelude.{is_some}
 use Rattle.std.specs.List.{Contains, list_any, find as first_where}
 use Rattle.std.proofs.lemmas.Bool.{and_parts, or_cases}
@@ -9,14 +9,14 @@ use Rattle.jc_facts.specs.declared.class_facts.ClassFacts.{ClassFacts}
 use Rattle.jc_facts.specs.declared.class_facts.Member.{Member}
 use Rattle.jc_facts.specs.declared.key.Key.{Key}
 use Rattle.jc_facts.specs.Names.{Bytes, same, is_key, key_of}
-use Rattle.jc_facts.specs.World.{World, class_named, classes, find, own_field, own_method, size}
-use Rattle.jc_facts.specs.Search.{of_class, descend}
-use Rattle.jc_facts.specs.Hierarchy.{chain_step, of_super, chain, each, interfaces_step, with_interfaces, interfaces_of, superinterfaces}
-use Rattle.jc_facts.proofs.Listed.{EachOf, EachOf-map, here, there, none, cases}
+use Rattle.jc_facts.specs.world.World.{World, class_named, classes, find_class, own_field_of, own_method_of, size}
+use Rattle.jc_facts.specs.world.Search.{of_class, descend}
+use Rattle.jc_facts.specs.world.Hierarchy.{chain_step, of_super, chain, each, interfaces_step, with_interfaces, interfaces_of, superinterfaces}
+use Rattle.jc_lemmas.proofs.Listed.{EachOf, here, there, none, cases, EachOf-append}
 use Rattle.jc_facts.proofs.Same.{same_is}
-use Rattle.jc_laws.specs.Findings.{declares_key, above}
-use Rattle.jc_laws.proofs.Settles.{EachOf-append}
-use Rattle.jc_laws.proofs.Above.{each-all}
+use Rattle.jc_sound.specs.Findings.{declares_key}
+use Rattle.jc_worlds.specs.Hierarchy.{above}
+use Rattle.jc_facts.proofs.Hierarchy.{each-all}
 
 -- ---- lists of candidates
 
@@ -68,9 +68,9 @@ abbrev pub all_keys : List ClassFacts → List Key
 all_keys cs = spread own_keys cs
 
 own_key : (k : Key) (c : ClassFacts) → declares_key k c ≡ true → Contains (own_keys c) k
-own_key k c e = go (or_cases (is_some (own_field c k)) (is_some (own_method c k)) e)
+own_key k c e = go (or_cases (is_some (own_field_of c k)) (is_some (own_method_of c k)) e)
   where
-    go : (is_some (own_field c k) ≡ true) ⊎ (is_some (own_method c k) ≡ true) → Contains (own_keys c) k
+    go : (is_some (own_field_of c k) ≡ true) ⊎ (is_some (own_method_of c k) ≡ true) → Contains (own_keys c) k
     go (inl f) = Contains-append_left (map key_of c.fields) (map key_of c.methods) k (key_listed k c.fields f)
     go (inr m) = Contains-append_right (map key_of c.fields) (map key_of c.methods) k (key_listed k c.methods m)
 
@@ -98,37 +98,37 @@ named_in (d ∷ ds) x c e = go (same d.name x) e (named_in ds x c)
     go false q r = there c d ds (r q)
 
 module _ (W : World) where
-  pub found_in_world : (x : Bytes) (c : ClassFacts) → find W x ≡ Some c → Contains (classes W) c
-  unfolding find
+  pub found_in_world : (x : Bytes) (c : ClassFacts) → find_class W x ≡ Some c → Contains (classes W) c
+  unfolding find_class
   found_in_world x c e = named_in (classes W) x c e
 
   chain_in : (n : ℕ) (x : Bytes) → EachOf (Contains (classes W)) (descend W [] [] chain_step n x)
   unfolding descend chain_step
-  chain_in zero x = go (find W x)
+  chain_in zero x = go (find_class W x)
     where
       go : (o : Option ClassFacts) → EachOf (Contains (classes W)) (of_class [] (λ c. []) o)
       go None = tt
       go (Some c) = tt
-  chain_in (suc n) x = go (find W x) refl (chain_in n)
+  chain_in (suc n) x = go (find_class W x) refl (chain_in n)
     where
       up : ((y : Bytes) → EachOf (Contains (classes W)) (descend W [] [] chain_step n y)) → (s : Option Bytes) → EachOf (Contains (classes W)) (of_super (descend W [] [] chain_step n) s)
       up r None = tt
       up r (Some y) = r y
 
-      go : (o : Option ClassFacts) → find W x ≡ o → ((y : Bytes) → EachOf (Contains (classes W)) (descend W [] [] chain_step n y)) → EachOf (Contains (classes W)) (of_class [] (λ c. chain_step (descend W [] [] chain_step n) c) o)
+      go : (o : Option ClassFacts) → find_class W x ≡ o → ((y : Bytes) → EachOf (Contains (classes W)) (descend W [] [] chain_step n y)) → EachOf (Contains (classes W)) (of_class [] (λ c. chain_step (descend W [] [] chain_step n) c) o)
       go None e r = tt
       go (Some c) e r = (found_in_world x c e, up r c.superclass)
 
   interfaces_in : (n : ℕ) (x : Bytes) → EachOf (Contains (classes W)) (descend W [] [] interfaces_step n x)
   unfolding descend interfaces_step
-  interfaces_in zero x = go (find W x)
+  interfaces_in zero x = go (find_class W x)
     where
       go : (o : Option ClassFacts) → EachOf (Contains (classes W)) (of_class [] (λ c. []) o)
       go None = tt
       go (Some c) = tt
-  interfaces_in (suc n) x = go (find W x) refl (interfaces_in n)
+  interfaces_in (suc n) x = go (find_class W x) refl (interfaces_in n)
     where
-      go : (o : Option ClassFacts) → find W x ≡ o → ((y : Bytes) → EachOf (Contains (classes W)) (descend W [] [] interfaces_step n y))
+      go : (o : Option ClassFacts) → find_class W x ≡ o → ((y : Bytes) → EachOf (Contains (classes W)) (descend W [] [] interfaces_step n y))
           → EachOf (Contains (classes W)) (of_class [] (λ c. interfaces_step (descend W [] [] interfaces_step n) c) o)
       go None e r = tt
       go (Some c) e r = (found_in_world x c e, each-all (Contains (classes W)) (descend W [] [] interfaces_step n) c.interfaces (every _ r c.interfaces))

@@ -1,5 +1,5 @@
 -- The first event: there is at most one refusal, and none where there is a verdict.
-use Rattle.std.proofs.Common.{◌≡◌, ◌<◌, ◌≤◌, length, arith, ◌⊎◌, inl, inr, ℕ, List, Option, Some, None, refl, sym, ap, subst, ◌∙◌}
+use Rattle.std.proofs.Common.{◌≡◌, ◌<◌, ◌≤◌, length, arith, ◌⊎◌, inl, inr, ℕ, List, [], ◌∷◌, Option, Some, None, refl, sym, ap, subst, ◌∙◌}
 use Rattle.std.specs.Prelude.{IsSomeAnd}
 use Rattle.std.specs.Ordering.{nat_cmp, ordering_reverse, is_eq}
 use Rattle.std.specs.Cmp.Lexicographic.{slice_cmp, nat_list_cmp_total}
@@ -8,13 +8,17 @@ use Rattle.std.specs.declared.cmp.Ordering.TheVariants.{Less, Equal, Greater}
 use Rattle.std.proofs.lemmas.Map.Text.{is_eq-slice_cmp}
 use Rattle.jc_base.specs.Outside.{FileOf, IsFileAt}
 use Rattle.jc_facts.specs.Names.{Bytes}
-use Rattle.jc_facts.specs.Exact.{Before}
+use Rattle.jc_facts.specs.Exactly.{Before}
 use Rattle.jc_facts.proofs.Same.{same_is}
-use Rattle.jcompat.specs.declared.tree.Tree.{Tree}
-use Rattle.jcompat.specs.declared.tree.Tree.TheVariants as trees
+use Rattle.jcompat.specs.declared.tree.TreeName.{TreeName}
+use Rattle.jcompat.specs.declared.tree.TreeName.TheVariants as names
 use Rattle.jcompat.specs.declared.stop.Stop.{Stop}
 use Rattle.jcompat.specs.declared.stop.Stop.TheVariants as stops
-use Rattle.jcompat.specs.Request.{Roots, root_of, asked}
+use Rattle.jc_base.specs.States.{TreesState, Change}
+use Rattle.jcompat.specs.Command.{CheckCommand, trees_of, asked}
+use Rattle.jcompat.specs.Tree.{TreeOf}
+use Rattle.jcompat.specs.declared.limits.TheConstants.{MAX_BYTES, MAX_PATH, MAX_FINDINGS}
+use Rattle.jcompat.specs.declared.status.TheConstants.{PASSED, NOT_PASSED, READ_FAULT, WRITE_FAULT, NO_MEMORY}
 use Rattle.jc_desc.specs.declared.fault.Malformed.{Malformed}
 use Rattle.jc_desc.specs.declared.fault.Reason.{Reason}
 use Rattle.jc_facts.specs.declared.class_facts.ClassFacts.{ClassFacts}
@@ -24,17 +28,16 @@ use Rattle.jcompat.specs.declared.file_fault.FileFault.{FileFault}
 use Rattle.jcompat.specs.declared.file_fault.FileFault.TheVariants as faults
 use Rattle.jcompat.specs.declared.file_fault.TreeFault.{TreeFault}
 use Rattle.jcompat.specs.declared.file_fault.TreeFault.TheVariants as tree_faults
-use Rattle.jcompat.specs.Classes.{IsClassPathOf, path_of, IsReadAs, IsFileFault, HasFewFiles, HasManyFiles, HasShortPaths, HasLongPath, IsFirstFault, IsTreeFault, IsClean}
+use Rattle.jcompat.specs.ClassFiles.{IsClassPathOf, path_of, IsReadAs, IsFileFault, HasFewFiles, HasManyFiles, HasShortPaths, HasLongPath, IsFirstFault, IsTreeFault, IsClean}
 use Rattle.jcompat.specs.Stop.{status_of}
 use Rattle.jc_facts.specs.declared.verdict.Verdict.{Verdict}
-use Rattle.jc_facts.specs.World.{side}
-use Rattle.jc_table.specs.Root.{root_fault}
-use Rattle.jc_table.specs.Sides.{first_overlap}
-use Rattle.jc_facts.specs.Verdict.{IsVerdict}
-use Rattle.jcompat.specs.Answers.{given, Took, Fits, count_of, AreCleanBefore, IsUnfit, IsRefused, IsAccepted, HasCause, Sides, IsVerdictOn, HasFailed}
-use Rattle.jc_laws.proofs.VerdictLaw.{verdict_is_one}
-use Rattle.jcompat.proofs.OneVerdict.{one_of_sides}
-use Rattle.jcompat.specs.Written.{Refused}
+use Rattle.jc_facts.specs.world.World.{side}
+use Rattle.jc_table.specs.Root.{fault_of_root}
+use Rattle.jc_table.specs.Sides.{overlap_of}
+use Rattle.jc_facts.specs.rule.Verdict.{IsVerdict}
+use Rattle.jcompat.specs.Answers.{Records, Fits, count_of, IsFirstUnread, IsUnfit, IsRefused, IsAccepted, HasCause, IsVerdictOn, HasFailed}
+use Rattle.jc_sound.proofs.VerdictLaw.{verdict_is_one}
+use Rattle.jcompat.proofs.OneVerdict.{same_records}
 
 none_or_some : {A : Type 0} (o : Option A) (P : A → Type 0) → o ≡ None → IsSomeAnd o P → ⊥
 none_or_some None P e p = p
@@ -52,7 +55,7 @@ apart_numbers n limit le lt = omega arith
 
 -- a fault leaves no record
 unreadable : (path bytes : Bytes) (fault : FileFault) → IsFileFault path bytes fault → (facts : ClassFacts) → IsReadAs path bytes facts → ⊥
-unreadable path bytes faults.TooLong f facts r = apart_numbers (length bytes) 4194304 r.short f
+unreadable path bytes faults.TooLong f facts r = apart_numbers (length bytes) MAX_BYTES r.short f
 unreadable path bytes (faults.Malformed m) f facts r = never_both bytes facts m.offset m.reason r.reads f.1
 unreadable path bytes (faults.Misplaced name) (short, (other, reads, named, elsewhere)) facts r =
     elsewhere (r.place ∙ ap (λ (c : ClassFacts). path_of c.name) (one_record bytes facts other r.reads reads) ∙ ap path_of named)
@@ -63,14 +66,14 @@ one_malformed a b o r = ap (λ (x : ℕ). let m : Malformed = record { offset = 
 -- a file has one fault
 one_file_fault : (path bytes : Bytes) (a b : FileFault) → IsFileFault path bytes a → IsFileFault path bytes b → a ≡ b
 one_file_fault path bytes faults.TooLong faults.TooLong f g = refl
-one_file_fault path bytes faults.TooLong (faults.Malformed n) f g = absurd (apart_numbers (length bytes) 4194304 g.0 f)
-one_file_fault path bytes faults.TooLong (faults.Misplaced y) f g = absurd (apart_numbers (length bytes) 4194304 g.0 f)
-one_file_fault path bytes (faults.Malformed m) faults.TooLong f g = absurd (apart_numbers (length bytes) 4194304 f.0 g)
+one_file_fault path bytes faults.TooLong (faults.Malformed n) f g = absurd (apart_numbers (length bytes) MAX_BYTES g.0 f)
+one_file_fault path bytes faults.TooLong (faults.Misplaced y) f g = absurd (apart_numbers (length bytes) MAX_BYTES g.0 f)
+one_file_fault path bytes (faults.Malformed m) faults.TooLong f g = absurd (apart_numbers (length bytes) MAX_BYTES f.0 g)
 one_file_fault path bytes (faults.Malformed m) (faults.Malformed n) f g =
     let same = one_fault bytes m.offset n.offset m.reason n.reason f.1 g.1 in
     ap faults.Malformed (one_malformed m n same.0 same.1)
 one_file_fault path bytes (faults.Malformed m) (faults.Misplaced y) f (short, (facts, reads, named, elsewhere)) = absurd (never_both bytes facts m.offset m.reason reads f.1)
-one_file_fault path bytes (faults.Misplaced x) faults.TooLong f g = absurd (apart_numbers (length bytes) 4194304 f.0 g)
+one_file_fault path bytes (faults.Misplaced x) faults.TooLong f g = absurd (apart_numbers (length bytes) MAX_BYTES f.0 g)
 one_file_fault path bytes (faults.Misplaced x) (faults.Malformed n) (short, (facts, reads, named, elsewhere)) g = absurd (never_both bytes facts n.offset n.reason reads g.1)
 one_file_fault path bytes (faults.Misplaced x) (faults.Misplaced y) (short, (facts, reads, named, elsewhere)) (long, (other, again, called, away)) =
     ap faults.Misplaced (sym named ∙ ap (λ (c : ClassFacts). c.name) (one_record bytes facts other reads again) ∙ called)
@@ -109,7 +112,7 @@ few_or_many files root few many =
     omega (arith, few.few, many.many)
 
 short_or_long : (files : List FileOf) (root : Bytes) → HasShortPaths files root → HasLongPath files root → ⊥
-short_or_long files root short long = apart_numbers (length long.path) 4096 (short long.path long.is_path) long.long
+short_or_long files root short long = apart_numbers (length long.path) MAX_PATH (short long.path long.is_path) long.long
 
 -- a tree has one fault
 one_tree_fault : (files : List FileOf) (root : Bytes) (a b : TreeFault) → IsTreeFault files root a → IsTreeFault files root b → a ≡ b
@@ -129,33 +132,29 @@ clean_fault files root tree_faults.TooManyFiles c f = few_or_many files root c.f
 clean_fault files root tree_faults.LongPath c f = short_or_long files root c.short f.1
 clean_fault files root (tree_faults.File p x) c f = let r = c.read p f.2.bytes f.2.is_file in unreadable p f.2.bytes x f.2.is_fault r.0 r.1
 
--- ---- the three
+-- ---- the trees of a command
 
--- the trees are read
-pub record AreClean (files : List FileOf) (roots : Roots) : Type 0 where
-  pub platform : IsClean files roots.platform
-  pub old : IsClean files roots.old
-  pub new : IsClean files roots.new
+-- the trees have one first that isn't read
+one_unread : (files : List FileOf) (trees : List TreeOf) (s t : TreeName) (a b : TreeFault) → IsFirstUnread files trees s a → IsFirstUnread files trees t b → stops.Unread s a ≡ stops.Unread t b
+one_unread files [] s t a b h k = absurd h
+one_unread files (tree ∷ trees) s t a b (inl (is, f)) (inl (also, g)) =
+    ap (λ (n : TreeName). stops.Unread n a) (sym is ∙ also) ∙ ap (stops.Unread t) (one_tree_fault files tree.root a b f g)
+one_unread files (tree ∷ trees) s t a b (inl (is, f)) (inr (clean, k)) = absurd (clean_fault files tree.root a clean f)
+one_unread files (tree ∷ trees) s t a b (inr (clean, h)) (inl (is, g)) = absurd (clean_fault files tree.root b clean g)
+one_unread files (tree ∷ trees) s t a b (inr (clean, h)) (inr (also, k)) = one_unread files trees s t a b h k
 
-one_unread : (files : List FileOf) (roots : Roots) (s t : Tree) (a b : TreeFault) → AreCleanBefore files roots s × IsTreeFault files (root_of roots s) a
-    → AreCleanBefore files roots t × IsTreeFault files (root_of roots t) b → stops.Unread s a ≡ stops.Unread t b
-one_unread files roots trees.Platform trees.Platform a b (c, l) (d, m) = ap (stops.Unread trees.Platform) (one_tree_fault files roots.platform a b l m)
-one_unread files roots trees.Old trees.Old a b (c, l) (d, m) = ap (stops.Unread trees.Old) (one_tree_fault files roots.old a b l m)
-one_unread files roots trees.New trees.New a b (c, l) (d, m) = ap (stops.Unread trees.New) (one_tree_fault files roots.new a b l m)
-one_unread files roots trees.Platform trees.Old a b (c, l) (d, m) = absurd (clean_fault files roots.platform a d l)
-one_unread files roots trees.Platform trees.New a b (c, l) (d, m) = absurd (clean_fault files roots.platform a d.0 l)
-one_unread files roots trees.Old trees.Platform a b (c, l) (d, m) = absurd (clean_fault files roots.platform b c m)
-one_unread files roots trees.Old trees.New a b (c, l) (d, m) = absurd (clean_fault files roots.old a d.1 l)
-one_unread files roots trees.New trees.Platform a b (c, l) (d, m) = absurd (clean_fault files roots.platform b c.0 m)
-one_unread files roots trees.New trees.Old a b (c, l) (d, m) = absurd (clean_fault files roots.old b c.1 m)
+-- trees that are read have none
+abbrev AreClean : List FileOf → List TreeOf → Type 0
+AreClean files [] = Unit {0}
+AreClean files (tree ∷ trees) = IsClean files tree.root × AreClean files trees
 
-all_clean : (files : List FileOf) (roots : Roots) (tree : Tree) (fault : TreeFault) → AreClean files roots → IsTreeFault files (root_of roots tree) fault → ⊥
-all_clean files roots trees.Platform fault c l = clean_fault files roots.platform fault c.platform l
-all_clean files roots trees.Old fault c l = clean_fault files roots.old fault c.old l
-all_clean files roots trees.New fault c l = clean_fault files roots.new fault c.new l
+all_clean : (files : List FileOf) (trees : List TreeOf) (name : TreeName) (fault : TreeFault) → AreClean files trees → IsFirstUnread files trees name fault → ⊥
+all_clean files [] name fault c h = h
+all_clean files (tree ∷ trees) name fault c (inl (is, f)) = clean_fault files tree.root fault c.0 f
+all_clean files (tree ∷ trees) name fault c (inr (clean, h)) = all_clean files trees name fault c.1 h
 
-clean_sides : (words : List Bytes) (files : List FileOf) (s : Sides words files) → AreClean files s.roots
-clean_sides words files s = record { platform = s.platform_is.clean; old = s.old_is.clean; new = s.new_is.clean }
+clean_records : (words : List Bytes) (files : List FileOf) (r : Records words files) → AreClean files (trees_of (CheckCommand r.check))
+clean_records words files r = (r.platform_is.clean, (r.old_is.clean, (r.new_is.clean, tt)))
 
 -- ---- the records
 
@@ -168,40 +167,40 @@ same_some o x y h k = let both : Some x ≡ Some y = sym h ∙ k in cc
 -- records that go with each other have no overlap
 module _ (platform old new : List ClassFacts) where
   one_unfit : (a b : Stop) → IsUnfit platform old new a → IsUnfit platform old new b → a ≡ b
-  one_unfit (stops.BadRoot p) (stops.BadRoot q) h k = ap stops.BadRoot (same_some (root_fault platform) p q h k)
-  one_unfit (stops.BadRoot p) (stops.Overlap trees.Old y) h k = absurd (none_some (root_fault platform) p k.0 h)
-  one_unfit (stops.BadRoot p) (stops.Overlap trees.New y) h k = absurd (none_some (root_fault platform) p k.0 h)
-  one_unfit (stops.BadRoot p) stops.TooManyFindings h k = absurd (none_some (root_fault platform) p k.0.root h)
-  one_unfit (stops.Overlap trees.Old x) (stops.BadRoot q) h k = absurd (none_some (root_fault platform) q h.0 k)
-  one_unfit (stops.Overlap trees.Old x) (stops.Overlap trees.Old y) h k = ap (stops.Overlap trees.Old) (same_some (first_overlap platform old) x y h.1 k.1)
-  one_unfit (stops.Overlap trees.Old x) (stops.Overlap trees.New y) h k = absurd (none_some (first_overlap platform old) x k.1 h.1)
-  one_unfit (stops.Overlap trees.Old x) stops.TooManyFindings h k = absurd (none_some (first_overlap platform old) x k.0.old_apart h.1)
-  one_unfit (stops.Overlap trees.New x) (stops.BadRoot q) h k = absurd (none_some (root_fault platform) q h.0 k)
-  one_unfit (stops.Overlap trees.New x) (stops.Overlap trees.Old y) h k = absurd (none_some (first_overlap platform old) y h.1 k.1)
-  one_unfit (stops.Overlap trees.New x) (stops.Overlap trees.New y) h k = ap (stops.Overlap trees.New) (same_some (first_overlap platform new) x y h.2 k.2)
-  one_unfit (stops.Overlap trees.New x) stops.TooManyFindings h k = absurd (none_some (first_overlap platform new) x k.0.new_apart h.2)
-  one_unfit stops.TooManyFindings (stops.BadRoot q) h k = absurd (none_some (root_fault platform) q h.0.root k)
-  one_unfit stops.TooManyFindings (stops.Overlap trees.Old y) h k = absurd (none_some (first_overlap platform old) y h.0.old_apart k.1)
-  one_unfit stops.TooManyFindings (stops.Overlap trees.New y) h k = absurd (none_some (first_overlap platform new) y h.0.new_apart k.2)
+  one_unfit (stops.BadRoot p) (stops.BadRoot q) h k = ap stops.BadRoot (same_some (fault_of_root platform) p q h k)
+  one_unfit (stops.BadRoot p) (stops.Overlap names.Old y) h k = absurd (none_some (fault_of_root platform) p k.0 h)
+  one_unfit (stops.BadRoot p) (stops.Overlap names.New y) h k = absurd (none_some (fault_of_root platform) p k.0 h)
+  one_unfit (stops.BadRoot p) stops.TooManyFindings h k = absurd (none_some (fault_of_root platform) p k.0.root h)
+  one_unfit (stops.Overlap names.Old x) (stops.BadRoot q) h k = absurd (none_some (fault_of_root platform) q h.0 k)
+  one_unfit (stops.Overlap names.Old x) (stops.Overlap names.Old y) h k = ap (stops.Overlap names.Old) (same_some (overlap_of platform old) x y h.1 k.1)
+  one_unfit (stops.Overlap names.Old x) (stops.Overlap names.New y) h k = absurd (none_some (overlap_of platform old) x k.1 h.1)
+  one_unfit (stops.Overlap names.Old x) stops.TooManyFindings h k = absurd (none_some (overlap_of platform old) x k.0.old_apart h.1)
+  one_unfit (stops.Overlap names.New x) (stops.BadRoot q) h k = absurd (none_some (fault_of_root platform) q h.0 k)
+  one_unfit (stops.Overlap names.New x) (stops.Overlap names.Old y) h k = absurd (none_some (overlap_of platform old) y h.1 k.1)
+  one_unfit (stops.Overlap names.New x) (stops.Overlap names.New y) h k = ap (stops.Overlap names.New) (same_some (overlap_of platform new) x y h.2 k.2)
+  one_unfit (stops.Overlap names.New x) stops.TooManyFindings h k = absurd (none_some (overlap_of platform new) x k.0.new_apart h.2)
+  one_unfit stops.TooManyFindings (stops.BadRoot q) h k = absurd (none_some (fault_of_root platform) q h.0.root k)
+  one_unfit stops.TooManyFindings (stops.Overlap names.Old y) h k = absurd (none_some (overlap_of platform old) y h.0.old_apart k.1)
+  one_unfit stops.TooManyFindings (stops.Overlap names.New y) h k = absurd (none_some (overlap_of platform new) y h.0.new_apart k.2)
   one_unfit stops.TooManyFindings stops.TooManyFindings h k = refl
-  one_unfit (stops.Overlap trees.Platform x) b h k = absurd h
+  one_unfit (stops.Overlap names.Platform x) b h k = absurd h
   one_unfit stops.Words b h k = absurd h
   one_unfit (stops.Unread t f) b h k = absurd h
   one_unfit (stops.ReadFault t) b h k = absurd h
   one_unfit stops.Memory b h k = absurd h
-  one_unfit a (stops.Overlap trees.Platform x) h k = absurd k
+  one_unfit a (stops.Overlap names.Platform x) h k = absurd k
   one_unfit a stops.Words h k = absurd k
   one_unfit a (stops.Unread t f) h k = absurd k
   one_unfit a (stops.ReadFault t) h k = absurd k
   one_unfit a stops.Memory h k = absurd k
 
   -- what goes with each other and has few findings isn't refused
-  not_unfit : Fits platform old new → ((v : Verdict) → IsVerdict (side platform old) (side platform new) v → count_of v ≤ 999999) → (stop : Stop) → IsUnfit platform old new stop → ⊥
-  not_unfit fits few (stops.BadRoot p) h = none_some (root_fault platform) p fits.root h
-  not_unfit fits few (stops.Overlap trees.Platform x) h = h
-  not_unfit fits few (stops.Overlap trees.Old x) h = none_some (first_overlap platform old) x fits.old_apart h.1
-  not_unfit fits few (stops.Overlap trees.New x) h = none_some (first_overlap platform new) x fits.new_apart h.2
-  not_unfit fits few stops.TooManyFindings (same, (v, exact, many)) = apart_numbers (count_of v) 999999 (few v exact) many
+  not_unfit : Fits platform old new → ((v : Verdict) → IsVerdict (side platform old) (side platform new) v → count_of v ≤ MAX_FINDINGS) → (stop : Stop) → IsUnfit platform old new stop → ⊥
+  not_unfit fits few (stops.BadRoot p) h = none_some (fault_of_root platform) p fits.root h
+  not_unfit fits few (stops.Overlap names.Platform x) h = h
+  not_unfit fits few (stops.Overlap names.Old x) h = none_some (overlap_of platform old) x fits.old_apart h.1
+  not_unfit fits few (stops.Overlap names.New x) h = none_some (overlap_of platform new) x fits.new_apart h.2
+  not_unfit fits few stops.TooManyFindings (same, (v, exact, many)) = apart_numbers (count_of v) MAX_FINDINGS (few v exact) many
   not_unfit fits few stops.Words h = h
   not_unfit fits few (stops.Unread t f) h = h
   not_unfit fits few (stops.ReadFault t) h = h
@@ -209,9 +208,9 @@ module _ (platform old new : List ClassFacts) where
 
 -- ---- all of it
 
-moved_unfit : (words : List Bytes) (files : List FileOf) (s t : Sides words files) (stop : Stop) → IsUnfit t.platform t.old t.new stop → IsUnfit s.platform s.old s.new stop
+moved_unfit : (words : List Bytes) (files : List FileOf) (s t : Records words files) (stop : Stop) → IsUnfit t.platform t.old t.new stop → IsUnfit s.platform s.old s.new stop
 moved_unfit words files s t stop h =
-    let is = one_of_sides words files s t in
+    let is = same_records words files s t in
     subst (λ (n : List ClassFacts). IsUnfit s.platform s.old n stop) is.new
     (subst (λ (o : List ClassFacts). IsUnfit s.platform o t.new stop) is.old
     (subst (λ (p : List ClassFacts). IsUnfit p t.old t.new stop) is.platform h))
@@ -223,9 +222,9 @@ for_some {A} (Some y) x P e p = let is : x ≡ y = cc in subst P is p
 -- what is refused, by when it is
 data Event (words : List Bytes) (files : List FileOf) (stop : Stop) : Type 0 where
   at_words : stop ≡ stops.Words → asked words ≡ None → Event words files stop
-  at_tree : (tree : Tree) (fault : TreeFault) → stop ≡ stops.Unread tree fault
-      → IsSomeAnd (asked words) (λ roots. AreCleanBefore files roots tree × IsTreeFault files (root_of roots tree) fault) → Event words files stop
-  at_records : (s : Sides words files) → IsUnfit s.platform s.old s.new stop → Event words files stop
+  at_tree : (name : TreeName) (fault : TreeFault) → stop ≡ stops.Unread name fault
+      → IsSomeAnd (asked words) (λ command. IsFirstUnread files (trees_of command) name fault) → Event words files stop
+  at_records : (s : Records words files) → IsUnfit s.platform s.old s.new stop → Event words files stop
 
 event : (words : List Bytes) (files : List FileOf) (stop : Stop) → IsRefused words files stop → Event words files stop
 event words files stops.Words h = at_words refl h
@@ -236,23 +235,23 @@ event words files stops.TooManyFindings h = at_records h.0 h.1
 event words files (stops.ReadFault t) h = absurd h.1
 event words files stops.Memory h = absurd h.1
 
-words_or_sides : (words : List Bytes) (files : List FileOf) → asked words ≡ None → Sides words files → ⊥
-words_or_sides words files h s = none_some (asked words) s.roots h s.asked_for
+words_or_records : (words : List Bytes) (files : List FileOf) → asked words ≡ None → Records words files → ⊥
+words_or_records words files h s = none_some (asked words) (CheckCommand s.check) h s.asked_for
 
-tree_or_sides : (words : List Bytes) (files : List FileOf) (tree : Tree) (fault : TreeFault)
-    → IsSomeAnd (asked words) (λ roots. AreCleanBefore files roots tree × IsTreeFault files (root_of roots tree) fault) → Sides words files → ⊥
-tree_or_sides words files tree fault h s = both_some (asked words) _ (λ roots. AreClean files roots) (λ roots l c. all_clean files roots tree fault c l.1) h
-    (for_some (asked words) s.roots (λ roots. AreClean files roots) s.asked_for (clean_sides words files s))
+tree_or_records : (words : List Bytes) (files : List FileOf) (name : TreeName) (fault : TreeFault)
+    → IsSomeAnd (asked words) (λ command. IsFirstUnread files (trees_of command) name fault) → Records words files → ⊥
+tree_or_records words files name fault h r = both_some (asked words) _ (λ command. AreClean files (trees_of command)) (λ command l c. all_clean files (trees_of command) name fault c l) h
+    (for_some (asked words) (CheckCommand r.check) (λ command. AreClean files (trees_of command)) r.asked_for (clean_records words files r))
 
 one_event : (words : List Bytes) (files : List FileOf) (a b : Stop) → Event words files a → Event words files b → a ≡ b
 one_event words files a b (at_words p h) (at_words q k) = p ∙ sym q
 one_event words files a b (at_words p h) (at_tree t g q k) = absurd (none_or_some (asked words) _ h k)
-one_event words files a b (at_words p h) (at_records s k) = absurd (words_or_sides words files h s)
+one_event words files a b (at_words p h) (at_records s k) = absurd (words_or_records words files h s)
 one_event words files a b (at_tree s f p h) (at_words q k) = absurd (none_or_some (asked words) _ k h)
-one_event words files a b (at_tree s f p h) (at_tree t g q k) = p ∙ both_some (asked words) _ _ (λ roots l m. one_unread files roots s t f g l m) h k ∙ sym q
-one_event words files a b (at_tree t f p h) (at_records s k) = absurd (tree_or_sides words files t f h s)
-one_event words files a b (at_records s h) (at_words q k) = absurd (words_or_sides words files k s)
-one_event words files a b (at_records s h) (at_tree t g q k) = absurd (tree_or_sides words files t g k s)
+one_event words files a b (at_tree s f p h) (at_tree t g q k) = p ∙ both_some (asked words) _ _ (λ command l m. one_unread files (trees_of command) s t f g l m) h k ∙ sym q
+one_event words files a b (at_tree t f p h) (at_records s k) = absurd (tree_or_records words files t f h s)
+one_event words files a b (at_records s h) (at_words q k) = absurd (words_or_records words files k s)
+one_event words files a b (at_records s h) (at_tree t g q k) = absurd (tree_or_records words files t g k s)
 one_event words files a b (at_records s h) (at_records t k) = one_unfit s.platform s.old s.new a b h (moved_unfit words files s t b k)
 
 -- two refusals are one
@@ -264,61 +263,52 @@ pub not_refused : (words : List Bytes) (files : List FileOf) (stop : Stop) → I
 not_refused words files stop a h = go (event words files stop h)
   where
     go : Event words files stop → ⊥
-    go (at_words p k) = words_or_sides words files k a.sides
-    go (at_tree t f p k) = tree_or_sides words files t f k a.sides
-    go (at_records s k) = not_unfit a.sides.platform a.sides.old a.sides.new a.fits a.few stop (moved_unfit words files a.sides s stop k)
+    go (at_words p k) = words_or_records words files k a.records
+    go (at_tree t f p k) = tree_or_records words files t f k a.records
+    go (at_records s k) = not_unfit a.records.platform a.records.old a.records.new a.fits a.few stop (moved_unfit words files a.records s stop k)
 
 -- a verdict is of what is accepted
 pub verdict_accepted : (words : List Bytes) (files : List FileOf) (v : Verdict) → IsVerdictOn words files v → IsAccepted words files
 verdict_accepted words files v h =
-    let s = h.compares.sides in
+    let s = h.compares.records in
     record {
-      sides = s;
+      records = s;
       fits = h.compares.fits;
-      few = λ w k. subst (λ (x : Verdict). count_of x ≤ 999999) (verdict_is_one (side s.platform s.old) (side s.platform s.new) v w h.compares.exact k) h.few;
+      few = λ w k. subst (λ (x : Verdict). count_of x ≤ MAX_FINDINGS) (verdict_is_one (side s.platform s.old) (side s.platform s.new) v w h.compares.exact k) h.few;
     }
 
 -- a cause that the words and the files alone decide, or a failed call, or want of memory
 data Kind (words : List Bytes) (files : List FileOf) (stop : Stop) : Type 0 where
   decided : IsRefused words files stop → Kind words files stop
-  failed : status_of stop ≡ 4 → Kind words files stop
-  no_memory : status_of stop ≡ 6 → Kind words files stop
+  failed : status_of stop ≡ READ_FAULT → Kind words files stop
+  no_memory : status_of stop ≡ NO_MEMORY → Kind words files stop
 
-kind_of : (words : List Bytes) (content : Option (List FileOf)) (before after : Bytes → ℕ) (files : List FileOf) → content ≡ Some files → (stop : Stop)
-    → HasCause (given words content before after) stop → Kind words files stop
-kind_of words content before after files told stops.Words h = decided h
-kind_of words content before after files told (stops.Unread t p) h = decided (h files told)
-kind_of words content before after files told (stops.BadRoot p) h = decided (h files told)
-kind_of words content before after files told (stops.Overlap t x) h = decided (h files told)
-kind_of words content before after files told stops.TooManyFindings h = decided (h files told)
-kind_of words content before after files told (stops.ReadFault t) h = failed refl
-kind_of words content before after files told stops.Memory h = no_memory refl
+kind_of : (words : List Bytes) (c : Change TreesState) (files : List FileOf) → c.before.content ≡ Some files → (stop : Stop) → HasCause words c stop → Kind words files stop
+kind_of words c files told stops.Words h = decided h
+kind_of words c files told (stops.Unread t p) h = decided (h files told)
+kind_of words c files told (stops.BadRoot p) h = decided (h files told)
+kind_of words c files told (stops.Overlap t x) h = decided (h files told)
+kind_of words c files told stops.TooManyFindings h = decided (h files told)
+kind_of words c files told (stops.ReadFault t) h = failed refl
+kind_of words c files told stops.Memory h = no_memory refl
 
 -- the status of a stop whose put may have failed
-module _ (words : List Bytes) (content : Option (List FileOf)) (before after : Bytes → ℕ) (files : List FileOf) (told : content ≡ Some files) (mine : Stop)
-    (cause : HasCause (given words content before after) mine) (taken : Took) (status : ℕ) (said : Refused mine taken status) where
-  status_or_failed : (P : Type 0) → (status ≡ status_of mine → P) → P ⊎ HasFailed status
-  status_or_failed P f = go said.known
-    where
-      go : (status ≡ status_of mine) ⊎ (status ≡ 5) ⊎ (status ≡ 6) → P ⊎ HasFailed status
-      go (inl same) = inl (f same)
-      go (inr (inl five)) = inr (inr (inl five))
-      go (inr (inr six)) = inr (inr (inr six))
-
+module _ (words : List Bytes) (c : Change TreesState) (files : List FileOf) (told : c.before.content ≡ Some files) (mine : Stop) (cause : HasCause words c mine) (status : ℕ)
+    (known : (status ≡ status_of mine) ⊎ (status ≡ WRITE_FAULT) ⊎ (status ≡ NO_MEMORY)) where
   pub refused_status : (stop : Stop) → IsRefused words files stop → (status ≡ status_of stop) ⊎ HasFailed status
-  refused_status stop h = go (kind_of words content before after files told mine cause) said.known
+  refused_status stop h = go (kind_of words c files told mine cause) known
     where
-      go : Kind words files mine → (status ≡ status_of mine) ⊎ (status ≡ 5) ⊎ (status ≡ 6) → (status ≡ status_of stop) ⊎ HasFailed status
+      go : Kind words files mine → (status ≡ status_of mine) ⊎ (status ≡ WRITE_FAULT) ⊎ (status ≡ NO_MEMORY) → (status ≡ status_of stop) ⊎ HasFailed status
       go (decided k) (inl same) = inl (same ∙ ap status_of (one_refusal_of words files mine stop k h))
       go (failed four) (inl same) = inr (inl (same ∙ four))
       go (no_memory six) (inl same) = inr (inr (inr (same ∙ six)))
       go k (inr (inl five)) = inr (inr (inl five))
       go k (inr (inr six)) = inr (inr (inr six))
 
-  pub accepted_status : IsAccepted words files → (status ≡ 0) ⊎ (status ≡ 1) ⊎ HasFailed status
-  accepted_status a = go (kind_of words content before after files told mine cause) said.known
+  pub accepted_status : IsAccepted words files → (status ≡ PASSED) ⊎ (status ≡ NOT_PASSED) ⊎ HasFailed status
+  accepted_status a = go (kind_of words c files told mine cause) known
     where
-      go : Kind words files mine → (status ≡ status_of mine) ⊎ (status ≡ 5) ⊎ (status ≡ 6) → (status ≡ 0) ⊎ (status ≡ 1) ⊎ HasFailed status
+      go : Kind words files mine → (status ≡ status_of mine) ⊎ (status ≡ WRITE_FAULT) ⊎ (status ≡ NO_MEMORY) → (status ≡ PASSED) ⊎ (status ≡ NOT_PASSED) ⊎ HasFailed status
       go (decided k) (inl same) = absurd (not_refused words files mine a k)
       go (failed four) (inl same) = inr (inr (inl (same ∙ four)))
       go (no_memory six) (inl same) = inr (inr (inr (inr (same ∙ six))))

@@ -6,8 +6,9 @@ use Rattle.jc_facts.specs.declared.class_facts.ClassFacts.{ClassFacts}
 use Rattle.jc_facts.specs.Names.{Bytes}
 use Rattle.jcompat.specs.declared.file_fault.FileFault.{FileFault}
 use Rattle.jcompat.specs.declared.file_fault.FileFault.TheVariants as faults
-use Rattle.jcompat.specs.Classes.{IsReadAs, IsFileFault}
-use Rattle.jcompat.specs.Survey.{IsReadAt, IsFaultAt, AreReadAt, IsFirstOf}
+use Rattle.jcompat.specs.declared.limits.TheConstants.{MAX_BYTES}
+use Rattle.jcompat.specs.ClassFiles.{IsReadAs, IsFileFault}
+use Rattle.jcompat.specs.steps.ReadTree.{IsReadAt, IsFaultAt, AreReadAt, IsFirstOf}
 
 -- a front that isn't full is the whole
 whole_front : (n : ℕ) (bytes front : Bytes) → front ≡ take (n + 1) bytes → length front ≤ n → front ≡ bytes
@@ -15,21 +16,21 @@ whole_front n bytes front is short =
     let long : length front ≡ length (take (n + 1) bytes) = ap length is in
     is ∙ take_all (n + 1) bytes (omega (arith, length-take (n + 1) bytes))
 
-pub read_told : (files : List FileOf) (root path front : Bytes) (facts : ClassFacts) → ReadsFront (Some files) root path (4194304 + 1) front → IsReadAs path front facts
+pub read_told : (files : List FileOf) (root path front : Bytes) (facts : ClassFacts) → ReadsFront (Some files) root path (MAX_BYTES + 1) front → IsReadAs path front facts
     → IsReadAt files root path facts
 read_told files root path front facts r h =
-    let is : front ≡ r.0 = whole_front 4194304 r.0 front r.2 h.short in
+    let is : front ≡ r.0 = whole_front MAX_BYTES r.0 front r.2 h.short in
     record { bytes = r.0; is_file = r.1; is_read = subst (λ (b : Bytes). IsReadAs path b facts) is h }
 
 -- a fault of a front that isn't full is one of the whole, and a full one is too long
-fault_whole : (path bytes front : Bytes) → front ≡ take (4194304 + 1) bytes → (fault : FileFault) → IsFileFault path front fault → IsFileFault path bytes fault
+fault_whole : (path bytes front : Bytes) → front ≡ take (MAX_BYTES + 1) bytes → (fault : FileFault) → IsFileFault path front fault → IsFileFault path bytes fault
 fault_whole path bytes front is faults.TooLong f =
-    let long : length front ≡ length (take (4194304 + 1) bytes) = ap length is in
-    omega (arith, length-take (4194304 + 1) bytes)
-fault_whole path bytes front is (faults.Malformed m) f = subst (λ (b : Bytes). IsFileFault path b (faults.Malformed m)) (whole_front 4194304 bytes front is f.0) f
-fault_whole path bytes front is (faults.Misplaced name) f = subst (λ (b : Bytes). IsFileFault path b (faults.Misplaced name)) (whole_front 4194304 bytes front is f.0) f
+    let long : length front ≡ length (take (MAX_BYTES + 1) bytes) = ap length is in
+    omega (arith, length-take (MAX_BYTES + 1) bytes)
+fault_whole path bytes front is (faults.Malformed m) f = subst (λ (b : Bytes). IsFileFault path b (faults.Malformed m)) (whole_front MAX_BYTES bytes front is f.0) f
+fault_whole path bytes front is (faults.Misplaced name) f = subst (λ (b : Bytes). IsFileFault path b (faults.Misplaced name)) (whole_front MAX_BYTES bytes front is f.0) f
 
-pub fault_told : (files : List FileOf) (root path front : Bytes) (fault : FileFault) → ReadsFront (Some files) root path (4194304 + 1) front → IsFileFault path front fault
+pub fault_told : (files : List FileOf) (root path front : Bytes) (fault : FileFault) → ReadsFront (Some files) root path (MAX_BYTES + 1) front → IsFileFault path front fault
     → IsFaultAt files root path fault
 fault_told files root path front fault r f = record { bytes = r.0; is_file = r.1; is_fault = fault_whole path r.0 front r.2 fault f }
 

@@ -6,9 +6,8 @@ use Rattle.std.specs.declared.cmp.Ordering.{Ordering}
 use Rattle.std.specs.declared.cmp.Ordering.TheVariants.{Less, Equal, Greater}
 use Rattle.std.specs.Ordering.{ordering_reverse}
 use Rattle.std.specs.Cmp.{IsTotalOrder}
-use Rattle.jc_facts.specs.Orders.{Rises}
-use Rattle.jc_facts.proofs.Listed.{EachOf, EachOf-map, here, there, none, cases, each_in}
-use Rattle.jc_laws.proofs.InOrder.{each_from}
+use Rattle.jc_facts.specs.Exactly.{Rises}
+use Rattle.jc_lemmas.proofs.Listed.{EachOf, EachOf-map, here, there, none, cases, each_in, each_from}
 
 -- what is in the list, in order and once
 pub record Gathered {S : Type 0} (order : S → S → Ordering) (cs : List S) : Type 0 where

@@ -5,8 +5,10 @@ pub mod Listings
 pub mod FrontRead
 pub mod TreeRead
 pub mod OneVerdict
-pub mod ThreeTrees
+pub mod TreesRead
+pub mod Causes
 pub mod Events
+pub mod Answered
 pub mod Surely
 pub mod Gathered
 pub mod Declarations

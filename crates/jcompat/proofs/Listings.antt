@@ -10,10 +10,10 @@ use Rattle.std.proofs.lemmas.List.Sorted.{All-permutation, Contains-permutation}
 use Rattle.std.proofs.lemmas.Slice.Eq.{bytes_eq-Decides}
 use Rattle.jc_base.specs.Outside.{FileOf, HasFile, AreThePaths, Lists, Holds, has_bytes, are_distinct}
 use Rattle.jc_facts.specs.Names.{Bytes}
-use Rattle.jc_facts.specs.Exact.{Before, NamesRise}
+use Rattle.jc_facts.specs.Exactly.{Before, NamesRise, Rises}
 use Rattle.jc_facts.proofs.Apart.{ApartRec, rec-Apart, Apart-permutation, NamesRise-sorted}
-use Rattle.jc_facts.proofs.Listed.{EachOf, here, there, none, cases}
-use Rattle.jcompat.specs.Classes.{is_class_path, IsClassPathOf, AreClassPaths}
+use Rattle.jc_lemmas.proofs.Listed.{EachOf, here, there, none, cases}
+use Rattle.jcompat.specs.ClassFiles.{is_class_path, IsClassPathOf, AreClassPaths}
 
 both : (a b : Bool) → (a && b) ≡ true → (a ≡ true) × (b ≡ true)
 both true b h = (refl, h)
@@ -44,7 +44,7 @@ each_kept P p (x ∷ xs) h = go (p x) (each_kept P p xs h.1)
     go false k = k
 
 rising_kept : (p : Bytes → Bool) (xs : List Bytes) → NamesRise (λ x. x) xs → NamesRise (λ x. x) (filter p xs)
-unfolding NamesRise
+unfolding Rises
 rising_kept p [] h = tt
 rising_kept p (x ∷ xs) h = go (p x) (each_kept (λ y. Before x y) p xs h.0) (rising_kept p xs h.1)
   where

@@ -1,11 +1,11 @@
 -- Two sides have a verdict: what stands on their subjects, in order.
-use Rattle.std.proofs.Common.{◌≡◌, Bool, true, false, cond, not, ◌&&◌, ◌==◌, ℕ, List, [], ◌∷◌, ◌++◌, refl, sym, ◌∙◌, ap, subst, Option, Some, None, is_some}
+use Rattle.std.proofs.Common.{◌≡◌, Bool, true, false, cond, not, ◌&&◌, ◌==◌, ℕ, List, [], ◌++◌, refl, sym, ◌∙◌, ap, subst, Option, Some, None, is_some}
 use Rattle.std.specs.List.{Contains, All, filter_map}
 use Rattle.std.specs.declared.cmp.Ordering.{Ordering}
 use Rattle.std.specs.declared.cmp.Ordering.TheVariants.{Less, Equal, Greater}
 use Rattle.std.specs.Ordering.{nat_cmp, ordering_then}
 use Rattle.std.specs.Option.{option_cmp}
-use Rattle.std.proofs.lemmas.Bool.{eqb-true}
+use Rattle.std.proofs.lemmas.Bool.{eqb-true, or_left}
 use Rattle.std.proofs.lemmas.List.Elements.{Contains-append_left, Contains-append_right}
 use Rattle.jc_facts.specs.declared.class_facts.ClassFacts.{ClassFacts}
 use Rattle.jc_facts.specs.declared.class_facts.Member.{Member}
@@ -17,36 +17,36 @@ use Rattle.jc_facts.specs.declared.verdict.Collision.{Collision}
 use Rattle.jc_facts.specs.declared.verdict.Note.{Note}
 use Rattle.jc_facts.specs.declared.verdict.Note.TheVariants as note
 use Rattle.jc_facts.specs.declared.verdict.Verdict.{Verdict}
-use Rattle.jc_facts.specs.Assignment.{is_interface_of}
-use Rattle.jc_facts.specs.Clients.{HasRoot}
-use Rattle.jc_facts.specs.Collisions.{CollisionStands, collision_at, collision}
-use Rattle.jc_facts.specs.Findings.{Subject, Stands, finding_at, finding_by, subject_of, rule_4}
-use Rattle.jc_facts.specs.Flags.{is_static, is_final}
-use Rattle.jc_facts.specs.Hierarchy.{in_chain}
+use Rattle.jc_facts.specs.world.Assignment.{is_interface_of}
+use Rattle.jc_facts.specs.client.Clients.{HasRoot}
+use Rattle.jc_facts.specs.rule.Collisions.{CollisionStands, collision_at, made_collision}
+use Rattle.jc_facts.specs.rule.Findings.{Subject, Stands, finding_at, finding_by, subject_of, superclass_lost}
+use Rattle.jc_facts.specs.Flags.{static_flag, final_flag}
+use Rattle.jc_facts.specs.world.Hierarchy.{in_chain}
 use Rattle.jc_facts.specs.KeyOrder.{key_cmp}
-use Rattle.jc_facts.specs.Loading.{load_fault}
+use Rattle.jc_facts.specs.world.Loading.{load_fault}
 use Rattle.jc_facts.specs.Names.{Bytes}
-use Rattle.jc_facts.specs.Notes.{NoteStands, in_release, loses_constant, has_static_final, constant_of, same_constant}
+use Rattle.jc_facts.specs.rule.Notes.{NoteStands, in_release, has_lost_constant, has_static_final, value_of_constant, is_same_constant}
 use Rattle.jc_facts.specs.Options.{and_then, some_and, some_where}
-use Rattle.jc_facts.specs.Orders.{name_order, finding_order, collision_order, note_order, group_of, noted_class, noted_key, HasExactly}
-use Rattle.jc_facts.specs.Valid.{IsValidClass}
-use Rattle.jc_facts.specs.Verdict.{IsVerdict}
-use Rattle.jc_facts.specs.Words.{is_usable, is_kept}
-use Rattle.jc_facts.specs.World.{World, side, classes, class_named, find, own_field, own_method}
-use Rattle.jc_facts.proofs.Listed.{EachOf, EachOf-map}
-use Rattle.jc_laws.specs.Findings.{declares_key, above}
-use Rattle.jc_laws.proofs.Allowed.{or_first}
-use Rattle.jc_laws.proofs.ExactLists.{exact_list}
-use Rattle.jc_laws.proofs.FindingLaws.{finding_is_on_its_subject}
-use Rattle.jc_laws.proofs.InOrder.{exact_same}
-use Rattle.jc_laws.proofs.KeyLaws.{keys_are_declared, collision_keys_are_declared}
-use Rattle.jc_laws.proofs.Settles.{EachOf-append}
-use Rattle.jc_laws.proofs.Standing.{usable_parts}
-use Rattle.jc_laws.proofs.UsableLaw.{Needs, none_needs, cond_needs, either_needs, and_left, second_of_five, findings_are_of_usable, collisions_are_of_usable}
-use Rattle.jc_laws.proofs.Worlds.{find-name, class_named-name}
-use Rattle.jc_rules.proofs.SubjectOrder.{subject_order}
+use Rattle.jc_facts.specs.rule.Orders.{finding_order, collision_order, note_order, group_of, noted_class, noted_key}
+use Rattle.jc_facts.specs.Exactly.{name_order, HasExactly}
+use Rattle.jc_facts.specs.file.Valid.{IsValidClass}
+use Rattle.jc_facts.specs.rule.Verdict.{IsVerdict}
+use Rattle.jc_facts.specs.rule.Bases.{is_class_usable, is_kept}
+use Rattle.jc_facts.specs.world.World.{World, side, classes, own_field_of, own_method_of}
+use Rattle.jc_lemmas.proofs.Listed.{EachOf, EachOf-map, EachOf-append}
+use Rattle.jc_worlds.specs.Hierarchy.{above}
+use Rattle.jc_sound.proofs.ExactLists.{exact_list}
+use Rattle.jc_sound.proofs.FindingLaws.{finding_is_on_its_subject}
+use Rattle.jc_facts.proofs.InOrder.{exact_same}
+use Rattle.jc_sound.proofs.KeyLaws.{keys_are_declared, collision_keys_are_declared}
+use Rattle.jc_sound.proofs.Standing.{usable_parts}
+use Rattle.jc_sound.proofs.UsableLaw.{Needs, none_needs, cond_needs, either_needs, second_of_five, findings_are_of_usable, collisions_are_of_usable}
+use Rattle.jc_lemmas.proofs.Bools.{both_first}
+use Rattle.jc_facts.proofs.World.{find-name, class_named-name}
+use Rattle.jc_sides.proofs.Subjects.{subject_order}
 use Rattle.jcompat.proofs.Declarations.{named_in, found_in_world, above_in, class_key, some_key}
-use Rattle.jcompat.proofs.Subjects.{on_subject, rules, is_rule, or_none, none_or, names, keys, name_of, subjects, covered}
+use Rattle.jcompat.proofs.Subjects.{on_subject, rules, is_rule, none_or, names, keys, name_of, subjects, covered}
 
 -- ---- what a rule gives is of that rule
 
@@ -66,19 +66,19 @@ finding_rule O N s (Some k) None =
     (rule_needs s.rule 8 _ _ (is_rule 8 refl) (rule_needs s.rule 9 _ None (is_rule 9 refl) (none_needs Finding (Contains rules s.rule))))))
 finding_rule O N s (Some k) (Some t) = none_needs Finding (Contains rules s.rule)
 
-of_kept : (O N : World) (x : Bytes) → is_kept O N x ≡ true → is_usable O x ≡ true
+of_kept : (O N : World) (x : Bytes) → is_kept O N x ≡ true → is_class_usable O x ≡ true
 unfolding is_kept
-of_kept O N x h = and_left (is_usable O x) (is_usable N x) h
+of_kept O N x h = both_first (is_class_usable O x) (is_class_usable N x) h
 
 -- the target of a finding was usable
-target_usable : (O N : World) (s : Subject) (k : Option Key) (t : Bytes) → Needs (is_usable O t ≡ true) (finding_by O N s k (Some t))
-unfolding rule_4
+target_usable : (O N : World) (s : Subject) (k : Option Key) (t : Bytes) → Needs (is_class_usable O t ≡ true) (finding_by O N s k (Some t))
+unfolding superclass_lost
 target_usable O N s None t =
-    either_needs (is_usable O t ≡ true) (s.rule == 4) (rule_4 O N s t) None
-    (cond_needs (is_usable O t ≡ true) (is_kept O N s.«class» && is_kept O N t && in_chain O s.«class» t && not (in_chain N s.«class» t) && not (is_interface_of N t)) _
+    either_needs (is_class_usable O t ≡ true) (s.rule == 4) (superclass_lost O N s t) None
+    (cond_needs (is_class_usable O t ≡ true) (is_kept O N s.«class» && is_kept O N t && in_chain O s.«class» t && not (in_chain N s.«class» t) && not (is_interface_of N t)) _
     (λ h. of_kept O N t (second_of_five (is_kept O N s.«class») (is_kept O N t) (in_chain O s.«class» t) (not (in_chain N s.«class» t)) (not (is_interface_of N t)) h)))
-    (none_needs Finding (is_usable O t ≡ true))
-target_usable O N s (Some k) t = none_needs Finding (is_usable O t ≡ true)
+    (none_needs Finding (is_class_usable O t ≡ true))
+target_usable O N s (Some k) t = none_needs Finding (is_class_usable O t ≡ true)
 
 -- ---- collisions by subject
 
@@ -94,8 +94,8 @@ module _ (O N : World) where
   abbrev collision_of : Subject → Option Collision
   collision_of s = collision_by s s.key s.target
 
-  same_where : (rule : ℕ) (x : Bytes) (k : Key) (a : Act) (e : LinkError) (b : Bool) (c : Collision) → some_where b (collision rule x k a e) ≡ Some c → collision_subject c ≡ on_subject rule x (Some k) None
-  same_where rule x k a e true c q = let is : collision rule x k a e ≡ c = cc in ap collision_subject (sym is)
+  same_where : (rule : ℕ) (x : Bytes) (k : Key) (a : Act) (e : LinkError) (b : Bool) (c : Collision) → some_where b (made_collision rule x k a e) ≡ Some c → collision_subject c ≡ on_subject rule x (Some k) None
+  same_where rule x k a e true c q = let is : made_collision rule x k a e ≡ c = cc in ap collision_subject (sym is)
   same_where rule x k a e false c q = absurd (cc)
 
   either_gives : (G : Type 0) (b : Bool) (o p : Option Collision) (c : Collision) → (o ≡ Some c → G) → (p ≡ Some c → G) → cond b o p ≡ Some c → G
@@ -160,7 +160,7 @@ unloadable_found old W x e p q = rw (p, q) refl
 
 module _ (O N : World) where
   abbrev changes_constant : Bytes → Key → Bool
-  changes_constant x k = is_kept O N x && some_and (λ c. some_and (λ d. loses_constant c d k) (in_release N x)) (in_release O x)
+  changes_constant x k = is_kept O N x && some_and (λ c. some_and (λ d. has_lost_constant c d k) (in_release N x)) (in_release O x)
 
   abbrev note_by : Subject → Option Key → Option Bytes → Option Note
   note_by s None None = cond (s.rule == 0) (unloadable true O s.«class») (cond (s.rule == 1) (unloadable false N s.«class») None)
@@ -232,7 +232,7 @@ module _ (platform old new : List ClassFacts) (root : HasRoot platform) (vp : Al
   of_new : (c : ClassFacts) → Contains (classes N) c → Contains (classes O ++ classes N) c
   of_new c m = Contains-append_right (classes O) (classes N) c m
 
-  usable_name : (x : Bytes) → is_usable O x ≡ true → Contains (names O N) x
+  usable_name : (x : Bytes) → is_class_usable O x ≡ true → Contains (names O N) x
   usable_name x h = let u = usable_parts O x h in name_of O N x u.class (of_old u.class (found_in_world O x u.class u.is_there)) (find-name O x u.class u.is_there)
 
   all_above : (x : Bytes) → EachOf (Contains (classes O ++ classes N)) (above O x ++ above N x)
@@ -283,23 +283,23 @@ module _ (platform old new : List ClassFacts) (root : HasRoot platform) (vp : Al
 
   -- a key that a class of the old release has a constant of is one of those that classes declare
   constant_key : (x : Bytes) (k : Key) → changes_constant O N x k ≡ true → Contains (keys O N) k
-  unfolding loses_constant
+  unfolding has_lost_constant
   constant_key x k h = go (in_release O x) refl (in_release N x) (and_right_of (is_kept O N x) _ h)
     where
       and_right_of : (a b : Bool) → (a && b) ≡ true → b ≡ true
       and_right_of true b e = e
       and_right_of false b e = absurd (cc)
 
-      field : (c d : ClassFacts) → loses_constant c d k ≡ true → is_some (own_field c k) ≡ true
-      field c d e = has (λ m. is_static m.flags && is_final m.flags) (own_field c k) (and_left (has_static_final c k) (is_some (own_field d k))
-          (and_left (has_static_final c k && is_some (own_field d k)) (some_and (λ v. not (some_and (same_constant v) (constant_of d k))) (constant_of c k)) e))
+      field : (c d : ClassFacts) → has_lost_constant c d k ≡ true → is_some (own_field_of c k) ≡ true
+      field c d e = has (λ m. static_flag m.flags && final_flag m.flags) (own_field_of c k) (both_first (has_static_final c k) (is_some (own_field_of d k))
+          (both_first (has_static_final c k && is_some (own_field_of d k)) (some_and (λ v. not (some_and (is_same_constant v) (value_of_constant d k))) (value_of_constant c k)) e))
         where
           has : (test : Member → Bool) (o : Option Member) → some_and test o ≡ true → is_some o ≡ true
           has test None q = absurd (cc)
           has test (Some m) q = refl
 
-      go : (o : Option ClassFacts) → in_release O x ≡ o → (p : Option ClassFacts) → some_and (λ c. some_and (λ d. loses_constant c d k) p) o ≡ true → Contains (keys O N) k
-      go (Some c) e (Some d) q = class_key k (classes O ++ classes N) c (in_old c (named_in old x c e)) (or_first (is_some (own_field c k)) (is_some (own_method c k)) (field c d q))
+      go : (o : Option ClassFacts) → in_release O x ≡ o → (p : Option ClassFacts) → some_and (λ c. some_and (λ d. has_lost_constant c d k) p) o ≡ true → Contains (keys O N) k
+      go (Some c) e (Some d) q = class_key k (classes O ++ classes N) c (in_old c (named_in old x c e)) (or_left (is_some (own_field_of c k)) (is_some (own_method_of c k)) (field c d q))
       go (Some c) e None q = absurd (cc)
       go None e p q = absurd (cc)
 
@@ -309,7 +309,7 @@ module _ (platform old new : List ClassFacts) (root : HasRoot platform) (vp : Al
   note_covered (note.Unloadable false x e) h =
       covered O N (on_subject 1 x None None) (is_rule 1 refl) (released N x in_new h.0) (none_or (keys O N) None (λ k is. absurd (let clash : None ≡ Some k = is in cc))) (none_or (names O N) None (λ t is. absurd (let clash : None ≡ Some t = is in cc)))
   note_covered (note.Fixed x k) h =
-      covered O N (on_subject 2 x (Some k) None) (is_rule 2 refl) (usable_name x (of_kept O N x (and_left (is_kept O N x) _ h)))
+      covered O N (on_subject 2 x (Some k) None) (is_rule 2 refl) (usable_name x (of_kept O N x (both_first (is_kept O N x) _ h)))
       (none_or (keys O N) (Some k) (λ l is. let same : k ≡ l = cc in subst (Contains (keys O N)) same (constant_key x k h)))
       (none_or (names O N) None (λ t is. absurd (let clash : None ≡ Some t = is in cc)))
 

@@ -1,7 +1,7 @@
 -- The subjects of which a verdict on two sides may speak, in order.
 --     subjects O N      all of them: each rule, class, key and target
 --     covered      a subject whose parts are theirs is one of them
-use Rattle.std.proofs.Common.{◌≡◌, Bool, true, ℕ, List, [], ◌∷◌, ◌++◌, map, refl, sym, ◌∙◌, ap, subst, Option, Some, None, ◌||◌, ◌==◌, ◌⊎◌, inl, inr}
+use Rattle.std.proofs.Common.{◌≡◌, true, ℕ, List, [], ◌∷◌, ◌++◌, map, refl, sym, ◌∙◌, ap, subst, Option, Some, None, ◌==◌, ◌⊎◌, inl, inr}
 use Rattle.std.specs.List.{Contains, list_any}
 use Rattle.std.specs.declared.cmp.Ordering.{Ordering}
 use Rattle.std.specs.declared.cmp.Ordering.TheVariants.{Less, Equal, Greater}
@@ -16,12 +16,12 @@ use Rattle.jc_facts.specs.declared.class_facts.ClassFacts.{ClassFacts}
 use Rattle.jc_facts.specs.declared.key.Key.{Key}
 use Rattle.jc_facts.specs.Names.{Bytes}
 use Rattle.jc_facts.specs.KeyOrder.{key_cmp, key_total}
-use Rattle.jc_facts.specs.Orders.{name_order}
-use Rattle.jc_facts.specs.Findings.{Subject}
-use Rattle.jc_facts.specs.World.{World, classes}
-use Rattle.jc_facts.proofs.Listed.{here, there, none}
+use Rattle.jc_facts.specs.Exactly.{name_order}
+use Rattle.jc_facts.specs.rule.Findings.{Subject}
+use Rattle.jc_facts.specs.world.World.{World, classes}
+use Rattle.jc_lemmas.proofs.Listed.{here, there}
 use Rattle.jc_facts.proofs.Same.{same_is}
-use Rattle.jc_rules.proofs.SubjectOrder.{subject_order}
+use Rattle.jc_sides.proofs.Subjects.{subject_order}
 use Rattle.jcompat.proofs.Gathered.{Gathered, gathered}
 use Rattle.jcompat.proofs.Declarations.{mapped, spread, spread_has, all_keys}
 

@@ -1,46 +1,62 @@
--- Calls on what doesn't fail.
-use Rattle.std.proofs.Common.{◌≡◌, ◌⊎◌, inl, inr, ℕ, List, Option, Some, None, arith}
+-- Runs on what doesn't fail.
+use Rattle.std.proofs.Common.{◌≡◌, ◌==◌, inl, inr, false, ℕ, List, [], ◌∷◌, Option, Some, None, refl, ◌∙◌, arith}
 use Rattle.std.specs.Prelude.{IsSomeAnd}
 use Rattle.jc_base.specs.Causes.{Rose}
-use Rattle.jc_base.specs.Outside.{FileOf}
 use Rattle.jc_facts.specs.Names.{Bytes}
+use Rattle.jcompat.specs.declared.file_fault.FileFault.{FileFault}
+use Rattle.jcompat.specs.declared.file_fault.FileFault.TheVariants as faults
+use Rattle.jcompat.specs.declared.file_fault.TreeFault.TheVariants as tree_faults
+use Rattle.jcompat.specs.declared.status.TheConstants.{READ_FAULT, WRITE_FAULT}
+use Rattle.jcompat.specs.declared.stop.Stop.{Stop}
 use Rattle.jcompat.specs.declared.stop.Stop.TheVariants as stops
-use Rattle.jcompat.specs.declared.tree.Tree.{Tree}
-use Rattle.jcompat.specs.Answers.{given, Took, Refuses, AreCleanBefore, IsCutShort, HasFailed}
-use Rattle.jcompat.specs.Classes.{Told}
-use Rattle.jcompat.specs.Request.{asked}
-use Rattle.jcompat.specs.Surely.{surely}
+use Rattle.jcompat.specs.declared.tree.TreeName.{TreeName}
+use Rattle.jcompat.specs.Answers.{Ran, Answers, IsCutShort, IsFirst, HasCause}
+use Rattle.jcompat.specs.Command.{trees_of, asked}
+use Rattle.jcompat.specs.Stop.{file_status, status_of}
+use Rattle.jcompat.specs.Tree.{TreeOf}
 
-not_risen : Rose 0 0 → ⊥
-not_risen r = omega arith
+-- a count that stays 0 hasn't risen
+not_risen : (before after : ℕ) → before ≡ 0 → after ≡ 0 → Rose before after → ⊥
+not_risen before after b a r = omega (arith, b, a, r)
 
-no_fault : {A : Type 0} (o : Option A) (P : A → Type 0) → ((x : A) → P x → ⊥) → IsSomeAnd o P → ⊥
-no_fault None P f p = p
-no_fault (Some x) P f p = f x p
+none_first : (Before This : Bytes → Type 0) (trees : List TreeOf) (name : TreeName) → ((root : Bytes) → This root → ⊥) → IsFirst Before This trees name → ⊥
+none_first Before This [] name f h = h
+none_first Before This (tree ∷ trees) name f (inl (is, this)) = f tree.root this
+none_first Before This (tree ∷ trees) name f (inr (before, h)) = none_first Before This trees name f h
 
--- no call on the trees failed
-pub no_read_fault : (words : List Bytes) (content : Option (List FileOf)) (status : ℕ) (out err : Took)
-    → (status ≡ 4 → (tree : Tree) × Refuses (given words content (λ _. 0) (λ _. 0)) (stops.ReadFault tree) out err) → status ≡ 4 → ⊥
-no_read_fault words content status out err f four =
-    let r = f four in
-    no_fault (asked words) (λ roots. Rose 0 0 × Told content (λ files. AreCleanBefore files roots r.0)) (λ roots h. not_risen h.0) r.1.cause
+none_asked : {A : Type 0} (o : Option A) (P : A → Type 0) → ((x : A) → P x → ⊥) → IsSomeAnd o P → ⊥
+none_asked None P f p = p
+none_asked (Some x) P f p = f x p
 
--- nor one on the sinks
-pub no_write_fault : (words : List Bytes) (content : Option (List FileOf)) (status : ℕ) (before_out after_out before_err after_err : Option Bytes)
-    → ((status ≡ 5) ⊎ (status ≡ 6) → IsCutShort (given words content (λ _. 0) (λ _. 0)) (surely before_out after_out) (surely before_err after_err) status) → status ≡ 5 → ⊥
-no_write_fault words content status before_out after_out before_err after_err f five = go (f (inl five))
-  where
-    go : IsCutShort (given words content (λ _. 0) (λ _. 0)) (surely before_out after_out) (surely before_err after_err) status → ⊥
-    go (inl (v, cut)) = not_risen (cut.cause five)
-    go (inr (stop, cut)) = not_risen (cut.cause five)
+not_four : (n : ℕ) → n ≡ READ_FAULT → (n == 4) ≡ false → ⊥
+not_four n is e = grind arith
 
--- so only want of memory is left of what fails
-but_memory : (P : Type 0) (status : ℕ) → (status ≡ 4 → ⊥) → (status ≡ 5 → ⊥) → P ⊎ HasFailed status → P ⊎ (status ≡ 6)
-but_memory P status read write (inl p) = inl p
-but_memory P status read write (inr (inl four)) = absurd (read four)
-but_memory P status read write (inr (inr (inl five))) = absurd (write five)
-but_memory P status read write (inr (inr (inr six))) = inr six
+file_not_four : (fault : FileFault) → file_status fault ≡ READ_FAULT → ⊥
+file_not_four faults.TooLong e = not_four 7 e refl
+file_not_four (faults.Malformed m) e = not_four 3 e refl
+file_not_four (faults.Misplaced x) e = not_four 3 e refl
 
-pub accepted_but_memory : (status : ℕ) → (status ≡ 4 → ⊥) → (status ≡ 5 → ⊥) → (status ≡ 0) ⊎ (status ≡ 1) ⊎ HasFailed status → (status ≡ 0) ⊎ (status ≡ 1) ⊎ (status ≡ 6)
-accepted_but_memory status read write (inl zero) = inl zero
-accepted_but_memory status read write (inr h) = inr (but_memory (status ≡ 1) status read write h)
+module _ (r : Ran) (answers : Answers r) where
+  -- no call on the trees failed
+  pub no_read_fault : ((root : Bytes) → r.trees.before.faults root ≡ 0) → ((root : Bytes) → r.trees.after.faults root ≡ 0) → r.status ≡ READ_FAULT → ⊥
+  no_read_fault before after four = let refuses = answers.read_fault four in go refuses.stop (refuses.status ∙ four) refuses.cause
+    where
+      go : (stop : Stop) → status_of stop ≡ READ_FAULT → HasCause r.words r.trees stop → ⊥
+      go (stops.ReadFault name) e h =
+          none_asked (asked r.words) _ (λ command. none_first _ _ (trees_of command) name (λ root. not_risen (r.trees.before.faults root) (r.trees.after.faults root) (before root) (after root))) h
+      go stops.Words e h = not_four 2 e refl
+      go (stops.Unread name tree_faults.TooManyFiles) e h = not_four 7 e refl
+      go (stops.Unread name tree_faults.LongPath) e h = not_four 7 e refl
+      go (stops.Unread name (tree_faults.File path fault)) e h = file_not_four fault e
+      go (stops.BadRoot part) e h = not_four 3 e refl
+      go (stops.Overlap name x) e h = not_four 3 e refl
+      go stops.TooManyFindings e h = not_four 7 e refl
+      go stops.Memory e h = not_four 6 e refl
+
+  -- nor one on the sinks
+  pub no_write_fault : r.out.before.faults ≡ 0 → r.out.after.faults ≡ 0 → r.err.before.faults ≡ 0 → r.err.after.faults ≡ 0 → r.status ≡ WRITE_FAULT → ⊥
+  no_write_fault out_before out_after err_before err_after five = go (answers.write_fault five)
+    where
+      go : IsCutShort r → ⊥
+      go (inl (v, cut)) = not_risen r.out.before.faults r.out.after.faults out_before out_after (cut.cause five)
+      go (inr (stop, cut)) = not_risen r.err.before.faults r.err.after.faults err_before err_after (cut.cause five)

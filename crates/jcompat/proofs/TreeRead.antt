@@ -7,29 +7,31 @@ use Rattle.std.proofs.lemmas.List.Elements.{All-from_recursion, recursion_from_A
 use Rattle.jc_base.specs.Outside.{FileOf, IsFileAt}
 use Rattle.jc_facts.specs.declared.class_facts.ClassFacts.{ClassFacts}
 use Rattle.jc_facts.specs.Names.{Bytes, same}
-use Rattle.jc_facts.specs.Exact.{Before, NamesRise}
-use Rattle.jc_facts.specs.World.{class_named}
-use Rattle.jc_facts.specs.Clients.{names_differ}
-use Rattle.jc_facts.specs.Valid.{IsValidClass}
+use Rattle.jc_facts.specs.Exactly.{Before, NamesRise, Rises}
+use Rattle.jc_facts.specs.world.World.{class_named}
+use Rattle.jc_facts.specs.client.Clients.{differ_by_name}
+use Rattle.jc_facts.specs.file.Valid.{IsValidClass}
 use Rattle.jc_facts.proofs.Same.{same_is}
 use Rattle.jc_facts.proofs.OneList.{not_both, not_self}
-use Rattle.jc_facts.proofs.Listed.{EachOf, here, there, none, cases, each_in, not_any}
+use Rattle.jc_lemmas.proofs.Listed.{EachOf, here, there, none, cases, each_in, not_any}
 use Rattle.jc_facts.proofs.ClassFiles.{one_record}
 use Rattle.std.proofs.lemmas.Bool.{ltb-false, ltb-true}
 use Rattle.std.proofs.lemmas.List.{length-map}
-use Rattle.jcompat.specs.declared.tree.Tree.{Tree}
+use Rattle.jcompat.specs.declared.tree.TreeName.{TreeName}
 use Rattle.jcompat.specs.declared.stop.Stop.{Stop}
 use Rattle.jcompat.specs.declared.stop.Stop.TheVariants as stops
 use Rattle.jcompat.specs.declared.file_fault.FileFault.{FileFault}
 use Rattle.jcompat.specs.declared.file_fault.TreeFault.TheVariants as tree_faults
-use Rattle.jcompat.specs.Classes.{Told, IsClassPathOf, AreClassPaths, path_of, IsReadAs, HasShortPaths, HasLongPath, IsFirstFault, IsRecordIn, AreRecords}
-use Rattle.jcompat.specs.Survey.{IsReadAt, AreReadAt, IsFirstOf, StopsAt, StopsIn, IsClassList}
+use Rattle.jc_base.specs.States.{TreesState, Change}
+use Rattle.jcompat.specs.declared.limits.TheConstants.{MAX_FILES, MAX_PATH}
+use Rattle.jcompat.specs.ClassFiles.{Told, IsClassPathOf, AreClassPaths, path_of, IsReadAs, HasShortPaths, HasLongPath, IsFirstFault, IsRecordIn, AreRecords}
+use Rattle.jcompat.specs.steps.ReadTree.{IsReadAt, AreReadAt, IsFirstOf, StopsAt, StopsIn, IsClassList}
 
 -- ---- the order of paths
 
 -- of rising paths those before one stand in front of it
 in_front : (front back : List Bytes) (path other : Bytes) → NamesRise (λ p. p) (front ++ path ∷ back) → Contains (front ++ path ∷ back) other → Before other path → Contains front other
-unfolding NamesRise
+unfolding Rises
 in_front [] back path other r c b = absurd (go (cases path back other c))
   where
     go : (path ≡ other) ⊎ Contains back other → ⊥
@@ -46,7 +48,7 @@ each_mapped name x [] h = tt
 each_mapped name x (y ∷ ys) h = (h.0, each_mapped name x ys h.1)
 
 rising_mapped : {A : Type 0} (name : A → Bytes) (xs : List A) → NamesRise (λ p. p) (map name xs) → NamesRise name xs
-unfolding NamesRise
+unfolding Rises
 rising_mapped name [] h = tt
 rising_mapped name (x ∷ xs) h = (each_mapped name (name x) xs h.0, rising_mapped name xs h.1)
 
@@ -69,13 +71,13 @@ differ_step : (o : Option ClassFacts) (b : Bool) → o ≡ None → b ≡ true �
 differ_step None b e h = h
 differ_step (Some c) b e h = absurd (let clash : Some c ≡ None = e in cc)
 
-differ_rising : (cs : List ClassFacts) → NamesRise (λ c. path_of c.name) cs → names_differ cs ≡ true
-unfolding NamesRise names_differ
+differ_rising : (cs : List ClassFacts) → NamesRise (λ c. path_of c.name) cs → differ_by_name cs ≡ true
+unfolding differ_by_name Rises
 differ_rising [] r = refl
-differ_rising (c ∷ cs) r = differ_step (class_named cs c.name) (names_differ cs) (not_named c.name cs r.0) (differ_rising cs r.1)
+differ_rising (c ∷ cs) r = differ_step (class_named cs c.name) (differ_by_name cs) (not_named c.name cs r.0) (differ_rising cs r.1)
 
 -- records that are read of a listing
-pub class_list : (records : List ClassFacts) (paths : List Bytes) → map (λ c. path_of c.name) records ≡ paths → NamesRise (λ p. p) paths → length paths ≤ 40000 → All IsValidClass records → IsClassList records
+pub class_list : (records : List ClassFacts) (paths : List Bytes) → map (λ c. path_of c.name) records ≡ paths → NamesRise (λ p. p) paths → length paths ≤ MAX_FILES → All IsValidClass records → IsClassList records
 class_list records paths is r few valid =
     let long : length records ≡ length paths = sym (length-map records (λ (c : ClassFacts). path_of c.name)) ∙ ap length is in
     record { valid = valid; differ = differ_rising records (rising_records records paths is r); few = omega (arith, few, long) }
@@ -123,29 +125,29 @@ records_in files root [] (h ∷ hs) c r = absurd r
 records_in files root (p ∷ ps) [] c r = absurd r
 
 -- no path of the list is too long
-pub short_paths : (files : List FileOf) (root : Bytes) (paths : List Bytes) → AreClassPaths files root paths → list_any (λ p. nat_lt 4096 (length p)) paths ≡ false → HasShortPaths files root
-short_paths files root paths are short path is_path = ltb-false _ _ (not_any (λ p. nat_lt 4096 (length p)) paths path short (are.complete path is_path))
+pub short_paths : (files : List FileOf) (root : Bytes) (paths : List Bytes) → AreClassPaths files root paths → list_any (λ p. nat_lt MAX_PATH (length p)) paths ≡ false → HasShortPaths files root
+short_paths files root paths are short path is_path = ltb-false _ _ (not_any (λ p. nat_lt MAX_PATH (length p)) paths path short (are.complete path is_path))
 
 record Long (paths : List Bytes) : Type 0 where
   path : Bytes
   is_in : Contains paths path
-  long : nat_lt 4096 (length path) ≡ true
+  long : nat_lt MAX_PATH (length path) ≡ true
 
-some_long : (paths : List Bytes) → list_any (λ p. nat_lt 4096 (length p)) paths ≡ true → Long paths
+some_long : (paths : List Bytes) → list_any (λ p. nat_lt MAX_PATH (length p)) paths ≡ true → Long paths
 some_long [] e = absurd (cc)
-some_long (p ∷ ps) e = go (nat_lt 4096 (length p)) refl e (some_long ps)
+some_long (p ∷ ps) e = go (nat_lt MAX_PATH (length p)) refl e (some_long ps)
   where
-    go : (b : Bool) → nat_lt 4096 (length p) ≡ b → (b || list_any (λ q. nat_lt 4096 (length q)) ps) ≡ true → (list_any (λ q. nat_lt 4096 (length q)) ps ≡ true → Long ps) → Long (p ∷ ps)
+    go : (b : Bool) → nat_lt MAX_PATH (length p) ≡ b → (b || list_any (λ q. nat_lt MAX_PATH (length q)) ps) ≡ true → (list_any (λ q. nat_lt MAX_PATH (length q)) ps ≡ true → Long ps) → Long (p ∷ ps)
     go true q e more = record { path = p; is_in = here p ps; long = q }
     go false q e more = let l = more e in record { path = l.path; is_in = there l.path p ps l.is_in; long = l.long }
 
-pub long_path : (files : List FileOf) (root : Bytes) (paths : List Bytes) → AreClassPaths files root paths → list_any (λ p. nat_lt 4096 (length p)) paths ≡ true → HasLongPath files root
+pub long_path : (files : List FileOf) (root : Bytes) (paths : List Bytes) → AreClassPaths files root paths → list_any (λ p. nat_lt MAX_PATH (length p)) paths ≡ true → HasLongPath files root
 long_path files root paths are e =
     let l = some_long paths e in
     record { path = l.path; is_path = each_in (IsClassPathOf files root) paths l.path (recursion_from_All (IsClassPathOf files root) paths are.sound) l.is_in; long = ltb-true _ _ l.long }
 
-pub records_are : (files : List FileOf) (root : Bytes) (paths : List Bytes) (records : List ClassFacts) → AreClassPaths files root paths → length paths ≤ 40000
-    → list_any (λ p. nat_lt 4096 (length p)) paths ≡ false → AreReadAt files root paths records → map (λ c. path_of c.name) records ≡ paths → AreRecords files root records
+pub records_are : (files : List FileOf) (root : Bytes) (paths : List Bytes) (records : List ClassFacts) → AreClassPaths files root paths → length paths ≤ MAX_FILES
+    → list_any (λ p. nat_lt MAX_PATH (length p)) paths ≡ false → AreReadAt files root paths records → map (λ c. path_of c.name) records ≡ paths → AreRecords files root records
 records_are files root paths records exact few short r named = record {
   clean = record {
     few = record { paths = paths; are = exact; few = few };
@@ -187,32 +189,31 @@ first_fault files root paths path fault exact f = record {
 
 -- ---- why it stopped
 
-pub stops_file : (content : Option (List FileOf)) (before after : Bytes → ℕ) (tree : Tree) (root : Bytes) (paths : List Bytes) (path : Bytes) (fault : FileFault) (stop : Stop)
-    → (stop ≡ stops.Unread tree (tree_faults.File path fault)) ⊎ (stop ≡ stops.Memory) → Told content (λ files. IsFirstOf files root paths path fault)
-    → StopsAt content before after tree root paths stop
-stops_file content before after tree root paths path fault stop (inl is) f = subst (λ (s : Stop). StopsAt content before after tree root paths s) (sym is) (refl, f)
-stops_file content before after tree root paths path fault stop (inr is) f = subst (λ (s : Stop). StopsAt content before after tree root paths s) (sym is) tt
-
-pub stops_in : (content : Option (List FileOf)) (before middle after : Bytes → ℕ) (tree : Tree) (root : Bytes) (paths : List Bytes) → Told content (λ files. AreClassPaths files root paths)
-    → length paths ≤ 40000 → list_any (λ p. nat_lt 4096 (length p)) paths ≡ false → (Rose (middle root) (after root) → Rose (before root) (after root))
-    → (stop : Stop) → StopsAt content middle after tree root paths stop → StopsIn content before after tree root stop
-stops_in content before middle after tree root paths exact few short rose (stops.Unread t (tree_faults.File path fault)) s = (
-  s.0,
-  λ files told. (
-    record { paths = paths; are = exact files told; few = few },
-    short_paths files root paths (exact files told) short,
-    first_fault files root paths path fault (exact files told) (s.1 files told),
-  ),
-)
-stops_in content before middle after tree root paths exact few short rose (stops.Unread t tree_faults.TooManyFiles) s = absurd s
-stops_in content before middle after tree root paths exact few short rose (stops.Unread t tree_faults.LongPath) s = absurd s
-stops_in content before middle after tree root paths exact few short rose (stops.ReadFault t) s = (s.0, rose s.1)
-stops_in content before middle after tree root paths exact few short rose stops.Memory s = tt
-stops_in content before middle after tree root paths exact few short rose stops.Words s = absurd s
-stops_in content before middle after tree root paths exact few short rose (stops.BadRoot part) s = absurd s
-stops_in content before middle after tree root paths exact few short rose (stops.Overlap t name) s = absurd s
-stops_in content before middle after tree root paths exact few short rose stops.TooManyFindings s = absurd s
+pub stops_file : (c : Change TreesState) (name : TreeName) (root : Bytes) (paths : List Bytes) (path : Bytes) (fault : FileFault) (stop : Stop)
+    → (stop ≡ stops.Unread name (tree_faults.File path fault)) ⊎ (stop ≡ stops.Memory) → Told c.before.content (λ files. IsFirstOf files root paths path fault) → StopsAt c name root paths stop
+stops_file c name root paths path fault stop (inl is) f = subst (λ (s : Stop). StopsAt c name root paths s) (sym is) (refl, f)
+stops_file c name root paths path fault stop (inr is) f = subst (λ (s : Stop). StopsAt c name root paths s) (sym is) tt
 
 -- a count that rose later rose
 pub rose_since : (before middle after : ℕ) → before ≤ middle → Rose middle after → Rose before after
 rose_since before middle after le rose = omega arith
+
+pub stops_in : (a b c : TreesState) (name : TreeName) (root : Bytes) (paths : List Bytes) → Told a.content (λ files. AreClassPaths files root paths)
+    → length paths ≤ MAX_FILES → list_any (λ p. nat_lt MAX_PATH (length p)) paths ≡ false → b.content ≡ a.content → ((r : Bytes) → a.faults r ≤ b.faults r)
+    → (stop : Stop) → StopsAt (record { before = b; after = c }) name root paths stop → StopsIn (record { before = a; after = c }) name root stop
+stops_in a b c name root paths exact few short same le (stops.Unread t (tree_faults.File path fault)) s = (
+  s.0,
+  λ files told. (
+    record { paths = paths; are = exact files told; few = few },
+    short_paths files root paths (exact files told) short,
+    first_fault files root paths path fault (exact files told) (s.1 files (same ∙ told)),
+  ),
+)
+stops_in a b c name root paths exact few short same le (stops.Unread t tree_faults.TooManyFiles) s = absurd s
+stops_in a b c name root paths exact few short same le (stops.Unread t tree_faults.LongPath) s = absurd s
+stops_in a b c name root paths exact few short same le (stops.ReadFault t) s = (s.0, rose_since (a.faults root) (b.faults root) (c.faults root) (le root) s.1)
+stops_in a b c name root paths exact few short same le stops.Memory s = tt
+stops_in a b c name root paths exact few short same le stops.Words s = absurd s
+stops_in a b c name root paths exact few short same le (stops.BadRoot part) s = absurd s
+stops_in a b c name root paths exact few short same le (stops.Overlap t x) s = absurd s
+stops_in a b c name root paths exact few short same le stops.TooManyFindings s = absurd s

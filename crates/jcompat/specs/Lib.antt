@@ -1,11 +1,6 @@
-pub mod Ascending
 pub mod Tree
-pub mod Request
-pub mod RequestView
+pub mod Command
 pub mod Stop
-pub mod Classes
-pub mod Survey
+pub mod ClassFiles
 pub mod Answers
-pub mod Check
-pub mod Written
-pub mod Surely
+pub mod steps

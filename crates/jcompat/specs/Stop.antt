@@ -4,10 +4,11 @@ use Rattle.std.specs.Fmt.{decimal}
 use Rattle.jc_desc.specs.declared.fault.Reason.{Reason}
 use Rattle.jc_desc.specs.declared.fault.Reason.TheVariants as reasons
 use Rattle.jc_facts.specs.Names.{Bytes}
-use Rattle.jc_facts.specs.Text.{printed}
+use Rattle.jc_facts.specs.print.Text.{printed}
 use Rattle.jc_table.specs.declared.root.RootPart.{RootPart}
 use Rattle.jc_table.specs.declared.root.RootPart.TheVariants as parts
-use Rattle.jcompat.specs.Tree.{tree_word}
+use Rattle.jcompat.specs.Tree.{tree_words}
+use Rattle.jcompat.specs.declared.status.TheConstants.{USAGE, BAD_INPUT, READ_FAULT, NO_MEMORY, LIMIT}
 use Rattle.jcompat.specs.declared.file_fault.FileFault.{FileFault}
 use Rattle.jcompat.specs.declared.file_fault.FileFault.TheVariants as faults
 use Rattle.jcompat.specs.declared.file_fault.TreeFault.{TreeFault}
@@ -35,11 +36,11 @@ file_words faults.TooLong = codes "limit bytes"
 file_words (faults.Malformed m) = reason_name m.reason ++ codes " at " ++ decimal m.offset
 file_words (faults.Misplaced name) = codes "misplaced " ++ printed name
 
--- what is said of a tree
-abbrev pub tree_words : TreeFault → Bytes
-tree_words tree_faults.TooManyFiles = codes "limit files"
-tree_words tree_faults.LongPath = codes "limit path"
-tree_words (tree_faults.File path fault) = printed path ++ codes ": " ++ file_words fault
+-- what is said of a tree that isn't read
+abbrev pub unread_words : TreeFault → Bytes
+unread_words tree_faults.TooManyFiles = codes "limit files"
+unread_words tree_faults.LongPath = codes "limit path"
+unread_words (tree_faults.File path fault) = printed path ++ codes ": " ++ file_words fault
 
 -- the part of the platform's java/lang/Object that isn't as it has to be
 abbrev pub part_name : RootPart → Bytes
@@ -53,29 +54,29 @@ part_name parts.Init = codes "init"
 
 abbrev pub line_of : Stop → Bytes
 line_of stops.Words = codes "jcompat: usage: words\n"
-line_of (stops.Unread tree fault) = codes "jcompat: " ++ tree_word tree ++ codes ": " ++ tree_words fault ++ codes "\n"
+line_of (stops.Unread tree fault) = codes "jcompat: " ++ tree_words tree ++ codes ": " ++ unread_words fault ++ codes "\n"
 line_of (stops.BadRoot part) = codes "jcompat: platform: bad root " ++ part_name part ++ codes "\n"
-line_of (stops.Overlap tree name) = codes "jcompat: " ++ tree_word tree ++ codes ": overlap " ++ printed name ++ codes "\n"
+line_of (stops.Overlap tree name) = codes "jcompat: " ++ tree_words tree ++ codes ": overlap " ++ printed name ++ codes "\n"
 line_of stops.TooManyFindings = codes "jcompat: limit findings\n"
-line_of (stops.ReadFault tree) = codes "jcompat: " ++ tree_word tree ++ codes ": read fault\n"
+line_of (stops.ReadFault tree) = codes "jcompat: " ++ tree_words tree ++ codes ": read fault\n"
 line_of stops.Memory = []
 
 -- a limit, or something that isn't read
 abbrev pub file_status : FileFault → ℕ
-file_status faults.TooLong = 7
-file_status (faults.Malformed m) = 3
-file_status (faults.Misplaced name) = 3
+file_status faults.TooLong = LIMIT
+file_status (faults.Malformed m) = BAD_INPUT
+file_status (faults.Misplaced name) = BAD_INPUT
 
 abbrev pub tree_status : TreeFault → ℕ
-tree_status tree_faults.TooManyFiles = 7
-tree_status tree_faults.LongPath = 7
+tree_status tree_faults.TooManyFiles = LIMIT
+tree_status tree_faults.LongPath = LIMIT
 tree_status (tree_faults.File path fault) = file_status fault
 
 abbrev pub status_of : Stop → ℕ
-status_of stops.Words = 2
+status_of stops.Words = USAGE
 status_of (stops.Unread tree fault) = tree_status fault
-status_of (stops.BadRoot part) = 3
-status_of (stops.Overlap tree name) = 3
-status_of stops.TooManyFindings = 7
-status_of (stops.ReadFault tree) = 4
-status_of stops.Memory = 6
+status_of (stops.BadRoot part) = BAD_INPUT
+status_of (stops.Overlap tree name) = BAD_INPUT
+status_of stops.TooManyFindings = LIMIT
+status_of (stops.ReadFault tree) = READ_FAULT
+status_of stops.Memory = NO_MEMORY

@@ -1,11 +1,16 @@
--- The trees of a check.
+-- The trees of a command.
 use Rattle.std.specs.Prelude.{codes}
 use Rattle.jc_facts.specs.Names.{Bytes}
-use Rattle.jcompat.specs.declared.tree.Tree.{Tree}
-use Rattle.jcompat.specs.declared.tree.Tree.TheVariants as trees
+use Rattle.jcompat.specs.declared.tree.TreeName.{TreeName}
+use Rattle.jcompat.specs.declared.tree.TreeName.TheVariants as names
 
--- the word for a tree in a line on standard error
-abbrev pub tree_word : Tree → Bytes
-tree_word trees.Platform = codes "platform"
-tree_word trees.Old = codes "old"
-tree_word trees.New = codes "new"
+-- a tree that a command reads: what it is called, and its root
+pub record TreeOf : Type 0 where
+  pub name : TreeName
+  pub root : Bytes
+
+-- what a tree is called in a line on standard error
+abbrev pub tree_words : TreeName → Bytes
+tree_words names.Platform = codes "platform"
+tree_words names.Old = codes "old"
+tree_words names.New = codes "new"

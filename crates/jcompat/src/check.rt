@@ -1,31 +1,32 @@
-//! Comparing the three trees that the words name.
-ghost use Rattle.std.specs.Prelude.{◌≡◌, ◌≢◌, ◌≤◌, ◌+◌, ℕ, List, [], length, IfOk, IfErr};
+//! Comparing two releases.
+ghost use Rattle.std.specs.Prelude.{◌≡◌, ◌≢◌, ◌≤◌, ◌+◌, ℕ, List, [], ◌∷◌, length, IfOk, IfErr};
 ghost use Rattle.std.specs.List.{All};
+ghost use Rattle.jc_base.specs.States.{change};
 ghost use Rattle.jc_facts.specs.declared.client.ClientClass.{ClientClass};
-ghost use Rattle.jc_facts.specs.World.{World, side};
-ghost use Rattle.jc_facts.specs.Clients.{IsInScope, Keeps};
-ghost use Rattle.jc_facts.specs.Kept.{BreaksClass};
-ghost use Rattle.jc_facts.specs.Verdict.{IsVerdict};
-ghost use Rattle.jcompat.specs.Classes.{Told};
-ghost use Rattle.jcompat.specs.RequestView.{roots_of};
-ghost use Rattle.jcompat.specs.Survey.{IsClassList};
-ghost use Rattle.jcompat.specs.Check.{AreSides, StopsFor, StopsComparing, StopsCounting, unfit_by};
-ghost use Rattle.jcompat.specs.Answers.{given, count_of, Fits, HasCause, IsCompatible, IsIncompatible, IsVerdictOn, MeetsNone};
+ghost use Rattle.jc_facts.specs.world.World.{World, side};
+ghost use Rattle.jc_facts.specs.client.Clients.{IsInScope, Keeps};
+ghost use Rattle.jc_facts.specs.client.Kept.{BreaksClass};
+ghost use Rattle.jc_facts.specs.rule.Verdict.{IsVerdict};
+ghost use Rattle.jcompat.specs.Answers.{count_of, Fits, MeetsNone};
+ghost use Rattle.jcompat.specs.Command.{CheckCommand};
+ghost use Rattle.jcompat.specs.steps.Check.{StopsComparing, StopsCounting, unfit_by};
+ghost use Rattle.jcompat.specs.steps.CommandView.{check_of};
+ghost use Rattle.jcompat.specs.steps.Outcome.{ComesTo, StopsWith};
+ghost use Rattle.jcompat.specs.steps.ReadTree.{IsClassList};
 
+use crate::command::Check;
+use crate::limits::MAX_FINDINGS;
+use crate::outcome::Outcome;
+use crate::read_trees::read_trees;
 use crate::stop::Stop;
-use crate::survey::read_tree;
-use crate::tree::Tree;
-use crate::words::Request;
-use jc_base::text::Text;
+use crate::tree::TreeName;
+use jc_base::items::Items;
 use jc_base::trees::Trees;
 use jc_facts::class_facts::ClassFacts;
 use jc_facts::verdict::Verdict;
 use jc_rules::compare::compare;
 use jc_table::table::{Table, TableError};
 use std::alloc::Global;
-
-/// The most findings and collisions of a verdict that is printed.
-const MAX_FINDINGS: usize = 999_999;
 
 /// The records of the classes of the three trees.
 #[derive(Drop)]
@@ -42,40 +43,26 @@ struct Sides {
     new: Table,
 }
 
-// The records of the three trees, or the first event that keeps them from being read.
-fn read_records<T: Trees>(
-    alloc: Global,
-    request: Request<'_>,
-    trees: &mut T,
-) -> Result<Records, Stop>
-    ensures read { IfOk result (λ r. Told (T.content trees.old) (λ files. AreSides files (roots_of request.entry) r.platform.items r.old.items r.new.items)) }
-    ensures platform { IfOk result (λ r. IsClassList r.platform.items) }
-    ensures old { IfOk result (λ r. IsClassList r.old.items) }
-    ensures new { IfOk result (λ r. IsClassList r.new.items) }
-    ensures stopped { IfErr result (StopsFor (T.content trees.old) (T.faults trees.old) (T.faults trees.new) (roots_of request.entry)) }
-    ensures content { T.content trees.new ≡ T.content trees.old }
-{
-    let platform = match read_tree(alloc, Tree::Platform, request.platform, trees) {
-        Ok(records) => records,
-        Err(stop) => return Err(stop),
-    };
-    let old = match read_tree(alloc, Tree::Old, request.old, trees) {
-        Ok(records) => records,
-        Err(stop) => return Err(stop),
-    };
-    match read_tree(alloc, Tree::New, request.new, trees) {
-        Ok(new) => Ok(Records { platform, old, new }),
-        Err(stop) => Err(stop),
+impl Records {
+    // The records of the three trees one by one.
+    fn of_trees(mut all: Vec<Items<ClassFacts>>) -> Records
+        requires { length all.items ≡ 3 }
+        ensures { all.items ≡ result.platform.items ∷ result.old.items ∷ result.new.items ∷ [] }
+    {
+        let new = all.pop().unwrap().into_vec();
+        let old = all.pop().unwrap().into_vec();
+        let platform = all.pop().unwrap().into_vec();
+        Records { platform, old, new }
     }
 }
 
 // Why a release has no table.
-fn unfit(tree: Tree, error: TableError) -> Stop
-    ensures { result ≡ unfit_by tree error }
+fn unfit(name: TreeName, error: TableError) -> Stop
+    ensures { result ≡ unfit_by name error }
 {
     match error {
         TableError::BadRoot(part) => Stop::BadRoot(part),
-        TableError::Overlap(name) => Stop::Overlap(tree, name),
+        TableError::Overlap(class) => Stop::Overlap(name, class),
         TableError::Memory => Stop::Memory,
     }
 }
@@ -97,11 +84,11 @@ fn both_sides(
 {
     let old = match Table::build(alloc, platform, old) {
         Ok(table) => table,
-        Err(error) => return Err(unfit(Tree::Old, error)),
+        Err(error) => return Err(unfit(TreeName::Old, error)),
     };
     match Table::build(alloc, platform, new) {
         Ok(new) => Ok(Sides { old, new }),
-        Err(error) => Err(unfit(Tree::New, error)),
+        Err(error) => Err(unfit(TreeName::New, error)),
     }
 }
 
@@ -109,7 +96,7 @@ fn both_sides(
 fn counted(alloc: Global, old: &Table, new: &Table) -> Result<Verdict, Stop>
     requires { old.now.platform ≡ new.now.platform }
     ensures exact { IfOk result (IsVerdict old.now new.now) }
-    ensures few { IfOk result (λ v. count_of v ≤ 999999) }
+    ensures few { IfOk result (λ v. count_of v ≤ MAX_FINDINGS) }
     ensures kept { IfOk result (λ v. v.findings ≡ [] → (cs : List ClientClass) → IsInScope old.now new.now cs → MeetsNone old.now cs v.collisions → Keeps old.now new.now cs) }
     ensures broken { IfOk result (λ v. All (λ f. f.rule ≡ 1 → BreaksClass old.now new.now f.class f.error) v.findings) }
     ensures stopped { IfErr result (StopsCounting old.now new.now) }
@@ -131,7 +118,7 @@ fn compared(alloc: Global, records: Records) -> Result<Verdict, Stop>
     requires new { IsClassList records.new.items }
     ensures fits { IfOk result (λ v. Fits records.platform.items records.old.items records.new.items) }
     ensures exact { IfOk result (IsVerdict (side records.platform.items records.old.items) (side records.platform.items records.new.items)) }
-    ensures few { IfOk result (λ v. count_of v ≤ 999999) }
+    ensures few { IfOk result (λ v. count_of v ≤ MAX_FINDINGS) }
     ensures kept { IfOk result (λ v. v.findings ≡ [] → (cs : List ClientClass) → IsInScope (side records.platform.items records.old.items) (side records.platform.items records.new.items) cs
         → MeetsNone (side records.platform.items records.old.items) cs v.collisions → Keeps (side records.platform.items records.old.items) (side records.platform.items records.new.items) cs) }
     ensures broken { IfOk result (λ v. All (λ f. f.rule ≡ 1
@@ -149,23 +136,23 @@ fn compared(alloc: Global, records: Records) -> Result<Verdict, Stop>
     }
 }
 
-/// The verdict that the words ask for, or why there is none.
-pub fn check<T: Trees>(alloc: Global, words: &[Text], trees: &mut T) -> Result<Verdict, Stop>
-    ensures compatible { IfOk result (λ v. v.findings ≡ [] → Told (T.content trees.old) (λ files. IsCompatible words.now files v)) }
-    ensures incompatible { IfOk result (λ v. v.findings ≢ [] → Told (T.content trees.old) (λ files. IsIncompatible words.now files v)) }
-    ensures verdict { IfOk result (λ v. Told (T.content trees.old) (λ files. IsVerdictOn words.now files v)) }
-    ensures stopped { IfErr result (HasCause (given words.now (T.content trees.old) (T.faults trees.old) (T.faults trees.new))) }
-    ensures content { T.content trees.new ≡ T.content trees.old }
+/// What a check comes to, or why it has no outcome.
+pub fn check<T: Trees>(alloc: Global, check: &Check<'_>, trees: &mut T) -> Result<Outcome, Stop>
+    ensures outcome { IfOk result (ComesTo (CheckCommand (check_of check.now)) (T.state trees.old)) }
+    ensures stopped { IfErr result (StopsWith (CheckCommand (check_of check.now)) (change T.state trees.old trees.new)) }
+    ensures content { (T.state trees.new).content ≡ (T.state trees.old).content }
 {
-    let Some(request) = Request::from_words(words) else {
-        return Err(Stop::Words);
-    };
-    let records = match read_records(alloc, request, trees) {
-        Ok(records) => records,
+    let wanted = check.trees();
+    let all = match read_trees(alloc, &wanted, trees) {
+        Ok(all) => all,
         Err(stop) => return Err(stop),
     };
-    match compared(alloc, records) {
-        Ok(verdict) => Ok(verdict),
-        Err(stop) => Err(stop),
+    let verdict = match compared(alloc, Records::of_trees(all)) {
+        Ok(verdict) => verdict,
+        Err(stop) => return Err(stop),
+    };
+    match Outcome::of_verdict(alloc, &verdict) {
+        Ok(outcome) => Ok(outcome),
+        Err(_) => Err(Stop::Memory),
     }
 }

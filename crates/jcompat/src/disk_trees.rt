@@ -3,7 +3,8 @@ ghost use Rattle.std.specs.Prelude.{◌≡◌, ◌≤◌, ◌<◌, ◌+◌, ◌^
 ghost use Rattle.jc_base.specs.Causes.{Rose};
 ghost use Rattle.jc_base.specs.RootFaults.{count_at};
 ghost use Rattle.jc_base.specs.Outside.{are_distinct};
-ghost use Rattle.jcompat.specs.Ascending.{ascends};
+ghost use Rattle.jc_base.specs.States.{TreesState};
+ghost use Rattle.jcompat.specs.steps.Ascending.{ascends};
 
 use jc_base::root_faults::RootFaults;
 use jc_base::text::Text;
@@ -200,7 +201,7 @@ fn front_of<R: Files + AllocGlobal + Clone + Drop>(
 impl<R: Files + AllocGlobal + Clone + Drop> DiskTrees<R> {
     /// No call has failed yet.
     pub fn new(rt: R) -> DiskTrees<R>
-        ensures { (root : List ℕ) → ⟦<DiskTrees<R> as Trees>⟧.faults result root ≡ 0 }
+        ensures { (root : List ℕ) → (⟦<DiskTrees<R> as Trees>⟧.state result).faults root ≡ 0 }
     {
         let failed = RootFaults::new(rt.alloc());
         DiskTrees { rt, failed }
@@ -222,9 +223,7 @@ impl<R: Files + AllocGlobal + Clone + Drop> DiskTrees<R> {
 }
 
 impl<R: Files + AllocGlobal + Clone + Drop> Trees for DiskTrees<R> {
-    ghost content = { λ _. None };
-
-    ghost faults = { λ t. count_at t.failed };
+    ghost state = { λ t. record { content = None; faults = count_at t.failed } };
 
     fn list(&mut self, alloc: Global, root: &str) -> Result<Vec<Text>, TreeError> {
         match sorted_files(&self.rt, root) {

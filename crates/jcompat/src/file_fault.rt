@@ -6,7 +6,7 @@ use jc_desc::fault::Malformed;
 /// Why a class file isn't read.
 #[derive(Debug, Drop)]
 pub enum FileFault {
-    /// It has more than 4,194,304 bytes.
+    /// It has more bytes than the limit.
     TooLong,
     /// It is no class file (JVMS 4.1).
     Malformed(Malformed),
@@ -17,9 +17,9 @@ pub enum FileFault {
 /// Why the class files of a tree aren't read.
 #[derive(Debug, Drop)]
 pub enum TreeFault {
-    /// There are more than 40,000.
+    /// There are more than the limit.
     TooManyFiles,
-    /// One's path has more than 4,096 bytes.
+    /// One's path is longer than the limit.
     LongPath,
     /// The first of them, in the order of paths, that isn't read.
     File(Text, FileFault),

@@ -1,18 +1,17 @@
 //! Laws of the definitions that the top call's contract cites, each the contract of a function that
 //! does nothing, and the top call over trees and sinks that don't fail.
-ghost use Rattle.std.specs.Prelude.{◌≡◌, ◌≢◌, ◌⊎◌, ℕ, List, []};
+ghost use Rattle.std.specs.Prelude.{◌≡◌, ◌≢◌, ◌⊎◌, ℕ, List};
 ghost use Rattle.std.specs.List.{All};
 ghost use Rattle.jc_base.specs.Outside.{FileOf};
+ghost use Rattle.jc_base.specs.States.{change};
 ghost use Rattle.jc_facts.specs.declared.class_facts.ClassFacts.{ClassFacts};
 ghost use Rattle.jc_facts.specs.declared.verdict.Verdict.{Verdict};
-ghost use Rattle.jc_facts.specs.Clients.{HasRoot};
-ghost use Rattle.jc_facts.specs.Valid.{IsValidClass};
-ghost use Rattle.jc_facts.specs.Verdict.{IsVerdict};
-ghost use Rattle.jc_facts.specs.World.{side};
-ghost use Rattle.jcompat.specs.Classes.{Told};
-ghost use Rattle.jcompat.specs.Stop.{status_of};
-ghost use Rattle.jcompat.specs.Answers.{given, Reports, Refuses, IsRefused, IsAccepted, IsVerdictOn, IsCompatible, IsIncompatible};
-ghost use Rattle.jcompat.specs.Surely.{surely};
+ghost use Rattle.jc_facts.specs.client.Clients.{HasRoot};
+ghost use Rattle.jc_facts.specs.file.Valid.{IsValidClass};
+ghost use Rattle.jc_facts.specs.rule.Verdict.{IsVerdict};
+ghost use Rattle.jc_facts.specs.world.World.{side};
+ghost use Rattle.jcompat.specs.Answers.{Answers, ran, IsRefused, IsAccepted, IsVerdictOn};
+ghost use Rattle.jcompat.specs.declared.status.TheConstants.{READ_FAULT, WRITE_FAULT};
 ghost use Rattle.jcompat.specs.declared.stop.Stop.{Stop};
 
 use crate::run::run;
@@ -56,16 +55,10 @@ pub fn run_surely(
     out: &mut SureSink,
     err: &mut SureSink,
 ) -> u8
-    ensures known { (result ≡ 0) ⊎ (result ≡ 1) ⊎ (result ≡ 2) ⊎ (result ≡ 3) ⊎ (result ≡ 6) ⊎ (result ≡ 7) }
-    ensures compatible { result ≡ 0 → (v : Verdict) × (v.findings ≡ []) × Told (⟦<SureTrees as Trees>⟧.content trees.old) (λ files. IsCompatible words.now files v)
-        × Reports v (surely (⟦<SureSink as Sink>⟧.taken out.old) (⟦<SureSink as Sink>⟧.taken out.new)) (surely (⟦<SureSink as Sink>⟧.taken err.old) (⟦<SureSink as Sink>⟧.taken err.new)) }
-    ensures incompatible { result ≡ 1 → (v : Verdict) × (v.findings ≢ []) × Told (⟦<SureTrees as Trees>⟧.content trees.old) (λ files. IsIncompatible words.now files v)
-        × Reports v (surely (⟦<SureSink as Sink>⟧.taken out.old) (⟦<SureSink as Sink>⟧.taken out.new)) (surely (⟦<SureSink as Sink>⟧.taken err.old) (⟦<SureSink as Sink>⟧.taken err.new)) }
-    ensures refusing { (result ≡ 2) ⊎ (result ≡ 3) ⊎ (result ≡ 7) → (stop : Stop) × (status_of stop ≡ result)
-        × Refuses (given words.now (⟦<SureTrees as Trees>⟧.content trees.old) (λ _. 0) (λ _. 0)) stop
-        (surely (⟦<SureSink as Sink>⟧.taken out.old) (⟦<SureSink as Sink>⟧.taken out.new)) (surely (⟦<SureSink as Sink>⟧.taken err.old) (⟦<SureSink as Sink>⟧.taken err.new)) }
-    ensures refused { Told (⟦<SureTrees as Trees>⟧.content trees.old) (λ files. (stop : Stop) → IsRefused words.now files stop → (result ≡ status_of stop) ⊎ (result ≡ 6)) }
-    ensures accepted { Told (⟦<SureTrees as Trees>⟧.content trees.old) (λ files. IsAccepted words.now files → (result ≡ 0) ⊎ (result ≡ 1) ⊎ (result ≡ 6)) }
+    ensures answers { Answers (ran words.now (change ⟦<SureTrees as Trees>⟧.state trees.old trees.new)
+        (change ⟦<SureSink as Sink>⟧.state out.old out.new) (change ⟦<SureSink as Sink>⟧.state err.old err.new) result) }
+    ensures no_read_fault { result ≢ READ_FAULT }
+    ensures no_write_fault { result ≢ WRITE_FAULT }
 {
     run(alloc, words, trees, out, err)
 }

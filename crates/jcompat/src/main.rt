@@ -2,21 +2,26 @@
 #![tactic(auto)]
 
 mod check;
-mod classes;
+mod class_file;
+mod command;
+mod decide;
 mod disk_trees;
 mod file_fault;
 mod laws;
+mod limits;
+mod outcome;
 mod put;
-mod report;
+mod read_tree;
+mod read_trees;
 mod run;
+mod status;
 mod std_sink;
 mod stop;
-mod survey;
 mod tree;
-mod words;
 
 use crate::disk_trees::DiskTrees;
 use crate::run::run;
+use crate::status::NO_MEMORY;
 use crate::std_sink::StdSink;
 use jc_base::text::Text;
 use std::alloc::{AllocError, Global};
@@ -24,9 +29,6 @@ use std::env;
 use std::env::Env;
 use std::io::ErrorKind;
 use std::process::ExitCode;
-
-/// The status where there is no memory even for the words.
-const NO_MEMORY: u8 = 6;
 
 // The words after the program's name, or none where there is one that isn't UTF-8: then they are no
 // words of a command.
@@ -47,6 +49,7 @@ fn words_after_name(rt: &(impl Env + AllocGlobal)) -> Result<Vec<Text>, AllocErr
 fn main(rt: HostRuntime) -> ExitCode {
     let alloc = rt.alloc();
     let Ok(words) = words_after_name(&rt) else {
+        // There is no memory even for the words.
         return ExitCode::from(NO_MEMORY);
     };
     let mut out = StdSink::new(rt.stdout());
@@ -55,7 +58,5 @@ fn main(rt: HostRuntime) -> ExitCode {
     ExitCode::from(run(alloc, words.as_slice(), &mut trees, &mut out, &mut err))
 }
 
-#[cfg(test)]
-mod outside_tests;
 #[cfg(test)]
 mod tests;

@@ -1,6 +1,7 @@
 //! Standard output and standard error as sinks.
 ghost use Rattle.std.specs.Prelude.{◌≡◌, ◌≤◌, ◌<◌, ◌^◌, OnErr, None};
 ghost use Rattle.jc_base.specs.Causes.{Rose};
+ghost use Rattle.jc_base.specs.States.{SinkState};
 
 use jc_base::sink::{Sink, SinkError};
 use std::io::Write;
@@ -18,7 +19,7 @@ pub struct StdSink<W: Write + Drop> {
 impl<W: Write + Drop> StdSink<W> {
     /// No call has failed yet.
     pub fn new(writer: W) -> StdSink<W>
-        ensures { ⟦<StdSink<W> as Sink>⟧.faults result ≡ 0 }
+        ensures { (⟦<StdSink<W> as Sink>⟧.state result).faults ≡ 0 }
     {
         StdSink { writer, faults: 0 }
     }
@@ -39,9 +40,7 @@ impl<W: Write + Drop> StdSink<W> {
 }
 
 impl<W: Write + Drop> Sink for StdSink<W> {
-    ghost taken = { λ _. None };
-
-    ghost faults = { λ s. s.faults };
+    ghost state = { λ s. record { taken = None; faults = s.faults } };
 
     fn put(&mut self, bytes: &[u8]) -> Result<(), SinkError> {
         let faults = self.faults;

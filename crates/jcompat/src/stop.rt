@@ -1,32 +1,33 @@
-//! Why there is no verdict.
+//! Why there is no outcome.
 ghost use Rattle.std.specs.Prelude.{◌≡◌, ◌++◌, codes, IfOk, OnOk};
-ghost use Rattle.jc_facts.specs.Text.{printed};
-ghost use Rattle.jcompat.specs.Tree.{tree_word};
-ghost use Rattle.jcompat.specs.Stop.{reason_name as name_of, part_name as part_name_of, file_words, tree_words, line_of, file_status as file_status_of, tree_status as tree_status_of, status_of};
+ghost use Rattle.jc_facts.specs.print.Text.{printed};
+ghost use Rattle.jcompat.specs.Tree.{tree_words};
+ghost use Rattle.jcompat.specs.Stop.{reason_name as name_of, part_name as part_name_of, file_words, unread_words, line_of, file_status as file_status_of, tree_status as tree_status_of, status_of};
 
 use crate::file_fault::{FileFault, TreeFault};
-use crate::tree::Tree;
+use crate::status::{BAD_INPUT, LIMIT, NO_MEMORY, READ_FAULT, USAGE};
+use crate::tree::TreeName;
 use jc_base::name::Name;
 use jc_desc::fault::Reason;
 use jc_report::printed::{push_decimal, push_printed};
 use jc_table::root::RootPart;
 use std::alloc::{AllocError, Global};
 
-/// Why there is no verdict.
+/// Why there is no outcome.
 #[derive(Debug, Drop)]
 pub enum Stop {
-    /// The words ask for no check.
+    /// The words ask for nothing that is built.
     Words,
     /// The class files of the tree aren't read.
-    Unread(Tree, TreeFault),
+    Unread(TreeName, TreeFault),
     /// This part of the platform's `java/lang/Object` isn't as it has to be.
     BadRoot(RootPart),
     /// The release of this tree declares this name, and so does the platform.
-    Overlap(Tree, Name),
-    /// There are more than 999,999 findings and collisions.
+    Overlap(TreeName, Name),
+    /// There are more findings and collisions than the limit.
     TooManyFindings,
     /// A call on the tree failed.
-    ReadFault(Tree),
+    ReadFault(TreeName),
     /// There was no memory.
     Memory,
 }
@@ -35,8 +36,8 @@ fn file_status(fault: &FileFault) -> u8
     ensures { result ≡ file_status_of fault.now }
 {
     match fault {
-        FileFault::TooLong => 7,
-        FileFault::Malformed(_) | FileFault::Misplaced(_) => 3,
+        FileFault::TooLong => LIMIT,
+        FileFault::Malformed(_) | FileFault::Misplaced(_) => BAD_INPUT,
     }
 }
 
@@ -44,7 +45,7 @@ fn tree_status(fault: &TreeFault) -> u8
     ensures { result ≡ tree_status_of fault.now }
 {
     match fault {
-        TreeFault::TooManyFiles | TreeFault::LongPath => 7,
+        TreeFault::TooManyFiles | TreeFault::LongPath => LIMIT,
         TreeFault::File(_, fault) => file_status(fault),
     }
 }
@@ -100,8 +101,8 @@ fn push_file_words(alloc: Global, line: &mut Vec<u8>, fault: &FileFault) -> Resu
     Ok(())
 }
 
-fn push_tree_words(alloc: Global, line: &mut Vec<u8>, fault: &TreeFault) -> Result<(), AllocError>
-    ensures { OnOk result (line.new.items ≡ line.old.items ++ tree_words fault.now) }
+fn push_unread_words(alloc: Global, line: &mut Vec<u8>, fault: &TreeFault) -> Result<(), AllocError>
+    ensures { OnOk result (line.new.items ≡ line.old.items ++ unread_words fault.now) }
 {
     match fault {
         TreeFault::TooManyFiles => line.extend_from_slice(b"limit files")?,
@@ -116,21 +117,21 @@ fn push_tree_words(alloc: Global, line: &mut Vec<u8>, fault: &TreeFault) -> Resu
 }
 
 // A line on a tree as a whole.
-fn tree_line(alloc: Global, tree: Tree, what: &[u8]) -> Result<Vec<u8>, AllocError>
-    ensures { IfOk result (λ line. line.items ≡ codes "jcompat: " ++ tree_word tree ++ what.now) }
+fn tree_line(alloc: Global, tree: TreeName, what: &[u8]) -> Result<Vec<u8>, AllocError>
+    ensures { IfOk result (λ line. line.items ≡ codes "jcompat: " ++ tree_words tree ++ what.now) }
 {
     let mut line = Vec::from_slice(alloc, b"jcompat: ")?;
-    line.extend_from_slice(tree.word().as_bytes())?;
+    tree.push_words(&mut line)?;
     line.extend_from_slice(what)?;
     Ok(line)
 }
 
 // The line on a tree whose class files aren't read.
-fn unread_line(alloc: Global, tree: Tree, fault: &TreeFault) -> Result<Vec<u8>, AllocError>
-    ensures { IfOk result (λ line. line.items ≡ codes "jcompat: " ++ tree_word tree ++ codes ": " ++ tree_words fault.now ++ codes "\n") }
+fn unread_line(alloc: Global, tree: TreeName, fault: &TreeFault) -> Result<Vec<u8>, AllocError>
+    ensures { IfOk result (λ line. line.items ≡ codes "jcompat: " ++ tree_words tree ++ codes ": " ++ unread_words fault.now ++ codes "\n") }
 {
     let mut line = tree_line(alloc, tree, b": ")?;
-    push_tree_words(alloc, &mut line, fault)?;
+    push_unread_words(alloc, &mut line, fault)?;
     line.push(b'\n')?;
     Ok(line)
 }
@@ -146,8 +147,8 @@ fn bad_root_line(alloc: Global, part: RootPart) -> Result<Vec<u8>, AllocError>
 }
 
 // The line on a release that declares a name of the platform.
-fn overlap_line(alloc: Global, tree: Tree, name: &Name) -> Result<Vec<u8>, AllocError>
-    ensures { IfOk result (λ line. line.items ≡ codes "jcompat: " ++ tree_word tree ++ codes ": overlap " ++ printed name.now ++ codes "\n") }
+fn overlap_line(alloc: Global, tree: TreeName, name: &Name) -> Result<Vec<u8>, AllocError>
+    ensures { IfOk result (λ line. line.items ≡ codes "jcompat: " ++ tree_words tree ++ codes ": overlap " ++ printed name.now ++ codes "\n") }
 {
     let mut line = tree_line(alloc, tree, b": overlap ")?;
     push_printed(&mut line, name.as_bytes())?;
@@ -161,12 +162,12 @@ impl Stop {
         ensures { result ≡ status_of self.now }
     {
         match self {
-            Stop::Words => 2,
+            Stop::Words => USAGE,
             Stop::Unread(_, fault) => tree_status(fault),
-            Stop::BadRoot(_) | Stop::Overlap(..) => 3,
-            Stop::TooManyFindings => 7,
-            Stop::ReadFault(_) => 4,
-            Stop::Memory => 6,
+            Stop::BadRoot(_) | Stop::Overlap(..) => BAD_INPUT,
+            Stop::TooManyFindings => LIMIT,
+            Stop::ReadFault(_) => READ_FAULT,
+            Stop::Memory => NO_MEMORY,
         }
     }
 

@@ -1,24 +1,33 @@
-//! The trees of a check.
-ghost use Rattle.std.specs.Prelude.{◌≡◌};
-ghost use Rattle.jcompat.specs.Tree.{tree_word};
+//! The trees of a command.
+ghost use Rattle.std.specs.Prelude.{◌≡◌, ◌++◌, OnOk};
+ghost use Rattle.jcompat.specs.Tree.{tree_words};
 
-/// The trees that a check reads, in the order in which it does.
+use std::alloc::AllocError;
+
+/// What a tree is called.
 #[derive(Clone, Copy, PartialEq, Eq, Debug)]
-pub enum Tree {
+pub enum TreeName {
     Platform,
     Old,
     New,
 }
 
-impl Tree {
-    /// Its word in a line on standard error.
-    pub fn word(self) -> &'static str
-        ensures { result.now ≡ tree_word self }
+impl TreeName {
+    /// Adds its words in a line on standard error.
+    pub fn push_words(self, line: &mut Vec<u8>) -> Result<(), AllocError>
+        ensures { OnOk result (line.new.items ≡ line.old.items ++ tree_words self) }
     {
         match self {
-            Tree::Platform => "platform",
-            Tree::Old => "old",
-            Tree::New => "new",
+            TreeName::Platform => line.extend_from_slice(b"platform"),
+            TreeName::Old => line.extend_from_slice(b"old"),
+            TreeName::New => line.extend_from_slice(b"new"),
         }
     }
+}
+
+/// A tree that a command reads: what it is called, and its root.
+#[derive(Clone, Copy)]
+pub struct Tree<'a> {
+    pub name: TreeName,
+    pub root: &'a str,
 }

@@ -1,0 +1,55 @@
+-- What the words ask for.
+use Rattle.std.specs.Prelude.{List, [], ◌∷◌, Option, Some, None, ◌==◌, length, codes, if◌then◌else◌}
+use Rattle.jc_facts.specs.Names.{Bytes, same}
+use Rattle.jcompat.specs.Tree.{TreeOf}
+use Rattle.jcompat.specs.declared.tree.TreeName.TheVariants as names
+
+-- a check of two releases: the roots of the platform and of both
+pub record CheckOf : Type 0 where
+  pub platform : Bytes
+  pub old : Bytes
+  pub new : Bytes
+
+-- what is asked for
+pub data CommandOf : Type 0 where
+  CheckCommand : CheckOf → CommandOf
+
+-- the trees that are read for it, in this order
+abbrev pub trees_of : CommandOf → List TreeOf
+trees_of (CheckCommand c) = (record { name = names.Platform; root = c.platform }) ∷ (record { name = names.Old; root = c.old }) ∷ (record { name = names.New; root = c.new }) ∷ []
+
+infixl 10 ◌>>=◌
+abbrev pub ◌>>=◌ : {A B : Type 0} → Option A → (A → Option B) → Option B
+None >>= f = None
+(Some x) >>= f = f x
+
+-- the words begin with this word: the others
+abbrev pub after_word : Bytes → List Bytes → Option (List Bytes)
+after_word word [] = None
+after_word word (w ∷ words) = if same w word then Some words else None
+
+-- the first of the words, and the others
+abbrev pub next_word : List Bytes → Option (Bytes × List Bytes)
+next_word [] = None
+next_word (w ∷ words) = Some (w, words)
+
+-- the words begin with this flag: its value, and the others
+abbrev pub value_after : Bytes → List Bytes → Option (Bytes × List Bytes)
+value_after flag words = do
+  rest ← after_word flag words
+  next_word rest
+
+-- the check of these flags: they are `--platform P --old O --new N`, in this order, and nothing else
+unfoldable pub check_by : List Bytes → Option CheckOf
+check_by flags = do
+  platform ← value_after (codes "--platform") flags
+  old ← value_after (codes "--old") platform.1
+  new ← value_after (codes "--new") old.1
+  if length new.1 == 0 then Some (record { platform = platform.0; old = old.0; new = new.0 }) else None
+
+-- what the words ask for: `check` and its flags
+unfoldable pub asked : List Bytes → Option CommandOf
+asked words = do
+  flags ← after_word (codes "check") words
+  check ← check_by flags
+  Some (CheckCommand check)

@@ -1,0 +1,27 @@
+-- What is found in the records of the three trees, on the way.
+use Rattle.std.specs.Prelude.{◌≡◌, ◌<◌, ◌⊎◌, List}
+use Rattle.jc_facts.specs.declared.class_facts.ClassFacts.{ClassFacts}
+use Rattle.jc_facts.specs.declared.verdict.Verdict.{Verdict}
+use Rattle.jc_facts.specs.world.World.{World}
+use Rattle.jc_table.specs.declared.table.TableError.{TableError}
+use Rattle.jc_table.specs.declared.table.TableError.TheVariants as errors
+use Rattle.jc_facts.specs.rule.Verdict.{IsVerdict}
+use Rattle.jcompat.specs.Answers.{IsUnfit, count_of}
+use Rattle.jcompat.specs.declared.limits.TheConstants.{MAX_FINDINGS}
+use Rattle.jcompat.specs.declared.tree.TreeName.{TreeName}
+use Rattle.jcompat.specs.declared.stop.Stop.{Stop}
+use Rattle.jcompat.specs.declared.stop.Stop.TheVariants as stops
+
+-- why comparing the records stopped
+abbrev pub StopsComparing : List ClassFacts → List ClassFacts → List ClassFacts → Stop → Type 0
+StopsComparing platform old new stop = IsUnfit platform old new stop ⊎ (stop ≡ stops.Memory)
+
+-- why the verdict on the sides isn't printed
+abbrev pub StopsCounting : World → World → Stop → Type 0
+StopsCounting O N stop = ((stop ≡ stops.TooManyFindings) × ((v : Verdict) × IsVerdict O N v × (MAX_FINDINGS < count_of v))) ⊎ (stop ≡ stops.Memory)
+
+-- how a table that isn't built stops the comparison
+abbrev pub unfit_by : TreeName → TableError → Stop
+unfit_by name (errors.BadRoot part) = stops.BadRoot part
+unfit_by name (errors.Overlap class) = stops.Overlap name class
+unfit_by name errors.Memory = stops.Memory

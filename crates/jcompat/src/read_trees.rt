@@ -1,0 +1,41 @@
+//! Reading the trees of a command.
+ghost use Rattle.std.specs.Prelude.{◌≡◌, ◌≤◌, ℕ, List, map, length, IfOk, IfErr};
+ghost use Rattle.std.specs.List.{All};
+ghost use Rattle.jc_base.specs.States.{change};
+ghost use Rattle.jcompat.specs.ClassFiles.{Told};
+ghost use Rattle.jcompat.specs.steps.CommandView.{tree_of};
+ghost use Rattle.jcompat.specs.steps.ReadTree.{IsClassList};
+ghost use Rattle.jcompat.specs.steps.ReadTrees.{AreRecordsOf, StopsAmong};
+
+use crate::read_tree::read_tree;
+use crate::stop::Stop;
+use crate::tree::Tree;
+use jc_base::items::Items;
+use jc_base::trees::Trees;
+use jc_facts::class_facts::ClassFacts;
+use std::alloc::Global;
+
+/// The records of each of these trees, in this order, or why the first of them that isn't read isn't.
+pub fn read_trees<T: Trees>(
+    alloc: Global,
+    wanted: &[Tree<'_>],
+    trees: &mut T,
+) -> Result<Vec<Items<ClassFacts>>, Stop>
+    ensures read { IfOk result (λ all. Told (T.state trees.old).content (λ files. AreRecordsOf files (map tree_of wanted.now) all.items)) }
+    ensures classes { IfOk result (λ all. All IsClassList all.items) }
+    ensures whole { IfOk result (λ all. length all.items ≡ length wanted.now) }
+    ensures stopped { IfErr result (StopsAmong (change T.state trees.old trees.new) (map tree_of wanted.now)) }
+    ensures content { (T.state trees.new).content ≡ (T.state trees.old).content }
+{
+    let mut all = Vec::new(alloc);
+    for tree in wanted {
+        match read_tree(alloc, tree, trees) {
+            Ok(records) => match all.push(Items::from_vec(records)) {
+                Ok(()) => {}
+                Err(_) => return Err(Stop::Memory),
+            },
+            Err(stop) => return Err(stop),
+        }
+    }
+    Ok(all)
+}
