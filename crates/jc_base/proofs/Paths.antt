@@ -4,7 +4,8 @@ use Rattle.std.specs.Str.{bytes_eq}
 use Rattle.std.proofs.lemmas.Slice.Eq.{bytes_eq-Decides}
 use Rattle.std.specs.List.{AllByRecursion, Contains}
 use Rattle.std.specs.Prelude.{Some, None, Option}
-use Rattle.std.proofs.lemmas.List.Elements.{All-from_recursion, Contains-append_left, Contains-append_right, Contains-push}
+use Rattle.std.proofs.lemmas.List.Elements.{All-from_recursion}
+use Rattle.jc_lemmas.proofs.Listed.{here, there}
 use Rattle.jc_base.specs.Outside.{FileOf, file_at, HasFile, AreThePaths, has_bytes, has_file, are_files, are_distinct}
 use Rattle.jc_base.specs.MemPaths.{paths_of}
 
@@ -41,18 +42,12 @@ held_by_recursion : (root : List ℕ) (fs : List FileOf) → AllByRecursion (Has
 held_by_recursion root [] = tt
 held_by_recursion root (f ∷ fs) = held_step root f fs (bytes_eq f.root root) refl (held_by_recursion root fs)
 
-here : {X : Type 0} (x : X) (xs : List X) → Contains (x ∷ xs) x
-here x xs = Contains-append_left (x ∷ []) xs x (Contains-push [] x)
-
-later : {X : Type 0} (y : X) (xs : List X) (x : X) → Contains xs x → Contains (y ∷ xs) x
-later y xs x h = Contains-append_right (y ∷ []) xs x h
-
 listed_step : (root path : List ℕ) (f : FileOf) (ps : List (List ℕ)) (rest : Option (List ℕ)) (b c : Bool) → bytes_eq f.path path ≡ c
     → (bytes : List ℕ) → cond (b && c) (Some f.bytes) rest ≡ Some bytes → (rest ≡ Some bytes → Contains ps path) → Contains (cond b (f.path ∷ ps) ps) path
 listed_step root path f ps rest true true same bytes found more =
     let is : f.path ≡ path = (bytes_eq-Decides f.path path).0 same in
     subst (λ (p : List ℕ). Contains (f.path ∷ ps) p) is (here f.path ps)
-listed_step root path f ps rest true false same bytes found more = later f.path ps path (more found)
+listed_step root path f ps rest true false same bytes found more = there path f.path ps (more found)
 listed_step root path f ps rest false c same bytes found more = more found
 
 -- each file of the root has its path among them

@@ -7,3 +7,6 @@ pub mod MemFile
 pub mod MemPaths
 pub mod MemSink
 pub mod MemTrees
+pub mod FileMap
+pub mod MemFolder
+pub mod SureFolder

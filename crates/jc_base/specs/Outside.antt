@@ -1,5 +1,5 @@
--- What is outside: trees of files, and sinks of bytes.
-use Rattle.std.specs.Prelude.{true, false, not, ◌&&◌, ◌||◌, ◌≡◌, ℕ, ◌≤◌, List, [], ◌∷◌, ◌++◌, Option, Some, None, if◌then◌else◌, Bool, length, take}
+-- What is outside: trees of files, sinks of bytes, and folders that files are put into.
+use Rattle.std.specs.Prelude.{true, false, not, ◌&&◌, ◌||◌, ◌≡◌, ◌≢◌, ℕ, ◌≤◌, List, [], ◌∷◌, ◌++◌, Option, Some, None, if◌then◌else◌, Bool, length, take}
 use Rattle.std.specs.List.{All, Contains}
 use Rattle.std.specs.Str.{bytes_eq}
 
@@ -71,3 +71,22 @@ TakesAll (Some old) new piece = new ≡ Some (old ++ piece)
 abbrev pub TakesFront : Option (List ℕ) → Option (List ℕ) → List ℕ → Type 0
 TakesFront None new piece = new ≡ None
 TakesFront (Some old) new piece = (k : ℕ) × (k ≤ length piece) × (new ≡ Some (old ++ take k piece))
+
+-- each path but this one holds what it held
+abbrev pub KeepsAllBut : List ℕ → (List ℕ → Option (List ℕ)) → (List ℕ → Option (List ℕ)) → Type 0
+KeepsAllBut path before now = (other : List ℕ) → other ≢ path → now other ≡ before other
+
+-- each path holds what it held
+abbrev pub KeepsAll : (List ℕ → Option (List ℕ)) → (List ℕ → Option (List ℕ)) → Type 0
+KeepsAll before now = (path : List ℕ) → now path ≡ before path
+
+-- the path holds exactly these bytes, where the files are told
+abbrev pub HoldsAt : Option (List ℕ → Option (List ℕ)) → List ℕ → List ℕ → Type 0
+HoldsAt None path bytes = Unit {0}
+HoldsAt (Some held) path bytes = held path ≡ Some bytes
+
+-- each path but this one is as before, where the files are told, and they stay told or untold
+abbrev pub KeepsOtherPaths : List ℕ → Option (List ℕ → Option (List ℕ)) → Option (List ℕ → Option (List ℕ)) → Type 0
+KeepsOtherPaths path None None = Unit {0}
+KeepsOtherPaths path (Some before) (Some now) = KeepsAllBut path before now
+KeepsOtherPaths path _ _ = ⊥

@@ -1,4 +1,4 @@
--- What is known of the trees of files and of a sink of bytes, before a call and after it.
+-- What is known of the trees of files, of a sink of bytes and of a folder, before a call and after it.
 use Rattle.std.specs.Prelude.{ℕ, List, Option}
 use Rattle.jc_base.specs.Outside.{FileOf}
 
@@ -10,6 +10,11 @@ pub record TreesState : Type 0 where
 -- the bytes taken, where they are told, and how many calls have failed
 pub record SinkState : Type 0 where
   pub taken : Option (List ℕ)
+  pub faults : ℕ
+
+-- the bytes at each path, where they are told, and how many calls have failed
+pub record FolderState : Type 0 where
+  pub content : Option (List ℕ → Option (List ℕ))
   pub faults : ℕ
 
 -- how it stood before a call, and how it stands after it

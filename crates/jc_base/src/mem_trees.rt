@@ -9,7 +9,7 @@ use crate::mem_file::{MemFile, front, paths};
 use crate::root_faults::RootFaults;
 use crate::schedule::Schedule;
 use crate::text::Text;
-use crate::trees::{TreeError, Trees};
+use crate::trees::{MAX_BYTES, TreeError, Trees};
 use std::alloc::Global;
 
 /// Trees in memory. The calls of the given numbers, counted from 1 over `list` and `read`, fail.
@@ -106,7 +106,7 @@ impl Trees for MemTrees {
         limit: u32,
     ) -> Result<Vec<u8>, TreeError>
         requires held { Holds (Some (held_by self.old)) root.now path.now }
-        requires limit { limit ≤ 4194304 }
+        requires limit { limit ≤ MAX_BYTES }
         ensures bytes { IfOk result (λ read. ReadsFront (Some (held_by self.old)) root.now path.now (limit + 1) read.items) }
         ensures short { IfOk result (λ read. length read.items ≤ limit + 1) }
         ensures content { Some (held_by self.new) ≡ Some (held_by self.old) }

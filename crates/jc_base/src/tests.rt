@@ -2,16 +2,19 @@ ghost use Rattle.std.specs.Prelude.{◌≤◌, IsTrue};
 ghost use Rattle.jc_base.specs.Outside.{are_files};
 ghost use Rattle.jc_base.specs.MemFile.{files_of};
 
+use crate::folder::{Folder, FolderError};
 use crate::items::Items;
 use crate::mem_file::{MemFile, is_file_list};
+use crate::mem_folder::MemFolder;
 use crate::mem_sink::MemSink;
 use crate::mem_trees::MemTrees;
 use crate::name::Name;
 use crate::sink::{Sink, SinkError};
+use crate::sure_folder::SureFolder;
 use crate::sure_sink::SureSink;
 use crate::sure_trees::SureTrees;
 use crate::text::Text;
-use crate::trees::{TreeError, Trees};
+use crate::trees::{MAX_BYTES, TreeError, Trees};
 use std::alloc::{AllocError, Global};
 use std::test::Fail;
 
@@ -65,7 +68,7 @@ fn the_listed_calls_on_trees_fail(rt: HostRuntime) -> Result<(), Fail> {
 // The front of the one file of the root.
 fn front(alloc: Global, files: Vec<MemFile>, limit: u32) -> Result<Option<Vec<u8>>, TreeError>
     requires distinct { IsTrue (are_files (files_of files.items)) }
-    requires limit { limit ≤ 4194304 }
+    requires limit { limit ≤ MAX_BYTES }
 {
     let mut trees = SureTrees::new(files);
     match trees.list(alloc, "old")?.first() {
@@ -103,5 +106,34 @@ fn the_listed_calls_on_sinks_take_half(rt: HostRuntime) -> Result<(), Fail> {
     sure.put(b"abc")?;
     sure.put(b"")?;
     assert!(rt; sure.bytes() == b"abc".as_slice());
+    Ok(())
+}
+
+#[test]
+fn the_listed_calls_on_folders_change_nothing(rt: HostRuntime) -> Result<(), Fail> {
+    let alloc = rt.alloc();
+    let mut folder = MemFolder::new(alloc, Vec::from_slice(alloc, &[2])?);
+    folder.put("d/A.class", b"abc")?;
+    assert!(rt; matches!(folder.put("d/A.class", b"de"), Err(FolderError::Fault)));
+    assert_eq!(rt; folder.faults(), 1);
+    folder.put("d/B.class", b"f")?;
+    assert!(rt; folder.get("d/A.class") == Some(b"abc".as_slice()));
+    assert!(rt; folder.get("d/B.class") == Some(b"f".as_slice()));
+    assert!(rt; folder.get("d/C.class").is_none());
+    Ok(())
+}
+
+// Puts two files at one path.
+fn put_twice<F: Folder>(folder: &mut F, path: &str) -> Result<(), FolderError> {
+    folder.put(path, b"abc")?;
+    folder.put(path, b"")
+}
+
+#[test]
+fn a_put_replaces_the_file(rt: HostRuntime) -> Result<(), Fail> {
+    let mut folder = SureFolder::new(rt.alloc());
+    put_twice(&mut folder, "d/A.class")?;
+    assert!(rt; folder.get("d/A.class") == Some(b"".as_slice()));
+    assert!(rt; folder.get("d").is_none());
     Ok(())
 }

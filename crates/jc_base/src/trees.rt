@@ -8,6 +8,9 @@ use crate::text::Text;
 use std::alloc::Global;
 use thiserror::Error;
 
+/// The greatest limit of a read, in bytes.
+pub const MAX_BYTES: u32 = 4_194_304;
+
 /// Why files could not be listed or read.
 #[derive(Clone, Copy, Debug, PartialEq, Eq, Error)]
 pub enum TreeError {
@@ -34,7 +37,7 @@ pub trait Trees {
         ensures cause { IsErrOf result TreeError.Fault → Rose ((state self.old).faults root.now) ((state self.new).faults root.now) };
 
     /// The first `limit + 1` bytes of a file, or the whole file where it is no longer. The limit
-    /// is at most 4,194,304 bytes.
+    /// is at most [`MAX_BYTES`].
     fn read(
         &mut self,
         alloc: Global,
@@ -43,7 +46,7 @@ pub trait Trees {
         limit: u32,
     ) -> Result<Vec<u8>, TreeError>
         requires held { Holds (state self.old).content root.now path.now }
-        requires limit { limit ≤ 4194304 }
+        requires limit { limit ≤ MAX_BYTES }
         ensures bytes { IfOk result (λ read. ReadsFront (state self.old).content root.now path.now (limit + 1) read.items) }
         ensures short { IfOk result (λ read. length read.items ≤ limit + 1) }
         ensures content { (state self.new).content ≡ (state self.old).content }

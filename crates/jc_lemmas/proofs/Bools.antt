@@ -59,3 +59,18 @@ or_assoc false b c = refl
 
 pub contradicts : (b : Bool) → b ≡ true → b ≡ false → ⊥
 contradicts b h k = cc
+
+pub not_true : (b : Bool) → not b ≡ true → b ≡ false
+not_true true h = absurd (cc)
+not_true false h = refl
+
+-- five tests in a row
+
+pub first_of_five : (a b c d e : Bool) → (a && b && c && d && e) ≡ true → a ≡ true
+first_of_five a b c d e h = both_first a b (both_first (a && b) c (both_first (a && b && c) d (both_first (a && b && c && d) e h)))
+
+pub second_of_five : (a b c d e : Bool) → (a && b && c && d && e) ≡ true → b ≡ true
+second_of_five a b c d e h = both_last a b (both_first (a && b) c (both_first (a && b && c) d (both_first (a && b && c && d) e h)))
+
+pub third_of_five : (a b c d e : Bool) → (a && b && c && d && e) ≡ true → c ≡ true
+third_of_five a b c d e h = both_last (a && b) c (both_first (a && b && c) d (both_first (a && b && c && d) e h))

@@ -13,3 +13,13 @@ cond-none false e o h = (refl, h)
 pub none_where : {A : Type 0} (o : Option A) → is_none o ≡ true → o ≡ None
 none_where None h = refl
 none_where (Some x) h = absurd (cc)
+
+-- where a test holds, the first of two is chosen
+pub taken : {A : Type 0} (b : Bool) (o p q : Option A) → b ≡ true → cond b o p ≡ q → o ≡ q
+taken true o p q e h = h
+taken false o p q e h = absurd (cc)
+
+-- where it doesn't, the second
+pub passed : {A : Type 0} (b : Bool) (o p q : Option A) → b ≡ false → cond b o p ≡ q → p ≡ q
+passed true o p q e h = absurd (cc)
+passed false o p q e h = h
