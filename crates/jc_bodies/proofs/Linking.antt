@@ -20,14 +20,14 @@ use Rattle.jc_facts.specs.written.Bodies.{tag_of_act, slots_or_none}
 use Rattle.jc_facts.specs.Flags.{static_flag}
 use Rattle.jc_facts.specs.world.Loading.{load_fault}
 use Rattle.jc_facts.specs.Names.{Bytes, is_key, key_of}
-use Rattle.jc_facts.specs.client.Outcome.{class_fault, class_step, outcome, use_fault, init_key, instantiation_fault, array_fault}
+use Rattle.jc_facts.specs.client.Outcome.{class_step, outcome, use_fault, init_key, instantiation_fault, array_fault}
 use Rattle.jc_facts.specs.world.Types.{is_array_text}
 use Rattle.jc_facts.specs.file.Valid.{IsValidClass}
 use Rattle.jc_facts.specs.world.World.{World, find_class, DeclaredMember, own_field_of, own_method_of}
 use Rattle.jc_facts.specs.plan.PlannedBodies.{zeros, params_of, param_of, taken_by}
 use Rattle.jc_facts.specs.file.Attributes.{is_array_name}
 use Rattle.jc_facts.specs.written.PoolEntries.{use_is_good}
-use Rattle.jc_sound.proofs.Context.{named_class}
+use Rattle.jc_worlds.proofs.Alike.{step_loads}
 use Rattle.jc_worlds.proofs.Declared.{IsDeclared}
 use Rattle.jc_worlds.proofs.FieldActs.{IsField, field_found-declared}
 use Rattle.jc_worlds.proofs.Inherited.{found_all}
@@ -73,12 +73,6 @@ method_short c k m v s o = short_key k m (found_all (is_key k) is_short_member c
 pub field_short : (c : ClassFacts) (k : Key) (m : Member) → IsValidClass c → IsShort c → own_field_of c k ≡ Some m → IsShortKey k
 field_short c k m v s o = short_key k m (found_all (is_key k) is_short_member c.fields m o s.fields) (declared_field c k m v o).1
 
--- ---- classes
-
-class_loads : (V : World) (x t : Bytes) → is_array_text t ≡ false → class_step V x t ≡ None → load_fault V t ≡ None
-unfolding class_step class_fault
-class_loads V x t p h = (or_else-none (load_fault V t) _ (rw (named_class t p) at h)).0
-
 -- ---- initializers
 
 own_constructor : (V : World) → IsSound V → (t d : Bytes) (f : DeclaredMember → Option LinkError) → IsOwn V t d f → IsConstructor t d
@@ -93,7 +87,7 @@ unfolding outcome
 init_links V s x t d h =
     let p = or_else-none (class_step V x t) _ h in
     let q = cond-none (is_array_text t) NoSuchMethodError _ p.1 in
-    own_constructor V s t d _ (own_init V t d _ (class_loads V x t q.0 p.0) q.1)
+    own_constructor V s t d _ (own_init V t d _ (step_loads V x t q.0 p.0) q.1)
 
 pub new_links : (V : World) → IsSound V → (x t d : Bytes) → outcome V x (item.New t d) ≡ None → IsConstructor t d
 unfolding outcome
@@ -101,7 +95,7 @@ new_links V s x t d h =
     let p = or_else-none (class_step V x t) _ h in
     let q = cond-none (is_array_text t) NoSuchMethodError _ p.1 in
     let r = or_else-none (instantiation_fault V t) _ q.1 in
-    own_constructor V s t d _ (own_init V t d _ (class_loads V x t q.0 p.0) r.1)
+    own_constructor V s t d _ (own_init V t d _ (step_loads V x t q.0 p.0) r.1)
 
 -- ---- acts
 
@@ -112,7 +106,7 @@ unfolding outcome
 looked_up V x what t k r place h =
     let p = or_else-none (class_step V x t) _ h in
     let q = cond-none (is_array_text t) (array_fault (form_of what)) _ p.1 in
-    (q.0, class_loads V x t q.0 p.0, look_up-takes V (form_of what) t k (use_fault V x what t r place) q.1)
+    (q.0, step_loads V x t q.0 p.0, look_up-takes V (form_of what) t k (use_fault V x what t r place) q.1)
 
 -- a field that is there
 record HasField (t : Bytes) (k : Key) : Type 0 where

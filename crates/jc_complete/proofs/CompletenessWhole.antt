@@ -23,7 +23,7 @@ use Rattle.jc_complete.specs.Completeness.{Completeness, FindingsShown, Collisio
 use Rattle.jc_sound.proofs.SoundnessLaws.{keeps}
 use Rattle.jc_complete.proofs.PlanRules.{OfRules, of_each_rule}
 use Rattle.jc_complete.proofs.PlanCollisions.{of_each_collision}
-use Rattle.jc_complete.proofs.PlanOrder.{sorted_rise}
+use Rattle.jc_worlds.proofs.ClientOrder.{sorted_rise}
 use Rattle.jc_complete.proofs.PlanSorted.{shows_in_order, meets_nothing_in_order, meets_in_order}
 use Rattle.jc_complete.proofs.CompletenessLaws.{class_gone_shown, class_closed_shown, interface_became_class_shown, superclass_lost_shown, constructor_closed_shown, method_made_final_shown, field_closed_shown, method_closed_shown, interface_method_lost_shown, constant_added_shown, capture_added_shown, final_added_shown}
 

@@ -21,7 +21,6 @@ pub mod PlanSeatRules
 pub mod PlanCollisions
 pub mod PlanLookups
 pub mod PlanAlike
-pub mod PlanOrder
 pub mod PlanSorted
 pub mod CompletenessWhole
 pub mod FewNames

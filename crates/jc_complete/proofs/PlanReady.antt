@@ -22,7 +22,7 @@ use Rattle.jc_complete.proofs.PlanPackage.{IsFree, first_is_free}
 use Rattle.jc_complete.proofs.PlanNames.{free_name, free_allowed, not_permitted}
 
 -- what all names of classes hold
-any_mentions : (p : Bytes → Bool) (cs : List ClassFacts) → list_any p (all_mentions cs) ≡ list_any (λ c. list_any p (mentions c)) cs
+pub any_mentions : (p : Bytes → Bool) (cs : List ClassFacts) → list_any p (all_mentions cs) ≡ list_any (λ c. list_any p (mentions c)) cs
 any_mentions p [] = refl
 any_mentions p (c ∷ cs) = list_any-append p (mentions c) (all_mentions cs) ∙ ap (λ b. list_any p (mentions c) || b) (any_mentions p cs)
 

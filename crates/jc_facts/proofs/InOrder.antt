@@ -1,6 +1,6 @@
 -- Lists in order, put together from lists in order.
-use Rattle.std.proofs.Common.{◌≡◌, List, [], ◌∷◌, ◌++◌, refl, Option, Some, None, ◌⊎◌, inl, inr}
-use Rattle.std.specs.List.{Contains, filter_map, cons_option}
+use Rattle.std.proofs.Common.{◌≡◌, Bool, true, false, cond, List, [], ◌∷◌, ◌++◌, refl, Option, Some, None, ◌⊎◌, inl, inr}
+use Rattle.std.specs.List.{Contains, filter, filter_map, cons_option}
 use Rattle.std.specs.declared.cmp.Ordering.{Ordering}
 use Rattle.std.specs.declared.cmp.Ordering.TheVariants.{Less}
 use Rattle.std.proofs.lemmas.List.Elements.{All-weaker, All-contains_itself, All-from_recursion, recursion_from_All, Contains-append_left, Contains-append_right}
@@ -8,7 +8,7 @@ use Rattle.jc_facts.specs.Names.{Bytes}
 use Rattle.jc_facts.specs.Exactly.{Before, NamesRise}
 use Rattle.jc_facts.specs.Exactly.{Rises, HasExactly}
 use Rattle.jc_facts.proofs.Exact.{Gives, given, given_back}
-use Rattle.jc_lemmas.proofs.Listed.{each_in, here, there, EachOf, EachOf-map, EachOf-append, each_from}
+use Rattle.jc_lemmas.proofs.Listed.{each_in, here, there, EachOf, EachOf-map, EachOf-append, each_from, filter-each}
 
 module _ {A : Type 0} (order : A → A → Ordering) where
   rises_append : (xs ys : List A) → Rises order xs → Rises order ys → ((x y : A) → Contains xs x → Contains ys y → order x y ≡ Less) → Rises order (xs ++ ys)
@@ -18,6 +18,16 @@ module _ {A : Type 0} (order : A → A → Ordering) where
     EachOf-append (λ y. order x y ≡ Less) xs ys r.0 (each_from (λ y. order x y ≡ Less) ys (λ y c. before x y (here x xs) c)),
     rises_append xs ys r.1 s (λ z y c d. before z y (there z x xs c) d),
   )
+
+  -- those that pass a test rise as all do
+  pub Rises-filter : (test : A → Bool) (xs : List A) → Rises order xs → Rises order (filter test xs)
+  unfolding Rises
+  Rises-filter test [] r = tt
+  Rises-filter test (x ∷ xs) r = go (test x) (Rises-filter test xs r.1)
+    where
+      go : (b : Bool) → Rises order (filter test xs) → Rises order (cond b (x ∷ filter test xs) (filter test xs))
+      go true s = (filter-each (λ y. order x y ≡ Less) test xs r.0, s)
+      go false s = s
 
   -- nothing stands
   pub exact_none : (P : A → Type 0) → ((x : A) → P x → ⊥) → HasExactly order P []

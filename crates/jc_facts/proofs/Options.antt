@@ -1,6 +1,6 @@
 -- Options tried one after another.
-use Rattle.std.proofs.Common.{◌≡◌, refl, Option, Some, None, List, [], ◌∷◌, ◌⊎◌, inl, inr}
-use Rattle.jc_facts.specs.Options.{or_else, first_some}
+use Rattle.std.proofs.Common.{◌≡◌, Bool, true, false, sym, refl, Option, Some, None, List, [], ◌∷◌, ◌⊎◌, inl, inr}
+use Rattle.jc_facts.specs.Options.{or_else, first_some, some_where}
 use Rattle.jc_facts.specs.Names.{Bytes}
 use Rattle.jc_lemmas.proofs.Listed.{EachOf}
 use Rattle.jc_facts.specs.file.Attributes.{◌|>>◌}
@@ -28,3 +28,8 @@ or_else-cases (Some y) p x e = inl e
 pub some_then : {A B : Type 0} (o : Option A) (f : A → Option B) (y : B) → (o |>> f) ≡ Some y → (x : A) × (o ≡ Some x) × (f x ≡ Some y)
 some_then None f y e = absurd cc
 some_then (Some x) f y e = (x, refl, e)
+
+-- what is there under a test
+pub some_where-is : {A : Type 0} (b : Bool) (x y : A) → some_where b x ≡ Some y → y ≡ x
+some_where-is true x y e = let q : x ≡ y = cc in sym q
+some_where-is false x y e = absurd (cc)

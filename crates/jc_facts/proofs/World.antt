@@ -38,6 +38,9 @@ pub find-name : (W : World) (x : Bytes) (c : ClassFacts) → find_class W x ≡ 
 unfolding find_class
 find-name W x c e = class_named-name (classes W) x c e
 
+pub found_name : (W : World) (x : Bytes) (c : ClassFacts) → Some c ≡ find_class W x → c.name ≡ x
+found_name W x c e = find-name W x c (sym e)
+
 pub EachOf-find : (P : Bytes → Type 0) (W : World) (x : Bytes) (c : ClassFacts) → find_class W x ≡ Some c → EachOf P (names (classes W)) → P x
 unfolding find_class
 EachOf-find P W x c e h = EachOf-class_named P (classes W) x c e h

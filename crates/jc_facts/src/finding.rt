@@ -4,9 +4,9 @@ use crate::key::Key;
 use crate::link_error::LinkError;
 use jc_base::name::Name;
 
-/// A change of a library that breaks some client: which rule, numbered from 1, finds it, the class
-/// and its member or target, what the client does, from which seat where that matters, and the
-/// error that it gets with the new release.
+/// A change of a library that breaks some client: which rule finds it, by its number in
+/// `rule_numbers`, the class and its member or target, what the client does, from which seat where
+/// that matters, and the error that it gets with the new release.
 #[derive(PartialEq, Eq, PartialOrd, Ord, Debug, Drop)]
 pub struct Finding {
     pub rule: u8,

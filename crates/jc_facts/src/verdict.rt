@@ -8,7 +8,7 @@ use jc_base::name::Name;
 
 /// A change that breaks only clients which already stand in its way.
 ///
-/// The rule is 10 for `Constant`, 11 for `Capture` and 12 for `Final`.
+/// Its rule is one of the last three in `rule_numbers`.
 /// Collisions are ordered by rule, then class, then key, then act, then error.
 #[derive(PartialEq, Eq, PartialOrd, Ord, Debug, Drop)]
 pub struct Collision {

@@ -1,5 +1,5 @@
 -- What a class that is gone breaks: each client that could name it can't.
-use Rattle.std.proofs.Common.{◌≡◌, Bool, true, false, cond, List, [], ◌++◌, refl, sym, ◌∙◌, ap, subst, Option, Some, None, not, ◌&&◌, ◌==◌}
+use Rattle.std.proofs.Common.{◌≡◌, Bool, true, false, List, [], ◌++◌, refl, sym, ◌∙◌, ap, subst, Option, Some, None, not, ◌&&◌, ◌==◌}
 use Rattle.std.proofs.lemmas.Bool.{and_parts, both_ways, not-true, or_left}
 use Rattle.std.proofs.lemmas.List.Elements.{recursion_from_All}
 use Rattle.jc_facts.specs.declared.class_facts.ClassFacts.{ClassFacts}
@@ -25,6 +25,7 @@ use Rattle.jc_facts.specs.file.Valid.{IsValidClass}
 use Rattle.jc_facts.specs.rule.Findings.{Subject, finding_at, finding_by, class_gone, report_where, gone_error, fault_or}
 use Rattle.jc_sound.specs.Findings.{ClassGoneBreaks}
 use Rattle.jc_lemmas.proofs.Listed.{EachOf, EachOf-append}
+use Rattle.jc_lemmas.proofs.Options.{passed, taken}
 use Rattle.jc_facts.proofs.World.{names, find-name, EachOf-class_named, class_named-each}
 use Rattle.jc_worlds.proofs.Loaded.{loads-found}
 use Rattle.jc_worlds.proofs.Sides.{find-library, load_fault-side}
@@ -44,14 +45,6 @@ report_where-some true s a e f h =
     let r : Finding = record { rule = s.rule; «class» = s.class; key = s.key; target = s.target; act = a; seat = None; error = e } in
     let w : r ≡ f = cc in
     (refl, ap (λ (z : Finding). z.class) w, ap (λ (z : Finding). z.error) w)
-
-taken : {A : Type 0} (b : Bool) (o p q : Option A) → b ≡ true → cond b o p ≡ q → o ≡ q
-taken true o p q e h = h
-taken false o p q e h = absurd (cc)
-
-passed : {A : Type 0} (b : Bool) (o p q : Option A) → b ≡ false → cond b o p ≡ q → p ≡ q
-passed true o p q e h = absurd (cc)
-passed false o p q e h = h
 
 by_class_gone : (O N : World) (s : Subject) (k : Option Key) (t : Option Bytes) (f : Finding) → s.rule ≡ 1 → finding_by O N s k t ≡ Some f → class_gone O N s ≡ Some f
 by_class_gone O N s None None f e h = taken (s.rule == 1) _ _ _ (ap (λ n. n == 1) e) h

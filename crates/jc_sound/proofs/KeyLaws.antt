@@ -35,8 +35,8 @@ use Rattle.jc_worlds.proofs.Bare.{bare_field}
 use Rattle.jc_worlds.proofs.Unrolled.{chain-unroll}
 use Rattle.jc_lemmas.proofs.Lists.{any_left, any_right, any_weaker}
 use Rattle.jc_sound.proofs.Looked.{look_up-takes}
-use Rattle.jc_sound.proofs.UsableLaw.{Needs, none_needs, cond_needs, either_needs, or_else_needs, and_then_needs, second_of_five, third_of_five, findings_are_of_usable}
-use Rattle.jc_lemmas.proofs.Bools.{both_first, both_last}
+use Rattle.jc_sound.proofs.UsableLaw.{Needs, none_needs, cond_needs, either_needs, or_else_needs, and_then_needs, findings_are_of_usable}
+use Rattle.jc_lemmas.proofs.Bools.{both_first, both_last, second_of_five, third_of_five}
 use Rattle.jc_sound.proofs.AboveKeys.{test_declares, looked_above, chain_above, from_class}
 
 -- ---- the sides

@@ -14,7 +14,7 @@ use Rattle.jc_facts.specs.world.Hierarchy.{in_chain}
 use Rattle.jc_facts.specs.world.Assignment.{is_interface_of}
 use Rattle.jc_facts.specs.world.Lookup.{field_found, method_choices, public_method_of_object}
 use Rattle.jc_sound.specs.Findings.{FindingsAreOfUsable, CollisionsAreOfUsable}
-use Rattle.jc_lemmas.proofs.Bools.{both_first, both_last}
+use Rattle.jc_lemmas.proofs.Bools.{both_first, both_last, first_of_five, second_of_five}
 
 module _ (O N : World) (x : Bytes) where
   of_kept : is_kept O N x ≡ true → is_class_usable O x ≡ true
@@ -69,15 +69,6 @@ module _ {X : Type 0} (P : Type 0) where
   unfolding and_then Needs
   and_then_needs g true o h f e = h refl
   and_then_needs g false o h f e = absurd (cc)
-
-first_of_five : (a b c d e : Bool) → (a && b && c && d && e) ≡ true → a ≡ true
-first_of_five a b c d e h = both_first a b (both_first (a && b) c (both_first (a && b && c) d (both_first (a && b && c && d) e h)))
-
-pub second_of_five : (a b c d e : Bool) → (a && b && c && d && e) ≡ true → b ≡ true
-second_of_five a b c d e h = both_last a b (both_first (a && b) c (both_first (a && b && c) d (both_first (a && b && c && d) e h)))
-
-pub third_of_five : (a b c d e : Bool) → (a && b && c && d && e) ≡ true → c ≡ true
-third_of_five a b c d e h = both_last (a && b) c (both_first (a && b && c) d (both_first (a && b && c && d) e h))
 
 by_needs : (O N : World) (s : Subject) (k : Option Key) (t : Option Bytes) → Needs (is_class_usable O s.class ≡ true) (finding_by O N s k t)
 unfolding class_gone class_closed interface_became_class superclass_lost method_made_final field_closed method_closed interface_method_lost constructor_closed

@@ -34,7 +34,7 @@ class_named-back (c ∷ cs) ds x h = go (same c.name x) h (class_named-back cs d
     go true q r = absurd (cc)
     go false q r = r q
 
-class_named-absent : (cs ds : List ClassFacts) (x : Bytes) → class_named (cs ++ ds) x ≡ None → class_named cs x ≡ None
+pub class_named-absent : (cs ds : List ClassFacts) (x : Bytes) → class_named (cs ++ ds) x ≡ None → class_named cs x ≡ None
 unfolding class_named
 class_named-absent [] ds x h = refl
 class_named-absent (c ∷ cs) ds x h = go (same c.name x) h (class_named-absent cs ds x)

@@ -26,3 +26,5 @@ pub mod ChoiceLaws
 pub mod WalkLaws
 pub mod OverridingLaw
 pub mod Interfaces
+pub mod ClientOrder
+pub mod Alike

@@ -5,3 +5,4 @@ pub mod Hierarchy
 pub mod Loading
 pub mod Walks
 pub mod Overriding
+pub mod Alike

@@ -6,6 +6,7 @@
 ghost use Rattle.jc_worlds.specs.Hierarchy.{LevelsSuffice, AboveIsOneStep};
 ghost use Rattle.jc_worlds.specs.Loading.{FaultIsOne, LoadsWithSupers, AllAboveLoads};
 ghost use Rattle.jc_worlds.specs.Agreement.{WorldsAgree};
+ghost use Rattle.jc_worlds.specs.Alike.{WorldsLinkAlike, ClientsLinkAsRelease};
 ghost use Rattle.jc_worlds.specs.Sides.{SidesStay};
 ghost use Rattle.jc_worlds.specs.Choices.{InheritedArePublic, EachChoiceGivesTheSame, EachInitGivesTheSame};
 ghost use Rattle.jc_worlds.specs.Walks.{WalksOverClients, SeatEndsTheClients};
@@ -79,4 +80,14 @@ pub fn walk_is_overriding()
 /// Loading refuses a class for its methods exactly where one overrides a final one (JVMS 5.3.5).
 pub fn finals_refuse()
     ensures { FinalsRefuse }
+{}
+
+/// Two worlds that have the same classes give the same load faults and the same outcomes, whatever classes they count as clients.
+pub fn worlds_link_alike()
+    ensures { WorldsLinkAlike }
+{}
+
+/// Clients over a side link as if they stood at the end of the release.
+pub fn clients_link_as_release()
+    ensures { ClientsLinkAsRelease }
 {}

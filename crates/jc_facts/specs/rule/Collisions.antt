@@ -9,6 +9,7 @@ use Rattle.jc_facts.specs.declared.act.Act.TheVariants.{GetField, InvokeVirtual,
 use Rattle.jc_facts.specs.declared.link_error.LinkError.{LinkError}
 use Rattle.jc_facts.specs.declared.link_error.LinkError.TheVariants.{IllegalAccessError, IncompatibleClassChangeError}
 use Rattle.jc_facts.specs.declared.verdict.Collision.{Collision}
+use Rattle.jc_facts.specs.declared.rule_numbers.TheConstants.{CONSTANT_ADDED, CAPTURE_ADDED, FINAL_ADDED}
 use Rattle.jc_facts.specs.Names.{Bytes}
 use Rattle.jc_facts.specs.Flags.{public_flag, no_static_flag}
 use Rattle.jc_facts.specs.Options.{some_and, some_where}
@@ -18,7 +19,7 @@ use Rattle.jc_facts.specs.world.Lookup.{field_found, method_choices, first_decla
 use Rattle.jc_facts.specs.rule.Bases.{is_base_class, is_base_interface, is_key_of_method, is_final_in_chain}
 use Rattle.jc_facts.specs.rule.Findings.{finds_overridable}
 
--- Constant: from a base interface no field of the key was found, and one is now
+-- from a base interface no field of the key was found, and one is now
 unfoldable pub constant_added : World → World → Bytes → Key → Bool
 constant_added O N i k = is_base_interface O N i && is_none (field_found O i k) && is_some (field_found N i k)
 
@@ -35,11 +36,11 @@ captures N a k = some_and (λ m. not (public_flag m.member.flags && no_static_fl
 abbrev pub leaves_room : Key → Bool
 leaves_room k = some_and (λ n. nat_le (n + 1) 255) (slots_of_method k.descriptor)
 
--- Capture: from a base class no method of the key was found, and now its chain declares it as no public instance method
+-- from a base class no method of the key was found, and now its chain declares it as no public instance method
 unfoldable pub capture_added : World → World → Bytes → Key → Bool
 capture_added O N a k = is_key_of_method k && is_base_class O N a && are_none (method_choices O a k) && captures N a k && leaves_room k
 
--- Final: the key is final now in the chain of a base class and wasn't, and its old lookup finds no public or protected instance method
+-- the key is final now in the chain of a base class and wasn't, and its old lookup finds no public or protected instance method
 unfoldable pub final_added : World → World → Bytes → Key → Bool
 final_added O N a k = is_key_of_method k && is_base_class O N a && is_final_in_chain N a k && not (is_final_in_chain O a k) && not (finds_overridable O a k)
 
@@ -53,12 +54,12 @@ capture_error N a k = cond (some_and (λ m. public_flag m.member.flags) (first_d
 abbrev pub made_collision : ℕ → Bytes → Key → Act → LinkError → Collision
 made_collision rule x k what e = record { rule = rule; «class» = x; key = k; act = what; error = e }
 
--- the collision of the rule on the class and the key: Constant is rule 10, Capture 11, Final 12
+-- the collision of the rule on the class and the key
 unfoldable pub collision_at : World → World → ℕ → Bytes → Key → Option Collision
 collision_at O N rule x k =
-    cond (rule == 10) (some_where (constant_added O N x k) (made_collision rule x k GetField IncompatibleClassChangeError))
-    (cond (rule == 11) (some_where (capture_added O N x k) (made_collision rule x k InvokeVirtual (capture_error N x k)))
-    (cond (rule == 12) (some_where (final_added O N x k) (made_collision rule x k Override IncompatibleClassChangeError)) None))
+    cond (rule == CONSTANT_ADDED) (some_where (constant_added O N x k) (made_collision rule x k GetField IncompatibleClassChangeError))
+    (cond (rule == CAPTURE_ADDED) (some_where (capture_added O N x k) (made_collision rule x k InvokeVirtual (capture_error N x k)))
+    (cond (rule == FINAL_ADDED) (some_where (final_added O N x k) (made_collision rule x k Override IncompatibleClassChangeError)) None))
 
 -- the collision is the one of its rule, class and key
 abbrev pub CollisionStands : World → World → Collision → Type 0

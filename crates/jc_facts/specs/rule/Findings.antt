@@ -7,6 +7,7 @@ use Rattle.jc_facts.specs.declared.key.Key.{Key}
 use Rattle.jc_facts.specs.declared.act.Act.{Act}
 use Rattle.jc_facts.specs.declared.act.Act.TheVariants as act
 use Rattle.jc_facts.specs.declared.finding.Finding.{Finding}
+use Rattle.jc_facts.specs.declared.rule_numbers.TheConstants.{CLASS_GONE, CLASS_CLOSED, INTERFACE_BECAME_CLASS, SUPERCLASS_LOST, CONSTRUCTOR_CLOSED, METHOD_MADE_FINAL, FIELD_CLOSED, METHOD_CLOSED, INTERFACE_METHOD_LOST}
 use Rattle.jc_facts.specs.declared.link_error.LinkError.{LinkError}
 use Rattle.jc_facts.specs.declared.link_error.LinkError.TheVariants.{IllegalAccessError, IncompatibleClassChangeError, NoSuchMethodError, InstantiationError, VerifyError}
 use Rattle.jc_facts.specs.Names.{Bytes}
@@ -102,55 +103,55 @@ finds_overridable O a k = first_passes (λ m. no_static_flag m.member.flags && p
 
 -- ---- the rules
 
--- H1: a class was usable and isn't kept
+-- a class was usable and isn't kept
 unfoldable pub class_gone : World → World → Subject → Option Finding
 class_gone O N s = report_where (is_class_usable O s.class && not (is_class_usable N s.class)) s act.ClassRef (gone_error N s.class)
 
--- H2: a steady class that clients could extend or implement is closed to some of them
+-- a steady class that clients could extend or implement is closed to some of them
 unfoldable pub class_closed : World → World → Subject → Option Finding
 class_closed O N s = report_where (is_class_closed O N s.class) s (cond (is_interface_of O s.class) act.Implement act.Extend) IncompatibleClassChangeError
 
--- H3: a kept class was an interface and isn't one
+-- a kept class was an interface and isn't one
 unfoldable pub interface_became_class : World → World → Subject → Option Finding
 interface_became_class O N s = report_where (became_class O N s.class) s act.Assignment VerifyError
 
--- H4: a kept class has the kept class t in its old chain and not in its new one, and t isn't an interface now
+-- a kept class has the kept class t in its old chain and not in its new one, and t isn't an interface now
 unfoldable pub superclass_lost : World → World → Subject → Bytes → Option Finding
 superclass_lost O N s t = report_where (is_kept O N s.class && is_kept O N t && in_chain O s.class t && not (in_chain N s.class t) && not (is_interface_of N t)) s act.Assignment VerifyError
 
--- H5: an initializer of a steady class can't be used by `new` now, or one of a base class by its subclasses
+-- an initializer of a steady class can't be used by `new` now, or one of a base class by its subclasses
 unfoldable pub constructor_closed : World → World → Subject → Key → Option Finding
 constructor_closed O N s k = or_else (and_then (report s act.NewObject None) (new_broken O N s.class k)) (and_then (report s act.InitSuper None) (init_broken O N s.class k))
 
--- H6: the key is final now in the chain of a base class and wasn't, and its old lookup finds a public or protected instance method
+-- the key is final now in the chain of a base class and wasn't, and its old lookup finds a public or protected instance method
 unfoldable pub method_made_final : World → World → Subject → Key → Option Finding
 method_made_final O N s k = report_where (is_key_of_method k && is_base_class O N s.class && is_final_in_chain N s.class k && not (is_final_in_chain O s.class k) && finds_overridable O s.class k) s act.Override IncompatibleClassChangeError
 
--- H7: an act on a field of a steady class was open to a seat and isn't
+-- an act on a field of a steady class was open to a seat and isn't
 unfoldable pub field_closed : World → World → Subject → Key → Option Finding
 field_closed O N s k = cond (is_steady O N s.class) (first_act O N s k field_acts) None
 
--- H8: an act on a method of a steady class was open to a seat and isn't
+-- an act on a method of a steady class was open to a seat and isn't
 unfoldable pub method_closed : World → World → Subject → Key → Option Finding
 method_closed O N s k = cond (is_key_of_method k && is_steady O N s.class) (first_act O N s k method_acts) None
 
--- H9: a base interface inherited the key and doesn't, and java/lang/Object has no public instance method of it
+-- a base interface inherited the key and doesn't, and java/lang/Object has no public instance method of it
 unfoldable pub interface_method_lost : World → World → Subject → Key → Option Finding
 interface_method_lost O N s k = report_where (is_key_of_method k && is_base_interface O N s.class && inherits O s.class k && not (inherits N s.class k) && is_none (public_method_of_object O k)) s act.Inherit NoSuchMethodError
 
--- the finding on the subject: rules 1 to 3 speak of a class alone, rule 4 of a target, and 5 to 9 of a key
+-- the finding on the subject: the first three rules speak of a class alone, SUPERCLASS_LOST of a target, and the others of a key
 abbrev pub finding_by : World → World → Subject → Option Key → Option Bytes → Option Finding
 finding_by O N s None None =
-    cond (s.rule == 1) (class_gone O N s)
-    (cond (s.rule == 2) (class_closed O N s)
-    (cond (s.rule == 3) (interface_became_class O N s) None))
-finding_by O N s None (Some t) = cond (s.rule == 4) (superclass_lost O N s t) None
+    cond (s.rule == CLASS_GONE) (class_gone O N s)
+    (cond (s.rule == CLASS_CLOSED) (class_closed O N s)
+    (cond (s.rule == INTERFACE_BECAME_CLASS) (interface_became_class O N s) None))
+finding_by O N s None (Some t) = cond (s.rule == SUPERCLASS_LOST) (superclass_lost O N s t) None
 finding_by O N s (Some k) None =
-    cond (s.rule == 5) (constructor_closed O N s k)
-    (cond (s.rule == 6) (method_made_final O N s k)
-    (cond (s.rule == 7) (field_closed O N s k)
-    (cond (s.rule == 8) (method_closed O N s k)
-    (cond (s.rule == 9) (interface_method_lost O N s k) None))))
+    cond (s.rule == CONSTRUCTOR_CLOSED) (constructor_closed O N s k)
+    (cond (s.rule == METHOD_MADE_FINAL) (method_made_final O N s k)
+    (cond (s.rule == FIELD_CLOSED) (field_closed O N s k)
+    (cond (s.rule == METHOD_CLOSED) (method_closed O N s k)
+    (cond (s.rule == INTERFACE_METHOD_LOST) (interface_method_lost O N s k) None))))
 finding_by O N s (Some k) (Some t) = None
 
 -- the finding on the subject, none where its rule does not stand there

@@ -1,4 +1,4 @@
--- Clients in byte order of names are as good as in any other order.
+-- Clients in byte order of names: a list of them, its names, and the world that they make over a side.
 use Rattle.std.proofs.Common.{◌≡◌, suc, Bool, true, false, cond, List, [], ◌∷◌, ◌++◌, length, refl, sym, ◌∙◌, ap, subst, Option, Some, None, is_some, is_none, Contains, arith}
 use Rattle.std.proofs.lemmas.Bool.{and_parts, both_ways}
 use Rattle.std.proofs.lemmas.List.{length-append}
@@ -146,7 +146,7 @@ placed_length c (d ∷ ds) = go (is_lt (slice_cmp nat_cmp d.facts.name c.facts.n
     go true r = ap suc r
     go false r = refl
 
-sorted_length : (cs : List ClientClass) → length (facts_of (by_name name_of cs)) ≡ length (facts_of cs)
+pub sorted_length : (cs : List ClientClass) → length (facts_of (by_name name_of cs)) ≡ length (facts_of cs)
 unfolding by_name
 sorted_length [] = refl
 sorted_length (c ∷ cs) = placed_length c (by_name name_of cs) ∙ ap suc (sorted_length cs)
