@@ -1,4 +1,3 @@
-pub mod Named
 pub mod Hosts
 pub mod Assigned
 pub mod Spoken

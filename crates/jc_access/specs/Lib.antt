@@ -1,3 +1,4 @@
 pub mod Speaking
-pub mod steps
+pub mod TypeTexts
 pub mod SeatAccess
+pub mod steps

@@ -3,25 +3,29 @@ ghost use Rattle.std.specs.Prelude.{◌≡◌};
 ghost use Rattle.jc_desc.specs.Views.{basic, type_view};
 ghost use Rattle.jc_facts.specs.world.Assignment.{is_class_assignable, is_element_assignable, assign_to, takes_any_array, is_assignable};
 ghost use Rattle.jc_facts.specs.world.Types.{Class, element_of, array_type, type_read, is_array_text};
-ghost use Rattle.jc_access.specs.steps.TypeTexts.{element_view, text_view};
+ghost use Rattle.jc_access.specs.TypeTexts.{element_view, text_view};
 
 use jc_base::name::Name;
 use jc_desc::field::{Base, field_type};
 use jc_facts::flags::is_interface;
 use jc_table::table::Table;
 
-// What an array's elements are: a primitive type by its letter, or a class (JVMS 4.3.2).
+/// What an array's elements are (JVMS 4.3.2).
 #[derive(Clone, Copy)]
-enum Element<'a> {
+pub enum Element<'a> {
+    /// A primitive type, by its letter (JVMS table 4.3-A).
     Primitive(u8),
+    /// A class, by its name.
     Class(&'a [u8]),
 }
 
-// A type: of so many dimensions, of 0 a class.
+/// The type that a text describes.
 #[derive(Clone, Copy)]
-struct TypeText<'a> {
-    dims: u32,
-    element: Element<'a>,
+pub struct TypeText<'a> {
+    /// How many dimensions it has: 0 for a class, at least 1 for an array.
+    pub dims: u32,
+    /// The class, or what the array's elements are.
+    pub element: Element<'a>,
 }
 
 // The element of a descriptor (JVMS 4.3.2, table 4.3-A).
@@ -41,8 +45,8 @@ fn base_element(base: Base<'_>) -> Element<'_>
     }
 }
 
-// Whether the text is to be read as that of an array.
-fn is_array(text: &[u8]) -> bool
+/// Whether the text is to be read as that of an array: it begins with `[` (JVMS 4.4.1).
+pub fn is_array(text: &[u8]) -> bool
     ensures { result ≡ is_array_text text.now }
 {
     match text.first() {
@@ -51,10 +55,10 @@ fn is_array(text: &[u8]) -> bool
     }
 }
 
-// The type that the text describes; none where it begins as an array and is no descriptor
-// (JVMS 4.4.1).
+/// The type that the text describes; none where it begins as an array and is no descriptor
+/// (JVMS 4.4.1).
 #[tactic(auto, unfolding(jc_facts::specs::world::Types::type_read))]
-fn read_type(text: &[u8]) -> Option<TypeText<'_>>
+pub fn read_type(text: &[u8]) -> Option<TypeText<'_>>
     ensures { text_view result ≡ type_read text.now }
 {
     if is_array(text) {

@@ -3,6 +3,6 @@
 
 pub mod access;
 pub mod assigning;
-mod names;
+pub mod names;
 mod nests;
 pub mod protection;

@@ -9,9 +9,9 @@ use jc_table::ids::ClassId;
 use jc_table::packages::same_package;
 use jc_table::table::Table;
 
-// The name of the class.
-#[tactic(auto, using(crate::proofs::Named::name_is))]
-pub(crate) fn name_of(table: &Table, class: ClassId) -> &Name
+/// The name of the class, by its number in the table.
+#[tactic(auto, using(jc_facts::proofs::World::found_name))]
+pub fn name_of(table: &Table, class: ClassId) -> &Name
     requires { class < size table.now }
     ensures { result.now ≡ name_at table.now class }
 {

@@ -14,7 +14,7 @@ use Rattle.jc_table.specs.Lookups.{IsAnswer}
 use Rattle.jc_table.specs.declared.ids.Found.{Found}
 use Rattle.jc_table.proofs.Numbers.{id_of-Some, find-None}
 use Rattle.jc_field.specs.steps.Fields.{own_found, found_to}
-use Rattle.jc_field.proofs.Steps.{answer_none, answer_or, answer_else}
+use Rattle.jc_table.proofs.Lookups.{answer_none, answer_or, answer_else}
 
 module _ (W : World) (k : Key) (x : Bytes) where
   pub to-absent : (n : ℕ) → None ≡ id_of W x → IsAnswer W None (found_to W k n x)

@@ -31,6 +31,7 @@ use Rattle.jc_table.specs.Sides.{IsSide}
 use Rattle.jc_table.specs.declared.ids.Found.{Found}
 use Rattle.jc_table.proofs.Numbers.{IsClass, class_at, id_of-Some, superclass_is, find-None}
 use Rattle.jc_field.specs.steps.Fields.{declares_field, declares_at, own_found, interfaces_found, here_found, AreReady, GivenBy, Gives}
+use Rattle.jc_table.proofs.Lookups.{answer_none, answer_or}
 use Rattle.jc_table.proofs.Reached.{any_reached}
 use Rattle.jc_field.proofs.Declared.{stepped, kinds, interface_has, no_super}
 
@@ -134,7 +135,7 @@ module _ (W : World) (k : Key) where
   unfolding first_some
   given_end ys at l h = h ∙ ap (first_some (λ i. field_found W i k)) (drop_of_length-le ys l)
 
--- ---- answers
+-- ---- one of three, and then the next
 
 none_first : {A : Type 0} (p : Option A) → p ≡ or_else None p
 unfolding or_else
@@ -149,21 +150,6 @@ or_assoc : {A : Type 0} (o p q : Option A) → or_else (or_else o p) q ≡ or_el
 unfolding or_else
 or_assoc None p q = refl
 or_assoc (Some x) p q = refl
-
-pub answer_none : (W : World) (o : Option DeclaredMember) → IsAnswer W None o → o ≡ None
-answer_none W None a = refl
-answer_none W (Some m) a = absurd a
-
-pub answer_or : (W : World) (f : Found) (o p : Option DeclaredMember) → IsAnswer W (Some f) o → IsAnswer W (Some f) (or_else o p)
-unfolding or_else
-answer_or W f None p a = absurd a
-answer_or W f (Some m) p a = a
-
-pub answer_else : (W : World) (r : Option Found) (o p : Option DeclaredMember) → IsAnswer W None o → IsAnswer W r p → IsAnswer W r (or_else o p)
-answer_else W r o p a b = subst (IsAnswer W r) (sym (ap (λ q. or_else q p) (answer_none W o a))) (first p b)
-  where
-    first : (p : Option DeclaredMember) → IsAnswer W r p → IsAnswer W r (or_else None p)
-    first p b = subst (IsAnswer W r) (none_first p) b
 
 -- ---- levels
 

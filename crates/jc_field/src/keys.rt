@@ -1,83 +1,19 @@
 //! The keys of fields that a class has or inherits.
-ghost use Rattle.std.specs.Prelude.{◌≡◌, ◌<◌, None, IfOk, IsTrue, is_some};
-ghost use Rattle.std.specs.List.{All, list_any};
-ghost use Rattle.std.specs.BTreeSet.{IsOrdered};
-ghost use Rattle.jc_facts.specs.world.World.{size, own_field_of};
+ghost use Rattle.std.specs.Prelude.{◌≡◌, ◌<◌, None, IfOk, IsTrue};
+ghost use Rattle.jc_facts.specs.world.World.{size};
 ghost use Rattle.jc_facts.specs.KeyOrder.{key_cmp};
 ghost use Rattle.jc_facts.specs.world.Loading.{load_fault};
 ghost use Rattle.jc_facts.specs.Exactly.{HasExactly};
 ghost use Rattle.jc_worlds.specs.Hierarchy.{above};
 ghost use Rattle.jc_table.specs.Ids.{name_at};
 ghost use Rattle.jc_table.specs.Lookups.{declare_field};
-ghost use Rattle.jc_field.specs.steps.Collecting.{Adds, HasKeys};
-ghost use Rattle.jc_field.specs.steps.Fields.{declares_at};
 
-use jc_facts::class_facts::ClassFacts;
 use jc_facts::key::Key;
-use jc_facts::key_set::KeyRef;
 use jc_table::ids::ClassId;
+use jc_table::keys::keys_of;
+use jc_table::members::MemberKind;
 use jc_table::table::Table;
 use std::alloc::{AllocError, Global};
-use std::collections::BTreeSet;
-
-// Adds the keys of the class's own fields.
-fn add_class<'a>(keys: &mut BTreeSet<KeyRef<'a>>, class: &'a ClassFacts) -> Result<(), AllocError>
-    ensures { IfOk result (λ _. Adds (λ k. is_some (own_field_of class.now k)) keys.old keys.new) }
-{
-    for member in class.fields.as_slice() {
-        keys.insert(KeyRef::of_member(member))?;
-    }
-    Ok(())
-}
-
-// Adds the keys of the fields that these classes declare.
-fn add_all<'a>(
-    keys: &mut BTreeSet<KeyRef<'a>>,
-    table: &'a Table,
-    ids: &[ClassId],
-) -> Result<(), AllocError>
-    requires { All (λ id. id < size table.now) ids.now }
-    ensures { IfOk result (λ _. Adds (λ k. list_any (declares_at table.now k) ids.now) keys.old keys.new) }
-{
-    for id in ids {
-        add_class(keys, table.facts(*id))?;
-    }
-    Ok(())
-}
-
-// The keys of the fields that the class, its superclasses and its superinterfaces declare.
-fn keys_above<'a>(
-    alloc: Global,
-    table: &'a Table,
-    class: ClassId,
-) -> Result<BTreeSet<KeyRef<'a>>, AllocError>
-    requires { class < size table.now }
-    ensures { IfOk result (HasKeys table.now (name_at table.now class)) }
-{
-    let mut keys = BTreeSet::new(alloc);
-    let mut next = Some(class);
-    for done in 0..table.count() {
-        let Some(class) = next else {
-            return Ok(keys);
-        };
-        add_class(&mut keys, table.facts(class))?;
-        add_all(&mut keys, table, table.interfaces(class))?;
-        next = table.superclass(class);
-    }
-    Ok(keys)
-}
-
-// The same keys, each as one of its own, in their order.
-fn to_keys(alloc: Global, set: &BTreeSet<KeyRef<'_>>) -> Result<Vec<Key>, AllocError>
-    ensures value { IfOk result (λ keys. keys.items ≡ set.now.keys) }
-    ensures ordered { IfOk result (λ _. IsOrdered key_cmp set.now) }
-{
-    let mut keys = Vec::new(alloc);
-    for key in set {
-        keys.push(key.to_key(alloc)?)?;
-    }
-    Ok(keys)
-}
 
 /// The keys of the fields that the class, its superclasses and its superinterfaces declare, each
 /// once, in their order. The class has to load.
@@ -86,7 +22,5 @@ pub fn field_keys(alloc: Global, table: &Table, class: ClassId) -> Result<Vec<Ke
     requires loads { load_fault table.now (name_at table.now class) ≡ None }
     ensures { IfOk result (λ keys. HasExactly key_cmp (λ k. IsTrue (declare_field (above table.now (name_at table.now class)) k)) keys.items) }
 {
-    let set = keys_above(alloc, table, class)?;
-    let keys = to_keys(alloc, &set)?;
-    Ok(keys)
+    keys_of(alloc, table, class, MemberKind::Field)
 }

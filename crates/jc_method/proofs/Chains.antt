@@ -138,16 +138,6 @@ module _ (W : World) (k : Key) where
 
 -- ---- one step of the lookup and the next
 
-pub answer_here : (W : World) (f : Found) (o p : Option DeclaredMember) → IsAnswer W (Some f) o → IsAnswer W (Some f) (or_else o p)
-unfolding or_else
-answer_here W f None p h = absurd h
-answer_here W f (Some m) p h = h
-
-pub answer_next : (W : World) (r : Option Found) (o p : Option DeclaredMember) → IsAnswer W None o → IsAnswer W r p → IsAnswer W r (or_else o p)
-unfolding or_else
-answer_next W r None p h k = k
-answer_next W r (Some m) p h k = absurd h
-
 pub choice_here : (W : World) (f : Found) (o : Option DeclaredMember) (ms : List DeclaredMember) → IsAnswer W (Some f) o → IsChoice W (Some f) (or_choices o ms)
 unfolding or_choices
 choice_here W f None ms h = absurd h

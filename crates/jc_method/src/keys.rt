@@ -1,82 +1,19 @@
 //! The keys of methods that a class has or inherits.
-ghost use Rattle.std.specs.Prelude.{◌≡◌, ◌<◌, None, IfOk, IsTrue, is_some};
-ghost use Rattle.std.specs.List.{All, list_any};
-ghost use Rattle.std.specs.BTreeSet.{IsOrdered};
-ghost use Rattle.jc_facts.specs.world.World.{size, own_method_of};
+ghost use Rattle.std.specs.Prelude.{◌≡◌, ◌<◌, None, IfOk, IsTrue};
+ghost use Rattle.jc_facts.specs.world.World.{size};
 ghost use Rattle.jc_facts.specs.KeyOrder.{key_cmp};
 ghost use Rattle.jc_facts.specs.world.Loading.{load_fault};
 ghost use Rattle.jc_facts.specs.Exactly.{HasExactly};
 ghost use Rattle.jc_worlds.specs.Hierarchy.{above};
 ghost use Rattle.jc_table.specs.Ids.{name_at};
 ghost use Rattle.jc_table.specs.Lookups.{declare_method};
-ghost use Rattle.jc_method.specs.steps.Collecting.{Adds, declares_at, HasKeys};
 
-use jc_facts::class_facts::ClassFacts;
 use jc_facts::key::Key;
-use jc_facts::key_set::KeyRef;
 use jc_table::ids::ClassId;
+use jc_table::keys::keys_of;
+use jc_table::members::MemberKind;
 use jc_table::table::Table;
 use std::alloc::{AllocError, Global};
-use std::collections::BTreeSet;
-
-// Adds the keys of the class's own methods.
-fn add_class<'a>(keys: &mut BTreeSet<KeyRef<'a>>, class: &'a ClassFacts) -> Result<(), AllocError>
-    ensures { IfOk result (λ _. Adds (λ k. is_some (own_method_of class.now k)) keys.old keys.new) }
-{
-    for member in class.methods.as_slice() {
-        keys.insert(KeyRef::of_member(member))?;
-    }
-    Ok(())
-}
-
-// Adds the keys of the methods that these classes declare.
-fn add_all<'a>(
-    keys: &mut BTreeSet<KeyRef<'a>>,
-    table: &'a Table,
-    ids: &[ClassId],
-) -> Result<(), AllocError>
-    requires { All (λ id. id < size table.now) ids.now }
-    ensures { IfOk result (λ _. Adds (λ k. list_any (declares_at table.now k) ids.now) keys.old keys.new) }
-{
-    for id in ids {
-        add_class(keys, table.facts(*id))?;
-    }
-    Ok(())
-}
-
-// The keys of the methods that the class, its superclasses and its superinterfaces declare.
-fn keys_above<'a>(
-    alloc: Global,
-    table: &'a Table,
-    class: ClassId,
-) -> Result<BTreeSet<KeyRef<'a>>, AllocError>
-    requires { class < size table.now }
-    ensures { IfOk result (HasKeys table.now (name_at table.now class)) }
-{
-    let mut keys = BTreeSet::new(alloc);
-    let mut next = Some(class);
-    for done in 0..table.count() {
-        let Some(class) = next else {
-            return Ok(keys);
-        };
-        add_class(&mut keys, table.facts(class))?;
-        add_all(&mut keys, table, table.interfaces(class))?;
-        next = table.superclass(class);
-    }
-    Ok(keys)
-}
-
-// The same keys, each as one of its own, in their order.
-fn to_keys(alloc: Global, set: &BTreeSet<KeyRef<'_>>) -> Result<Vec<Key>, AllocError>
-    ensures value { IfOk result (λ keys. keys.items ≡ set.now.keys) }
-    ensures ordered { IfOk result (λ _. IsOrdered key_cmp set.now) }
-{
-    let mut keys = Vec::new(alloc);
-    for key in set {
-        keys.push(key.to_key(alloc)?)?;
-    }
-    Ok(keys)
-}
 
 /// The keys of the methods that the class, its superclasses and its superinterfaces declare, each
 /// once, in their order. The class has to load.
@@ -85,7 +22,5 @@ pub fn method_keys(alloc: Global, table: &Table, class: ClassId) -> Result<Vec<K
     requires loads { load_fault table.now (name_at table.now class) ≡ None }
     ensures { IfOk result (λ keys. HasExactly key_cmp (λ k. IsTrue (declare_method (above table.now (name_at table.now class)) k)) keys.items) }
 {
-    let set = keys_above(alloc, table, class)?;
-    let keys = to_keys(alloc, &set)?;
-    Ok(keys)
+    keys_of(alloc, table, class, MemberKind::Method)
 }

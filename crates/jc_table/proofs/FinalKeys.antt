@@ -176,16 +176,17 @@ overrides-step : (x : Bytes) (ms : List Member) (above : List ClassFacts) (i : �
 unfolding overrides_some_final
 overrides-step x ms above i m l g = ap (λ ns. overrides_some_final x ns above) (drop_more ms i m l) ∙ ap (λ n. overrides_one x n above || overrides_some_final x (drop (i + 1) ms) above) (sym g)
 
-pub overrides-found : (x : Bytes) (ms : List Member) (above : List ClassFacts) (i : ℕ) (m : Member) (b : Bool) → i < length ms → m ≡ get_or ms i m → b ≡ overrides_one x m above → b ≡ true → overrides_some_final x (drop i ms) above ≡ true
-overrides-found x ms above i m b l g h t =
-    let o : overrides_one x m above ≡ true = sym h ∙ t in
-    overrides-step x ms above i m l g ∙ ap (λ c. c || overrides_some_final x (drop (i + 1) ms) above) o
+-- the walk over the methods of a class, `items`: none of those before i overrides a final one
+module _ (x : Bytes) (ms items : List Member) (same : items ≡ ms) (above : List ClassFacts) (i : ℕ) (ahead : overrides_some_final x ms above ≡ overrides_some_final x (drop i ms) above) where
+  one_more : (m : Member) → i < length items → m ≡ get_or items i m → overrides_some_final x ms above ≡ (overrides_one x m above || overrides_some_final x (drop (i + 1) ms) above)
+  one_more m l g = ahead ∙ overrides-step x ms above i m (subst (λ (ns : List Member). i < length ns) same l) (subst (λ (ns : List Member). m ≡ get_or ns i m) same g)
 
-pub overrides-next : (x : Bytes) (ms : List Member) (above : List ClassFacts) (i : ℕ) (m : Member) (b : Bool) → i < length ms → m ≡ get_or ms i m → b ≡ overrides_one x m above → b ≡ false → overrides_some_final x (drop i ms) above ≡ overrides_some_final x (drop (i + 1) ms) above
-overrides-next x ms above i m b l g h t =
-    let o : overrides_one x m above ≡ false = sym h ∙ t in
-    overrides-step x ms above i m l g ∙ ap (λ c. c || overrides_some_final x (drop (i + 1) ms) above) o
+  pub overrides_found : (m : Member) (b : Bool) → i < length items → m ≡ get_or items i m → b ≡ overrides_one x m above → b ≡ true → true ≡ overrides_some_final x ms above
+  overrides_found m b l g h t = let o : overrides_one x m above ≡ true = sym h ∙ t in sym (one_more m l g ∙ ap (λ c. c || overrides_some_final x (drop (i + 1) ms) above) o)
 
-pub overrides-end : (x : Bytes) (ms : List Member) (above : List ClassFacts) (i : ℕ) → length ms ≤ i → overrides_some_final x (drop i ms) above ≡ false
-unfolding overrides_some_final
-overrides-end x ms above i l = ap (λ ns. overrides_some_final x ns above) (drop_all i ms l)
+  pub overrides_next : (m : Member) (b : Bool) → i < length items → m ≡ get_or items i m → b ≡ overrides_one x m above → b ≡ false → overrides_some_final x ms above ≡ overrides_some_final x (drop (i + 1) ms) above
+  overrides_next m b l g h t = let o : overrides_one x m above ≡ false = sym h ∙ t in one_more m l g ∙ ap (λ c. c || overrides_some_final x (drop (i + 1) ms) above) o
+
+  pub overrides_end : length items ≤ i → false ≡ overrides_some_final x ms above
+  unfolding overrides_some_final
+  overrides_end l = sym (ahead ∙ ap (λ ns. overrides_some_final x ns above) (drop_all i ms (subst (λ (ns : List Member). length ns ≤ i) same l)))

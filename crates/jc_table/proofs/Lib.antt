@@ -17,6 +17,7 @@ pub mod Queues
 pub mod Aboves
 pub mod Keeps
 pub mod Sides
+pub mod Lookups
 pub mod Reached
 pub mod MemberKeys
 pub mod FinalKeys

@@ -19,6 +19,7 @@ use Rattle.jc_facts.specs.world.Hierarchy.{chain, each, with_interfaces, interfa
 use Rattle.jc_worlds.specs.Hierarchy.{above}
 use Rattle.jc_table.specs.Ids.{name_at, superclass_of}
 use Rattle.jc_table.specs.Above.{AreAbove}
+use Rattle.jc_table.specs.steps.Collecting.{Adds, declares_at, HasKeys}
 use Rattle.jc_table.specs.steps.Walking.{chain_from}
 use Rattle.jc_table.proofs.Walking.{from-step, from-none, from-nothing}
 use Rattle.jc_table.proofs.Reached.{any_reached}
@@ -28,43 +29,31 @@ use Rattle.jc_facts.proofs.KeySets.{key_exact, Comes, rises}
 
 -- ---- the keys of one class
 
--- the set has the keys that it had and those that pass the test
-abbrev pub HasMore : (Key → Bool) → sorted.BTreeSet Key → sorted.BTreeSet Key → Type 0
-HasMore test before now = (k : Key) → sorted.contains key_cmp now k ≡ (sorted.contains key_cmp before k || test k)
-
 -- the keys of these members are in the set
-pub comes_all : (first now : sorted.BTreeSet Key) (ms : List Member) (i : ℕ) → length ms ≤ i → Comes now (drop i ms) first ms → HasMore (λ k. is_some (first_where (is_key k) ms)) first now
+pub comes_all : (first now : sorted.BTreeSet Key) (ms : List Member) (i : ℕ) → length ms ≤ i → Comes now (drop i ms) first ms → Adds (λ k. is_some (first_where (is_key k) ms)) first now
 comes_all first now ms i l h = λ k.
     sym (or_false (sorted.contains key_cmp now k)) ∙ ap (λ (ms : List Member). sorted.contains key_cmp now k || list_any (is_key k) ms) (sym (drop_all i ms l))
     ∙ h k ∙ ap (λ b. sorted.contains key_cmp first k || b) (found_any (is_key k) ms)
 
 -- `own` gives the member of that kind that a class itself declares
 module _ (own : ClassFacts → Key → Option Member) where
-  -- the class of this number declares one of the key
-  abbrev pub own_at : World → Key → ℕ → Bool
-  own_at W k n = some_and (λ c. is_some (own c k)) (find_class W (name_at W n))
-
-  -- the set has the keys that x and what stands above it declare, and no other
-  abbrev pub HasAbove : World → Bytes → sorted.BTreeSet Key → Type 0
-  HasAbove W x keys = (k : Key) → sorted.contains key_cmp keys k ≡ list_any (λ c. is_some (own c k)) (above W x)
-
   -- ---- the keys of several classes
 
   abbrev pub Follows : World → sorted.BTreeSet Key → List ℕ → sorted.BTreeSet Key → List ℕ → Type 0
-  Follows W now rest before all = (k : Key) → (sorted.contains key_cmp now k || list_any (own_at W k) rest) ≡ (sorted.contains key_cmp before k || list_any (own_at W k) all)
+  Follows W now rest before all = (k : Key) → (sorted.contains key_cmp now k || list_any (declares_at own W k) rest) ≡ (sorted.contains key_cmp before k || list_any (declares_at own W k) all)
 
   pub follows_more : (W : World) (first before now : sorted.BTreeSet Key) (ids : List ℕ) (i id : ℕ) (c : ClassFacts) → i < length ids → id ≡ get_or ids i id → Some c ≡ find_class W (name_at W id)
-      → HasMore (λ k. is_some (own c k)) before now → Follows W before (drop i ids) first ids → Follows W now (drop (i + 1) ids) first ids
+      → Adds (λ k. is_some (own c k)) before now → Follows W before (drop i ids) first ids → Follows W now (drop (i + 1) ids) first ids
   follows_more W first before now ids i id c l g f a h = λ k.
-      ap (λ b. b || list_any (own_at W k) (drop (i + 1) ids)) (a k)
-      ∙ or_assoc (sorted.contains key_cmp before k) (is_some (own c k)) (list_any (own_at W k) (drop (i + 1) ids))
-      ∙ ap (λ (o : Option ClassFacts). sorted.contains key_cmp before k || (some_and (λ c. is_some (own c k)) o || list_any (own_at W k) (drop (i + 1) ids))) f
-      ∙ ap (λ (n : ℕ). sorted.contains key_cmp before k || (own_at W k n || list_any (own_at W k) (drop (i + 1) ids))) g
-      ∙ ap (λ ns. sorted.contains key_cmp before k || list_any (own_at W k) ns) (sym (drop_more ids i id l)) ∙ h k
+      ap (λ b. b || list_any (declares_at own W k) (drop (i + 1) ids)) (a k)
+      ∙ or_assoc (sorted.contains key_cmp before k) (is_some (own c k)) (list_any (declares_at own W k) (drop (i + 1) ids))
+      ∙ ap (λ (o : Option ClassFacts). sorted.contains key_cmp before k || (some_and (λ c. is_some (own c k)) o || list_any (declares_at own W k) (drop (i + 1) ids))) f
+      ∙ ap (λ (n : ℕ). sorted.contains key_cmp before k || (declares_at own W k n || list_any (declares_at own W k) (drop (i + 1) ids))) g
+      ∙ ap (λ ns. sorted.contains key_cmp before k || list_any (declares_at own W k) ns) (sym (drop_more ids i id l)) ∙ h k
 
-  pub follows_all : (W : World) (first now : sorted.BTreeSet Key) (ids : List ℕ) (i : ℕ) → length ids ≤ i → Follows W now (drop i ids) first ids → HasMore (λ k. list_any (own_at W k) ids) first now
+  pub follows_all : (W : World) (first now : sorted.BTreeSet Key) (ids : List ℕ) (i : ℕ) → length ids ≤ i → Follows W now (drop i ids) first ids → Adds (λ k. list_any (declares_at own W k) ids) first now
   follows_all W first now ids i l h = λ k.
-      sym (or_false (sorted.contains key_cmp now k)) ∙ ap (λ (ns : List ℕ). sorted.contains key_cmp now k || list_any (own_at W k) ns) (sym (drop_all i ids l)) ∙ h k
+      sym (or_false (sorted.contains key_cmp now k)) ∙ ap (λ (ns : List ℕ). sorted.contains key_cmp now k || list_any (declares_at own W k) ns) (sym (drop_all i ids l)) ∙ h k
 
   -- ---- along the walk
 
@@ -104,9 +93,9 @@ module _ (own : ClassFacts → Key → Option Member) where
         sides false false c d = refl
 
     pub ahead_more : (m n a : ℕ) (next up : Option ℕ) (c : ClassFacts) (ids : List ℕ) (before half now : sorted.BTreeSet Key) → m ≡ suc n → next ≡ Some a → Some c ≡ find_class W (name_at W a) → AreAbove W (name_at W a) ids
-        → HasMore (λ k. is_some (own c k)) before half → HasMore (λ k. list_any (own_at W k) ids) half now → up ≡ superclass_of W (name_at W a) → IsAhead W x m next before → IsAhead W x n up now
+        → Adds (λ k. is_some (own c k)) before half → Adds (λ k. list_any (declares_at own W k) ids) half now → up ≡ superclass_of W (name_at W a) → IsAhead W x m next before → IsAhead W x n up now
     ahead_more m n a next up c ids before half now e q f above h j u i = λ k.
-        ap (λ b. b || declared_up W k n up) (j k ∙ ap (λ b. b || list_any (own_at W k) ids) (h k))
+        ap (λ b. b || declared_up W k n up) (j k ∙ ap (λ b. b || list_any (declares_at own W k) ids) (h k))
         ∙ ap (λ b. ((sorted.contains key_cmp before k || is_some (own c k)) || b) || declared_up W k n up) (sym (any_reached W (λ d. is_some (own d k)) (name_at W a) c (sym f) ids above))
         ∙ sides (sorted.contains key_cmp before k) (is_some (own c k)) (list_any (λ c. is_some (own c k)) (each (with_interfaces W) c.interfaces)) (declared_up W k n up)
         ∙ ap (λ (o : Option ℕ). sorted.contains key_cmp before k || ((is_some (own c k) || list_any (λ c. is_some (own c k)) (each (with_interfaces W) c.interfaces)) || declared_up W k n o)) u
@@ -117,21 +106,21 @@ module _ (own : ClassFacts → Key → Option Member) where
         sides true b c d = refl
         sides false b c d = refl
 
-    ahead_nothing : (m : ℕ) (next : Option ℕ) (keys : sorted.BTreeSet Key) → chain_from W m next ≡ [] → IsAhead W x m next keys → HasAbove W x keys
+    ahead_nothing : (m : ℕ) (next : Option ℕ) (keys : sorted.BTreeSet Key) → chain_from W m next ≡ [] → IsAhead W x m next keys → HasKeys own W x keys
     unfolding interfaces_of
     ahead_nothing m next keys e i = λ k.
         sym (or_false (sorted.contains key_cmp keys k))
         ∙ ap (λ (cs : List ClassFacts). sorted.contains key_cmp keys k || (list_any (λ c. is_some (own c k)) cs || list_any (λ c. is_some (own c k)) (interfaces_of W cs))) (sym e) ∙ i k
 
-    pub ahead_top : (m : ℕ) (next : Option ℕ) (keys : sorted.BTreeSet Key) → next ≡ None → IsAhead W x m next keys → HasAbove W x keys
+    pub ahead_top : (m : ℕ) (next : Option ℕ) (keys : sorted.BTreeSet Key) → next ≡ None → IsAhead W x m next keys → HasKeys own W x keys
     ahead_top m next keys e i = ahead_nothing m next keys (ap (chain_from W m) e ∙ from-nothing W m) i
 
-    pub ahead_out : (m : ℕ) (next : Option ℕ) (keys : sorted.BTreeSet Key) → m ≡ 0 → IsAhead W x m next keys → HasAbove W x keys
+    pub ahead_out : (m : ℕ) (next : Option ℕ) (keys : sorted.BTreeSet Key) → m ≡ 0 → IsAhead W x m next keys → HasKeys own W x keys
     ahead_out m next keys e i = ahead_nothing m next keys (ap (λ n. chain_from W n next) e ∙ from-none W next) i
 
   -- ---- the whole set
 
-  pub keys_exact : (W : World) (x : Bytes) (set : sorted.BTreeSet Key) (keys : List Key) → sorted.IsOrdered key_cmp set → HasAbove W x set → keys ≡ set.keys → HasExactly key_cmp (λ k. IsTrue (list_any (λ c. is_some (own c k)) (above W x))) keys
+  pub keys_exact : (W : World) (x : Bytes) (set : sorted.BTreeSet Key) (keys : List Key) → sorted.IsOrdered key_cmp set → HasKeys own W x set → keys ≡ set.keys → HasExactly key_cmp (λ k. IsTrue (list_any (λ c. is_some (own c k)) (above W x))) keys
   keys_exact W x set keys o h e = subst (HasExactly key_cmp (λ k. IsTrue (list_any (λ c. is_some (own c k)) (above W x)))) (sym e) (record {
     in_order = rises set.keys o;
     sound = All-weaker (Contains set.keys) (λ k. IsTrue (list_any (λ c. is_some (own c k)) (above W x))) (λ k c. sym (h k) ∙ (btree_set_contains_iff key_total key_exact set k).1 c) set.keys (All-contains_itself set.keys);

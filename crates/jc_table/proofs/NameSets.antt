@@ -21,7 +21,7 @@ abbrev pub less : Bytes → Bytes → Bool
 less x y = is_lt (name_order x y)
 
 -- no name is less than itself
-irreflexive : (x : Bytes) → less x x ≡ false
+pub irreflexive : (x : Bytes) → less x x ≡ false
 irreflexive x = go (less x x) refl
   where
     go : (r : Bool) → less x x ≡ r → less x x ≡ false
@@ -29,7 +29,7 @@ irreflexive x = go (less x x) refl
     go true e = absurd (let c : true ≡ false = sym e ∙ (ranks_by nat_list_cmp_total (λ (y : Bytes). y)).one_way x x e in cc)
 
 -- neither is less: they are one
-neither : (x y : Bytes) → less x y ≡ false → less y x ≡ false → x ≡ y
+pub neither : (x y : Bytes) → less x y ≡ false → less y x ≡ false → x ≡ y
 neither x y h k = go (name_order x y) refl
   where
     go : (r : Ordering) → name_order x y ≡ r → x ≡ y

@@ -45,7 +45,7 @@ reached_of W (suc n) x = go (find_class W x) refl (reached_of W n)
         subst (EachOf (IsOf W)) (sym (descend-found W [] [] interfaces_step n x c e))
         (ap (find_class W) (find-name W x c e) ∙ e, each-all (IsOf W) (descend W [] [] interfaces_step n) c.interfaces (each_of (λ y. EachOf (IsOf W) (descend W [] [] interfaces_step n y)) more c.interfaces))
 
-number_of : (W : World) (x : Bytes) → is_some (find_class W x) ≡ true → (k : ℕ) × (id_of W x ≡ Some k)
+pub number_of : (W : World) (x : Bytes) → is_some (find_class W x) ≡ true → (k : ℕ) × (id_of W x ≡ Some k)
 number_of W x h = go (id_of W x) refl (id-find W x ∙ h)
   where
     go : (o : Option ℕ) → id_of W x ≡ o → is_some o ≡ true → (k : ℕ) × (id_of W x ≡ Some k)

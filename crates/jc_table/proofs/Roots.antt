@@ -106,6 +106,7 @@ pub is_side : (platform release : List ClassFacts) → All IsValidClass platform
 is_side platform release v w d e root overlap = record {
   no_clients = refl;
   root = has_root platform root;
+  root_passes = sym root;
   platform = v;
   release = w;
   differ = subst (λ (cs : List ClassFacts). IsTrue (differ_by_name cs)) (sym (append-nil (platform ++ release)))

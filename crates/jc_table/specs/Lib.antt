@@ -7,5 +7,6 @@ pub mod TableFields
 pub mod Above
 pub mod Lookups
 pub mod Both
+pub mod Kinds
 pub mod steps
 pub mod MentionedNames

@@ -2,6 +2,7 @@
 --     IsFound W f m      the table's f is the world's m
 --     IsAnswer W found o      the lookup finds what the world's lookup o finds, or nothing as it does
 --     IsChoice W found ms      the lookup finds one of these, or nothing where there is none
+--     member_of W f      a member of the table's owner and flags
 use Rattle.std.specs.Prelude.{◌<◌, ◌≡◌, Bool, List, [], Option, None, Some, is_some}
 use Rattle.std.specs.List.{list_any, Contains}
 use Rattle.jc_facts.specs.declared.class_facts.ClassFacts.{ClassFacts}
@@ -15,6 +16,10 @@ pub record IsFound (W : World) (f : Found) (m : DeclaredMember) : Type 0 where
   pub below : f.owner < size W
   pub owner : name_at W f.owner ≡ m.owner
   pub flags : f.flags ≡ m.member.flags
+
+-- a member of this owner and these flags, which are all that its use asks for
+abbrev pub member_of : World → Found → DeclaredMember
+member_of W f = record { owner = name_at W f.owner; member = record { name = []; descriptor = []; flags = f.flags } }
 
 -- the table's lookup finds what the world's finds
 abbrev pub IsAnswer : World → Option Found → Option DeclaredMember → Type 0

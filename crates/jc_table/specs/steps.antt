@@ -1,3 +1,4 @@
+pub mod Collecting
 pub mod Entering
 pub mod Order
 pub mod Queue

@@ -1,15 +1,37 @@
 //! What a class itself declares (JVMS 4.5, 4.6).
 ghost use Rattle.std.specs.Prelude.{◌≡◌, option_map};
 ghost use Rattle.jc_facts.specs.world.World.{own_field_of, own_method_of};
+ghost use Rattle.jc_table.specs.Kinds.{members_of, own_of};
 
 use jc_facts::class_facts::{ClassFacts, Member};
 use jc_facts::key_set::KeyRef;
 
-/// The class's own field of the key; none where it declares none.
-pub fn own_field<'a>(class: &'a ClassFacts, key: &KeyRef<'_>) -> Option<&'a Member>
-    ensures { option_map (λ m. m.now) result ≡ own_field_of class.now key.now }
+/// The kinds of members.
+#[derive(Clone, Copy, Debug, PartialEq, Eq)]
+pub enum MemberKind {
+    Field,
+    Method,
+}
+
+/// The class's own members of the kind, in the order of its file.
+pub fn members(class: &ClassFacts, kind: MemberKind) -> &[Member]
+    ensures { result.now ≡ members_of kind class.now }
 {
-    for member in class.fields.as_slice() {
+    match kind {
+        MemberKind::Field => class.fields.as_slice(),
+        MemberKind::Method => class.methods.as_slice(),
+    }
+}
+
+/// The class's own member of the kind and the key; none where it declares none.
+pub fn own_member<'a>(
+    class: &'a ClassFacts,
+    kind: MemberKind,
+    key: &KeyRef<'_>,
+) -> Option<&'a Member>
+    ensures { option_map (λ m. m.now) result ≡ own_of kind class.now key.now }
+{
+    for member in members(class, kind) {
         if KeyRef::of_member(member) == *key {
             return Some(member);
         }
@@ -17,14 +39,16 @@ pub fn own_field<'a>(class: &'a ClassFacts, key: &KeyRef<'_>) -> Option<&'a Memb
     None
 }
 
+/// The class's own field of the key; none where it declares none.
+pub fn own_field<'a>(class: &'a ClassFacts, key: &KeyRef<'_>) -> Option<&'a Member>
+    ensures { option_map (λ m. m.now) result ≡ own_field_of class.now key.now }
+{
+    own_member(class, MemberKind::Field, key)
+}
+
 /// The class's own method of the key; none where it declares none.
 pub fn own_method<'a>(class: &'a ClassFacts, key: &KeyRef<'_>) -> Option<&'a Member>
     ensures { option_map (λ m. m.now) result ≡ own_method_of class.now key.now }
 {
-    for member in class.methods.as_slice() {
-        if KeyRef::of_member(member) == *key {
-            return Some(member);
-        }
-    }
-    None
+    own_member(class, MemberKind::Method, key)
 }

@@ -1,5 +1,5 @@
 //! Names that are looked for without memory.
-ghost use Rattle.std.specs.Prelude.{◌≡◌, ◌≤◌, ℕ, List, true, false, nat_eq, IfOk, length};
+ghost use Rattle.std.specs.Prelude.{◌≡◌, ◌≤◌, ◌<◌, ◌^◌, ℕ, List, true, false, nat_eq, IfOk, length};
 ghost use Rattle.std.specs.List.{list_any, starts_with};
 ghost use Rattle.std.specs.List.Sorted.{IsPermutation, IsPartitionPoint, IsSorted};
 ghost use Rattle.std.specs.Ordering.{is_lt};
@@ -36,6 +36,14 @@ impl NameSet {
     {
         names.sort()?;
         Ok(NameSet { names })
+    }
+
+    /// How many names there are, those that stand twice counted twice.
+    pub fn count(&self) -> usize
+        ensures count { result ≡ length self.now }
+        ensures small { result < 2 ^ 63 }
+    {
+        self.names.len()
     }
 
     // How many names stand before these bytes.

@@ -212,6 +212,7 @@ fn method_overrides<'a>(
 }
 
 // Whether one of the class's methods overrides a final one of the classes above it.
+#[tactic(auto, using(crate::proofs::FinalKeys::overrides_found, crate::proofs::FinalKeys::overrides_next, crate::proofs::FinalKeys::overrides_end))]
 pub(crate) fn overrides_final<'a>(
     alloc: Global,
     index: &'a Index,

@@ -42,6 +42,7 @@ fn method_overrides<'a>(
 }
 
 // Whether one of the class's methods does.
+#[tactic(auto, using(crate::proofs::FinalKeys::overrides_found, crate::proofs::FinalKeys::overrides_next, crate::proofs::FinalKeys::overrides_end))]
 fn overrides_final<'a>(
     alloc: Global,
     index: &'a Index,

@@ -1,11 +1,12 @@
 //! The classes of a side, found by their names.
-ghost use Rattle.std.specs.Prelude.{◌≡◌, ◌≤◌, ◌<◌, ◌+◌, ◌||◌, length, map, is_some, nat_lt, Some, None, IfOk, IfErr, IfSome, IsTrue};
+ghost use Rattle.std.specs.Prelude.{◌≡◌, ◌≤◌, ◌<◌, ◌+◌, ◌^◌, ◌||◌, length, map, is_some, nat_lt, Some, None, IfOk, IfErr, IfSome, IsTrue};
 ghost use Rattle.std.specs.List.{All};
 ghost use Rattle.jc_facts.specs.Options.{some_where};
 ghost use Rattle.jc_facts.specs.file.Valid.{IsValidClass};
 ghost use Rattle.jc_facts.specs.Names.{same};
 ghost use Rattle.jc_facts.specs.client.Clients.{differ_by_name, is_named_above};
-ghost use Rattle.jc_facts.specs.world.World.{side, size, find_class, class_named};
+ghost use Rattle.jc_facts.specs.world.World.{side, size, classes, find_class, class_named};
+ghost use Rattle.jc_facts.specs.world.Mentioned.{all_mentions};
 ghost use Rattle.jc_facts.specs.world.Hierarchy.{in_chain, is_superinterface};
 ghost use Rattle.jc_facts.specs.world.Loading.{load_fault};
 ghost use Rattle.jc_table.specs.Above.{leads_by, AreAbove};
@@ -276,6 +277,15 @@ impl Table {
         ensures { result ≡ mentions_front self.now front.now }
     {
         self.mentioned.mentioned.begins(front)
+    }
+
+    /// How many names its classes have, name above themselves or permit to extend them, each counted
+    /// as often as a class does so; fewer than 2^63.
+    pub fn mention_count(&self) -> usize
+        ensures count { result ≡ length (all_mentions (classes self.now)) }
+        ensures small { result < 2 ^ 63 }
+    {
+        self.mentioned.mentioned.count()
     }
 
     /// The load faults of all classes, in byte order of their names; none where a class loads

@@ -1,5 +1,5 @@
 use Rattle.std.proofs.Common.{sym, ◌∙◌, arith}
-use Rattle.jc_access.specs.steps.TypeTexts.{element_view}
+use Rattle.jc_access.specs.TypeTexts.{element_view}
 use Rattle.jc_access.proofs.Assigned.{to_equal, to_less, to_more}
 use Rattle.jc_access.proofs.assigning.assign.Goals as goal
 

@@ -1,6 +1,6 @@
 use Rattle.jc_field.specs.steps.Fields.{own_found, interfaces_found}
 use Rattle.jc_table.specs.Ids.{name_at}
-use Rattle.jc_field.proofs.Steps.{answer_or, answer_else}
+use Rattle.jc_table.proofs.Lookups.{answer_or, answer_else}
 use Rattle.jc_field.proofs.find.here.Goals as goal
 
 pub returns-in-Some : goal.returns-in-Some

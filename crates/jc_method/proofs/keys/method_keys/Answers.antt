@@ -1,7 +1,0 @@
-use Rattle.jc_facts.specs.world.World.{own_method_of}
-use Rattle.jc_table.specs.Ids.{name_at}
-use Rattle.jc_table.proofs.MemberKeys.{keys_exact}
-use Rattle.jc_method.proofs.keys.method_keys.Goals as goal
-
-pub returns : goal.returns
-returns c = keys_exact own_method_of c.args.table.now (name_at c.args.table.now c.args.class) c.in_ok-set.set c.in_ok-keys.keys.items c.in_ok-keys.ensures.ordered c.in_ok-set.ensures c.in_ok-keys.ensures.value
