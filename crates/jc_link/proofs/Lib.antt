@@ -1,0 +1,11 @@
+mod Named
+mod Members
+mod LookedUp
+mod Inits
+mod Gives
+mod Client
+mod Sorting
+mod Taken
+mod Joined
+mod Asked
+mod Parts

@@ -1,0 +1,5 @@
+use Rattle.std.proofs.Common.{◌≡◌, take, map}
+use Rattle.jc_link.proofs.client_names.names_of.Given as goal
+
+abbrev pub invariant-loop-client : goal.invariant-loop-client
+invariant-loop-client l = l.list.items ≡ map (λ c. c.facts.name) (take l.client-index l.clients)

@@ -1,0 +1,4 @@
+pub mod ItemSteps
+pub mod Asked
+pub mod TakenNames
+pub mod TableRefusals

@@ -1,0 +1,116 @@
+//! The outcomes of clients, by one table of all classes.
+ghost use Rattle.std.specs.Prelude.{◌≡◌, ◌<◌, ◌++◌, ◌∷◌, [], None, OnOk, IfOk, IsTrue};
+ghost use Rattle.std.specs.List.{list_all};
+ghost use Rattle.jc_facts.specs.world.World.{size};
+ghost use Rattle.jc_table.specs.Ids.{name_at};
+ghost use Rattle.jc_table.specs.Sides.{IsSide};
+ghost use Rattle.jc_link.specs.steps.Asked.{names_no_clinit, ask_no_clinit};
+ghost use Rattle.jc_facts.specs.client.Linked.{item_outcomes, client_outcomes, all_outcomes};
+ghost use Rattle.jc_link.specs.steps.ItemSteps.{IsLoaded};
+
+use crate::item::item_error;
+use jc_access::names::name_of;
+use jc_base::name::Name;
+use jc_facts::client::{ClientClass, Item};
+use jc_facts::link_error::LinkError;
+use jc_facts::outcome::Outcome;
+use jc_table::ids::ClassId;
+use jc_table::table::Table;
+use std::alloc::{AllocError, Global};
+
+// The class of this name, which loads; or its load fault.
+fn loaded(table: &Table, name: &[u8]) -> Result<ClassId, LinkError>
+    ensures { IsLoaded table.now name.now result }
+{
+    let Some(class) = table.get(name) else {
+        return Err(LinkError::NoClassDefFoundError);
+    };
+    match table.fault_at(class) {
+        Some(error) => Err(error),
+        None => Ok(class),
+    }
+}
+
+// Adds the outcomes of the items of a class that loads.
+fn add_items(
+    alloc: Global,
+    outcomes: &mut Vec<Outcome>,
+    table: &Table,
+    class: ClassId,
+    items: Vec<Item>,
+) -> Result<(), AllocError>
+    requires side { IsSide table.now }
+    requires class { class < size table.now }
+    requires items { IsTrue (list_all names_no_clinit items.items) }
+    ensures { OnOk result (outcomes.new.items ≡ outcomes.old.items ++ item_outcomes table.now (name_at table.now class) items.items) }
+{
+    for item in items {
+        let error = item_error(table, class, &item);
+        let name = name_of(table, class).copy(alloc)?;
+        outcomes.push(Outcome {
+            class: name,
+            item: Some(item),
+            error,
+        })?;
+    }
+    Ok(())
+}
+
+// Adds the outcome of a loading.
+fn add_loading(
+    alloc: Global,
+    outcomes: &mut Vec<Outcome>,
+    class: &Name,
+    error: Option<LinkError>,
+) -> Result<(), AllocError>
+    ensures { OnOk result (outcomes.new.items ≡ outcomes.old.items ++ record { «class» = «class».now; item = None; error = error } ∷ []) }
+{
+    outcomes.push(Outcome {
+        class: class.copy(alloc)?,
+        item: None,
+        error,
+    })?;
+    Ok(())
+}
+
+// Adds the outcome of the loading of the client, and where it loads those of its items.
+fn add_client(
+    alloc: Global,
+    outcomes: &mut Vec<Outcome>,
+    table: &Table,
+    client: ClientClass,
+) -> Result<(), AllocError>
+    requires side { IsSide table.now }
+    requires items { IsTrue (ask_no_clinit client) }
+    ensures { OnOk result (outcomes.new.items ≡ outcomes.old.items ++ client_outcomes table.now client) }
+{
+    let ClientClass { facts, items } = client;
+    match loaded(table, facts.name.as_bytes()) {
+        Ok(class) => {
+            add_loading(alloc, outcomes, &facts.name, None)?;
+            add_items(alloc, outcomes, table, class, items.into_vec())?;
+            Ok(())
+        }
+        Err(error) => {
+            add_loading(alloc, outcomes, &facts.name, Some(error))?;
+            Ok(())
+        }
+    }
+}
+
+/// The outcomes of the clients, as they stand.
+pub fn outcomes_in_order(
+    alloc: Global,
+    table: &Table,
+    clients: Vec<ClientClass>,
+) -> Result<Vec<Outcome>, AllocError>
+    requires side { IsSide table.now }
+    requires items { IsTrue (list_all ask_no_clinit clients.items) }
+    ensures { IfOk result (λ outcomes. outcomes.items ≡ all_outcomes table.now clients.items) }
+{
+    let mut outcomes = Vec::new(alloc);
+    for client in clients {
+        add_client(alloc, &mut outcomes, table, client)?;
+    }
+    Ok(outcomes)
+}
