@@ -18,7 +18,7 @@ use Rattle.jc_lemmas.proofs.Listed.{EachOf}
 use Rattle.jc_table.specs.Ids.{names}
 use Rattle.jc_table.proofs.Overlaps.{least_is}
 use Rattle.jc_sides.specs.SidesOf.{SidesOf}
-use Rattle.jc_acts.specs.declared.lookup.Reference.TheVariants as to
+use Rattle.jc_facts.specs.declared.act.Form.TheVariants as forms
 use Rattle.jc_acts.specs.steps.References.{acts_of}
 use Rattle.jc_acts.specs.declared.closed_act.ClosedAct.{ClosedAct}
 use Rattle.jc_acts.specs.ClosedActs.{reported, IsFirstClosed}
@@ -95,13 +95,13 @@ first_lacks None (Some x) rest e = absurd (cc)
 first_lacks None None rest e = refl
 
 module _ (sides : SidesOf) (x : Bytes) (k : Key) where
-  pub methods_first : (c : ClosedAct) → IsFirstClosed sides x k (acts_of to.Method) (Some c) → IsFirstClosed sides x k method_acts (Some c)
+  pub methods_first : (c : ClosedAct) → IsFirstClosed sides x k (acts_of forms.Method) (Some c) → IsFirstClosed sides x k method_acts (Some c)
   unfolding first_act
-  methods_first c h = λ on is. first_found (act_finding sides.old sides.new on k act.InvokeVirtual) (act_finding sides.old sides.new on k act.InvokeStatic) (first_act sides.old sides.new on k (acts_of to.InterfaceMethod)) _ (h on is)
+  methods_first c h = λ on is. first_found (act_finding sides.old sides.new on k act.InvokeVirtual) (act_finding sides.old sides.new on k act.InvokeStatic) (first_act sides.old sides.new on k (acts_of forms.Interface)) _ (h on is)
 
-  pub methods_second : (r : Option ClosedAct) → IsFirstClosed sides x k (acts_of to.Method) None → IsFirstClosed sides x k (acts_of to.InterfaceMethod) r → IsFirstClosed sides x k method_acts r
+  pub methods_second : (r : Option ClosedAct) → IsFirstClosed sides x k (acts_of forms.Method) None → IsFirstClosed sides x k (acts_of forms.Interface) r → IsFirstClosed sides x k method_acts r
   unfolding first_act
-  methods_second r h i = λ on is. first_lacks (act_finding sides.old sides.new on k act.InvokeVirtual) (act_finding sides.old sides.new on k act.InvokeStatic) (first_act sides.old sides.new on k (acts_of to.InterfaceMethod)) (h on is) ∙ i on is
+  methods_second r h i = λ on is. first_lacks (act_finding sides.old sides.new on k act.InvokeVirtual) (act_finding sides.old sides.new on k act.InvokeStatic) (first_act sides.old sides.new on k (acts_of forms.Interface)) (h on is) ∙ i on is
 
 -- ---- the same said of each
 
@@ -127,6 +127,3 @@ first_filtered f q (x ∷ xs) h = go (q x) refl (first_filtered f q xs h.1)
     go false e r = r ∙ sym (ap (λ o. with_or x o (first_at f xs)) (h.0 e))
 
 -- what holds of everything holds of each
-pub each : {A : Type 0} (P : A → Type 0) → ((x : A) → P x) → (xs : List A) → EachOf P xs
-each P h [] = tt
-each P h (x ∷ xs) = (h x, each P h xs)

@@ -1,3 +1,4 @@
+pub mod SeatChains
 mod UsedAt
 mod Firsts
 mod LookedUp
@@ -9,5 +10,5 @@ mod Roots
 mod Losses
 mod LeftSteps
 mod Platforms
-mod Untouched
-mod Abreast
+pub mod Untouched
+mod Beside

@@ -1,5 +1,5 @@
 -- What acts find is what the lookup of their form finds.
-use Rattle.std.proofs.Common.{◌≡◌, ℕ, Bool, true, false, cond, not, List, [], ◌∷◌, refl, sym, ◌∙◌, ap, Option, Some, None, Ok, Err, ◌||◌}
+use Rattle.std.proofs.Common.{◌≡◌, ℕ, true, false, cond, List, [], ◌∷◌, refl, sym, ◌∙◌, ap, Option, Some, None, Ok, Err, ◌||◌}
 use Rattle.jc_facts.specs.declared.act.Act.{Act}
 use Rattle.jc_facts.specs.declared.act.Act.TheVariants as act
 use Rattle.jc_facts.specs.declared.class_facts.ClassFacts.{ClassFacts}
@@ -19,6 +19,7 @@ use Rattle.jc_facts.specs.rule.OpenActs.{act_fault}
 use Rattle.jc_facts.specs.file.Valid.{IsValidClass}
 use Rattle.jc_facts.specs.rule.Bases.{is_key_of_method}
 use Rattle.jc_lemmas.proofs.Listed.{EachOf, each_in, EachOf-map}
+use Rattle.jc_lemmas.proofs.Bools.{neither_last, not_true}
 use Rattle.jc_worlds.specs.Choices.{IsPublicInstance}
 use Rattle.jc_worlds.proofs.Inherited.{superinterface_choices-public}
 use Rattle.jc_table.specs.Ids.{name_at}
@@ -74,21 +75,13 @@ each_first P f two e (Some m) ms h = (refl, tt)
 each_first P f two e None [] h = tt
 each_first P f two e None (n ∷ ns) h = (refl, EachOf-map (λ m p. two n m h.0 p) ns h.1)
 
-not_clinit : (k : Key) → is_key_of_method k ≡ true → is_clinit_name k.name ≡ false
-not_clinit k h = go (is_init_name k.name) (is_clinit_name k.name) h
-  where
-    go : (i c : Bool) → not (i || c) ≡ true → c ≡ false
-    go true c h = absurd (cc)
-    go false true h = absurd (cc)
-    go false false h = refl
-
 module _ (W : World) (valid : (x : Bytes) (c : ClassFacts) → find_class W x ≡ Some c → IsValidClass c) (x : Bytes) (k : Key) (loaded : load_fault W x ≡ None) (method : is_key_of_method k ≡ true) where
   -- a choice after this method, where there is one, is used as the first is
   choice_use : (o : Option DeclaredMember) (what : Act) → is_put_act what ≡ false → (f : Found) → IsChoice W (Some f) (or_choices o (superinterface_choices W x k)) → (a : Bytes)
       → first_of NoSuchMethodError (or_choices o (superinterface_choices W x k)) (use_at W a x what) ≡ use_at W a x what (member_of W f)
   choice_use o what put f h a =
       each_in (λ m. first_of NoSuchMethodError (or_choices o (superinterface_choices W x k)) (use_at W a x what) ≡ use_at W a x what m) (or_choices o (superinterface_choices W x k)) h.0
-      (each_first IsPublicInstance (use_at W a x what) (λ m n p q. use_alike W a x what m n put p q) NoSuchMethodError o (superinterface_choices W x k) (superinterface_choices-public W valid x k loaded (not_clinit k method))) h.1
+      (each_first IsPublicInstance (use_at W a x what) (λ m n p q. use_alike W a x what m n put p q) NoSuchMethodError o (superinterface_choices W x k) (superinterface_choices-public W valid x k loaded (neither_last (is_init_name k.name) (is_clinit_name k.name) (not_true (is_init_name k.name || is_clinit_name k.name) method)))) h.1
       ∙ member_use W a x what f h.0 h.2
 
   no_choice : (ms : List DeclaredMember) → ms ≡ [] → (g : DeclaredMember → Option LinkError) → first_of NoSuchMethodError ms g ≡ Some NoSuchMethodError

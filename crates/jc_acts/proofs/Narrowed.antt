@@ -1,23 +1,22 @@
 -- Most seats need not be asked.
-use Rattle.std.proofs.Common.{◌≡◌, Bool, true, false, cond, not, List, [], ◌∷◌, map, refl, sym, ◌∙◌, ap, subst, Option, Some, None, Result, Ok, Err, take, ◌||◌, ◌&&◌, ◌==◌, ◌⊎◌, inl, inr}
-use Rattle.std.specs.List.{filter, list_any, All}
-use Rattle.std.proofs.lemmas.Bool.{and_parts, or_cases, eqb-true, eq-eqb, not-false}
+use Rattle.std.proofs.Common.{◌≡◌, Bool, true, false, cond, not, List, [], ◌∷◌, map, refl, sym, ◌∙◌, ap, subst, Option, Some, None, Result, Ok, Err, take, ◌||◌, ◌&&◌, ◌==◌}
+use Rattle.std.specs.List.{filter, All}
+use Rattle.std.proofs.lemmas.Bool.{and_parts, eqb-true, eq-eqb, not-false}
 use Rattle.std.proofs.lemmas.List.Elements.{recursion_from_All, All-from_recursion}
 use Rattle.jc_facts.specs.declared.act.Act.{Act}
-use Rattle.jc_facts.specs.declared.class_facts.ClassFacts.{ClassFacts}
 use Rattle.jc_facts.specs.declared.link_error.LinkError.{LinkError}
 use Rattle.jc_facts.specs.declared.link_error.LinkError.TheVariants.{IllegalAccessError}
 use Rattle.jc_facts.specs.Names.{Bytes, same, object_name}
 use Rattle.jc_facts.specs.Flags.{public_flag, protected_flag, static_flag, final_flag}
 use Rattle.jc_facts.specs.Options.{or_else}
 use Rattle.jc_facts.specs.world.World.{World, DeclaredMember}
-use Rattle.jc_facts.specs.world.Hierarchy.{chain, names_in, in_chain}
+use Rattle.jc_facts.specs.world.Hierarchy.{in_chain}
 use Rattle.jc_facts.specs.world.Loading.{fault_where}
 use Rattle.jc_facts.specs.client.Acts.{is_put_act}
 use Rattle.jc_facts.specs.client.Outcome.{kind_fault}
 use Rattle.jc_facts.specs.rule.OpenActs.{is_member_open, where_open}
 use Rattle.jc_facts.specs.rule.Bases.{is_base_class}
-use Rattle.jc_lemmas.proofs.Listed.{EachOf, filter-each}
+use Rattle.jc_lemmas.proofs.Listed.{EachOf, filter-each, each_of}
 use Rattle.jc_facts.proofs.Same.{same_is}
 use Rattle.jc_worlds.proofs.Above.{fault_where-none}
 use Rattle.jc_facts.proofs.Options.{or_else-none, or_else-both}
@@ -29,11 +28,12 @@ use Rattle.jc_table.specs.declared.ids.Found.{Found}
 use Rattle.jc_sides.specs.SharedOf.{AreThose, IsShared, name_of, SharedOf}
 use Rattle.jc_sides.specs.SidesOf.{SidesOf}
 use Rattle.jc_sides.proofs.BaseParts.{base_class_parts}
-use Rattle.jc_acts.specs.Seats.{all_seats, has_lost}
+use Rattle.jc_acts.specs.Seats.{all_seats, loses_class}
 use Rattle.jc_acts.specs.steps.Firsts.{with_or, first_at}
-use Rattle.jc_acts.specs.steps.LookedUp.{member_of, use_at, looked_use, closed_use, is_like, is_alike}
+use Rattle.jc_acts.specs.steps.LookedUp.{member_of, use_at, looked_use, closed_use, is_like, is_found_alike}
 use Rattle.jc_acts.specs.declared.lookup.Looked.{Looked}
-use Rattle.jc_acts.proofs.Firsts.{first_none, first_filtered, each}
+use Rattle.jc_acts.proofs.SeatChains.{keeps}
+use Rattle.jc_acts.proofs.Firsts.{first_none, first_filtered}
 use Rattle.jc_acts.proofs.Roots.{only_root}
 use Rattle.jc_table.proofs.Sides.{side_valid}
 
@@ -73,17 +73,6 @@ shut_use W a c what m p q = rw (p, q) refl
 not_open : (e : LinkError) (o r : Option LinkError) → o ≡ Some e → where_open o r ≡ None
 not_open e o r h = ap (λ z. where_open z r) h
 
--- where no class of the chain is lost, what stood above stands above
-pub none_lost : (sides : SidesOf) (a y : Bytes) (cs : List ClassFacts) → list_any (λ c. not (in_chain sides.new a c.name)) cs ≡ false → names_in cs y ≡ true → in_chain sides.new a y ≡ true
-none_lost sides a y [] k h = absurd (cc)
-none_lost sides a y (c ∷ cs) k h = go (in_chain sides.new a c.name) refl k (or_cases (same c.name y) (names_in cs y) h) (none_lost sides a y cs)
-  where
-    go : (b : Bool) → in_chain sides.new a c.name ≡ b → (not b || list_any (λ c. not (in_chain sides.new a c.name)) cs) ≡ false → (same c.name y ≡ true) ⊎ (names_in cs y ≡ true)
-        → (list_any (λ c. not (in_chain sides.new a c.name)) cs ≡ false → names_in cs y ≡ true → in_chain sides.new a y ≡ true) → in_chain sides.new a y ≡ true
-    go false e k p r = absurd (cc)
-    go true e k (inl p) r = subst (λ (z : Bytes). in_chain sides.new a z ≡ true) (same_is c.name y p) e
-    go true e k (inr p) r = r k p
-
 -- ---- the three ways
 
 module _ (sides : SidesOf) (so : IsSide sides.old) (sn : IsSide sides.new) (x : Bytes) (u : Looked) (what : Act) where
@@ -110,7 +99,7 @@ module _ (sides : SidesOf) (so : IsSide sides.old) (sn : IsSide sides.new) (x : 
           ∙ now u.after (sym (ap (λ z. where_open z (looked_use sides.new object_name x what u.after)) c) ∙ h)
 
   -- alike: closed only where the chain lost a class
-  pub by_chain : is_alike sides u ≡ true → (a : Bytes) → has_lost sides a ≡ false → closed_use sides x u what a ≡ None
+  pub by_chain : is_found_alike sides u ≡ true → (a : Bytes) → loses_class sides a ≡ false → closed_use sides x u what a ≡ None
   by_chain like a lost = at u.after like
     where
       at : (l : Result Found LinkError) → is_like sides u.before l ≡ true → where_open (use_at sides.old a x what (member_of sides.old u.before)) (looked_use sides.new a x what l) ≡ None
@@ -124,7 +113,7 @@ module _ (sides : SidesOf) (so : IsSide sides.old) (sn : IsSide sides.new) (x : 
           go (Some e) c d i = refl
           go None c d i =
               let same_member : member_of sides.old u.before ≡ member_of sides.new g = rw (← d, i) refl in
-              use_further sides.old sides.new a a x what (member_of sides.new g) (none_lost sides a (name_at sides.new g.owner) (chain sides.old a) lost) (none_lost sides a x (chain sides.old a) lost) (subst (λ (m : DeclaredMember). use_at sides.old a x what m ≡ None) same_member c)
+              use_further sides.old sides.new a a x what (member_of sides.new g) (keeps sides a lost (name_at sides.new g.owner)) (keeps sides a lost x) (subst (λ (m : DeclaredMember). use_at sides.old a x what m ≡ None) same_member c)
 
 -- ---- lists of seats
 
@@ -161,11 +150,11 @@ module _ (sides : SidesOf) (so : IsSide sides.old) (sn : IsSide sides.new) (x : 
           sym (first_none (closed_use sides x u what) (filter (is_base_class sides.old sides.new) (names sides.old)) (each_base (λ a. closed_use sides x u what a ≡ None) (is_base_class sides.old sides.new) (names sides.old) (shut_or_root c (public_flag u.before.flags) refl (protected_flag u.before.flags) refl h)))
 
   -- those whose chain lost a class
-  pub shrunk_enough : (all shrunk : List SharedOf) → map name_of all ≡ all_seats sides → shrunk ≡ filter (λ b. has_lost sides (name_of b)) all → is_alike sides u ≡ true
+  pub shrunk_enough : (all shrunk : List SharedOf) → map name_of all ≡ all_seats sides → shrunk ≡ filter (λ b. loses_class sides (name_of b)) all → is_found_alike sides u ≡ true
       → first_at (closed_use sides x u what) (map name_of shrunk) ≡ first_at (closed_use sides x u what) (all_seats sides)
   shrunk_enough all shrunk a e like =
-      ap (first_at (closed_use sides x u what)) (ap (map name_of) e ∙ map_filter (has_lost sides) all ∙ ap (filter (has_lost sides)) a)
-      ∙ first_filtered (closed_use sides x u what) (has_lost sides) (all_seats sides) (each (λ a. has_lost sides a ≡ false → closed_use sides x u what a ≡ None) (λ a. by_chain sides so sn x u what like a) (all_seats sides))
+      ap (first_at (closed_use sides x u what)) (ap (map name_of) e ∙ map_filter (loses_class sides) all ∙ ap (filter (loses_class sides)) a)
+      ∙ first_filtered (closed_use sides x u what) (loses_class sides) (all_seats sides) (each_of (λ a. loses_class sides a ≡ false → closed_use sides x u what a ≡ None) (λ a. by_chain sides so sn x u what like a) (all_seats sides))
 
 -- the first seat is the root
 pub root_first : (sides : SidesOf) (all : List SharedOf) → map name_of all ≡ all_seats sides → map name_of (take 1 all) ≡ object_name ∷ []
@@ -186,5 +175,5 @@ shared_filtered sides q all shrunk h e = subst (All (IsShared sides)) (sym e) (A
 
 -- ---- alike
 
-pub like_is : (sides : SidesOf) (u : Looked) (g : Found) (x y : Bytes) (r : Bool) → u.after ≡ Ok g → g.flags ≡ u.before.flags → x ≡ name_at sides.old u.before.owner → y ≡ name_at sides.new g.owner → r ≡ same x y → r ≡ is_alike sides u
+pub like_is : (sides : SidesOf) (u : Looked) (g : Found) (x y : Bytes) (r : Bool) → u.after ≡ Ok g → g.flags ≡ u.before.flags → x ≡ name_at sides.old u.before.owner → y ≡ name_at sides.new g.owner → r ≡ same x y → r ≡ is_found_alike sides u
 like_is sides u g x y r e f p q h = h ∙ ap (λ z. same z y) p ∙ ap (same (name_at sides.old u.before.owner)) q ∙ sym (ap (is_like sides u.before) e ∙ ap (λ b. b && same (name_at sides.old u.before.owner) (name_at sides.new g.owner)) (eq-eqb g.flags u.before.flags f))

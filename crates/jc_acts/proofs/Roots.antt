@@ -1,37 +1,30 @@
 -- The root of a side.
-use Rattle.std.proofs.Common.{◌≡◌, ℕ, true, false, [], ◌∷◌, ◌++◌, sym, ◌∙◌, ap, subst, Option, Some, is_some, ◌⊎◌, inl, inr}
+use Rattle.std.proofs.Common.{◌≡◌, ℕ, true, false, [], ◌∷◌, sym, ◌∙◌, ap, subst, Option, Some, is_some, ◌⊎◌, inl, inr}
 use Rattle.std.proofs.lemmas.Bool.{or_cases}
 use Rattle.jc_facts.specs.Names.{Bytes, same, object_name}
 use Rattle.jc_facts.specs.world.Hierarchy.{names_in, in_chain}
-use Rattle.jc_facts.specs.world.World.{World, find_class, class_named}
-use Rattle.jc_facts.proofs.World.{find-name, class_named-first}
+use Rattle.jc_facts.specs.world.World.{World}
+use Rattle.jc_facts.proofs.World.{find-name}
 use Rattle.jc_facts.proofs.Same.{same_is}
 use Rattle.jc_worlds.proofs.Bare.{bare_chain}
 use Rattle.jc_table.specs.Ids.{id_of, name_at}
 use Rattle.jc_table.specs.Sides.{IsSide}
+use Rattle.jc_table.proofs.Sides.{root_at}
 use Rattle.jc_table.proofs.Numbers.{id-find, id_of-Some}
-
--- the root of a side
-pub side_root : (W : World) (s : IsSide W) → find_class W object_name ≡ Some s.root.root
-unfolding find_class
-side_root W s =
-    let there : is_some (class_named W.platform object_name) ≡ true = ap is_some s.root.is_there in
-    let two = class_named-first W.platform W.release object_name there in
-    class_named-first (W.platform ++ W.release) W.clients object_name (ap is_some two ∙ there) ∙ two ∙ s.root.is_there
 
 -- nothing but itself stands above the root
 pub only_root : (W : World) → IsSide W → (y : Bytes) → in_chain W object_name y ≡ true → y ≡ object_name
-only_root W s y h = sym (go (or_cases (same s.root.root.name y) false p)) ∙ find-name W object_name s.root.root (side_root W s)
+only_root W s y h = sym (go (or_cases (same s.root.root.name y) false p)) ∙ find-name W object_name s.root.root (root_at W s)
   where
     p : names_in (s.root.root ∷ []) y ≡ true
-    p = subst (λ cs. names_in cs y ≡ true) (bare_chain W object_name s.root.root (side_root W s) s.root.superclass s.root.interfaces) h
+    p = subst (λ cs. names_in cs y ≡ true) (bare_chain W object_name s.root.root (root_at W s) s.root.superclass s.root.interfaces) h
 
     go : (same s.root.root.name y ≡ true) ⊎ (false ≡ true) → s.root.root.name ≡ y
     go (inl q) = same_is s.root.root.name y q
     go (inr q) = absurd (cc)
 
 pub rooted : (W : World) → IsSide W → (x : Bytes) → x ≡ object_name → (o : Option ℕ) → o ≡ id_of W x → is_some o ≡ true
-rooted W s x e o h = ap is_some (h ∙ ap (id_of W) e) ∙ id-find W object_name ∙ ap is_some (side_root W s)
+rooted W s x e o h = ap is_some (h ∙ ap (id_of W) e) ∙ id-find W object_name ∙ ap is_some (root_at W s)
 
 pub root_name : (W : World) (x : Bytes) (n : ℕ) → x ≡ object_name → id_of W x ≡ Some n → name_at W n ≡ object_name
 root_name W x n e h = (id_of-Some W x n h).1 ∙ e

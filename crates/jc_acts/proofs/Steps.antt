@@ -2,7 +2,6 @@
 use Rattle.std.proofs.Common.{◌≡◌, ℕ, ◌+◌, ◌<◌, ◌≤◌, Bool, true, false, List, [], ◌∷◌, length, drop, get_or, sym, ◌∙◌, ap, ◌&&◌, Option, Some, None}
 use Rattle.std.specs.List.{list_all}
 use Rattle.std.proofs.lemmas.List.{at_drop_more, at_drop_all}
-use Rattle.jc_facts.specs.Options.{some_where}
 use Rattle.jc_acts.specs.steps.Firsts.{with_or, first_at}
 
 -- ---- the first of which something is said
@@ -38,8 +37,3 @@ module _ {X Y : Type 0} (p : X → Bool) (g : Y → X) (q : List Y → List X) (
 
   pub all_end : (ys : List Y) (n : ℕ) → length ys ≤ n → list_all p (q (drop n ys)) ≡ true
   all_end ys n l = at_drop_all (λ zs. list_all p (q zs)) ys n l ∙ ap (list_all p) none
-
--- the number that a side gives
-pub number_there : (b : Bool) (n k : ℕ) → some_where b n ≡ Some k → k ≡ n
-number_there true n k e = let q : n ≡ k = cc in sym q
-number_there false n k e = absurd (cc)

@@ -1,3 +1,4 @@
 pub mod ClosedActs
+pub mod Platforms
 pub mod Seats
 pub mod steps

@@ -1,4 +1,4 @@
+pub mod Chains
 pub mod Firsts
 pub mod LookedUp
-pub mod Platforms
 pub mod References

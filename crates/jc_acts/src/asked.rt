@@ -7,7 +7,7 @@ ghost use Rattle.jc_facts.specs.Names.{Bytes};
 ghost use Rattle.jc_sides.specs.SharedOf.{IsShared, name_of};
 ghost use Rattle.jc_acts.specs.Seats.{AreSeats, all_seats};
 ghost use Rattle.jc_acts.specs.steps.Firsts.{first_at};
-ghost use Rattle.jc_acts.specs.steps.LookedUp.{IsLooked, closed_use, is_alike as alike};
+ghost use Rattle.jc_acts.specs.steps.LookedUp.{IsLooked, closed_use, is_found_alike};
 
 use crate::lookup::Looked;
 use crate::seats::Seats;
@@ -25,7 +25,7 @@ fn is_by_seat(flags: u16) -> bool
 // Whether the member that is found now has the owner, by name, and the flags of the one before.
 fn is_alike(sides: &Sides<'_>, looked: &Looked) -> bool
     requires { IsLooked sides.now looked.now }
-    ensures { result ≡ alike sides.now looked.now }
+    ensures { result ≡ is_found_alike sides.now looked.now }
 {
     let Ok(found) = &looked.after else {
         return false;

@@ -1,15 +1,16 @@
 //! What references to a member find (JVMS 5.4.3.2 to 5.4.3.4).
 ghost use Rattle.std.specs.Prelude.{◌≡◌, ◌<◌, None, IsTrue};
 ghost use Rattle.jc_facts.specs.client.Acts.{FieldForm, MethodForm, InterfaceForm};
+ghost use Rattle.jc_facts.specs.client.Forms.{form_view};
 ghost use Rattle.jc_facts.specs.world.World.{size};
 ghost use Rattle.jc_facts.specs.world.Loading.{load_fault};
 ghost use Rattle.jc_facts.specs.rule.Bases.{is_key_of_method};
 ghost use Rattle.jc_table.specs.Ids.{name_at};
 ghost use Rattle.jc_table.specs.Sides.{IsSide};
 ghost use Rattle.jc_acts.specs.steps.LookedUp.{LooksUp, IsInside};
-ghost use Rattle.jc_acts.specs.steps.References.{acts_of, form, MayName};
+ghost use Rattle.jc_acts.specs.steps.References.{acts_of, MayName};
 
-use jc_facts::act::Act;
+use jc_facts::act::{Act, Form};
 use jc_facts::flags::is_interface;
 use jc_facts::key::Key;
 use jc_facts::link_error::LinkError;
@@ -17,17 +18,6 @@ use jc_field::find::find_field;
 use jc_method::find::{find_interface_method, find_method};
 use jc_table::ids::{ClassId, Found};
 use jc_table::table::Table;
-
-/// The form of a reference to a member (JVMS 4.4.2).
-#[derive(Clone, Copy)]
-pub enum Reference {
-    /// To a field.
-    Field,
-    /// To a method of a class.
-    Method,
-    /// To a method of an interface.
-    InterfaceMethod,
-}
 
 /// What a reference finds on both sides, where it finds a member on the old one.
 #[derive(Drop)]
@@ -37,14 +27,14 @@ pub struct Looked {
     pub after: Result<Found, LinkError>,
 }
 
-/// The acts by such references that a rule looks at, in this order.
-pub fn acts(reference: Reference) -> &'static [Act]
-    ensures { result.now ≡ acts_of reference }
+/// The acts by references of the form that a rule looks at, in this order.
+pub fn acts(form: Form) -> &'static [Act]
+    ensures { result.now ≡ acts_of form }
 {
-    match reference {
-        Reference::Field => &[Act::GetStatic, Act::PutStatic, Act::GetField, Act::PutField],
-        Reference::Method => &[Act::InvokeVirtual, Act::InvokeStatic],
-        Reference::InterfaceMethod => &[Act::InvokeInterface, Act::InvokeStaticInterface],
+    match form {
+        Form::Field => &[Act::GetStatic, Act::PutStatic, Act::GetField, Act::PutField],
+        Form::Method => &[Act::InvokeVirtual, Act::InvokeStatic],
+        Form::Interface => &[Act::InvokeInterface, Act::InvokeStaticInterface],
     }
 }
 
@@ -97,23 +87,18 @@ fn look_up_interface_method(table: &Table, class: ClassId, key: &Key) -> Result<
     }
 }
 
-/// What such references to a key of the class find: a member, or the error of the lookup.
-pub fn look_up(
-    table: &Table,
-    reference: Reference,
-    class: ClassId,
-    key: &Key,
-) -> Result<Found, LinkError>
+/// What references of the form to a key of the class find: a member, or the error of the lookup.
+pub fn look_up(table: &Table, form: Form, class: ClassId, key: &Key) -> Result<Found, LinkError>
     requires side { IsSide table.now }
     requires class { class < size table.now }
     requires loads { load_fault table.now (name_at table.now class) ≡ None }
-    requires key { MayName (form reference) key.now }
-    ensures found { LooksUp table.now (name_at table.now class) key.now (form reference) result }
+    requires key { MayName (form_view form) key.now }
+    ensures found { LooksUp table.now (name_at table.now class) key.now (form_view form) result }
     ensures inside { IsInside table.now result }
 {
-    match reference {
-        Reference::Field => look_up_field(table, class, key),
-        Reference::Method => look_up_method(table, class, key),
-        Reference::InterfaceMethod => look_up_interface_method(table, class, key),
+    match form {
+        Form::Field => look_up_field(table, class, key),
+        Form::Method => look_up_method(table, class, key),
+        Form::Interface => look_up_interface_method(table, class, key),
     }
 }

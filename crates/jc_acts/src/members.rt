@@ -1,42 +1,44 @@
 //! The first act on a member that is closed to a seat now.
 ghost use Rattle.std.specs.Prelude.{IsTrue};
+ghost use Rattle.jc_facts.specs.client.Forms.{form_view};
 ghost use Rattle.jc_facts.specs.rule.OpenActs.{field_acts, method_acts};
 ghost use Rattle.jc_facts.specs.rule.Bases.{is_key_of_method, is_steady};
 ghost use Rattle.jc_sides.specs.SharedOf.{IsShared, name_of};
 ghost use Rattle.jc_acts.specs.ClosedActs.{IsFirstClosed};
 ghost use Rattle.jc_acts.specs.Seats.{AreSeats};
-ghost use Rattle.jc_acts.specs.steps.References.{acts_of, form, MayName};
+ghost use Rattle.jc_acts.specs.steps.References.{acts_of, MayName};
 
 use crate::asked::asked;
 use crate::closed_act::ClosedAct;
 use crate::closing::first_closed;
-use crate::lookup::{Looked, Reference, acts, look_up};
+use crate::lookup::{Looked, acts, look_up};
 use crate::seats::Seats;
+use jc_facts::act::Form;
 use jc_facts::key::Key;
 use jc_sides::shared::Shared;
 use jc_sides::sides::Sides;
 
-// The first act by such references that is closed to a seat now.
+// The first act by references of the form that is closed to a seat now.
 fn closed_by<'a>(
     sides: &Sides<'_>,
     seats: &Seats<'a>,
     class: &Shared<'_>,
-    reference: Reference,
+    form: Form,
     key: &Key,
 ) -> Option<ClosedAct<'a>>
     requires seats { AreSeats sides.now seats.now }
     requires class { IsShared sides.now «class».now }
     requires steady { IsTrue (is_steady sides.now.old sides.now.new (name_of «class».now)) }
-    requires key { MayName (form reference) key.now }
-    ensures { IsFirstClosed sides.now (name_of «class».now) key.now (acts_of reference) result }
+    requires key { MayName (form_view form) key.now }
+    ensures { IsFirstClosed sides.now (name_of «class».now) key.now (acts_of form) result }
 {
-    let Ok(before) = look_up(sides.old, reference, class.old, key) else {
+    let Ok(before) = look_up(sides.old, form, class.old, key) else {
         return None;
     };
-    let after = look_up(sides.new, reference, class.new, key);
+    let after = look_up(sides.new, form, class.new, key);
     let looked = Looked { before, after };
     let asked = asked(sides, seats, &looked);
-    first_closed(sides, class, &looked, acts(reference), asked)
+    first_closed(sides, class, &looked, acts(form), asked)
 }
 
 /// The first act on the field of the key, named through the steady class, that was open to a seat
@@ -53,7 +55,7 @@ pub fn field_closed<'a>(
     requires steady { IsTrue (is_steady sides.now.old sides.now.new (name_of «class».now)) }
     ensures { IsFirstClosed sides.now (name_of «class».now) key.now field_acts result }
 {
-    closed_by(sides, seats, class, Reference::Field, key)
+    closed_by(sides, seats, class, Form::Field, key)
 }
 
 /// The same of acts on the method of the key, which is no initializer's (JVMS 5.4.3.3, 5.4.3.4,
@@ -70,8 +72,8 @@ pub fn method_closed<'a>(
     requires key { IsTrue (is_key_of_method key.now) }
     ensures { IsFirstClosed sides.now (name_of «class».now) key.now method_acts result }
 {
-    match closed_by(sides, seats, class, Reference::Method, key) {
+    match closed_by(sides, seats, class, Form::Method, key) {
         Some(closed) => Some(closed),
-        None => closed_by(sides, seats, class, Reference::InterfaceMethod, key),
+        None => closed_by(sides, seats, class, Form::Interface, key),
     }
 }

@@ -3,7 +3,7 @@ ghost use Rattle.std.specs.Prelude.{◌≡◌, ◌<◌, None, IsTrue, map, optio
 ghost use Rattle.std.specs.List.{All};
 ghost use Rattle.jc_facts.specs.client.Acts.{form_of};
 ghost use Rattle.jc_facts.specs.world.Loading.{load_fault};
-ghost use Rattle.jc_facts.specs.rule.OpenActs.{act_fault as fault_of, field_acts, method_acts};
+ghost use Rattle.jc_facts.specs.rule.OpenActs.{act_fault, field_acts, method_acts};
 ghost use Rattle.jc_facts.specs.rule.Bases.{is_key_of_method, is_steady};
 ghost use Rattle.jc_facts.specs.world.World.{size};
 ghost use Rattle.jc_table.specs.Ids.{name_at};
@@ -12,10 +12,10 @@ ghost use Rattle.jc_sides.specs.SharedOf.{IsShared, name_of};
 ghost use Rattle.jc_acts.specs.ClosedActs.{IsFirstClosed};
 ghost use Rattle.jc_acts.specs.Seats.{AreSeats};
 ghost use Rattle.jc_acts.specs.steps.Firsts.{closed_on, first_at};
-ghost use Rattle.jc_acts.specs.steps.References.{form, MayName};
+ghost use Rattle.jc_acts.specs.steps.References.{MayName};
 
 use crate::closed_act::ClosedAct;
-use crate::lookup::{Reference, look_up};
+use crate::lookup::look_up;
 use crate::open::use_fault;
 use crate::seats::Seats;
 use jc_base::name::Name;
@@ -27,29 +27,16 @@ use jc_sides::sides::Sides;
 use jc_table::ids::ClassId;
 use jc_table::table::Table;
 
-// The form of the references of the act.
-fn reference_of(act: Act) -> Reference
-    ensures { form result ≡ form_of act }
-{
-    match act {
-        Act::GetStatic | Act::PutStatic | Act::GetField | Act::PutField => Reference::Field,
-        Act::InvokeInterface | Act::InvokeStaticInterface | Act::InvokeSpecialInterface => {
-            Reference::InterfaceMethod
-        }
-        _ => Reference::Method,
-    }
-}
-
 // The error of the act on one side, for clients with the seat.
-fn act_fault(table: &Table, seat: ClassId, class: ClassId, key: &Key, act: Act) -> Option<LinkError>
+fn fault_on(table: &Table, seat: ClassId, class: ClassId, key: &Key, act: Act) -> Option<LinkError>
     requires side { IsSide table.now }
     requires seat { seat < size table.now }
     requires class { class < size table.now }
     requires loads { load_fault table.now (name_at table.now class) ≡ None }
     requires key { MayName (form_of act) key.now }
-    ensures { result ≡ fault_of table.now (name_at table.now seat) (name_at table.now class) key.now act }
+    ensures { result ≡ act_fault table.now (name_at table.now seat) (name_at table.now class) key.now act }
 {
-    match look_up(table, reference_of(act), class, key) {
+    match look_up(table, act.form(), class, key) {
         Err(error) => Some(error),
         Ok(found) => use_fault(table, seat, class, act, found),
     }
@@ -69,9 +56,9 @@ fn closed_to(
     requires seat { IsShared sides.now seat.now }
     ensures { result ≡ closed_on sides.now (name_of «class».now) key.now act (name_of seat.now) }
 {
-    match act_fault(sides.old, seat.old, class.old, key, act) {
+    match fault_on(sides.old, seat.old, class.old, key, act) {
         Some(_) => None,
-        None => act_fault(sides.new, seat.new, class.new, key, act),
+        None => fault_on(sides.new, seat.new, class.new, key, act),
     }
 }
 

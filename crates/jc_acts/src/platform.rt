@@ -8,8 +8,7 @@ ghost use Rattle.jc_facts.specs.world.World.{size};
 ghost use Rattle.jc_facts.specs.world.Hierarchy.{in_chain};
 ghost use Rattle.jc_table.specs.Ids.{name_at, names};
 ghost use Rattle.jc_sides.specs.SharedOf.{IsShared, name_of};
-ghost use Rattle.jc_acts.specs.Seats.{is_below_any as below_any};
-ghost use Rattle.jc_acts.specs.steps.Platforms.{is_unreleased as unreleased, is_untouched as untouched, is_apart as apart, has_left as left_by, is_plain as plain, is_settled as settled};
+ghost use Rattle.jc_acts.specs.Platforms.{stands_below, of_no_release, of_neither_release, names_no_release, left_a_chain, is_plain_class, platform_settled};
 
 use crate::chains::has_above;
 use jc_base::name::Name;
@@ -23,7 +22,7 @@ use std::alloc::{AllocError, Global};
 
 // Whether the table's release doesn't declare the name.
 fn is_unreleased(table: &Table, name: &Name) -> bool
-    ensures { result ≡ unreleased table.now name.now }
+    ensures { result ≡ of_no_release table.now name.now }
 {
     match table.get(name.as_bytes()) {
         Some(class) => table.in_platform(class),
@@ -33,21 +32,21 @@ fn is_unreleased(table: &Table, name: &Name) -> bool
 
 // Whether neither release declares the name.
 fn is_untouched(sides: &Sides<'_>, name: &Name) -> bool
-    ensures { result ≡ untouched sides.now name.now }
+    ensures { result ≡ of_neither_release sides.now name.now }
 {
     is_unreleased(sides.old, name) && is_unreleased(sides.new, name)
 }
 
 // Whether neither release declares any of the names.
 fn are_untouched(sides: &Sides<'_>, names: &[Name]) -> bool
-    ensures { result ≡ list_all (untouched sides.now) names.now }
+    ensures { result ≡ list_all (of_neither_release sides.now) names.now }
 {
     names.iter().all(|name| is_untouched(sides, name))
 }
 
 // Whether the class names none above itself that a release declares.
 fn names_untouched(sides: &Sides<'_>, class: &ClassFacts) -> bool
-    ensures { result ≡ list_all (untouched sides.now) (supers «class».now) }
+    ensures { result ≡ list_all (of_neither_release sides.now) (supers «class».now) }
 {
     let interfaces = are_untouched(sides, class.interfaces.as_slice());
     match &class.superclass {
@@ -59,14 +58,14 @@ fn names_untouched(sides: &Sides<'_>, class: &ClassFacts) -> bool
 // Whether the class, where it is the platform's, names none above itself that a release declares.
 fn is_apart(sides: &Sides<'_>, id: ClassId) -> bool
     requires { id < size sides.now.old }
-    ensures { result ≡ apart sides.now (name_at sides.now.old id) }
+    ensures { result ≡ names_no_release sides.now (name_at sides.now.old id) }
 {
     !sides.old.in_platform(id) || names_untouched(sides, sides.old.facts(id))
 }
 
 // Whether this is so of all classes.
 fn are_apart(sides: &Sides<'_>) -> bool
-    ensures { result ≡ list_all (apart sides.now) (names sides.now.old) }
+    ensures { result ≡ list_all (names_no_release sides.now) (names sides.now.old) }
 {
     for n in 0..sides.old.count() {
         let id = sides.old.id(n).unwrap();
@@ -104,7 +103,7 @@ fn has_left_chain(sides: &Sides<'_>, seat: &Shared<'_>, id: ClassId) -> bool
 fn has_left(sides: &Sides<'_>, seats: &[Shared<'_>], id: ClassId) -> bool
     requires seats { All (IsShared sides.now) seats.now }
     requires class { id < size sides.now.old }
-    ensures { result ≡ left_by sides.now (map name_of seats.now) (name_at sides.now.old id) }
+    ensures { result ≡ left_a_chain sides.now (map name_of seats.now) (name_at sides.now.old id) }
 {
     sides.old.in_platform(id) && has_left_any(sides, seats, id)
 }
@@ -129,7 +128,7 @@ pub fn left_of(
 ) -> Result<Vec<ClassId>, AllocError>
     requires { All (IsShared sides.now) seats.now }
     ensures within { IfOk result (λ left. All (λ n. n < size sides.now.old) left.items) }
-    ensures exact { IfOk result (λ left. map (name_at sides.now.old) left.items ≡ filter (left_by sides.now (map name_of seats.now)) (names sides.now.old)) }
+    ensures exact { IfOk result (λ left. map (name_at sides.now.old) left.items ≡ filter (left_a_chain sides.now (map name_of seats.now)) (names sides.now.old)) }
 {
     let mut left = Vec::new(alloc);
     for n in 0..sides.old.count() {
@@ -149,7 +148,7 @@ fn is_root(name: &Name) -> bool
 // Whether the class is no interface, and isn't java/lang/Object.
 fn is_plain(table: &Table, id: ClassId) -> bool
     requires { id < size table.now }
-    ensures { result ≡ plain table.now (name_at table.now id) }
+    ensures { result ≡ is_plain_class table.now (name_at table.now id) }
 {
     let class = table.facts(id);
     !is_interface(class.flags) && !is_root(&class.name)
@@ -158,7 +157,7 @@ fn is_plain(table: &Table, id: ClassId) -> bool
 // Whether all of them are so.
 fn are_plain(table: &Table, ids: &[ClassId]) -> bool
     requires { All (λ n. n < size table.now) ids.now }
-    ensures { result ≡ list_all (plain table.now) (map (name_at table.now) ids.now) }
+    ensures { result ≡ list_all (is_plain_class table.now) (map (name_at table.now) ids.now) }
 {
     for id in ids {
         if !is_plain(table, *id) {
@@ -172,7 +171,7 @@ fn are_plain(table: &Table, ids: &[ClassId]) -> bool
 pub fn is_below_any(table: &Table, ids: &[ClassId], class: ClassId) -> bool
     requires ids { All (λ n. n < size table.now) ids.now }
     requires class { class < size table.now }
-    ensures { result ≡ below_any table.now (map (name_at table.now) ids.now) (name_at table.now class) }
+    ensures { result ≡ stands_below table.now (map (name_at table.now) ids.now) (name_at table.now class) }
 {
     for id in ids {
         if table.has_super(class, *id) {
@@ -186,7 +185,7 @@ pub fn is_below_any(table: &Table, ids: &[ClassId], class: ClassId) -> bool
 /// left some chain are plain classes.
 pub fn is_settled(sides: &Sides<'_>, left: &[ClassId]) -> bool
     requires { All (λ n. n < size sides.now.old) left.now }
-    ensures { result ≡ settled sides.now (map (name_at sides.now.old) left.now) }
+    ensures { result ≡ platform_settled sides.now (map (name_at sides.now.old) left.now) }
 {
     are_apart(sides) && are_plain(sides.old, left)
 }

@@ -6,7 +6,7 @@ ghost use Rattle.jc_facts.specs.world.World.{size};
 ghost use Rattle.jc_table.specs.Ids.{name_at};
 ghost use Rattle.jc_table.specs.Sides.{IsSide};
 ghost use Rattle.jc_sides.specs.SharedOf.{AreThose, IsShared, name_of};
-ghost use Rattle.jc_acts.specs.Seats.{AreSeats, has_lost as loses};
+ghost use Rattle.jc_acts.specs.Seats.{AreSeats, loses_class};
 
 use crate::chains::has_lost;
 use crate::platform::{is_below_any, is_settled, left_of};
@@ -25,7 +25,8 @@ pub struct Seats<'a> {
     pub(crate) shrunk: Vec<Shared<'a>>,
     // The classes of the platform that left one of their chains.
     left: Vec<ClassId>,
-    // Whether the platform's classes that stand below none of these have no closed act.
+    // Whether the platform's classes are settled: then those that stand below none of these have no
+    // closed act.
     settled: bool,
 }
 
@@ -70,7 +71,7 @@ fn shrunk_of<'a>(
     seats: &[Shared<'a>],
 ) -> Result<Vec<Shared<'a>>, AllocError>
     requires { All (IsShared sides.now) seats.now }
-    ensures { IfOk result (λ shrunk. shrunk.items ≡ filter (λ b. loses sides.now (name_of b)) seats.now) }
+    ensures { IfOk result (λ shrunk. shrunk.items ≡ filter (λ b. loses_class sides.now (name_of b)) seats.now) }
 {
     let mut shrunk = Vec::new(alloc);
     for seat in seats {
@@ -82,12 +83,11 @@ fn shrunk_of<'a>(
 }
 
 impl<'a> Seats<'a> {
-    ghost use Rattle.std.specs.Prelude.{◌≡◌, false, IsTrue, IfOk};
-    ghost use Rattle.jc_facts.specs.rule.Bases.{is_base_class, is_steady};
+    ghost use Rattle.std.specs.Prelude.{◌≡◌, IfOk};
+    ghost use Rattle.jc_facts.specs.rule.Bases.{is_base_class};
     ghost use Rattle.jc_sides.specs.SharedOf.{AreThose, IsShared, name_of};
     ghost use Rattle.jc_sides.specs.SidesOf.{SidesOf};
-    ghost use Rattle.jc_acts.specs.ClosedActs.{HasNoneClosed};
-    ghost use Rattle.jc_acts.specs.Seats.{AreSeats};
+    ghost use Rattle.jc_acts.specs.Seats.{AreSeats, may_be_closed};
 
     /// The seats that these base classes make, with `java/lang/Object`.
     pub fn new(
@@ -123,20 +123,15 @@ impl<'a> Seats<'a> {
         }
     }
 
-    /// Whether an act on a member of the steady class may be closed now to a seat that could do it.
-    /// Of most classes of the platform none is, whatever the key.
+    /// Whether an act on a member of the class may be closed now to a seat that could do it. Of most
+    /// classes of the platform none is, whatever the key.
     pub fn may_close(&self, sides: &Sides<'_>, class: &Shared<'_>) -> bool
         requires seats { AreSeats sides.now self.now }
         requires class { IsShared sides.now «class».now }
-        requires steady { IsTrue (is_steady sides.now.old sides.now.new (name_of «class».now)) }
-        ensures { result ≡ false → HasNoneClosed sides.now (name_of «class».now) }
+        ensures { result ≡ may_be_closed sides.now (name_of «class».now) }
     {
-        if !self.settled {
-            return true;
-        }
-        if !sides.old.in_platform(class.old) {
-            return true;
-        }
-        is_below_any(sides.old, self.left.as_slice(), class.old)
+        !self.settled
+            || !sides.old.in_platform(class.old)
+            || is_below_any(sides.old, self.left.as_slice(), class.old)
     }
 }

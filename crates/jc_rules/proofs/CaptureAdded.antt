@@ -9,21 +9,23 @@ use Rattle.jc_facts.specs.declared.verdict.Collision.{Collision}
 use Rattle.jc_facts.specs.rule.Collisions.{made_collision, collision_at, capture_added, captures, capture_error, are_none, leaves_room}
 use Rattle.jc_facts.specs.Flags.{public_flag, no_static_flag}
 use Rattle.jc_facts.specs.world.Hierarchy.{chain}
-use Rattle.jc_facts.specs.KeyOrder.{key_cmp}
 use Rattle.jc_facts.specs.world.Lookup.{first_declared, method_choices}
 use Rattle.jc_facts.specs.Names.{Bytes}
 use Rattle.jc_facts.specs.Options.{some_and, some_where}
 use Rattle.jc_facts.specs.rule.Orders.{collision_order}
-use Rattle.jc_facts.specs.Exactly.{HasExactly}
 use Rattle.jc_facts.specs.rule.Bases.{is_base_class, is_key_of_method}
 use Rattle.jc_facts.specs.world.World.{World, DeclaredMember}
 use Rattle.jc_lemmas.proofs.Listed.{none}
 use Rattle.jc_worlds.specs.Hierarchy.{above}
 use Rattle.jc_method.proofs.Declared.{first_is_declared}
-use Rattle.jc_sides.specs.Rules.{key_collision, IsCollision, HasEachKey, IsItemRule}
+use Rattle.jc_sides.specs.BrokenOf.{BrokenOf, broken_if, collided}
+use Rattle.jc_sides.specs.Members.{is_member, OfPassing}
+use Rattle.jc_sides.specs.declared.members.Members.TheVariants as members
+use Rattle.jc_sides.specs.Rules.{key_collision, IsCollision, IsItemRule}
+use Rattle.jc_sides.proofs.BrokenActs.{collided_where}
 use Rattle.jc_sides.specs.SidesOf.{SidesOf}
-use Rattle.jc_sides.proofs.BaseParts.{base_class_parts}
-use Rattle.jc_sides.proofs.ItemRules.{each_key, made_where, collision_rule}
+use Rattle.jc_sides.proofs.ItemRules.{made_where, collision_rule}
+use Rattle.jc_sides.proofs.NamedAbove.{class_unkept}
 use Rattle.jc_table.specs.Lookups.{IsAnswer, IsChoice, declare_method}
 use Rattle.jc_table.specs.declared.ids.Found.{Found}
 
@@ -80,12 +82,11 @@ tests false true n true r h = refl
 tests false true n false r h = refl
 tests m false n c r h = absurd (cc)
 
--- y is the class under its own name
-pub captured : (s : SidesOf) (x y : Bytes) (k : Key) (f : Found) (b : Bool) (e : LinkError) (o : Option Collision) → y ≡ x → is_base_class s.old s.new x ≡ true → IsAnswer s.new (Some f) (first_declared k (chain s.new x)) → b ≡ is_passed s.old x k f.flags
-    → e ≡ cond (public_flag f.flags) IncompatibleClassChangeError IllegalAccessError → o ≡ some_where b (made_collision 11 y k InvokeVirtual e) → o ≡ key_collision 11 s x k
+pub captured : (s : SidesOf) (x : Bytes) (k : Key) (f : Found) (b : Bool) (e : LinkError) (o : Option BrokenOf) → is_base_class s.old s.new x ≡ true → IsAnswer s.new (Some f) (first_declared k (chain s.new x)) → b ≡ is_passed s.old x k f.flags
+    → e ≡ cond (public_flag f.flags) IncompatibleClassChangeError IllegalAccessError → o ≡ broken_if b InvokeVirtual e → collided 11 x k o ≡ key_collision 11 s x k
 unfolding capture_of fails
-captured s x y k f b e o n base a t q r =
-    r ∙ ap (λ (z : Bytes). some_where b (made_collision 11 z k InvokeVirtual e)) n ∙ ap (λ (u : LinkError). some_where b (made_collision 11 x k InvokeVirtual u)) q ∙ ap (λ p. some_where p (made x k f.flags)) t ∙ sym (capture_is s x k ∙ go (first_declared k (chain s.new x)) a)
+captured s x k f b e o base a t q r =
+    ap (collided 11 x k) r ∙ collided_where 11 x k b InvokeVirtual e ∙ ap (λ (u : LinkError). some_where b (made_collision 11 x k InvokeVirtual u)) q ∙ ap (λ p. some_where p (made x k f.flags)) t ∙ sym (capture_is s x k ∙ go (first_declared k (chain s.new x)) a)
   where
     go : (m : Option DeclaredMember) → IsAnswer s.new (Some f) m → capture_of s x k m ≡ some_where (is_passed s.old x k f.flags) (made x k f.flags)
     go None h = absurd h
@@ -110,9 +111,9 @@ capture_parts s x k c h =
     record { base = e.1; declared = b.1 }
 
 -- the class, or one above it, declares the key
-pub capture_keys : (s : SidesOf) (x : Bytes) (keys : List Key) → HasExactly key_cmp (λ k. declare_method (above s.new x) k ≡ true) keys → HasEachKey (key_collision 11 s x) keys
+pub of_methods : (s : SidesOf) (x : Bytes) → OfPassing (key_collision 11 s x) (is_member members.NewMethods s x)
 unfolding captures
-capture_keys s x keys h = each_key (key_collision 11 s x) (λ k. declare_method (above s.new x) k ≡ true) keys h (λ k c e. at k (capture_parts s x k c e).declared)
+of_methods s x k c e = at k (capture_parts s x k c e).declared
   where
     go : (k : Key) (o : Option DeclaredMember) → first_declared k (chain s.new x) ≡ o → some_and (λ m. not (public_flag m.member.flags && no_static_flag m.member.flags)) o ≡ true → declare_method (above s.new x) k ≡ true
     go k None q h = absurd (cc)
@@ -122,4 +123,4 @@ capture_keys s x keys h = each_key (key_collision 11 s x) (λ k. declare_method 
     at k h = go k (first_declared k (chain s.new x)) refl h
 
 pub is_rule : IsItemRule collision_order (λ (c : Collision). c.«class») (key_collision 11) (IsCollision 11) (λ s x. is_base_class s.old s.new x)
-is_rule = collision_rule 11 (λ s x. is_base_class s.old s.new x) (λ s x b. (base_class_parts s x b).both.there) (λ s x k c e. (capture_parts s x k c e).base)
+is_rule = collision_rule 11 (λ s x. is_base_class s.old s.new x) class_unkept (λ s x k c e. (capture_parts s x k c e).base)

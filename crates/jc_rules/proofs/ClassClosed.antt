@@ -3,7 +3,6 @@ use Rattle.std.proofs.Common.{◌≡◌, Bool, false, cond, refl, sym, ◌∙◌
 use Rattle.jc_facts.specs.declared.act.Act.{Act}
 use Rattle.jc_facts.specs.declared.act.Act.TheVariants.{Extend, Implement}
 use Rattle.jc_facts.specs.declared.class_facts.ClassFacts.{ClassFacts}
-use Rattle.jc_facts.specs.declared.finding.Finding.{Finding}
 use Rattle.jc_facts.specs.declared.link_error.LinkError.TheVariants.{IncompatibleClassChangeError}
 use Rattle.jc_facts.specs.world.Assignment.{is_interface_of}
 use Rattle.jc_facts.specs.rule.Findings.{finding_at, class_closed, report_where}
@@ -11,8 +10,10 @@ use Rattle.jc_facts.specs.Flags.{interface_flag}
 use Rattle.jc_facts.specs.Names.{Bytes}
 use Rattle.jc_facts.specs.rule.Bases.{is_kept, is_class_closed}
 use Rattle.jc_facts.specs.world.World.{find_class}
+use Rattle.jc_sides.specs.BrokenOf.{BrokenOf, broken_if, found}
 use Rattle.jc_sides.specs.Rules.{on_class, class_finding}
 use Rattle.jc_sides.specs.SidesOf.{SidesOf}
+use Rattle.jc_sides.proofs.BrokenActs.{found_where}
 use Rattle.jc_sides.proofs.NamedAbove.{closed_unkept}
 
 -- how clients name the class above themselves
@@ -31,8 +32,8 @@ unfolding act_on
 act_is s x c f = rw (← f) refl
 
 -- y is the class under its own name
-pub closed : (s : SidesOf) (x y : Bytes) (b : Bool) (c : ClassFacts) (a : Act) (o : Option Finding) → y ≡ x → b ≡ is_class_closed s.old s.new y → Some c ≡ find_class s.old y → a ≡ cond (interface_flag c.flags) Implement Extend
-    → o ≡ report_where b (on_class 2 y) a IncompatibleClassChangeError → o ≡ class_finding 2 s x
+pub closed : (s : SidesOf) (x y : Bytes) (b : Bool) (c : ClassFacts) (a : Act) (o : Option BrokenOf) → y ≡ x → b ≡ is_class_closed s.old s.new y → Some c ≡ find_class s.old y → a ≡ cond (interface_flag c.flags) Implement Extend
+    → o ≡ broken_if b a IncompatibleClassChangeError → found (on_class 2 x) o ≡ class_finding 2 s x
 closed s x y b c a o n e f q r =
-    r ∙ ap (λ p. report_where p (on_class 2 y) a IncompatibleClassChangeError) e ∙ ap (λ (w : Act). report_where (is_class_closed s.old s.new y) (on_class 2 y) w IncompatibleClassChangeError) (q ∙ act_is s y c f) ∙ sym (closed_is s y)
-    ∙ ap (class_finding 2 s) n
+    ap (found (on_class 2 x)) r ∙ found_where (on_class 2 x) b a IncompatibleClassChangeError ∙ ap (λ p. report_where p (on_class 2 x) a IncompatibleClassChangeError) (e ∙ ap (is_class_closed s.old s.new) n)
+    ∙ ap (λ (w : Act). report_where (is_class_closed s.old s.new x) (on_class 2 x) w IncompatibleClassChangeError) (q ∙ act_is s x c (f ∙ ap (find_class s.old) n)) ∙ sym (closed_is s x)

@@ -1,8 +1,7 @@
 -- Why clients can't use a class, and what the rule on classes that are gone finds.
-use Rattle.std.proofs.Common.{◌≡◌, Bool, true, false, cond, refl, sym, ◌∙◌, ap, Option, Some, None, is_some, not, ◌&&◌}
+use Rattle.std.proofs.Common.{◌≡◌, ℕ, Bool, true, false, cond, refl, sym, ◌∙◌, ap, subst, Option, Some, None, is_some, not, ◌&&◌}
 use Rattle.jc_facts.specs.declared.act.Act.TheVariants.{ClassRef}
 use Rattle.jc_facts.specs.declared.class_facts.ClassFacts.{ClassFacts}
-use Rattle.jc_facts.specs.declared.finding.Finding.{Finding}
 use Rattle.jc_facts.specs.declared.link_error.LinkError.{LinkError}
 use Rattle.jc_facts.specs.declared.link_error.LinkError.TheVariants.{NoClassDefFoundError, ClassCircularityError, IllegalAccessError}
 use Rattle.jc_facts.specs.rule.Findings.{gone_error, fault_or, finding_at, class_gone, report_where}
@@ -13,23 +12,25 @@ use Rattle.jc_facts.specs.Options.{some_and}
 use Rattle.jc_facts.specs.rule.Bases.{is_class_usable}
 use Rattle.jc_facts.specs.world.World.{World, find_class, size}
 use Rattle.jc_worlds.proofs.Descent.{descend-absent}
-use Rattle.jc_rules.specs.steps.Classes.{unusable}
+use Rattle.jc_rules.specs.steps.Classes.{why_unusable}
+use Rattle.jc_sides.specs.BrokenOf.{BrokenOf, broken_if, found}
 use Rattle.jc_sides.specs.Rules.{on_class, class_finding}
 use Rattle.jc_sides.specs.SidesOf.{SidesOf}
-use Rattle.jc_table.specs.Ids.{id_of}
+use Rattle.jc_sides.proofs.BrokenActs.{found_where}
+use Rattle.jc_table.specs.Ids.{id_of, name_at}
 use Rattle.jc_table.proofs.Numbers.{find-None}
 
 -- ---- why a class can't be used
 
 module _ (W : World) (x : Bytes) where
-  pub absent : id_of W x ≡ None → unusable W x ≡ Some NoClassDefFoundError
+  pub absent : id_of W x ≡ None → why_unusable W x ≡ Some NoClassDefFoundError
   unfolding is_class_usable gone_error load_fault
   absent h =
       let a : find_class W x ≡ None = find-None W x h in
       let l : load_fault W x ≡ Some NoClassDefFoundError = descend-absent W (Some NoClassDefFoundError) (Some ClassCircularityError) (load_step W) (size W) x a in
       rw a (ap (λ o. Some (fault_or IllegalAccessError o)) l)
 
-  pub unloaded : (e : LinkError) → load_fault W x ≡ Some e → unusable W x ≡ Some e
+  pub unloaded : (e : LinkError) → load_fault W x ≡ Some e → why_unusable W x ≡ Some e
   unfolding is_class_usable gone_error
   unloaded e h = rw h (go (some_and (λ c. public_flag c.flags) (find_class W x)))
     where
@@ -37,11 +38,11 @@ module _ (W : World) (x : Bytes) where
       go true = refl
       go false = refl
 
-  pub hidden : (c : ClassFacts) → Some c ≡ find_class W x → load_fault W x ≡ None → public_flag c.flags ≡ false → unusable W x ≡ Some IllegalAccessError
+  pub hidden : (c : ClassFacts) → Some c ≡ find_class W x → load_fault W x ≡ None → public_flag c.flags ≡ false → why_unusable W x ≡ Some IllegalAccessError
   unfolding is_class_usable gone_error
   hidden c f l p = let g : find_class W x ≡ Some c = sym f in rw (g, l, p) refl
 
-  pub usable : (c : ClassFacts) → Some c ≡ find_class W x → load_fault W x ≡ None → public_flag c.flags ≡ true → unusable W x ≡ None
+  pub usable : (c : ClassFacts) → Some c ≡ find_class W x → load_fault W x ≡ None → public_flag c.flags ≡ true → why_unusable W x ≡ None
   unfolding is_class_usable gone_error
   usable c f l p = let g : find_class W x ≡ Some c = sym f in rw (g, l, p) refl
 
@@ -52,7 +53,7 @@ module _ (s : SidesOf) (x : Bytes) where
   unfolding class_finding finding_at class_gone
   gone_is = refl
 
-  pub still : None ≡ unusable s.new x → None ≡ class_finding 1 s x
+  pub still : None ≡ why_unusable s.new x → None ≡ class_finding 1 s x
   still h = sym (gone_is ∙ go (is_class_usable s.old x) (is_class_usable s.new x) (sym h))
     where
       go : (a b : Bool) → cond b None (Some (gone_error s.new x)) ≡ None → report_where (a && not b) (on_class 1 x) ClassRef (gone_error s.new x) ≡ None
@@ -60,10 +61,15 @@ module _ (s : SidesOf) (x : Bytes) where
       go false true h = refl
       go a false h = absurd (cc)
 
-  pub gone : (was : Bool) (e : LinkError) (o : Option Finding) → was ≡ is_class_usable s.old x → Some e ≡ unusable s.new x → o ≡ report_where was (on_class 1 x) ClassRef e → o ≡ class_finding 1 s x
-  gone was e o u h r = r ∙ ap (λ b. report_where b (on_class 1 x) ClassRef e) u ∙ sym (gone_is ∙ go (is_class_usable s.old x) (is_class_usable s.new x) (sym h))
+  pub gone : (was : Bool) (e : LinkError) (o : Option BrokenOf) → was ≡ is_class_usable s.old x → Some e ≡ why_unusable s.new x → o ≡ broken_if was ClassRef e → found (on_class 1 x) o ≡ class_finding 1 s x
+  gone was e o u h r =
+      ap (found (on_class 1 x)) r ∙ found_where (on_class 1 x) was ClassRef e ∙ ap (λ b. report_where b (on_class 1 x) ClassRef e) u ∙ sym (gone_is ∙ go (is_class_usable s.old x) (is_class_usable s.new x) (sym h))
     where
       go : (a b : Bool) → cond b None (Some (gone_error s.new x)) ≡ Some e → report_where (a && not b) (on_class 1 x) ClassRef (gone_error s.new x) ≡ report_where a (on_class 1 x) ClassRef e
       go a true h = absurd (cc)
       go true false h = let k : gone_error s.new x ≡ e = cc in ap (report_where true (on_class 1 x) ClassRef) k
       go false false h = refl
+
+-- what is found of the two sides' tables is found of the sides
+pub seen : (n : ℕ) (t s : SidesOf) → t ≡ s → (o : Option BrokenOf) → found (on_class 1 (name_at t.old n)) o ≡ class_finding 1 t (name_at t.old n) → found (on_class 1 (name_at s.old n)) o ≡ class_finding 1 s (name_at s.old n)
+seen n t s v o e = subst (λ (w : SidesOf). found (on_class 1 (name_at w.old n)) o ≡ class_finding 1 w (name_at w.old n)) v e

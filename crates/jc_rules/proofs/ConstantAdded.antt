@@ -6,22 +6,24 @@ use Rattle.jc_facts.specs.declared.key.Key.{Key}
 use Rattle.jc_facts.specs.declared.link_error.LinkError.TheVariants.{IncompatibleClassChangeError}
 use Rattle.jc_facts.specs.declared.verdict.Collision.{Collision}
 use Rattle.jc_facts.specs.rule.Collisions.{made_collision, collision_at, constant_added}
-use Rattle.jc_facts.specs.KeyOrder.{key_cmp}
 use Rattle.jc_facts.specs.world.Lookup.{field_found}
 use Rattle.jc_facts.specs.Names.{Bytes}
 use Rattle.jc_facts.specs.Options.{some_where}
 use Rattle.jc_facts.specs.rule.Orders.{collision_order}
-use Rattle.jc_facts.specs.Exactly.{HasExactly}
 use Rattle.jc_facts.specs.rule.Bases.{is_base_interface}
 use Rattle.jc_facts.specs.world.World.{World, DeclaredMember}
 use Rattle.jc_field.proofs.Declared.{found_is_declared}
 use Rattle.jc_worlds.specs.Hierarchy.{above}
-use Rattle.jc_sides.specs.Rules.{key_collision, IsCollision, HasEachKey, IsItemRule}
-use Rattle.jc_sides.specs.SidesOf.{SidesOf}
+use Rattle.jc_sides.specs.BrokenOf.{BrokenOf, broken_if, collided}
+use Rattle.jc_sides.specs.Members.{is_member, OfPassing}
+use Rattle.jc_sides.specs.declared.members.Members.TheVariants as members
+use Rattle.jc_sides.specs.Rules.{key_collision, IsCollision, IsItemRule}
+use Rattle.jc_sides.specs.SidesOf.{SidesOf, AreSides}
+use Rattle.jc_sides.proofs.BrokenActs.{collided_where}
 use Rattle.jc_sides.proofs.BaseParts.{base_interface_parts}
-use Rattle.jc_sides.proofs.ItemRules.{each_key, made_where, collision_rule}
+use Rattle.jc_sides.proofs.ItemRules.{made_where, collision_rule}
+use Rattle.jc_sides.proofs.NamedAbove.{interface_unkept}
 use Rattle.jc_table.specs.Lookups.{IsAnswer, declare_field}
-use Rattle.jc_table.specs.Sides.{IsSide}
 use Rattle.jc_table.specs.declared.ids.Found.{Found}
 
 -- the table's lookup finds something where the world's does
@@ -35,9 +37,9 @@ constant_is : (s : SidesOf) (x : Bytes) (k : Key) → key_collision 10 s x k ≡
 unfolding collision_at
 constant_is s x k = refl
 
--- y is the interface under its own name
-pub constant : (s : SidesOf) (x y : Bytes) (k : Key) (b : Bool) (o : Option Collision) → y ≡ x → b ≡ constant_added s.old s.new x k → o ≡ some_where b (made_collision 10 y k GetField IncompatibleClassChangeError) → o ≡ key_collision 10 s x k
-constant s x y k b o n e r = r ∙ ap (λ (z : Bytes). some_where b (made_collision 10 z k GetField IncompatibleClassChangeError)) n ∙ ap (λ p. some_where p (made_collision 10 x k GetField IncompatibleClassChangeError)) e ∙ sym (constant_is s x k)
+pub constant : (s : SidesOf) (x : Bytes) (k : Key) (b : Bool) (o : Option BrokenOf) → b ≡ constant_added s.old s.new x k → o ≡ broken_if b GetField IncompatibleClassChangeError → collided 10 x k o ≡ key_collision 10 s x k
+constant s x k b o e r =
+    ap (collided 10 x k) r ∙ collided_where 10 x k b GetField IncompatibleClassChangeError ∙ ap (λ p. some_where p (made_collision 10 x k GetField IncompatibleClassChangeError)) e ∙ sym (constant_is s x k)
 
 -- ---- as the code tests it
 
@@ -80,12 +82,12 @@ constant_parts s x k c h =
     record { base = (and_parts (is_base_interface s.old s.new x) (is_none (field_found s.old x k)) a.0).0; found = a.1 }
 
 -- the interface, or one above it, declares the key
-pub constant_keys : (s : SidesOf) (x : Bytes) → IsSide s.new → is_base_interface s.old s.new x ≡ true → (keys : List Key) → HasExactly key_cmp (λ k. declare_field (above s.new x) k ≡ true) keys → HasEachKey (key_collision 10 s x) keys
-constant_keys s x side base keys h = each_key (key_collision 10 s x) (λ k. declare_field (above s.new x) k ≡ true) keys h (λ k c e. go k (field_found s.new x k) refl (constant_parts s x k c e).found)
+pub of_fields : (s : SidesOf) (x : Bytes) → AreSides s → is_base_interface s.old s.new x ≡ true → OfPassing (key_collision 10 s x) (is_member members.NewFields s x)
+of_fields s x are base k c e = go k (field_found s.new x k) refl (constant_parts s x k c e).found
   where
     go : (k : Key) (o : Option DeclaredMember) → field_found s.new x k ≡ o → is_some o ≡ true → declare_field (above s.new x) k ≡ true
     go k None q h = absurd (cc)
-    go k (Some m) q h = found_is_declared s.new side x k m q (base_interface_parts s x base).both.loads_now
+    go k (Some m) q h = found_is_declared s.new are.new_side x k m q (base_interface_parts s x base).both.loads_now
 
 pub is_rule : IsItemRule collision_order (λ (c : Collision). c.«class») (key_collision 10) (IsCollision 10) (λ s x. is_base_interface s.old s.new x)
-is_rule = collision_rule 10 (λ s x. is_base_interface s.old s.new x) (λ s x b. (base_interface_parts s x b).both.there) (λ s x k c e. (constant_parts s x k c e).base)
+is_rule = collision_rule 10 (λ s x. is_base_interface s.old s.new x) interface_unkept (λ s x k c e. (constant_parts s x k c e).base)

@@ -1,6 +1,5 @@
 -- What the rule on constructors finds, of a class's two records.
 use Rattle.std.proofs.Common.{◌≡◌, Bool, true, false, cond, not, ◌&&◌, List, refl, sym, ◌∙◌, ap, Option, Some, None}
-use Rattle.std.specs.BTreeSet as sorted
 use Rattle.std.proofs.lemmas.Bool.{and_parts}
 use Rattle.jc_facts.specs.declared.act.Act.{Act}
 use Rattle.jc_facts.specs.declared.act.Act.TheVariants as act
@@ -23,13 +22,17 @@ use Rattle.jc_worlds.proofs.Inherited.{found_passes}
 use Rattle.jc_sound.proofs.Standing.{usable_parts}
 use Rattle.jc_sound.proofs.UsableLaw.{Needs, or_else_needs, and_then_needs}
 use Rattle.jc_lemmas.proofs.Bools.{both_last}
-use Rattle.jc_rules.specs.steps.Constructors.{is_uninstantiable, declares_init, new_fault, super_fault}
-use Rattle.jc_rules.specs.steps.Keys.{HasEach, has_member}
-use Rattle.jc_rules.proofs.KeySets.{some_member, set_keys}
-use Rattle.jc_sides.specs.Rules.{on_key, key_finding, IsFinding, HasEachKey, IsItemRule}
+use Rattle.jc_rules.specs.steps.Constructors.{makes_no_objects, declares_init, fault_of_new, fault_of_super}
+use Rattle.jc_sides.specs.BrokenOf.{BrokenOf, broken_if, found}
+use Rattle.jc_sides.specs.Members.{is_member, OfPassing}
+use Rattle.jc_sides.specs.steps.KeySets.{has_member}
+use Rattle.jc_sides.specs.declared.members.Members.TheVariants as members
+use Rattle.jc_sides.specs.Rules.{on_key, key_finding, IsFinding, IsItemRule}
+use Rattle.jc_sides.proofs.BrokenActs.{found_where}
+use Rattle.jc_sides.proofs.KeySets.{some_member}
 use Rattle.jc_sides.specs.SidesOf.{SidesOf}
 use Rattle.jc_sides.proofs.ItemRules.{finding_rule}
-use Rattle.jc_sides.proofs.NamedAbove.{class_unsteady}
+use Rattle.jc_sides.proofs.NamedAbove.{class_unsteady, steady_unkept}
 use Rattle.jc_sides.proofs.Subjects.{IsOnKey}
 
 abbrev on_5 : IsOnKey 5
@@ -75,7 +78,7 @@ super_none on true false o q = refl
 super_none on false h o q = refl
 
 module _ (s : SidesOf) (x : Bytes) (c d : ClassFacts) (before : Some c ≡ find_class s.old x) (after : Some d ≡ find_class s.new x) (steady : is_steady s.old s.new x ≡ true) (k : Key) where
-  new_is : new_broken s.old s.new x k ≡ new_fault c d k
+  new_is : new_broken s.old s.new x k ≡ fault_of_new c d k
   unfolding and_then
   new_is = rw (steady, ← before, ← after, key_named (λ m. public_flag m.flags) c k) refl
 
@@ -83,21 +86,20 @@ module _ (s : SidesOf) (x : Bytes) (c d : ClassFacts) (before : Some c ≡ find_
   unfolding and_then
   super_is = rw (← before, ← after, key_named public_or_protected c k) refl
 
-  finding_is : key_finding 5 s x k ≡ or_else (and_then (report (on_key 5 x k) act.NewObject None) (new_fault c d k)) (and_then (report (on_key 5 x k) act.InitSuper None) (cond (is_base_class s.old s.new x && declares_init public_or_protected c k) (super_error d k) None))
+  finding_is : key_finding 5 s x k ≡ or_else (and_then (report (on_key 5 x k) act.NewObject None) (fault_of_new c d k)) (and_then (report (on_key 5 x k) act.InitSuper None) (cond (is_base_class s.old s.new x && declares_init public_or_protected c k) (super_error d k) None))
   finding_is = init_is s x k ∙ rw (new_is, super_is) refl
 
-  -- y is the class under its own name
-  pub found_new : (y : Bytes) (e : LinkError) (o : Option Finding) → y ≡ x → Some e ≡ new_fault c d k → o ≡ report_where true (on_key 5 y k) act.NewObject e → o ≡ key_finding 5 s x k
+  pub found_new : (e : LinkError) (o : Option BrokenOf) → Some e ≡ fault_of_new c d k → o ≡ broken_if true act.NewObject e → found (on_key 5 x k) o ≡ key_finding 5 s x k
   unfolding and_then or_else
-  found_new y e o n h r = r ∙ ap (λ (z : Bytes). report_where true (on_key 5 z k) act.NewObject e) n ∙ sym (finding_is ∙ rw (← h) refl)
+  found_new e o h r = ap (found (on_key 5 x k)) r ∙ sym (finding_is ∙ rw (← h) refl)
 
-  pub found_super : (y : Bytes) (b : Bool) (e : LinkError) (o : Option Finding) → y ≡ x → None ≡ new_fault c d k → Some e ≡ super_fault c d k → b ≡ is_base_class s.old s.new x → o ≡ report_where b (on_key 5 y k) act.InitSuper e → o ≡ key_finding 5 s x k
+  pub found_super : (b : Bool) (e : LinkError) (o : Option BrokenOf) → None ≡ fault_of_new c d k → Some e ≡ fault_of_super c d k → b ≡ is_base_class s.old s.new x → o ≡ broken_if b act.InitSuper e → found (on_key 5 x k) o ≡ key_finding 5 s x k
   unfolding and_then or_else
-  found_super y b e o n h g q r =
-      r ∙ ap (λ (z : Bytes). report_where b (on_key 5 z k) act.InitSuper e) n ∙ ap (λ p. report_where p (on_key 5 x k) act.InitSuper e) q
+  found_super b e o h g q r =
+      ap (found (on_key 5 x k)) r ∙ found_where (on_key 5 x k) b act.InitSuper e ∙ ap (λ p. report_where p (on_key 5 x k) act.InitSuper e) q
       ∙ sym (finding_is ∙ rw (← h) (super_some (on_key 5 x k) (is_base_class s.old s.new x) (declares_init public_or_protected c k) (super_error d k) e (sym g)))
 
-  pub found_none : None ≡ new_fault c d k → None ≡ super_fault c d k → None ≡ key_finding 5 s x k
+  pub found_none : None ≡ fault_of_new c d k → None ≡ fault_of_super c d k → None ≡ key_finding 5 s x k
   unfolding and_then or_else
   found_none h g = sym (finding_is ∙ rw (← h) (super_none (on_key 5 x k) (is_base_class s.old s.new x) (declares_init public_or_protected c k) (super_error d k) (sym g)))
 
@@ -113,19 +115,20 @@ module _ (s : SidesOf) (x : Bytes) (c d : ClassFacts) (before : Some c ≡ find_
   unfolding Needs
   init_declared f h =
       or_else_needs (has_member (λ m. is_init_name m.name) c.methods k ≡ true) _ _
-      (and_then_needs (has_member (λ m. is_init_name m.name) c.methods k ≡ true) (report (on_key 5 x k) act.NewObject None) (not (is_uninstantiable c) && declares_init (λ m. public_flag m.flags) c k) _ (λ e. declared (λ m. public_flag m.flags) (both_last (not (is_uninstantiable c)) (declares_init (λ m. public_flag m.flags) c k) e)))
+      (and_then_needs (has_member (λ m. is_init_name m.name) c.methods k ≡ true) (report (on_key 5 x k) act.NewObject None) (not (makes_no_objects c) && declares_init (λ m. public_flag m.flags) c k) _ (λ e. declared (λ m. public_flag m.flags) (both_last (not (makes_no_objects c)) (declares_init (λ m. public_flag m.flags) c k) e)))
       (and_then_needs (has_member (λ m. is_init_name m.name) c.methods k ≡ true) (report (on_key 5 x k) act.InitSuper None) (is_base_class s.old s.new x && declares_init public_or_protected c k) _ (λ e. declared public_or_protected (both_last (is_base_class s.old s.new x) (declares_init public_or_protected c k) e)))
       f (sym finding_is ∙ h)
 
 -- ---- where it stands
 
-pub init_keys : (s : SidesOf) (x : Bytes) (c : ClassFacts) → Some c ≡ find_class s.old x → is_steady s.old s.new x ≡ true → (set : sorted.BTreeSet Key) (keys : List Key) → HasEach (has_member (λ m. is_init_name m.name) c.methods) set → keys ≡ set.keys
-    → HasEachKey (key_finding 5 s x) keys
+pub of_inits : (s : SidesOf) (x : Bytes) → is_steady s.old s.new x ≡ true → OfPassing (key_finding 5 s x) (is_member members.OldInitializers s x)
 unfolding is_steady is_kept
-init_keys s x c before steady set keys h e =
-    let k = and_parts (is_class_usable s.old x && is_class_usable s.new x) (not (became_class s.old s.new x)) steady in
-    let d = usable_parts s.new x (and_parts (is_class_usable s.old x) (is_class_usable s.new x) k.0).1 in
-    set_keys (key_finding 5 s x) (has_member (λ m. is_init_name m.name) c.methods) set keys h e (λ k f m. init_declared s x c d.class before (sym d.is_there) steady k f m)
+of_inits s x steady k f m =
+    let p = and_parts (is_class_usable s.old x && is_class_usable s.new x) (not (became_class s.old s.new x)) steady in
+    let q = and_parts (is_class_usable s.old x) (is_class_usable s.new x) p.0 in
+    let c = usable_parts s.old x q.0 in
+    let d = usable_parts s.new x q.1 in
+    ap (some_and (λ (e : ClassFacts). has_member (λ n. is_init_name n.name) e.methods k)) c.is_there ∙ init_declared s x c.class d.class (sym c.is_there) (sym d.is_there) steady k f m
 
 not_found : (s : SidesOf) (x : Bytes) (k : Key) → is_steady s.old s.new x ≡ false → key_finding 5 s x k ≡ None
 unfolding and_then or_else
@@ -139,4 +142,4 @@ steady_where s x k f h = go (is_steady s.old s.new x) refl
     go false e = absurd (let z : None ≡ Some f = sym (not_found s x k e) ∙ h in cc)
 
 pub is_rule : IsItemRule finding_order (λ (f : Finding). f.«class») (key_finding 5) (IsFinding 5) (λ s x. is_steady s.old s.new x)
-is_rule = finding_rule 5 on_5 (λ s x. is_steady s.old s.new x) steady_where
+is_rule = finding_rule 5 on_5 (λ s x. is_steady s.old s.new x) steady_unkept steady_where

@@ -6,21 +6,22 @@ use Rattle.jc_facts.specs.declared.finding.Finding.{Finding}
 use Rattle.jc_facts.specs.declared.key.Key.{Key}
 use Rattle.jc_facts.specs.client.Acts.{FieldForm, form_of}
 use Rattle.jc_facts.specs.rule.Findings.{finding_at, first_act, field_closed}
-use Rattle.jc_facts.specs.KeyOrder.{key_cmp}
 use Rattle.jc_facts.specs.Names.{Bytes}
 use Rattle.jc_facts.specs.rule.Orders.{finding_order}
-use Rattle.jc_facts.specs.Exactly.{Rises, HasExactly}
 use Rattle.jc_facts.specs.rule.OpenActs.{act_fault, field_acts}
 use Rattle.jc_facts.specs.rule.Bases.{is_steady}
 use Rattle.jc_field.proofs.Declared.{found_is_declared}
 use Rattle.jc_worlds.specs.Hierarchy.{above}
 use Rattle.jc_sound.proofs.Looked.{looked, look_up-takes}
-use Rattle.jc_sides.specs.Rules.{on_key, key_finding, IsFinding, HasEachKey, IsItemRule}
+use Rattle.jc_sides.specs.BrokenOf.{BrokenOf, found}
+use Rattle.jc_sides.specs.Members.{is_member, OfPassing}
+use Rattle.jc_sides.specs.declared.members.Members.TheVariants as members
+use Rattle.jc_sides.specs.Rules.{on_key, key_finding, IsFinding, IsItemRule}
 use Rattle.jc_sides.specs.SidesOf.{SidesOf}
 use Rattle.jc_sides.proofs.BaseParts.{steady_parts}
-use Rattle.jc_sides.proofs.ItemRules.{each_key, finding_rule}
+use Rattle.jc_sides.proofs.ItemRules.{finding_rule}
+use Rattle.jc_sides.proofs.NamedAbove.{steady_unkept}
 use Rattle.jc_sides.proofs.Subjects.{IsOnKey}
-use Rattle.jc_table.specs.Lookups.{declare_field}
 use Rattle.jc_table.specs.Sides.{IsSide}
 use Rattle.jc_rules.proofs.ClosedActs.{found_open}
 
@@ -28,27 +29,20 @@ closed_is : (s : SidesOf) (x : Bytes) (k : Key) → is_steady s.old s.new x ≡ 
 unfolding key_finding finding_at field_closed
 closed_is s x k h = rw h refl
 
--- y is the class under its own name
-pub closed : (s : SidesOf) (x y : Bytes) (k : Key) (act : Option ClosedAct) (o : Option Finding) → y ≡ x → is_steady s.old s.new x ≡ true → IsFirstClosed s x k field_acts act → o ≡ reported (on_key 7 y k) act → o ≡ key_finding 7 s x k
-closed s x y k act o n steady first r = r ∙ ap (λ (z : Bytes). reported (on_key 7 z k) act) n ∙ sym (closed_is s x k steady ∙ first (on_key 7 x k) refl)
+pub closed : (s : SidesOf) (x : Bytes) (k : Key) (act : Option ClosedAct) (o : Option BrokenOf) → is_steady s.old s.new x ≡ true → IsFirstClosed s x k field_acts act → found (on_key 7 x k) o ≡ reported (on_key 7 x k) act → found (on_key 7 x k) o ≡ key_finding 7 s x k
+closed s x k act o steady first r = r ∙ sym (closed_is s x k steady ∙ first (on_key 7 x k) refl)
 
--- no key is asked of a class that has none closed
-pub no_keys : (s : SidesOf) (x : Bytes) (keys : List Key) → is_steady s.old s.new x ≡ true → HasNoneClosed s x → keys ≡ [] → HasEachKey (key_finding 7 s x) keys
-unfolding Rises
-no_keys s x keys steady never e =
-    subst (HasEachKey (key_finding 7 s x)) (sym e)
-    (record { in_order = tt; each = λ k f m. absurd (let z : None ≡ Some f = sym (closed_is s x k steady ∙ never k field_acts (on_key 7 x k) refl) ∙ m in cc) })
+-- a class that has none closed has no finding
+pub of_none : (s : SidesOf) (x : Bytes) → is_steady s.old s.new x ≡ true → HasNoneClosed s x → OfPassing (key_finding 7 s x) (is_member members.Nothing s x)
+of_none s x steady never k f m = absurd (let z : None ≡ Some f = sym (closed_is s x k steady ∙ never k field_acts (on_key 7 x k) refl) ∙ m in cc)
 
 -- the class, or one above it, declared the key
-pub keys_of : (s : SidesOf) → IsSide s.old → (x : Bytes) → is_steady s.old s.new x ≡ true → (keys : List Key) → HasExactly key_cmp (λ k. declare_field (above s.old x) k ≡ true) keys → HasEachKey (key_finding 7 s x) keys
+pub of_fields : (s : SidesOf) → IsSide s.old → (x : Bytes) → is_steady s.old s.new x ≡ true → OfPassing (key_finding 7 s x) (is_member members.OldFields s x)
 unfolding act_fault looked
-keys_of s side x steady keys h = each_key (key_finding 7 s x) (λ k. declare_field (above s.old x) k ≡ true) keys h declared
-  where
-    declared : (k : Key) (f : Finding) → key_finding 7 s x k ≡ Some f → declare_field (above s.old x) k ≡ true
-    declared k f e =
-        let w = found_open s (on_key 7 x k) k field_acts (λ what. form_of what ≡ FieldForm) (refl, (refl, (refl, (refl, tt)))) f (sym (closed_is s x k steady) ∙ e) in
-        let t = look_up-takes s.old (form_of w.act) x k _ w.open_to in
-        found_is_declared s.old side x k t.found (sym (ap (λ form. looked s.old form x k) w.is_one) ∙ t.taken) (steady_parts s x steady).both.loads
+of_fields s side x steady k f e =
+    let w = found_open s (on_key 7 x k) k field_acts (λ what. form_of what ≡ FieldForm) (refl, (refl, (refl, (refl, tt)))) f (sym (closed_is s x k steady) ∙ e) in
+    let t = look_up-takes s.old (form_of w.act) x k _ w.open_to in
+    found_is_declared s.old side x k t.found (sym (ap (λ form. looked s.old form x k) w.is_one) ∙ t.taken) (steady_parts s x steady).both.loads
 
 -- ---- where it stands
 
@@ -67,4 +61,4 @@ abbrev on_7 : IsOnKey 7
 on_7 = record { not_1 = refl; not_2 = refl; not_3 = refl; not_4 = refl }
 
 pub is_rule : IsItemRule finding_order (λ (f : Finding). f.«class») (key_finding 7) (IsFinding 7) (λ s x. is_steady s.old s.new x)
-is_rule = finding_rule 7 on_7 (λ s x. is_steady s.old s.new x) steady_where
+is_rule = finding_rule 7 on_7 (λ s x. is_steady s.old s.new x) steady_unkept steady_where

@@ -12,26 +12,27 @@ use Rattle.jc_facts.specs.world.Assignment.{is_interface_of}
 use Rattle.jc_facts.specs.rule.Findings.{finding_at, interface_method_lost, report_where}
 use Rattle.jc_facts.specs.Flags.{public_flag, static_flag, no_static_flag}
 use Rattle.jc_facts.specs.world.Hierarchy.{superinterfaces}
-use Rattle.jc_facts.specs.KeyOrder.{key_cmp}
 use Rattle.jc_facts.specs.world.Lookup.{public_method_of_object, if_public_instance}
 use Rattle.jc_facts.specs.Names.{Bytes, object_name}
 use Rattle.jc_facts.specs.Options.{and_then}
 use Rattle.jc_facts.specs.rule.Orders.{finding_order}
-use Rattle.jc_facts.specs.Exactly.{HasExactly}
 use Rattle.jc_facts.specs.rule.Bases.{is_base_interface, is_key_of_method, inherits, offers}
 use Rattle.jc_facts.specs.world.World.{World, find_class, DeclaredMember, found_in, own_method_of}
-use Rattle.jc_worlds.specs.Hierarchy.{above}
 use Rattle.jc_sound.proofs.ClassGoneLaw.{report_where-some}
 use Rattle.jc_method.specs.Inheriting.{inherits_from}
 use Rattle.jc_method.proofs.Declared.{inherits_is_declared}
-use Rattle.jc_rules.specs.steps.Methods.{loses, loses_method}
-use Rattle.jc_sides.specs.Rules.{on_key, key_finding, IsFinding, HasEachKey, IsItemRule}
+use Rattle.jc_rules.specs.steps.Methods.{loses, has_lost_method}
+use Rattle.jc_sides.specs.BrokenOf.{BrokenOf, broken_if, found}
+use Rattle.jc_sides.specs.Members.{is_member, OfPassing}
+use Rattle.jc_sides.specs.declared.members.Members.TheVariants as members
+use Rattle.jc_sides.specs.Rules.{on_key, key_finding, IsFinding, IsItemRule}
+use Rattle.jc_sides.proofs.BrokenActs.{found_where}
 use Rattle.jc_sides.specs.SidesOf.{SidesOf}
 use Rattle.jc_sides.proofs.BaseParts.{base_interface_parts}
-use Rattle.jc_sides.proofs.ItemRules.{each_key, finding_rule}
+use Rattle.jc_sides.proofs.ItemRules.{finding_rule}
+use Rattle.jc_sides.proofs.NamedAbove.{interface_unkept}
 use Rattle.jc_sides.proofs.Subjects.{IsOnKey}
 use Rattle.jc_table.specs.Ids.{name_at, id_of}
-use Rattle.jc_table.specs.Lookups.{declare_method}
 use Rattle.jc_table.proofs.Numbers.{find-None, id_of-Some}
 
 -- the test of the rule
@@ -53,10 +54,9 @@ either false true i j o h = refl
 either m false i j o h = absurd (cc)
 
 module _ (s : SidesOf) (x : Bytes) (k : Key) (base : is_base_interface s.old s.new x ≡ true) where
-  -- y is the interface under its own name
-  pub lost : (y : Bytes) (b : Bool) (o : Option Finding) → y ≡ x → b ≡ loses_method s x k → o ≡ report_where b (on_key 9 y k) Inherit NoSuchMethodError → o ≡ key_finding 9 s x k
-  lost y b o n e r =
-      r ∙ ap (λ (z : Bytes). report_where b (on_key 9 z k) Inherit NoSuchMethodError) n ∙ ap (λ p. report_where p (on_key 9 x k) Inherit NoSuchMethodError)
+  pub lost : (b : Bool) (o : Option BrokenOf) → b ≡ has_lost_method s x k → o ≡ broken_if b Inherit NoSuchMethodError → found (on_key 9 x k) o ≡ key_finding 9 s x k
+  lost b o e r =
+      ap (found (on_key 9 x k)) r ∙ found_where (on_key 9 x k) b Inherit NoSuchMethodError ∙ ap (λ p. report_where p (on_key 9 x k) Inherit NoSuchMethodError)
       (e ∙ sym (either (is_key_of_method k) (is_base_interface s.old s.new x) (inherits s.old x k) (inherits s.new x k) (public_method_of_object s.old k) base)) ∙ sym (lost_is s x k)
 
   -- what an interface inherits, of both sides
@@ -132,12 +132,11 @@ lost_parts s x k f h =
     record { base = d.1; inherited = c.1 }
 
 -- the interface, or one above it, declared the key
-pub lost_keys : (s : SidesOf) (x : Bytes) → is_base_interface s.old s.new x ≡ true → (keys : List Key) → HasExactly key_cmp (λ k. declare_method (above s.old x) k ≡ true) keys → HasEachKey (key_finding 9 s x) keys
-lost_keys s x base keys h =
-    each_key (key_finding 9 s x) (λ k. declare_method (above s.old x) k ≡ true) keys h (λ k f e. inherits_is_declared k s.old x (base_interface_parts s x base).both.loads (lost_parts s x k f e).inherited)
+pub of_methods : (s : SidesOf) (x : Bytes) → is_base_interface s.old s.new x ≡ true → OfPassing (key_finding 9 s x) (is_member members.OldMethods s x)
+of_methods s x base k f e = inherits_is_declared k s.old x (base_interface_parts s x base).both.loads (lost_parts s x k f e).inherited
 
 abbrev on_9 : IsOnKey 9
 on_9 = record { not_1 = refl; not_2 = refl; not_3 = refl; not_4 = refl }
 
 pub is_rule : IsItemRule finding_order (λ (f : Finding). f.«class») (key_finding 9) (IsFinding 9) (λ s x. is_base_interface s.old s.new x)
-is_rule = finding_rule 9 on_9 (λ s x. is_base_interface s.old s.new x) (λ s x k f e. (lost_parts s x k f e).base)
+is_rule = finding_rule 9 on_9 (λ s x. is_base_interface s.old s.new x) interface_unkept (λ s x k f e. (lost_parts s x k f e).base)

@@ -1,9 +1,10 @@
-mod KeySets
 mod ClassGone
 mod ClassClosed
 mod InterfaceBecameClass
 mod ConstructorClosed
 mod MethodMadeFinal
+mod NewlyFinal
+mod FinalAdded
 mod InterfaceMethodLost
 mod ConstantAdded
 mod CaptureAdded

@@ -6,18 +6,20 @@ use Rattle.jc_facts.specs.declared.finding.Finding.{Finding}
 use Rattle.jc_facts.specs.declared.key.Key.{Key}
 use Rattle.jc_facts.specs.client.Acts.{form_of}
 use Rattle.jc_facts.specs.rule.Findings.{finding_at, first_act, method_closed}
-use Rattle.jc_facts.specs.KeyOrder.{key_cmp}
 use Rattle.jc_facts.specs.Names.{Bytes}
 use Rattle.jc_facts.specs.rule.Orders.{finding_order}
-use Rattle.jc_facts.specs.Exactly.{Rises, HasExactly}
 use Rattle.jc_facts.specs.rule.OpenActs.{act_fault, method_acts}
 use Rattle.jc_facts.specs.rule.Bases.{is_steady, is_key_of_method}
 use Rattle.jc_worlds.specs.Hierarchy.{above}
 use Rattle.jc_sound.proofs.Looked.{look_up-takes}
-use Rattle.jc_sides.specs.Rules.{on_key, key_finding, IsFinding, HasEachKey, IsItemRule}
+use Rattle.jc_sides.specs.BrokenOf.{BrokenOf, found}
+use Rattle.jc_sides.specs.Members.{is_member, OfPassing}
+use Rattle.jc_sides.specs.declared.members.Members.TheVariants as members
+use Rattle.jc_sides.specs.Rules.{on_key, key_finding, IsFinding, IsItemRule}
 use Rattle.jc_sides.specs.SidesOf.{SidesOf}
 use Rattle.jc_sides.proofs.BaseParts.{steady_parts}
-use Rattle.jc_sides.proofs.ItemRules.{each_key, finding_rule}
+use Rattle.jc_sides.proofs.ItemRules.{finding_rule}
+use Rattle.jc_sides.proofs.NamedAbove.{steady_unkept}
 use Rattle.jc_sides.proofs.Subjects.{IsOnKey}
 use Rattle.jc_table.specs.Lookups.{declare_method}
 use Rattle.jc_table.specs.Sides.{IsSide}
@@ -31,10 +33,8 @@ pub initializer : (s : SidesOf) (x : Bytes) (k : Key) → is_key_of_method k ≡
 unfolding key_finding finding_at method_closed
 initializer s x k m = rw m refl
 
--- y is the class under its own name
-pub closed : (s : SidesOf) (x y : Bytes) (k : Key) (act : Option ClosedAct) (o : Option Finding) → y ≡ x → is_key_of_method k ≡ true → is_steady s.old s.new x ≡ true → IsFirstClosed s x k method_acts act → o ≡ reported (on_key 8 y k) act
-    → o ≡ key_finding 8 s x k
-closed s x y k act o n m steady first r = r ∙ ap (λ (z : Bytes). reported (on_key 8 z k) act) n ∙ sym (closed_is s x k m steady ∙ first (on_key 8 x k) refl)
+pub closed : (s : SidesOf) (x : Bytes) (k : Key) (act : Option ClosedAct) (o : Option BrokenOf) → is_key_of_method k ≡ true → is_steady s.old s.new x ≡ true → IsFirstClosed s x k method_acts act → found (on_key 8 x k) o ≡ reported (on_key 8 x k) act → found (on_key 8 x k) o ≡ key_finding 8 s x k
+closed s x k act o m steady first r = r ∙ sym (closed_is s x k m steady ∙ first (on_key 8 x k) refl)
 
 -- a finding is on no initializer
 method_where : (s : SidesOf) (x : Bytes) (k : Key) (f : Finding) → key_finding 8 s x k ≡ Some f → is_key_of_method k ≡ true
@@ -44,23 +44,17 @@ method_where s x k f h = go (is_key_of_method k) refl
     go true e = refl
     go false e = absurd (let z : None ≡ Some f = initializer s x k e ∙ h in cc)
 
--- no key is asked of a class that has none closed
-pub no_keys : (s : SidesOf) (x : Bytes) (keys : List Key) → is_steady s.old s.new x ≡ true → HasNoneClosed s x → keys ≡ [] → HasEachKey (key_finding 8 s x) keys
-unfolding Rises
-no_keys s x keys steady never e =
-    subst (HasEachKey (key_finding 8 s x)) (sym e)
-    (record { in_order = tt; each = λ k f m. absurd (let z : None ≡ Some f = sym (closed_is s x k (method_where s x k f m) steady ∙ never k method_acts (on_key 8 x k) refl) ∙ m in cc) })
+-- a class that has none closed has no finding
+pub of_none : (s : SidesOf) (x : Bytes) → is_steady s.old s.new x ≡ true → HasNoneClosed s x → OfPassing (key_finding 8 s x) (is_member members.Nothing s x)
+of_none s x steady never k f m = absurd (let z : None ≡ Some f = sym (closed_is s x k (method_where s x k f m) steady ∙ never k method_acts (on_key 8 x k) refl) ∙ m in cc)
 
 -- the class, or one above it, declared the key
-pub keys_of : (s : SidesOf) → IsSide s.old → (x : Bytes) → is_steady s.old s.new x ≡ true → (keys : List Key) → HasExactly key_cmp (λ k. declare_method (above s.old x) k ≡ true) keys → HasEachKey (key_finding 8 s x) keys
+pub of_methods : (s : SidesOf) → IsSide s.old → (x : Bytes) → is_steady s.old s.new x ≡ true → OfPassing (key_finding 8 s x) (is_member members.OldMethods s x)
 unfolding act_fault
-keys_of s side x steady keys h = each_key (key_finding 8 s x) (λ k. declare_method (above s.old x) k ≡ true) keys h declared
-  where
-    declared : (k : Key) (f : Finding) → key_finding 8 s x k ≡ Some f → declare_method (above s.old x) k ≡ true
-    declared k f e =
-        let w = found_open s (on_key 8 x k) k method_acts (λ what. NoField (form_of what)) (tt, (tt, (tt, (tt, tt)))) f (sym (closed_is s x k (method_where s x k f e) steady) ∙ e) in
-        let t = look_up-takes s.old (form_of w.act) x k _ w.open_to in
-        looked_declared s.old side x (steady_parts s x steady).both.loads k (form_of w.act) w.is_one t.found t.taken
+of_methods s side x steady k f e =
+    let w = found_open s (on_key 8 x k) k method_acts (λ what. NoField (form_of what)) (tt, (tt, (tt, (tt, tt)))) f (sym (closed_is s x k (method_where s x k f e) steady) ∙ e) in
+    let t = look_up-takes s.old (form_of w.act) x k _ w.open_to in
+    looked_declared s.old side x (steady_parts s x steady).both.loads k (form_of w.act) w.is_one t.found t.taken
 
 -- ---- where it stands
 
@@ -83,4 +77,4 @@ abbrev on_8 : IsOnKey 8
 on_8 = record { not_1 = refl; not_2 = refl; not_3 = refl; not_4 = refl }
 
 pub is_rule : IsItemRule finding_order (λ (f : Finding). f.«class») (key_finding 8) (IsFinding 8) (λ s x. is_steady s.old s.new x)
-is_rule = finding_rule 8 on_8 (λ s x. is_steady s.old s.new x) steady_where
+is_rule = finding_rule 8 on_8 (λ s x. is_steady s.old s.new x) steady_unkept steady_where

@@ -1,12 +1,13 @@
 -- The notes on constants.
 use Rattle.std.proofs.Common.{◌≡◌, ◌<◌, ℕ, Bool, true, false, not, cond, ◌&&◌, ◌||◌, List, [], ◌∷◌, ◌++◌, refl, sym, ◌∙◌, ap, subst, Option, Some, None, is_some}
-use Rattle.std.specs.BTreeSet as sorted
-use Rattle.std.specs.List.{Contains, find as first_where}
+use Rattle.std.specs.List.{Contains, list_any}
 use Rattle.std.specs.declared.cmp.Ordering.TheVariants.{Less}
-use Rattle.std.proofs.lemmas.Bool.{and_parts}
+use Rattle.std.proofs.lemmas.Bool.{and_parts, or_left}
+use Rattle.jc_lemmas.proofs.Lists.{any_left}
+use Rattle.jc_worlds.proofs.Unrolled.{chain-unroll}
+use Rattle.jc_facts.specs.declared.class_facts.Member.{Member}
+use Rattle.jc_facts.specs.world.Hierarchy.{chain, of_super, superinterfaces}
 use Rattle.jc_facts.specs.declared.class_facts.ClassFacts.{ClassFacts}
-use Rattle.jc_facts.specs.declared.class_facts.Constant.{Constant}
-use Rattle.jc_facts.specs.declared.class_facts.Fixed.{Fixed}
 use Rattle.jc_facts.specs.declared.key.Key.{Key}
 use Rattle.jc_facts.specs.declared.verdict.Note.{Note}
 use Rattle.jc_facts.specs.declared.verdict.Note.TheVariants as note
@@ -22,11 +23,11 @@ use Rattle.jc_sound.proofs.Standing.{usable_parts}
 use Rattle.jc_table.specs.Ids.{names, name_at}
 use Rattle.jc_table.specs.Sides.{IsSide}
 use Rattle.jc_table.proofs.Numbers.{names-in, class_at}
-use Rattle.jc_rules.specs.steps.Keys.{HasEach, has_constant}
 use Rattle.jc_rules.specs.steps.Notes.{constant_note, is_in_both, loses, IsConstantNote}
-use Rattle.jc_rules.proofs.KeySets.{set_keys}
 use Rattle.jc_rules.proofs.NoteUnloadable.{two_lists, of_release, not_platform}
-use Rattle.jc_sides.specs.Rules.{HasEachKey, IsItemRule, IsOf}
+use Rattle.jc_sides.specs.Members.{is_member, OfPassing}
+use Rattle.jc_sides.specs.declared.members.Members.TheVariants as members
+use Rattle.jc_sides.specs.Rules.{IsItemRule, IsOf}
 use Rattle.jc_sides.specs.SidesOf.{SidesOf, AreSides}
 use Rattle.jc_sides.proofs.ItemRules.{made_where}
 use Rattle.jc_sides.proofs.Subjects.{same_name}
@@ -105,19 +106,13 @@ module _ (s : SidesOf) (are : AreSides s) (x : Bytes) (c d : ClassFacts) (before
 
 -- ---- its keys
 
-some_listed : (p : Constant → Bool) (fs : List Fixed) (k : Key) → some_and p (and_then (λ (f : Fixed). Some f.value) (first_where (λ (f : Fixed). same_key f.key k) fs)) ≡ true → has_constant fs k ≡ true
-unfolding and_then
-some_listed p [] k h = absurd (cc)
-some_listed p (f ∷ fs) k h = go (same_key f.key k) h (some_listed p fs k)
-  where
-    go : (b : Bool) → some_and p (and_then (λ (f : Fixed). Some f.value) (cond b (Some f) (first_where (λ (f : Fixed). same_key f.key k) fs))) ≡ true
-        → (some_and p (and_then (λ (f : Fixed). Some f.value) (first_where (λ (f : Fixed). same_key f.key k) fs)) ≡ true → has_constant fs k ≡ true) → (b || has_constant fs k) ≡ true
-    go true e r = refl
-    go false e r = r e
+own_there : (test : Member → Bool) (o : Option Member) → some_and test o ≡ true → is_some o ≡ true
+own_there test None h = absurd (cc)
+own_there test (Some m) h = refl
 
-lost_listed : (c d : ClassFacts) (k : Key) → has_lost_constant c d k ≡ true → has_constant c.constants k ≡ true
+lost_own : (c d : ClassFacts) (k : Key) → has_lost_constant c d k ≡ true → is_some (own_field_of c k) ≡ true
 unfolding has_lost_constant
-lost_listed c d k h = some_listed _ c.constants k (and_parts (has_static_final c k && is_some (own_field_of d k)) _ h).1
+lost_own c d k h = own_there _ (own_field_of c k) (and_parts (has_static_final c k) (is_some (own_field_of d k)) (and_parts (has_static_final c k && is_some (own_field_of d k)) _ h).0).0
 
 module _ (s : SidesOf) (x : Bytes) (k : Key) (h : loses s x k ≡ true) where
   kept_of : is_kept s.old s.new x ≡ true
@@ -142,17 +137,17 @@ module _ (s : SidesOf) (x : Bytes) (k : Key) (h : loses s x k ≡ true) where
   lost_both : is_in_both s x ≡ true
   lost_both = let r = records_of in rw (kept_of, r.old, r.new) refl
 
--- what the record of the old side lists has the key of a constant that is lost
-pub lost_keys : (s : SidesOf) → AreSides s → (x : Bytes) (c : ClassFacts) → Some c ≡ find_class s.old x → is_in_both s x ≡ true → (set : sorted.BTreeSet Key) (keys : List Key) → HasEach (has_constant c.constants) set → keys ≡ set.keys
-    → HasEachKey (constant_note s x) keys
-lost_keys s are x c before both set keys h e = set_keys (constant_note s x) (has_constant c.constants) set keys h e (λ k n m. listed k (made_where (loses s x k) (note.Fixed x k) n m).0)
-  where
-    listed : (k : Key) → loses s x k ≡ true → has_constant c.constants k ≡ true
-    listed k l =
-        let r = records_of s x k l in
-        let f : Some c ≡ Some r.before = before ∙ found_is s.old are.old_side x (ap is_some r.old) ∙ r.old in
-        let i : c ≡ r.before = cc in
-        subst (λ (z : ClassFacts). has_constant z.constants k ≡ true) (sym i) (lost_listed r.before r.after k r.loses_it)
+-- the class had a field of the key
+pub of_fields : (s : SidesOf) → AreSides s → (x : Bytes) → OfPassing (constant_note s x) (is_member members.OldFields s x)
+unfolding is_kept
+of_fields s are x k n m =
+    let l = (made_where (loses s x k) (note.Fixed x k) n m).0 in
+    let r = records_of s x k l in
+    let f : find_class s.old x ≡ Some r.before = found_is s.old are.old_side x (ap is_some r.old) ∙ r.old in
+    let loaded = (usable_parts s.old x (and_parts (is_class_usable s.old x) (is_class_usable s.new x) (kept_of s x k l)).0).loaded in
+    any_left (λ c. is_some (own_field_of c k)) (chain s.old x) (superinterfaces s.old x)
+    (ap (list_any (λ c. is_some (own_field_of c k))) (chain-unroll s.old x r.before f loaded)
+    ∙ or_left (is_some (own_field_of r.before k)) (list_any (λ c. is_some (own_field_of c k)) (of_super (chain s.old) r.before.superclass)) (lost_own r.before r.after k r.loses_it))
 
 -- ---- the notes
 
@@ -185,6 +180,7 @@ on_covered s (note.Fixed x k) p =
 pub is_rule : IsItemRule note_order noted_class constant_note IsConstantNote is_in_both
 is_rule = record {
   stands = λ s x k n e. (note_stands s x k n e).1;
+  kept = λ s x c. (both_rows (is_kept s.old s.new x) (is_some (in_release s.old x)) (is_some (in_release s.new x)) c).0;
   made = note_made;
   by_key = λ s x k l m n b e d. ap (λ (z : Note). note_order z n) (note_stands s x k m e).0 ∙ ap (note_order (note.Fixed x k)) (note_stands s x l n d).0 ∙ note_key_before x k l b;
   by_class = note_class_before;

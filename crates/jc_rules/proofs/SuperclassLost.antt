@@ -38,12 +38,17 @@ use Rattle.std.proofs.lemmas.Map.Keys.{below_from_sorted}
 use Rattle.jc_facts.specs.declared.key.Key.{Key}
 use Rattle.jc_facts.specs.Options.{some_where}
 use Rattle.jc_sound.proofs.FindingLaws.{finding_is_on_its_subject}
-use Rattle.jc_rules.specs.steps.Chains.{HasChain, on_target, target_finding, has_left, OfChain}
+use Rattle.jc_rules.specs.steps.Chains.{HasChain, on_target, target_finding, has_left_chain, OfChain}
+use Rattle.jc_sides.specs.BrokenOf.{BrokenOf, broken_if, found}
 use Rattle.jc_sides.specs.Rules.{IsFinding}
 use Rattle.jc_sides.specs.SharedOf.{SharedOf, IsShared, name_of}
 use Rattle.jc_sides.specs.SidesOf.{SidesOf, AreSides}
-use Rattle.jc_sides.proofs.ByClass.{number_is}
-use Rattle.jc_sides.proofs.Subjects.{subject_order, ordered_as, same_name, subject_is, passed, finding_class_before, class_in}
+use Rattle.jc_sides.proofs.BrokenActs.{found_where}
+use Rattle.jc_sides.proofs.Subjects.{subject_order, ordered_as, same_name, subject_is, finding_class_before, class_in}
+use Rattle.jc_acts.specs.Seats.{loses_class}
+use Rattle.jc_acts.proofs.SeatChains.{keeps}
+use Rattle.jc_lemmas.proofs.Options.{passed}
+use Rattle.jc_facts.proofs.Options.{some_where-is}
 
 -- ---- the form of the finding
 
@@ -74,13 +79,13 @@ target_before x t u h = rw (same_name x, h) refl
 -- ---- a class of the old chain
 
 module _ (s : SidesOf) (x t : Bytes) where
-  pub left_unkept : is_kept s.old s.new t ≡ false → has_left s x t ≡ false
+  pub left_unkept : is_kept s.old s.new t ≡ false → has_left_chain s x t ≡ false
   left_unkept h = rw h refl
 
-  pub left_still : is_kept s.old s.new t ≡ true → in_chain s.new x t ≡ true → has_left s x t ≡ false
+  pub left_still : is_kept s.old s.new t ≡ true → in_chain s.new x t ≡ true → has_left_chain s x t ≡ false
   left_still k h = rw (k, h) refl
 
-  pub left_of : (d : ClassFacts) → is_kept s.old s.new t ≡ true → in_chain s.new x t ≡ false → Some d ≡ find_class s.new t → has_left s x t ≡ not (interface_flag d.flags)
+  pub left_of : (d : ClassFacts) → is_kept s.old s.new t ≡ true → in_chain s.new x t ≡ false → Some d ≡ find_class s.new t → has_left_chain s x t ≡ not (interface_flag d.flags)
   left_of d k h f = rw (k, h, ← f) refl
 
 -- the set has the class where the chain has
@@ -103,7 +108,7 @@ four true false true d e h k = refl
 four false b c d e h k = absurd (cc)
 four true b false d e h k = absurd (cc)
 
-pub target_of : (s : SidesOf) (x t : Bytes) → is_kept s.old s.new x ≡ true → in_chain s.old x t ≡ true → target_finding s x t ≡ report_where (has_left s x t) (on_target x t) Assignment VerifyError
+pub target_of : (s : SidesOf) (x t : Bytes) → is_kept s.old s.new x ≡ true → in_chain s.old x t ≡ true → target_finding s x t ≡ report_where (has_left_chain s x t) (on_target x t) Assignment VerifyError
 target_of s x t k w = target_is s x t ∙ ap (λ (b : Bool). report_where b (on_target x t) Assignment VerifyError) (four (is_kept s.old s.new x) (is_kept s.old s.new t) (in_chain s.old x t) (not (in_chain s.new x t)) (not (is_interface_of s.new t)) k w)
 
 -- a superclass that isn't kept has left no chain
@@ -111,11 +116,11 @@ pub unkept_target : (s : SidesOf) (x t : Bytes) → is_kept s.old s.new x ≡ tr
 unkept_target s x t k w h = sym (target_of s x t k w ∙ ap (λ b. report_where b (on_target x t) Assignment VerifyError) (left_unkept s x t h))
 
 -- y and z are the superclass under its own names
-pub left : (s : SidesOf) (x t y z : Bytes) (b : Bool) (o : Option Finding) → is_kept s.old s.new x ≡ true → in_chain s.old x t ≡ true → y ≡ t → z ≡ y → b ≡ has_left s x y → o ≡ report_where b (on_target x z) Assignment VerifyError
-    → o ≡ target_finding s x t
-left s x t y z b o k w n m e r =
-    r ∙ ap (λ (u : Bytes). report_where b (on_target x u) Assignment VerifyError) m ∙ ap (λ p. report_where p (on_target x y) Assignment VerifyError) e
-    ∙ ap (λ (u : Bytes). report_where (has_left s x u) (on_target x u) Assignment VerifyError) n ∙ sym (target_of s x t k w)
+pub left : (s : SidesOf) (x t y z : Bytes) (b : Bool) (said : Option BrokenOf) (o : Option Finding) → is_kept s.old s.new x ≡ true → in_chain s.old x t ≡ true → y ≡ t → z ≡ y → b ≡ has_left_chain s x y → said ≡ broken_if b Assignment VerifyError
+    → o ≡ found (on_target x z) said → o ≡ target_finding s x t
+left s x t y z b said o k w n m e q r =
+    r ∙ ap (found (on_target x z)) q ∙ found_where (on_target x z) b Assignment VerifyError ∙ ap (λ (u : Bytes). report_where b (on_target x u) Assignment VerifyError) m ∙ ap (λ p. report_where p (on_target x y) Assignment VerifyError) e
+    ∙ ap (λ (u : Bytes). report_where (has_left_chain s x u) (on_target x u) Assignment VerifyError) n ∙ sym (target_of s x t k w)
 
 -- what the finding says of the two
 target_says : (s : SidesOf) (x t : Bytes) (f : Finding) → target_finding s x t ≡ Some f → (is_kept s.old s.new x ≡ true) × (is_kept s.old s.new t ≡ true) × (in_chain s.old x t ≡ true)
@@ -139,13 +144,13 @@ pub unkept_chain : (s : SidesOf) (x : Bytes) → is_kept s.old s.new x ≡ false
 unkept_chain s x h = exact_none finding_order (OfChain s x) (λ f p. let w = of_chain s x f p in both_ways (is_kept s.old s.new x) h (target_says s x w.0 f w.1).0)
 
 -- nothing is found of a chain that nothing has left
-pub whole_chain : (s : SidesOf) (x : Bytes) → ((y : Bytes) → in_chain s.old x y ≡ true → in_chain s.new x y ≡ true) → HasExactly finding_order (OfChain s x) []
+pub whole_chain : (s : SidesOf) (x : Bytes) → loses_class s x ≡ false → HasExactly finding_order (OfChain s x) []
 whole_chain s x h = exact_none finding_order (OfChain s x) still
   where
     still : (f : Finding) → OfChain s x f → ⊥
     still f p =
         let w = of_chain s x f p in
-        let stays : in_chain s.new x w.0 ≡ true = h w.0 (target_says s x w.0 f w.1).2 in
+        let stays : in_chain s.new x w.0 ≡ true = keeps s x h w.0 (target_says s x w.0 f w.1).2 in
         both_ways (not (in_chain s.new x w.0)) (ap not stays) (target_left s x w.0 f w.1)
 
 -- ---- rising numbers have rising names
@@ -271,7 +276,7 @@ module _ (s : SidesOf) (are : AreSides s) where
       → HasExactly finding_order (OfChain s (name_at s.old k)) found → gs ≡ fs ++ found → HasExactly finding_order (OfThese (take (n + 1) (names s.old))) gs
   one_more W v n k fs found gs l is h e g =
       grown_more finding_order (λ f. f.«class») (IsFinding 4 s) (apart s) (names s.old) (rise_of s are) n fs found gs (subst (λ m. n < m) (sym (names-length s.old)) (subst (λ (V : World). n < size V) v l)) h
-      (subst (λ (m : ℕ). HasExactly finding_order (OfChain s (name_at s.old m)) found) (number_is (nat_lt n (size W)) n k is) e) g
+      (subst (λ (m : ℕ). HasExactly finding_order (OfChain s (name_at s.old m)) found) (some_where-is (nat_lt n (size W)) n k is) e) g
 
   pub all_classes : (W : World) → W ≡ s.old → (n : ℕ) (fs : List Finding) → size W ≤ n → HasExactly finding_order (OfThese (take n (names s.old))) fs → HasExactly finding_order (IsFinding 4 s) fs
   all_classes W v n fs l h =

@@ -2,6 +2,5 @@
 pub mod Chains
 pub mod Classes
 pub mod Constructors
-pub mod Keys
 pub mod Methods
 pub mod Notes

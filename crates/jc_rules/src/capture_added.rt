@@ -1,13 +1,11 @@
 //! The collision of methods that are found before those of a client's interfaces.
-ghost use Rattle.std.specs.Prelude.{◌≡◌, ◌&&◌, not, cond, IfOk, IsTrue};
+ghost use Rattle.std.specs.Prelude.{◌≡◌, ◌&&◌, not, cond, IsTrue};
 ghost use Rattle.jc_facts.specs.declared.link_error.LinkError.TheVariants.{IllegalAccessError, IncompatibleClassChangeError};
+ghost use Rattle.jc_facts.specs.declared.rule_numbers.TheConstants.{CAPTURE_ADDED};
 ghost use Rattle.jc_facts.specs.rule.Collisions.{are_none, leaves_room};
 ghost use Rattle.jc_facts.specs.Flags.{public_flag, no_static_flag};
 ghost use Rattle.jc_facts.specs.world.Lookup.{method_choices};
-ghost use Rattle.jc_facts.specs.rule.Orders.{collision_order};
-ghost use Rattle.jc_facts.specs.Exactly.{HasExactly};
 ghost use Rattle.jc_facts.specs.rule.Bases.{is_base_class, is_key_of_method};
-ghost use Rattle.jc_sides.specs.Rules.{key_collision, IsCollision};
 ghost use Rattle.jc_sides.specs.SharedOf.{IsShared, name_of};
 
 use jc_desc::method::slots;
@@ -16,14 +14,13 @@ use jc_facts::act::Act;
 use jc_facts::flags::{is_public, is_static};
 use jc_facts::key::Key;
 use jc_facts::link_error::LinkError;
-use jc_facts::verdict::Collision;
+use jc_facts::rule_numbers::CAPTURE_ADDED;
 use jc_method::find::{find_in_chain, find_method};
-use jc_method::keys::method_keys;
-use jc_sides::found::collision_where;
-use jc_sides::item_rule::ItemRule;
+use jc_sides::broken::{BrokenAct, broken_where};
+use jc_sides::collision_rule::CollisionRule;
+use jc_sides::members::Members;
 use jc_sides::shared::Shared;
 use jc_sides::sides::Sides;
-use std::alloc::{AllocError, Global};
 
 // The most slots that the parameters of a method take, its instance counted (JVMS 4.3.3).
 const MOST_SLOTS: u32 = 255;
@@ -72,54 +69,25 @@ fn is_captured(sides: &Sides<'_>, class: &Shared<'_>, key: &Key, flags: u16) -> 
 /// Methods that base classes have now, where none of their key was found, and that are no public
 /// instance methods (JVMS 5.4.3.3): where a reference to a client class below found a method of an
 /// interface, it finds the base class's first, and fails.
+#[derive(Drop)]
 pub struct CaptureAdded;
 
-impl ItemRule for CaptureAdded {
-    type Item = Collision;
-
-    ghost order = { collision_order };
-
-    ghost class_of = { λ c. c.«class» };
-
-    ghost makes = { key_collision 11 };
-
-    ghost stands = { IsCollision 11 };
+impl CollisionRule for CaptureAdded {
+    ghost rule = { CAPTURE_ADDED };
 
     ghost covers = { λ s x. is_base_class s.old s.new x };
 
-    ghost ready = { λ _ _. Unit {0} };
-
-    fn keys(
-        &self,
-        alloc: Global,
-        sides: &Sides<'_>,
-        class: &Shared<'_>,
-    ) -> Result<Vec<Key>, AllocError> {
-        let keys = method_keys(alloc, sides.new, class.new)?;
-        Ok(keys)
+    fn number(&self) -> u8 {
+        CAPTURE_ADDED
     }
 
-    fn on_key(
-        &self,
-        alloc: Global,
-        sides: &Sides<'_>,
-        class: &Shared<'_>,
-        key: &Key,
-    ) -> Result<Option<Collision>, AllocError> {
-        let Some(method) = find_in_chain(sides.new, class.new, key) else {
-            return Ok(None);
-        };
+    fn members(&self) -> Members {
+        Members::NewMethods
+    }
+
+    fn on_key(&self, sides: &Sides<'_>, class: &Shared<'_>, key: &Key) -> Option<BrokenAct<'_>> {
+        let method = find_in_chain(sides.new, class.new, key)?;
         let captured = is_captured(sides, class, key, method.flags);
-        let error = error_of(method.flags);
-        let made = collision_where(
-            alloc,
-            captured,
-            11,
-            class.name,
-            key,
-            Act::InvokeVirtual,
-            error,
-        )?;
-        Ok(made)
+        broken_where(captured, Act::InvokeVirtual, error_of(method.flags))
     }
 }

@@ -1,21 +1,21 @@
 //! The rule on classes that clients can't extend or implement any more.
-ghost use Rattle.std.specs.Prelude.{◌≡◌, ◌<◌, cond, IfOk, refl};
+ghost use Rattle.std.specs.Prelude.{◌≡◌, cond, refl};
 ghost use Rattle.jc_facts.specs.declared.act.Act.TheVariants.{Extend, Implement};
+ghost use Rattle.jc_facts.specs.declared.rule_numbers.TheConstants.{CLASS_CLOSED};
 ghost use Rattle.jc_facts.specs.Flags.{interface_flag};
 
 use jc_facts::act::Act;
 use jc_facts::class_facts::ClassFacts;
-use jc_facts::finding::Finding;
 use jc_facts::flags::is_interface;
 use jc_facts::link_error::LinkError;
+use jc_facts::rule_numbers::CLASS_CLOSED;
+use jc_sides::broken::{BrokenAct, broken_where};
 use jc_sides::class_rule::ClassRule;
 use jc_sides::clients::is_closed;
-use jc_sides::found::class_finding_where;
 use jc_sides::kept::kept;
 use jc_sides::shared::before;
 use jc_sides::sides::Sides;
 use jc_table::ids::ClassId;
-use std::alloc::{AllocError, Global};
 
 // How clients name the class above themselves.
 fn act_on(class: &ClassFacts) -> Act
@@ -33,23 +33,18 @@ fn act_on(class: &ClassFacts) -> Act
 pub struct ClassClosed;
 
 impl ClassRule for ClassClosed {
-    ghost rule = { 2 };
+    ghost rule = { CLASS_CLOSED };
 
     ghost alone = { record { not_4 = refl; not_5 = refl; not_6 = refl; not_7 = refl; not_8 = refl; not_9 = refl } };
 
-    fn on_class(
-        &self,
-        alloc: Global,
-        sides: &Sides<'_>,
-        id: ClassId,
-    ) -> Result<Option<Finding>, AllocError> {
-        let Some(class) = kept(sides, id) else {
-            return Ok(None);
-        };
+    fn number(&self) -> u8 {
+        CLASS_CLOSED
+    }
+
+    fn on_class(&self, sides: &Sides<'_>, id: ClassId) -> Option<BrokenAct<'_>> {
+        let class = kept(sides, id)?;
         let closed = is_closed(sides, &class);
         let act = act_on(before(sides, &class));
-        let error = LinkError::IncompatibleClassChangeError;
-        let found = class_finding_where(alloc, closed, 2, class.name, act, error)?;
-        Ok(found)
+        broken_where(closed, act, LinkError::IncompatibleClassChangeError)
     }
 }

@@ -1,23 +1,23 @@
 //! The rule on classes that are gone.
-ghost use Rattle.std.specs.Prelude.{◌≡◌, ◌<◌, IfOk, refl};
-ghost use Rattle.jc_rules.specs.steps.Classes.{unusable};
+ghost use Rattle.std.specs.Prelude.{◌≡◌, refl};
+ghost use Rattle.jc_facts.specs.declared.rule_numbers.TheConstants.{CLASS_GONE};
+ghost use Rattle.jc_rules.specs.steps.Classes.{why_unusable};
 
 use jc_base::name::Name;
 use jc_facts::act::Act;
-use jc_facts::finding::Finding;
 use jc_facts::flags::is_public;
 use jc_facts::link_error::LinkError;
+use jc_facts::rule_numbers::CLASS_GONE;
+use jc_sides::broken::{BrokenAct, broken_where};
 use jc_sides::class_rule::ClassRule;
-use jc_sides::found::class_finding_where;
 use jc_sides::kept::is_usable;
 use jc_sides::sides::Sides;
 use jc_table::ids::ClassId;
 use jc_table::table::Table;
-use std::alloc::{AllocError, Global};
 
 // Why clients can't use the class of this name; none where they can.
 fn unusable(table: &Table, name: &Name) -> Option<LinkError>
-    ensures { result ≡ unusable table.now name.now }
+    ensures { result ≡ why_unusable table.now name.now }
 {
     let Some(id) = table.get(name.as_bytes()) else {
         return Some(LinkError::NoClassDefFoundError);
@@ -36,22 +36,17 @@ fn unusable(table: &Table, name: &Name) -> Option<LinkError>
 pub struct ClassGone;
 
 impl ClassRule for ClassGone {
-    ghost rule = { 1 };
+    ghost rule = { CLASS_GONE };
 
     ghost alone = { record { not_4 = refl; not_5 = refl; not_6 = refl; not_7 = refl; not_8 = refl; not_9 = refl } };
 
-    fn on_class(
-        &self,
-        alloc: Global,
-        sides: &Sides<'_>,
-        id: ClassId,
-    ) -> Result<Option<Finding>, AllocError> {
+    fn number(&self) -> u8 {
+        CLASS_GONE
+    }
+
+    fn on_class(&self, sides: &Sides<'_>, id: ClassId) -> Option<BrokenAct<'_>> {
         let was_usable = is_usable(sides.old, id);
-        let name = &sides.old.facts(id).name;
-        let Some(error) = unusable(sides.new, name) else {
-            return Ok(None);
-        };
-        let found = class_finding_where(alloc, was_usable, 1, name, Act::ClassRef, error)?;
-        Ok(found)
+        let error = unusable(sides.new, &sides.old.facts(id).name)?;
+        broken_where(was_usable, Act::ClassRef, error)
     }
 }

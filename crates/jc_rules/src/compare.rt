@@ -23,10 +23,11 @@ use crate::class_gone::ClassGone;
 use crate::constant_added::ConstantAdded;
 use crate::constructor_closed::ConstructorClosed;
 use crate::field_closed::FieldClosed;
+use crate::final_added::FinalAdded;
 use crate::interface_became_class::InterfaceBecameClass;
 use crate::interface_method_lost::InterfaceMethodLost;
 use crate::method_closed::MethodClosed;
-use crate::method_made_final::{MethodMadeFinal, MethodMadeFinalMet};
+use crate::method_made_final::MethodMadeFinal;
 use crate::note_constant::{InBothReleases, NoteConstant};
 use crate::note_unloadable::note_unloadable;
 use crate::superclass_lost::superclass_lost;
@@ -36,6 +37,8 @@ use jc_facts::finding::Finding;
 use jc_facts::verdict::{Collision, Note, Verdict};
 use jc_sides::class_rule::by_class;
 use jc_sides::classes::{base_classes, base_interfaces, classes_where, steady_classes};
+use jc_sides::collision_rule::Collisions;
+use jc_sides::finding_rule::Findings;
 use jc_sides::item_rule::by_items;
 use jc_sides::shared::Shared;
 use jc_sides::sides::Sides;
@@ -66,12 +69,27 @@ fn findings(
     requires interfaces { AreThose (is_base_interface sides.now.old sides.now.new) sides.now interfaces.now }
     ensures { IfOk result (λ found. HasExactly finding_order (Stands sides.now.old sides.now.new) found.items) }
 {
+    let constructors = Findings {
+        rule: ConstructorClosed,
+    };
+    let made_final = Findings {
+        rule: MethodMadeFinal,
+    };
+    let fields = Findings {
+        rule: FieldClosed { seats },
+    };
+    let methods = Findings {
+        rule: MethodClosed { seats },
+    };
+    let inherited = Findings {
+        rule: InterfaceMethodLost,
+    };
     let mut findings = findings_on_classes(alloc, sides)?;
-    findings.append(&mut by_items(alloc, &ConstructorClosed, sides, steady)?)?;
-    findings.append(&mut by_items(alloc, &MethodMadeFinal, sides, seats.bases())?)?;
-    findings.append(&mut by_items(alloc, &FieldClosed { seats }, sides, steady)?)?;
-    findings.append(&mut by_items(alloc, &MethodClosed { seats }, sides, steady)?)?;
-    findings.append(&mut by_items(alloc, &InterfaceMethodLost, sides, interfaces)?)?;
+    findings.append(&mut by_items(alloc, &constructors, sides, steady)?)?;
+    findings.append(&mut by_items(alloc, &made_final, sides, seats.bases())?)?;
+    findings.append(&mut by_items(alloc, &fields, sides, steady)?)?;
+    findings.append(&mut by_items(alloc, &methods, sides, steady)?)?;
+    findings.append(&mut by_items(alloc, &inherited, sides, interfaces)?)?;
     Ok(findings)
 }
 
@@ -86,9 +104,14 @@ fn collisions(
     requires interfaces { AreThose (is_base_interface sides.now.old sides.now.new) sides.now interfaces.now }
     ensures { IfOk result (λ made. HasExactly collision_order (CollisionStands sides.now.old sides.now.new) made.items) }
 {
-    let mut collisions = by_items(alloc, &ConstantAdded, sides, interfaces)?;
-    collisions.append(&mut by_items(alloc, &CaptureAdded, sides, classes)?)?;
-    collisions.append(&mut by_items(alloc, &MethodMadeFinalMet, sides, classes)?)?;
+    let constants = Collisions {
+        rule: ConstantAdded,
+    };
+    let captures = Collisions { rule: CaptureAdded };
+    let finals = Collisions { rule: FinalAdded };
+    let mut collisions = by_items(alloc, &constants, sides, interfaces)?;
+    collisions.append(&mut by_items(alloc, &captures, sides, classes)?)?;
+    collisions.append(&mut by_items(alloc, &finals, sides, classes)?)?;
     Ok(collisions)
 }
 

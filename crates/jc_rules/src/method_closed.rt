@@ -1,23 +1,19 @@
 //! The rule on acts on methods that are closed to some clients.
-ghost use Rattle.std.specs.Prelude.{◌≡◌, IfOk, IsTrue};
 ghost use Rattle.jc_acts.specs.Seats.{AreSeats};
-ghost use Rattle.jc_facts.specs.rule.Orders.{finding_order};
-ghost use Rattle.jc_facts.specs.Exactly.{HasExactly};
+ghost use Rattle.jc_facts.specs.declared.rule_numbers.TheConstants.{METHOD_CLOSED};
 ghost use Rattle.jc_facts.specs.rule.Bases.{is_steady};
-ghost use Rattle.jc_sides.specs.Rules.{key_finding, IsFinding};
-ghost use Rattle.jc_sides.specs.SharedOf.{IsShared, name_of};
 
-use crate::found::act_finding;
+use jc_acts::closed_act::broken;
 use jc_acts::members::method_closed;
 use jc_acts::seats::Seats;
 use jc_desc::names::is_initializer;
-use jc_facts::finding::Finding;
 use jc_facts::key::Key;
-use jc_method::keys::method_keys;
-use jc_sides::item_rule::ItemRule;
+use jc_facts::rule_numbers::METHOD_CLOSED;
+use jc_sides::broken::BrokenAct;
+use jc_sides::finding_rule::FindingRule;
+use jc_sides::members::Members;
 use jc_sides::shared::Shared;
 use jc_sides::sides::Sides;
-use std::alloc::{AllocError, Global};
 
 /// Acts on methods of kept classes that were open to a client and aren't any more, one finding for a
 /// key (JVMS 5.4.3.3, 5.4.3.4, 5.4.4).
@@ -27,46 +23,29 @@ pub struct MethodClosed<'a, 'b> {
     pub seats: &'b Seats<'a>,
 }
 
-impl<'a, 'b> ItemRule for MethodClosed<'a, 'b> {
-    type Item = Finding;
-
-    ghost order = { finding_order };
-
-    ghost class_of = { λ f. f.«class» };
-
-    ghost makes = { key_finding 8 };
-
-    ghost stands = { IsFinding 8 };
+impl<'a, 'b> FindingRule for MethodClosed<'a, 'b> {
+    ghost rule = { METHOD_CLOSED };
 
     ghost covers = { λ s x. is_steady s.old s.new x };
 
     ghost ready = { λ r s. AreSeats s r.seats.now };
 
-    fn keys(
-        &self,
-        alloc: Global,
-        sides: &Sides<'_>,
-        class: &Shared<'_>,
-    ) -> Result<Vec<Key>, AllocError> {
-        if !self.seats.may_close(sides, class) {
-            return Ok(Vec::new(alloc));
-        }
-        let keys = method_keys(alloc, sides.old, class.old)?;
-        Ok(keys)
+    fn number(&self) -> u8 {
+        METHOD_CLOSED
     }
 
-    fn on_key(
-        &self,
-        alloc: Global,
-        sides: &Sides<'_>,
-        class: &Shared<'_>,
-        key: &Key,
-    ) -> Result<Option<Finding>, AllocError> {
-        if is_initializer(key.name.as_bytes()) {
-            return Ok(None);
+    fn members(&self, sides: &Sides<'_>, class: &Shared<'_>) -> Members {
+        if self.seats.may_close(sides, class) {
+            Members::OldMethods
+        } else {
+            Members::Nothing
         }
-        let closed = method_closed(sides, self.seats, class, key);
-        let found = act_finding(alloc, 8, class.name, key, closed)?;
-        Ok(found)
+    }
+
+    fn on_key(&self, sides: &Sides<'_>, class: &Shared<'_>, key: &Key) -> Option<BrokenAct<'_>> {
+        if is_initializer(key.name.as_bytes()) {
+            return None;
+        }
+        broken(method_closed(sides, self.seats, class, key))
     }
 }

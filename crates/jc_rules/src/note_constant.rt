@@ -4,13 +4,11 @@ ghost use Rattle.jc_facts.specs.rule.Notes.{is_same_constant, value_of_constant,
 ghost use Rattle.jc_facts.specs.rule.Orders.{note_order, noted_class};
 ghost use Rattle.jc_facts.specs.Exactly.{HasExactly};
 ghost use Rattle.jc_facts.specs.world.World.{size};
-ghost use Rattle.jc_rules.specs.steps.Keys.{HasEach, has_constant};
 ghost use Rattle.jc_rules.specs.steps.Notes.{changes, constant_note, is_in_both, IsConstantNote};
 ghost use Rattle.jc_sides.specs.SharedOf.{IsShared, name_of};
 ghost use Rattle.jc_sides.specs.SidesOf.{AreSides};
 ghost use Rattle.jc_table.specs.Ids.{name_at};
 
-use crate::keys::{put_if, to_keys};
 use jc_facts::class_facts::{ClassFacts, Constant};
 use jc_facts::flags::{is_final, is_static};
 use jc_facts::key::Key;
@@ -18,13 +16,13 @@ use jc_facts::key_set::KeyRef;
 use jc_facts::verdict::Note;
 use jc_sides::classes::ClassTest;
 use jc_sides::item_rule::ItemRule;
+use jc_sides::members::{Members, keys_of};
 use jc_sides::shared::{Shared, after, before};
 use jc_sides::sides::Sides;
 use jc_table::ids::ClassId;
 use jc_table::members::own_field;
 use jc_table::table::Table;
 use std::alloc::{AllocError, Global};
-use std::collections::BTreeSet;
 
 // ---- of a class's two records
 
@@ -83,20 +81,6 @@ fn loses_constant(before: &ClassFacts, after: &ClassFacts, key: &KeyRef<'_>) -> 
         && is_changed(before, after, key)
 }
 
-// The keys of the class's constants.
-fn constant_keys<'a>(
-    alloc: Global,
-    class: &'a ClassFacts,
-) -> Result<BTreeSet<KeyRef<'a>>, AllocError>
-    ensures { IfOk result (HasEach (has_constant class.now.constants)) }
-{
-    let mut keys = BTreeSet::new(alloc);
-    for fixed in class.constants.as_slice() {
-        put_if(&mut keys, KeyRef::of_key(&fixed.key), true)?;
-    }
-    Ok(keys)
-}
-
 // ---- the classes
 
 /// Whether both releases declare a kept class.
@@ -137,8 +121,7 @@ impl ItemRule for NoteConstant {
         sides: &Sides<'_>,
         class: &Shared<'_>,
     ) -> Result<Vec<Key>, AllocError> {
-        let set = constant_keys(alloc, before(sides, class))?;
-        let keys = to_keys(alloc, &set)?;
+        let keys = keys_of(alloc, sides, class, Members::OldFields)?;
         Ok(keys)
     }
 

@@ -1,27 +1,26 @@
 //! The rule on superclasses that left the chain.
 ghost use Rattle.std.specs.Prelude.{◌≡◌, ◌<◌, IfOk, IsTrue};
-ghost use Rattle.jc_facts.specs.declared.act.Act.TheVariants.{Assignment};
-ghost use Rattle.jc_facts.specs.declared.link_error.LinkError.TheVariants.{VerifyError};
-ghost use Rattle.jc_facts.specs.rule.Findings.{report_where};
 ghost use Rattle.jc_facts.specs.world.Hierarchy.{in_chain};
 ghost use Rattle.jc_facts.specs.Names.{Bytes};
 ghost use Rattle.jc_facts.specs.rule.Orders.{finding_order};
 ghost use Rattle.jc_facts.specs.Exactly.{HasExactly};
 ghost use Rattle.jc_facts.specs.rule.Bases.{is_kept};
 ghost use Rattle.jc_facts.specs.world.World.{size};
-ghost use Rattle.jc_rules.specs.steps.Chains.{HasChain, on_target, target_finding, has_left, OfChain};
+ghost use Rattle.jc_rules.specs.steps.Chains.{HasChain, target_finding, has_left_chain, OfChain};
 ghost use Rattle.jc_sides.specs.Rules.{IsFinding};
 ghost use Rattle.jc_sides.specs.SharedOf.{IsShared, name_of};
 ghost use Rattle.jc_sides.specs.SidesOf.{AreSides};
 ghost use Rattle.jc_table.specs.Ids.{name_at};
 
-use jc_acts::chains::keeps_chain;
+use jc_acts::chains::has_lost;
 use jc_base::name::Name;
 use jc_facts::act::Act;
 use jc_facts::finding::Finding;
 use jc_facts::flags::is_interface;
 use jc_facts::link_error::LinkError;
-use jc_sides::found::push_some;
+use jc_facts::rule_numbers::SUPERCLASS_LOST;
+use jc_sides::broken::broken_where;
+use jc_sides::found::{finding, push_some};
 use jc_sides::kept::kept;
 use jc_sides::shared::{Shared, after};
 use jc_sides::sides::Sides;
@@ -51,32 +50,9 @@ fn chain_of(alloc: Global, table: &Table, id: ClassId) -> Result<BTreeSet<ClassI
 fn has_left(sides: &Sides<'_>, target: &Shared<'_>, chain: &BTreeSet<ClassId>) -> bool
     requires shared { IsShared sides.now target.now }
     requires kept { IsTrue (is_kept sides.now.old sides.now.new (name_of target.now)) }
-    ensures { (x : Bytes) → HasChain sides.now.new x chain.now → result ≡ has_left sides.now x (name_of target.now) }
+    ensures { (x : Bytes) → HasChain sides.now.new x chain.now → result ≡ has_left_chain sides.now x (name_of target.now) }
 {
     !chain.contains(&target.new) && !is_interface(after(sides, target).flags)
-}
-
-// The finding of the class and the superclass, where that has left the chain.
-fn target_finding_where(
-    alloc: Global,
-    left: bool,
-    class: &Name,
-    target: &Name,
-) -> Result<Option<Finding>, AllocError>
-    ensures { IfOk result (λ found. found ≡ report_where left (on_target «class».now target.now) Assignment VerifyError) }
-{
-    if !left {
-        return Ok(None);
-    }
-    Ok(Some(Finding {
-        rule: 4,
-        class: class.copy(alloc)?,
-        key: None,
-        target: Some(target.copy(alloc)?),
-        act: Act::Assignment,
-        seat: None,
-        error: LinkError::VerifyError,
-    }))
 }
 
 // The finding of a kept class and a class of its old chain, if that has left the chain.
@@ -97,7 +73,15 @@ fn on_target(
         return Ok(None);
     };
     let left = has_left(sides, &target, chain);
-    let found = target_finding_where(alloc, left, class, target.name)?;
+    let broken = broken_where(left, Act::Assignment, LinkError::VerifyError);
+    let found = finding(
+        alloc,
+        SUPERCLASS_LOST,
+        class,
+        None,
+        Some(target.name),
+        broken,
+    )?;
     Ok(found)
 }
 
@@ -133,7 +117,7 @@ fn on_class(alloc: Global, sides: &Sides<'_>, id: ClassId) -> Result<Vec<Finding
     let Some(class) = kept(sides, id) else {
         return Ok(Vec::new(alloc));
     };
-    if keeps_chain(sides, &class) {
+    if !has_lost(sides, &class) {
         return Ok(Vec::new(alloc));
     }
     let before = chain_of(alloc, sides.old, class.old)?;

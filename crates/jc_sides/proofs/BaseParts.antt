@@ -1,6 +1,7 @@
 -- What is known of a steady class, a base class and a base interface.
 use Rattle.std.proofs.Common.{◌≡◌, Bool, true, false, not, refl, ◌∙◌, ap, None, ◌&&◌, is_some}
 use Rattle.std.proofs.lemmas.Bool.{and_parts}
+use Rattle.jc_lemmas.proofs.Bools.{not_true}
 use Rattle.jc_facts.specs.Names.{Bytes}
 use Rattle.jc_facts.specs.Flags.{interface_flag, final_flag}
 use Rattle.jc_facts.specs.Options.{some_and}
@@ -17,25 +18,22 @@ pub record IsOnBoth (s : SidesOf) (x : Bytes) : Type 0 where
   pub loads : load_fault s.old x ≡ None
   pub loads_now : load_fault s.new x ≡ None
 
+pub kept_parts : (s : SidesOf) (x : Bytes) → is_kept s.old s.new x ≡ true → IsOnBoth s x
+unfolding is_kept
+kept_parts s x h =
+    let q = and_parts (is_class_usable s.old x) (is_class_usable s.new x) h in
+    record { there = ap is_some (usable_parts s.old x q.0).is_there; loads = (usable_parts s.old x q.0).loaded; loads_now = (usable_parts s.new x q.1).loaded }
+
 pub record IsSteadyClass (s : SidesOf) (x : Bytes) : Type 0 where
   pub both : IsOnBoth s x
   pub kept : is_kept s.old s.new x ≡ true
   pub stayed : became_class s.old s.new x ≡ false
 
-is_false : (b : Bool) → not b ≡ true → b ≡ false
-is_false true h = absurd (cc)
-is_false false h = refl
-
 pub steady_parts : (s : SidesOf) (x : Bytes) → is_steady s.old s.new x ≡ true → IsSteadyClass s x
-unfolding is_steady is_kept
+unfolding is_steady
 steady_parts s x h =
-    let p = and_parts (is_class_usable s.old x && is_class_usable s.new x) (not (became_class s.old s.new x)) h in
-    let q = and_parts (is_class_usable s.old x) (is_class_usable s.new x) p.0 in
-    record {
-      both = record { there = ap is_some (usable_parts s.old x q.0).is_there; loads = (usable_parts s.old x q.0).loaded; loads_now = (usable_parts s.new x q.1).loaded };
-      kept = p.0;
-      stayed = is_false (became_class s.old s.new x) p.1;
-    }
+    let p = and_parts (is_kept s.old s.new x) (not (became_class s.old s.new x)) h in
+    record { both = kept_parts s x p.0; kept = p.0; stayed = not_true (became_class s.old s.new x) p.1 }
 
 -- ---- base interfaces
 
@@ -84,7 +82,7 @@ extendable_kind s x h =
     let q = and_parts (not (interface_flag c.0.flags) && not (final_flag c.0.flags) && has_init c.0 public_or_protected) (is_open s.old s.new c.0) c.2 in
     let r = and_parts (not (interface_flag c.0.flags) && not (final_flag c.0.flags)) (has_init c.0 public_or_protected) q.0 in
     let t = and_parts (not (interface_flag c.0.flags)) (not (final_flag c.0.flags)) r.0 in
-    ap (some_and (λ d. interface_flag d.flags)) c.1 ∙ is_false (interface_flag c.0.flags) t.0
+    ap (some_and (λ d. interface_flag d.flags)) c.1 ∙ not_true (interface_flag c.0.flags) t.0
 
 pub base_class_parts : (s : SidesOf) (x : Bytes) → is_base_class s.old s.new x ≡ true → IsBaseClass s x
 unfolding is_base_class

@@ -1,5 +1,5 @@
 -- What a rule on a class alone finds of all classes.
-use Rattle.std.proofs.Common.{◌≡◌, ◌<◌, ◌≤◌, ◌+◌, ◌++◌, ◌∷◌, [], ℕ, Bool, true, false, List, Option, sym, ◌∙◌, ap, subst, Some, take, nat_lt}
+use Rattle.std.proofs.Common.{◌≡◌, ◌<◌, ◌≤◌, ◌+◌, ◌++◌, ◌∷◌, [], ℕ, List, Option, sym, ◌∙◌, ap, subst, Some, take, nat_lt}
 use Rattle.std.specs.List.{filter_map, cons_option}
 use Rattle.std.specs.declared.cmp.Ordering.TheVariants.{Less}
 use Rattle.std.proofs.lemmas.List.{take_more, take_all}
@@ -12,6 +12,7 @@ use Rattle.jc_facts.specs.world.World.{World, size}
 use Rattle.jc_facts.specs.rule.Orders.{finding_order}
 use Rattle.jc_facts.specs.Exactly.{HasExactly}
 use Rattle.jc_facts.proofs.Exact.{Gives}
+use Rattle.jc_facts.proofs.Options.{some_where-is}
 use Rattle.jc_facts.proofs.InOrder.{exact_given}
 use Rattle.jc_table.specs.Ids.{names, name_at}
 use Rattle.jc_table.specs.Sides.{IsSide}
@@ -34,11 +35,6 @@ step h W n fs gs o l e k g =
 pub whole : {F : Type 0} (h : Bytes → Option F) (W : World) (n : ℕ) (fs : List F) → size W ≤ n → fs ≡ filter_map h (take n (names W)) → fs ≡ filter_map h (names W)
 whole h W n fs l e = e ∙ ap (filter_map h) (take_all n (names W) (subst (λ m. m ≤ n) (sym (names-length W)) l))
 
--- the number that a side gives
-pub number_is : (b : Bool) (n k : ℕ) → some_where b n ≡ Some k → k ≡ n
-number_is true n k e = let q : n ≡ k = cc in sym q
-number_is false n k e = absurd (cc)
-
 -- ---- a rule on a class alone
 
 module _ (r : ℕ) (i : IsOnClass r) (s : SidesOf) where
@@ -55,13 +51,9 @@ module _ (r : ℕ) (i : IsOnClass r) (s : SidesOf) where
   pub one_more : (W : World) → W ≡ s.old → (n k : ℕ) (fs gs : List Finding) (o : Option Finding) → n < size W → some_where (nat_lt n (size W)) n ≡ Some k → fs ≡ filter_map (class_finding r s) (take n (names s.old))
       → o ≡ class_finding r s (name_at s.old k) → gs ≡ fs ++ cons_option o [] → gs ≡ filter_map (class_finding r s) (take (n + 1) (names s.old))
   one_more W v n k fs gs o l is e q g =
-      step (class_finding r s) s.old n fs gs o (subst (λ (V : World). n < size V) v l) e (q ∙ ap (λ m. class_finding r s (name_at s.old m)) (number_is (nat_lt n (size W)) n k is)) g
+      step (class_finding r s) s.old n fs gs o (subst (λ (V : World). n < size V) v l) e (q ∙ ap (λ m. class_finding r s (name_at s.old m)) (some_where-is (nat_lt n (size W)) n k is)) g
 
   -- all classes
   pub all_classes : AreSides s → (W : World) → W ≡ s.old → (n : ℕ) (fs : List Finding) → size W ≤ n → fs ≡ filter_map (class_finding r s) (take n (names s.old)) → HasExactly finding_order (IsFinding r s) fs
   all_classes are W v n fs l e =
       subst (HasExactly finding_order (IsFinding r s)) (sym (whole (class_finding r s) s.old n fs (subst (λ (V : World). size V ≤ n) v l) e)) (class_exact are.old_side)
-
--- what is found of the two sides' tables is found of the sides
-pub seen : (r n : ℕ) (t s : SidesOf) → t ≡ s → (o : Option Finding) → o ≡ class_finding r t (name_at t.old n) → o ≡ class_finding r s (name_at s.old n)
-seen r n t s v o e = subst (λ (w : SidesOf). o ≡ class_finding r w (name_at w.old n)) v e

@@ -1,51 +1,23 @@
 -- What a rule on a class and a key makes of all classes, whatever it makes.
-use Rattle.std.proofs.Common.{Some, ◌≡◌, ◌<◌, ◌≤◌, ◌+◌, ◌++◌, ◌∷◌, [], ℕ, zero, suc, Bool, true, false, cond, List, Option, refl, sym, ◌∙◌, ap, subst, take, map, length, get_or, arith, ◌⊎◌, inl, inr}
+use Rattle.std.proofs.Common.{Some, ◌≡◌, ◌<◌, ◌≤◌, ◌+◌, ◌++◌, ◌∷◌, [], ℕ, zero, suc, Bool, true, List, Option, refl, sym, ◌∙◌, ap, subst, take, map, length, get_or, arith}
 use Rattle.std.specs.Prelude.{IsTrue}
-use Rattle.std.specs.List.{filter, filter_map, cons_option, All, Contains}
+use Rattle.std.specs.List.{filter_map, cons_option, All, Contains}
 use Rattle.std.proofs.lemmas.List.{length-map, take_more}
 use Rattle.std.proofs.lemmas.List.Elements.{All-get_or, All-contains_itself, filter_passes, filter_map-append}
 use Rattle.jc_facts.specs.declared.key.Key.{Key}
 use Rattle.jc_facts.specs.Names.{Bytes}
-use Rattle.jc_facts.specs.Exactly.{Before, NamesRise, Rises}
+use Rattle.jc_facts.specs.Exactly.{NamesRise, by_names}
 use Rattle.jc_facts.specs.KeyOrder.{key_cmp}
 use Rattle.jc_facts.specs.Exactly.{HasExactly}
 use Rattle.std.specs.declared.cmp.Ordering.{Ordering}
-use Rattle.jc_lemmas.proofs.Listed.{EachOf, here, there, none, cases}
+use Rattle.jc_lemmas.proofs.Listed.{filter_in}
+use Rattle.jc_facts.proofs.InOrder.{Rises-filter}
 use Rattle.jc_table.specs.Ids.{names}
 use Rattle.jc_facts.proofs.Exactly.{OfNames, exact_over, grown_start, grown_more, grown_all}
 use Rattle.jc_table.proofs.Numbers.{names-rise}
 use Rattle.jc_sides.specs.Rules.{HasEachKey, IsItemRule, IsOf}
 use Rattle.jc_sides.specs.SharedOf.{AreThose, name_of, SharedOf}
 use Rattle.jc_sides.specs.SidesOf.{SidesOf}
-
--- ---- names that pass a test
-
-filter_each : (P : Bytes → Type 0) (test : Bytes → Bool) (xs : List Bytes) → EachOf P xs → EachOf P (filter test xs)
-filter_each P test [] h = tt
-filter_each P test (x ∷ xs) h = go (test x) (filter_each P test xs h.1)
-  where
-    go : (b : Bool) → EachOf P (filter test xs) → EachOf P (cond b (x ∷ filter test xs) (filter test xs))
-    go true r = (h.0, r)
-    go false r = r
-
-filter_rise : (test : Bytes → Bool) (xs : List Bytes) → NamesRise (λ x. x) xs → NamesRise (λ x. x) (filter test xs)
-unfolding Rises
-filter_rise test [] h = tt
-filter_rise test (x ∷ xs) h = go (test x) (filter_rise test xs h.1)
-  where
-    go : (b : Bool) → NamesRise (λ x. x) (filter test xs) → NamesRise (λ x. x) (cond b (x ∷ filter test xs) (filter test xs))
-    go true r = (filter_each (λ y. Before x y) test xs h.0, r)
-    go false r = r
-
-filter_in : (test : Bytes → Bool) (xs : List Bytes) (x : Bytes) → Contains xs x → test x ≡ true → Contains (filter test xs) x
-filter_in test [] x c h = absurd (none x c)
-filter_in test (y ∷ ys) x c h = go (test y) refl (cases y ys x c) (filter_in test ys x)
-  where
-    go : (b : Bool) → test y ≡ b → (y ≡ x) ⊎ Contains ys x → (Contains ys x → test x ≡ true → Contains (filter test ys) x) → Contains (cond b (y ∷ filter test ys) (filter test ys)) x
-    go true e (inl is) r = subst (Contains (y ∷ filter test ys)) is (here y (filter test ys))
-    go true e (inr d) r = there x y (filter test ys) (r d h)
-    go false e (inl is) r = absurd (let z : test x ≡ false = ap test (sym is) ∙ e in cc)
-    go false e (inr d) r = r d h
 
 -- ---- a loop over keys
 
@@ -75,7 +47,7 @@ module _ {F : Type 0} (order : F → F → Ordering) (class_of : F → Bytes) (m
     OfThese xs = OfNames class_of (Stand s) xs
 
     rise : NamesRise (λ x. x) (map name_of bs)
-    rise = subst (NamesRise (λ x. x)) (sym those.all) (filter_rise (covers s) (names s.old) (names-rise s.old those.sides.old_side.differ))
+    rise = subst (NamesRise (λ x. x)) (sym those.all) (Rises-filter (by_names (λ (x : Bytes). x)) (covers s) (names s.old) (names-rise s.old those.sides.old_side.differ))
 
     pub start : (fs : List F) → fs ≡ [] → HasExactly order (OfThese []) fs
     start = grown_start order class_of (Stand s) (h.by_class s) (map name_of bs) rise

@@ -1,5 +1,5 @@
 -- Rules that find something of a class and a key, and rules that make a collision of them.
-use Rattle.std.proofs.Common.{◌≡◌, ℕ, Bool, true, false, cond, List, refl, sym, ◌∙◌, ap, subst, Option, Some, None, is_some, ◌==◌}
+use Rattle.std.proofs.Common.{◌≡◌, ℕ, Bool, true, false, cond, refl, sym, ◌∙◌, ap, subst, Option, Some, None, ◌==◌}
 use Rattle.std.specs.Prelude.{IsTrue}
 use Rattle.std.specs.declared.cmp.Ordering.TheVariants.{Less}
 use Rattle.std.specs.Cmp.Lexicographic.{nat_list_cmp_total}
@@ -15,27 +15,35 @@ use Rattle.jc_facts.specs.KeyOrder.{key_cmp}
 use Rattle.jc_facts.specs.Names.{Bytes}
 use Rattle.jc_facts.specs.Options.{some_where}
 use Rattle.jc_facts.specs.rule.Orders.{finding_order, collision_order}
-use Rattle.jc_facts.specs.Exactly.{HasExactly}
-use Rattle.jc_facts.specs.world.World.{find_class}
+use Rattle.jc_facts.specs.rule.Bases.{is_kept}
 use Rattle.jc_table.proofs.Numbers.{names-in}
-use Rattle.jc_sides.specs.Rules.{on_key, key_finding, key_collision, IsFinding, IsCollision, HasEachKey, IsItemRule, IsOf}
+use Rattle.jc_sides.specs.SharedOf.{OfKept}
+use Rattle.jc_sides.specs.Rules.{on_key, key_finding, key_collision, IsFinding, IsCollision, IsItemRule, IsOf}
 use Rattle.jc_sides.specs.SidesOf.{SidesOf}
+use Rattle.jc_sides.proofs.BaseParts.{kept_parts}
 use Rattle.jc_sides.proofs.Subjects.{ordered_as, subject_key_before, finding_class_before, class_in, IsOnKey, of_key, to_key}
 
--- an exact list of keys that has each of which something is made
-pub each_key : {F : Type 0} (makes : Key → Option F) (P : Key → Type 0) (keys : List Key) → HasExactly key_cmp P keys → ((k : Key) (f : F) → makes k ≡ Some f → P k) → HasEachKey makes keys
-each_key makes P keys h listed = record { in_order = h.in_order; each = λ k f e. h.complete k (listed k f e) }
+-- ---- classes
+
+-- a class of which a rule speaks is kept
+pub kept_where : (covers : SidesOf → Bytes → Bool) → OfKept covers → (s : SidesOf) (x : Bytes) → covers s x ≡ true → is_kept s.old s.new x ≡ true
+kept_where covers kept s x c = go (is_kept s.old s.new x) refl
+  where
+    go : (b : Bool) → is_kept s.old s.new x ≡ b → b ≡ true
+    go true e = refl
+    go false e = absurd (let z : true ≡ false = sym c ∙ kept s x e in cc)
 
 -- ---- findings
 
 -- a rule that finds something of such classes alone
-pub finding_rule : (r : ℕ) → IsOnKey r → (covers : SidesOf → Bytes → Bool) → ((s : SidesOf) (x : Bytes) (k : Key) (f : Finding) → key_finding r s x k ≡ Some f → IsTrue (covers s x))
+pub finding_rule : (r : ℕ) → IsOnKey r → (covers : SidesOf → Bytes → Bool) → OfKept covers → ((s : SidesOf) (x : Bytes) (k : Key) (f : Finding) → key_finding r s x k ≡ Some f → IsTrue (covers s x))
     → IsItemRule finding_order (λ f. f.«class») (key_finding r) (IsFinding r) covers
-finding_rule r i covers covered = record {
+finding_rule r i covers kept covered = record {
   stands = λ s x k f e. (to_key s r x k f e).1;
   made = λ s f p. of_key s r i f p;
   by_key = λ s x k l f g b e d. ordered_as (on_key r x k) (on_key r x l) f g (to_key s r x k f e).0 (to_key s r x l g d).0 (subject_key_before r x k l b);
   by_class = λ s f g p q b. finding_class_before f g (p.0 ∙ sym q.0) b;
+  kept = λ s x c. kept_where covers kept s x c;
   on_covered = λ s are f p. let w = of_key s r i f p in (class_in s r f p, covered s f.«class» w.0 f w.1);
 }
 
@@ -90,15 +98,16 @@ collision_key_before c d a b h = rw (a, b, tied_itself nat_cmp_total d.rule, tie
 collision_class_before : (c d : Collision) → c.rule ≡ d.rule → Before c.«class» d.«class» → collision_order c d ≡ Less
 collision_class_before c d e h = rw (e, tied_itself nat_cmp_total d.rule, h) refl
 
--- a rule that makes a collision of such classes alone, which are there
-pub collision_rule : (r : ℕ) (covers : SidesOf → Bytes → Bool) → ((s : SidesOf) (x : Bytes) → IsTrue (covers s x) → is_some (find_class s.old x) ≡ true) → ((s : SidesOf) (x : Bytes) (k : Key) (c : Collision) → key_collision r s x k ≡ Some c → IsTrue (covers s x))
+-- a rule that makes a collision of such classes alone
+pub collision_rule : (r : ℕ) (covers : SidesOf → Bytes → Bool) → OfKept covers → ((s : SidesOf) (x : Bytes) (k : Key) (c : Collision) → key_collision r s x k ≡ Some c → IsTrue (covers s x))
     → IsItemRule collision_order (λ c. c.«class») (key_collision r) (IsCollision r) covers
-collision_rule r covers there covered = record {
+collision_rule r covers kept covered = record {
   stands = λ s x k c e. collision_stands s r x k c e;
   made = λ s c p. (c.key, itself s c p);
   by_key = λ s x k l c d b e g. by_keys s x k l c d b (has s r x k c e) (has s r x l d g);
   by_class = λ s c d p q b. collision_class_before c d (p.0 ∙ sym q.0) b;
-  on_covered = λ s are c p. let b = covered s c.«class» c.key c (itself s c p) in (names-in s.old c.«class» (there s c.«class» b), b);
+  kept = λ s x c. kept_where covers kept s x c;
+  on_covered = λ s are c p. let b = covered s c.«class» c.key c (itself s c p) in (names-in s.old c.«class» ((kept_parts s c.«class» (kept_where covers kept s c.«class» b)).there), b);
 }
   where
     itself : (s : SidesOf) (c : Collision) → IsCollision r s c → key_collision r s c.«class» c.key ≡ Some c

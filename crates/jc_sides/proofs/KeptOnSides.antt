@@ -8,15 +8,11 @@ use Rattle.jc_facts.specs.Names.{Bytes}
 use Rattle.jc_facts.specs.Options.{some_and}
 use Rattle.jc_facts.specs.rule.Bases.{class_is, is_class_usable, is_kept}
 use Rattle.jc_facts.specs.world.World.{World, size, find_class}
-use Rattle.jc_facts.proofs.World.{find-name}
+use Rattle.jc_facts.proofs.World.{found_name}
 use Rattle.jc_table.specs.Ids.{name_at, id_of}
 use Rattle.jc_table.proofs.Numbers.{id-find, id_of-Some}
 use Rattle.jc_sides.specs.SharedOf.{IsWhere, name_of, SharedOf}
 use Rattle.jc_sides.specs.SidesOf.{SidesOf}
-
--- the record has the name
-pub named : (W : World) (x : Bytes) (c : ClassFacts) → Some c ≡ find_class W x → c.name ≡ x
-named W x c e = find-name W x c (sym e)
 
 -- a usable class has a number
 usable_there : (W : World) (x : Bytes) → is_class_usable W x ≡ true → is_some (id_of W x) ≡ true
@@ -64,7 +60,7 @@ module _ (t s : SidesOf) (v : t ≡ s) (n : ℕ) where
 
   module _ (c : ClassFacts) (f : Some c ≡ find_class t.old (name_at t.old n)) where
     is : c.name ≡ name_at t.old n
-    is = named t.old (name_at t.old n) c f
+    is = found_name t.old (name_at t.old n) c f
 
     pub absent : None ≡ id_of t.new c.name → Tells s None
     absent h = seen None (not_after t.old t.new (name_at t.old n) (numbered t.new (name_at t.old n) (ap (id_of t.new) (sym is) ∙ sym h)))

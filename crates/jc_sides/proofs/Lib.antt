@@ -2,6 +2,10 @@ pub mod KeptOnSides
 pub mod NamedAbove
 pub mod Subjects
 pub mod ByClass
+pub mod BrokenActs
+pub mod KeySets
+mod Finals
+pub mod MemberKeys
 mod TestedClasses
 mod ByItems
 pub mod ItemRules

@@ -6,7 +6,7 @@ use Rattle.jc_facts.specs.Flags.{interface_flag, final_flag}
 use Rattle.jc_facts.specs.Names.{Bytes}
 use Rattle.jc_facts.specs.rule.Bases.{is_class_usable, is_kept, became_class, is_steady, is_extendable, is_implementable, is_class_closed, is_base_class, is_base_interface, has_init, is_open, public_or_protected}
 use Rattle.jc_facts.specs.world.World.{find_class}
-use Rattle.jc_sides.specs.ClientsOf.{becomes_class, could_extend, could_implement, shuts_out, closes, stays_superclass, stays_interface}
+use Rattle.jc_sides.specs.steps.ClientsOf.{becomes_class, could_extend, could_implement, shuts_out, closes, stays_superclass, stays_interface}
 use Rattle.jc_sides.specs.SidesOf.{SidesOf}
 
 -- ---- a class that isn't kept

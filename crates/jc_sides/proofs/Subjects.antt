@@ -1,5 +1,5 @@
 -- Findings and their subjects: what stands of a rule is of the rule's form, and subjects decide the order.
-use Rattle.std.proofs.Common.{◌≡◌, ◌<◌, ℕ, Bool, true, false, cond, refl, sym, ◌∙◌, ap, subst, Option, Some, None, is_some, Ordering, ◌==◌}
+use Rattle.std.proofs.Common.{◌≡◌, ◌<◌, ℕ, false, refl, sym, ◌∙◌, ap, subst, Option, Some, None, is_some, Ordering, ◌==◌}
 use Rattle.std.specs.List.{Contains}
 use Rattle.std.specs.declared.cmp.Ordering.TheVariants.{Less, Equal}
 use Rattle.std.specs.Ordering.{nat_cmp, on, then_cmp}
@@ -7,6 +7,7 @@ use Rattle.std.specs.Option.{option_cmp}
 use Rattle.std.specs.Cmp.{nat_cmp_is}
 use Rattle.std.specs.Cmp.Lexicographic.{nat_list_cmp_total}
 use Rattle.std.proofs.lemmas.Cmp.{nat_cmp_total, tied_itself}
+use Rattle.jc_lemmas.proofs.Options.{passed}
 use Rattle.jc_facts.specs.declared.finding.Finding.{Finding}
 use Rattle.jc_facts.specs.declared.key.Key.{Key}
 use Rattle.jc_facts.specs.Exactly.{Before}
@@ -56,10 +57,6 @@ pub finding_class_before : (f g : Finding) → f.rule ≡ g.rule → Before f.«
 finding_class_before f g e h = rw (e, same_number g.rule, h) refl
 
 -- ---- the forms
-
-pub passed : {A : Type 0} (b : Bool) (o p q : Option A) → b ≡ false → cond b o p ≡ q → p ≡ q
-passed true o p q e h = absurd (cc)
-passed false o p q e h = h
 
 abbrev pub subject : ℕ → Bytes → Option Key → Option Bytes → Subject
 subject r x k t = record { rule = r; «class» = x; key = k; target = t }

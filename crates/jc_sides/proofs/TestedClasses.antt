@@ -12,7 +12,7 @@ use Rattle.jc_table.specs.Ids.{names, name_at}
 use Rattle.jc_table.proofs.Numbers.{names-length}
 use Rattle.jc_sides.specs.SharedOf.{IsShared, IsWhere, AddsWhere, AreThose, name_of, SharedOf}
 use Rattle.jc_sides.specs.SidesOf.{SidesOf, AreSides}
-use Rattle.jc_sides.proofs.ByClass.{number_is}
+use Rattle.jc_facts.proofs.Options.{some_where-is}
 
 -- a kept class is added where its name passes
 pub adds : (test : SidesOf → Bytes → Bool) (s : SidesOf) (x : Bytes) (b : SharedOf) (bs gs : List SharedOf) → IsWhere (is_kept s.old s.new x) s x (Some b) → test s (name_of b) ≡ true → gs ≡ bs ++ b ∷ [] → AddsWhere (test s x) s x bs gs
@@ -51,7 +51,7 @@ module _ (test : Bytes → Bool) (s : SidesOf) where
   -- one more class; the table's world is the old side's
   pub one_more : (W : World) → W ≡ s.old → (n k : ℕ) (bs gs : List SharedOf) → n < size W → some_where (nat_lt n (size W)) n ≡ Some k → AreSoFar n bs → AddsWhere (test (name_at s.old k)) s (name_at s.old k) bs gs → AreSoFar (n + 1) gs
   one_more W v n k bs gs l is h e =
-      more n bs gs e.0 (subst (λ (V : World). n < size V) v l) h (subst (λ (m : ℕ). IsWhere (test (name_at s.old m)) s (name_at s.old m) e.0) (number_is (nat_lt n (size W)) n k is) e.1) e.2
+      more n bs gs e.0 (subst (λ (V : World). n < size V) v l) h (subst (λ (m : ℕ). IsWhere (test (name_at s.old m)) s (name_at s.old m) e.0) (some_where-is (nat_lt n (size W)) n k is) e.1) e.2
 
   -- all classes
   pub all_classes : AreSides s → (W : World) → W ≡ s.old → (n : ℕ) (bs : List SharedOf) → size W ≤ n → AreSoFar n bs → AreThose test s bs

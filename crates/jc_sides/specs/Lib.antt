@@ -2,5 +2,8 @@ pub mod SidesOf
 pub mod SidesFields
 pub mod SharedOf
 pub mod SharedFields
+pub mod BrokenOf
+pub mod BrokenFields
+pub mod Members
 pub mod Rules
-pub mod ClientsOf
+pub mod steps

@@ -8,6 +8,7 @@ use Rattle.jc_facts.specs.declared.key.Key.{Key}
 use Rattle.jc_facts.specs.declared.verdict.Collision.{Collision}
 use Rattle.jc_facts.specs.rule.Collisions.{collision_at, CollisionStands}
 use Rattle.jc_facts.specs.Exactly.{Before}
+use Rattle.jc_facts.specs.rule.Bases.{is_kept}
 use Rattle.jc_facts.specs.rule.Findings.{Subject, finding_at, Stands}
 use Rattle.jc_facts.specs.KeyOrder.{key_cmp}
 use Rattle.jc_facts.specs.Names.{Bytes}
@@ -66,11 +67,12 @@ abbrev pub IsOf : {F : Type 0} → (F → Bytes) → (F → Type 0) → Bytes �
 IsOf class_of Stand x f = (class_of f ≡ x) × Stand f
 
 -- what the rule makes is what stands, each of one key; the class decides the order and then the key; and it stands on classes
--- alone of which the rule speaks
+-- alone of which the rule speaks, which are kept
 pub record IsItemRule {F : Type 0} (order : F → F → Ordering) (class_of : F → Bytes) (makes : SidesOf → Bytes → Key → Option F) (Stand : SidesOf → F → Type 0)
     (covers : SidesOf → Bytes → Bool) : Type 0 where
   pub stands : (s : SidesOf) (x : Bytes) (k : Key) (f : F) → makes s x k ≡ Some f → IsOf class_of (Stand s) x f
   pub made : (s : SidesOf) (f : F) → Stand s f → (k : Key) × (makes s (class_of f) k ≡ Some f)
   pub by_key : (s : SidesOf) (x : Bytes) (k l : Key) (f g : F) → key_cmp k l ≡ Less → makes s x k ≡ Some f → makes s x l ≡ Some g → order f g ≡ Less
   pub by_class : (s : SidesOf) (f g : F) → Stand s f → Stand s g → Before (class_of f) (class_of g) → order f g ≡ Less
+  pub kept : (s : SidesOf) (x : Bytes) → IsTrue (covers s x) → IsTrue (is_kept s.old s.new x)
   pub on_covered : (s : SidesOf) → AreSides s → (f : F) → Stand s f → Contains (names s.old) (class_of f) × IsTrue (covers s (class_of f))

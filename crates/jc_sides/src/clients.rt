@@ -6,7 +6,7 @@ ghost use Rattle.jc_facts.specs.client.Clients.{is_allowed_name};
 ghost use Rattle.jc_facts.specs.Names.{is_name_among, is_init_name};
 ghost use Rattle.jc_facts.specs.world.World.{find_class};
 ghost use Rattle.jc_facts.specs.rule.Bases.{allowed, permits_some, has_init, public_or_protected, leaves_out, is_kept, became_class, is_steady, is_class_closed, is_base_class, is_base_interface};
-ghost use Rattle.jc_sides.specs.ClientsOf.{becomes_class, could_extend, could_implement, shuts_out, closes, stays_superclass, stays_interface};
+ghost use Rattle.jc_sides.specs.steps.ClientsOf.{becomes_class, could_extend, could_implement, shuts_out, closes, stays_superclass, stays_interface};
 ghost use Rattle.jc_sides.specs.SharedOf.{IsShared, name_of};
 
 use crate::shared::{Shared, after, before};
@@ -52,8 +52,9 @@ fn is_allowed(table: &Table, name: &Name) -> bool
         && is_utf8(bytes)
 }
 
-// Whether a client of both sides may have this name.
-fn is_allowed_on_both(sides: &Sides<'_>, name: &Name) -> bool
+/// Whether a client of both sides may have this name: neither declares it, names it above a class
+/// or has a class of its package, and it is a UTF-8 text of at most 4,090 bytes.
+pub fn is_allowed_on_both(sides: &Sides<'_>, name: &Name) -> bool
     ensures { result ≡ allowed sides.now.old sides.now.new name.now }
 {
     is_allowed(sides.old, name) && is_allowed(sides.new, name)
@@ -103,8 +104,9 @@ fn seals_off(sides: &Sides<'_>, before: &Option<Items<Name>>, after: &Option<Ite
     }
 }
 
-// Whether the method is an instance initializer that subclasses can call.
-fn is_open_init(method: &Member) -> bool
+/// Whether the method is an instance initializer that subclasses can call: it is public or
+/// protected (JVMS 2.9.1).
+pub fn is_open_init(method: &Member) -> bool
     ensures { result ≡ (is_init_name method.now.name && public_or_protected method.now) }
 {
     names::is_init(method.name.as_bytes())

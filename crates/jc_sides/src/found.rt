@@ -1,91 +1,80 @@
-//! What rules make: findings and collisions.
-ghost use Rattle.std.specs.Prelude.{◌≡◌, ◌++◌, [], IfOk, OnOk};
+//! Findings and collisions, of what rules say.
+ghost use Rattle.std.specs.Prelude.{◌≡◌, ◌++◌, [], IfOk, OnOk, option_map};
 ghost use Rattle.std.specs.List.{cons_option};
-ghost use Rattle.jc_facts.specs.rule.Collisions.{made_collision};
-ghost use Rattle.jc_facts.specs.rule.Findings.{report_where};
-ghost use Rattle.jc_facts.specs.Options.{some_where};
-ghost use Rattle.jc_sides.specs.Rules.{on_class, on_key};
+ghost use Rattle.jc_sides.specs.BrokenOf.{found, collided};
 
+use crate::broken::BrokenAct;
 use jc_base::name::Name;
-use jc_facts::act::Act;
 use jc_facts::finding::Finding;
 use jc_facts::key::Key;
-use jc_facts::link_error::LinkError;
 use jc_facts::verdict::Collision;
 use std::alloc::{AllocError, Global};
 
-/// The finding of a rule on a class alone, where the rule stands.
-pub fn class_finding_where(
+// The name once more, if there is one.
+fn copy_name(alloc: Global, name: Option<&Name>) -> Result<Option<Name>, AllocError>
+    ensures { IfOk result (λ copy. copy ≡ option_map (λ n. n.now) name.entry) }
+{
+    match name {
+        None => Ok(None),
+        Some(name) => Ok(Some(name.copy(alloc)?)),
+    }
+}
+
+// The key once more, if there is one.
+fn copy_key(alloc: Global, key: Option<&Key>) -> Result<Option<Key>, AllocError>
+    ensures { IfOk result (λ copy. copy ≡ option_map (λ k. k.now) key.entry) }
+{
+    match key {
+        None => Ok(None),
+        Some(key) => Ok(Some(key.copy(alloc)?)),
+    }
+}
+
+/// The finding of the rule on the class, and on the key or the target where there is one, if an act
+/// is broken.
+pub fn finding(
     alloc: Global,
-    stands: bool,
     rule: u8,
     class: &Name,
-    act: Act,
-    error: LinkError,
+    key: Option<&Key>,
+    target: Option<&Name>,
+    broken: Option<BrokenAct<'_>>,
 ) -> Result<Option<Finding>, AllocError>
-    ensures { IfOk result (λ found. found ≡ report_where stands (on_class rule «class».now) act error) }
+    ensures { IfOk result (λ f. f ≡ found (record { rule = rule; «class» = «class».now; key = option_map (λ k. k.now) key.entry; target = option_map (λ t. t.now) target.entry }) broken.entry) }
 {
-    if !stands {
+    let Some(broken) = broken else {
         return Ok(None);
-    }
+    };
     Ok(Some(Finding {
         rule,
         class: class.copy(alloc)?,
-        key: None,
-        target: None,
-        act,
-        seat: None,
-        error,
+        key: copy_key(alloc, key)?,
+        target: copy_name(alloc, target)?,
+        act: broken.act,
+        seat: copy_name(alloc, broken.seat)?,
+        error: broken.error,
     }))
 }
 
-/// The finding of a rule on a class and a key, without a seat, where the rule stands.
-pub fn key_finding_where(
+/// The collision of the rule on the class and the key, if an act is broken.
+pub fn collision(
     alloc: Global,
-    stands: bool,
     rule: u8,
     class: &Name,
     key: &Key,
-    act: Act,
-    error: LinkError,
-) -> Result<Option<Finding>, AllocError>
-    ensures { IfOk result (λ found. found ≡ report_where stands (on_key rule «class».now key.now) act error) }
-{
-    if !stands {
-        return Ok(None);
-    }
-    Ok(Some(Finding {
-        rule,
-        class: class.copy(alloc)?,
-        key: Some(key.copy(alloc)?),
-        target: None,
-        act,
-        seat: None,
-        error,
-    }))
-}
-
-/// The collision of a rule on a class and a key, where the rule stands.
-pub fn collision_where(
-    alloc: Global,
-    stands: bool,
-    rule: u8,
-    class: &Name,
-    key: &Key,
-    act: Act,
-    error: LinkError,
+    broken: Option<BrokenAct<'_>>,
 ) -> Result<Option<Collision>, AllocError>
-    ensures { IfOk result (λ found. found ≡ some_where stands (made_collision rule «class».now key.now act error)) }
+    ensures { IfOk result (λ c. c ≡ collided rule «class».now key.now broken.entry) }
 {
-    if !stands {
+    let Some(broken) = broken else {
         return Ok(None);
-    }
+    };
     Ok(Some(Collision {
         rule,
         class: class.copy(alloc)?,
         key: key.copy(alloc)?,
-        act,
-        error,
+        act: broken.act,
+        error: broken.error,
     }))
 }
 

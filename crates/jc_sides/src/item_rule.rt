@@ -5,6 +5,7 @@ ghost use Rattle.std.specs.declared.cmp.Ordering.{Ordering};
 ghost use Rattle.jc_facts.specs.declared.key.Key.{Key};
 ghost use Rattle.jc_facts.specs.Names.{Bytes};
 ghost use Rattle.jc_facts.specs.Exactly.{HasExactly};
+ghost use Rattle.jc_facts.specs.rule.Bases.{is_kept};
 ghost use Rattle.jc_sides.specs.Rules.{HasEachKey, IsItemRule, IsOf};
 ghost use Rattle.jc_sides.specs.SharedOf.{IsShared, AreThose, name_of};
 ghost use Rattle.jc_sides.specs.SidesOf.{SidesOf, AreSides};
@@ -42,8 +43,10 @@ pub trait ItemRule {
         sides: &Sides<'_>,
         class: &Shared<'_>,
     ) -> Result<Vec<Key>, AllocError>
+        requires sides { AreSides sides.now }
         requires ready { ready self.now sides.now }
         requires shared { IsShared sides.now «class».now }
+        requires kept { IsTrue (is_kept sides.now.old sides.now.new (name_of «class».now)) }
         requires covered { IsTrue (covers sides.now (name_of «class».now)) }
         ensures { IfOk result (λ keys. HasEachKey (makes sides.now (name_of «class».now)) keys.items) };
 
@@ -88,6 +91,7 @@ fn of_class<R: ItemRule>(
     sides: &Sides<'_>,
     class: &Shared<'_>,
 ) -> Result<Vec<R::Item>, AllocError>
+    requires sides { AreSides sides.now }
     requires ready { R.ready rule.now sides.now }
     requires rule { IsItemRule R.order R.class_of R.makes R.stands R.covers }
     requires shared { IsShared sides.now «class».now }

@@ -1,11 +1,15 @@
 //! Two releases side by side, and what every rule that compares them is made of.
 #![tactic(auto)]
 
+pub mod broken;
 pub mod class_rule;
 pub mod classes;
 pub mod clients;
+pub mod collision_rule;
+pub mod finding_rule;
 pub mod found;
 pub mod item_rule;
 pub mod kept;
+pub mod members;
 pub mod shared;
 pub mod sides;

@@ -60,5 +60,5 @@ is_like s was (Err e) = false
 is_like s was (Ok f) = f.flags == was.flags && same (name_at s.old was.owner) (name_at s.new f.owner)
 
 -- the member that is found now is as the one that was found
-abbrev pub is_alike : SidesOf → Looked → Bool
-is_alike s u = is_like s u.before u.after
+abbrev pub is_found_alike : SidesOf → Looked → Bool
+is_found_alike s u = is_like s u.before u.after

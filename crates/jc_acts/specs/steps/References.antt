@@ -6,20 +6,14 @@ use Rattle.jc_facts.specs.declared.key.Key.{Key}
 use Rattle.jc_facts.specs.client.Acts.{Form, FieldForm, MethodForm, InterfaceForm}
 use Rattle.jc_facts.specs.rule.OpenActs.{field_acts}
 use Rattle.jc_facts.specs.rule.Bases.{is_key_of_method}
-use Rattle.jc_acts.specs.declared.lookup.Reference.{Reference}
-use Rattle.jc_acts.specs.declared.lookup.Reference.TheVariants as to
+use Rattle.jc_facts.specs.declared.act.Form.{Form as FormOf}
+use Rattle.jc_facts.specs.declared.act.Form.TheVariants as forms
 
--- the form of the reference (JVMS 4.4.2)
-abbrev pub form : Reference → Form
-form to.Field = FieldForm
-form to.Method = MethodForm
-form to.InterfaceMethod = InterfaceForm
-
--- the acts by such references that a rule looks at, in this order
-abbrev pub acts_of : Reference → List Act
-acts_of to.Field = field_acts
-acts_of to.Method = act.InvokeVirtual ∷ act.InvokeStatic ∷ []
-acts_of to.InterfaceMethod = act.InvokeInterface ∷ act.InvokeStaticInterface ∷ []
+-- the acts by references of the form that a rule looks at, in this order
+abbrev pub acts_of : FormOf → List Act
+acts_of forms.Field = field_acts
+acts_of forms.Method = act.InvokeVirtual ∷ act.InvokeStatic ∷ []
+acts_of forms.Interface = act.InvokeInterface ∷ act.InvokeStaticInterface ∷ []
 
 -- the key is one that references of the form name: no initializer's, where they are to methods
 abbrev pub MayName : Form → Key → Type 0

@@ -27,8 +27,8 @@ unfoldable pub target_finding : SidesOf → Bytes → Bytes → Option Finding
 target_finding s x t = finding_at s.old s.new (on_target x t)
 
 -- the kept class t isn't in the new chain of x, and is no interface
-abbrev pub has_left : SidesOf → Bytes → Bytes → Bool
-has_left s x t = is_kept s.old s.new t && not (in_chain s.new x t) && not (is_interface_of s.new t)
+abbrev pub has_left_chain : SidesOf → Bytes → Bytes → Bool
+has_left_chain s x t = is_kept s.old s.new t && not (in_chain s.new x t) && not (is_interface_of s.new t)
 
 -- the finding stands, and is that a superclass has left the chain of the class x
 abbrev pub OfChain : SidesOf → Bytes → Finding → Type 0

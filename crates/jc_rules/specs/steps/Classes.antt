@@ -9,8 +9,8 @@ use Rattle.jc_facts.specs.world.World.{World}
 use Rattle.jc_sides.specs.SidesOf.{SidesOf}
 
 -- why clients can't use the class of this name
-abbrev pub unusable : World → Bytes → Option LinkError
-unusable W x = cond (is_class_usable W x) None (Some (gone_error W x))
+abbrev pub why_unusable : World → Bytes → Option LinkError
+why_unusable W x = cond (is_class_usable W x) None (Some (gone_error W x))
 
 -- the finding stands, and is one of the rules up to this one
 abbrev pub UpToRule : ℕ → SidesOf → Finding → Type 0

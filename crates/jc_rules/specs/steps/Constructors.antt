@@ -14,21 +14,21 @@ use Rattle.jc_facts.specs.rule.Bases.{public_or_protected}
 use Rattle.jc_facts.specs.rule.Findings.{missing_or}
 
 -- objects of a class of this record can't be made
-abbrev pub is_uninstantiable : ClassFacts → Bool
-is_uninstantiable c = abstract_flag c.flags || interface_flag c.flags
+abbrev pub makes_no_objects : ClassFacts → Bool
+makes_no_objects c = abstract_flag c.flags || interface_flag c.flags
 
 -- the class declares an initializer of the key that passes the test
 abbrev pub declares_init : (Member → Bool) → ClassFacts → Key → Bool
 declares_init test c k = some_and (λ m. is_init_name m.name && test m) (own_method_of c k)
 
 -- why clients can't make objects by the initializer with the record d, where they could with c (JVMS 6.5, new)
-abbrev pub new_fault : ClassFacts → ClassFacts → Key → Option LinkError
-new_fault c d k = cond (not (is_uninstantiable c) && declares_init (λ m. public_flag m.flags) c k)
-    (cond (is_uninstantiable d) (Some InstantiationError) (missing_or (λ m. fault_where (not (public_flag m.flags)) IllegalAccessError) (own_method_of d k)))
+abbrev pub fault_of_new : ClassFacts → ClassFacts → Key → Option LinkError
+fault_of_new c d k = cond (not (makes_no_objects c) && declares_init (λ m. public_flag m.flags) c k)
+    (cond (makes_no_objects d) (Some InstantiationError) (missing_or (λ m. fault_where (not (public_flag m.flags)) IllegalAccessError) (own_method_of d k)))
     None
 
 -- why classes below can't call the initializer with the record d, where they could with c (JVMS 5.4.4)
-abbrev pub super_fault : ClassFacts → ClassFacts → Key → Option LinkError
-super_fault c d k = cond (declares_init public_or_protected c k)
+abbrev pub fault_of_super : ClassFacts → ClassFacts → Key → Option LinkError
+fault_of_super c d k = cond (declares_init public_or_protected c k)
     (missing_or (λ m. fault_where (not (public_or_protected m)) IllegalAccessError) (own_method_of d k))
     None

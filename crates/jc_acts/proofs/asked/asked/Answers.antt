@@ -1,6 +1,6 @@
 use Rattle.std.proofs.Common.{sym, ap, ◌∙◌, map, take}
 use Rattle.jc_sides.specs.SharedOf.{name_of}
-use Rattle.jc_acts.specs.Seats.{has_lost}
+use Rattle.jc_acts.specs.Seats.{loses_class}
 use Rattle.jc_acts.specs.steps.Firsts.{first_at}
 use Rattle.jc_acts.specs.steps.LookedUp.{closed_use}
 use Rattle.jc_acts.proofs.Narrowed.{root_enough, root_first, shrunk_enough, shared_filtered}
@@ -13,7 +13,7 @@ returns-then-not-is_by_seat-clause-enough c = λ x what.
 
 pub returns-then-is_alike-clause-shared : goal.returns-then-is_alike-clause-shared
 returns-then-is_alike-clause-shared c =
-    shared_filtered c.args.sides.now (λ b. has_lost c.args.sides.now (name_of b)) c.args.seats.now.all.items c.as_slice.result.now c.requires.seats.shared (c.as_slice.ensures.value ∙ c.requires.seats.shrunk)
+    shared_filtered c.args.sides.now (λ b. loses_class c.args.sides.now (name_of b)) c.args.seats.now.all.items c.as_slice.result.now c.requires.seats.shared (c.as_slice.ensures.value ∙ c.requires.seats.shrunk)
 
 pub returns-then-is_alike-clause-enough : goal.returns-then-is_alike-clause-enough
 returns-then-is_alike-clause-enough c = λ x what.

@@ -1,29 +1,35 @@
-use Rattle.std.proofs.Common.{◌≡◌, ◌-◌, ◌+◌, ℕ, suc, Bool, not, None, sym, ap, ◌∙◌, arith}
+use Rattle.std.proofs.Common.{◌≡◌, ◌-◌, ◌+◌, ℕ, suc, Bool, not, None, refl, sym, ap, ◌∙◌, arith}
 use Rattle.jc_facts.specs.declared.class_facts.ClassFacts.{ClassFacts}
 use Rattle.jc_facts.specs.world.World.{size}
 use Rattle.jc_table.specs.Ids.{name_at}
 use Rattle.jc_facts.specs.world.Hierarchy.{in_chain}
+use Rattle.jc_acts.proofs.Beside.{beside_starts, beside_named, beside_steps}
 use Rattle.jc_acts.proofs.Upwards.{any-from, any-here, any-above, any-out, any-end}
 use Rattle.jc_acts.proofs.chains.lacks_any.Goals as goal
 
 pub loop-init : goal.loop-init
 loop-init c =
     let p : ClassFacts → Bool = λ d. not (in_chain c.args.new.now (name_at c.args.new.now c.args.other) d.name) in
-    (c.requires.class, any-from c.args.old.now p c.args.class (size c.args.old.now - 0) (omega arith))
+    (c.requires.class, c.requires.other, any-from c.args.old.now p c.args.class (size c.args.old.now - 0) (omega arith), beside_starts c.args.new.now (name_at c.args.new.now c.args.other) (size c.args.old.now + size c.args.new.now - 0) c.args.other (omega arith) refl)
 
 pub returns-in_default : goal.returns-in_default
 returns-in_default c =
     let p : ClassFacts → Bool = λ d. not (in_chain c.args.new.now (name_at c.args.new.now c.args.other) d.name) in
     let e : c.loop.next ≡ None = cc in
-    sym (c.loop.invariant.1 ∙ any-out c.args.old.now p (size c.args.old.now - c.loop.counter) c.loop.next e)
+    sym (c.loop.invariant.2 ∙ any-out c.args.old.now p (size c.args.old.now - c.loop.counter) c.loop.next e)
 
-pub returns-then-not-has_above : goal.returns-then-not-has_above
-returns-then-not-has_above c =
+pub returns-then-not-found : goal.returns-then-not-found
+returns-then-not-found c =
     let p : ClassFacts → Bool = λ d. not (in_chain c.args.new.now (name_at c.args.new.now c.args.other) d.name) in
     let m : ℕ = size c.args.old.now - c.loop.counter in
     let q : m ≡ suc (size c.args.old.now - (c.loop.counter + 1)) = omega (arith, c.count-end.ensures.count) in
-    sym (c.loop.invariant.1 ∙ any-here c.args.old.now p m (size c.args.old.now - (c.loop.counter + 1)) c.in-Some.above c.loop.next c.facts.result.now q c.in-Some.is c.facts.ensures
-    (ap not (sym c.has_above.ensures ∙ c.if-not-has_above.true)))
+    sym (c.loop.invariant.2 ∙ any-here c.args.old.now p m (size c.args.old.now - (c.loop.counter + 1)) c.in-Some.above c.loop.next c.facts.result.now q c.in-Some.is c.facts.ensures
+    (ap not (sym c.look_beside-found.ensures.found ∙ c.if-not-found.true)))
+
+pub look_beside-found-requires-clause-above : goal.look_beside-found-requires-clause-above
+look_beside-found-requires-clause-above c = λ y i.
+    let n : size c.args.old.now + size c.args.new.now - c.loop.counter ≡ suc (size c.args.old.now + size c.args.new.now - (c.loop.counter + 1)) = omega (arith, c.count-end.ensures.count) in
+    beside_named c.args.new.now (name_at c.args.new.now c.args.other) (size c.args.old.now + size c.args.new.now - c.loop.counter) (size c.args.old.now + size c.args.new.now - (c.loop.counter + 1)) c.loop.beside y n c.loop.invariant.3 i
 
 pub loop-preserved : goal.loop-preserved
 loop-preserved c =
@@ -31,12 +37,15 @@ loop-preserved c =
     let m : ℕ = size c.args.old.now - c.loop.counter in
     let q : m ≡ suc (size c.args.old.now - (c.loop.counter + 1)) = omega (arith, c.count-end.ensures.count) in (
       c.superclass-next.ensures.of_table,
-      c.loop.invariant.1 ∙ any-above c.args.old.now p m (size c.args.old.now - (c.loop.counter + 1)) c.in-Some.above c.loop.next c.superclass-next.result c.facts.result.now q c.in-Some.is c.facts.ensures
-          (ap not (sym c.has_above.ensures ∙ c.if-not-has_above.false)) c.superclass-next.ensures.value,
+      c.look_beside-found.ensures.of_table,
+      c.loop.invariant.2 ∙ any-above c.args.old.now p m (size c.args.old.now - (c.loop.counter + 1)) c.in-Some.above c.loop.next c.superclass-next.result c.facts.result.now q c.in-Some.is c.facts.ensures
+          (ap not (sym c.look_beside-found.ensures.found ∙ c.if-not-found.false)) c.superclass-next.ensures.value,
+      beside_steps c.args.new.now (name_at c.args.new.now c.args.other) (size c.args.old.now + size c.args.new.now - c.loop.counter) (size c.args.old.now + size c.args.new.now - (c.loop.counter + 1)) c.loop.beside c.look_beside-found.result.1
+          (omega (arith, c.count-end.ensures.count)) c.look_beside-found.ensures.up c.loop.invariant.3,
     )
 
 pub returns : goal.returns
 returns c =
     let p : ClassFacts → Bool = λ d. not (in_chain c.args.new.now (name_at c.args.new.now c.args.other) d.name) in
     let z : size c.args.old.now - c.loop.counter ≡ 0 = omega (arith, c.count-end.ensures.count) in
-    sym (c.loop.invariant.1 ∙ any-end c.args.old.now p (size c.args.old.now - c.loop.counter) c.loop.next z)
+    sym (c.loop.invariant.2 ∙ any-end c.args.old.now p (size c.args.old.now - c.loop.counter) c.loop.next z)

@@ -2,7 +2,7 @@ use Rattle.std.proofs.Common.{arith}
 use Rattle.jc_rules.proofs.AllRules.{first_collision, next_collision, all_collisions}
 use Rattle.jc_rules.proofs.CaptureAdded.{is_rule as capture_added}
 use Rattle.jc_rules.proofs.ConstantAdded.{is_rule as constant_added}
-use Rattle.jc_rules.proofs.MethodMadeFinal.{is_collision as method_made_final}
+use Rattle.jc_rules.proofs.FinalAdded.{is_rule as final_added}
 use Rattle.jc_rules.proofs.compare.collisions.Goals as goal
 
 pub by_items-requires-clause-rule : goal.by_items-requires-clause-rule
@@ -12,7 +12,7 @@ pub by_items-requires-2-clause-rule : goal.by_items-requires-2-clause-rule
 by_items-requires-2-clause-rule c = capture_added
 
 pub by_items-requires-3-clause-rule : goal.by_items-requires-3-clause-rule
-by_items-requires-3-clause-rule c = method_made_final
+by_items-requires-3-clause-rule c = final_added
 
 pub returns : goal.returns
 returns c =

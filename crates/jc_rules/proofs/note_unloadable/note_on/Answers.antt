@@ -1,6 +1,6 @@
 use Rattle.std.proofs.Common.{sym, ◌∙◌}
 use Rattle.jc_facts.specs.Names.{Bytes}
-use Rattle.jc_sides.proofs.KeptOnSides.{named}
+use Rattle.jc_facts.proofs.World.{found_name}
 use Rattle.jc_table.specs.Ids.{name_at}
 use Rattle.jc_rules.proofs.NoteUnloadable.{loaded_note, made_note}
 use Rattle.jc_rules.proofs.note_unloadable.note_on.Goals as goal
@@ -12,4 +12,4 @@ pub returns : goal.returns
 returns c =
     let x : Bytes = name_at c.args.table.now c.args.id in
     sym (made_note c.args.table.now c.args.of_old x c.in_ok-copy.field-0 c.in-Some.error (sym c.in_platform.ensures ∙ c.if-in_platform.false) (sym c.fault_at.ensures ∙ c.in-Some.is)
-    (c.in_ok-copy.ensures ∙ named c.args.table.now x c.facts.result.now c.facts.ensures))
+    (c.in_ok-copy.ensures ∙ found_name c.args.table.now x c.facts.result.now c.facts.ensures))

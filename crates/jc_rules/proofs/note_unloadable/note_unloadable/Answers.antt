@@ -1,6 +1,7 @@
 use Rattle.std.proofs.Common.{◌≡◌, ◌<◌, ◌≤◌, sym, ap, ◌∙◌, nat_lt, arith}
 use Rattle.jc_facts.specs.world.World.{size}
-use Rattle.jc_sides.proofs.ByClass.{step, number_is}
+use Rattle.jc_facts.proofs.Options.{some_where-is}
+use Rattle.jc_sides.proofs.ByClass.{step}
 use Rattle.jc_table.specs.Ids.{name_at}
 use Rattle.jc_rules.specs.steps.Notes.{unloadable}
 use Rattle.jc_rules.proofs.NoteUnloadable.{noted_all}
@@ -9,7 +10,7 @@ use Rattle.jc_rules.proofs.note_unloadable.note_unloadable.Goals as goal
 pub loop-n-preserved : goal.loop-n-preserved
 loop-n-preserved c =
     let l : c.loop-n.n < size c.args.table.now = omega (arith, c.count-n-end.ensures.count) in
-    let k : c.unwrap-id.result ≡ c.loop-n.n = number_is (nat_lt c.loop-n.n (size c.args.table.now)) c.loop-n.n c.unwrap-id.result (sym c.id.ensures.value ∙ c.unwrap-id.ensures) in
+    let k : c.unwrap-id.result ≡ c.loop-n.n = some_where-is (nat_lt c.loop-n.n (size c.args.table.now)) c.loop-n.n c.unwrap-id.result (sym c.id.ensures.value ∙ c.unwrap-id.ensures) in
     step (unloadable c.args.table.now c.args.of_old) c.args.table.now c.loop-n.n c.loop-n.notes.items c.push_some.new.items.items c.in_ok-note_on.field-0 l c.loop-n.invariant
     (c.in_ok-note_on.ensures ∙ ap (λ i. unloadable c.args.table.now c.args.of_old (name_at c.args.table.now i)) k) c.in_ok-push_some.ensures
 

@@ -18,10 +18,10 @@ returns-in_default c =
     subst (λ (fs : List Finding). HasExactly finding_order (OfChain c.args.sides.now (name_at c.args.sides.now.old c.args.id)) fs) (sym c.new.ensures.items)
     (unkept_chain c.args.sides.now (name_at c.args.sides.now.old c.args.id) c.in_default.ensures)
 
-pub returns-then-keeps_chain : goal.returns-then-keeps_chain
-returns-then-keeps_chain c =
-    subst (λ (fs : List Finding). HasExactly finding_order (OfChain c.args.sides.now (name_at c.args.sides.now.old c.args.id)) fs) (sym c.new-then-keeps_chain.ensures.items)
-    (subst (λ (y : Bytes). HasExactly finding_order (OfChain c.args.sides.now y) []) c.in-Some.ensures.1 (whole_chain c.args.sides.now (name_of c.in-Some.class) (c.keeps_chain.ensures c.if-keeps_chain.true)))
+pub returns-then-not-has_lost : goal.returns-then-not-has_lost
+returns-then-not-has_lost c =
+    subst (λ (fs : List Finding). HasExactly finding_order (OfChain c.args.sides.now (name_at c.args.sides.now.old c.args.id)) fs) (sym c.new-then-not-has_lost.ensures.items)
+    (subst (λ (y : Bytes). HasExactly finding_order (OfChain c.args.sides.now y) []) c.in-Some.ensures.1 (whole_chain c.args.sides.now (name_of c.in-Some.class) (sym c.has_lost.ensures ∙ c.if-not-has_lost.true)))
 
 pub on_chain-requires-clause-kept : goal.on_chain-requires-clause-kept
 on_chain-requires-clause-kept c = subst (λ (y : Bytes). is_kept c.args.sides.now.old c.args.sides.now.new y ≡ true) (sym (ap name_of c.class.view_is ∙ c.in-Some.ensures.1)) c.in-Some.ensures.0

@@ -9,5 +9,5 @@ returns-in_default c = unkept_target c.args.sides.now c.args.class.now (name_at 
 
 pub returns : goal.returns
 returns c =
-    left c.args.sides.now c.args.class.now (name_at c.args.sides.now.old c.args.id) (name_of c.in-Some.target) c.target.inside.name.now c.has_left-left.result c.in_ok-found.found c.requires.kept c.requires.was c.in-Some.ensures.1
-    (ap name_of c.target.view_is) (c.has_left-left.ensures c.args.class.now c.requires.chain) c.in_ok-found.ensures
+    left c.args.sides.now c.args.class.now (name_at c.args.sides.now.old c.args.id) (name_of c.in-Some.target) c.target.inside.name.now c.has_left-left.result c.broken_where-broken.result c.in_ok-found.found c.requires.kept c.requires.was c.in-Some.ensures.1
+    (ap name_of c.target.view_is) (c.has_left-left.ensures c.args.class.now c.requires.chain) c.broken_where-broken.ensures c.in_ok-found.ensures

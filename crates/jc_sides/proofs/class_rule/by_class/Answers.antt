@@ -7,8 +7,8 @@ use Rattle.jc_sides.proofs.class_rule.by_class.Goals as goal
 pub loop-n-preserved : goal.loop-n-preserved
 loop-n-preserved g c =
     let l : c.loop-n.n < size c.sides.inside.old.now = omega (arith, c.count-n-end.ensures.count) in
-    one_more g.R.ClassRule.rule g.met.R.ClassRule.alone c.args.sides.now c.sides.inside.old.now (ap (λ (s : SidesOf). s.old) c.sides.view_is) c.loop-n.n c.unwrap-id.result c.loop-n.findings.items c.push_some.new.items.items c.in_ok-on_class.field-0 l
-    (sym c.id.ensures.value ∙ c.unwrap-id.ensures) c.loop-n.invariant c.in_ok-on_class.ensures c.in_ok-push_some.ensures
+    one_more g.R.ClassRule.rule g.met.R.ClassRule.alone c.args.sides.now c.sides.inside.old.now (ap (λ (s : SidesOf). s.old) c.sides.view_is) c.loop-n.n c.unwrap-id.result c.loop-n.findings.items c.push_some.new.items.items c.in_ok-of_class.field-0 l
+    (sym c.id.ensures.value ∙ c.unwrap-id.ensures) c.loop-n.invariant c.in_ok-of_class.ensures c.in_ok-push_some.ensures
 
 pub returns : goal.returns
 returns g c =

@@ -10,6 +10,9 @@ of_class-requires-clause-covered g c =
     covers_it g.R.ItemRule.order g.R.ItemRule.class_of g.R.ItemRule.makes g.R.ItemRule.stands g.R.ItemRule.covers c.requires.rule c.args.sides.now
     c.args.classes.now c.requires.classes c.loop-class.class-index c.class-item.result c.loop-class-test.true c.class-item.is
 
+pub of_class-requires-clause-sides : goal.of_class-requires-clause-sides
+of_class-requires-clause-sides g c = c.requires.classes.sides
+
 pub loop-class-preserved : goal.loop-class-preserved
 loop-class-preserved g c =
     more g.R.ItemRule.order g.R.ItemRule.class_of g.R.ItemRule.makes g.R.ItemRule.stands g.R.ItemRule.covers c.requires.rule c.args.sides.now c.args.classes.now c.requires.classes c.loop-class.class-index c.class-item.result

@@ -10,3 +10,6 @@ pub returns : goal.returns
 returns g c =
     subst (HasExactly g.R.ItemRule.order (IsOf g.R.ItemRule.class_of (g.R.ItemRule.stands c.args.sides.now) (name_of c.args.class.now))) (sym (c.in_ok-made.ensures ∙ ap (filter_map (g.R.ItemRule.makes c.args.sides.now (name_of c.args.class.now))) c.as_slice.ensures.value))
     (of_class g.R.ItemRule.order g.R.ItemRule.class_of g.R.ItemRule.makes g.R.ItemRule.stands g.R.ItemRule.covers c.requires.rule c.args.sides.now (name_of c.args.class.now) c.in_ok-keys.keys.items c.in_ok-keys.ensures)
+
+pub keys-requires-clause-kept : goal.keys-requires-clause-kept
+keys-requires-clause-kept g c = c.requires.rule.kept c.args.sides.now (name_of c.args.class.now) c.requires.covered

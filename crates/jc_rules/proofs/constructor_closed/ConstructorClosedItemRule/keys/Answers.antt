@@ -1,7 +1,0 @@
-use Rattle.jc_sides.specs.SharedOf.{name_of}
-use Rattle.jc_rules.proofs.ConstructorClosed.{init_keys}
-use Rattle.jc_rules.proofs.constructor_closed.ConstructorClosedItemRule.keys.Goals as goal
-
-pub returns : goal.returns
-returns c =
-    init_keys c.args.sides.now (name_of c.args.class.now) c.before-2.result.now c.before-2.ensures c.requires.covered c.in_ok-set.set c.in_ok-keys.keys.items c.in_ok-set.ensures c.in_ok-keys.ensures

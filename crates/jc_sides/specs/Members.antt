@@ -1,0 +1,35 @@
+-- The keys of which a rule may speak.
+use Rattle.std.specs.Prelude.{◌≡◌, Bool, true, false, List, Option, Some}
+use Rattle.std.specs.List.{Contains}
+use Rattle.jc_facts.specs.declared.key.Key.{Key}
+use Rattle.jc_facts.specs.KeyOrder.{key_cmp}
+use Rattle.jc_facts.specs.Names.{Bytes, is_init_name}
+use Rattle.jc_facts.specs.Exactly.{Rises}
+use Rattle.jc_facts.specs.Options.{some_and}
+use Rattle.jc_facts.specs.rule.Bases.{is_final_in_chain}
+use Rattle.jc_facts.specs.world.World.{find_class}
+use Rattle.jc_table.specs.Lookups.{declare_field, declare_method}
+use Rattle.jc_worlds.specs.Hierarchy.{above}
+use Rattle.jc_sides.specs.SidesOf.{SidesOf}
+use Rattle.jc_sides.specs.steps.KeySets.{has_member}
+use Rattle.jc_sides.specs.declared.members.Members.{Members}
+use Rattle.jc_sides.specs.declared.members.Members.TheVariants as members
+
+-- the key is that of one of these members of the class x
+abbrev pub is_member : Members → SidesOf → Bytes → Key → Bool
+is_member members.Nothing s x k = false
+is_member members.OldInitializers s x k = some_and (λ c. has_member (λ m. is_init_name m.name) c.methods k) (find_class s.old x)
+is_member members.OldFields s x k = declare_field (above s.old x) k
+is_member members.OldMethods s x k = declare_method (above s.old x) k
+is_member members.NewFields s x k = declare_field (above s.new x) k
+is_member members.NewMethods s x k = declare_method (above s.new x) k
+is_member members.NewFinals s x k = is_final_in_chain s.new x k
+
+-- the keys rise, and each that passes is among them
+pub record HasAll (passes : Key → Bool) (keys : List Key) : Type 0 where
+  pub in_order : Rises key_cmp keys
+  pub each : (k : Key) → passes k ≡ true → Contains keys k
+
+-- something is made of keys alone that pass
+abbrev pub OfPassing : {F : Type 0} → (Key → Option F) → (Key → Bool) → Type 0
+OfPassing {F} makes passes = (k : Key) (f : F) → makes k ≡ Some f → passes k ≡ true

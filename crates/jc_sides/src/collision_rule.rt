@@ -1,0 +1,85 @@
+//! Rules that make a collision of a class and a key.
+ghost use Rattle.std.specs.Prelude.{◌≡◌, ℕ, Bool, IfOk, IsTrue};
+ghost use Rattle.jc_facts.specs.rule.Orders.{collision_order};
+ghost use Rattle.jc_facts.specs.Names.{Bytes};
+ghost use Rattle.jc_sides.specs.BrokenOf.{collided};
+ghost use Rattle.jc_sides.specs.Members.{is_member, OfPassing};
+ghost use Rattle.jc_sides.specs.Rules.{HasEachKey, IsCollision, key_collision};
+ghost use Rattle.jc_sides.specs.SharedOf.{IsShared, name_of};
+ghost use Rattle.jc_sides.specs.SidesOf.{SidesOf, AreSides};
+
+use crate::broken::BrokenAct;
+use crate::found::collision;
+use crate::item_rule::ItemRule;
+use crate::members::{Members, keys_of};
+use crate::shared::Shared;
+use crate::sides::Sides;
+use jc_facts::key::Key;
+use jc_facts::verdict::Collision;
+use std::alloc::{AllocError, Global};
+
+/// A rule that makes a collision of a class and a key.
+pub trait CollisionRule {
+    ghost rule: { ℕ };
+
+    // The classes of which it speaks.
+    ghost covers: { SidesOf → Bytes → Bool };
+
+    /// Its number.
+    fn number(&self) -> u8
+        ensures { result ≡ rule };
+
+    /// Of which members it may speak.
+    fn members(&self) -> Members
+        ensures { (s : SidesOf) (x : Bytes) → AreSides s → IsTrue (covers s x) → OfPassing (key_collision rule s x) (is_member result s x) };
+
+    /// What is broken by the change of the key's member, for clients that stand in its way.
+    fn on_key(&self, sides: &Sides<'_>, class: &Shared<'_>, key: &Key) -> Option<BrokenAct<'_>>
+        requires shared { IsShared sides.now «class».now }
+        requires covered { IsTrue (covers sides.now (name_of «class».now)) }
+        ensures { collided rule (name_of «class».now) key.now result ≡ key_collision rule sides.now (name_of «class».now) key.now };
+}
+
+/// The collisions of such a rule.
+#[derive(Drop)]
+pub struct Collisions<R> {
+    pub rule: R,
+}
+
+impl<R: CollisionRule> ItemRule for Collisions<R> {
+    type Item = Collision;
+
+    ghost order = { collision_order };
+
+    ghost class_of = { λ c. c.«class» };
+
+    ghost makes = { key_collision R.rule };
+
+    ghost stands = { IsCollision R.rule };
+
+    ghost covers = { R.covers };
+
+    ghost ready = { λ _ _. Unit {0} };
+
+    fn keys(
+        &self,
+        alloc: Global,
+        sides: &Sides<'_>,
+        class: &Shared<'_>,
+    ) -> Result<Vec<Key>, AllocError> {
+        let keys = keys_of(alloc, sides, class, self.rule.members())?;
+        Ok(keys)
+    }
+
+    fn on_key(
+        &self,
+        alloc: Global,
+        sides: &Sides<'_>,
+        class: &Shared<'_>,
+        key: &Key,
+    ) -> Result<Option<Collision>, AllocError> {
+        let broken = self.rule.on_key(sides, class, key);
+        let made = collision(alloc, self.rule.number(), class.name, key, broken)?;
+        Ok(made)
+    }
+}
