@@ -1,0 +1,80 @@
+-- What always holds of the two sides of a comparison is enough for the laws of completeness.
+use Rattle.std.proofs.Common.{◌≡◌, ◌<◌, ◌^◌, true, false, not, ◌||◌, ◌==◌, List, length, sym, ◌∙◌, ap, Some, None, arith}
+use Rattle.std.specs.Prelude.{is_some}
+use Rattle.std.proofs.lemmas.Bool.{not-false}
+use Rattle.jc_facts.specs.declared.class_facts.ClassFacts.{ClassFacts}
+use Rattle.jc_facts.specs.Names.{object_name}
+use Rattle.jc_facts.specs.Flags.{public_flag, final_flag, interface_flag}
+use Rattle.jc_facts.specs.Options.{some_where}
+use Rattle.jc_facts.specs.world.World.{World, side, class_named}
+use Rattle.jc_facts.specs.world.Mentioned.{mentioned}
+use Rattle.jc_lemmas.proofs.Bools.{neither_first, neither_last}
+use Rattle.jc_lemmas.proofs.Options.{none_from, cond-none}
+use Rattle.jc_facts.proofs.Options.{or_else-none}
+use Rattle.jc_table.specs.declared.root.RootPart.TheVariants as parts
+use Rattle.jc_table.specs.Root.{flags_are_wrong, declares_public_init, faulty_part, root_by, fault_of_root}
+use Rattle.jc_table.specs.Sides.{IsSide}
+use Rattle.jc_complete.specs.Completeness.{HasOpenRoot, CanPlan}
+use Rattle.jc_bodies.specs.Files.{CanWrite}
+use Rattle.jc_sides.specs.SidesOf.{SidesOf}
+use Rattle.jc_witness.specs.Ground.{IsGround, HasShortSide}
+
+-- ---- the root
+
+record IsOpenRoot (c : ClassFacts) : Type 0 where
+  not_final : final_flag c.flags ≡ false
+  permits : c.permits ≡ None
+  init : declares_public_init c ≡ true
+
+root_parts : (c : ClassFacts) → faulty_part c ≡ None → IsOpenRoot c
+unfolding faulty_part
+root_parts c e =
+    let a = or_else-none (some_where (flags_are_wrong c) parts.Flags) _ e in
+    let b = or_else-none (some_where (is_some c.superclass) parts.Super) _ a.1 in
+    let d = or_else-none (some_where (not (length c.interfaces == 0)) parts.Interfaces) _ b.1 in
+    let f = or_else-none (some_where (not (length c.fields == 0)) parts.Fields) _ d.1 in
+    let g = or_else-none (some_where (is_some c.permits) parts.Permits) _ f.1 in
+    let flags : flags_are_wrong c ≡ false = (cond-none (flags_are_wrong c) parts.Flags None a.0).0 in
+    record {
+      not_final = neither_last (not (public_flag c.flags)) (final_flag c.flags) (neither_first (not (public_flag c.flags) || final_flag c.flags) (interface_flag c.flags) flags);
+      permits = none_from c.permits (cond-none (is_some c.permits) parts.Permits None g.0).0;
+      init = not-false (declares_public_init c) (cond-none (not (declares_public_init c)) parts.Init None g.1).0;
+    }
+
+is_open : (platform : List ClassFacts) (c : ClassFacts) → class_named platform object_name ≡ Some c → fault_of_root platform ≡ None → IsOpenRoot c
+unfolding fault_of_root
+is_open platform c there e = root_parts c (let f : root_by (Some c) ≡ None = sym (ap root_by there) ∙ e in f)
+
+-- clients may extend the root of a side
+pub open_root : (W : World) → IsSide W → HasOpenRoot W.platform
+open_root W s =
+    let r = is_open W.platform s.root.root s.root.is_there s.root_passes in
+    record { has = s.root; not_final = r.not_final; permits = r.permits; init = r.init }
+
+-- ---- the sides
+
+pub old_is : (s : SidesOf) → IsGround s → s.old ≡ side s.old.platform s.old.release
+old_is s g = ap (λ cs. record { platform = s.old.platform; release = s.old.release; clients = cs }) g.sides.old_side.no_clients
+
+pub new_is : (s : SidesOf) → IsGround s → s.new ≡ side s.old.platform s.new.release
+new_is s g = ap (λ cs. record { platform = s.new.platform; release = s.new.release; clients = cs }) g.sides.new_side.no_clients ∙ ap (λ p. side p s.new.release) (sym g.sides.platform)
+
+few : (s : SidesOf) → IsGround s → length (mentioned (side s.old.platform s.old.release) (side s.old.platform s.new.release)) < 10 ^ 64
+few s g =
+    let is : length (mentioned s.old s.new) ≡ length (mentioned (side s.old.platform s.old.release) (side s.old.platform s.new.release)) =
+    ap (λ W. length (mentioned W s.new)) (old_is s g) ∙ ap (λ W. length (mentioned (side s.old.platform s.old.release) W)) (new_is s g) in
+    omega (arith, is, g.few)
+
+-- clients can be planned
+pub can_plan : (s : SidesOf) → IsGround s → CanPlan s.old.platform s.old.release s.new.release
+can_plan s g = record {
+  root = open_root s.old g.sides.old_side;
+  platform_valid = g.sides.old_side.platform;
+  old_valid = g.sides.old_side.release;
+  new_valid = g.sides.new_side.release;
+  few = few s g;
+}
+
+-- and their class files written, where names are short
+pub can_write : (s : SidesOf) → IsGround s → HasShortSide s.old → HasShortSide s.new → CanWrite s.old.platform s.old.release s.new.release
+can_write s g old new = record { plan = can_plan s g; platform_short = old.platform; old_short = old.release; new_short = new.release }

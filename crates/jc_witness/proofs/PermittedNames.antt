@@ -1,0 +1,55 @@
+-- The names that a class permits, as they are looked for.
+use Rattle.std.proofs.Common.{◌≡◌, true, not, ◌&&◌, List, [], refl, sym, ◌∙◌, ap, Option, Some, None}
+use Rattle.std.proofs.Math.Bool.{and-true}
+use Rattle.jc_facts.specs.declared.class_facts.ClassFacts.{ClassFacts}
+use Rattle.jc_facts.specs.Names.{Bytes, is_name_among}
+use Rattle.jc_facts.specs.Options.{and_then}
+use Rattle.jc_facts.specs.world.World.{World, find_class}
+use Rattle.jc_facts.specs.world.Mentioned.{permitted}
+use Rattle.jc_facts.specs.rule.Bases.{allowed}
+use Rattle.jc_facts.specs.plan.PlannedNames.{least_name, permitted_name, missing_name}
+use Rattle.jc_sides.specs.SidesOf.{SidesOf}
+use Rattle.jc_witness.proofs.LowestOfNames.{tests_alike}
+
+module _ (s : SidesOf) (W : World) (old : W ≡ s.old) (x : Bytes) where
+  pub no_class : None ≡ find_class W x → None ≡ permitted_name s.old s.new x
+  unfolding and_then
+  no_class e = rw (← old) (rw (← e) refl)
+
+  pub of_class : (c : ClassFacts) (names : List Bytes) (found : Option Bytes) → Some c ≡ find_class W x → names ≡ permitted c.permits
+      → found ≡ least_name (λ y. allowed s.old s.new y && not (is_name_among [] y)) names → found ≡ permitted_name s.old s.new x
+  unfolding and_then
+  of_class c names found e n f =
+      f ∙ tests_alike (λ y. allowed s.old s.new y && true) (allowed s.old s.new) (λ y. and-true (allowed s.old s.new y)) names ∙ ap (least_name (allowed s.old s.new)) n
+      ∙ ap (λ o. and_then (λ (d : ClassFacts). least_name (allowed s.old s.new) (permitted d.permits)) o) (e ∙ ap (λ V. find_class V x) old)
+
+  -- the old class isn't there
+  pub no_old : None ≡ find_class W x → None ≡ missing_name s.old s.new x
+  unfolding and_then
+  no_old e = rw (← old) (rw (← e) refl)
+
+  module _ (V : World) (new : V ≡ s.new) (c : ClassFacts) (before : Some c ≡ find_class W x) where
+    -- what is missing of a list
+    abbrev missing_of : Option (List Bytes) → Option Bytes
+    missing_of o = and_then (λ names. least_name (λ y. allowed s.old s.new y && not (is_name_among names y)) (permitted c.permits)) o
+
+    missing_is : missing_name s.old s.new x ≡ and_then (λ (d : ClassFacts). missing_of d.permits) (find_class V x)
+    unfolding and_then
+    missing_is =
+        ap (λ (o : Option ClassFacts). and_then (λ (b : ClassFacts). and_then (λ (d : ClassFacts). and_then (λ names. least_name (λ y. allowed s.old s.new y && not (is_name_among names y)) (permitted b.permits)) d.permits) (find_class s.new x)) o)
+        (ap (λ U. find_class U x) (sym old) ∙ sym before) ∙ ap (λ U. and_then (λ (d : ClassFacts). missing_of d.permits) (find_class U x)) (sym new)
+
+    -- the new one isn't there, or has no list
+    pub no_new : None ≡ find_class V x → None ≡ missing_name s.old s.new x
+    unfolding and_then
+    no_new e = ap (λ o. and_then (λ (d : ClassFacts). missing_of d.permits) o) e ∙ sym missing_is
+
+    pub no_list : (d : ClassFacts) → Some d ≡ find_class V x → d.permits ≡ None → None ≡ missing_name s.old s.new x
+    unfolding and_then
+    no_list d e p = ap missing_of (sym p) ∙ ap (λ o. and_then (λ (d : ClassFacts). missing_of d.permits) o) e ∙ sym missing_is
+
+    pub of_list : (d : ClassFacts) (others names : List Bytes) (found : Option Bytes) → Some d ≡ find_class V x → d.permits ≡ Some others → names ≡ permitted c.permits
+        → found ≡ least_name (λ y. allowed s.old s.new y && not (is_name_among others y)) names → found ≡ missing_name s.old s.new x
+    unfolding and_then
+    of_list d others names found e p n f =
+        f ∙ ap (least_name (λ y. allowed s.old s.new y && not (is_name_among others y))) n ∙ ap missing_of (sym p) ∙ ap (λ o. and_then (λ (d : ClassFacts). missing_of d.permits) o) e ∙ sym missing_is

@@ -1,0 +1,4 @@
+pub mod Ground
+pub mod PlannerFields
+pub mod Witnesses
+pub mod steps

@@ -1,0 +1,135 @@
+//! The names and constructors of planned clients.
+ghost use Rattle.std.specs.Prelude.{◌≡◌, IfOk};
+ghost use Rattle.jc_facts.specs.world.Assignment.{is_interface_of};
+ghost use Rattle.jc_facts.specs.plan.Planned.{receiver_for};
+ghost use Rattle.jc_facts.specs.plan.PlannedNames.{in_package, fresh_package, own_name, closed_name, constructor};
+ghost use Rattle.jc_witness.specs.Ground.{IsGround, CanRefer};
+
+use crate::classes::is_interface;
+use crate::constructor::constructor_of;
+use crate::package::{fresh, name_in};
+use crate::permitted::{missing_of, permitted_of};
+use crate::receiver::finds_public;
+use jc_base::name::Name;
+use jc_facts::act::Act;
+use jc_facts::key::Key;
+use jc_sides::sides::Sides;
+use jc_table::table::Table;
+use std::alloc::{AllocError, Global};
+use std::marker::Model;
+
+/// Plans the clients that show what a comparison of two releases found. It is made once for a
+/// comparison. A contract sees it as the two worlds.
+#[derive(Drop)]
+pub struct Planner<'a> {
+    sides: Sides<'a>,
+    // The package of the clients.
+    package: Name,
+}
+
+impl<'a> Model for Planner<'a> {
+    ghost use Rattle.jc_sides.specs.SidesOf.{SidesOf};
+
+    ghost Value = { SidesOf };
+
+    ghost use Rattle.jc_witness.specs.PlannerFields.{sides_of, AreFields};
+
+    ghost view = { sides_of };
+
+    ghost invariant = { AreFields };
+}
+
+impl<'a> Planner<'a> {
+    /// For the old and the new release of a library, on one platform.
+    pub fn new(alloc: Global, old: &'a Table, new: &'a Table) -> Result<Planner<'a>, AllocError>
+        requires { old.now.platform ≡ new.now.platform }
+        ensures { IfOk result (λ planner. planner ≡ record { old = old.now; new = new.now }) }
+    {
+        // Counts say that few names are mentioned.
+        let _old = old.mention_count();
+        let _new = new.mention_count();
+        let sides = Sides::new(old, new);
+        let package = fresh(alloc, &sides)?;
+        Ok(Planner { sides, package })
+    }
+
+    // The package of the clients: no name that one of the sides mentions is in it.
+    pub(crate) fn package(&self) -> &Name
+        ensures value { result.now ≡ fresh_package self.now.old self.now.new }
+        ensures ground { IsGround self.now }
+    {
+        &self.package
+    }
+
+    // The class of this name in the package of the clients.
+    pub(crate) fn in_package(&self, alloc: Global, simple: &[u8]) -> Result<Name, AllocError>
+        ensures { IfOk result (λ name. name ≡ in_package (fresh_package self.now.old self.now.new) simple.now) }
+    {
+        name_in(alloc, &self.package, simple)
+    }
+
+    // The name of a client that names the class above itself: where the class has permitted names on
+    // the old side, the first allowed one of these, and else this one of the package.
+    pub(crate) fn own_name(
+        &self,
+        alloc: Global,
+        simple: &[u8],
+        above: &Name,
+    ) -> Result<Name, AllocError>
+        ensures { IfOk result (λ name. name ≡ own_name self.now.old self.now.new (in_package (fresh_package self.now.old self.now.new) simple.now) above.now) }
+    {
+        match permitted_of(&self.sides, above) {
+            Some(name) => name.copy(alloc),
+            None => name_in(alloc, &self.package, simple),
+        }
+    }
+
+    // The same where the class is closed to some clients on the new side: the first allowed name that
+    // it permits no more, where there is one.
+    pub(crate) fn closed_name(
+        &self,
+        alloc: Global,
+        simple: &[u8],
+        above: &Name,
+    ) -> Result<Name, AllocError>
+        ensures { IfOk result (λ name. name ≡ closed_name self.now.old self.now.new (in_package (fresh_package self.now.old self.now.new) simple.now) above.now) }
+    {
+        match missing_of(&self.sides, above) {
+            Some(name) => name.copy(alloc),
+            None => self.own_name(alloc, simple, above),
+        }
+    }
+
+    // The descriptor of the constructor of the class that a client below it calls.
+    pub(crate) fn constructor(&self, above: &Name) -> &[u8]
+        ensures { result.now ≡ constructor self.now.old above.now }
+    {
+        constructor_of(self.sides.old, above)
+    }
+
+    // Whether the class is an interface on the old side.
+    pub(crate) fn is_interface(&self, class: &Name) -> bool
+        ensures { result ≡ is_interface_of self.now.old «class».now }
+    {
+        is_interface(self.sides.old, class)
+    }
+
+    // The class of the receiver of an act on a member of the class, for a client of this name: the
+    // class where the member is public, and else the client's own.
+    pub(crate) fn receiver<'b>(
+        &self,
+        act: Act,
+        class: &'b Name,
+        key: &Key,
+        own: &'b Name,
+    ) -> &'b Name
+        requires { CanRefer self.now.old act «class».now key.now }
+        ensures { result.now ≡ receiver_for self.now.old act «class».now key.now own.now }
+    {
+        if finds_public(self.sides.old, act, class, key) {
+            class
+        } else {
+            own
+        }
+    }
+}

@@ -1,0 +1,111 @@
+//! The row of planned clients for a finding or a collision.
+ghost use Rattle.std.specs.Prelude.{◌≡◌, IfOk, None, Some};
+ghost use Rattle.jc_facts.specs.declared.verdict.Cause.TheVariants as cause;
+ghost use Rattle.jc_facts.specs.plan.Planned.{finding_plan, member_plan};
+ghost use Rattle.jc_facts.specs.plan.PlannedBodies.{finding_bodies, member_bodies};
+ghost use Rattle.jc_facts.specs.rule.Findings.{Stands};
+ghost use Rattle.jc_witness.specs.steps.RowOf.{package_of, row_of, IsRowOf};
+
+use crate::class_rows::{assigning, extending, naming};
+use crate::collision_rows::{capturing, reading};
+use crate::member_rows::{acting, constructing, inheriting, making, overriding};
+use crate::planner::Planner;
+use crate::row::Row;
+use crate::texts::root_name;
+use jc_facts::act::Act;
+use jc_facts::finding::Finding;
+use jc_facts::key::Key;
+use jc_facts::rule_numbers::{
+    CAPTURE_ADDED, CLASS_CLOSED, CLASS_GONE, CONSTANT_ADDED, CONSTRUCTOR_CLOSED, METHOD_MADE_FINAL,
+};
+use jc_facts::verdict::Collision;
+use std::alloc::{AllocError, Global};
+
+// Of a rule on classes alone.
+fn class_row(alloc: Global, planner: &Planner<'_>, finding: &Finding) -> Result<Row, AllocError>
+    ensures { IfOk result (λ row. row ≡ row_of (finding_plan planner.now.old planner.now.new (package_of planner.now) finding.now None None) (finding_bodies planner.now.old planner.now.new (package_of planner.now) finding.now None None)) }
+{
+    match finding.rule {
+        CLASS_GONE => naming(alloc, planner, &finding.class),
+        CLASS_CLOSED => extending(alloc, planner, &finding.class),
+        _ => assigning(alloc, planner, &root_name(alloc)?, &finding.class),
+    }
+}
+
+// Of a rule on members that names no seat.
+fn seatless_row(
+    alloc: Global,
+    planner: &Planner<'_>,
+    finding: &Finding,
+    key: &Key,
+) -> Result<Row, AllocError>
+    ensures { IfOk result (λ row. row ≡ row_of (member_plan planner.now.old planner.now.new (package_of planner.now) finding.now key.now None) (member_bodies planner.now.old planner.now.new (package_of planner.now) finding.now key.now None)) }
+{
+    match finding.rule {
+        CONSTRUCTOR_CLOSED => match finding.act {
+            Act::NewObject => making(alloc, planner, &finding.class, &key.descriptor),
+            _ => constructing(alloc, planner, &finding.class, &key.descriptor),
+        },
+        METHOD_MADE_FINAL => overriding(alloc, planner, &finding.class, key),
+        _ => inheriting(alloc, planner, &finding.class, key),
+    }
+}
+
+// Of a rule on members.
+fn member_row(
+    alloc: Global,
+    planner: &Planner<'_>,
+    finding: &Finding,
+    key: &Key,
+) -> Result<Row, AllocError>
+    requires stands { Stands planner.now.old planner.now.new finding.now }
+    requires key { finding.now.key ≡ Some key.now }
+    ensures { IfOk result (λ row. row ≡ row_of (member_plan planner.now.old planner.now.new (package_of planner.now) finding.now key.now finding.now.seat) (member_bodies planner.now.old planner.now.new (package_of planner.now) finding.now key.now finding.now.seat)) }
+{
+    match &finding.seat {
+        Some(seat) => acting(alloc, planner, &finding.class, key, finding.act, seat),
+        None => seatless_row(alloc, planner, finding, key),
+    }
+}
+
+// Of a finding with this key and this target. None that stands has both.
+fn row_by_parts(alloc: Global, planner: &Planner<'_>, finding: &Finding) -> Result<Row, AllocError>
+    requires { Stands planner.now.old planner.now.new finding.now }
+    ensures { IfOk result (λ row. row ≡ row_of (finding_plan planner.now.old planner.now.new (package_of planner.now) finding.now finding.now.key finding.now.target) (finding_bodies planner.now.old planner.now.new (package_of planner.now) finding.now finding.now.key finding.now.target)) }
+{
+    match (&finding.key, &finding.target) {
+        (None, None) => class_row(alloc, planner, finding),
+        (None, Some(target)) => assigning(alloc, planner, &finding.class, target),
+        (Some(key), None) => member_row(alloc, planner, finding, key),
+        (Some(_), Some(_)) => Row::none(alloc),
+    }
+}
+
+/// Of a finding.
+#[tactic(auto, unfolding(jc_facts::specs::plan::Planned::plan, jc_facts::specs::plan::PlannedBodies::plan_bodies))]
+pub(crate) fn finding_row(
+    alloc: Global,
+    planner: &Planner<'_>,
+    finding: &Finding,
+) -> Result<Row, AllocError>
+    requires { Stands planner.now.old planner.now.new finding.now }
+    ensures { IfOk result (λ row. IsRowOf planner.now (cause.Finding finding.now) row) }
+{
+    row_by_parts(alloc, planner, finding)
+}
+
+/// Of a collision.
+#[tactic(auto, unfolding(jc_facts::specs::plan::Planned::plan, jc_facts::specs::plan::PlannedBodies::plan_bodies))]
+pub(crate) fn collision_row(
+    alloc: Global,
+    planner: &Planner<'_>,
+    collision: &Collision,
+) -> Result<Row, AllocError>
+    ensures { IfOk result (λ row. IsRowOf planner.now (cause.Collision collision.now) row) }
+{
+    match collision.rule {
+        CONSTANT_ADDED => reading(alloc, planner, &collision.class, &collision.key),
+        CAPTURE_ADDED => capturing(alloc, planner, &collision.class, &collision.key),
+        _ => overriding(alloc, planner, &collision.class, &collision.key),
+    }
+}

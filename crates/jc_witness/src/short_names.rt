@@ -1,0 +1,40 @@
+//! Whether names are short enough for class files and paths.
+ghost use Rattle.std.specs.Prelude.{◌↔◌, IsTrue};
+ghost use Rattle.std.specs.List.{All};
+ghost use Rattle.jc_bodies.specs.Files.{HasShortNames, IsShortMember};
+
+use jc_facts::class_facts::{ClassFacts, Member};
+
+/// The most bytes of a class's name: a path of 4,096 bytes that ends in `.class` has room for it.
+const LONGEST_CLASS_NAME: usize = 4090;
+/// The most bytes of a text of a class file (JVMS 4.4.7).
+const LONGEST_TEXT: usize = 65535;
+
+fn is_short_member(member: &Member) -> bool
+    ensures { IsTrue result ↔ IsShortMember member.now }
+{
+    member.name.as_bytes().len() <= LONGEST_TEXT
+        && member.descriptor.as_bytes().len() <= LONGEST_TEXT
+}
+
+fn are_short_members(members: &[Member]) -> bool
+    ensures { IsTrue result ↔ All IsShortMember members.now }
+{
+    members.iter().all(|member| is_short_member(member))
+}
+
+fn has_short_names(class: &ClassFacts) -> bool
+    ensures { IsTrue result ↔ HasShortNames class.now }
+{
+    class.name.as_bytes().len() <= LONGEST_CLASS_NAME
+        && are_short_members(class.fields.as_slice())
+        && are_short_members(class.methods.as_slice())
+}
+
+/// Whether each class's name has at most 4,090 bytes, and each name and descriptor of its members at
+/// most 65,535, as a witness over these classes asks. Takes no memory.
+pub fn have_short_names(classes: &[ClassFacts]) -> bool
+    ensures { IsTrue result ↔ All HasShortNames classes.now }
+{
+    classes.iter().all(|class| has_short_names(class))
+}

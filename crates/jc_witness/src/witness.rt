@@ -1,0 +1,159 @@
+//! The class files of a witness.
+ghost use Rattle.std.specs.Prelude.{◌≡◌, IfOk};
+ghost use Rattle.std.specs.List.{All};
+ghost use Rattle.jc_facts.specs.written.Written.{written};
+ghost use Rattle.jc_facts.specs.declared.verdict.Cause.TheVariants as cause;
+ghost use Rattle.jc_witness.specs.Ground.{HasShortSide};
+ghost use Rattle.jc_witness.specs.Witnesses.{IsWitnessOf, StandsInVerdict};
+ghost use Rattle.jc_witness.specs.steps.RowOf.{file_of_row, files_of_row, in_order, spot_in, CanBeWritten, IsReady};
+
+use crate::planner::Planner;
+use crate::row::Row;
+use crate::rows::{collision_row, finding_row};
+use jc_base::items::Items;
+use jc_base::name::Name;
+use jc_facts::blueprint::Blueprint;
+use jc_facts::finding::Finding;
+use jc_facts::verdict::{Cause, Collision, Spot};
+use jc_table::table::Table;
+use jc_write::write::{WriteError, write_class};
+use std::alloc::{AllocError, Global};
+
+/// A class file of a witness (JVMS 4.1): the name of its class, its bytes, and where the class fails
+/// with the new release. Exactly one file of a witness has a spot.
+#[derive(PartialEq, Eq, Debug, Drop)]
+pub struct WitnessFile {
+    pub class: Name,
+    pub bytes: Items<u8>,
+    pub spot: Option<Spot>,
+}
+
+// The bytes of a class file that passes no limit of the format.
+fn bytes_of(alloc: Global, file: &Blueprint) -> Result<Vec<u8>, AllocError>
+    requires { IsReady file.now }
+    ensures { IfOk result (λ bytes. bytes.items ≡ written file.now) }
+{
+    match write_class(alloc, file) {
+        Ok(bytes) => Ok(bytes),
+        // No class file that is ready passes a limit.
+        Err(WriteError::TooBig) => unreachable!(),
+        Err(WriteError::Memory) => Err(AllocError),
+    }
+}
+
+// The spot of the row, where it is that of the class of this name.
+fn spot_for(row: &Row, name: &Name) -> Option<Spot>
+    ensures { result ≡ spot_in row.now name.now }
+{
+    if *name == row.name {
+        Some(row.spot)
+    } else {
+        None
+    }
+}
+
+fn witness_file(alloc: Global, row: &Row, file: &Blueprint) -> Result<WitnessFile, AllocError>
+    requires { IsReady file.now }
+    ensures { IfOk result (λ made. made ≡ file_of_row row.now file.now) }
+{
+    let bytes = bytes_of(alloc, file)?;
+    Ok(WitnessFile {
+        class: file.facts.name.copy(alloc)?,
+        bytes: Items::from_vec(bytes),
+        spot: spot_for(row, &file.facts.name),
+    })
+}
+
+// The files of a row, as they stand.
+fn write_row(alloc: Global, row: &Row) -> Result<Vec<WitnessFile>, AllocError>
+    requires { All IsReady row.now.files }
+    ensures { IfOk result (λ files. files.items ≡ files_of_row row.now) }
+{
+    let mut files = Vec::new(alloc);
+    for file in row.files.as_slice() {
+        files.push(witness_file(alloc, row, file)?)?;
+    }
+    Ok(files)
+}
+
+// The files of a row, in byte order of names.
+fn files_of(alloc: Global, row: Row) -> Result<Vec<WitnessFile>, AllocError>
+    requires { CanBeWritten row }
+    ensures { IfOk result (λ files. files.items ≡ files_of_row (in_order row)) }
+{
+    let sorted = row.sorted()?;
+    write_row(alloc, &sorted)
+}
+
+impl<'a> Planner<'a> {
+    /// The files of a witness for a finding of the comparison: class files of one to three clients, in
+    /// byte order of their names. They link with the old release, and fail with the new one by the
+    /// error of the finding, at the spot of exactly one of them. They meet no collision.
+    ///
+    /// It is asked that the finding stands in the verdict on the two sides, that each class name on
+    /// them has at most 4,090 bytes, and each name and descriptor of a member at most 65,535.
+    ///
+    /// # Errors
+    ///
+    /// `AllocError` where memory runs out.
+    pub fn show_finding(
+        &self,
+        alloc: Global,
+        finding: &Finding,
+    ) -> Result<Vec<WitnessFile>, AllocError>
+        requires cause { StandsInVerdict self.now.old self.now.new (cause.Finding finding.now) }
+        requires old_names { HasShortSide self.now.old }
+        requires new_names { HasShortSide self.now.new }
+        ensures { IfOk result (λ files. IsWitnessOf self.now.old self.now.new (cause.Finding finding.now) files.items) }
+    {
+        // The package says what always holds of the two sides.
+        let _package = self.package();
+        files_of(alloc, finding_row(alloc, self, finding)?)
+    }
+
+    /// The files of a witness for a collision of the comparison, as `show_finding` gives those for a
+    /// finding. They meet the collision.
+    ///
+    /// # Errors
+    ///
+    /// `AllocError` where memory runs out.
+    pub fn show_collision(
+        &self,
+        alloc: Global,
+        collision: &Collision,
+    ) -> Result<Vec<WitnessFile>, AllocError>
+        requires cause { StandsInVerdict self.now.old self.now.new (cause.Collision collision.now) }
+        requires old_names { HasShortSide self.now.old }
+        requires new_names { HasShortSide self.now.new }
+        ensures { IfOk result (λ files. IsWitnessOf self.now.old self.now.new (cause.Collision collision.now) files.items) }
+    {
+        // The package says what always holds of the two sides.
+        let _package = self.package();
+        files_of(alloc, collision_row(alloc, self, collision)?)
+    }
+}
+
+/// The files of a witness for a finding or a collision that `compare` of the two tables gives. The
+/// tables have one platform. For many causes of one comparison make one `Planner` and ask it.
+///
+/// # Errors
+///
+/// `AllocError` where memory runs out.
+pub fn witness(
+    alloc: Global,
+    old: &Table,
+    new: &Table,
+    of: &Cause,
+) -> Result<Vec<WitnessFile>, AllocError>
+    requires platform { old.now.platform ≡ new.now.platform }
+    requires cause { StandsInVerdict old.now new.now of.now }
+    requires old_names { HasShortSide old.now }
+    requires new_names { HasShortSide new.now }
+    ensures { IfOk result (λ files. IsWitnessOf old.now new.now of.now files.items) }
+{
+    let planner = Planner::new(alloc, old, new)?;
+    match of {
+        Cause::Finding(finding) => planner.show_finding(alloc, finding),
+        Cause::Collision(collision) => planner.show_collision(alloc, collision),
+    }
+}
