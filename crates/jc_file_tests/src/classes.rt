@@ -29,7 +29,7 @@ pub struct Row<'a> {
 }
 
 /// The class `p/A` of these numbers, without members.
-pub fn plain<'a>(major: u16, flags: u16) -> Row<'a> {
+pub(crate) fn plain<'a>(major: u16, flags: u16) -> Row<'a> {
     Row {
         major,
         flags,
@@ -126,7 +126,7 @@ fn signatures(alloc: Global, list: &[(&[u8], &[u8])]) -> Result<Items<Signed>, A
 }
 
 /// The record of a row.
-pub fn class(alloc: Global, row: &Row) -> Result<ClassFacts, AllocError> {
+pub(crate) fn class(alloc: Global, row: &Row) -> Result<ClassFacts, AllocError> {
     Ok(ClassFacts {
         name: Name::from_bytes(alloc, row.name)?,
         major: row.major,

@@ -1,4 +1,4 @@
-//! Tests of the crates for classes that stand over a platform: tables, loading, lookups and access.
+//! Tests of the crates for classes that stand over a platform: tables, loading, lookups, access and linking.
 #![tactic(auto)]
 
 #[cfg(test)]
@@ -6,9 +6,12 @@ mod access;
 #[cfg(test)]
 mod fields;
 #[cfg(test)]
+mod linking;
+#[cfg(test)]
 mod loading;
 #[cfg(test)]
 mod methods;
+pub mod rows;
 #[cfg(test)]
 mod sides;
 #[cfg(test)]

@@ -1,123 +1,16 @@
-//! Records of classes made from rows, and the table of a side of them.
-use jc_base::items::Items;
-use jc_base::name::Name;
-use jc_facts::class_facts::{ClassFacts, Member};
+//! Tables of sides of classes made from rows.
+pub use crate::rows::{
+    Declared, INTERFACE, Names, OBJECT, PLAIN, PUBLIC, ROOT, Row, class, classes,
+};
+use jc_facts::class_facts::ClassFacts;
 use jc_table::plain::{are_valid, names_differ};
 use jc_table::table::{Table, TableError};
 use std::alloc::{AllocError, Global};
 use std::process::Abort;
 use std::test::Fail;
 
-pub const OBJECT: &[u8] = b"java/lang/Object";
-
-pub const PUBLIC: u16 = 0x0021;
-
-pub const INTERFACE: u16 = 0x0601;
-
-pub type Names = &'static [&'static [u8]];
-
-/// Name, descriptor and flags of a member.
-pub type Declared = (&'static [u8], &'static [u8], u16);
-
-/// A class: what it names above itself, its members, which subclasses it permits, and its nest. An empty superclass is none.
-#[derive(Clone, Copy)]
-pub struct Row {
-    pub name: &'static [u8],
-    pub flags: u16,
-    pub superclass: &'static [u8],
-    pub interfaces: Names,
-    pub fields: &'static [Declared],
-    pub methods: &'static [Declared],
-    pub permits: Option<Names>,
-    pub nest_host: &'static [u8],
-    pub nest_members: Names,
-}
-
-pub const PLAIN: Row = Row {
-    name: b"p/Plain",
-    flags: PUBLIC,
-    superclass: OBJECT,
-    interfaces: &[],
-    fields: &[],
-    methods: &[],
-    permits: None,
-    nest_host: b"",
-    nest_members: &[],
-};
-
-pub const ROOT: Row = Row {
-    name: OBJECT,
-    superclass: b"",
-    methods: &[(b"<init>", b"()V", 0x0001)],
-    ..PLAIN
-};
-
-fn name_of(alloc: Global, name: &[u8]) -> Result<Option<Name>, AllocError> {
-    if name.is_empty() {
-        return Ok(None);
-    }
-    Ok(Some(Name::from_bytes(alloc, name)?))
-}
-
-fn names_of(alloc: Global, names: &[&[u8]]) -> Result<Items<Name>, AllocError> {
-    let mut copies = Vec::new(alloc);
-    for name in names {
-        copies.push(Name::from_bytes(alloc, name)?)?;
-    }
-    Ok(Items::from_vec(copies))
-}
-
-fn permitted(alloc: Global, names: Option<Names>) -> Result<Option<Items<Name>>, AllocError> {
-    match names {
-        None => Ok(None),
-        Some(names) => Ok(Some(names_of(alloc, names)?)),
-    }
-}
-
-fn member(alloc: Global, declared: &Declared) -> Result<Member, AllocError> {
-    Ok(Member {
-        name: Name::from_bytes(alloc, declared.0)?,
-        descriptor: Name::from_bytes(alloc, declared.1)?,
-        flags: declared.2,
-    })
-}
-
-fn members(alloc: Global, list: &[Declared]) -> Result<Items<Member>, AllocError> {
-    let mut members = Vec::new(alloc);
-    for declared in list {
-        members.push(member(alloc, declared)?)?;
-    }
-    Ok(Items::from_vec(members))
-}
-
-/// The record of a row, of major 61.
-pub fn class(alloc: Global, row: &Row) -> Result<ClassFacts, AllocError> {
-    Ok(ClassFacts {
-        name: Name::from_bytes(alloc, row.name)?,
-        major: 61,
-        flags: row.flags,
-        superclass: name_of(alloc, row.superclass)?,
-        interfaces: names_of(alloc, row.interfaces)?,
-        fields: members(alloc, row.fields)?,
-        methods: members(alloc, row.methods)?,
-        permits: permitted(alloc, row.permits)?,
-        nest_host: name_of(alloc, row.nest_host)?,
-        nest_members: names_of(alloc, row.nest_members)?,
-        constants: Items::from_vec(Vec::new(alloc)),
-        signatures: Items::from_vec(Vec::new(alloc)),
-    })
-}
-
-pub fn classes(alloc: Global, rows: &[Row]) -> Result<Vec<ClassFacts>, AllocError> {
-    let mut classes = Vec::new(alloc);
-    for row in rows {
-        classes.push(class(alloc, row)?)?;
-    }
-    Ok(classes)
-}
-
 /// The answer of `Table::build`, whose conditions are seen to first.
-pub fn build(
+pub(crate) fn build(
     rt: &impl Abort,
     alloc: Global,
     platform: &[ClassFacts],
@@ -131,7 +24,11 @@ pub fn build(
 }
 
 /// The table of a release over a platform of `java/lang/Object` alone.
-pub fn table(rt: &impl Abort, alloc: Global, release: Vec<ClassFacts>) -> Result<Table, Fail> {
+pub(crate) fn table(
+    rt: &impl Abort,
+    alloc: Global,
+    release: Vec<ClassFacts>,
+) -> Result<Table, Fail> {
     let platform = classes(alloc, &[ROOT])?;
     match build(rt, alloc, platform.as_slice(), release)? {
         Ok(table) => Ok(table),

@@ -278,6 +278,7 @@ fn interfaces_and_names_of_a_side(rt: HostRuntime) -> Result<(), Fail> {
             && !table.begins(b"p/K")
             && !table.begins(b"q/TT")
     );
+    assert_eq!(rt; table.mention_count(), 10);
     assert!(rt; table.interfaces(sealed).len() == 2 && table.interfaces(sealed).contains(&upper));
     assert!(rt; table.interfaces(lower).len() == 1 && table.interfaces(upper).is_empty());
     let key = KeyRef::new(b"f", b"I");

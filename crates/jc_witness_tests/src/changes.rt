@@ -1,0 +1,374 @@
+//! Changes between two small releases over a platform of `java/lang/Object` alone, and the class files that show each finding and
+//! collision, with their spots.
+ghost use Rattle.std.specs.Prelude.{◌≡◌, ◌<◌, length, IfOk};
+ghost use Rattle.jc_facts.specs.rule.Verdict.{IsVerdict};
+ghost use Rattle.jc_witness.specs.Ground.{HasShortSide};
+
+use jc_base::items::Items;
+use jc_base::name::Name;
+use jc_facts::class_facts::ClassFacts;
+use jc_facts::verdict::{Cause, Spot, Verdict};
+use jc_rules::compare::compare;
+use jc_table::plain::{are_valid, names_differ};
+use jc_table::table::Table;
+use jc_table_tests::rows::{INTERFACE, PLAIN, ROOT, Row, classes};
+use jc_witness::planner::Planner;
+use jc_witness::short_names::have_short_names;
+use jc_witness::witness::{WitnessFile, witness};
+use std::alloc::{AllocError, Global};
+use std::process::Abort;
+use std::test::Fail;
+
+/// A class file: its name, and where it fails with the new release.
+type File = (&'static [u8], Option<Spot>);
+
+/// The rule of a finding or a collision, and the class files that show it.
+type Shown = (u8, &'static [File]);
+
+/// Two releases, and what is shown of the findings and of the collisions, in order.
+struct Change {
+    old: &'static [Row],
+    new: &'static [Row],
+    findings: &'static [Shown],
+    collisions: &'static [Shown],
+}
+
+const LOAD: Option<Spot> = Some(Spot::Load);
+
+const FIRST: Option<Spot> = Some(Spot::Item(0));
+
+const SECOND: Option<Spot> = Some(Spot::Item(1));
+
+const THIRD: Option<Spot> = Some(Spot::Item(2));
+
+/// `p/A` with a public constructor without parameters.
+const A: Row = Row {
+    name: b"p/A",
+    methods: &[(b"<init>", b"()V", 0x0001)],
+    ..PLAIN
+};
+
+const I: Row = Row {
+    name: b"p/I",
+    flags: INTERFACE,
+    ..PLAIN
+};
+
+const CHANGES: &[Change] = &[
+    // A class is gone. The library has the package w0, so the clients have the next one.
+    Change {
+        old: &[Row {
+            name: b"w0/A",
+            ..PLAIN
+        }],
+        new: &[],
+        findings: &[(1, &[(b"w1/U", SECOND)])],
+        collisions: &[],
+    },
+    // A class is final now.
+    Change {
+        old: &[A],
+        new: &[Row { flags: 0x0031, ..A }],
+        findings: &[(2, &[(b"w0/Y", LOAD)])],
+        collisions: &[],
+    },
+    // An interface permits fewer classes; the client has the name that is permitted no more.
+    Change {
+        old: &[Row {
+            permits: Some(&[b"q/C", b"r/D"]),
+            ..I
+        }],
+        new: &[Row {
+            permits: Some(&[b"q/C"]),
+            ..I
+        }],
+        findings: &[(2, &[(b"r/D", LOAD)])],
+        collisions: &[],
+    },
+    // An interface became a class.
+    Change {
+        old: &[I],
+        new: &[Row {
+            name: b"p/I",
+            ..PLAIN
+        }],
+        findings: &[(3, &[(b"w0/U", SECOND)])],
+        collisions: &[],
+    },
+    // A superclass left the chain.
+    Change {
+        old: &[
+            A,
+            Row {
+                name: b"p/B",
+                superclass: b"p/A",
+                ..PLAIN
+            },
+        ],
+        new: &[
+            A,
+            Row {
+                name: b"p/B",
+                ..PLAIN
+            },
+        ],
+        findings: &[(4, &[(b"w0/U", SECOND)])],
+        collisions: &[],
+    },
+    // A public constructor is protected now, which `new` can't use, and a protected one is private, which no subclass can call.
+    Change {
+        old: &[Row {
+            methods: &[(b"<init>", b"(I)V", 0x0001), (b"<init>", b"(J)V", 0x0004)],
+            ..A
+        }],
+        new: &[Row {
+            methods: &[(b"<init>", b"(I)V", 0x0004), (b"<init>", b"(J)V", 0x0002)],
+            ..A
+        }],
+        findings: &[(5, &[(b"w0/U", THIRD)]), (5, &[(b"w0/Y", FIRST)])],
+        collisions: &[],
+    },
+    // A method is final now. The class is sealed, and the client has the first name in byte order that it permits.
+    Change {
+        old: &[Row {
+            methods: &[(b"<init>", b"()V", 0x0004), (b"m", b"()V", 0x0001)],
+            permits: Some(&[b"q/Z", b"b/X", b"p/A"]),
+            ..A
+        }],
+        new: &[Row {
+            methods: &[(b"<init>", b"()V", 0x0004), (b"m", b"()V", 0x0011)],
+            permits: Some(&[b"q/Z", b"b/X", b"p/A"]),
+            ..A
+        }],
+        findings: &[(6, &[(b"b/X", LOAD)])],
+        collisions: &[],
+    },
+    // A field is final now.
+    Change {
+        old: &[Row {
+            fields: &[(b"f", b"I", 0x0001)],
+            ..A
+        }],
+        new: &[Row {
+            fields: &[(b"f", b"I", 0x0011)],
+            ..A
+        }],
+        findings: &[(7, &[(b"w0/Y", SECOND)])],
+        collisions: &[],
+    },
+    // A method is static now.
+    Change {
+        old: &[Row {
+            methods: &[(b"m", b"()V", 0x0001)],
+            ..A
+        }],
+        new: &[Row {
+            methods: &[(b"m", b"()V", 0x0009)],
+            ..A
+        }],
+        findings: &[(8, &[(b"w0/Y", SECOND)])],
+        collisions: &[],
+    },
+    // An interface no longer inherits a method.
+    Change {
+        old: &[
+            Row {
+                name: b"p/J",
+                methods: &[(b"k", b"()V", 0x0401)],
+                ..I
+            },
+            Row {
+                interfaces: &[b"p/J"],
+                methods: &[(b"k", b"()V", 0x0002)],
+                ..I
+            },
+        ],
+        new: &[
+            Row {
+                name: b"p/J",
+                methods: &[(b"k", b"()V", 0x0401)],
+                ..I
+            },
+            Row {
+                methods: &[(b"k", b"()V", 0x0002)],
+                ..I
+            },
+        ],
+        findings: &[(9, &[(b"w0/J", None), (b"w0/U", SECOND)])],
+        collisions: &[],
+    },
+    // A constant is added to an interface.
+    Change {
+        old: &[I],
+        new: &[Row {
+            fields: &[(b"f", b"I", 0x0019)],
+            ..I
+        }],
+        findings: &[],
+        collisions: &[(10, &[(b"w0/U", SECOND), (b"w0/Y", None), (b"w0/Z", None)])],
+    },
+    // An added private method captures calls.
+    Change {
+        old: &[A],
+        new: &[Row {
+            methods: &[(b"<init>", b"()V", 0x0001), (b"run", b"()V", 0x0002)],
+            ..A
+        }],
+        findings: &[],
+        collisions: &[(11, &[(b"w0/J", None), (b"w0/U", SECOND), (b"w0/Y", None)])],
+    },
+    // A final method is added.
+    Change {
+        old: &[A],
+        new: &[Row {
+            methods: &[(b"<init>", b"()V", 0x0001), (b"close", b"()V", 0x0011)],
+            ..A
+        }],
+        findings: &[],
+        collisions: &[(12, &[(b"w0/Y", LOAD)])],
+    },
+];
+
+// The table of a release, whose conditions are seen to first.
+fn table(
+    rt: &impl Abort,
+    alloc: Global,
+    platform: &[ClassFacts],
+    rows: &[Row],
+) -> Result<Table, Fail>
+    ensures platform { IfOk result (λ table. table.platform ≡ platform.now) }
+    ensures short { IfOk result HasShortSide }
+{
+    let release = classes(alloc, rows)?;
+    let valid = are_valid(alloc, platform)? && are_valid(alloc, release.as_slice())?;
+    assert!(rt; valid);
+    assert!(rt; names_differ(platform) && names_differ(release.as_slice()));
+    assert!(rt; have_short_names(platform));
+    assert!(rt; have_short_names(release.as_slice()));
+    assert!(rt; platform.len() <= 1000 && release.len() <= 1000);
+    Ok(Table::build(alloc, platform, release)?)
+}
+
+// Whether the files have these names and spots.
+fn are_files(files: &[WitnessFile], wanted: &[File]) -> bool {
+    if files.len() != wanted.len() {
+        return false;
+    }
+    for n in 0..files.len() {
+        let (name, spot) = wanted[n];
+        if files[n].class.as_bytes() != name || files[n].spot != spot {
+            return false;
+        }
+    }
+    true
+}
+
+// The class files that show the finding of this number.
+fn finding_files(
+    alloc: Global,
+    planner: &Planner<'_>,
+    verdict: &Verdict,
+    number: usize,
+) -> Result<Vec<WitnessFile>, AllocError>
+    requires verdict { IsVerdict planner.now.old planner.now.new verdict.now }
+    requires number { number < length verdict.now.findings }
+    requires old_names { HasShortSide planner.now.old }
+    requires new_names { HasShortSide planner.now.new }
+{
+    planner.show_finding(alloc, &verdict.findings.as_slice()[number])
+}
+
+// The class files that show the collision of this number.
+fn collision_files(
+    alloc: Global,
+    planner: &Planner<'_>,
+    verdict: &Verdict,
+    number: usize,
+) -> Result<Vec<WitnessFile>, AllocError>
+    requires verdict { IsVerdict planner.now.old planner.now.new verdict.now }
+    requires number { number < length verdict.now.collisions }
+    requires old_names { HasShortSide planner.now.old }
+    requires new_names { HasShortSide planner.now.new }
+{
+    planner.show_collision(alloc, &verdict.collisions.as_slice()[number])
+}
+
+fn are_findings_shown(
+    rt: &impl Abort,
+    alloc: Global,
+    planner: &Planner<'_>,
+    verdict: &Verdict,
+    wanted: &[Shown],
+) -> Result<(), Fail>
+    requires verdict { IsVerdict planner.now.old planner.now.new verdict.now }
+    requires old_names { HasShortSide planner.now.old }
+    requires new_names { HasShortSide planner.now.new }
+{
+    let findings = verdict.findings.as_slice();
+    assert_eq!(rt; findings.len(), wanted.len());
+    for n in 0..findings.len() {
+        let (rule, files) = wanted[n];
+        let made = finding_files(alloc, planner, verdict, n)?;
+        assert!(rt; findings[n].rule == rule && are_files(made.as_slice(), files));
+    }
+    Ok(())
+}
+
+fn are_collisions_shown(
+    rt: &impl Abort,
+    alloc: Global,
+    planner: &Planner<'_>,
+    verdict: &Verdict,
+    wanted: &[Shown],
+) -> Result<(), Fail>
+    requires verdict { IsVerdict planner.now.old planner.now.new verdict.now }
+    requires old_names { HasShortSide planner.now.old }
+    requires new_names { HasShortSide planner.now.new }
+{
+    let collisions = verdict.collisions.as_slice();
+    assert_eq!(rt; collisions.len(), wanted.len());
+    for n in 0..collisions.len() {
+        let (rule, files) = wanted[n];
+        let made = collision_files(alloc, planner, verdict, n)?;
+        assert!(rt; collisions[n].rule == rule && are_files(made.as_slice(), files));
+    }
+    Ok(())
+}
+
+fn is_change_shown(
+    rt: &impl Abort,
+    alloc: Global,
+    platform: &[ClassFacts],
+    change: &Change,
+) -> Result<(), Fail> {
+    let old = table(rt, alloc, platform, change.old)?;
+    let new = table(rt, alloc, platform, change.new)?;
+    let verdict = compare(alloc, &old, &new)?;
+    let planner = Planner::new(alloc, &old, &new)?;
+    are_findings_shown(rt, alloc, &planner, &verdict, change.findings)?;
+    are_collisions_shown(rt, alloc, &planner, &verdict, change.collisions)
+}
+
+#[test]
+fn files_and_spots_of_each_rule(rt: HostRuntime) -> Result<(), Fail> {
+    let alloc = rt.alloc();
+    let platform = classes(alloc, &[ROOT])?;
+    for change in CHANGES {
+        is_change_shown(&rt, alloc, platform.as_slice(), change)?;
+    }
+    Ok(())
+}
+
+#[test]
+fn a_witness_of_one_cause(rt: HostRuntime) -> Result<(), Fail> {
+    let alloc = rt.alloc();
+    let platform = classes(alloc, &[ROOT])?;
+    let old = table(&rt, alloc, platform.as_slice(), &[A])?;
+    let new = table(&rt, alloc, platform.as_slice(), &[])?;
+    let verdict = compare(alloc, &old, &new)?;
+    let mut findings = verdict.findings.into_vec();
+    let finding = findings.pop().expect(&rt, "a finding");
+    let files = witness(alloc, &old, &new, &Cause::Finding(finding))?;
+    assert!(rt; are_files(files.as_slice(), &[(b"w0/U", SECOND)]));
+    Ok(())
+}
