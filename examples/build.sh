@@ -1,5 +1,5 @@
 #!/bin/sh
-# Compiles the examples again: the sources below src/ to the class files in platform/, old/ and new/, which stand in the
+# Compiles the examples again: the sources below src/ to the class files in platform/, old/, new/ and client/, which stand in the
 # repository, and those of the stored run of the program. It needs javac 17 on the path; other versions of javac may write other bytes.
 set -eu
 
@@ -19,6 +19,8 @@ build() {
 build platform -source 17 -target 17 --patch-module java.base=src/platform
 build old --release 17
 build new --release 17
+# a client of the old release
+build client --release 17 -cp old
 
 # the stored run: one class, the same in both releases
 rm -rf "$stored"

@@ -1,18 +1,27 @@
--- The answers of a run that puts an outcome, and of one that puts why there is none.
-use Rattle.std.proofs.Common.{◌≡◌, ◌≢◌, ◌≤◌, ◌⊎◌, ◌==◌, inl, inr, Bool, true, false, ℕ, [], refl, sym, ap, subst, ◌∙◌, arith}
+-- The answers of a run that puts a report, and of one that puts why there is none.
+use Rattle.std.proofs.Common.{◌≡◌, ◌≢◌, ◌≤◌, ◌⊎◌, ◌==◌, inl, inr, Bool, true, false, ℕ, List, [], Option, Some, refl, sym, ap, subst, ◌∙◌, arith}
+use Rattle.jc_base.specs.Outside.{FileOf}
+use Rattle.jc_base.specs.States.{TreesState}
 use Rattle.jc_facts.specs.declared.verdict.Verdict.{Verdict}
+use Rattle.jc_facts.specs.Names.{Bytes}
+use Rattle.jc_facts.specs.print.Text.{text_of}
 use Rattle.jcompat.specs.declared.file_fault.FileFault.{FileFault}
 use Rattle.jcompat.specs.declared.file_fault.FileFault.TheVariants as faults
 use Rattle.jcompat.specs.declared.file_fault.TreeFault.TheVariants as tree_faults
-use Rattle.jcompat.specs.declared.outcome.Outcome.{Outcome}
+use Rattle.jcompat.specs.declared.report.Report.{Report}
 use Rattle.jcompat.specs.declared.status.TheConstants.{PASSED, NOT_PASSED, WRITE_FAULT, NO_MEMORY, LIMIT}
 use Rattle.jcompat.specs.declared.stop.Stop.{Stop}
 use Rattle.jcompat.specs.declared.stop.Stop.TheVariants as stops
-use Rattle.jcompat.specs.Answers.{Ran, Answers, Reports, Refuses, CutsReport, CutsRefusal, IsQuiet, PutsAll, PutsFront, IsCompatible, IsIncompatible, OfFiles, HasCause, HasFailed}
+use Rattle.jcompat.specs.Answers.{Ran, Answers, Due, HasPassed, due_bytes, Puts, IsStopped, CutsReport, CutsRefusal, IsQuiet, PutsAll, PutsFront, OfFiles, HasCause, HasFailed}
+use Rattle.jcompat.specs.Check.{IsCompatible, IsIncompatible}
+use Rattle.jcompat.specs.ClassFiles.{Told}
+use Rattle.jcompat.specs.Command.{CommandOf, CheckOf, CheckCommand, LinkCommand, asked}
+use Rattle.jcompat.specs.Reports.{ReportOf, Passes}
 use Rattle.jcompat.specs.Stop.{line_of, file_status, status_of}
-use Rattle.jcompat.specs.steps.Outcome.{IsOutcome, status_by}
+use Rattle.jcompat.specs.steps.Report.{IsReportOf, Reports, status_by}
 use Rattle.jcompat.specs.steps.Put.{IsPutWith}
-use Rattle.jcompat.proofs.Events.{not_refused, verdict_accepted, refused_status, accepted_status}
+use Rattle.jcompat.proofs.Events.{not_refused, reported_accepted, refused_status, accepted_status}
+use Rattle.jcompat.proofs.Records.{same_some}
 
 -- a status isn't two numbers
 clash : {P : Type 0} (s m n : ℕ) → s ≡ m → s ≡ n → (m == n) ≡ false → P
@@ -30,28 +39,67 @@ cut_clash : {P : Type 0} (s n : ℕ) → (s ≡ WRITE_FAULT) ⊎ (s ≡ NO_MEMOR
 cut_clash s n (inl five) is e f = clash s 5 n five is e
 cut_clash s n (inr six) is e f = clash s 6 n six is f
 
--- ---- an outcome was put
+-- ---- a report was put
 
-module _ (r : Ran) (outcome : Outcome) (is : IsOutcome r.words r.trees.before outcome) (put : IsPutWith outcome.text.items (status_by outcome.passes) r.out r.status)
+-- what a check's report upholds
+record Upheld (content : Option (List FileOf)) (check : CheckOf) (report : Report) (Says : Verdict → Type 0) (Holds : List FileOf → Verdict → Type 0) : Type 0 where
+  of : Verdict
+  says : Says of
+  holds : Told content (λ files. Holds files of)
+  text : report.text.items ≡ text_of of
+
+same_check : (c d : CheckOf) → CheckCommand c ≡ CheckCommand d → c ≡ d
+same_check c d e = cc
+
+no_link : {P : Type 0} (l : _) (d : CheckOf) → LinkCommand l ≡ CheckCommand d → P
+no_link l d e = absurd (cc)
+
+module _ (trees : TreesState) (report : Report) (check : CheckOf) where
+  compatible_by : (command : CommandOf) → command ≡ CheckCommand check → IsReportOf command trees report → report.passes ≡ true
+      → Upheld trees.content check report (λ v. v.findings ≡ []) (λ files v. IsCompatible files check v)
+  compatible_by (CheckCommand c) e is p =
+      let none = is.tells.passes p in record {
+        of = is.of;
+        says = none;
+        holds = subst (λ (d : CheckOf). Told trees.content (λ files. IsCompatible files d is.of)) (same_check c check e) (is.upholds.0 none);
+        text = is.tells.text;
+      }
+  compatible_by (LinkCommand l) e is p = no_link l check e
+
+  incompatible_by : (command : CommandOf) → command ≡ CheckCommand check → IsReportOf command trees report → report.passes ≡ false
+      → Upheld trees.content check report (λ v. v.findings ≢ []) (λ files v. IsIncompatible files check v)
+  incompatible_by (CheckCommand c) e is p =
+      let some = is.tells.fails p in record {
+        of = is.of;
+        says = some;
+        holds = subst (λ (d : CheckOf). Told trees.content (λ files. IsIncompatible files d is.of)) (same_check c check e) (is.upholds.1 some);
+        text = is.tells.text;
+      }
+  incompatible_by (LinkCommand l) e is p = no_link l check e
+
+module _ (r : Ran) (report : Report) (is : Reports r.words r.trees.before report) (put : IsPutWith report.text.items (status_by report.passes) r.out r.status)
     (quiet : IsQuiet r.err) (same : r.trees.after.content ≡ r.trees.before.content) where
   data Case : Type 0 where
-    passed : outcome.passes ≡ true → r.status ≡ PASSED → r.status ≡ status_by outcome.passes → Case
-    not_passed : outcome.passes ≡ false → r.status ≡ NOT_PASSED → r.status ≡ status_by outcome.passes → Case
+    passed : report.passes ≡ true → r.status ≡ PASSED → r.status ≡ status_by report.passes → Case
+    not_passed : report.passes ≡ false → r.status ≡ NOT_PASSED → r.status ≡ status_by report.passes → Case
     cut : (r.status ≡ WRITE_FAULT) ⊎ (r.status ≡ NO_MEMORY) → Case
 
-  case_of : (b : Bool) → outcome.passes ≡ b → (r.status ≡ status_by outcome.passes) ⊎ (r.status ≡ WRITE_FAULT) ⊎ (r.status ≡ NO_MEMORY) → Case
+  case_of : (b : Bool) → report.passes ≡ b → (r.status ≡ status_by report.passes) ⊎ (r.status ≡ WRITE_FAULT) ⊎ (r.status ≡ NO_MEMORY) → Case
   case_of true e (inl s) = passed e (s ∙ ap status_by e) s
   case_of false e (inl s) = not_passed e (s ∙ ap status_by e) s
   case_of b e (inr h) = cut h
 
   the_case : Case
-  the_case = case_of outcome.passes refl put.known
+  the_case = case_of report.passes refl put.known
 
-  whole : r.status ≡ status_by outcome.passes → r.status ≢ NO_MEMORY → Reports r is.of
-  whole s apart = record { output = subst (PutsAll r.out) is.tells.text (put.whole s apart); errors = quiet }
+  abbrev due : Due r
+  due = record { command = is.command; asked_for = is.asked_for; report = is.is.of; is_report = is.is.is_report }
 
-  in_time : (r.status ≡ WRITE_FAULT) ⊎ (r.status ≡ NO_MEMORY) → CutsReport r is.of
-  in_time h = record { due = is.verdict; output = subst (PutsFront r.out) is.tells.text (put.cut h); errors = quiet; cause = put.cause }
+  whole : (bytes : Bytes) → report.text.items ≡ bytes → r.status ≡ status_by report.passes → r.status ≢ NO_MEMORY → Puts r bytes
+  whole bytes text s apart = record { output = subst (PutsAll r.out) text (put.whole s apart); errors = quiet }
+
+  in_time : (r.status ≡ WRITE_FAULT) ⊎ (r.status ≡ NO_MEMORY) → CutsReport r due
+  in_time h = record { output = subst (PutsFront r.out) is.is.tells.text (put.cut h); errors = quiet; cause = put.cause }
 
   never : {P : Type 0} (n : ℕ) → (0 == n) ≡ false → (1 == n) ≡ false → (5 == n) ≡ false → (6 == n) ≡ false → r.status ≡ n → P
   never {P} n e f g h s = go the_case
@@ -66,15 +114,34 @@ module _ (r : Ran) (outcome : Outcome) (is : IsOutcome r.words r.trees.before ou
   known (not_passed p one d) = at_most r.status 1 one (omega arith)
   known (cut k) = cut_most r.status k
 
-  compatible : r.status ≡ PASSED → Case → (v : Verdict) × (v.findings ≡ []) × OfFiles r (λ files. IsCompatible r.words files v) × Reports r v
-  compatible zero (passed p s d) = let none = is.tells.passes p in (is.of, none, is.compatible none, whole d (λ six. clash r.status 0 6 zero six refl))
-  compatible zero (not_passed p one d) = clash r.status 0 1 zero one refl
-  compatible zero (cut k) = cut_clash r.status 0 k zero refl refl
+  -- what was put with status 0, and with status 1
+  record IsPassed : Type 0 where
+    passes : report.passes ≡ true
+    put_whole : (bytes : Bytes) → report.text.items ≡ bytes → Puts r bytes
 
-  incompatible : r.status ≡ NOT_PASSED → Case → (v : Verdict) × (v.findings ≢ []) × OfFiles r (λ files. IsIncompatible r.words files v) × Reports r v
-  incompatible one (passed p zero d) = clash r.status 0 1 zero one refl
-  incompatible one (not_passed p s d) = let some = is.tells.fails p in (is.of, some, is.incompatible some, whole d (λ six. clash r.status 1 6 one six refl))
-  incompatible one (cut k) = cut_clash r.status 1 k one refl refl
+  record IsNotPassed : Type 0 where
+    fails : report.passes ≡ false
+    put_whole : (bytes : Bytes) → report.text.items ≡ bytes → Puts r bytes
+
+  is_passed : r.status ≡ PASSED → Case → IsPassed
+  is_passed zero (passed p s d) = record { passes = p; put_whole = λ bytes text. whole bytes text d (λ six. clash r.status 0 6 zero six refl) }
+  is_passed zero (not_passed p one d) = clash r.status 0 1 zero one refl
+  is_passed zero (cut k) = cut_clash r.status 0 k zero refl refl
+
+  is_not_passed : r.status ≡ NOT_PASSED → Case → IsNotPassed
+  is_not_passed one (passed p zero d) = clash r.status 0 1 zero one refl
+  is_not_passed one (not_passed p s d) = record { fails = p; put_whole = λ bytes text. whole bytes text d (λ six. clash r.status 1 6 one six refl) }
+  is_not_passed one (cut k) = cut_clash r.status 1 k one refl refl
+
+  compatible : (check : CheckOf) → asked r.words ≡ Some (CheckCommand check) → IsPassed → (v : Verdict) × (v.findings ≡ []) × OfFiles r (λ files. IsCompatible files check v) × Puts r (text_of v)
+  compatible check e p =
+      let up = compatible_by r.trees.before report check is.command (same_some (asked r.words) is.command (CheckCommand check) is.asked_for e) is.is p.passes in
+      (up.of, up.says, up.holds, p.put_whole (text_of up.of) up.text)
+
+  incompatible : (check : CheckOf) → asked r.words ≡ Some (CheckCommand check) → IsNotPassed → (v : Verdict) × (v.findings ≢ []) × OfFiles r (λ files. IsIncompatible files check v) × Puts r (text_of v)
+  incompatible check e p =
+      let up = incompatible_by r.trees.before report check is.command (same_some (asked r.words) is.command (CheckCommand check) is.asked_for e) is.is p.fails in
+      (up.of, up.says, up.holds, p.put_whole (text_of up.of) up.text)
 
   accepted : Case → (r.status ≡ PASSED) ⊎ (r.status ≡ NOT_PASSED) ⊎ HasFailed r.status
   accepted (passed p zero d) = inl zero
@@ -82,18 +149,22 @@ module _ (r : Ran) (outcome : Outcome) (is : IsOutcome r.words r.trees.before ou
   accepted (cut (inl five)) = inr (inr (inr (inl five)))
   accepted (cut (inr six)) = inr (inr (inr (inr six)))
 
-  pub outcome_answers : Answers r
-  outcome_answers = record {
+  pub report_answers : Answers r
+  report_answers = record {
     known = known the_case;
-    compatible = λ zero. compatible zero the_case;
-    incompatible = λ one. incompatible one the_case;
+    passed = λ zero. let p = is_passed zero the_case in (due, is.is.tells.passes p.passes, p.put_whole (due_bytes due) is.is.tells.text);
+    not_passed = λ one. let p = is_not_passed one the_case in (due, is.is.tells.fails p.fails, p.put_whole (due_bytes due) is.is.tells.text);
+    compatible = λ zero check e. compatible check e (is_passed zero the_case);
+    incompatible = λ one check e. incompatible check e (is_not_passed one the_case);
     usage = never 2 refl refl refl refl;
     bad_input = never 3 refl refl refl refl;
     read_fault = never 4 refl refl refl refl;
     limit = never 7 refl refl refl refl;
-    write_fault = λ five. inl (is.of, in_time (inl five));
-    no_memory = λ six. inl (is.of, in_time (inr six));
-    refused = λ files told stop h. absurd (not_refused r.words files stop (verdict_accepted r.words files is.of (is.verdict files told)) h);
+    write_fault = λ five. inl (due, in_time (inl five));
+    no_memory = λ six. inl (due, in_time (inr six));
+    refused = λ files told stop h.
+        let of = is.is.is_report files told in
+        absurd (not_refused r.words files stop (reported_accepted r.words files is.command is.asked_for of.0 is.is.of of.1) h);
     accepted = λ files told a. accepted the_case;
     content = same;
   }
@@ -118,6 +189,7 @@ file_statuses : (fault : FileFault) → IsStatus (file_status fault)
 file_statuses faults.TooLong = is_status 7 (omega arith) refl refl refl
 file_statuses (faults.Malformed m) = is_status 3 (omega arith) refl refl refl
 file_statuses (faults.Misplaced x) = is_status 3 (omega arith) refl refl refl
+file_statuses (faults.BadCode offset reason) = is_status 3 (omega arith) refl refl refl
 
 statuses : (stop : Stop) → IsStatus (status_of stop)
 statuses stops.Words = is_status 2 (omega arith) refl refl refl
@@ -126,6 +198,7 @@ statuses (stops.Unread name tree_faults.LongPath) = is_status 7 (omega arith) re
 statuses (stops.Unread name (tree_faults.File path fault)) = file_statuses fault
 statuses (stops.BadRoot part) = is_status 3 (omega arith) refl refl refl
 statuses (stops.Overlap name x) = is_status 3 (omega arith) refl refl refl
+statuses (stops.ClientName x part) = is_status 3 (omega arith) refl refl refl
 statuses stops.TooManyFindings = is_status 7 (omega arith) refl refl refl
 statuses (stops.ReadFault name) = is_status 4 (omega arith) refl refl refl
 statuses stops.Memory = is_status 6 (omega arith) refl refl refl
@@ -147,7 +220,7 @@ module _ (r : Ran) (stop : Stop) (cause : HasCause r.words r.trees stop) (put : 
   no_rejection (inl s) one = absurd ((statuses stop).no_rejection (sym s ∙ one))
   no_rejection (inr k) one = cut_clash r.status 1 k one refl refl
 
-  refuses : (n : ℕ) → (5 == n) ≡ false → (6 == n) ≡ false → Known → r.status ≡ n → Refuses r
+  refuses : (n : ℕ) → (5 == n) ≡ false → (6 == n) ≡ false → Known → r.status ≡ n → IsStopped r
   refuses n e f (inl s) is = record { stop = stop; status = sym s; cause = cause; output = quiet; errors = put.whole s (λ six. clash r.status 6 n six is f) }
   refuses n e f (inr k) is = cut_clash r.status n k is e f
 
@@ -157,6 +230,8 @@ module _ (r : Ran) (stop : Stop) (cause : HasCause r.words r.trees stop) (put : 
   pub stop_answers : Answers r
   stop_answers = record {
     known = said put.known;
+    passed = no_pass put.known;
+    not_passed = no_rejection put.known;
     compatible = no_pass put.known;
     incompatible = no_rejection put.known;
     usage = refuses 2 refl refl put.known;

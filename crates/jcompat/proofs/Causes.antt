@@ -1,135 +1,185 @@
--- Why a check has no outcome, and what it comes to.
-use Rattle.std.proofs.Common.{◌≡◌, ◌≤◌, inl, inr, List, [], ◌∷◌, Option, Some, None, refl, sym, subst, ◌∙◌}
-use Rattle.std.specs.Prelude.{IsSomeAnd}
+-- Why a command has no report, and what it comes to.
+use Rattle.std.proofs.Common.{◌≡◌, ◌≢◌, ◌≤◌, inl, inr, List, [], ◌∷◌, Option, Some, None, refl, sym, subst, ◌∙◌}
+use Rattle.std.specs.Prelude.{IsSomeAnd, option_map}
 use Rattle.std.specs.List.{All, AllByRecursion}
 use Rattle.std.proofs.lemmas.List.Elements.{recursion_from_All}
 use Rattle.jc_base.specs.Outside.{FileOf}
 use Rattle.jc_base.specs.States.{TreesState, Change}
 use Rattle.jc_facts.specs.declared.class_facts.ClassFacts.{ClassFacts}
 use Rattle.jc_facts.specs.declared.client.ClientClass.{ClientClass}
+use Rattle.jc_facts.specs.declared.outcome.Outcome.{Outcome}
 use Rattle.jc_facts.specs.declared.verdict.Verdict.{Verdict}
-use Rattle.jc_facts.specs.client.Clients.{IsInScope, Keeps}
-use Rattle.jc_facts.specs.client.Kept.{BreaksClass}
 use Rattle.jc_facts.specs.Names.{Bytes}
+use Rattle.jc_facts.specs.Options.{or_else}
+use Rattle.jc_facts.specs.client.Clients.{IsInScope, Keeps, facts_of}
+use Rattle.jc_facts.specs.client.Kept.{BreaksClass}
+use Rattle.jc_facts.specs.rule.Verdict.{IsVerdict}
 use Rattle.jc_facts.specs.world.World.{side}
+use Rattle.jc_link.specs.Refusals.{RefusesLink, MayLink}
+use Rattle.jc_link.specs.declared.refusal.LinkRefusal.{LinkRefusal}
+use Rattle.jc_link.specs.declared.refusal.LinkRefusal.TheVariants as refusals
 use Rattle.jc_table.specs.declared.table.TableError.{TableError}
 use Rattle.jc_table.specs.declared.table.TableError.TheVariants as errors
 use Rattle.jc_table.specs.Tables.{HasCause as HasTableCause}
 use Rattle.jc_table.specs.Root.{fault_of_root}
 use Rattle.jc_table.specs.Sides.{overlap_of}
-use Rattle.jc_facts.specs.rule.Verdict.{IsVerdict}
-use Rattle.jcompat.specs.declared.command.Check.{Check}
-use Rattle.jcompat.specs.declared.command.Command.{Command}
-use Rattle.jcompat.specs.declared.command.Command.TheVariants as commands
 use Rattle.jcompat.specs.declared.limits.TheConstants.{MAX_FINDINGS}
-use Rattle.jcompat.specs.declared.outcome.Outcome.{Outcome}
-use Rattle.jcompat.specs.declared.tree.TreeName.TheVariants as names
+use Rattle.jcompat.specs.declared.report.Report.{Report}
 use Rattle.jcompat.specs.declared.stop.Stop.{Stop}
 use Rattle.jcompat.specs.declared.stop.Stop.TheVariants as stops
-use Rattle.jcompat.specs.Command.{CommandOf, CheckOf, CheckCommand, trees_of, asked}
+use Rattle.jcompat.specs.declared.tree.TreeName.TheVariants as names
+use Rattle.jcompat.specs.Answers.{HasCause, StopsCommand}
+use Rattle.jcompat.specs.Check.{CheckRecords, mismatch_of, count_of, MeetsNone}
 use Rattle.jcompat.specs.ClassFiles.{Told}
+use Rattle.jcompat.specs.Command.{CommandOf, CheckOf, LinkOf, CheckCommand, LinkCommand, trees_of, asked}
+use Rattle.jcompat.specs.Link.{LinkRecords, refusal_of, AreOutcomesOf}
+use Rattle.jcompat.specs.Reports.{RecordsOf, Refuses}
 use Rattle.jcompat.specs.Tree.{TreeOf}
-use Rattle.jcompat.specs.Answers.{Records, Fits, count_of, IsUnfit, HasCause, IsFirstUnread, HasReadFault, IsVerdictOn, MeetsNone}
 use Rattle.jcompat.specs.steps.Check.{StopsComparing, StopsCounting, unfit_by}
-use Rattle.jcompat.specs.steps.Outcome.{TellsOf, IsOutcome}
-use Rattle.jcompat.specs.steps.ReadTree.{IsClassList}
-use Rattle.jcompat.specs.steps.ReadTrees.{AreRecordsOf, StopsAmong}
+use Rattle.jcompat.specs.steps.Link.{StopsLinking, stop_by_refusal}
+use Rattle.jcompat.specs.steps.ReadTree.{IsClassList, IsRecordList}
+use Rattle.jcompat.specs.steps.ReadTrees.{AreClassesOf, StopsAmong}
+use Rattle.jcompat.specs.steps.Report.{TellsOf, IsReportOf, Reports}
+use Rattle.jcompat.proofs.Events.{for_some}
+use Rattle.jcompat.proofs.Records.{check_records, link_records, IsOfRecords, unfit_says, refusal_says}
 
 -- ---- why comparing stopped
 
 -- the first table isn't built
 pub unfit_old : (platform old new : List ClassFacts) (error : TableError) → HasTableCause platform old error → StopsComparing platform old new (unfit_by names.Old error)
-unfit_old platform old new (errors.BadRoot part) h = inl h
-unfit_old platform old new (errors.Overlap name) h = inl h
+unfolding or_else
+unfit_old platform old new (errors.BadRoot part) h = inl (inl (rw h refl))
+unfit_old platform old new (errors.Overlap name) h = inl (inl (rw (h.0, h.1) refl))
 unfit_old platform old new errors.Memory h = inr refl
 
 -- the second isn't, where the first is
 pub unfit_new : (platform old new : List ClassFacts) (error : TableError) → fault_of_root platform ≡ None → overlap_of platform old ≡ None → HasTableCause platform new error
     → StopsComparing platform old new (unfit_by names.New error)
+unfolding or_else
 unfit_new platform old new (errors.BadRoot part) root apart h = absurd (let clash : None ≡ Some part = sym root ∙ h in cc)
-unfit_new platform old new (errors.Overlap name) root apart h = inl (h.0, apart, h.1)
+unfit_new platform old new (errors.Overlap name) root apart h = inl (inl (rw (root, apart, h.1) refl))
 unfit_new platform old new errors.Memory root apart h = inr refl
 
+-- both are
+pub releases_fit : (platform old new : List ClassFacts) → fault_of_root platform ≡ None → overlap_of platform old ≡ None → overlap_of platform new ≡ None → mismatch_of platform old new ≡ None
+unfolding or_else
+releases_fit platform old new root apart besides = rw (root, apart, besides) refl
+
 -- there is a verdict, with too many findings
-pub unfit_counting : (platform old new : List ClassFacts) (stop : Stop) → Fits platform old new → StopsCounting (side platform old) (side platform new) stop → StopsComparing platform old new stop
-unfit_counting platform old new stop fits (inl h) = inl (subst (λ (s : Stop). IsUnfit platform old new s) (sym h.0) (fits, h.1))
+pub unfit_counting : (platform old new : List ClassFacts) (stop : Stop) → mismatch_of platform old new ≡ None → StopsCounting (side platform old) (side platform new) stop → StopsComparing platform old new stop
+unfit_counting platform old new stop fits (inl (is, (v, exact, many))) = inl (inr (is, record { fits = fits; verdict = v; exact = exact; many = many }))
 unfit_counting platform old new stop fits (inr h) = inr h
 
--- ---- a command
+-- ---- why linking stopped
 
--- every command is a check
-abbrev pub checked : Command → Check
-checked (commands.Check check) = check
+pub refusal_stops : (platform release : List ClassFacts) (clients : List ClientClass) (refusal : LinkRefusal) → RefusesLink platform release clients refusal
+    → StopsLinking platform release clients (stop_by_refusal refusal)
+unfolding or_else
+refusal_stops platform release clients (refusals.BadRoot part) h = inl (rw h refl)
+refusal_stops platform release clients (refusals.Overlap name) h = inl (rw (h.0, h.1) refl)
+refusal_stops platform release clients (refusals.ClientName name part) h = inl (rw (h.0, h.1, h.2) refl)
+refusal_stops platform release clients refusals.Memory h = inr refl
 
-pub is_check : (command : Command) → command ≡ commands.Check (checked command)
-is_check (commands.Check check) = refl
+pub none_refused : (platform release : List ClassFacts) (clients : List ClientClass) → MayLink platform release clients → refusal_of platform release clients ≡ None
+unfolding or_else
+none_refused platform release clients h = rw (h.root, h.apart, h.allowed) refl
 
 -- ---- the records
 
 -- of three
-pub three_lists : (all : List (List ClassFacts)) (platform old new : List ClassFacts) → all ≡ platform ∷ old ∷ new ∷ [] → All IsClassList all → AllByRecursion IsClassList (platform ∷ old ∷ new ∷ [])
-three_lists all platform old new is h = recursion_from_All IsClassList (platform ∷ old ∷ new ∷ []) (subst (All IsClassList) is h)
+pub three_lists : (all : List (List ClientClass)) (a b c : List ClientClass) → all ≡ a ∷ b ∷ c ∷ [] → All IsClassList all → AllByRecursion IsClassList (a ∷ b ∷ c ∷ [])
+three_lists all a b c is h = recursion_from_All IsClassList (a ∷ b ∷ c ∷ []) (subst (All IsClassList) is h)
 
 -- ---- the causes
 
-module _ (words : List Bytes) (c : Change TreesState) where
+module _ (command : CommandOf) (c : Change TreesState) where
   -- reading the trees stopped
-  cause_reading : (command : CommandOf) → asked words ≡ Some command → (stop : Stop) → StopsAmong c (trees_of command) stop → HasCause words c stop
-  cause_reading command is (stops.Unread name fault) h = λ files told.
-      subst (λ (o : Option CommandOf). IsSomeAnd o (λ command. IsFirstUnread files (trees_of command) name fault)) (sym is) (h files told)
-  cause_reading command is (stops.ReadFault name) h = subst (λ (o : Option CommandOf). IsSomeAnd o (λ command. HasReadFault c (trees_of command) name)) (sym is) h
-  cause_reading command is stops.Memory h = tt
-  cause_reading command is stops.Words h = absurd h
-  cause_reading command is (stops.BadRoot p) h = absurd h
-  cause_reading command is (stops.Overlap t x) h = absurd h
-  cause_reading command is stops.TooManyFindings h = absurd h
+  pub cause_reading : (wanted : List TreeOf) → wanted ≡ trees_of command → (stop : Stop) → StopsAmong c wanted stop → StopsCommand command c stop
+  cause_reading wanted wanted_is stop h = by_stop stop (subst (λ (ts : List TreeOf). StopsAmong c ts stop) wanted_is h)
+    where
+      by_stop : (stop : Stop) → StopsAmong c (trees_of command) stop → StopsCommand command c stop
+      by_stop (stops.Unread name fault) h = h
+      by_stop (stops.ReadFault name) h = h
+      by_stop stops.Memory h = tt
+      by_stop stops.Words h = absurd h
+      by_stop (stops.BadRoot p) h = absurd h
+      by_stop (stops.Overlap t x) h = absurd h
+      by_stop (stops.ClientName x p) h = absurd h
+      by_stop stops.TooManyFindings h = absurd h
 
-  module _ (check : CheckOf) (is : asked words ≡ Some (CheckCommand check)) (wanted : List TreeOf) (wanted_is : wanted ≡ trees_of (CheckCommand check)) where
-    pub cause_reading_check : (stop : Stop) → StopsAmong c wanted stop → HasCause words c stop
-    cause_reading_check stop h = cause_reading (CheckCommand check) is stop (subst (λ (ts : List TreeOf). StopsAmong c ts stop) wanted_is h)
+  -- the records of the trees are refused
+  cause_refused : (stop : Stop) → IsOfRecords stop → Told c.before.content (λ files. (r : RecordsOf files command) × Refuses files command r stop) → StopsCommand command c stop
+  cause_refused (stops.BadRoot p) says h = h
+  cause_refused (stops.Overlap t x) says h = h
+  cause_refused (stops.ClientName x p) says h = h
+  cause_refused stops.TooManyFindings says h = h
+  cause_refused stops.Words says h = absurd says
+  cause_refused (stops.Unread t f) says h = absurd says
+  cause_refused (stops.ReadFault t) says h = absurd says
+  cause_refused stops.Memory says h = absurd says
 
-    module _ (all : List (List ClassFacts)) (platform old new : List ClassFacts) (all_is : all ≡ platform ∷ old ∷ new ∷ []) (read : Told c.before.content (λ files. AreRecordsOf files wanted all)) where
-      three : (files : List FileOf) → c.before.content ≡ Some files → AreRecordsOf files (trees_of (CheckCommand check)) (platform ∷ old ∷ new ∷ [])
-      three files told = subst (λ (xs : List (List ClassFacts)). AreRecordsOf files (trees_of (CheckCommand check)) xs) all_is (subst (λ (ts : List TreeOf). AreRecordsOf files ts all) wanted_is (read files told))
+  cause_memory : (stop : Stop) → stop ≡ stops.Memory → StopsCommand command c stop
+  cause_memory stop h = subst (λ (s : Stop). StopsCommand command c s) (sym h) tt
 
-      abbrev records : (files : List FileOf) → c.before.content ≡ Some files → Records words files
-      records files told = record {
-        check = check;
-        asked_for = is;
-        platform = platform;
-        old = old;
-        new = new;
-        platform_is = (three files told).0;
-        old_is = (three files told).1.0;
-        new_is = (three files told).1.1.0;
-      }
+  -- the words ask for the command
+  pub cause_asked : (words : List Bytes) → Some command ≡ asked words → (stop : Stop) → StopsCommand command c stop → HasCause words c stop
+  cause_asked words is stop h = by_stop stop h (for_some (asked words) command (λ d. StopsCommand d c stop) (sym is) h)
+    where
+      by_stop : (stop : Stop) → StopsCommand command c stop → IsSomeAnd (asked words) (λ d. StopsCommand d c stop) → HasCause words c stop
+      by_stop (stops.Unread name fault) h k = k
+      by_stop (stops.ReadFault name) h k = k
+      by_stop stops.Memory h k = k
+      by_stop (stops.BadRoot p) h k = k
+      by_stop (stops.Overlap t x) h k = k
+      by_stop (stops.ClientName x p) h k = k
+      by_stop stops.TooManyFindings h k = k
+      by_stop stops.Words h k = absurd h
 
-      cause_unfit : (stop : Stop) → IsUnfit platform old new stop → HasCause words c stop
-      cause_unfit (stops.BadRoot p) h = λ files told. (records files told, h)
-      cause_unfit (stops.Overlap t x) h = λ files told. (records files told, h)
-      cause_unfit stops.TooManyFindings h = λ files told. (records files told, h)
-      cause_unfit stops.Words h = absurd h
-      cause_unfit (stops.Unread t f) h = absurd h
-      cause_unfit (stops.ReadFault t) h = absurd h
-      cause_unfit stops.Memory h = tt
+-- the trees that were read, one by one
+told_classes : (content : Option (List FileOf)) (wanted trees : List TreeOf) (all three : List (List ClientClass)) → wanted ≡ trees → all ≡ three → Told content (λ files. AreClassesOf files wanted all)
+    → Told content (λ files. AreClassesOf files trees three)
+told_classes content wanted trees all three w a read = subst (λ (xs : List (List ClientClass)). Told content (λ files. AreClassesOf files trees xs)) a (subst (λ (ts : List TreeOf). Told content (λ files. AreClassesOf files ts all)) w read)
 
-      pub cause_comparing : (stop : Stop) → StopsComparing platform old new stop → HasCause words c stop
-      cause_comparing stop (inl h) = cause_unfit stop h
-      cause_comparing stop (inr h) = subst (λ (s : Stop). HasCause words c s) (sym h) tt
+-- ---- a check
 
-      -- ---- what it comes to
+module _ (check : CheckOf) (c : Change TreesState) (wanted : List TreeOf) (wanted_is : wanted ≡ trees_of (CheckCommand check))
+    (all : List (List ClientClass)) (platform old new : List ClientClass) (all_is : all ≡ platform ∷ old ∷ new ∷ []) (read : Told c.before.content (λ files. AreClassesOf files wanted all)) where
+  abbrev checked : (files : List FileOf) → c.before.content ≡ Some files → CheckRecords files check
+  checked files told =
+      check_records files check platform old new (told_classes c.before.content wanted (trees_of (CheckCommand check)) all (platform ∷ old ∷ new ∷ []) wanted_is all_is read files told)
 
-      module _ (v : Verdict) (fits : Fits platform old new) (exact : IsVerdict (side platform old) (side platform new) v) (few : count_of v ≤ MAX_FINDINGS) where
-        abbrev verdict : (files : List FileOf) → c.before.content ≡ Some files → IsVerdictOn words files v
-        verdict files told = record { compares = record { records = records files told; fits = fits; exact = exact }; few = few }
+  pub cause_comparing : (stop : Stop) → StopsComparing (facts_of platform) (facts_of old) (facts_of new) stop → StopsCommand (CheckCommand check) c stop
+  cause_comparing stop (inl h) = cause_refused (CheckCommand check) c stop (unfit_says (facts_of platform) (facts_of old) (facts_of new) stop h) (λ files told. (checked files told, h))
+  cause_comparing stop (inr h) = cause_memory (CheckCommand check) c stop h
 
-        pub outcome_of : (outcome : Outcome)
-            → (v.findings ≡ [] → (cs : List ClientClass) → IsInScope (side platform old) (side platform new) cs → MeetsNone (side platform old) cs v.collisions → Keeps (side platform old) (side platform new) cs)
-            → All (λ f. f.rule ≡ 1 → BreaksClass (side platform old) (side platform new) f.class f.error) v.findings → TellsOf v outcome → IsOutcome words c.before outcome
-        outcome_of outcome kept broken tells = record {
-          of = v;
-          tells = tells;
-          verdict = verdict;
-          compatible = λ none files told. record { verdict = verdict files told; none = none; keeps = kept none };
-          incompatible = λ some files told. record { verdict = verdict files told; some = some; breaks = broken };
-        }
+  pub verdict_reported : (v : Verdict) (report : Report) → mismatch_of (facts_of platform) (facts_of old) (facts_of new) ≡ None → IsVerdict (side (facts_of platform) (facts_of old)) (side (facts_of platform) (facts_of new)) v
+      → count_of v ≤ MAX_FINDINGS
+      → (v.findings ≡ [] → (cs : List ClientClass) → IsInScope (side (facts_of platform) (facts_of old)) (side (facts_of platform) (facts_of new)) cs
+      → MeetsNone (side (facts_of platform) (facts_of old)) cs v.collisions → Keeps (side (facts_of platform) (facts_of old)) (side (facts_of platform) (facts_of new)) cs)
+      → All (λ f. f.rule ≡ 1 → BreaksClass (side (facts_of platform) (facts_of old)) (side (facts_of platform) (facts_of new)) f.class f.error) v.findings
+      → TellsOf (CheckCommand check) v report → IsReportOf (CheckCommand check) c.before report
+  verdict_reported v report fits exact few kept broken tells = record {
+    of = v;
+    tells = tells;
+    is_report = λ files told. (checked files told, record { fits = fits; exact = exact; few = few });
+    upholds = (
+      λ none files told. record { records = checked files told; verdict = record { fits = fits; exact = exact; few = few }; none = none; keeps = kept none },
+      λ some files told. record { records = checked files told; verdict = record { fits = fits; exact = exact; few = few }; some = some; breaks = broken },
+    );
+  }
+
+-- ---- the linking of clients
+
+module _ (link : LinkOf) (c : Change TreesState) (wanted : List TreeOf) (wanted_is : wanted ≡ trees_of (LinkCommand link))
+    (all : List (List ClientClass)) (platform release clients : List ClientClass) (all_is : all ≡ platform ∷ release ∷ clients ∷ []) (read : Told c.before.content (λ files. AreClassesOf files wanted all)) where
+  abbrev given : (files : List FileOf) → c.before.content ≡ Some files → LinkRecords files link
+  given files told =
+      link_records files link platform release clients (told_classes c.before.content wanted (trees_of (LinkCommand link)) all (platform ∷ release ∷ clients ∷ []) wanted_is all_is read files told)
+
+  pub cause_linking : (stop : Stop) → StopsLinking (facts_of platform) (facts_of release) clients stop → StopsCommand (LinkCommand link) c stop
+  cause_linking stop (inl h) = cause_refused (LinkCommand link) c stop (refusal_says (facts_of platform) (facts_of release) clients stop h) (λ files told. (given files told, h))
+  cause_linking stop (inr h) = cause_memory (LinkCommand link) c stop h
+
+  pub outcomes_reported : (list : List Outcome) (report : Report) → AreOutcomesOf (facts_of platform) (facts_of release) clients list → TellsOf (LinkCommand link) list report
+      → IsReportOf (LinkCommand link) c.before report
+  outcomes_reported list report exact tells = record { of = list; tells = tells; is_report = λ files told. (given files told, exact); upholds = tt }

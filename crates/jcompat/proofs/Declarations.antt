@@ -12,8 +12,8 @@ use Rattle.jc_facts.specs.Names.{Bytes, same, is_key, key_of}
 use Rattle.jc_facts.specs.world.World.{World, class_named, classes, find_class, own_field_of, own_method_of, size}
 use Rattle.jc_facts.specs.world.Search.{of_class, descend}
 use Rattle.jc_facts.specs.world.Hierarchy.{chain_step, of_super, chain, each, interfaces_step, with_interfaces, interfaces_of, superinterfaces}
-use Rattle.jc_lemmas.proofs.Listed.{EachOf, here, there, none, cases, EachOf-append}
-use Rattle.jc_facts.proofs.Same.{same_is}
+use Rattle.jc_lemmas.proofs.Listed.{EachOf, here, there, none, cases, each_of, EachOf-append}
+use Rattle.jc_facts.proofs.KeySets.{key-same}
 use Rattle.jc_sound.specs.Findings.{declares_key}
 use Rattle.jc_worlds.specs.Hierarchy.{above}
 use Rattle.jc_facts.proofs.Hierarchy.{each-all}
@@ -41,23 +41,14 @@ spread_has {A} f (y ∷ ys) x b c d = go (cases y ys x c) (λ m. spread_has f ys
     go (inl is) r = Contains-append_left (f y) (spread f ys) b (subst (λ (z : A). Contains (f z) b) (sym is) d)
     go (inr m) r = Contains-append_right (f y) (spread f ys) b (r m)
 
-every : {A : Type 0} (P : A → Type 0) → ((x : A) → P x) → (xs : List A) → EachOf P xs
-every P h [] = tt
-every P h (x ∷ xs) = (h x, every P h xs)
-
 -- ---- keys
-
-key_is : (k : Key) (m : Member) → is_key k m ≡ true → key_of m ≡ k
-key_is k m e =
-    let p = and_parts (same m.name k.name) (same m.descriptor k.descriptor) e in
-    ap (λ n. record { name = n; descriptor = m.descriptor }) (same_is m.name k.name p.0) ∙ ap (λ d. record { name = k.name; descriptor = d }) (same_is m.descriptor k.descriptor p.1)
 
 key_listed : (k : Key) (ms : List Member) → is_some (first_where (is_key k) ms) ≡ true → Contains (map key_of ms) k
 key_listed k [] e = absurd (cc)
 key_listed k (m ∷ ms) e = go (is_key k m) refl e (key_listed k ms)
   where
     go : (b : Bool) → is_key k m ≡ b → is_some (cond b (Some m) (first_where (is_key k) ms)) ≡ true → (is_some (first_where (is_key k) ms) ≡ true → Contains (map key_of ms) k) → Contains (key_of m ∷ map key_of ms) k
-    go true q e r = subst (Contains (key_of m ∷ map key_of ms)) (key_is k m q) (here (key_of m) (map key_of ms))
+    go true q e r = subst (Contains (key_of m ∷ map key_of ms)) (key-same k m q) (here (key_of m) (map key_of ms))
     go false q e r = there k (key_of m) (map key_of ms) (r e)
 
 -- the keys of all members of the class
@@ -131,14 +122,14 @@ module _ (W : World) where
       go : (o : Option ClassFacts) → find_class W x ≡ o → ((y : Bytes) → EachOf (Contains (classes W)) (descend W [] [] interfaces_step n y))
           → EachOf (Contains (classes W)) (of_class [] (λ c. interfaces_step (descend W [] [] interfaces_step n) c) o)
       go None e r = tt
-      go (Some c) e r = (found_in_world x c e, each-all (Contains (classes W)) (descend W [] [] interfaces_step n) c.interfaces (every _ r c.interfaces))
+      go (Some c) e r = (found_in_world x c e, each-all (Contains (classes W)) (descend W [] [] interfaces_step n) c.interfaces (each_of _ r c.interfaces))
 
   all_interfaces_in : (cs : List ClassFacts) → EachOf (Contains (classes W)) (interfaces_of W cs)
   unfolding interfaces_of with_interfaces
   all_interfaces_in [] = tt
   all_interfaces_in (c ∷ cs) =
       EachOf-append (Contains (classes W)) (each (with_interfaces W) c.interfaces) (interfaces_of W cs)
-      (each-all (Contains (classes W)) (with_interfaces W) c.interfaces (every _ (λ y. interfaces_in (size W) y) c.interfaces))
+      (each-all (Contains (classes W)) (with_interfaces W) c.interfaces (each_of _ (λ y. interfaces_in (size W) y) c.interfaces))
       (all_interfaces_in cs)
 
   -- who stands above a class is one of them

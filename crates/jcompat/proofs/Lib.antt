@@ -2,12 +2,13 @@ pub mod Ascents
 pub mod Puts
 pub mod Places
 pub mod Listings
+pub mod Results
 pub mod FrontRead
 pub mod TreeRead
-pub mod OneVerdict
 pub mod TreesRead
-pub mod Causes
+pub mod Records
 pub mod Events
+pub mod Causes
 pub mod Answered
 pub mod Surely
 pub mod Gathered

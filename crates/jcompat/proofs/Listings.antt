@@ -10,14 +10,11 @@ use Rattle.std.proofs.lemmas.List.Sorted.{All-permutation, Contains-permutation}
 use Rattle.std.proofs.lemmas.Slice.Eq.{bytes_eq-Decides}
 use Rattle.jc_base.specs.Outside.{FileOf, HasFile, AreThePaths, Lists, Holds, has_bytes, are_distinct}
 use Rattle.jc_facts.specs.Names.{Bytes}
-use Rattle.jc_facts.specs.Exactly.{Before, NamesRise, Rises}
+use Rattle.jc_facts.specs.Exactly.{by_names, NamesRise}
+use Rattle.jc_facts.proofs.InOrder.{Rises-filter}
 use Rattle.jc_facts.proofs.Apart.{ApartRec, rec-Apart, Apart-permutation, NamesRise-sorted}
-use Rattle.jc_lemmas.proofs.Listed.{EachOf, here, there, none, cases}
+use Rattle.jc_lemmas.proofs.Listed.{EachOf, filter_in}
 use Rattle.jcompat.specs.ClassFiles.{is_class_path, IsClassPathOf, AreClassPaths}
-
-both : (a b : Bool) → (a && b) ≡ true → (a ≡ true) × (b ≡ true)
-both true b h = (refl, h)
-both false b h = absurd (cc)
 
 not_there : (x : Bytes) (ys : List Bytes) → has_bytes x ys ≡ false → EachOf (λ y. x ≢ y) ys
 not_there x [] h = tt
@@ -35,37 +32,10 @@ distinct_apart (x ∷ xs) h = go (has_bytes x xs) refl h (distinct_apart xs)
     go true q h more = absurd (cc)
     go false q h more = (not_there x xs q, more h)
 
-each_kept : {A : Type 0} (P : A → Type 0) (p : A → Bool) (xs : List A) → EachOf P xs → EachOf P (filter p xs)
-each_kept P p [] h = tt
-each_kept P p (x ∷ xs) h = go (p x) (each_kept P p xs h.1)
-  where
-    go : (b : Bool) → EachOf P (filter p xs) → EachOf P (cond b (x ∷ filter p xs) (filter p xs))
-    go true k = (h.0, k)
-    go false k = k
-
-rising_kept : (p : Bytes → Bool) (xs : List Bytes) → NamesRise (λ x. x) xs → NamesRise (λ x. x) (filter p xs)
-unfolding Rises
-rising_kept p [] h = tt
-rising_kept p (x ∷ xs) h = go (p x) (each_kept (λ y. Before x y) p xs h.0) (rising_kept p xs h.1)
-  where
-    go : (b : Bool) → EachOf (λ y. Before x y) (filter p xs) → NamesRise (λ x. x) (filter p xs) → NamesRise (λ x. x) (cond b (x ∷ filter p xs) (filter p xs))
-    go true k more = (k, more)
-    go false k more = more
-
-pub contained_kept : {A : Type 0} (p : A → Bool) (xs : List A) (x : A) → Contains xs x → p x ≡ true → Contains (filter p xs) x
-contained_kept p [] x c e = absurd (none x c)
-contained_kept {A} p (y ∷ ys) x c e = go (p y) refl (cases y ys x c) (contained_kept p ys x)
-  where
-    go : (b : Bool) → p y ≡ b → (y ≡ x) ⊎ Contains ys x → (Contains ys x → p x ≡ true → Contains (filter p ys) x) → Contains (cond b (y ∷ filter p ys) (filter p ys)) x
-    go true q (inl is) more = subst (λ (z : A). Contains (y ∷ filter p ys) z) is (here y (filter p ys))
-    go true q (inr c) more = there x y (filter p ys) (more c e)
-    go false q (inl is) more = absurd (let clash : p y ≡ true = rw is e in cc)
-    go false q (inr c) more = more c e
-
 -- listed, sorted, and then those of class files
 pub rising_listing : (listed sorted : List Bytes) → are_distinct listed ≡ true → IsPermutation listed sorted → IsSorted (slice_cmp nat_cmp) sorted → NamesRise (λ p. p) (filter is_class_path sorted)
 rising_listing listed sorted once p s =
-    rising_kept is_class_path sorted (NamesRise-sorted (λ p. p) sorted s (Apart-permutation (λ p. p) listed sorted p (rec-Apart (λ p. p) listed (distinct_apart listed once))))
+    Rises-filter (by_names (λ p. p)) is_class_path sorted (NamesRise-sorted (λ p. p) sorted s (Apart-permutation (λ p. p) listed sorted p (rec-Apart (λ p. p) listed (distinct_apart listed once))))
 
 pub held_listing : (content : Option (List FileOf)) (root : Bytes) (listed sorted : List Bytes) → Lists content root listed → IsPermutation listed sorted
     → All (Holds content root) (filter is_class_path sorted)
@@ -80,7 +50,7 @@ pub class_paths : (files : List FileOf) (root : Bytes) (listed sorted : List Byt
 class_paths files root listed sorted l once p s = record {
   in_order = rising_listing listed sorted once p s;
   sound = All-weaker (Contains kept) (IsClassPathOf files root) one kept (All-contains_itself kept);
-  complete = λ path k. contained_kept is_class_path sorted path (Contains-permutation listed sorted path p (l.whole path k.held)) k.named;
+  complete = λ path k. filter_in is_class_path sorted path (Contains-permutation listed sorted path p (l.whole path k.held)) k.named;
 }
   where
     kept : List Bytes

@@ -41,8 +41,8 @@ use Rattle.jc_sound.proofs.FindingLaws.{finding_is_on_its_subject}
 use Rattle.jc_facts.proofs.InOrder.{exact_same}
 use Rattle.jc_sound.proofs.KeyLaws.{keys_are_declared, collision_keys_are_declared}
 use Rattle.jc_sound.proofs.Standing.{usable_parts}
-use Rattle.jc_sound.proofs.UsableLaw.{Needs, none_needs, cond_needs, either_needs, second_of_five, findings_are_of_usable, collisions_are_of_usable}
-use Rattle.jc_lemmas.proofs.Bools.{both_first}
+use Rattle.jc_sound.proofs.UsableLaw.{Needs, none_needs, cond_needs, either_needs, findings_are_of_usable, collisions_are_of_usable}
+use Rattle.jc_lemmas.proofs.Bools.{both_first, second_of_five}
 use Rattle.jc_facts.proofs.World.{find-name, class_named-name}
 use Rattle.jc_sides.proofs.Subjects.{subject_order}
 use Rattle.jcompat.proofs.Declarations.{named_in, found_in_world, above_in, class_key, some_key}

@@ -20,17 +20,13 @@ use Rattle.jc_facts.specs.Exactly.{name_order}
 use Rattle.jc_facts.specs.rule.Findings.{Subject}
 use Rattle.jc_facts.specs.world.World.{World, classes}
 use Rattle.jc_lemmas.proofs.Listed.{here, there}
+use Rattle.jc_facts.proofs.KeySets.{then_equal}
 use Rattle.jc_facts.proofs.Same.{same_is}
 use Rattle.jc_sides.proofs.Subjects.{subject_order}
 use Rattle.jcompat.proofs.Gathered.{Gathered, gathered}
 use Rattle.jcompat.proofs.Declarations.{mapped, spread, spread_has, all_keys}
 
 -- ---- subjects that tie are equal
-
-then_tied : (a b : Ordering) → ordering_then a b ≡ Equal → (a ≡ Equal) × (b ≡ Equal)
-then_tied Less b e = absurd (let clash : Less ≡ Equal = e in cc)
-then_tied Equal b e = (refl, e)
-then_tied Greater b e = absurd (let clash : Greater ≡ Equal = e in cc)
 
 number_tied : (m n : ℕ) → nat_cmp m n ≡ Equal → m ≡ n
 number_tied m n e = eqb-true m n (unsigned_ties m n ∙ ap is_eq e)
@@ -46,7 +42,7 @@ option_tied {T} order tied (Some x) (Some y) e = ap (λ (z : T). Some z) (tied x
 
 key_tied : (k l : Key) → key_cmp k l ≡ Equal → k ≡ l
 key_tied k l e =
-    let p = then_tied (name_order k.name l.name) (name_order k.descriptor l.descriptor) e in
+    let p = then_equal (name_order k.name l.name) (name_order k.descriptor l.descriptor) e in
     ap (λ n. record { name = n; descriptor = k.descriptor }) (name_tied k.name l.name p.0) ∙ ap (λ d. record { name = l.name; descriptor = d }) (name_tied k.descriptor l.descriptor p.1)
 
 abbrev pub on_subject : ℕ → Bytes → Option Key → Option Bytes → Subject
@@ -54,9 +50,9 @@ on_subject rule x k t = record { rule = rule; «class» = x; key = k; target = t
 
 subject_tied : (s t : Subject) → subject_order s t ≡ Equal → s ≡ t
 subject_tied s t e =
-    let a = then_tied (nat_cmp s.rule t.rule) _ e in
-    let b = then_tied (name_order s.«class» t.«class») _ a.1 in
-    let c = then_tied (option_cmp key_cmp s.key t.key) (option_cmp name_order s.target t.target) b.1 in
+    let a = then_equal (nat_cmp s.rule t.rule) _ e in
+    let b = then_equal (name_order s.«class» t.«class») _ a.1 in
+    let c = then_equal (option_cmp key_cmp s.key t.key) (option_cmp name_order s.target t.target) b.1 in
     ap (λ r. on_subject r s.«class» s.key s.target) (number_tied s.rule t.rule a.0)
     ∙ ap (λ x. on_subject t.rule x s.key s.target) (name_tied s.«class» t.«class» b.0)
     ∙ ap (λ k. on_subject t.rule t.«class» k s.target) (option_tied key_cmp key_tied s.key t.key c.0)

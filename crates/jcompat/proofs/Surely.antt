@@ -19,9 +19,9 @@ use Rattle.jcompat.specs.Tree.{TreeOf}
 not_risen : (before after : ℕ) → before ≡ 0 → after ≡ 0 → Rose before after → ⊥
 not_risen before after b a r = omega (arith, b, a, r)
 
-none_first : (Before This : Bytes → Type 0) (trees : List TreeOf) (name : TreeName) → ((root : Bytes) → This root → ⊥) → IsFirst Before This trees name → ⊥
+none_first : (Before This : TreeOf → Type 0) (trees : List TreeOf) (name : TreeName) → ((tree : TreeOf) → This tree → ⊥) → IsFirst Before This trees name → ⊥
 none_first Before This [] name f h = h
-none_first Before This (tree ∷ trees) name f (inl (is, this)) = f tree.root this
+none_first Before This (tree ∷ trees) name f (inl (is, this)) = f tree this
 none_first Before This (tree ∷ trees) name f (inr (before, h)) = none_first Before This trees name f h
 
 none_asked : {A : Type 0} (o : Option A) (P : A → Type 0) → ((x : A) → P x → ⊥) → IsSomeAnd o P → ⊥
@@ -35,6 +35,7 @@ file_not_four : (fault : FileFault) → file_status fault ≡ READ_FAULT → ⊥
 file_not_four faults.TooLong e = not_four 7 e refl
 file_not_four (faults.Malformed m) e = not_four 3 e refl
 file_not_four (faults.Misplaced x) e = not_four 3 e refl
+file_not_four (faults.BadCode offset reason) e = not_four 3 e refl
 
 module _ (r : Ran) (answers : Answers r) where
   -- no call on the trees failed
@@ -43,13 +44,14 @@ module _ (r : Ran) (answers : Answers r) where
     where
       go : (stop : Stop) → status_of stop ≡ READ_FAULT → HasCause r.words r.trees stop → ⊥
       go (stops.ReadFault name) e h =
-          none_asked (asked r.words) _ (λ command. none_first _ _ (trees_of command) name (λ root. not_risen (r.trees.before.faults root) (r.trees.after.faults root) (before root) (after root))) h
+          none_asked (asked r.words) _ (λ command. none_first _ _ (trees_of command) name (λ tree. not_risen (r.trees.before.faults tree.root) (r.trees.after.faults tree.root) (before tree.root) (after tree.root))) h
       go stops.Words e h = not_four 2 e refl
       go (stops.Unread name tree_faults.TooManyFiles) e h = not_four 7 e refl
       go (stops.Unread name tree_faults.LongPath) e h = not_four 7 e refl
       go (stops.Unread name (tree_faults.File path fault)) e h = file_not_four fault e
       go (stops.BadRoot part) e h = not_four 3 e refl
       go (stops.Overlap name x) e h = not_four 3 e refl
+      go (stops.ClientName x part) e h = not_four 3 e refl
       go stops.TooManyFindings e h = not_four 7 e refl
       go stops.Memory e h = not_four 6 e refl
 
@@ -58,5 +60,5 @@ module _ (r : Ran) (answers : Answers r) where
   no_write_fault out_before out_after err_before err_after five = go (answers.write_fault five)
     where
       go : IsCutShort r → ⊥
-      go (inl (v, cut)) = not_risen r.out.before.faults r.out.after.faults out_before out_after (cut.cause five)
+      go (inl (due, cut)) = not_risen r.out.before.faults r.out.after.faults out_before out_after (cut.cause five)
       go (inr (stop, cut)) = not_risen r.err.before.faults r.err.after.faults err_before err_after (cut.cause five)

@@ -6,25 +6,28 @@ use Rattle.std.specs.List.{All, Contains, list_any}
 use Rattle.std.proofs.lemmas.List.Elements.{All-from_recursion, recursion_from_All}
 use Rattle.jc_base.specs.Outside.{FileOf, IsFileAt}
 use Rattle.jc_facts.specs.declared.class_facts.ClassFacts.{ClassFacts}
+use Rattle.jc_facts.specs.declared.client.ClientClass.{ClientClass}
+use Rattle.jc_facts.specs.declared.client.Item.{Item}
 use Rattle.jc_facts.specs.Names.{Bytes, same}
 use Rattle.jc_facts.specs.Exactly.{Before, NamesRise, Rises}
 use Rattle.jc_facts.specs.world.World.{class_named}
-use Rattle.jc_facts.specs.client.Clients.{differ_by_name}
-use Rattle.jc_facts.specs.file.Valid.{IsValidClass}
+use Rattle.jc_facts.specs.client.Clients.{IsValidClient, differ_by_name, facts_of}
 use Rattle.jc_facts.proofs.Same.{same_is}
 use Rattle.jc_facts.proofs.OneList.{not_both, not_self}
 use Rattle.jc_lemmas.proofs.Listed.{EachOf, here, there, none, cases, each_in, not_any}
 use Rattle.jc_facts.proofs.ClassFiles.{one_record}
 use Rattle.std.proofs.lemmas.Bool.{ltb-false, ltb-true}
 use Rattle.std.proofs.lemmas.List.{length-map}
-use Rattle.jcompat.specs.declared.tree.TreeName.{TreeName}
 use Rattle.jcompat.specs.declared.stop.Stop.{Stop}
 use Rattle.jcompat.specs.declared.stop.Stop.TheVariants as stops
 use Rattle.jcompat.specs.declared.file_fault.FileFault.{FileFault}
 use Rattle.jcompat.specs.declared.file_fault.TreeFault.TheVariants as tree_faults
 use Rattle.jc_base.specs.States.{TreesState, Change}
 use Rattle.jcompat.specs.declared.limits.TheConstants.{MAX_FILES, MAX_PATH}
-use Rattle.jcompat.specs.ClassFiles.{Told, IsClassPathOf, AreClassPaths, path_of, IsReadAs, HasShortPaths, HasLongPath, IsFirstFault, IsRecordIn, AreRecords}
+use Rattle.jcompat.specs.ClassFiles.{Told, IsClassPathOf, AreClassPaths, path_of, items_in, IsReadIn, HasShortPaths, HasLongPath, IsFirstFault, IsClassIn, AreClasses}
+use Rattle.jcompat.specs.Tree.{TreeOf}
+use Rattle.jcompat.specs.declared.tree.TreeName.{TreeName}
+use Rattle.jcompat.proofs.Results.{same_ok}
 use Rattle.jcompat.specs.steps.ReadTree.{IsReadAt, AreReadAt, IsFirstOf, StopsAt, StopsIn, IsClassList}
 
 -- ---- the order of paths
@@ -52,77 +55,83 @@ unfolding Rises
 rising_mapped name [] h = tt
 rising_mapped name (x ∷ xs) h = (each_mapped name (name x) xs h.0, rising_mapped name xs h.1)
 
--- records of rising paths rise
-pub rising_records : (records : List ClassFacts) (paths : List Bytes) → map (λ c. path_of c.name) records ≡ paths → NamesRise (λ p. p) paths → NamesRise (λ c. path_of c.name) records
-rising_records records paths is r = rising_mapped (λ (c : ClassFacts). path_of c.name) records (subst (λ (ps : List Bytes). NamesRise (λ (p : Bytes). p) ps) (sym is) r)
+-- classes of rising paths rise
+pub rising_classes : (cs : List ClientClass) (paths : List Bytes) → map (λ c. path_of c.facts.name) cs ≡ paths → NamesRise (λ p. p) paths → NamesRise (λ c. path_of c.facts.name) cs
+rising_classes cs paths is r = rising_mapped (λ (c : ClientClass). path_of c.facts.name) cs (subst (λ (ps : List Bytes). NamesRise (λ (p : Bytes). p) ps) (sym is) r)
 
--- ---- the names of records whose paths rise differ
+-- ---- the names of classes whose paths rise differ
 
-not_named : (x : Bytes) (cs : List ClassFacts) → EachOf (λ c. Before (path_of x) (path_of c.name)) cs → class_named cs x ≡ None
+not_named : (x : Bytes) (cs : List ClientClass) → EachOf (λ c. Before (path_of x) (path_of c.facts.name)) cs → class_named (facts_of cs) x ≡ None
 unfolding class_named
 not_named x [] h = refl
-not_named x (d ∷ ds) h = go (same d.name x) refl (not_named x ds h.1)
+not_named x (d ∷ ds) h = go (same d.facts.name x) refl (not_named x ds h.1)
   where
-    go : (b : Bool) → same d.name x ≡ b → class_named ds x ≡ None → cond b (Some d) (class_named ds x) ≡ None
-    go true q e = absurd (not_self (path_of x) (subst (λ (n : Bytes). Before (path_of x) (path_of n)) (same_is d.name x q) h.0))
+    go : (b : Bool) → same d.facts.name x ≡ b → class_named (facts_of ds) x ≡ None → cond b (Some d.facts) (class_named (facts_of ds) x) ≡ None
+    go true q e = absurd (not_self (path_of x) (subst (λ (n : Bytes). Before (path_of x) (path_of n)) (same_is d.facts.name x q) h.0))
     go false q e = e
 
 differ_step : (o : Option ClassFacts) (b : Bool) → o ≡ None → b ≡ true → (is_none o && b) ≡ true
 differ_step None b e h = h
 differ_step (Some c) b e h = absurd (let clash : Some c ≡ None = e in cc)
 
-differ_rising : (cs : List ClassFacts) → NamesRise (λ c. path_of c.name) cs → differ_by_name cs ≡ true
+differ_rising : (cs : List ClientClass) → NamesRise (λ c. path_of c.facts.name) cs → differ_by_name (facts_of cs) ≡ true
 unfolding differ_by_name Rises
 differ_rising [] r = refl
-differ_rising (c ∷ cs) r = differ_step (class_named cs c.name) (differ_by_name cs) (not_named c.name cs r.0) (differ_rising cs r.1)
+differ_rising (c ∷ cs) r = differ_step (class_named (facts_of cs) c.facts.name) (differ_by_name (facts_of cs)) (not_named c.facts.name cs r.0) (differ_rising cs r.1)
 
--- records that are read of a listing
-pub class_list : (records : List ClassFacts) (paths : List Bytes) → map (λ c. path_of c.name) records ≡ paths → NamesRise (λ p. p) paths → length paths ≤ MAX_FILES → All IsValidClass records → IsClassList records
-class_list records paths is r few valid =
-    let long : length records ≡ length paths = sym (length-map records (λ (c : ClassFacts). path_of c.name)) ∙ ap length is in
-    record { valid = valid; differ = differ_rising records (rising_records records paths is r); few = omega (arith, few, long) }
+-- classes that are read of a listing
+pub class_list : (cs : List ClientClass) (paths : List Bytes) → map (λ c. path_of c.facts.name) cs ≡ paths → NamesRise (λ p. p) paths → length paths ≤ MAX_FILES → All IsValidClient cs → IsClassList cs
+class_list cs paths is r few valid =
+    let long : length cs ≡ length paths = sym (length-map cs (λ (c : ClientClass). path_of c.facts.name)) ∙ ap length is in
+    record { valid = valid; differ = differ_rising cs (rising_classes cs paths is r); few = omega (arith, few, long) }
 
 -- ---- what stands at a path
 
-record ReadThere (files : List FileOf) (root path : Bytes) (records : List ClassFacts) : Type 0 where
-  facts : ClassFacts
-  is_in : Contains records facts
-  read : IsReadAt files root path facts
+record ReadThere (files : List FileOf) (tree : TreeOf) (path : Bytes) (cs : List ClientClass) : Type 0 where
+  class : ClientClass
+  is_in : Contains cs class
+  read : IsReadAt files tree path class
 
-read_there : (files : List FileOf) (root : Bytes) (paths : List Bytes) (records : List ClassFacts) (path : Bytes) → AreReadAt files root paths records → Contains paths path
-    → ReadThere files root path records
-read_there files root [] [] path r c = absurd (none path c)
-read_there files root (p ∷ ps) (h ∷ hs) path r c = go (cases p ps path c) (read_there files root ps hs path r.1)
+read_there : (files : List FileOf) (tree : TreeOf) (paths : List Bytes) (cs : List ClientClass) (path : Bytes) → AreReadAt files tree paths cs → Contains paths path
+    → ReadThere files tree path cs
+read_there files tree [] [] path r c = absurd (none path c)
+read_there files tree (p ∷ ps) (h ∷ hs) path r c = go (cases p ps path c) (read_there files tree ps hs path r.1)
   where
-    go : (p ≡ path) ⊎ Contains ps path → (Contains ps path → ReadThere files root path hs) → ReadThere files root path (h ∷ hs)
-    go (inl is) more = record { facts = h; is_in = here h hs; read = subst (λ (q : Bytes). IsReadAt files root q h) is r.0 }
-    go (inr k) more = let t = more k in record { facts = t.facts; is_in = there t.facts h hs t.is_in; read = t.read }
-read_there files root [] (h ∷ hs) path r c = absurd r
-read_there files root (p ∷ ps) [] path r c = absurd r
+    go : (p ≡ path) ⊎ Contains ps path → (Contains ps path → ReadThere files tree path hs) → ReadThere files tree path (h ∷ hs)
+    go (inl is) more = record { class = h; is_in = here h hs; read = subst (λ (q : Bytes). IsReadAt files tree q h) is r.0 }
+    go (inr k) more = let t = more k in record { class = t.class; is_in = there t.class h hs t.is_in; read = t.read }
+read_there files tree [] (h ∷ hs) path r c = absurd r
+read_there files tree (p ∷ ps) [] path r c = absurd r
 
 -- a place holds one file
-one_file : (files : List FileOf) (root path a b : Bytes) → IsFileAt files root path a → IsFileAt files root path b → a ≡ b
+pub one_file : (files : List FileOf) (root path a b : Bytes) → IsFileAt files root path a → IsFileAt files root path b → a ≡ b
 one_file files root path a b h k = let same : Some a ≡ Some b = sym h ∙ k in cc
 
-readable : (files : List FileOf) (root path bytes : Bytes) (facts : ClassFacts) → IsFileAt files root path bytes → IsReadAt files root path facts → IsReadAs path bytes facts
-readable files root path bytes facts is_file r = subst (λ (b : Bytes). IsReadAs path b facts) (one_file files root path r.bytes bytes r.is_file is_file) r.is_read
+readable : (files : List FileOf) (tree : TreeOf) (path bytes : Bytes) (c : ClientClass) → IsFileAt files tree.root path bytes → IsReadAt files tree path c → IsReadIn tree.name path bytes c
+readable files tree path bytes c is_file r = subst (λ (b : Bytes). IsReadIn tree.name path b c) (one_file files tree.root path r.bytes bytes r.is_file is_file) r.is_read
+
+-- a file is read as one class
+pub one_class : (tree : TreeName) (path bytes : Bytes) (a b : ClientClass) → IsReadIn tree path bytes a → IsReadIn tree path bytes b → a ≡ b
+one_class tree path bytes a b h k =
+    ap (λ (f : ClassFacts). let c : ClientClass = record { facts = f; items = a.items } in c) (one_record bytes a.facts b.facts h.facts.reads k.facts.reads)
+    ∙ ap (λ (is : List Item). let c : ClientClass = record { facts = b.facts; items = is } in c) (same_ok (items_in tree bytes) a.items b.items h.code k.code)
 
 -- ---- the tree
 
-records_in : (files : List FileOf) (root : Bytes) (paths : List Bytes) (records : List ClassFacts) → EachOf (IsClassPathOf files root) paths → AreReadAt files root paths records
-    → EachOf (IsRecordIn files root) records
-records_in files root [] [] c r = tt
-records_in files root (p ∷ ps) (h ∷ hs) c r = (
+classes_in : (files : List FileOf) (tree : TreeOf) (paths : List Bytes) (cs : List ClientClass) → EachOf (IsClassPathOf files tree.root) paths → AreReadAt files tree paths cs
+    → EachOf (IsClassIn files tree) cs
+classes_in files tree [] [] c r = tt
+classes_in files tree (p ∷ ps) (h ∷ hs) c r = (
   record {
     path = p;
     bytes = r.0.bytes;
     is_file = record { is_file = r.0.is_file; named = c.0.named };
     is_read = r.0.is_read;
   },
-  records_in files root ps hs c.1 r.1,
+  classes_in files tree ps hs c.1 r.1,
 )
-records_in files root [] (h ∷ hs) c r = absurd r
-records_in files root (p ∷ ps) [] c r = absurd r
+classes_in files tree [] (h ∷ hs) c r = absurd r
+classes_in files tree (p ∷ ps) [] c r = absurd r
 
 -- no path of the list is too long
 pub short_paths : (files : List FileOf) (root : Bytes) (paths : List Bytes) → AreClassPaths files root paths → list_any (λ p. nat_lt MAX_PATH (length p)) paths ≡ false → HasShortPaths files root
@@ -146,38 +155,38 @@ long_path files root paths are e =
     let l = some_long paths e in
     record { path = l.path; is_path = each_in (IsClassPathOf files root) paths l.path (recursion_from_All (IsClassPathOf files root) paths are.sound) l.is_in; long = ltb-true _ _ l.long }
 
-pub records_are : (files : List FileOf) (root : Bytes) (paths : List Bytes) (records : List ClassFacts) → AreClassPaths files root paths → length paths ≤ MAX_FILES
-    → list_any (λ p. nat_lt MAX_PATH (length p)) paths ≡ false → AreReadAt files root paths records → map (λ c. path_of c.name) records ≡ paths → AreRecords files root records
-records_are files root paths records exact few short r named = record {
+pub classes_are : (files : List FileOf) (tree : TreeOf) (paths : List Bytes) (cs : List ClientClass) → AreClassPaths files tree.root paths → length paths ≤ MAX_FILES
+    → list_any (λ p. nat_lt MAX_PATH (length p)) paths ≡ false → AreReadAt files tree paths cs → map (λ c. path_of c.facts.name) cs ≡ paths → AreClasses files tree cs
+classes_are files tree paths cs exact few short r named = record {
   clean = record {
     few = record { paths = paths; are = exact; few = few };
-    short = short_paths files root paths exact short;
+    short = short_paths files tree.root paths exact short;
     read = λ path bytes f.
-        let t = read_there files root paths records path r (exact.complete path (record { held = (bytes, f.is_file); named = f.named })) in
-        (t.facts, readable files root path bytes t.facts f.is_file t.read);
+        let t = read_there files tree paths cs path r (exact.complete path (record { held = (bytes, f.is_file); named = f.named })) in
+        (t.class, readable files tree path bytes t.class f.is_file t.read);
   };
   exact = record {
-    in_order = rising_records records paths named exact.in_order;
-    sound = All-from_recursion (IsRecordIn files root) records (records_in files root paths records (recursion_from_All (IsClassPathOf files root) paths exact.sound) r);
-    complete = λ facts i.
-        let t = read_there files root paths records i.path r (exact.complete i.path (record { held = (i.bytes, i.is_file.is_file); named = i.is_file.named })) in
-        let h = readable files root i.path i.bytes t.facts i.is_file.is_file t.read in
-        let is : t.facts ≡ facts = one_record i.bytes t.facts facts h.reads i.is_read.reads in
-        subst (λ (k : ClassFacts). Contains records k) is t.is_in;
+    in_order = rising_classes cs paths named exact.in_order;
+    sound = All-from_recursion (IsClassIn files tree) cs (classes_in files tree paths cs (recursion_from_All (IsClassPathOf files tree.root) paths exact.sound) r);
+    complete = λ class i.
+        let t = read_there files tree paths cs i.path r (exact.complete i.path (record { held = (i.bytes, i.is_file.is_file); named = i.is_file.named })) in
+        let h = readable files tree i.path i.bytes t.class i.is_file.is_file t.read in
+        let is : t.class ≡ class = one_class tree.name i.path i.bytes t.class class h i.is_read in
+        subst (λ (k : ClientClass). Contains cs k) is t.is_in;
   };
 }
 
-pub first_fault : (files : List FileOf) (root : Bytes) (paths : List Bytes) (path : Bytes) (fault : FileFault) → AreClassPaths files root paths → IsFirstOf files root paths path fault
-    → IsFirstFault files root path fault
-first_fault files root paths path fault exact f = record {
+pub first_fault : (files : List FileOf) (tree : TreeOf) (paths : List Bytes) (path : Bytes) (fault : FileFault) → AreClassPaths files tree.root paths → IsFirstOf files tree paths path fault
+    → IsFirstFault files tree path fault
+first_fault files tree paths path fault exact f = record {
   bytes = f.fault_is.bytes;
-  is_file = record { is_file = f.fault_is.is_file; named = (each_in (IsClassPathOf files root) paths path (recursion_from_All (IsClassPathOf files root) paths exact.sound) is_in).named };
+  is_file = record { is_file = f.fault_is.is_file; named = (each_in (IsClassPathOf files tree.root) paths path (recursion_from_All (IsClassPathOf files tree.root) paths exact.sound) is_in).named };
   is_fault = f.fault_is.is_fault;
   before = λ other bytes k b.
       let listed : Contains paths other = exact.complete other (record { held = (bytes, k.is_file); named = k.named }) in
-      let t = read_there files root f.front f.records other f.read
+      let t = read_there files tree f.front f.classes other f.read
       (in_front f.front f.back path other (subst (λ (ps : List Bytes). NamesRise (λ (p : Bytes). p) ps) f.whole exact.in_order) (subst (λ (ps : List Bytes). Contains ps other) f.whole listed) b) in
-      (t.facts, readable files root other bytes t.facts k.is_file t.read);
+      (t.class, readable files tree other bytes t.class k.is_file t.read);
 }
   where
     behind : (front : List Bytes) → Contains (front ++ path ∷ f.back) path
@@ -189,31 +198,32 @@ first_fault files root paths path fault exact f = record {
 
 -- ---- why it stopped
 
-pub stops_file : (c : Change TreesState) (name : TreeName) (root : Bytes) (paths : List Bytes) (path : Bytes) (fault : FileFault) (stop : Stop)
-    → (stop ≡ stops.Unread name (tree_faults.File path fault)) ⊎ (stop ≡ stops.Memory) → Told c.before.content (λ files. IsFirstOf files root paths path fault) → StopsAt c name root paths stop
-stops_file c name root paths path fault stop (inl is) f = subst (λ (s : Stop). StopsAt c name root paths s) (sym is) (refl, f)
-stops_file c name root paths path fault stop (inr is) f = subst (λ (s : Stop). StopsAt c name root paths s) (sym is) tt
+pub stops_file : (c : Change TreesState) (tree : TreeOf) (paths : List Bytes) (path : Bytes) (fault : FileFault) (stop : Stop)
+    → (stop ≡ stops.Unread tree.name (tree_faults.File path fault)) ⊎ (stop ≡ stops.Memory) → Told c.before.content (λ files. IsFirstOf files tree paths path fault) → StopsAt c tree paths stop
+stops_file c tree paths path fault stop (inl is) f = subst (λ (s : Stop). StopsAt c tree paths s) (sym is) (refl, f)
+stops_file c tree paths path fault stop (inr is) f = subst (λ (s : Stop). StopsAt c tree paths s) (sym is) tt
 
 -- a count that rose later rose
 pub rose_since : (before middle after : ℕ) → before ≤ middle → Rose middle after → Rose before after
 rose_since before middle after le rose = omega arith
 
-pub stops_in : (a b c : TreesState) (name : TreeName) (root : Bytes) (paths : List Bytes) → Told a.content (λ files. AreClassPaths files root paths)
+pub stops_in : (a b c : TreesState) (tree : TreeOf) (paths : List Bytes) → Told a.content (λ files. AreClassPaths files tree.root paths)
     → length paths ≤ MAX_FILES → list_any (λ p. nat_lt MAX_PATH (length p)) paths ≡ false → b.content ≡ a.content → ((r : Bytes) → a.faults r ≤ b.faults r)
-    → (stop : Stop) → StopsAt (record { before = b; after = c }) name root paths stop → StopsIn (record { before = a; after = c }) name root stop
-stops_in a b c name root paths exact few short same le (stops.Unread t (tree_faults.File path fault)) s = (
+    → (stop : Stop) → StopsAt (record { before = b; after = c }) tree paths stop → StopsIn (record { before = a; after = c }) tree stop
+stops_in a b c tree paths exact few short same le (stops.Unread t (tree_faults.File path fault)) s = (
   s.0,
   λ files told. (
     record { paths = paths; are = exact files told; few = few },
-    short_paths files root paths (exact files told) short,
-    first_fault files root paths path fault (exact files told) (s.1 files (same ∙ told)),
+    short_paths files tree.root paths (exact files told) short,
+    first_fault files tree paths path fault (exact files told) (s.1 files (same ∙ told)),
   ),
 )
-stops_in a b c name root paths exact few short same le (stops.Unread t tree_faults.TooManyFiles) s = absurd s
-stops_in a b c name root paths exact few short same le (stops.Unread t tree_faults.LongPath) s = absurd s
-stops_in a b c name root paths exact few short same le (stops.ReadFault t) s = (s.0, rose_since (a.faults root) (b.faults root) (c.faults root) (le root) s.1)
-stops_in a b c name root paths exact few short same le stops.Memory s = tt
-stops_in a b c name root paths exact few short same le stops.Words s = absurd s
-stops_in a b c name root paths exact few short same le (stops.BadRoot part) s = absurd s
-stops_in a b c name root paths exact few short same le (stops.Overlap t x) s = absurd s
-stops_in a b c name root paths exact few short same le stops.TooManyFindings s = absurd s
+stops_in a b c tree paths exact few short same le (stops.Unread t tree_faults.TooManyFiles) s = absurd s
+stops_in a b c tree paths exact few short same le (stops.Unread t tree_faults.LongPath) s = absurd s
+stops_in a b c tree paths exact few short same le (stops.ReadFault t) s = (s.0, rose_since (a.faults tree.root) (b.faults tree.root) (c.faults tree.root) (le tree.root) s.1)
+stops_in a b c tree paths exact few short same le stops.Memory s = tt
+stops_in a b c tree paths exact few short same le stops.Words s = absurd s
+stops_in a b c tree paths exact few short same le (stops.BadRoot part) s = absurd s
+stops_in a b c tree paths exact few short same le (stops.Overlap t x) s = absurd s
+stops_in a b c tree paths exact few short same le (stops.ClientName x part) s = absurd s
+stops_in a b c tree paths exact few short same le stops.TooManyFindings s = absurd s

@@ -1,7 +1,7 @@
 -- What the words ask for.
 use Rattle.std.specs.Prelude.{List, [], ◌∷◌, Option, Some, None, ◌==◌, length, codes, if◌then◌else◌}
 use Rattle.jc_facts.specs.Names.{Bytes, same}
-use Rattle.jcompat.specs.Tree.{TreeOf}
+use Rattle.jcompat.specs.Tree.{TreeOf, tree_at}
 use Rattle.jcompat.specs.declared.tree.TreeName.TheVariants as names
 
 -- a check of two releases: the roots of the platform and of both
@@ -10,13 +10,21 @@ pub record CheckOf : Type 0 where
   pub old : Bytes
   pub new : Bytes
 
+-- the linking of clients: the roots of the platform, of the release and of the clients
+pub record LinkOf : Type 0 where
+  pub platform : Bytes
+  pub release : Bytes
+  pub client : Bytes
+
 -- what is asked for
 pub data CommandOf : Type 0 where
   CheckCommand : CheckOf → CommandOf
+  LinkCommand : LinkOf → CommandOf
 
 -- the trees that are read for it, in this order
 abbrev pub trees_of : CommandOf → List TreeOf
-trees_of (CheckCommand c) = (record { name = names.Platform; root = c.platform }) ∷ (record { name = names.Old; root = c.old }) ∷ (record { name = names.New; root = c.new }) ∷ []
+trees_of (CheckCommand c) = tree_at names.Platform c.platform ∷ tree_at names.Old c.old ∷ tree_at names.New c.new ∷ []
+trees_of (LinkCommand l) = tree_at names.Platform l.platform ∷ tree_at names.Release l.release ∷ tree_at names.Client l.client ∷ []
 
 infixl 10 ◌>>=◌
 abbrev pub ◌>>=◌ : {A B : Type 0} → Option A → (A → Option B) → Option B
@@ -47,9 +55,23 @@ check_by flags = do
   new ← value_after (codes "--new") old.1
   if length new.1 == 0 then Some (record { platform = platform.0; old = old.0; new = new.0 }) else None
 
--- what the words ask for: `check` and its flags
+-- the linking of these flags: they are `--platform P --release R --client C`, in this order, and nothing else
+unfoldable pub link_by : List Bytes → Option LinkOf
+link_by flags = do
+  platform ← value_after (codes "--platform") flags
+  release ← value_after (codes "--release") platform.1
+  client ← value_after (codes "--client") release.1
+  if length client.1 == 0 then Some (record { platform = platform.0; release = release.0; client = client.0 }) else None
+
+-- the command of this word, by its flags
+unfoldable pub command_by : Bytes → List Bytes → Option CommandOf
+command_by word flags =
+    if same word (codes "check") then check_by flags >>= (λ check. Some (CheckCommand check))
+    else if same word (codes "link") then link_by flags >>= (λ link. Some (LinkCommand link))
+    else None
+
+-- what the words ask for: the first is that of a command, and the others are its flags
 unfoldable pub asked : List Bytes → Option CommandOf
 asked words = do
-  flags ← after_word (codes "check") words
-  check ← check_by flags
-  Some (CheckCommand check)
+  first ← next_word words
+  command_by first.0 first.1

@@ -2,5 +2,8 @@ pub mod Tree
 pub mod Command
 pub mod Stop
 pub mod ClassFiles
+pub mod Check
+pub mod Link
+pub mod Reports
 pub mod Answers
 pub mod steps

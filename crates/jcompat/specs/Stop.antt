@@ -1,12 +1,16 @@
--- Why there is no verdict: the line on standard error and the exit status.
+-- Why there is no report: the line on standard error and the exit status.
 use Rattle.std.specs.Prelude.{ℕ, [], ◌++◌, codes}
 use Rattle.std.specs.Fmt.{decimal}
 use Rattle.jc_desc.specs.declared.fault.Reason.{Reason}
 use Rattle.jc_desc.specs.declared.fault.Reason.TheVariants as reasons
+use Rattle.jc_facts.specs.declared.code_fault.CodeReason.{CodeReason}
+use Rattle.jc_facts.specs.declared.code_fault.CodeReason.TheVariants as code_reasons
 use Rattle.jc_facts.specs.Names.{Bytes}
 use Rattle.jc_facts.specs.print.Text.{printed}
 use Rattle.jc_table.specs.declared.root.RootPart.{RootPart}
 use Rattle.jc_table.specs.declared.root.RootPart.TheVariants as parts
+use Rattle.jc_link.specs.declared.refusal.ClientPart.{ClientPart}
+use Rattle.jc_link.specs.declared.refusal.ClientPart.TheVariants as client_parts
 use Rattle.jcompat.specs.Tree.{tree_words}
 use Rattle.jcompat.specs.declared.status.TheConstants.{USAGE, BAD_INPUT, READ_FAULT, NO_MEMORY, LIMIT}
 use Rattle.jcompat.specs.declared.file_fault.FileFault.{FileFault}
@@ -30,11 +34,18 @@ reason_name reasons.Duplicate = codes "Duplicate"
 reason_name reasons.BadAttribute = codes "BadAttribute"
 reason_name reasons.Trailing = codes "Trailing"
 
+abbrev pub code_reason_name : CodeReason → Bytes
+code_reason_name code_reasons.BadLayout = codes "BadLayout"
+code_reason_name code_reasons.BadOpcode = codes "BadOpcode"
+code_reason_name code_reasons.CutShort = codes "CutShort"
+code_reason_name code_reasons.BadEntry = codes "BadEntry"
+
 -- what is said of a class file
 abbrev pub file_words : FileFault → Bytes
 file_words faults.TooLong = codes "limit bytes"
 file_words (faults.Malformed m) = reason_name m.reason ++ codes " at " ++ decimal m.offset
 file_words (faults.Misplaced name) = codes "misplaced " ++ printed name
+file_words (faults.BadCode offset reason) = codes "code " ++ code_reason_name reason ++ codes " at " ++ decimal offset
 
 -- what is said of a tree that isn't read
 abbrev pub unread_words : TreeFault → Bytes
@@ -52,11 +63,20 @@ part_name parts.Fields = codes "fields"
 part_name parts.Permits = codes "permits"
 part_name parts.Init = codes "init"
 
+-- why a client may not have its name
+abbrev pub client_part_name : ClientPart → Bytes
+client_part_name client_parts.Declared = codes "declared"
+client_part_name client_parts.Super = codes "super"
+client_part_name client_parts.Package = codes "package"
+client_part_name client_parts.Length = codes "length"
+client_part_name client_parts.Encoding = codes "encoding"
+
 abbrev pub line_of : Stop → Bytes
 line_of stops.Words = codes "jcompat: usage: words\n"
 line_of (stops.Unread tree fault) = codes "jcompat: " ++ tree_words tree ++ codes ": " ++ unread_words fault ++ codes "\n"
 line_of (stops.BadRoot part) = codes "jcompat: platform: bad root " ++ part_name part ++ codes "\n"
 line_of (stops.Overlap tree name) = codes "jcompat: " ++ tree_words tree ++ codes ": overlap " ++ printed name ++ codes "\n"
+line_of (stops.ClientName name part) = codes "jcompat: client: name " ++ printed name ++ codes " " ++ client_part_name part ++ codes "\n"
 line_of stops.TooManyFindings = codes "jcompat: limit findings\n"
 line_of (stops.ReadFault tree) = codes "jcompat: " ++ tree_words tree ++ codes ": read fault\n"
 line_of stops.Memory = []
@@ -66,6 +86,7 @@ abbrev pub file_status : FileFault → ℕ
 file_status faults.TooLong = LIMIT
 file_status (faults.Malformed m) = BAD_INPUT
 file_status (faults.Misplaced name) = BAD_INPUT
+file_status (faults.BadCode offset reason) = BAD_INPUT
 
 abbrev pub tree_status : TreeFault → ℕ
 tree_status tree_faults.TooManyFiles = LIMIT
@@ -77,6 +98,7 @@ status_of stops.Words = USAGE
 status_of (stops.Unread tree fault) = tree_status fault
 status_of (stops.BadRoot part) = BAD_INPUT
 status_of (stops.Overlap tree name) = BAD_INPUT
+status_of (stops.ClientName name part) = BAD_INPUT
 status_of stops.TooManyFindings = LIMIT
 status_of (stops.ReadFault tree) = READ_FAULT
 status_of stops.Memory = NO_MEMORY

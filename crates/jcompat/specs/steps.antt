@@ -3,5 +3,6 @@ pub mod CommandView
 pub mod ReadTree
 pub mod ReadTrees
 pub mod Check
-pub mod Outcome
+pub mod Link
+pub mod Report
 pub mod Put

@@ -1,32 +1,34 @@
 //! Comparing two releases.
-ghost use Rattle.std.specs.Prelude.{◌≡◌, ◌≢◌, ◌≤◌, ◌+◌, ℕ, List, [], ◌∷◌, length, IfOk, IfErr};
+ghost use Rattle.std.specs.Prelude.{◌≡◌, ◌≢◌, ◌≤◌, ◌+◌, ℕ, List, [], length, None, IfOk, IfErr};
 ghost use Rattle.std.specs.List.{All};
 ghost use Rattle.jc_base.specs.States.{change};
 ghost use Rattle.jc_facts.specs.declared.client.ClientClass.{ClientClass};
 ghost use Rattle.jc_facts.specs.world.World.{World, side};
-ghost use Rattle.jc_facts.specs.client.Clients.{IsInScope, Keeps};
+ghost use Rattle.jc_facts.specs.client.Clients.{IsInScope, Keeps, facts_of};
 ghost use Rattle.jc_facts.specs.client.Kept.{BreaksClass};
 ghost use Rattle.jc_facts.specs.rule.Verdict.{IsVerdict};
-ghost use Rattle.jcompat.specs.Answers.{count_of, Fits, MeetsNone};
+ghost use Rattle.jcompat.specs.Answers.{StopsCommand};
+ghost use Rattle.jcompat.specs.Check.{count_of, mismatch_of, MeetsNone};
 ghost use Rattle.jcompat.specs.Command.{CheckCommand};
 ghost use Rattle.jcompat.specs.steps.Check.{StopsComparing, StopsCounting, unfit_by};
 ghost use Rattle.jcompat.specs.steps.CommandView.{check_of};
-ghost use Rattle.jcompat.specs.steps.Outcome.{ComesTo, StopsWith};
-ghost use Rattle.jcompat.specs.steps.ReadTree.{IsClassList};
+ghost use Rattle.jcompat.specs.steps.ReadTree.{IsRecordList};
+ghost use Rattle.jcompat.specs.steps.Report.{IsReportOf};
 
 use crate::command::Check;
 use crate::limits::MAX_FINDINGS;
-use crate::outcome::Outcome;
 use crate::read_trees::read_trees;
+use crate::report::Report;
 use crate::stop::Stop;
+use crate::three_trees::{records_of, three_of};
 use crate::tree::TreeName;
-use jc_base::items::Items;
 use jc_base::trees::Trees;
 use jc_facts::class_facts::ClassFacts;
+use jc_facts::client::ClientClass;
 use jc_facts::verdict::Verdict;
 use jc_rules::compare::compare;
 use jc_table::table::{Table, TableError};
-use std::alloc::Global;
+use std::alloc::{AllocError, Global};
 
 /// The records of the classes of the three trees.
 #[derive(Drop)]
@@ -44,15 +46,21 @@ struct Sides {
 }
 
 impl Records {
-    // The records of the three trees one by one.
-    fn of_trees(mut all: Vec<Items<ClassFacts>>) -> Records
-        requires { length all.items ≡ 3 }
-        ensures { all.items ≡ result.platform.items ∷ result.old.items ∷ result.new.items ∷ [] }
+    // The records of these classes.
+    fn of_classes(
+        alloc: Global,
+        platform: Vec<ClientClass>,
+        old: Vec<ClientClass>,
+        new: Vec<ClientClass>,
+    ) -> Result<Records, AllocError>
+        ensures platform { IfOk result (λ r. r.platform.items ≡ facts_of platform.items) }
+        ensures old { IfOk result (λ r. r.old.items ≡ facts_of old.items) }
+        ensures new { IfOk result (λ r. r.new.items ≡ facts_of new.items) }
     {
-        let new = all.pop().unwrap().into_vec();
-        let old = all.pop().unwrap().into_vec();
-        let platform = all.pop().unwrap().into_vec();
-        Records { platform, old, new }
+        let platform = records_of(alloc, platform)?;
+        let old = records_of(alloc, old)?;
+        let new = records_of(alloc, new)?;
+        Ok(Records { platform, old, new })
     }
 }
 
@@ -74,12 +82,12 @@ fn both_sides(
     old: Vec<ClassFacts>,
     new: Vec<ClassFacts>,
 ) -> Result<Sides, Stop>
-    requires platform { IsClassList platform.now }
-    requires old { IsClassList old.items }
-    requires new { IsClassList new.items }
+    requires platform { IsRecordList platform.now }
+    requires old { IsRecordList old.items }
+    requires new { IsRecordList new.items }
     ensures old { IfOk result (λ s. s.old ≡ side platform.now old.items) }
     ensures new { IfOk result (λ s. s.new ≡ side platform.now new.items) }
-    ensures fits { IfOk result (λ s. Fits platform.now old.items new.items) }
+    ensures fits { IfOk result (λ s. mismatch_of platform.now old.items new.items ≡ None) }
     ensures stopped { IfErr result (StopsComparing platform.now old.items new.items) }
 {
     let old = match Table::build(alloc, platform, old) {
@@ -113,10 +121,10 @@ fn counted(alloc: Global, old: &Table, new: &Table) -> Result<Verdict, Stop>
 
 // The verdict on the records of the three trees, or why there is none.
 fn compared(alloc: Global, records: Records) -> Result<Verdict, Stop>
-    requires platform { IsClassList records.platform.items }
-    requires old { IsClassList records.old.items }
-    requires new { IsClassList records.new.items }
-    ensures fits { IfOk result (λ v. Fits records.platform.items records.old.items records.new.items) }
+    requires platform { IsRecordList records.platform.items }
+    requires old { IsRecordList records.old.items }
+    requires new { IsRecordList records.new.items }
+    ensures fits { IfOk result (λ v. mismatch_of records.platform.items records.old.items records.new.items ≡ None) }
     ensures exact { IfOk result (IsVerdict (side records.platform.items records.old.items) (side records.platform.items records.new.items)) }
     ensures few { IfOk result (λ v. count_of v ≤ MAX_FINDINGS) }
     ensures kept { IfOk result (λ v. v.findings ≡ [] → (cs : List ClientClass) → IsInScope (side records.platform.items records.old.items) (side records.platform.items records.new.items) cs
@@ -136,10 +144,10 @@ fn compared(alloc: Global, records: Records) -> Result<Verdict, Stop>
     }
 }
 
-/// What a check comes to, or why it has no outcome.
-pub fn check<T: Trees>(alloc: Global, check: &Check<'_>, trees: &mut T) -> Result<Outcome, Stop>
-    ensures outcome { IfOk result (ComesTo (CheckCommand (check_of check.now)) (T.state trees.old)) }
-    ensures stopped { IfErr result (StopsWith (CheckCommand (check_of check.now)) (change T.state trees.old trees.new)) }
+/// What a check comes to, or why it has no report.
+pub fn check<T: Trees>(alloc: Global, check: &Check<'_>, trees: &mut T) -> Result<Report, Stop>
+    ensures report { IfOk result (IsReportOf (CheckCommand (check_of check.now)) (T.state trees.old)) }
+    ensures stopped { IfErr result (StopsCommand (CheckCommand (check_of check.now)) (change T.state trees.old trees.new)) }
     ensures content { (T.state trees.new).content ≡ (T.state trees.old).content }
 {
     let wanted = check.trees();
@@ -147,12 +155,16 @@ pub fn check<T: Trees>(alloc: Global, check: &Check<'_>, trees: &mut T) -> Resul
         Ok(all) => all,
         Err(stop) => return Err(stop),
     };
-    let verdict = match compared(alloc, Records::of_trees(all)) {
+    let (platform, old, new) = three_of(all);
+    let Ok(records) = Records::of_classes(alloc, platform, old, new) else {
+        return Err(Stop::Memory);
+    };
+    let verdict = match compared(alloc, records) {
         Ok(verdict) => verdict,
         Err(stop) => return Err(stop),
     };
-    match Outcome::of_verdict(alloc, &verdict) {
-        Ok(outcome) => Ok(outcome),
+    match Report::of_verdict(alloc, &verdict) {
+        Ok(report) => Ok(report),
         Err(_) => Err(Stop::Memory),
     }
 }

@@ -1,11 +1,18 @@
 //! A class file at its path.
-ghost use Rattle.std.specs.Prelude.{◌≡◌, ◌↔◌, IfOk, IfErr, IsTrue};
-ghost use Rattle.jc_facts.specs.file.Valid.{IsValidClass};
-ghost use Rattle.jcompat.specs.ClassFiles.{is_class_path as is_class, path_of, IsReadAs, IsFileFault};
+ghost use Rattle.std.specs.Prelude.{◌≡◌, ◌≤◌, ◌↔◌, ℕ, List, Ok, length, IfOk, IfErr, IsTrue};
+ghost use Rattle.jc_facts.specs.declared.class_facts.ClassFacts.{ClassFacts};
+ghost use Rattle.jc_facts.specs.client.Clients.{IsValidClient};
+ghost use Rattle.jc_facts.specs.file.ClassGrammar.{Reads};
+ghost use Rattle.jcompat.specs.ClassFiles.{is_class_path as is_class, path_of, items_in as items_of_tree, IsReadAs, IsReadIn, IsFileFault};
+ghost use Rattle.jcompat.specs.declared.tree.TreeName.{TreeName};
 
 use crate::file_fault::FileFault;
 use crate::limits::MAX_BYTES;
+use crate::tree::TreeName;
+use jc_base::items::Items;
+use jc_code::items::{CodeError, items_of};
 use jc_facts::class_facts::ClassFacts;
+use jc_facts::client::{ClientClass, Item};
 use jc_read::read::{ReadError, read_class};
 use std::alloc::{AllocError, Global};
 
@@ -30,15 +37,14 @@ fn is_place(path: &[u8], name: &[u8]) -> bool
     front == name && back == b".class".as_slice()
 }
 
-/// The record of a class file that stands at its class's place, or why it isn't read.
-pub fn record_of(
+// The record of a class file that stands at its class's place, or why it isn't read.
+fn record_of(
     alloc: Global,
     path: &str,
     bytes: &[u8],
 ) -> Result<Result<ClassFacts, FileFault>, AllocError>
     ensures read { IfOk result (λ found. IfOk found (IsReadAs path.now bytes.now)) }
-    ensures valid { IfOk result (λ found. IfOk found IsValidClass) }
-    ensures fault { IfOk result (λ found. IfErr found (IsFileFault path.now bytes.now)) }
+    ensures fault { IfOk result (λ found. IfErr found (λ fault. (tree : TreeName) → IsFileFault tree path.now bytes.now fault)) }
 {
     if bytes.len() > MAX_BYTES as usize {
         return Ok(Err(FileFault::TooLong));
@@ -53,5 +59,54 @@ pub fn record_of(
         }
         Err(ReadError::Malformed(malformed)) => Ok(Err(FileFault::Malformed(malformed))),
         Err(ReadError::Memory) => Err(AllocError),
+    }
+}
+
+// The items that are read of a class file in this tree, or why its code is refused.
+fn items_in(
+    alloc: Global,
+    tree: TreeName,
+    bytes: &[u8],
+) -> Result<Result<Vec<Item>, FileFault>, AllocError>
+    requires { length bytes.now ≤ MAX_BYTES }
+    ensures read { IfOk result (λ found. IfOk found (λ items. items_of_tree tree bytes.now ≡ Ok items.items)) }
+    ensures valid { IfOk result (λ found. IfOk found (λ items. (facts : ClassFacts) → Reads bytes.now facts → IsValidClient (record { facts = facts; items = items.items }))) }
+    ensures fault { IfOk result (λ found. IfErr found (λ fault. (path : List ℕ) (facts : ClassFacts) → IsReadAs path bytes.now facts → IsFileFault tree path bytes.now fault)) }
+{
+    if tree != TreeName::Client {
+        return Ok(Ok(Vec::new(alloc)));
+    }
+    match items_of(alloc, bytes) {
+        Ok(items) => Ok(Ok(items)),
+        Err(CodeError::BadCode { offset, reason }) => Ok(Err(FileFault::BadCode {
+            offset,
+            reason,
+        })),
+        Err(CodeError::Memory) => Err(AllocError),
+    }
+}
+
+/// What a class file is read as in this tree, or why it isn't read: its record, where it stands at its
+/// class's place, and of a client the items of its code.
+pub fn class_in(
+    alloc: Global,
+    tree: TreeName,
+    path: &str,
+    bytes: &[u8],
+) -> Result<Result<ClientClass, FileFault>, AllocError>
+    ensures read { IfOk result (λ found. IfOk found (IsReadIn tree path.now bytes.now)) }
+    ensures valid { IfOk result (λ found. IfOk found IsValidClient) }
+    ensures fault { IfOk result (λ found. IfErr found (IsFileFault tree path.now bytes.now)) }
+{
+    let facts = match record_of(alloc, path, bytes)? {
+        Ok(facts) => facts,
+        Err(fault) => return Ok(Err(fault)),
+    };
+    match items_in(alloc, tree, bytes)? {
+        Ok(items) => Ok(Ok(ClientClass {
+            facts,
+            items: Items::from_vec(items),
+        })),
+        Err(fault) => Ok(Err(fault)),
     }
 }

@@ -1,8 +1,8 @@
 //! What the words ask for.
 ghost use Rattle.std.specs.Prelude.{◌≡◌, map};
 ghost use Rattle.std.specs.Option.{option_map};
-ghost use Rattle.jcompat.specs.Command.{asked, check_by, after_word as after_word_of, value_after as value_after_of, trees_of, CheckCommand};
-ghost use Rattle.jcompat.specs.steps.CommandView.{check_of, command_of, tree_of};
+ghost use Rattle.jcompat.specs.Command.{asked, command_by, check_by, link_by, after_word as after_word_of, value_after as value_after_of, trees_of, CheckCommand, LinkCommand};
+ghost use Rattle.jcompat.specs.steps.CommandView.{check_of, link_of, command_of, tree_of};
 
 use crate::tree::{Tree, TreeName};
 use jc_base::text::Text;
@@ -15,22 +15,47 @@ pub struct Check<'a> {
     pub new: &'a str,
 }
 
+/// The linking of clients with a platform and a release, each the root of a tree.
+#[derive(Clone, Copy)]
+pub struct Link<'a> {
+    pub platform: &'a str,
+    pub release: &'a str,
+    pub client: &'a str,
+}
+
 /// What is asked for.
 #[derive(Clone, Copy)]
 pub enum Command<'a> {
     /// Whether clients of the old release link with the new one.
     Check(Check<'a>),
+    /// Whether these clients link with the release.
+    Link(Link<'a>),
 }
 
 impl<'a> Command<'a> {
-    /// What the words ask for. They are `check` and the flags of a check.
+    /// What the words ask for: the first is `check` or `link`, and the others are its flags.
     #[tactic(auto, unfolding(crate::specs::Command::asked))]
     pub fn from_words(words: &'a [Text]) -> Option<Command<'a>>
         ensures { option_map command_of result ≡ asked words.now }
     {
-        let flags = after_word("check", words)?;
-        let check = Check::from_flags(flags)?;
-        Some(Command::Check(check))
+        let (word, flags) = words.split_first()?;
+        Command::from_flags(word.as_str(), flags)
+    }
+
+    // The command of this word, by its flags.
+    #[tactic(auto, unfolding(crate::specs::Command::command_by))]
+    fn from_flags(word: &str, flags: &'a [Text]) -> Option<Command<'a>>
+        ensures { option_map command_of result ≡ command_by word.now flags.now }
+    {
+        if word == "check" {
+            let check = Check::from_flags(flags)?;
+            return Some(Command::Check(check));
+        }
+        if word == "link" {
+            let link = Link::from_flags(flags)?;
+            return Some(Command::Link(link));
+        }
+        None
     }
 }
 
@@ -66,6 +91,48 @@ impl<'a> Check<'a> {
             Tree {
                 name: TreeName::New,
                 root: self.new,
+            },
+        ]
+    }
+}
+
+impl<'a> Link<'a> {
+    // The link of these flags. They are `--platform P --release R --client C`, in this order and nothing
+    // else.
+    #[tactic(auto, unfolding(crate::specs::Command::link_by))]
+    fn from_flags(flags: &'a [Text]) -> Option<Link<'a>>
+        ensures { option_map link_of result ≡ link_by flags.now }
+    {
+        let (platform, flags) = value_after("--platform", flags)?;
+        let (release, flags) = value_after("--release", flags)?;
+        let (client, rest) = value_after("--client", flags)?;
+        if rest.is_empty() {
+            Some(Link {
+                platform,
+                release,
+                client,
+            })
+        } else {
+            None
+        }
+    }
+
+    /// The trees that it reads, in this order.
+    pub fn trees(&self) -> [Tree<'a>; 3]
+        ensures { map tree_of result ≡ trees_of (LinkCommand (link_of self.now)) }
+    {
+        [
+            Tree {
+                name: TreeName::Platform,
+                root: self.platform,
+            },
+            Tree {
+                name: TreeName::Release,
+                root: self.release,
+            },
+            Tree {
+                name: TreeName::Client,
+                root: self.client,
             },
         ]
     }

@@ -2,6 +2,7 @@
 use jc_base::name::Name;
 use jc_base::text::Text;
 use jc_desc::fault::Malformed;
+use jc_facts::code_fault::CodeReason;
 
 /// Why a class file isn't read.
 #[derive(Debug, Drop)]
@@ -12,6 +13,8 @@ pub enum FileFault {
     Malformed(Malformed),
     /// It is that of a class of this name, which belongs elsewhere.
     Misplaced(Name),
+    /// It is a client's whose code is refused, first at this offset in bytes (JVMS 4.7.3, 4.9.1).
+    BadCode { offset: u32, reason: CodeReason },
 }
 
 /// Why the class files of a tree aren't read.

@@ -10,7 +10,9 @@ ghost use Rattle.jc_facts.specs.client.Clients.{HasRoot};
 ghost use Rattle.jc_facts.specs.file.Valid.{IsValidClass};
 ghost use Rattle.jc_facts.specs.rule.Verdict.{IsVerdict};
 ghost use Rattle.jc_facts.specs.world.World.{side};
-ghost use Rattle.jcompat.specs.Answers.{Answers, ran, IsRefused, IsAccepted, IsVerdictOn};
+ghost use Rattle.jcompat.specs.Answers.{Answers, ran, IsRefused, IsAccepted};
+ghost use Rattle.jcompat.specs.Command.{CommandOf};
+ghost use Rattle.jcompat.specs.Reports.{RecordsOf, ReportOf, Accepts, IsReportOn};
 ghost use Rattle.jcompat.specs.declared.status.TheConstants.{READ_FAULT, WRITE_FAULT};
 ghost use Rattle.jcompat.specs.declared.stop.Stop.{Stop};
 
@@ -39,11 +41,11 @@ pub fn there_is_a_verdict()
         → (v : Verdict) × IsVerdict (side platform old) (side platform new) v }
 {}
 
-/// What is accepted has one verdict, and what isn't has none.
-pub fn one_verdict()
-    ensures some { (words : List (List ℕ)) (files : List FileOf) → IsAccepted words files → (v : Verdict) × IsVerdictOn words files v }
-    ensures accepted { (words : List (List ℕ)) (files : List FileOf) (v : Verdict) → IsVerdictOn words files v → IsAccepted words files }
-    ensures one { (words : List (List ℕ)) (files : List FileOf) (a b : Verdict) → IsVerdictOn words files a → IsVerdictOn words files b → a ≡ b }
+/// What is accepted has one report, and what isn't has none.
+pub fn one_report()
+    ensures some { (files : List FileOf) (command : CommandOf) (records : RecordsOf files command) → Accepts files command records → (report : ReportOf command) × IsReportOn files command records report }
+    ensures accepted { (files : List FileOf) (command : CommandOf) (records : RecordsOf files command) (report : ReportOf command) → IsReportOn files command records report → Accepts files command records }
+    ensures one { (files : List FileOf) (command : CommandOf) (r s : RecordsOf files command) (a b : ReportOf command) → IsReportOn files command r a → IsReportOn files command s b → a ≡ b }
 {}
 
 /// The top call over trees and sinks that don't fail. Only want of memory stands in the way of its

@@ -9,14 +9,16 @@ mod disk_trees;
 mod file_fault;
 mod laws;
 mod limits;
-mod outcome;
+mod link;
 mod put;
 mod read_tree;
 mod read_trees;
+mod report;
 mod run;
 mod status;
 mod std_sink;
 mod stop;
+mod three_trees;
 mod tree;
 
 use crate::disk_trees::DiskTrees;

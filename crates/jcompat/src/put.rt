@@ -1,13 +1,13 @@
-//! Putting an outcome, or the line that says why there is none.
+//! Putting a report, or the line that says why there is none.
 ghost use Rattle.std.specs.Prelude.{◌≡◌, ◌≢◌, ◌≤◌, ◌<◌, ◌++◌, length, OnOk, OnErr, IsErrOf};
 ghost use Rattle.jc_base.specs.States.{change};
 ghost use Rattle.jcompat.specs.Answers.{PutsAll, PutsFront, HasPutFault};
 ghost use Rattle.jcompat.specs.Stop.{line_of, status_of};
-ghost use Rattle.jcompat.specs.steps.Outcome.{status_by};
+ghost use Rattle.jcompat.specs.steps.Report.{status_by};
 ghost use Rattle.jcompat.specs.steps.Put.{IsPutWith};
 ghost use Rattle.jcompat.specs.declared.stop.Stop.{Stop};
 
-use crate::outcome::Outcome;
+use crate::report::Report;
 use crate::status::{NO_MEMORY, WRITE_FAULT};
 use crate::stop::Stop;
 use jc_base::sink::{Sink, SinkError};
@@ -45,19 +45,19 @@ fn put_lines<O: Sink>(text: &[u8], out: &mut O) -> Result<(), SinkError>
     Ok(())
 }
 
-/// Puts an outcome, line by line, and answers its status. Where a put fails or there is no memory, the
+/// Puts a report, line by line, and answers its status. Where a put fails or there is no memory, the
 /// status says so.
-pub fn put_outcome<O: Sink>(outcome: &Outcome, out: &mut O) -> u8
-    ensures { IsPutWith outcome.now.text.items (status_by outcome.now.passes) (change O.state out.old out.new) result }
+pub fn put_report<O: Sink>(report: &Report, out: &mut O) -> u8
+    ensures { IsPutWith report.now.text.items (status_by report.now.passes) (change O.state out.old out.new) result }
 {
-    match put_lines(outcome.text.as_slice(), out) {
-        Ok(()) => outcome.status(),
+    match put_lines(report.text.as_slice(), out) {
+        Ok(()) => report.status(),
         Err(SinkError::Fault) => WRITE_FAULT,
         Err(SinkError::Memory) => NO_MEMORY,
     }
 }
 
-/// Puts the line that says why there is no outcome, and answers its status. Want of memory has no
+/// Puts the line that says why there is no report, and answers its status. Want of memory has no
 /// line.
 pub fn put_stop<E: Sink>(alloc: Global, stop: &Stop, err: &mut E) -> u8
     ensures put { IsPutWith (line_of stop.now) (status_of stop.now) (change E.state err.old err.new) result }

@@ -5,23 +5,24 @@ ghost use Rattle.jc_base.specs.States.{change};
 ghost use Rattle.jcompat.specs.ClassFiles.{Told};
 ghost use Rattle.jcompat.specs.steps.CommandView.{tree_of};
 ghost use Rattle.jcompat.specs.steps.ReadTree.{IsClassList};
-ghost use Rattle.jcompat.specs.steps.ReadTrees.{AreRecordsOf, StopsAmong};
+ghost use Rattle.jcompat.specs.steps.ReadTrees.{AreClassesOf, StopsAmong};
 
 use crate::read_tree::read_tree;
 use crate::stop::Stop;
 use crate::tree::Tree;
 use jc_base::items::Items;
 use jc_base::trees::Trees;
-use jc_facts::class_facts::ClassFacts;
+use jc_facts::client::ClientClass;
 use std::alloc::Global;
 
-/// The records of each of these trees, in this order, or why the first of them that isn't read isn't.
+/// What the class files of each of these trees are read as, in this order, or why the first tree that
+/// isn't read isn't. Of a class that is no client's there are no items.
 pub fn read_trees<T: Trees>(
     alloc: Global,
     wanted: &[Tree<'_>],
     trees: &mut T,
-) -> Result<Vec<Items<ClassFacts>>, Stop>
-    ensures read { IfOk result (λ all. Told (T.state trees.old).content (λ files. AreRecordsOf files (map tree_of wanted.now) all.items)) }
+) -> Result<Vec<Items<ClientClass>>, Stop>
+    ensures read { IfOk result (λ all. Told (T.state trees.old).content (λ files. AreClassesOf files (map tree_of wanted.now) all.items)) }
     ensures classes { IfOk result (λ all. All IsClassList all.items) }
     ensures whole { IfOk result (λ all. length all.items ≡ length wanted.now) }
     ensures stopped { IfErr result (StopsAmong (change T.state trees.old trees.new) (map tree_of wanted.now)) }
@@ -30,7 +31,7 @@ pub fn read_trees<T: Trees>(
     let mut all = Vec::new(alloc);
     for tree in wanted {
         match read_tree(alloc, tree, trees) {
-            Ok(records) => match all.push(Items::from_vec(records)) {
+            Ok(classes) => match all.push(Items::from_vec(classes)) {
                 Ok(()) => {}
                 Err(_) => return Err(Stop::Memory),
             },

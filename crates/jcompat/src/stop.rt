@@ -1,19 +1,21 @@
-//! Why there is no outcome.
+//! Why there is no report.
 ghost use Rattle.std.specs.Prelude.{◌≡◌, ◌++◌, codes, IfOk, OnOk};
 ghost use Rattle.jc_facts.specs.print.Text.{printed};
 ghost use Rattle.jcompat.specs.Tree.{tree_words};
-ghost use Rattle.jcompat.specs.Stop.{reason_name as name_of, part_name as part_name_of, file_words, unread_words, line_of, file_status as file_status_of, tree_status as tree_status_of, status_of};
+ghost use Rattle.jcompat.specs.Stop.{reason_name as name_of, code_reason_name as name_of_code_reason, part_name as part_name_of, client_part_name as name_of_client_part, file_words, unread_words, line_of, file_status as file_status_of, tree_status as tree_status_of, status_of};
 
 use crate::file_fault::{FileFault, TreeFault};
 use crate::status::{BAD_INPUT, LIMIT, NO_MEMORY, READ_FAULT, USAGE};
 use crate::tree::TreeName;
 use jc_base::name::Name;
 use jc_desc::fault::Reason;
+use jc_facts::code_fault::CodeReason;
+use jc_link::refusal::ClientPart;
 use jc_report::printed::{push_decimal, push_printed};
 use jc_table::root::RootPart;
 use std::alloc::{AllocError, Global};
 
-/// Why there is no outcome.
+/// Why there is no report.
 #[derive(Debug, Drop)]
 pub enum Stop {
     /// The words ask for nothing that is built.
@@ -24,6 +26,8 @@ pub enum Stop {
     BadRoot(RootPart),
     /// The release of this tree declares this name, and so does the platform.
     Overlap(TreeName, Name),
+    /// The platform and the release don't allow a client of this name.
+    ClientName(Name, ClientPart),
     /// There are more findings and collisions than the limit.
     TooManyFindings,
     /// A call on the tree failed.
@@ -37,7 +41,7 @@ fn file_status(fault: &FileFault) -> u8
 {
     match fault {
         FileFault::TooLong => LIMIT,
-        FileFault::Malformed(_) | FileFault::Misplaced(_) => BAD_INPUT,
+        FileFault::Malformed(_) | FileFault::Misplaced(_) | FileFault::BadCode { .. } => BAD_INPUT,
     }
 }
 
@@ -69,6 +73,17 @@ fn reason_name(reason: Reason) -> &'static str
     }
 }
 
+fn code_reason_name(reason: CodeReason) -> &'static str
+    ensures { result.now ≡ name_of_code_reason reason }
+{
+    match reason {
+        CodeReason::BadLayout => "BadLayout",
+        CodeReason::BadOpcode => "BadOpcode",
+        CodeReason::CutShort => "CutShort",
+        CodeReason::BadEntry => "BadEntry",
+    }
+}
+
 fn part_name(part: RootPart) -> &'static str
     ensures { result.now ≡ part_name_of part }
 {
@@ -80,6 +95,18 @@ fn part_name(part: RootPart) -> &'static str
         RootPart::Fields => "fields",
         RootPart::Permits => "permits",
         RootPart::Init => "init",
+    }
+}
+
+fn client_part_name(part: ClientPart) -> &'static str
+    ensures { result.now ≡ name_of_client_part part }
+{
+    match part {
+        ClientPart::Declared => "declared",
+        ClientPart::Super => "super",
+        ClientPart::Package => "package",
+        ClientPart::Length => "length",
+        ClientPart::Encoding => "encoding",
     }
 }
 
@@ -96,6 +123,12 @@ fn push_file_words(alloc: Global, line: &mut Vec<u8>, fault: &FileFault) -> Resu
         FileFault::Misplaced(name) => {
             line.extend_from_slice(b"misplaced ")?;
             push_printed(line, name.as_bytes())?;
+        }
+        FileFault::BadCode { offset, reason } => {
+            line.extend_from_slice(b"code ")?;
+            line.extend_from_slice(code_reason_name(*reason).as_bytes())?;
+            line.extend_from_slice(b" at ")?;
+            push_decimal(alloc, line, *offset as usize)?;
         }
     }
     Ok(())
@@ -156,6 +189,18 @@ fn overlap_line(alloc: Global, tree: TreeName, name: &Name) -> Result<Vec<u8>, A
     Ok(line)
 }
 
+// The line on a client whose name isn't allowed.
+fn client_name_line(alloc: Global, name: &Name, part: ClientPart) -> Result<Vec<u8>, AllocError>
+    ensures { IfOk result (λ line. line.items ≡ codes "jcompat: client: name " ++ printed name.now ++ codes " " ++ name_of_client_part part ++ codes "\n") }
+{
+    let mut line = Vec::from_slice(alloc, b"jcompat: client: name ")?;
+    push_printed(&mut line, name.as_bytes())?;
+    line.push(b' ')?;
+    line.extend_from_slice(client_part_name(part).as_bytes())?;
+    line.push(b'\n')?;
+    Ok(line)
+}
+
 impl Stop {
     /// The exit status.
     pub fn status(&self) -> u8
@@ -164,7 +209,7 @@ impl Stop {
         match self {
             Stop::Words => USAGE,
             Stop::Unread(_, fault) => tree_status(fault),
-            Stop::BadRoot(_) | Stop::Overlap(..) => BAD_INPUT,
+            Stop::BadRoot(_) | Stop::Overlap(..) | Stop::ClientName(..) => BAD_INPUT,
             Stop::TooManyFindings => LIMIT,
             Stop::ReadFault(_) => READ_FAULT,
             Stop::Memory => NO_MEMORY,
@@ -180,6 +225,7 @@ impl Stop {
             Stop::Unread(tree, fault) => unread_line(alloc, *tree, fault),
             Stop::BadRoot(part) => bad_root_line(alloc, *part),
             Stop::Overlap(tree, name) => overlap_line(alloc, *tree, name),
+            Stop::ClientName(name, part) => client_name_line(alloc, name, *part),
             Stop::TooManyFindings => Vec::from_slice(alloc, b"jcompat: limit findings\n"),
             Stop::ReadFault(tree) => tree_line(alloc, *tree, b": read fault\n"),
             Stop::Memory => Ok(Vec::new(alloc)),

@@ -1,6 +1,7 @@
 //! Runs over trees in memory and over folders, against what they are to say.
 mod assembler;
 mod limits;
+mod links;
 mod outside;
 mod refusals;
 mod verdicts;
@@ -79,16 +80,17 @@ fn says_surely(
     Ok(status == wanted && out.bytes() == output.as_bytes() && err.bytes() == line.as_bytes())
 }
 
-// Whether a check of the files of these lines says just this, over either trees.
+// Whether a run of these words over the files of these lines says just this, over either trees.
 fn is_said(
     rt: &impl Abort,
     alloc: Global,
+    words: &[&str],
     lines: &[&str],
     said: &Said<'_>,
 ) -> Result<bool, AllocError> {
     let mut trees = trees_of(rt, alloc, lines, &[])?;
     Ok(
-        says(alloc, WORDS, &mut trees, [&[], &[]], said)?
-            && says_surely(rt, alloc, WORDS, lines, said)?,
+        says(alloc, words, &mut trees, [&[], &[]], said)?
+            && says_surely(rt, alloc, words, lines, said)?,
     )
 }

@@ -10,6 +10,9 @@ pub enum TreeName {
     Platform,
     Old,
     New,
+    Release,
+    /// The tree of clients, of whose class files the code is read too.
+    Client,
 }
 
 impl TreeName {
@@ -21,6 +24,8 @@ impl TreeName {
             TreeName::Platform => line.extend_from_slice(b"platform"),
             TreeName::Old => line.extend_from_slice(b"old"),
             TreeName::New => line.extend_from_slice(b"new"),
+            TreeName::Release => line.extend_from_slice(b"release"),
+            TreeName::Client => line.extend_from_slice(b"client"),
         }
     }
 }

@@ -1,4 +1,4 @@
--- What is found in the records of the three trees, on the way.
+-- What is found in the records of a check, on the way.
 use Rattle.std.specs.Prelude.{◌≡◌, ◌<◌, ◌⊎◌, List}
 use Rattle.jc_facts.specs.declared.class_facts.ClassFacts.{ClassFacts}
 use Rattle.jc_facts.specs.declared.verdict.Verdict.{Verdict}
@@ -6,7 +6,7 @@ use Rattle.jc_facts.specs.world.World.{World}
 use Rattle.jc_table.specs.declared.table.TableError.{TableError}
 use Rattle.jc_table.specs.declared.table.TableError.TheVariants as errors
 use Rattle.jc_facts.specs.rule.Verdict.{IsVerdict}
-use Rattle.jcompat.specs.Answers.{IsUnfit, count_of}
+use Rattle.jcompat.specs.Check.{IsUnfit, count_of}
 use Rattle.jcompat.specs.declared.limits.TheConstants.{MAX_FINDINGS}
 use Rattle.jcompat.specs.declared.tree.TreeName.{TreeName}
 use Rattle.jcompat.specs.declared.stop.Stop.{Stop}

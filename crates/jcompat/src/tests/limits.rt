@@ -154,6 +154,17 @@ fn at_most_so_many_class_files(rt: HostRuntime) -> Result<(), Fail> {
         let mut trees = Numbered { count };
         assert!(rt; says(alloc, WORDS, &mut trees, [&[], &[]], &(status, "", line))?);
     }
+    let words = ["link", "--platform", "P", "--release", "O", "--client", "C"];
+    let mut trees = Numbered { count: 40_001 };
+    assert!(rt;
+        says(
+            alloc,
+            &words,
+            &mut trees,
+            [&[], &[]],
+            &(7, "", "jcompat: release: limit files\n")
+        )?
+    );
     Ok(())
 }
 

@@ -78,13 +78,19 @@ const ROWS: &[Row] = &[
 fn trees_are_refused(rt: HostRuntime) -> Result<(), Fail> {
     let alloc = rt.alloc();
     for (shown, lines, line) in ROWS {
-        assert!(rt; is_said(&rt, alloc, lines, &(3, "", *line))?, "{shown}");
+        assert!(rt;
+            is_said(&rt, alloc, WORDS, lines, &(3, "", *line))?,
+            "{shown}"
+        );
     }
     Ok(())
 }
 
 const OTHER_WORDS: &[&[&str]] = &[
     &[],
+    &["compare", "--platform", "P", "--old", "O", "--new", "N"],
+    &["link", "--platform", "P", "--old", "O", "--new", "N"],
+    &["link", "--client", "C", "--platform", "P", "--release", "R"],
     &["check"],
     &["check", "--old", "O", "--platform", "P", "--new", "N"],
     &[

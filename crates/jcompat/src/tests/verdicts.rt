@@ -312,7 +312,7 @@ fn checks_have_their_verdicts(rt: HostRuntime) -> Result<(), Fail> {
     let alloc = rt.alloc();
     for (shown, lines, status, output) in ROWS {
         assert!(rt;
-            is_said(&rt, alloc, lines, &(*status, *output, ""))?,
+            is_said(&rt, alloc, WORDS, lines, &(*status, *output, ""))?,
             "{shown}"
         );
     }

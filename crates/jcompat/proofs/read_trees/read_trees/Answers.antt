@@ -1,16 +1,16 @@
 use Rattle.std.proofs.Common.{◌∙◌, ◌∷◌, [], arith, length-append}
 use Rattle.std.proofs.lemmas.List.Elements.{All-push}
 use Rattle.jcompat.specs.steps.ReadTree.{IsClassList}
-use Rattle.jcompat.proofs.TreesRead.{records_more, stops_among}
+use Rattle.jcompat.proofs.TreesRead.{classes_more, stops_among}
 use Rattle.jcompat.proofs.read_trees.read_trees.Goals as goal
 
 pub loop-tree-preserved : goal.loop-tree-preserved
 loop-tree-preserved g c = record {
   read = λ files told. rw (c.in-Ok-push.ensures.items, c.from_vec.ensures)
-      (records_more c.args.wanted.now c.loop-tree.tree-index _ c.loop-tree-test.true files c.loop-tree.all.items _
+      (classes_more c.args.wanted.now c.loop-tree.tree-index _ c.loop-tree-test.true files c.loop-tree.all.items _
       (c.loop-tree.invariant.read files told) (c.in-Ok.ensures.read files (c.loop-tree.invariant.content ∙ told)));
   classes = rw (c.in-Ok-push.ensures.items, c.from_vec.ensures) (All-push IsClassList c.loop-tree.all.items _ c.loop-tree.invariant.classes c.in-Ok.ensures.classes);
-  whole = rw (c.in-Ok-push.ensures.items, c.from_vec.ensures) (omega (arith, length-append c.loop-tree.all.items (c.in-Ok.records.items ∷ []), c.loop-tree.invariant.whole));
+  whole = rw (c.in-Ok-push.ensures.items, c.from_vec.ensures) (omega (arith, length-append c.loop-tree.all.items (c.in-Ok.classes.items ∷ []), c.loop-tree.invariant.whole));
   content = c.in-Ok.ensures.content ∙ c.loop-tree.invariant.content;
   never_falls = λ r. omega (arith, c.in-Ok.ensures.never_falls r, c.loop-tree.invariant.never_falls r);
 }

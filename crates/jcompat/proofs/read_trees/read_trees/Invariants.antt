@@ -1,17 +1,17 @@
 use Rattle.std.proofs.Common.{◌≡◌, ◌≤◌, ℕ, List, length, map, take}
 use Rattle.std.specs.List.{All}
 use Rattle.jc_base.specs.States.{TreesState}
-use Rattle.jc_facts.specs.declared.class_facts.ClassFacts.{ClassFacts}
+use Rattle.jc_facts.specs.declared.client.ClientClass.{ClientClass}
 use Rattle.jc_facts.specs.Names.{Bytes}
 use Rattle.jcompat.specs.ClassFiles.{Told}
 use Rattle.jcompat.specs.Tree.{TreeOf}
 use Rattle.jcompat.specs.steps.CommandView.{tree_of}
 use Rattle.jcompat.specs.steps.ReadTree.{IsClassList}
-use Rattle.jcompat.specs.steps.ReadTrees.{AreRecordsOf}
+use Rattle.jcompat.specs.steps.ReadTrees.{AreClassesOf}
 use Rattle.jcompat.proofs.read_trees.read_trees.Given as goal
 
-pub record Reading (taken : List TreeOf) (count : ℕ) (all : List (List ClassFacts)) (before now : TreesState) : Type 0 where
-  pub read : Told before.content (λ files. AreRecordsOf files taken all)
+pub record Reading (taken : List TreeOf) (count : ℕ) (all : List (List ClientClass)) (before now : TreesState) : Type 0 where
+  pub read : Told before.content (λ files. AreClassesOf files taken all)
   pub classes : All IsClassList all
   pub whole : length all ≡ count
   pub content : now.content ≡ before.content

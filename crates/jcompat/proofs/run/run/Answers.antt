@@ -1,14 +1,14 @@
 use Rattle.std.proofs.Common.{refl}
 use Rattle.jc_base.specs.States.{change}
 use Rattle.jcompat.specs.Answers.{ran}
-use Rattle.jcompat.proofs.Answered.{outcome_answers, stop_answers}
+use Rattle.jcompat.proofs.Answered.{report_answers, stop_answers}
 use Rattle.jcompat.proofs.run.run.Goals as goal
 
 pub returns-in-Ok : goal.returns-in-Ok
 returns-in-Ok g c =
-    outcome_answers
-    (ran c.args.words.now (change g.T.Trees.state c.args.trees.now c.decide.new.trees) (change g.O.Sink.state c.args.out.now c.put_outcome.new.out) (change g.E.Sink.state c.args.err.now c.args.err.now) c.put_outcome.result)
-    c.in-Ok.outcome c.in-Ok.ensures.outcome c.put_outcome.ensures refl c.in-Ok.ensures.content
+    report_answers
+    (ran c.args.words.now (change g.T.Trees.state c.args.trees.now c.decide.new.trees) (change g.O.Sink.state c.args.out.now c.put_report.new.out) (change g.E.Sink.state c.args.err.now c.args.err.now) c.put_report.result)
+    c.in-Ok.report c.in-Ok.ensures.report c.put_report.ensures refl c.in-Ok.ensures.content
 
 pub returns-in-Err : goal.returns-in-Err
 returns-in-Err g c =

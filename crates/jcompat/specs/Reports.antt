@@ -1,0 +1,52 @@
+-- What each command reads, why that is refused, and its report.
+use Rattle.std.specs.Prelude.{◌≡◌, List, [], None, Some, IsTrue}
+use Rattle.jc_base.specs.Outside.{FileOf}
+use Rattle.jc_facts.specs.declared.outcome.Outcome.{Outcome}
+use Rattle.jc_facts.specs.declared.verdict.Verdict.{Verdict}
+use Rattle.jc_facts.specs.Names.{Bytes}
+use Rattle.jc_facts.specs.client.Linked.{are_all_ok}
+use Rattle.jc_facts.specs.print.LinkText.{link_text_of}
+use Rattle.jc_facts.specs.print.Text.{text_of}
+use Rattle.jcompat.specs.Check.{CheckRecords, IsUnfit, IsFit, IsVerdictOn}
+use Rattle.jcompat.specs.Command.{CommandOf, CheckCommand, LinkCommand}
+use Rattle.jcompat.specs.Link.{LinkRecords, refusal_of, AreOutcomesOf}
+use Rattle.jcompat.specs.declared.stop.Stop.{Stop}
+
+-- ---- what is read
+
+-- the records of the command's trees
+abbrev pub RecordsOf : List FileOf → CommandOf → Type 0
+RecordsOf files (CheckCommand check) = CheckRecords files check
+RecordsOf files (LinkCommand link) = LinkRecords files link
+
+-- they are refused, and this is the first cause
+abbrev pub Refuses : (files : List FileOf) → (command : CommandOf) → RecordsOf files command → Stop → Type 0
+Refuses files (CheckCommand check) r stop = IsUnfit r.platform r.old r.new stop
+Refuses files (LinkCommand link) r stop = refusal_of r.platform r.release r.clients ≡ Some stop
+
+-- no cause to refuse them stands
+abbrev pub Accepts : (files : List FileOf) → (command : CommandOf) → RecordsOf files command → Type 0
+Accepts files (CheckCommand check) r = IsFit r.platform r.old r.new
+Accepts files (LinkCommand link) r = refusal_of r.platform r.release r.clients ≡ None
+
+-- ---- the report
+
+-- what is reported: of a check its verdict, of the linking of clients its outcomes
+abbrev pub ReportOf : CommandOf → Type 0
+ReportOf (CheckCommand check) = Verdict
+ReportOf (LinkCommand link) = List Outcome
+
+-- the report on these records, where nothing refuses them
+abbrev pub IsReportOn : (files : List FileOf) → (command : CommandOf) → RecordsOf files command → ReportOf command → Type 0
+IsReportOn files (CheckCommand check) r v = IsVerdictOn r.platform r.old r.new v
+IsReportOn files (LinkCommand link) r list = AreOutcomesOf r.platform r.release r.clients list
+
+-- what was asked is so: there is no finding, or each outcome is Ok
+abbrev pub Passes : (command : CommandOf) → ReportOf command → Type 0
+Passes (CheckCommand check) v = v.findings ≡ []
+Passes (LinkCommand link) list = IsTrue (are_all_ok list)
+
+-- the bytes that are put
+abbrev pub bytes_of : (command : CommandOf) → ReportOf command → Bytes
+bytes_of (CheckCommand check) v = text_of v
+bytes_of (LinkCommand link) list = link_text_of list
