@@ -16,6 +16,7 @@ use Rattle.jc_facts.specs.file.Valid.{IsValidClass}
 use Rattle.jc_facts.specs.rule.OpenActs.{least}
 use Rattle.jc_lemmas.proofs.Listed.{EachOf, EachOf-map, EachOf-append}
 use Rattle.jc_lemmas.proofs.Options.{none_where}
+use Rattle.jc_facts.proofs.Clients.{facts_length, facts_valid}
 use Rattle.jc_facts.proofs.Options.{or_else-none}
 use Rattle.jc_facts.proofs.Same.{same_is, same_itself}
 use Rattle.jc_worlds.proofs.Alike.{worlds_link_alike}
@@ -30,7 +31,7 @@ use Rattle.jc_link.specs.steps.TableRefusals.{refusal_by}
 use Rattle.jc_link.specs.declared.refusal.ClientPart.{ClientPart}
 use Rattle.jc_link.specs.declared.refusal.ClientPart.TheVariants as parts
 use Rattle.jc_link.proofs.Client.{all_alike}
-use Rattle.jc_link.proofs.Sorting.{facts_length, find_in_order}
+use Rattle.jc_link.proofs.Sorting.{find_in_order}
 
 -- ---- names that nothing of the side has
 
@@ -99,13 +100,9 @@ joined_differ (r ∷ rs) cs h k n =
 
 -- ---- the joined records
 
-facts_each : (cs : List ClientClass) → EachOf IsValidClient cs → EachOf IsValidClass (facts_of cs)
-facts_each [] h = tt
-facts_each (c ∷ cs) h = (h.0.facts, facts_each cs h.1)
-
 pub records_valid : (R : List ClassFacts) (cs : List ClientClass) → All IsValidClass R → All IsValidClient cs → All IsValidClass (R ++ facts_of cs)
 records_valid R cs h k =
-    All-from_recursion IsValidClass (R ++ facts_of cs) (EachOf-append IsValidClass R (facts_of cs) (recursion_from_All IsValidClass R h) (facts_each cs (recursion_from_All IsValidClient cs k)))
+    All-from_recursion IsValidClass (R ++ facts_of cs) (EachOf-append IsValidClass R (facts_of cs) (recursion_from_All IsValidClass R h) (facts_valid cs (recursion_from_All IsValidClient cs k)))
 
 pub records_differ : (P R : List ClassFacts) (cs : List ClientClass) → IsTrue (differ_by_name R) → IsTrue (differ_by_name (facts_of cs)) → first_refused (side P R) cs ≡ None → IsTrue (differ_by_name (R ++ facts_of cs))
 records_differ P R cs h k a = joined_differ R cs h k (EachOf-map (λ c n. n.release) cs (all_new P R cs a))

@@ -25,12 +25,6 @@ use Rattle.jc_table.specs.declared.ids.Found.{Found}
 use Rattle.jc_link.specs.steps.ItemSteps.{LooksUp}
 use Rattle.jc_link.proofs.Members.{use_alike}
 
--- each class of a side is valid
-pub side_valid : (W : World) → IsSide W → All IsValidClass (classes W)
-side_valid W s =
-    All-from_recursion IsValidClass (classes W) (EachOf-append IsValidClass (W.platform ++ W.release) W.clients (EachOf-append IsValidClass W.platform W.release (recursion_from_All IsValidClass W.platform s.platform) (recursion_from_All IsValidClass W.release s.release))
-    (subst (EachOf IsValidClass) (sym s.no_clients) tt))
-
 method_put : (act : Act) → form_of act ≡ MethodForm → is_put_act act ≡ false
 method_put acts.PutStatic e = absurd (cc)
 method_put acts.PutField e = absurd (cc)

@@ -17,6 +17,7 @@ use Rattle.jc_facts.specs.client.Linked.{in_order}
 use Rattle.jc_lemmas.proofs.Listed.{EachOf}
 use Rattle.jc_lemmas.proofs.Options.{none_where}
 use Rattle.jc_facts.proofs.Apart.{Apart, ApartRec, rec-Apart, Apart-permutation, NamesRise-sorted}
+use Rattle.jc_facts.proofs.Clients.{facts_length}
 use Rattle.jc_facts.proofs.OneList.{same_list}
 use Rattle.jc_facts.proofs.Same.{same_itself}
 use Rattle.jc_worlds.specs.Alike.{FindAlike}
@@ -52,10 +53,6 @@ sorted_order cs ds d p s =
 
 pub order_valid : (cs : List ClientClass) → All IsValidClient cs → All IsValidClient (in_order cs)
 order_valid cs h = All-from_recursion IsValidClient (in_order cs) (sorted_each IsValidClient cs (recursion_from_All IsValidClient cs h))
-
-pub facts_length : (cs : List ClientClass) → length (facts_of cs) ≡ length cs
-facts_length [] = refl
-facts_length (c ∷ cs) = ap suc (facts_length cs)
 
 pub order_length : (cs : List ClientClass) → length (in_order cs) ≡ length cs
 order_length cs = sym (facts_length (in_order cs)) ∙ sorted_length cs ∙ facts_length cs

@@ -17,7 +17,9 @@ use Rattle.jc_rules.specs.steps.Chains.{HasChain}
 use Rattle.jc_worlds.proofs.Descent.{descend-absent, descend-found}
 use Rattle.jc_facts.proofs.World.{find-name}
 use Rattle.jc_facts.proofs.Same.{same_is, same_itself}
+use Rattle.jc_table.proofs.Keeps.{super-below}
 use Rattle.jc_table.proofs.Numbers.{find-None, id-find, id_of-Some, id_of-name_at}
+use Rattle.jc_table.proofs.Walking.{super-of}
 
 -- the classes that n levels lead to from the number that is next
 abbrev pub walk : World → ℕ → Option ℕ → List ClassFacts
@@ -67,34 +69,18 @@ unrolled : (W : World) (m : ℕ) (x : Bytes) (c : ClassFacts) → find_class W x
 unfolding chain_step
 unrolled W m x c e = descend-found W [] [] chain_step m x c e
 
-super_of_found : (W : World) (x : Bytes) (c : ClassFacts) → find_class W x ≡ Some c → superclass_of W x ≡ and_then (id_of W) c.superclass
-unfolding superclass_of and_then
-super_of_found W x c e = rw e refl
-
 -- one level
 level : (W : World) → IsSide W → (m k : ℕ) → k < size W → (y : Bytes) → names_in (walk W (suc m) (Some k)) y ≡ (same (name_at W k) y || names_in (walk W m (superclass_of W (name_at W k))) y)
 level W s m k h y =
     let t = there W s k h in
     let u : walk W (suc m) (Some k) ≡ t.0 ∷ of_super (descend W [] [] chain_step m) t.0.superclass = unrolled W m (name_at W k) t.0 t.1 in
-    let v : superclass_of W (name_at W k) ≡ and_then (id_of W) t.0.superclass = super_of_found W (name_at W k) t.0 t.1 in
+    let v : superclass_of W (name_at W k) ≡ and_then (id_of W) t.0.superclass = super-of W (name_at W k) t.0 t.1 in
     ap (λ (cs : List ClassFacts). names_in cs y) u ∙ ap (λ (z : Bytes). same z y || names_in (of_super (descend W [] [] chain_step m) t.0.superclass) y) (find-name W (name_at W k) t.0 t.1)
     ∙ ap (λ (cs : List ClassFacts). same (name_at W k) y || names_in cs y) (from_super W m t.0.superclass ∙ ap (walk W m) (sym v))
 
 -- names of two numbers
 names_apart : (W : World) → IsSide W → (k q : ℕ) → k < size W → q < size W → same (name_at W k) (name_at W q) ≡ true → k ≡ q
 names_apart W s k q h j e = let z : Some k ≡ Some q = sym (id_of-name_at W k s.differ h) ∙ ap (id_of W) (same_is (name_at W k) (name_at W q) e) ∙ id_of-name_at W q s.differ j in cc
-
-super_below : (W : World) (x : Bytes) (q : ℕ) → superclass_of W x ≡ Some q → q < size W
-unfolding superclass_of and_then
-super_below W x q e = go (find_class W x) e
-  where
-    named : (o : Option Bytes) → and_then (id_of W) o ≡ Some q → q < size W
-    named None e = absurd (cc)
-    named (Some z) e = (id_of-Some W z q e).0
-
-    go : (o : Option ClassFacts) → and_then (λ c. and_then (id_of W) c.superclass) o ≡ Some q → q < size W
-    go None e = absurd (cc)
-    go (Some c) e = named c.superclass e
 
 -- ---- the loop
 
@@ -127,7 +113,7 @@ pub walk_steps : (W : World) → IsSide W → (x : Bytes) (left more k : ℕ) (s
     → sorted.Updates nat_cmp seen now k true → sorted.IsOrdered nat_cmp now → HasWalked W x more (superclass_of W (name_at W k)) now
 walk_steps W s x left more k seen now e h adds o = record {
   ordered = o;
-  below = λ q z. super_below W (name_at W k) q z;
+  below = λ q z. super-below W (name_at W k) q z;
   both = λ q. each q (k == q) refl (nat_lt q (size W)) refl ∙ ap (λ (b : Bool). sorted.contains nat_cmp seen q || (nat_lt q (size W) && b)) (sym (up q)) ∙ h.both q;
 }
   where

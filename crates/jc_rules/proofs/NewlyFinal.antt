@@ -22,15 +22,10 @@ use Rattle.jc_rules.specs.steps.Methods.{becomes_final}
 use Rattle.jc_sides.specs.SidesOf.{SidesOf}
 use Rattle.jc_table.specs.Sides.{IsSide}
 use Rattle.jc_table.specs.Lookups.{IsChoice}
+use Rattle.jc_table.proofs.Sides.{classes_valid}
 use Rattle.jc_table.specs.declared.ids.Found.{Found as Answer}
 
 -- ---- what the lookup finds
-
--- all records of a side are valid
-all_valid : (W : World) → IsSide W → All IsValidClass (classes W)
-all_valid W s =
-    subst (λ (cs : List ClassFacts). All IsValidClass (W.platform ++ W.release ++ cs)) (sym s.no_clients)
-    (All-from_recursion IsValidClass (W.platform ++ W.release ++ []) (EachOf-append IsValidClass (W.platform ++ W.release) [] (EachOf-append IsValidClass W.platform W.release (recursion_from_All IsValidClass W.platform s.platform) (recursion_from_All IsValidClass W.release s.release)) tt))
 
 abbrev passes : DeclaredMember → Bool
 passes m = no_static_flag m.member.flags && public_or_protected m.member
@@ -59,7 +54,7 @@ unfolding method_choices or_choices
 chosen W s x k l h m c = go (first_declared k (chain W x)) c
   where
     go : (o : Option DeclaredMember) → Contains (or_choices o (superinterface_choices W x k)) m → passes m ≡ first_passes passes (or_choices o (superinterface_choices W x k))
-    go None d = passes_alike (superinterface_choices W x k) (public_each (superinterface_choices W x k) (recursion_from_All IsPublicInstance (superinterface_choices W x k) (inherited_are_public W (all_valid W s) x k l (neither_last (is_init_name k.name) (is_clinit_name k.name) (not_true (is_init_name k.name || is_clinit_name k.name) h))))) m d
+    go None d = passes_alike (superinterface_choices W x k) (public_each (superinterface_choices W x k) (recursion_from_All IsPublicInstance (superinterface_choices W x k) (inherited_are_public W (classes_valid W s) x k l (neither_last (is_init_name k.name) (is_clinit_name k.name) (not_true (is_init_name k.name || is_clinit_name k.name) h))))) m d
     go (Some n) d = ap passes (only_one n m d)
 
 -- whatever the table's lookup chooses

@@ -30,7 +30,7 @@ use Rattle.jc_facts.proofs.Exact.{Gives}
 use Rattle.jc_lemmas.proofs.Listed.{EachOf, here, there, none, cases, each_from}
 use Rattle.jc_facts.proofs.InOrder.{exact_none, exact_given}
 use Rattle.jc_facts.proofs.Exactly.{OfNames, grown_start, grown_more, grown_all}
-use Rattle.jc_table.proofs.Numbers.{id-find, id_of-Some, names-length, names-rise}
+use Rattle.jc_table.proofs.Numbers.{id_of-Some, names-length, names-rise, number_of}
 use Rattle.jc_table.specs.Ids.{names, name_at, id_of}
 use Rattle.jc_table.specs.Sides.{IsSide}
 use Rattle.std.specs.List.Sorted.{IsStrictlySortedBy}
@@ -217,14 +217,6 @@ in_map O (q ∷ ks) k c = go (cases q ks k c) (in_map O ks k)
 -- a usable class is there
 usable_found : (W : World) (x : Bytes) → is_class_usable W x ≡ true → is_some (find_class W x) ≡ true
 usable_found W x h = ap is_some (usable_parts W x h).is_there
-
--- the number of a name that is there
-number_of : (W : World) (x : Bytes) → is_some (find_class W x) ≡ true → (k : ℕ) × (id_of W x ≡ Some k)
-number_of W x h = go (id_of W x) (id-find W x ∙ h)
-  where
-    go : (o : Option ℕ) → is_some o ≡ true → (k : ℕ) × (o ≡ Some k)
-    go None q = absurd (cc)
-    go (Some k) q = (k, refl)
 
 -- the set has each class of the chain
 in_set : (O : World) (x t : Bytes) (chain : sorted.BTreeSet ℕ) → HasChain O x chain → is_class_usable O t ≡ true → in_chain O x t ≡ true → Contains (map (name_at O) chain.keys) t

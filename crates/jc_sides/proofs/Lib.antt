@@ -10,5 +10,4 @@ mod TestedClasses
 mod ByItems
 pub mod ItemRules
 pub mod BaseParts
-mod Utf8
 pub mod Seen

@@ -33,6 +33,7 @@ use Rattle.jc_facts.specs.rule.Bases.{has_init, public_or_protected, is_class_us
 use Rattle.jc_facts.specs.rule.Collisions.{constant_added, capture_added, final_added}
 use Rattle.jc_lemmas.proofs.Listed.{EachOf, EachOf-map, EachOf-append, list_all-each}
 use Rattle.jc_facts.proofs.World.{names, find-name, class_named-name, EachOf-class_named, IsOf, class_named-first, class_named-each}
+use Rattle.jc_facts.proofs.Clients.{facts_valid}
 use Rattle.jc_facts.proofs.Same.{same_is, same_itself}
 use Rattle.jc_worlds.proofs.Above.{fault_where-none, chain-each}
 use Rattle.jc_lemmas.proofs.Bools.{neither_first, neither_last}
@@ -55,10 +56,6 @@ use Rattle.jc_sound.proofs.FinalsKept.{meets-free, library-meets, client-meets, 
 use Rattle.jc_sound.proofs.FieldClient.{field_access}
 use Rattle.jc_sound.proofs.MethodClient.{method_access, first_library-below}
 use Rattle.jc_sound.proofs.NewInit.{new_item, init_item}
-
-facts_valid : (cs : List ClientClass) → EachOf IsValidClient cs → EachOf IsValidClass (facts_of cs)
-facts_valid [] h = tt
-facts_valid (c ∷ cs) h = (h.0.facts, facts_valid cs h.1)
 
 -- each client is the one of its name
 named_clients : (cs : List ClientClass) → differ_by_name (facts_of cs) ≡ true → EachOf (λ (c : ClientClass). class_named (facts_of cs) c.facts.name ≡ Some c.facts) cs

@@ -26,7 +26,7 @@ use Rattle.jc_table.specs.Ids.{names, name_at, id_of, superclass_of}
 use Rattle.jc_table.specs.steps.Reach.{Has, next_of, IsLedTo}
 use Rattle.jc_table.specs.Above.{leads_to, leads_by, AreRows}
 use Rattle.jc_table.specs.steps.Named.{named_by, edges_of}
-use Rattle.jc_table.proofs.Numbers.{IsClass, is_class, class_at, superclass_is, find-None, id_of-Some, id_of-name_at, id-find, names-length}
+use Rattle.jc_table.proofs.Numbers.{IsClass, is_class, class_at, superclass_is, find-None, id_of-Some, id_of-name_at, id-find, names-length, number_of}
 use Rattle.jc_lemmas.proofs.Bools.{tests_agree}
 use Rattle.jc_facts.proofs.Hierarchy.{names_in-each}
 
@@ -61,14 +61,6 @@ module _ (W : World) where
       go : (o : Option ClassFacts) → find_class W x ≡ o → is_some o ≡ true
       go None e = absurd (let c : false ≡ true = sym (led-absent n x y e) ∙ h in cc)
       go (Some c) e = refl
-
-  -- a class that is there has a number
-  number_of : (x : Bytes) → is_some (find_class W x) ≡ true → (k : ℕ) × (id_of W x ≡ Some k)
-  number_of x h = go (id_of W x) refl (id-find W x ∙ h)
-    where
-      go : (o : Option ℕ) → id_of W x ≡ o → is_some o ≡ true → (k : ℕ) × (id_of W x ≡ Some k)
-      go None e q = absurd (let c : false ≡ true = q in cc)
-      go (Some k) e q = (k, e)
 
   -- from what is reached, what it names is reached
   led-on : (n : ℕ) (x y z : Bytes) (c : ClassFacts) → led n x y ≡ true → find_class W y ≡ Some c → Contains c.interfaces z → is_some (find_class W z) ≡ true → led (suc n) x z ≡ true

@@ -151,6 +151,14 @@ none_from : {A B : Type 0} (o : Option A) (p : Option B) → is_some o ≡ is_so
 none_from o None h e = refl
 none_from o (Some x) h e = absurd (let k : is_some o ≡ false = ap is_some e in cc)
 
+-- a class that is there has a number
+pub number_of : (W : World) (x : Bytes) → is_some (find_class W x) ≡ true → (k : ℕ) × (id_of W x ≡ Some k)
+number_of W x h = go (id_of W x) (id-find W x ∙ h)
+  where
+    go : (o : Option ℕ) → is_some o ≡ true → (k : ℕ) × (o ≡ Some k)
+    go None q = absurd cc
+    go (Some k) q = (k, refl)
+
 pub find-None : (W : World) (x : Bytes) → id_of W x ≡ None → find_class W x ≡ None
 find-None W x e = none_from (id_of W x) (find_class W x) (id-find W x) e
 

@@ -18,7 +18,7 @@ use Rattle.jc_worlds.proofs.Descent.{descend-absent, descend-none_left, descend-
 use Rattle.jc_facts.proofs.World.{IsOf, find-name}
 use Rattle.jc_table.specs.Ids.{name_at, id_of}
 use Rattle.jc_table.specs.Above.{leads_to, leads_by, AreAbove}
-use Rattle.jc_table.proofs.Numbers.{id-find, id_of-Some}
+use Rattle.jc_table.proofs.Numbers.{id_of-Some, number_of}
 use Rattle.jc_lemmas.proofs.Bools.{tests_agree}
 
 any_at : (q : ℕ → Bool) (ids : List ℕ) (k : ℕ) → list_any (λ n. n == k) ids ≡ true → q k ≡ true → list_any q ids ≡ true
@@ -44,13 +44,6 @@ reached_of W (suc n) x = go (find_class W x) refl (reached_of W n)
     go (Some c) e more =
         subst (EachOf (IsOf W)) (sym (descend-found W [] [] interfaces_step n x c e))
         (ap (find_class W) (find-name W x c e) ∙ e, each-all (IsOf W) (descend W [] [] interfaces_step n) c.interfaces (each_of (λ y. EachOf (IsOf W) (descend W [] [] interfaces_step n y)) more c.interfaces))
-
-pub number_of : (W : World) (x : Bytes) → is_some (find_class W x) ≡ true → (k : ℕ) × (id_of W x ≡ Some k)
-number_of W x h = go (id_of W x) refl (id-find W x ∙ h)
-  where
-    go : (o : Option ℕ) → id_of W x ≡ o → is_some o ≡ true → (k : ℕ) × (id_of W x ≡ Some k)
-    go None e q = absurd (let c : false ≡ true = q in cc)
-    go (Some k) e q = (k, e)
 
 module _ (W : World) (p : ClassFacts → Bool) (x : Bytes) (c : ClassFacts) (f : find_class W x ≡ Some c) (ids : List ℕ) (a : AreAbove W x ids) where
   reached : List ClassFacts

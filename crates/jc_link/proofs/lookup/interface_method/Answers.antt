@@ -6,7 +6,8 @@ use Rattle.jc_facts.specs.world.Lookup.{interface_choices}
 use Rattle.jc_facts.specs.world.Assignment.{is_interface_of}
 use Rattle.jc_table.specs.Ids.{name_at}
 use Rattle.jc_table.specs.Lookups.{IsChoice}
-use Rattle.jc_link.proofs.LookedUp.{side_valid, interface_member, interface_none, interface_kind}
+use Rattle.jc_table.proofs.Sides.{classes_valid}
+use Rattle.jc_link.proofs.LookedUp.{interface_member, interface_none, interface_kind}
 use Rattle.jc_link.proofs.lookup.interface_method.Goals as goal
 
 pub returns-then-not-is_interface : goal.returns-then-not-is_interface
@@ -17,7 +18,7 @@ returns-then-not-is_interface c = λ act e.
 pub returns-in-Some : goal.returns-in-Some
 returns-in-Some c = λ act e.
     let i : is_interface_of c.args.table.now (name_at c.args.table.now c.args.class) ≡ true = ap (some_and (λ (d : ClassFacts). interface_flag d.flags)) (sym c.facts.ensures) ∙ sym c.is_interface.ensures ∙ c.if-not-is_interface.false in
-    interface_member c.args.table.now act (name_at c.args.table.now c.args.class) c.args.key.now (side_valid c.args.table.now c.requires.side) c.requires.loads c.requires.key e i c.in-Some.found
+    interface_member c.args.table.now act (name_at c.args.table.now c.args.class) c.args.key.now (classes_valid c.args.table.now c.requires.side) c.requires.loads c.requires.key e i c.in-Some.found
     (subst (λ o. IsChoice c.args.table.now o (interface_choices c.args.table.now (name_at c.args.table.now c.args.class) c.args.key.now)) c.in-Some.is c.find_interface_method.ensures)
 
 pub returns-in-None : goal.returns-in-None

@@ -1,5 +1,5 @@
 use Rattle.std.proofs.Common.{◌∙◌}
-use Rattle.jc_sides.proofs.Utf8.{utf8_where_ok}
+use Rattle.jc_lemmas.proofs.Utf8.{utf8_where_ok}
 use Rattle.jc_sides.proofs.clients.is_utf8.Goals as goal
 
 pub returns : goal.returns
