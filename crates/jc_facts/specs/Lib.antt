@@ -4,6 +4,7 @@ pub mod KeyOrder
 pub mod Seen
 pub mod Options
 pub mod ByName
+pub mod Generated
 pub mod file
 pub mod world
 pub mod client
