@@ -1,6 +1,8 @@
 //! The verdict on a small release in which each rule on classes finds something.
-ghost use Rattle.std.specs.Prelude.{◌≡◌, IfOk};
+ghost use Rattle.std.specs.Prelude.{◌≡◌, IfOk, IfSome, IsTrue};
 ghost use Rattle.jc_acts.specs.Seats.{AreSeats};
+ghost use Rattle.jc_facts.specs.rule.Bases.{is_key_of_method, is_steady};
+ghost use Rattle.jc_sides.specs.SharedOf.{IsShared, name_of};
 
 use crate::compare::compare;
 use jc_acts::closed_act::ClosedAct;
@@ -8,15 +10,18 @@ use jc_acts::seats::Seats;
 use jc_acts::{members, plain};
 use jc_base::items::Items;
 use jc_base::name::Name;
+use jc_desc::names::is_initializer;
 use jc_facts::act::Act;
 use jc_facts::class_facts::{ClassFacts, Member};
 use jc_facts::finding::Finding;
+use jc_facts::flags::is_interface;
 use jc_facts::key::Key;
 use jc_facts::link_error::LinkError;
 use jc_facts::verdict::{Note, Verdict};
 use jc_sides::classes::base_classes;
 use jc_sides::clients::is_steady;
 use jc_sides::kept::kept;
+use jc_sides::shared::Shared;
 use jc_sides::sides::Sides;
 use jc_table::plain::{are_valid, names_differ};
 use jc_table::table::Table;
@@ -24,8 +29,8 @@ use std::alloc::{AllocError, Global};
 use std::process::Abort;
 use std::test::Fail;
 
-// A class: its name, its superclass or nothing, its flags, and whether it has the field
-// `protected static int f`.
+// A class: its name, its superclass or nothing, its flags, and whether it has the members
+// `static int f` and `static void f()`, which are protected, or public in an interface.
 type Row = (&'static [u8], &'static [u8], u16, bool);
 
 const OBJECT: &[u8] = b"java/lang/Object";
@@ -86,28 +91,40 @@ const FINDINGS: &[Found] = &[
     ),
 ];
 
-// A list of one member, where it is wanted.
-fn member_if(
-    alloc: Global,
-    wanted: bool,
-    name: &[u8],
-    descriptor: &[u8],
-    flags: u16,
-) -> Result<Items<Member>, AllocError> {
-    let mut members = Vec::new(alloc);
-    if wanted {
-        members.push(Member {
-            name: Name::from_bytes(alloc, name)?,
-            descriptor: Name::from_bytes(alloc, descriptor)?,
-            flags,
-        })?;
-    }
-    Ok(Items::from_vec(members))
+fn member(alloc: Global, name: &[u8], descriptor: &[u8], flags: u16) -> Result<Member, AllocError> {
+    Ok(Member {
+        name: Name::from_bytes(alloc, name)?,
+        descriptor: Name::from_bytes(alloc, descriptor)?,
+        flags,
+    })
 }
 
-// The class; one that is no interface has a public constructor.
+fn fields(alloc: Global, row: &Row) -> Result<Items<Member>, AllocError> {
+    let (_, _, flags, has_members) = *row;
+    let access = if is_interface(flags) { 0x0019 } else { 0x000c };
+    let mut fields = Vec::new(alloc);
+    if has_members {
+        fields.push(member(alloc, b"f", b"I", access)?)?;
+    }
+    Ok(Items::from_vec(fields))
+}
+
+// The methods; a class that is no interface has a public constructor.
+fn methods(alloc: Global, row: &Row) -> Result<Items<Member>, AllocError> {
+    let (_, _, flags, has_members) = *row;
+    let access = if is_interface(flags) { 0x0009 } else { 0x000c };
+    let mut methods = Vec::new(alloc);
+    if !is_interface(flags) {
+        methods.push(member(alloc, b"<init>", b"()V", 0x0001)?)?;
+    }
+    if has_members {
+        methods.push(member(alloc, b"f", b"()V", access)?)?;
+    }
+    Ok(Items::from_vec(methods))
+}
+
 fn class(alloc: Global, row: &Row) -> Result<ClassFacts, AllocError> {
-    let (name, superclass, flags, has_field) = *row;
+    let (name, superclass, flags, _) = *row;
     Ok(ClassFacts {
         name: Name::from_bytes(alloc, name)?,
         major: 52,
@@ -117,8 +134,8 @@ fn class(alloc: Global, row: &Row) -> Result<ClassFacts, AllocError> {
             _ => Some(Name::from_bytes(alloc, superclass)?),
         },
         interfaces: Items::from_vec(Vec::new(alloc)),
-        fields: member_if(alloc, has_field, b"f", b"I", 0x000c)?,
-        methods: member_if(alloc, flags & 0x0200 == 0, b"<init>", b"()V", 0x0001)?,
+        fields: fields(alloc, row)?,
+        methods: methods(alloc, row)?,
         permits: None,
         nest_host: None,
         nest_members: Items::from_vec(Vec::new(alloc)),
@@ -214,12 +231,24 @@ const BEFORE: &[Row] = &[
     (b"p/B", OBJECT, 0x0020, true),
     (b"p/C", b"p/B", 0x0021, false),
     (b"p/D", b"p/B", 0x0021, false),
+    (b"p/E", OBJECT, 0x0021, true),
+    (b"p/I", OBJECT, 0x0601, true),
 ];
 
 const AFTER: &[Row] = &[
     (b"p/B", OBJECT, 0x0020, false),
     (b"p/C", b"p/B", 0x0021, true),
     (b"p/D", b"p/B", 0x0021, false),
+    (b"p/E", OBJECT, 0x0021, true),
+    (b"p/I", OBJECT, 0x0601, false),
+];
+
+// The classes, and whether acts on their members are closed now.
+const CLOSED: &[(&[u8], bool)] = &[
+    (b"p/C", true),
+    (b"p/D", true),
+    (b"p/E", false),
+    (b"p/I", true),
 ];
 
 fn is_same(one: &Option<ClosedAct<'_>>, other: &Option<ClosedAct<'_>>) -> bool {
@@ -232,24 +261,61 @@ fn is_same(one: &Option<ClosedAct<'_>>, other: &Option<ClosedAct<'_>>) -> bool {
     }
 }
 
+fn steady<'a>(sides: &Sides<'a>, name: &[u8]) -> Option<Shared<'a>>
+    ensures { IfSome result (λ c. IsShared sides.now c × IsTrue (is_steady sides.now.old sides.now.new (name_of c))) }
+{
+    let id = sides.old.get(name)?;
+    let class = kept(sides, id)?;
+    if is_steady(sides, &class) {
+        Some(class)
+    } else {
+        None
+    }
+}
+
 // Whether an act on the field, named through this class, is closed now; both programs have to say
 // the same.
-fn is_closed(rt: &impl Abort, sides: &Sides<'_>, seats: &Seats<'_>, name: &[u8], key: &Key) -> bool
-    requires { AreSeats sides.now seats.now }
+fn is_field_closed(
+    rt: &impl Abort,
+    sides: &Sides<'_>,
+    seats: &Seats<'_>,
+    class: &Shared<'_>,
+    key: &Key,
+) -> bool
+    requires seats { AreSeats sides.now seats.now }
+    requires class { IsShared sides.now «class».now }
+    requires steady { IsTrue (is_steady sides.now.old sides.now.new (name_of «class».now)) }
 {
-    let Some(id) = sides.old.get(name) else {
-        return false;
-    };
-    let Some(class) = kept(sides, id) else {
-        return false;
-    };
-    if !is_steady(sides, &class) {
-        return false;
-    }
-    let few = members::field_closed(sides, seats, &class, key);
-    let all = plain::field_closed(sides, seats, &class, key);
+    let few = members::field_closed(sides, seats, class, key);
+    let all = plain::field_closed(sides, seats, class, key);
     assert!(rt; is_same(&few, &all));
     few.is_some()
+}
+
+// The same of an act on the method.
+fn is_method_closed(
+    rt: &impl Abort,
+    sides: &Sides<'_>,
+    seats: &Seats<'_>,
+    class: &Shared<'_>,
+    key: &Key,
+) -> bool
+    requires seats { AreSeats sides.now seats.now }
+    requires class { IsShared sides.now «class».now }
+    requires steady { IsTrue (is_steady sides.now.old sides.now.new (name_of «class».now)) }
+    requires key { IsTrue (is_key_of_method key.now) }
+{
+    let few = members::method_closed(sides, seats, class, key);
+    let all = plain::method_closed(sides, seats, class, key);
+    assert!(rt; is_same(&few, &all));
+    few.is_some()
+}
+
+fn key(alloc: Global, descriptor: &[u8]) -> Result<Key, AllocError> {
+    Ok(Key {
+        name: Name::from_bytes(alloc, b"f")?,
+        descriptor: Name::from_bytes(alloc, descriptor)?,
+    })
 }
 
 #[test]
@@ -260,11 +326,19 @@ fn asking_few_seats_gives_what_asking_all_gives(rt: HostRuntime) -> Result<(), F
     let new = table(&rt, alloc, platform.as_slice(), AFTER)?;
     let sides = Sides::new(&old, &new);
     let seats = Seats::new(alloc, &sides, base_classes(alloc, &sides)?)?;
-    let key = Key {
-        name: Name::from_bytes(alloc, b"f")?,
-        descriptor: Name::from_bytes(alloc, b"I")?,
-    };
-    assert!(rt; is_closed(&rt, &sides, &seats, b"p/C", &key));
-    assert!(rt; is_closed(&rt, &sides, &seats, b"p/D", &key));
+    let field = key(alloc, b"I")?;
+    let method = key(alloc, b"()V")?;
+    assert!(rt; !is_initializer(method.name.as_bytes()));
+    for (name, closed) in CLOSED {
+        let class = steady(&sides, name).expect(&rt, "a steady class");
+        assert_eq!(rt;
+            is_field_closed(&rt, &sides, &seats, &class, &field),
+            *closed
+        );
+        assert_eq!(rt;
+            is_method_closed(&rt, &sides, &seats, &class, &method),
+            *closed
+        );
+    }
     Ok(())
 }

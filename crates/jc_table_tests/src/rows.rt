@@ -1,4 +1,7 @@
 //! Records of classes made from rows.
+ghost use Rattle.std.specs.Prelude.{◌≡◌, map, option_map, IfOk};
+ghost use Rattle.jc_table_tests.specs.Rows.{class_of, member_of, named};
+
 use jc_base::items::Items;
 use jc_base::name::Name;
 use jc_facts::class_facts::{ClassFacts, Member};
@@ -48,14 +51,18 @@ pub const ROOT: Row = Row {
     ..PLAIN
 };
 
-fn name_of(alloc: Global, name: &[u8]) -> Result<Option<Name>, AllocError> {
+fn name_of(alloc: Global, name: &[u8]) -> Result<Option<Name>, AllocError>
+    ensures { IfOk result (λ found. found ≡ named name.now) }
+{
     if name.is_empty() {
         return Ok(None);
     }
     Ok(Some(Name::from_bytes(alloc, name)?))
 }
 
-fn names_of(alloc: Global, names: &[&[u8]]) -> Result<Items<Name>, AllocError> {
+fn names_of(alloc: Global, names: &[&[u8]]) -> Result<Items<Name>, AllocError>
+    ensures { IfOk result (λ copies. copies ≡ map (λ n. n.now) names.now) }
+{
     let mut copies = Vec::new(alloc);
     for name in names {
         copies.push(Name::from_bytes(alloc, name)?)?;
@@ -63,14 +70,18 @@ fn names_of(alloc: Global, names: &[&[u8]]) -> Result<Items<Name>, AllocError> {
     Ok(Items::from_vec(copies))
 }
 
-fn permitted(alloc: Global, names: Option<Names>) -> Result<Option<Items<Name>>, AllocError> {
+fn permitted(alloc: Global, names: Option<Names>) -> Result<Option<Items<Name>>, AllocError>
+    ensures { IfOk result (λ copies. copies ≡ option_map (λ list. map (λ n. n.now) list.now) names.entry) }
+{
     match names {
         None => Ok(None),
         Some(names) => Ok(Some(names_of(alloc, names)?)),
     }
 }
 
-fn member(alloc: Global, declared: &Declared) -> Result<Member, AllocError> {
+fn member(alloc: Global, declared: &Declared) -> Result<Member, AllocError>
+    ensures { IfOk result (λ made. made ≡ member_of declared.now) }
+{
     Ok(Member {
         name: Name::from_bytes(alloc, declared.0)?,
         descriptor: Name::from_bytes(alloc, declared.1)?,
@@ -78,7 +89,9 @@ fn member(alloc: Global, declared: &Declared) -> Result<Member, AllocError> {
     })
 }
 
-fn members(alloc: Global, list: &[Declared]) -> Result<Items<Member>, AllocError> {
+fn members(alloc: Global, list: &[Declared]) -> Result<Items<Member>, AllocError>
+    ensures { IfOk result (λ made. made ≡ map member_of list.now) }
+{
     let mut members = Vec::new(alloc);
     for declared in list {
         members.push(member(alloc, declared)?)?;
@@ -87,7 +100,9 @@ fn members(alloc: Global, list: &[Declared]) -> Result<Items<Member>, AllocError
 }
 
 /// The record of a row, of major 61.
-pub fn class(alloc: Global, row: &Row) -> Result<ClassFacts, AllocError> {
+pub fn class(alloc: Global, row: &Row) -> Result<ClassFacts, AllocError>
+    ensures { IfOk result (λ made. made ≡ class_of row.now) }
+{
     Ok(ClassFacts {
         name: Name::from_bytes(alloc, row.name)?,
         major: 61,
@@ -104,7 +119,10 @@ pub fn class(alloc: Global, row: &Row) -> Result<ClassFacts, AllocError> {
     })
 }
 
-pub fn classes(alloc: Global, rows: &[Row]) -> Result<Vec<ClassFacts>, AllocError> {
+/// The records of rows.
+pub fn classes(alloc: Global, rows: &[Row]) -> Result<Vec<ClassFacts>, AllocError>
+    ensures { IfOk result (λ made. made.items ≡ map class_of rows.now) }
+{
     let mut classes = Vec::new(alloc);
     for row in rows {
         classes.push(class(alloc, row)?)?;
