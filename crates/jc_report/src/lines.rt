@@ -3,7 +3,7 @@ ghost use Rattle.std.specs.Prelude.{◌≡◌, ◌++◌, ◌+◌, ◌<◌, ◌^�
 ghost use Rattle.jc_facts.specs.print.Text.{printed, printed_key, printed_member, word_of_side, name_of_error, line_of_finding, lines_of_findings, line_of_collision, lines_of_collisions, line_of_note, lines_of_notes};
 
 use crate::printed::{push_decimal, push_key, push_name, push_printed};
-use crate::printed_words::{act_word, error_name, push_rule, side_word};
+use crate::printed_words::{act_word, error_name, rule_text, side_word};
 use jc_base::name::Name;
 use jc_facts::finding::Finding;
 use jc_facts::key::Key;
@@ -28,7 +28,7 @@ fn finding_line(alloc: Global, number: usize, finding: &Finding) -> Result<Vec<u
     let mut line = Vec::new(alloc);
     push_decimal(alloc, &mut line, number)?;
     line.extend_from_slice(b" ")?;
-    push_rule(alloc, &mut line, finding.rule)?;
+    line.extend_from_slice(rule_text(alloc, finding.rule)?.as_str().as_bytes())?;
     line.extend_from_slice(b" ")?;
     push_printed(&mut line, finding.class.as_bytes())?;
     line.extend_from_slice(b" ")?;
@@ -67,7 +67,7 @@ fn collision_line(
     let mut line = Vec::new(alloc);
     push_decimal(alloc, &mut line, number)?;
     line.extend_from_slice(b" ")?;
-    push_rule(alloc, &mut line, collision.rule)?;
+    line.extend_from_slice(rule_text(alloc, collision.rule)?.as_str().as_bytes())?;
     line.extend_from_slice(b" ")?;
     push_printed(&mut line, collision.class.as_bytes())?;
     line.extend_from_slice(b" ")?;

@@ -1,5 +1,5 @@
 //! Printed names, keys and numbers.
-ghost use Rattle.std.specs.Prelude.{◌≡◌, ◌++◌, ◌+◌, ◌<◌, ◌≤◌, ◌^◌, OnOk};
+ghost use Rattle.std.specs.Prelude.{◌≡◌, ◌++◌, ◌∷◌, [], ◌+◌, ◌<◌, ◌≤◌, ◌^◌, OnOk};
 ghost use Rattle.std.specs.Fmt.{decimal};
 ghost use Rattle.jc_facts.specs.print.Text.{hex_digit_of, printed_byte, printed, is_descriptor_of_method, printed_key, printed_name};
 
@@ -7,10 +7,43 @@ use jc_base::name::Name;
 use jc_facts::key::Key;
 use std::alloc::{AllocError, Global};
 
+/// What printed forms are put at the end of: bytes, or a text.
+pub trait Printout {
+    ghost use Rattle.std.specs.Prelude.{List, ℕ};
+
+    // What it holds.
+    ghost bytes: { Self → List ℕ };
+
+    /// Puts an ASCII character at the end.
+    fn push_ascii(&mut self, byte: u8) -> Result<(), AllocError>
+        requires { byte < 128 }
+        ensures { OnOk result (bytes self.new ≡ bytes self.old ++ byte ∷ []) };
+}
+
+impl Printout for Vec<u8> {
+    ghost bytes = { λ v. v.items };
+
+    fn push_ascii(&mut self, byte: u8) -> Result<(), AllocError> {
+        self.push(byte)?;
+        Ok(())
+    }
+}
+
+impl Printout for String {
+    ghost use Rattle.std.specs.Prelude.{string_bytes};
+
+    ghost bytes = { string_bytes };
+
+    fn push_ascii(&mut self, byte: u8) -> Result<(), AllocError> {
+        self.push(byte as char)
+    }
+}
+
 // A lower-case hexadecimal digit.
 fn hex_digit(digit: u8) -> u8
     requires { digit < 16 }
-    ensures { result ≡ hex_digit_of digit }
+    ensures digit { result ≡ hex_digit_of digit }
+    ensures ascii { result < 128 }
 {
     if digit < 10 {
         b'0' + digit
@@ -19,21 +52,29 @@ fn hex_digit(digit: u8) -> u8
     }
 }
 
-fn push_printed_byte(text: &mut Vec<u8>, byte: u8) -> Result<(), AllocError>
-    ensures { OnOk result (text.new.items ≡ text.old.items ++ printed_byte byte) }
+fn push_printed_byte<P: Printout>(text: &mut P, byte: u8) -> Result<(), AllocError>
+    ensures { OnOk result (P.bytes text.new ≡ P.bytes text.old ++ printed_byte byte) }
 {
     match byte {
-        b'\\' => text.extend_from_slice(b"\\\\")?,
-        0x21..=0x7e => text.push(byte)?,
-        _ => text.extend_from_slice(&[b'\\', b'x', hex_digit(byte / 16), hex_digit(byte % 16)])?,
+        b'\\' => {
+            text.push_ascii(b'\\')?;
+            text.push_ascii(b'\\')?;
+        }
+        0x21..=0x7e => text.push_ascii(byte)?,
+        _ => {
+            text.push_ascii(b'\\')?;
+            text.push_ascii(b'x')?;
+            text.push_ascii(hex_digit(byte / 16))?;
+            text.push_ascii(hex_digit(byte % 16))?;
+        }
     }
     Ok(())
 }
 
-/// Prints bytes of a name, a path or a word at the end of the text: a byte from 0x21 to 0x7e as
-/// itself, a backslash doubled, any other as `\xNN`. After an error the text may hold a part.
-pub fn push_printed(text: &mut Vec<u8>, bytes: &[u8]) -> Result<(), AllocError>
-    ensures { OnOk result (text.new.items ≡ text.old.items ++ printed bytes.now) }
+/// Prints bytes of a name, a path or a word at the end: a byte from 0x21 to 0x7e as itself, a
+/// backslash doubled, any other as `\xNN`. After an error a part may stand there.
+pub fn push_printed<P: Printout>(text: &mut P, bytes: &[u8]) -> Result<(), AllocError>
+    ensures { OnOk result (P.bytes text.new ≡ P.bytes text.old ++ printed bytes.now) }
 {
     for byte in bytes {
         push_printed_byte(text, *byte)?;
@@ -58,14 +99,14 @@ fn is_method_descriptor(descriptor: &[u8]) -> bool
     }
 }
 
-/// Prints a key at the end of the text: a method's is its name and descriptor written together, a
-/// field's has a colon between them. After an error the text may hold a part.
-pub(crate) fn push_key(text: &mut Vec<u8>, key: &Key) -> Result<(), AllocError>
-    ensures { OnOk result (text.new.items ≡ text.old.items ++ printed_key key.now) }
+/// Prints a key at the end: a method's is its name and descriptor written together, a field's has a
+/// colon between them. After an error a part may stand there.
+pub(crate) fn push_key<P: Printout>(text: &mut P, key: &Key) -> Result<(), AllocError>
+    ensures { OnOk result (P.bytes text.new ≡ P.bytes text.old ++ printed_key key.now) }
 {
     push_printed(text, key.name.as_bytes())?;
     if !is_method_descriptor(key.descriptor.as_bytes()) {
-        text.push(b':')?;
+        text.push_ascii(b':')?;
     }
     push_printed(text, key.descriptor.as_bytes())
 }

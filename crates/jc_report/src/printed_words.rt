@@ -1,27 +1,23 @@
-//! The printed words of rules, acts, errors and releases.
-ghost use Rattle.std.specs.Prelude.{◌≡◌, ◌++◌, OnOk};
-ghost use Rattle.jc_facts.specs.print.Text.{rule_name, word_of_act, name_of_error, word_of_side};
+//! The printed words of rules, acts, errors, releases and verdicts.
+ghost use Rattle.std.specs.Prelude.{◌≡◌, IfOk, string_bytes};
+ghost use Rattle.jc_facts.specs.print.Text.{rule_name, word_of_act, name_of_error, word_of_side, verdict_word as word_of_verdict};
 
-use crate::printed::push_decimal;
 use jc_facts::act::Act;
+use jc_facts::finding::Finding;
 use jc_facts::link_error::LinkError;
 use std::alloc::{AllocError, Global};
 
-/// Prints the name of a rule at the end of the text: `Constant` for 10, `Capture` for 11, `Final` for
-/// 12, and `H` with the number for any other. After an error the text may hold a part.
-pub fn push_rule(alloc: Global, text: &mut Vec<u8>, rule: u8) -> Result<(), AllocError>
-    ensures { OnOk result (text.new.items ≡ text.old.items ++ rule_name rule) }
+/// The name of a rule: `Constant` for 10, `Capture` for 11, `Final` for 12, and `H` with the number for
+/// any other.
+pub fn rule_text(alloc: Global, rule: u8) -> Result<String, AllocError>
+    ensures { IfOk result (λ text. string_bytes text ≡ rule_name rule) }
 {
     match rule {
-        10 => text.extend_from_slice(b"Constant")?,
-        11 => text.extend_from_slice(b"Capture")?,
-        12 => text.extend_from_slice(b"Final")?,
-        _ => {
-            text.push(b'H')?;
-            push_decimal(alloc, text, rule as usize)?;
-        }
+        10 => String::from_str(alloc, "Constant"),
+        11 => String::from_str(alloc, "Capture"),
+        12 => String::from_str(alloc, "Final"),
+        _ => format!(in alloc; "H{rule}"),
     }
-    Ok(())
 }
 
 /// The word of an act.
@@ -71,4 +67,14 @@ pub fn side_word(old: bool) -> &'static str
     ensures { result.now ≡ word_of_side old }
 {
     if old { "old" } else { "new" }
+}
+
+/// The word of a verdict with these findings.
+pub fn verdict_word(findings: &[Finding]) -> &'static str
+    ensures { result.now ≡ word_of_verdict findings.now }
+{
+    match findings {
+        [] => "compatible",
+        [_, ..] => "incompatible",
+    }
 }

@@ -1,29 +1,20 @@
 //! The text of a verdict.
 ghost use Rattle.std.specs.Prelude.{◌≡◌, ◌++◌, codes, length, IfOk};
 ghost use Rattle.std.specs.Fmt.{decimal};
-ghost use Rattle.jc_facts.specs.print.Text.{verdict_word, last_line_of, text_of};
+ghost use Rattle.jc_facts.specs.print.Text.{last_line_of, text_of};
 
 use crate::lines::{collision_lines, finding_lines, note_lines};
 use crate::printed::push_decimal;
-use jc_facts::finding::Finding;
+use crate::printed_words::verdict_word;
 use jc_facts::verdict::Verdict;
 use std::alloc::{AllocError, Global};
-
-fn word(findings: &[Finding]) -> &'static str
-    ensures { result.now ≡ verdict_word findings.now }
-{
-    match findings {
-        [] => "compatible",
-        [_, ..] => "incompatible",
-    }
-}
 
 // The last line: the word, and how many findings, collisions and notes there are.
 fn last_line(alloc: Global, verdict: &Verdict) -> Result<Vec<u8>, AllocError>
     ensures { IfOk result (λ line. line.items ≡ last_line_of verdict.now) }
 {
     let findings = verdict.findings.as_slice();
-    let mut line = Vec::from_slice(alloc, word(findings).as_bytes())?;
+    let mut line = Vec::from_slice(alloc, verdict_word(findings).as_bytes())?;
     line.extend_from_slice(b": ")?;
     push_decimal(alloc, &mut line, findings.len())?;
     line.extend_from_slice(b" findings, ")?;

@@ -3,4 +3,4 @@ use Rattle.jc_facts.specs.print.Text.{printed}
 use Rattle.jc_report.proofs.printed.push_printed.Given as goal
 
 abbrev pub invariant-loop-byte : goal.invariant-loop-byte
-invariant-loop-byte l = l.text.items ≡ l.fn.text.items ++ printed (take l.byte-index l.bytes)
+invariant-loop-byte g l = g.P.Printout.bytes l.text ≡ g.P.Printout.bytes l.fn.text ++ printed (take l.byte-index l.bytes)

@@ -1,0 +1,293 @@
+//! Generated releases, and the text of the verdict on two.
+use jc_base::items::Items;
+use jc_base::name::Name;
+use jc_facts::act::Act;
+use jc_facts::class_facts::{ClassFacts, Member};
+use jc_facts::finding::Finding;
+use jc_facts::generate::generate;
+use jc_facts::key::Key;
+use jc_facts::link_error::LinkError;
+use jc_facts::validity::is_valid;
+use jc_facts::verdict::{Collision, Note, Verdict};
+use jc_report::made_text::made_text;
+use std::alloc::{AllocError, Global};
+use std::process::Abort;
+use std::test::Fail;
+
+type Bytes = &'static [u8];
+
+/// Name and flags of a method without parameters or result.
+type Method = (Bytes, u16);
+
+/// How many classes there are, the number of one, its name and its superclass, the name of its field,
+/// and the field's flags and the methods in a release.
+type Row = (u32, usize, Bytes, Bytes, Bytes, u16, &'static [Method]);
+
+const INIT: Method = (b"<init>", 0x0001);
+
+const OLD: &[Row] = &[
+    (
+        1,
+        0,
+        b"g/C0000",
+        b"java/lang/Object",
+        b"f0000",
+        0x0009,
+        &[INIT, (b"m0000", 0x0001)],
+    ),
+    (
+        8,
+        3,
+        b"g/C0003",
+        b"g/C0001",
+        b"f0003",
+        0x0009,
+        &[INIT, (b"m0003", 0x0001)],
+    ),
+    (
+        8,
+        7,
+        b"g/C0007",
+        b"g/C0003",
+        b"f0007",
+        0x0009,
+        &[INIT, (b"m0007", 0x0001)],
+    ),
+    (
+        64,
+        63,
+        b"g/C0063",
+        b"g/C0031",
+        b"f0063",
+        0x0009,
+        &[INIT, (b"m0063", 0x0001)],
+    ),
+];
+
+const NEW: &[Row] = &[
+    (
+        1,
+        0,
+        b"g/C0000",
+        b"java/lang/Object",
+        b"f0000",
+        0x0009,
+        &[INIT, (b"m0000", 0x0001)],
+    ),
+    (
+        8,
+        2,
+        b"g/C0002",
+        b"g/C0000",
+        b"f0002",
+        0x0009,
+        &[INIT, (b"m0002", 0x0001)],
+    ),
+    (8, 3, b"g/C0003", b"g/C0001", b"f0003", 0x0009, &[INIT]),
+    (
+        8,
+        4,
+        b"g/C0004",
+        b"g/C0001",
+        b"f0004",
+        0x0009,
+        &[INIT, (b"m0004", 0x0001)],
+    ),
+    (
+        8,
+        5,
+        b"g/C0005",
+        b"g/C0002",
+        b"f0005",
+        0x0009,
+        &[INIT, (b"m0005", 0x0001), (b"p0005", 0x0002)],
+    ),
+    (
+        8,
+        6,
+        b"g/C0006",
+        b"g/C0002",
+        b"f0006",
+        0x0019,
+        &[INIT, (b"m0006", 0x0001)],
+    ),
+    (
+        8,
+        7,
+        b"g/C0007",
+        b"g/C0003",
+        b"f0007",
+        0x0009,
+        &[INIT, (b"m0007", 0x0011)],
+    ),
+    (64, 59, b"g/C0059", b"g/C0029", b"f0059", 0x0009, &[INIT]),
+    (
+        64,
+        63,
+        b"g/C0063",
+        b"g/C0031",
+        b"f0063",
+        0x0009,
+        &[INIT, (b"m0063", 0x0011)],
+    ),
+];
+
+fn methods(alloc: Global, list: &[Method]) -> Result<Vec<Member>, AllocError> {
+    let mut methods = Vec::new(alloc);
+    for (name, flags) in list {
+        methods.push(Member::new(alloc, name, b"()V", *flags)?)?;
+    }
+    Ok(methods)
+}
+
+// The record of a row.
+fn class(alloc: Global, row: &Row) -> Result<ClassFacts, AllocError> {
+    let (_, _, name, superclass, field, flags, list) = row;
+    let mut fields = Vec::new(alloc);
+    fields.push(Member::new(alloc, field, b"I", *flags)?)?;
+    let methods = methods(alloc, list)?;
+    let name = Name::from_bytes(alloc, name)?;
+    let superclass = Name::from_bytes(alloc, superclass)?;
+    Ok(ClassFacts::plain(alloc, name, Some(superclass), fields, methods))
+}
+
+// Whether the release has so many classes, all valid, and at its place the one of the row.
+fn has(alloc: Global, release: &Items<ClassFacts>, row: &Row) -> Result<bool, AllocError> {
+    let wanted = class(alloc, row)?;
+    let classes = release.as_slice();
+    for made in classes {
+        if !is_valid(alloc, made)? {
+            return Ok(false);
+        }
+    }
+    Ok(classes.len() == row.0 as usize && classes.get(row.1) == Some(&wanted))
+}
+
+#[test]
+fn classes_of_the_old_release(rt: HostRuntime) -> Result<(), Fail> {
+    for row in OLD {
+        assert!(rt; row.0 >= 1 && row.0 <= 4096);
+        let made = generate(rt.alloc(), row.0)?;
+        assert!(rt; has(rt.alloc(), &made.old, row)?, "{row:?}");
+    }
+    Ok(())
+}
+
+#[test]
+fn classes_of_the_new_release(rt: HostRuntime) -> Result<(), Fail> {
+    for row in NEW {
+        assert!(rt; row.0 >= 1 && row.0 <= 4096);
+        let made = generate(rt.alloc(), row.0)?;
+        assert!(rt; has(rt.alloc(), &made.new, row)?, "{row:?}");
+    }
+    Ok(())
+}
+
+#[test]
+fn the_platform_is_its_root(rt: HostRuntime) -> Result<(), Fail> {
+    let alloc = rt.alloc();
+    let made = generate(alloc, 8)?;
+    let name = Name::from_bytes(alloc, b"java/lang/Object")?;
+    let root = ClassFacts::plain(alloc, name, None, Vec::new(alloc), methods(alloc, &[INIT])?);
+    let platform = made.platform.as_slice();
+    assert!(rt; platform.len() == 1 && platform.get(0) == Some(&root));
+    Ok(())
+}
+
+/// How many classes, findings, collisions and notes there are, and the text.
+type TextRow = (u32, u32, u32, u32, &'static str);
+
+const TEXTS: &[TextRow] = &[
+    (
+        8,
+        4,
+        1,
+        0,
+        "classes 8\nfindings 4\ncollisions 1\nnotes 0\nverdict incompatible\n",
+    ),
+    (
+        64,
+        86,
+        32,
+        0,
+        "classes 64\nfindings 86\ncollisions 32\nnotes 0\nverdict incompatible\n",
+    ),
+    (
+        1,
+        0,
+        0,
+        0,
+        "classes 1\nfindings 0\ncollisions 0\nnotes 0\nverdict compatible\n",
+    ),
+    (
+        4096,
+        0,
+        1,
+        2,
+        "classes 4096\nfindings 0\ncollisions 1\nnotes 2\nverdict compatible\n",
+    ),
+];
+
+fn finding(alloc: Global) -> Result<Finding, AllocError> {
+    Ok(Finding {
+        rule: 1,
+        class: Name::from_bytes(alloc, b"p/A")?,
+        key: None,
+        target: None,
+        act: Act::ClassRef,
+        seat: None,
+        error: LinkError::NoClassDefFoundError,
+    })
+}
+
+fn collision(alloc: Global) -> Result<Collision, AllocError> {
+    Ok(Collision {
+        rule: 11,
+        class: Name::from_bytes(alloc, b"p/A")?,
+        key: Key {
+            name: Name::from_bytes(alloc, b"run")?,
+            descriptor: Name::from_bytes(alloc, b"()V")?,
+        },
+        act: Act::InvokeVirtual,
+        error: LinkError::IllegalAccessError,
+    })
+}
+
+fn note(alloc: Global) -> Result<Note, AllocError> {
+    Ok(Note::Unloadable {
+        old: true,
+        class: Name::from_bytes(alloc, b"p/A")?,
+        error: LinkError::ClassCircularityError,
+    })
+}
+
+// A verdict of so many findings, collisions and notes.
+fn verdict(alloc: Global, row: &TextRow) -> Result<Verdict, AllocError> {
+    let mut findings = Vec::new(alloc);
+    for _ in 0..row.1 {
+        findings.push(finding(alloc)?)?;
+    }
+    let mut collisions = Vec::new(alloc);
+    for _ in 0..row.2 {
+        collisions.push(collision(alloc)?)?;
+    }
+    let mut notes = Vec::new(alloc);
+    for _ in 0..row.3 {
+        notes.push(note(alloc)?)?;
+    }
+    Ok(Verdict {
+        findings: Items::from_vec(findings),
+        collisions: Items::from_vec(collisions),
+        notes: Items::from_vec(notes),
+    })
+}
+
+#[test]
+fn texts_of_five_lines(rt: HostRuntime) -> Result<(), Fail> {
+    for row in TEXTS {
+        let verdict = verdict(rt.alloc(), row)?;
+        let text = made_text(rt.alloc(), row.0, &verdict)?;
+        assert_eq!(rt; text.as_slice(), row.4.as_bytes(), "{row:?}");
+    }
+    Ok(())
+}

@@ -1,0 +1,135 @@
+//! The JSON of findings, collisions and notes.
+ghost use Rattle.std.specs.Prelude.{◌≡◌, ◌+◌, IfOk, map, length};
+ghost use Rattle.serde_json.specs.Data.{string};
+ghost use Rattle.serde_json.specs.View.{view};
+ghost use Rattle.jc_facts.specs.print.Text.{printed, printed_key};
+ghost use Rattle.jc_report.specs.Json.{name_or_null, member_or_null, finding_json, collision_json, note_with, note_json, findings_json, collisions_json, notes_json};
+
+use crate::printed::{push_key, push_printed};
+use crate::printed_words::{act_word, error_name, rule_text, side_word};
+use jc_base::name::Name;
+use jc_facts::finding::Finding;
+use jc_facts::key::Key;
+use jc_facts::verdict::{Collision, Note};
+use serde_json::{Value, json};
+use std::alloc::{AllocError, Global};
+
+fn name_value(alloc: Global, name: &Name) -> Result<Value, AllocError>
+    ensures { IfOk result (λ v. view v ≡ string (printed name.now)) }
+{
+    let mut text = String::new(alloc);
+    push_printed(&mut text, name.as_bytes())?;
+    Ok(Value::String(text))
+}
+
+fn name_or_null_value(alloc: Global, name: &Option<Name>) -> Result<Value, AllocError>
+    ensures { IfOk result (λ v. view v ≡ name_or_null name.now) }
+{
+    match name {
+        Some(name) => name_value(alloc, name),
+        None => Ok(Value::Null),
+    }
+}
+
+fn key_value(alloc: Global, key: &Key) -> Result<Value, AllocError>
+    ensures { IfOk result (λ v. view v ≡ string (printed_key key.now)) }
+{
+    let mut text = String::new(alloc);
+    push_key(&mut text, key)?;
+    Ok(Value::String(text))
+}
+
+fn member_value(alloc: Global, finding: &Finding) -> Result<Value, AllocError>
+    ensures { IfOk result (λ v. view v ≡ member_or_null finding.now.key finding.now.target) }
+{
+    match &finding.key {
+        Some(key) => key_value(alloc, key),
+        None => name_or_null_value(alloc, &finding.target),
+    }
+}
+
+fn finding_value(alloc: Global, number: usize, finding: &Finding) -> Result<Value, AllocError>
+    ensures { IfOk result (λ v. view v ≡ finding_json number finding.now) }
+{
+    json!(in alloc; {
+        "class": name_value(alloc, &finding.class)?,
+        "error": error_name(finding.error),
+        "member": member_value(alloc, finding)?,
+        "number": number,
+        "operation": act_word(finding.act),
+        "rule": rule_text(alloc, finding.rule)?,
+        "seat": name_or_null_value(alloc, &finding.seat)?
+    })
+}
+
+fn collision_value(alloc: Global, number: usize, collision: &Collision) -> Result<Value, AllocError>
+    ensures { IfOk result (λ v. view v ≡ collision_json number collision.now) }
+{
+    json!(in alloc; {
+        "class": name_value(alloc, &collision.class)?,
+        "error": error_name(collision.error),
+        "member": key_value(alloc, &collision.key)?,
+        "number": number,
+        "operation": act_word(collision.act),
+        "rule": rule_text(alloc, collision.rule)?,
+        "seat": null
+    })
+}
+
+fn note_value(alloc: Global, note: &Note) -> Result<Value, AllocError>
+    ensures { IfOk result (λ v. view v ≡ note_json note.now) }
+{
+    match note {
+        Note::Unloadable { old, class, error } => json!(in alloc; {
+            "class": name_value(alloc, class)?,
+            "detail": error_name(*error),
+            "kind": "unloadable",
+            "member": null,
+            "side": side_word(*old)
+        }),
+        Note::Fixed { class, key } => json!(in alloc; {
+            "class": name_value(alloc, class)?,
+            "detail": null,
+            "kind": "constant",
+            "member": key_value(alloc, key)?,
+            "side": null
+        }),
+    }
+}
+
+/// The findings, numbered from 1.
+pub fn finding_values(alloc: Global, findings: &[Finding]) -> Result<Vec<Value>, AllocError>
+    ensures { IfOk result (λ values. map view values.items ≡ findings_json 1 findings.now) }
+{
+    let mut values = Vec::new(alloc);
+    for (i, finding) in findings.iter().enumerate() {
+        values.push(finding_value(alloc, i + 1, finding)?)?;
+    }
+    Ok(values)
+}
+
+/// The collisions, numbered from the number after those of the findings.
+pub fn collision_values(
+    alloc: Global,
+    findings: &[Finding],
+    collisions: &[Collision],
+) -> Result<Vec<Value>, AllocError>
+    ensures { IfOk result (λ values. map view values.items ≡ collisions_json (length findings.now + 1) collisions.now) }
+{
+    let mut values = Vec::new(alloc);
+    for (i, collision) in collisions.iter().enumerate() {
+        values.push(collision_value(alloc, findings.len() + i + 1, collision)?)?;
+    }
+    Ok(values)
+}
+
+/// The notes.
+pub fn note_values(alloc: Global, notes: &[Note]) -> Result<Vec<Value>, AllocError>
+    ensures { IfOk result (λ values. map view values.items ≡ notes_json notes.now) }
+{
+    let mut values = Vec::new(alloc);
+    for note in notes {
+        values.push(note_value(alloc, note)?)?;
+    }
+    Ok(values)
+}
