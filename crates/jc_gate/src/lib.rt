@@ -1,0 +1,10 @@
+//! Gates: what sees the rules of findings and collisions, and says whether they pass.
+#![tactic(auto)]
+
+pub mod ask;
+pub mod at_most;
+pub mod collisions;
+pub mod gate;
+pub mod links;
+#[cfg(test)]
+mod tests;

@@ -1,0 +1,12 @@
+use Rattle.std.proofs.lemmas.Result.{IfOk-weaker}
+use Rattle.jc_words.proofs.Added.{added}
+use Rattle.jc_words.proofs.check.arguments.Goals as goal
+
+pub returns : goal.returns
+returns c =
+    let one = added _ _ _ _ _ c.in_ok-arg.ensures c.required.ensures.local c.required.ensures.rule c.bare.ensures in
+    let two = added _ _ _ _ _ c.in_ok-arg-2.ensures c.required-2.ensures.local c.required-2.ensures.rule one in
+    let three = added _ _ _ _ _ c.in_ok-arg-3.ensures c.required-3.ensures.local c.required-3.ensures.rule two in
+    let four = added _ _ _ _ _ c.in_ok-arg-4.ensures c.option.ensures.local c.option.ensures.rule three in
+    let five = added _ _ _ _ _ c.in_ok-arg-5.ensures c.flag.ensures.local c.flag.ensures.rule four in
+    IfOk-weaker _ _ _ (λ x h. added _ x _ _ _ h c.option-2.ensures.local c.option-2.ensures.rule five) c.arg-6.ensures

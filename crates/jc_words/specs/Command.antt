@@ -1,0 +1,95 @@
+-- What the words ask for.
+use Rattle.std.specs.Prelude.{Bool, List, [], ◌∷◌, Option, Some, None, codes, ◌==◌, if◌then◌else◌, option_map}
+use Rattle.std.specs.Prelude.{Result, Ok, Err}
+use Rattle.std.specs.List.{slice_split}
+use Rattle.std.specs.Str.{bytes_eq}
+use Rattle.clap.specs.Walk.{Row, Text, first_of}
+use Rattle.clap.specs.Simple.{App}
+use Rattle.jc_words.specs.Arguments.{option_rule, required_rule, flag_rule, command_with, taken, value_of, is_on}
+use Rattle.jc_words.specs.declared.usage.Usage.{Usage}
+use Rattle.jc_words.specs.declared.usage.Usage.TheVariants as usages
+
+-- a check of two releases: the roots of the platform and of both, the folder for the witnesses where they are wanted, whether the report is JSON,
+-- and the names of the gates that are asked
+pub record CheckOf : Type 0 where
+  pub platform : Text
+  pub old : Text
+  pub new : Text
+  pub witness : Option Text
+  pub json : Bool
+  pub gates : List Text
+
+-- the linking of clients: the roots of the platform, of the release and of the clients
+pub record LinkOf : Type 0 where
+  pub platform : Text
+  pub release : Text
+  pub client : Text
+
+-- what is asked for
+pub data CommandOf : Type 0 where
+  CheckCommand : CheckOf → CommandOf
+  LinkCommand : LinkOf → CommandOf
+
+-- ---- check
+
+abbrev pub check_arguments : App
+check_arguments = command_with (codes "check")
+    (required_rule (codes "platform") ∷ required_rule (codes "old") ∷ required_rule (codes "new")
+    ∷ option_rule (codes "witness") ∷ flag_rule (codes "json") ∷ option_rule (codes "gate") ∷ [])
+
+-- the gates that a value of `--gate` names, which is cut at each comma, or the one gate without it
+abbrev pub gate_names : Option Text → List Text
+gate_names None = codes "links" ∷ []
+gate_names (Some value) = slice_split (λ b. b == 0x2c) value
+
+-- the check of these matches
+abbrev pub check_in : List Row → CheckOf
+check_in rows = record {
+  platform = value_of (codes "platform") rows;
+  old = value_of (codes "old") rows;
+  new = value_of (codes "new") rows;
+  witness = first_of (codes "witness") rows;
+  json = is_on (codes "json") rows;
+  gates = gate_names (first_of (codes "gate") rows);
+}
+
+-- the check of the words after `check`, where `clap` takes them
+abbrev pub check_by : List Text → Option CheckOf
+check_by words = option_map check_in (taken check_arguments words)
+
+-- ---- link
+
+abbrev pub link_arguments : App
+link_arguments = command_with (codes "link")
+    (required_rule (codes "platform") ∷ required_rule (codes "release") ∷ required_rule (codes "client") ∷ [])
+
+-- the linking of these matches
+abbrev pub link_in : List Row → LinkOf
+link_in rows = record {
+  platform = value_of (codes "platform") rows;
+  release = value_of (codes "release") rows;
+  client = value_of (codes "client") rows;
+}
+
+-- the linking of the words after `link`, where `clap` takes them
+abbrev pub link_by : List Text → Option LinkOf
+link_by words = option_map link_in (taken link_arguments words)
+
+-- ---- all commands
+
+-- a command that doesn't take the words is a fault of them
+abbrev pub or_words : Option CommandOf → Result CommandOf Usage
+or_words None = Err usages.Words
+or_words (Some command) = Ok command
+
+-- the command of this name, by the words after it
+abbrev pub command_by : Text → List Text → Result CommandOf Usage
+command_by name words =
+    if bytes_eq name (codes "check") then or_words (option_map CheckCommand (check_by words))
+    else if bytes_eq name (codes "link") then or_words (option_map LinkCommand (link_by words))
+    else Err (usages.UnknownCommand name)
+
+-- what the words ask for, or the first fault of them: the first word names a command, and `clap` reads those after it
+abbrev pub asked : List Text → Result CommandOf Usage
+asked [] = Err usages.NoCommand
+asked (name ∷ words) = command_by name words

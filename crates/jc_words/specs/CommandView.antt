@@ -1,0 +1,24 @@
+-- Commands, apart from where they lie in memory.
+use Rattle.std.specs.Prelude.{option_map}
+use Rattle.jc_words.specs.declared.check.Check.{Check}
+use Rattle.jc_words.specs.declared.link.Link.{Link}
+use Rattle.jc_words.specs.declared.command.Command.{Command}
+use Rattle.jc_words.specs.declared.command.Command.TheVariants as commands
+use Rattle.jc_words.specs.Command.{CheckOf, LinkOf, CommandOf, CheckCommand, LinkCommand, gate_names}
+
+abbrev pub check_of : Check → CheckOf
+check_of c = record {
+  platform = c.platform.now;
+  old = c.old.now;
+  new = c.new.now;
+  witness = option_map (λ s. s.now) c.witness;
+  json = c.json;
+  gates = gate_names (option_map (λ s. s.now) c.gate);
+}
+
+abbrev pub link_of : Link → LinkOf
+link_of l = record { platform = l.platform.now; release = l.release.now; client = l.client.now }
+
+abbrev pub command_of : Command → CommandOf
+command_of (commands.Check c) = CheckCommand (check_of c)
+command_of (commands.Link l) = LinkCommand (link_of l)

@@ -1,0 +1,4 @@
+pub mod Arguments
+pub mod Command
+pub mod CommandView
+pub mod Worked

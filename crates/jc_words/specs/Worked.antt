@@ -1,0 +1,17 @@
+-- Words as they are typed, and what some of them ask for.
+use Rattle.std.specs.Prelude.{false, List, [], ◌∷◌, None, ◌==◌, codes}
+use Rattle.std.specs.List.{slice_split}
+use Rattle.clap.specs.Walk.{Text}
+use Rattle.jc_words.specs.Command.{CheckOf, LinkOf}
+
+-- the words of a line, which is cut at each space
+abbrev pub typed : Text → List Text
+typed = slice_split (λ b. b == 0x20)
+
+-- the check with the platform P of the releases O and N
+abbrev pub plain_check : CheckOf
+plain_check = record { platform = codes "P"; old = codes "O"; new = codes "N"; witness = None; json = false; gates = codes "links" ∷ [] }
+
+-- the linking of the clients C with the platform P and the release R
+abbrev pub plain_link : LinkOf
+plain_link = record { platform = codes "P"; release = codes "R"; client = codes "C" }

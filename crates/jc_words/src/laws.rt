@@ -1,0 +1,74 @@
+//! Laws of what is asked: what some words ask for, and that what has to be there is.
+ghost use Rattle.std.specs.Prelude.{◌≡◌, List, [], ◌∷◌, Ok, Err, Some, true, codes, IsSome};
+ghost use Rattle.clap.specs.Words.{Row, Text, first_of};
+ghost use Rattle.jc_words.specs.Arguments.{taken};
+ghost use Rattle.jc_words.specs.Command.{asked, CheckCommand, LinkCommand, check_arguments, link_arguments};
+ghost use Rattle.jc_words.specs.declared.usage.Usage.TheVariants as usages;
+ghost use Rattle.jc_words.specs.Worked.{typed, plain_check, plain_link};
+
+/// Options stand in any order, and a value follows its option or an equals sign, whatever it is.
+pub fn options_in_any_order()
+    ensures check { asked (typed (codes "check --platform P --old O --new N")) ≡ Ok (CheckCommand plain_check) }
+    ensures check_turned_round { asked (typed (codes "check --new N --old O --platform P")) ≡ Ok (CheckCommand plain_check) }
+    ensures check_with_all { asked (typed (codes "check --new=N --json --old O --gate few --witness D --platform=P")) ≡ Ok (CheckCommand (record plain_check { witness = Some (codes "D"); json = true; gates = codes "few" ∷ [] })) }
+    ensures gates { asked (typed (codes "check --platform P --old O --new N --gate links,,few")) ≡ Ok (CheckCommand (record plain_check { gates = codes "links" ∷ [] ∷ codes "few" ∷ [] })) }
+    ensures gate_empty { asked (typed (codes "check --platform P --old O --new N --gate=")) ≡ Ok (CheckCommand (record plain_check { gates = [] ∷ [] })) }
+    ensures link { asked (typed (codes "link --platform P --release R --client C")) ≡ Ok (LinkCommand plain_link) }
+    ensures link_turned_round { asked (typed (codes "link --client=C --platform P --release R")) ≡ Ok (LinkCommand plain_link) }
+    ensures value_empty { asked (typed (codes "check --platform= --old O --new N")) ≡ Ok (CheckCommand (record plain_check { platform = [] })) }
+    ensures value_hyphen { asked (typed (codes "check --platform - --old O --new N")) ≡ Ok (CheckCommand (record plain_check { platform = codes "-" })) }
+    ensures value_with_equals_sign { asked (typed (codes "check --platform=a=b --old O --new N")) ≡ Ok (CheckCommand (record plain_check { platform = codes "a=b" })) }
+    ensures value_as_a_command { asked (typed (codes "check --platform link --old O --new N")) ≡ Ok (CheckCommand (record plain_check { platform = codes "link" })) }
+    ensures dashes_last { asked (typed (codes "check --platform P --old O --new N --")) ≡ Ok (CheckCommand plain_check) }
+{}
+
+/// No command takes words that leave out an option that has to be there, use one twice or without
+/// its value, give a flag a value, or hold a word of no option or an option that it doesn't have, be
+/// it for help or a version.
+pub fn words_not_taken()
+    ensures no_option { asked (typed (codes "check")) ≡ Err usages.Words }
+    ensures one_option { asked (typed (codes "check --platform P")) ≡ Err usages.Words }
+    ensures all_options_but_one { asked (typed (codes "check --platform P --new N")) ≡ Err usages.Words }
+    ensures link_but_one { asked (typed (codes "link --platform P --release R")) ≡ Err usages.Words }
+    ensures gate_without_value { asked (typed (codes "check --platform P --old O --new N --gate")) ≡ Err usages.Words }
+    ensures gate_twice { asked (typed (codes "check --platform P --old O --new N --gate links --gate few")) ≡ Err usages.Words }
+    ensures twice { asked (typed (codes "check --platform P --old O --new N --old O")) ≡ Err usages.Words }
+    ensures link_twice { asked (typed (codes "link --platform P --release R --client C --client C")) ≡ Err usages.Words }
+    ensures flag_twice { asked (typed (codes "check --platform P --old O --new N --json --json")) ≡ Err usages.Words }
+    ensures without_value { asked (typed (codes "check --platform P --old O --new")) ≡ Err usages.Words }
+    ensures option_as_value { asked (typed (codes "check --platform --old O --new N")) ≡ Err usages.Words }
+    ensures dashes_as_value { asked (typed (codes "check --old O --new N --platform -- P")) ≡ Err usages.Words }
+    ensures value_of_flag { asked (typed (codes "check --platform P --old O --new N --json=x")) ≡ Err usages.Words }
+    ensures true_of_flag { asked (typed (codes "check --platform P --old O --new N --json=true")) ≡ Err usages.Words }
+    ensures word_of_no_option { asked (typed (codes "check --platform P --old O --new N more")) ≡ Err usages.Words }
+    ensures empty_word { asked (typed (codes "check --platform P --old O --new N ")) ≡ Err usages.Words }
+    ensures word_after_dashes { asked (typed (codes "check --platform P --old O --new N -- more")) ≡ Err usages.Words }
+    ensures unknown_option { asked (typed (codes "check --platform P --old O --new N --quiet")) ≡ Err usages.Words }
+    ensures option_of_link { asked (typed (codes "check --platform P --old O --new N --client C")) ≡ Err usages.Words }
+    ensures option_of_check { asked (typed (codes "link --platform P --release R --client C --json")) ≡ Err usages.Words }
+    ensures help { asked (typed (codes "check --platform P --old O --new N --help")) ≡ Err usages.Words }
+    ensures short_help { asked (typed (codes "check --platform P --old O --new N -h")) ≡ Err usages.Words }
+    ensures version { asked (typed (codes "check --platform P --old O --new N --version")) ≡ Err usages.Words }
+    ensures part_of_an_option { asked (typed (codes "check --plat P --old O --new N")) ≡ Err usages.Words }
+    ensures one_hyphen { asked (typed (codes "check -platform P --old O --new N")) ≡ Err usages.Words }
+{}
+
+/// The first word is the command, whatever follows.
+pub fn command_first()
+    ensures no_word { asked [] ≡ Err usages.NoCommand }
+    ensures unknown_command { asked (typed (codes "compare")) ≡ Err (usages.UnknownCommand (codes "compare")) }
+    ensures unknown_before_words { asked (typed (codes "compare --platform P --platform P")) ≡ Err (usages.UnknownCommand (codes "compare")) }
+    ensures empty_command { asked (typed (codes "")) ≡ Err (usages.UnknownCommand []) }
+    ensures part_of_a_command { asked (typed (codes "chec")) ≡ Err (usages.UnknownCommand (codes "chec")) }
+    ensures other_case { asked (typed (codes "Check")) ≡ Err (usages.UnknownCommand (codes "Check")) }
+    ensures option_first { asked (typed (codes "--platform P check --old O --new N")) ≡ Err (usages.UnknownCommand (codes "--platform")) }
+    ensures help { asked (typed (codes "--help")) ≡ Err (usages.UnknownCommand (codes "--help")) }
+{}
+
+/// Where `clap` takes the words, each option that has to be there has a value.
+pub fn required_options_have_values()
+    ensures check { (words : List Text) (rows : List Row) → taken check_arguments words ≡ Some rows
+        → IsSome (first_of (codes "platform") rows) × IsSome (first_of (codes "old") rows) × IsSome (first_of (codes "new") rows) }
+    ensures link { (words : List Text) (rows : List Row) → taken link_arguments words ≡ Some rows
+        → IsSome (first_of (codes "platform") rows) × IsSome (first_of (codes "release") rows) × IsSome (first_of (codes "client") rows) }
+{}
