@@ -1,10 +1,10 @@
 -- The answers of a run that puts a report, and of one that puts why there is none.
-use Rattle.std.proofs.Common.{◌≡◌, ◌≢◌, ◌≤◌, ◌⊎◌, ◌==◌, inl, inr, Bool, true, false, ℕ, List, [], Option, Some, refl, sym, ap, subst, ◌∙◌, arith}
+use Rattle.std.proofs.Common.{◌≡◌, ◌≢◌, ◌≤◌, ◌⊎◌, ◌==◌, inl, inr, Bool, true, false, ℕ, List, [], Option, Some, None, refl, sym, ap, subst, ◌∙◌, arith}
+use Rattle.std.specs.Prelude.{Result, Ok, IfOk}
 use Rattle.jc_base.specs.Outside.{FileOf}
 use Rattle.jc_base.specs.States.{TreesState}
 use Rattle.jc_facts.specs.declared.verdict.Verdict.{Verdict}
 use Rattle.jc_facts.specs.Names.{Bytes}
-use Rattle.jc_facts.specs.print.Text.{text_of}
 use Rattle.jcompat.specs.declared.file_fault.FileFault.{FileFault}
 use Rattle.jcompat.specs.declared.file_fault.FileFault.TheVariants as faults
 use Rattle.jcompat.specs.declared.file_fault.TreeFault.TheVariants as tree_faults
@@ -12,16 +12,18 @@ use Rattle.jcompat.specs.declared.report.Report.{Report}
 use Rattle.jcompat.specs.declared.status.TheConstants.{PASSED, NOT_PASSED, WRITE_FAULT, NO_MEMORY, LIMIT}
 use Rattle.jcompat.specs.declared.stop.Stop.{Stop}
 use Rattle.jcompat.specs.declared.stop.Stop.TheVariants as stops
-use Rattle.jcompat.specs.Answers.{Ran, Answers, Due, HasPassed, due_bytes, Puts, IsStopped, CutsReport, CutsRefusal, IsQuiet, PutsAll, PutsFront, OfFiles, HasCause, HasFailed}
-use Rattle.jcompat.specs.Check.{IsCompatible, IsIncompatible}
+use Rattle.jcompat.specs.Answers.{Ran, Answers, Due, has_passed, due_bytes, Puts, PutsWitnesses, IsStopped, CutsWitnesses, CutsReport, CutsRefusal, IsQuiet, IsUntouched, PutsAll, PutsFront, OfFiles, HasCause, HasFailed}
+use Rattle.jcompat.specs.Check.{IsCompatible, IsIncompatible, IsWitnessed, verdict_bytes, old_side, new_side, puts_below}
 use Rattle.jcompat.specs.ClassFiles.{Told}
-use Rattle.jcompat.specs.Command.{CommandOf, CheckOf, CheckCommand, LinkCommand, asked}
-use Rattle.jcompat.specs.Reports.{ReportOf, Passes}
+use Rattle.jcompat.specs.Command.{CommandOf, CheckOf, CheckCommand, LinkCommand, witness_dir, asked}
+use Rattle.jcompat.specs.Reports.{ReportOf}
 use Rattle.jcompat.specs.Stop.{line_of, file_status, status_of}
-use Rattle.jcompat.specs.steps.Report.{IsReportOf, Reports, status_by}
-use Rattle.jcompat.specs.steps.Put.{IsPutWith}
+use Rattle.jcompat.specs.Witness.{PutsFiles}
+use Rattle.jcompat.specs.steps.Report.{IsChecked, IsReportOf, Reports, dir_in, puts_in, passes_by, status_by}
+use Rattle.jcompat.specs.steps.Put.{IsPutWith, IsPutAfter, IsCutBefore}
+use Rattle.jcompat.proofs.Asked.{asked_without}
 use Rattle.jcompat.proofs.Events.{not_refused, reported_accepted, refused_status, accepted_status}
-use Rattle.jcompat.proofs.Records.{same_some}
+use Rattle.jcompat.proofs.Results.{same_ok}
 
 -- a status isn't two numbers
 clash : {P : Type 0} (s m n : ℕ) → s ≡ m → s ≡ n → (m == n) ≡ false → P
@@ -39,14 +41,17 @@ cut_clash : {P : Type 0} (s n : ℕ) → (s ≡ WRITE_FAULT) ⊎ (s ≡ NO_MEMOR
 cut_clash s n (inl five) is e f = clash s 5 n five is e
 cut_clash s n (inr six) is e f = clash s 6 n six is f
 
+-- what holds of the value holds of this one
+if_ok : {A E : Type 0} (r : Result A E) (x : A) (P : A → Type 0) → r ≡ Ok x → IfOk r P → P x
+if_ok {A} {E} r x P e h = subst (λ (s : Result A E). IfOk s P) e h
+
 -- ---- a report was put
 
 -- what a check's report upholds
-record Upheld (content : Option (List FileOf)) (check : CheckOf) (report : Report) (Says : Verdict → Type 0) (Holds : List FileOf → Verdict → Type 0) : Type 0 where
+record Upheld (content : Option (List FileOf)) (check : CheckOf) (report : Report) : Type 0 where
   of : Verdict
-  says : Says of
-  holds : Told content (λ files. Holds files of)
-  text : report.text.items ≡ text_of of
+  checked : Told content (λ files. IsChecked files check of (puts_in report.shown))
+  text : report.text.items ≡ verdict_bytes check.json of
 
 same_check : (c d : CheckOf) → CheckCommand c ≡ CheckCommand d → c ≡ d
 same_check c d e = cc
@@ -54,52 +59,54 @@ same_check c d e = cc
 no_link : {P : Type 0} (l : _) (d : CheckOf) → LinkCommand l ≡ CheckCommand d → P
 no_link l d e = absurd (cc)
 
-module _ (trees : TreesState) (report : Report) (check : CheckOf) where
-  compatible_by : (command : CommandOf) → command ≡ CheckCommand check → IsReportOf command trees report → report.passes ≡ true
-      → Upheld trees.content check report (λ v. v.findings ≡ []) (λ files v. IsCompatible files check v)
-  compatible_by (CheckCommand c) e is p =
-      let none = is.tells.passes p in record {
-        of = is.of;
-        says = none;
-        holds = subst (λ (d : CheckOf). Told trees.content (λ files. IsCompatible files d is.of)) (same_check c check e) (is.upholds.0 none);
-        text = is.tells.text;
-      }
-  compatible_by (LinkCommand l) e is p = no_link l check e
+upheld : (trees : TreesState) (report : Report) (check : CheckOf) (command : CommandOf) → command ≡ CheckCommand check → IsReportOf command trees report → Upheld trees.content check report
+upheld trees report check (CheckCommand c) e is = record {
+  of = is.of;
+  checked = subst (λ (d : CheckOf). Told trees.content (λ files. IsChecked files d is.of (puts_in report.shown))) (same_check c check e) is.upholds;
+  text = subst (λ (d : CheckOf). report.text.items ≡ verdict_bytes d.json is.of) (same_check c check e) is.tells.text;
+}
+upheld trees report check (LinkCommand l) e is = no_link l check e
 
-  incompatible_by : (command : CommandOf) → command ≡ CheckCommand check → IsReportOf command trees report → report.passes ≡ false
-      → Upheld trees.content check report (λ v. v.findings ≢ []) (λ files v. IsIncompatible files check v)
-  incompatible_by (CheckCommand c) e is p =
-      let some = is.tells.fails p in record {
-        of = is.of;
-        says = some;
-        holds = subst (λ (d : CheckOf). Told trees.content (λ files. IsIncompatible files d is.of)) (same_check c check e) (is.upholds.1 some);
-        text = is.tells.text;
-      }
-  incompatible_by (LinkCommand l) e is p = no_link l check e
+module _ (r : Ran) (report : Report) (is : Reports r.gates r.words r.trees.before report)
+    (put : IsPutAfter (puts_in report.shown) r.folder report.text.items (status_by (passes_by r.gates report.condition)) r.out r.status ⊎ IsCutBefore (dir_in report.shown) (puts_in report.shown) r.folder r.out r.status)
+    (untouched : dir_in report.shown ≡ None → IsUntouched r.folder) (quiet : IsQuiet r.err) (same : r.trees.after.content ≡ r.trees.before.content) where
+  abbrev due : Due r
+  due = record { command = is.command; asked_for = is.asked_for; report = is.is.of; witnesses = puts_in report.shown; is_report = is.is.is_report }
 
-module _ (r : Ran) (report : Report) (is : Reports r.words r.trees.before report) (put : IsPutWith report.text.items (status_by report.passes) r.out r.status)
-    (quiet : IsQuiet r.err) (same : r.trees.after.content ≡ r.trees.before.content) where
+  abbrev passed_by : Bool
+  passed_by = passes_by r.gates report.condition
+
+  -- what was put with status 0, and with status 1
+  record IsWhole : Type 0 where
+    puts : (bytes : Bytes) → report.text.items ≡ bytes → Puts r bytes
+    witnesses : PutsWitnesses r due
+
   data Case : Type 0 where
-    passed : report.passes ≡ true → r.status ≡ PASSED → r.status ≡ status_by report.passes → Case
-    not_passed : report.passes ≡ false → r.status ≡ NOT_PASSED → r.status ≡ status_by report.passes → Case
-    cut : (r.status ≡ WRITE_FAULT) ⊎ (r.status ≡ NO_MEMORY) → Case
+    passed : passed_by ≡ true → r.status ≡ PASSED → IsWhole → Case
+    not_passed : passed_by ≡ false → r.status ≡ NOT_PASSED → IsWhole → Case
+    cut : (r.status ≡ WRITE_FAULT) ⊎ (r.status ≡ NO_MEMORY) → CutsWitnesses r due ⊎ CutsReport r due → Case
 
-  case_of : (b : Bool) → report.passes ≡ b → (r.status ≡ status_by report.passes) ⊎ (r.status ≡ WRITE_FAULT) ⊎ (r.status ≡ NO_MEMORY) → Case
-  case_of true e (inl s) = passed e (s ∙ ap status_by e) s
-  case_of false e (inl s) = not_passed e (s ∙ ap status_by e) s
-  case_of b e (inr h) = cut h
+  module _ (after : IsPutAfter (puts_in report.shown) r.folder report.text.items (status_by passed_by) r.out r.status) where
+    whole : r.status ≡ status_by passed_by → r.status ≢ NO_MEMORY → IsWhole
+    whole s apart = record { puts = λ bytes text. record { output = subst (PutsAll r.out) text (after.put.whole s apart); errors = quiet }; witnesses = after.witnesses }
+
+    in_time : (r.status ≡ WRITE_FAULT) ⊎ (r.status ≡ NO_MEMORY) → CutsReport r due
+    in_time h = record { folder = after.witnesses; output = subst (PutsFront r.out) is.is.tells.text (after.put.cut h); errors = quiet; cause = after.put.cause }
+
+    by_status : (b : Bool) → passed_by ≡ b → (r.status ≡ status_by passed_by) ⊎ (r.status ≡ WRITE_FAULT) ⊎ (r.status ≡ NO_MEMORY) → Case
+    by_status true e (inl s) = let zero : r.status ≡ PASSED = s ∙ ap status_by e in passed e zero (whole s (λ six. clash r.status 0 6 zero six refl))
+    by_status false e (inl s) = let one : r.status ≡ NOT_PASSED = s ∙ ap status_by e in not_passed e one (whole s (λ six. clash r.status 1 6 one six refl))
+    by_status b e (inr h) = cut h (inr (in_time h))
+
+  before_time : IsCutBefore (dir_in report.shown) (puts_in report.shown) r.folder r.out r.status → CutsWitnesses r due
+  before_time k = record { asked_for = (k.asked_for.0, sym is.is.dir_is ∙ k.asked_for.1); folder = k.witnesses; output = k.output; errors = quiet; cause = k.cause }
 
   the_case : Case
-  the_case = case_of report.passes refl put.known
-
-  abbrev due : Due r
-  due = record { command = is.command; asked_for = is.asked_for; report = is.is.of; is_report = is.is.is_report }
-
-  whole : (bytes : Bytes) → report.text.items ≡ bytes → r.status ≡ status_by report.passes → r.status ≢ NO_MEMORY → Puts r bytes
-  whole bytes text s apart = record { output = subst (PutsAll r.out) text (put.whole s apart); errors = quiet }
-
-  in_time : (r.status ≡ WRITE_FAULT) ⊎ (r.status ≡ NO_MEMORY) → CutsReport r due
-  in_time h = record { output = subst (PutsFront r.out) is.is.tells.text (put.cut h); errors = quiet; cause = put.cause }
+  the_case = go put
+    where
+      go : IsPutAfter (puts_in report.shown) r.folder report.text.items (status_by passed_by) r.out r.status ⊎ IsCutBefore (dir_in report.shown) (puts_in report.shown) r.folder r.out r.status → Case
+      go (inl after) = by_status after passed_by refl after.put.known
+      go (inr k) = cut k.known (inl (before_time k))
 
   never : {P : Type 0} (n : ℕ) → (0 == n) ≡ false → (1 == n) ≡ false → (5 == n) ≡ false → (6 == n) ≡ false → r.status ≡ n → P
   never {P} n e f g h s = go the_case
@@ -107,64 +114,83 @@ module _ (r : Ran) (report : Report) (is : Reports r.words r.trees.before report
       go : Case → P
       go (passed p zero d) = clash r.status 0 n zero s e
       go (not_passed p one d) = clash r.status 1 n one s f
-      go (cut k) = cut_clash r.status n k s g h
+      go (cut k d) = cut_clash r.status n k s g h
 
   known : Case → r.status ≤ LIMIT
   known (passed p zero d) = at_most r.status 0 zero (omega arith)
   known (not_passed p one d) = at_most r.status 1 one (omega arith)
-  known (cut k) = cut_most r.status k
+  known (cut k d) = cut_most r.status k
 
-  -- what was put with status 0, and with status 1
-  record IsPassed : Type 0 where
-    passes : report.passes ≡ true
-    put_whole : (bytes : Bytes) → report.text.items ≡ bytes → Puts r bytes
-
-  record IsNotPassed : Type 0 where
-    fails : report.passes ≡ false
-    put_whole : (bytes : Bytes) → report.text.items ≡ bytes → Puts r bytes
-
-  is_passed : r.status ≡ PASSED → Case → IsPassed
-  is_passed zero (passed p s d) = record { passes = p; put_whole = λ bytes text. whole bytes text d (λ six. clash r.status 0 6 zero six refl) }
+  is_passed : r.status ≡ PASSED → Case → (passed_by ≡ true) × IsWhole
+  is_passed zero (passed p s d) = (p, d)
   is_passed zero (not_passed p one d) = clash r.status 0 1 zero one refl
-  is_passed zero (cut k) = cut_clash r.status 0 k zero refl refl
+  is_passed zero (cut k d) = cut_clash r.status 0 k zero refl refl
 
-  is_not_passed : r.status ≡ NOT_PASSED → Case → IsNotPassed
+  is_not_passed : r.status ≡ NOT_PASSED → Case → (passed_by ≡ false) × IsWhole
   is_not_passed one (passed p zero d) = clash r.status 0 1 zero one refl
-  is_not_passed one (not_passed p s d) = record { fails = p; put_whole = λ bytes text. whole bytes text d (λ six. clash r.status 1 6 one six refl) }
-  is_not_passed one (cut k) = cut_clash r.status 1 k one refl refl
+  is_not_passed one (not_passed p s d) = (p, d)
+  is_not_passed one (cut k d) = cut_clash r.status 1 k one refl refl
 
-  compatible : (check : CheckOf) → asked r.words ≡ Some (CheckCommand check) → IsPassed → (v : Verdict) × (v.findings ≡ []) × OfFiles r (λ files. IsCompatible files check v) × Puts r (text_of v)
-  compatible check e p =
-      let up = compatible_by r.trees.before report check is.command (same_some (asked r.words) is.command (CheckCommand check) is.asked_for e) is.is p.passes in
-      (up.of, up.says, up.holds, p.put_whole (text_of up.of) up.text)
+  is_cut : (n : ℕ) → (0 == n) ≡ false → (1 == n) ≡ false → r.status ≡ n → Case → CutsWitnesses r due ⊎ CutsReport r due
+  is_cut n e f s (passed p zero d) = clash r.status 0 n zero s e
+  is_cut n e f s (not_passed p one d) = clash r.status 1 n one s f
+  is_cut n e f s (cut k d) = d
 
-  incompatible : (check : CheckOf) → asked r.words ≡ Some (CheckCommand check) → IsNotPassed → (v : Verdict) × (v.findings ≢ []) × OfFiles r (λ files. IsIncompatible files check v) × Puts r (text_of v)
-  incompatible check e p =
-      let up = incompatible_by r.trees.before report check is.command (same_some (asked r.words) is.command (CheckCommand check) is.asked_for e) is.is p.fails in
-      (up.of, up.says, up.holds, p.put_whole (text_of up.of) up.text)
+  words_ask : asked r.words ≡ Ok is.command
+  words_ask = asked_without r.gates (asked r.words) is.command is.asked_for
+
+  module _ (check : CheckOf) (e : asked r.words ≡ Ok (CheckCommand check)) where
+    up : Upheld r.trees.before.content check report
+    up = upheld r.trees.before report check is.command (same_ok (asked r.words) is.command (CheckCommand check) words_ask e) is.is
+
+    checked : IsWhole → (v : Verdict) × Puts r (verdict_bytes check.json v) × (v.findings ≡ [] → OfFiles r (λ files. IsCompatible files check v)) × (v.findings ≢ [] → OfFiles r (λ files. IsIncompatible files check v))
+    checked p = (
+      up.of,
+      p.puts (verdict_bytes check.json up.of) up.text,
+      λ none files told. let c = up.checked files told in record { records = c.records; verdict = c.verdict; none = none; keeps = c.kept none },
+      λ some files told. let c = up.checked files told in record { records = c.records; verdict = c.verdict; some = some; broken = c.broken some; breaks = c.breaks },
+    )
+
+    witnessed : (dir : Bytes) → check.witness ≡ Some dir → IsWhole → (v : Verdict) × OfFiles r (λ files. IsWitnessed files check v dir r.folder) × Puts r (verdict_bytes check.json v)
+    witnessed dir below p = (
+      up.of,
+      λ files told.
+          let c = up.checked files told in record {
+            records = c.records;
+            verdict = c.verdict;
+            put = subst (PutsFiles r.folder) (c.puts_are ∙ ap (λ d. puts_below d (old_side c.records) (new_side c.records) up.of) below) p.witnesses;
+            shown = c.shown;
+          },
+      p.puts (verdict_bytes check.json up.of) up.text,
+    )
+
+  has_whole : (r.status ≡ PASSED) ⊎ (r.status ≡ NOT_PASSED) → IsWhole
+  has_whole (inl zero) = (is_passed zero the_case).1
+  has_whole (inr one) = (is_not_passed one the_case).1
 
   accepted : Case → (r.status ≡ PASSED) ⊎ (r.status ≡ NOT_PASSED) ⊎ HasFailed r.status
   accepted (passed p zero d) = inl zero
   accepted (not_passed p one d) = inr (inl one)
-  accepted (cut (inl five)) = inr (inr (inr (inl five)))
-  accepted (cut (inr six)) = inr (inr (inr (inr six)))
+  accepted (cut (inl five) d) = inr (inr (inr (inl five)))
+  accepted (cut (inr six) d) = inr (inr (inr (inr six)))
 
   pub report_answers : Answers r
   report_answers = record {
     known = known the_case;
-    passed = λ zero. let p = is_passed zero the_case in (due, is.is.tells.passes p.passes, p.put_whole (due_bytes due) is.is.tells.text);
-    not_passed = λ one. let p = is_not_passed one the_case in (due, is.is.tells.fails p.fails, p.put_whole (due_bytes due) is.is.tells.text);
-    compatible = λ zero check e. compatible check e (is_passed zero the_case);
-    incompatible = λ one check e. incompatible check e (is_not_passed one the_case);
+    passed = λ zero. let p = is_passed zero the_case in (due, sym (is.is.tells.answer r.gates) ∙ p.0, p.1.puts (due_bytes due) is.is.tells.text, p.1.witnesses);
+    not_passed = λ one. let p = is_not_passed one the_case in (due, sym (is.is.tells.answer r.gates) ∙ p.0, p.1.puts (due_bytes due) is.is.tells.text, p.1.witnesses);
+    checked = λ answered check e. checked check e (has_whole answered);
+    witnessed = λ answered check e dir below. witnessed check e dir below (has_whole answered);
+    unwitnessed = λ none. untouched (is.is.dir_is ∙ if_ok (asked r.words) is.command (λ command. witness_dir command ≡ None) words_ask none);
     usage = never 2 refl refl refl refl;
     bad_input = never 3 refl refl refl refl;
     read_fault = never 4 refl refl refl refl;
     limit = never 7 refl refl refl refl;
-    write_fault = λ five. inl (due, in_time (inl five));
-    no_memory = λ six. inl (due, in_time (inr six));
+    write_fault = λ five. inl (due, is_cut 5 refl refl five the_case);
+    no_memory = λ six. inl (due, is_cut 6 refl refl six the_case);
     refused = λ files told stop h.
         let of = is.is.is_report files told in
-        absurd (not_refused r.words files stop (reported_accepted r.words files is.command is.asked_for of.0 is.is.of of.1) h);
+        absurd (not_refused r.gates r.words files stop (reported_accepted r.gates r.words files is.command is.asked_for of.0 is.is.of of.1) h);
     accepted = λ files told a. accepted the_case;
     content = same;
   }
@@ -192,7 +218,7 @@ file_statuses (faults.Misplaced x) = is_status 3 (omega arith) refl refl refl
 file_statuses (faults.BadCode offset reason) = is_status 3 (omega arith) refl refl refl
 
 statuses : (stop : Stop) → IsStatus (status_of stop)
-statuses stops.Words = is_status 2 (omega arith) refl refl refl
+statuses (stops.Usage usage) = is_status 2 (omega arith) refl refl refl
 statuses (stops.Unread name tree_faults.TooManyFiles) = is_status 7 (omega arith) refl refl refl
 statuses (stops.Unread name tree_faults.LongPath) = is_status 7 (omega arith) refl refl refl
 statuses (stops.Unread name (tree_faults.File path fault)) = file_statuses fault
@@ -203,8 +229,8 @@ statuses stops.TooManyFindings = is_status 7 (omega arith) refl refl refl
 statuses (stops.ReadFault name) = is_status 4 (omega arith) refl refl refl
 statuses stops.Memory = is_status 6 (omega arith) refl refl refl
 
-module _ (r : Ran) (stop : Stop) (cause : HasCause r.words r.trees stop) (put : IsPutWith (line_of stop) (status_of stop) r.err r.status) (has_line : r.status ≡ WRITE_FAULT → stop ≢ stops.Memory)
-    (quiet : IsQuiet r.out) (same : r.trees.after.content ≡ r.trees.before.content) where
+module _ (r : Ran) (stop : Stop) (cause : HasCause r.gates r.words r.trees stop) (put : IsPutWith (line_of stop) (status_of stop) r.err r.status) (has_line : r.status ≡ WRITE_FAULT → stop ≢ stops.Memory)
+    (quiet : IsQuiet r.out) (untouched : IsUntouched r.folder) (same : r.trees.after.content ≡ r.trees.before.content) where
   abbrev Known : Type 0
   Known = (r.status ≡ status_of stop) ⊎ (r.status ≡ WRITE_FAULT) ⊎ (r.status ≡ NO_MEMORY)
 
@@ -220,27 +246,32 @@ module _ (r : Ran) (stop : Stop) (cause : HasCause r.words r.trees stop) (put : 
   no_rejection (inl s) one = absurd ((statuses stop).no_rejection (sym s ∙ one))
   no_rejection (inr k) one = cut_clash r.status 1 k one refl refl
 
+  no_answer : {P : Type 0} → (r.status ≡ PASSED) ⊎ (r.status ≡ NOT_PASSED) → P
+  no_answer (inl zero) = no_pass put.known zero
+  no_answer (inr one) = no_rejection put.known one
+
   refuses : (n : ℕ) → (5 == n) ≡ false → (6 == n) ≡ false → Known → r.status ≡ n → IsStopped r
-  refuses n e f (inl s) is = record { stop = stop; status = sym s; cause = cause; output = quiet; errors = put.whole s (λ six. clash r.status 6 n six is f) }
+  refuses n e f (inl s) is = record { stop = stop; status = sym s; cause = cause; output = quiet; errors = put.whole s (λ six. clash r.status 6 n six is f); folder = untouched }
   refuses n e f (inr k) is = cut_clash r.status n k is e f
 
   cuts : (r.status ≡ WRITE_FAULT) ⊎ (r.status ≡ NO_MEMORY) → CutsRefusal r stop
-  cuts h = record { due = cause; output = quiet; errors = put.cut h; cause = put.cause; has_line = has_line }
+  cuts h = record { due = cause; output = quiet; folder = untouched; errors = put.cut h; cause = put.cause; has_line = has_line }
 
   pub stop_answers : Answers r
   stop_answers = record {
     known = said put.known;
     passed = no_pass put.known;
     not_passed = no_rejection put.known;
-    compatible = no_pass put.known;
-    incompatible = no_rejection put.known;
+    checked = no_answer;
+    witnessed = no_answer;
+    unwitnessed = λ none. untouched;
     usage = refuses 2 refl refl put.known;
     bad_input = refuses 3 refl refl put.known;
     read_fault = refuses 4 refl refl put.known;
     limit = refuses 7 refl refl put.known;
     write_fault = λ five. inr (stop, cuts (inl five));
     no_memory = λ six. inr (stop, cuts (inr six));
-    refused = λ files told. refused_status r.words r.trees files told stop cause r.status put.known;
-    accepted = λ files told. accepted_status r.words r.trees files told stop cause r.status put.known;
+    refused = λ files told. refused_status r.gates r.words r.trees files told stop cause r.status put.known;
+    accepted = λ files told. accepted_status r.gates r.words r.trees files told stop cause r.status put.known;
     content = same;
   }

@@ -1,6 +1,6 @@
 -- Why a command has no report, and what it comes to.
-use Rattle.std.proofs.Common.{◌≡◌, ◌≢◌, ◌≤◌, inl, inr, List, [], ◌∷◌, Option, Some, None, refl, sym, subst, ◌∙◌}
-use Rattle.std.specs.Prelude.{IsSomeAnd, option_map}
+use Rattle.std.proofs.Common.{◌≡◌, inl, inr, List, [], ◌∷◌, Option, Some, None, refl, sym, ap, subst, ◌∙◌}
+use Rattle.std.specs.Prelude.{Ok, IsOkAnd, option_map}
 use Rattle.std.specs.List.{All, AllByRecursion}
 use Rattle.std.proofs.lemmas.List.Elements.{recursion_from_All}
 use Rattle.jc_base.specs.Outside.{FileOf}
@@ -8,13 +8,11 @@ use Rattle.jc_base.specs.States.{TreesState, Change}
 use Rattle.jc_facts.specs.declared.class_facts.ClassFacts.{ClassFacts}
 use Rattle.jc_facts.specs.declared.client.ClientClass.{ClientClass}
 use Rattle.jc_facts.specs.declared.outcome.Outcome.{Outcome}
-use Rattle.jc_facts.specs.declared.verdict.Verdict.{Verdict}
 use Rattle.jc_facts.specs.Names.{Bytes}
 use Rattle.jc_facts.specs.Options.{or_else}
-use Rattle.jc_facts.specs.client.Clients.{IsInScope, Keeps, facts_of}
-use Rattle.jc_facts.specs.client.Kept.{BreaksClass}
-use Rattle.jc_facts.specs.rule.Verdict.{IsVerdict}
-use Rattle.jc_facts.specs.world.World.{side}
+use Rattle.jc_facts.specs.client.Clients.{facts_of}
+use Rattle.jc_facts.specs.world.World.{World, side}
+use Rattle.jc_gate.specs.Gates.{GateOf}
 use Rattle.jc_link.specs.Refusals.{RefusesLink, MayLink}
 use Rattle.jc_link.specs.declared.refusal.LinkRefusal.{LinkRefusal}
 use Rattle.jc_link.specs.declared.refusal.LinkRefusal.TheVariants as refusals
@@ -23,24 +21,25 @@ use Rattle.jc_table.specs.declared.table.TableError.TheVariants as errors
 use Rattle.jc_table.specs.Tables.{HasCause as HasTableCause}
 use Rattle.jc_table.specs.Root.{fault_of_root}
 use Rattle.jc_table.specs.Sides.{overlap_of}
-use Rattle.jcompat.specs.declared.limits.TheConstants.{MAX_FINDINGS}
+use Rattle.jcompat.specs.declared.comparison.Comparison.{Comparison}
 use Rattle.jcompat.specs.declared.report.Report.{Report}
 use Rattle.jcompat.specs.declared.stop.Stop.{Stop}
 use Rattle.jcompat.specs.declared.stop.Stop.TheVariants as stops
 use Rattle.jcompat.specs.declared.tree.TreeName.TheVariants as names
 use Rattle.jcompat.specs.Answers.{HasCause, StopsCommand}
-use Rattle.jcompat.specs.Check.{CheckRecords, mismatch_of, count_of, MeetsNone}
+use Rattle.jcompat.specs.Check.{CheckRecords, mismatch_of, puts_below}
 use Rattle.jcompat.specs.ClassFiles.{Told}
-use Rattle.jcompat.specs.Command.{CommandOf, CheckOf, LinkOf, CheckCommand, LinkCommand, trees_of, asked}
+use Rattle.jcompat.specs.Command.{CommandOf, CheckOf, LinkOf, CheckCommand, LinkCommand, trees_of, asked_of}
 use Rattle.jcompat.specs.Link.{LinkRecords, refusal_of, AreOutcomesOf}
 use Rattle.jcompat.specs.Reports.{RecordsOf, Refuses}
 use Rattle.jcompat.specs.Tree.{TreeOf}
-use Rattle.jcompat.specs.steps.Check.{StopsComparing, StopsCounting, unfit_by}
+use Rattle.jcompat.specs.steps.Check.{IsComparison, StopsComparing, StopsCounting, unfit_by}
 use Rattle.jcompat.specs.steps.Link.{StopsLinking, stop_by_refusal}
 use Rattle.jcompat.specs.steps.ReadTree.{IsClassList, IsRecordList}
 use Rattle.jcompat.specs.steps.ReadTrees.{AreClassesOf, StopsAmong}
-use Rattle.jcompat.specs.steps.Report.{TellsOf, IsReportOf, Reports}
-use Rattle.jcompat.proofs.Events.{for_some}
+use Rattle.jcompat.specs.steps.Report.{TellsOf, HasToShow, CanShowAny, dir_in, puts_in, IsReportOf, Reports}
+use Rattle.jcompat.proofs.Compared.{some_broken, each_shown, show_dir, show_puts, can_show_any}
+use Rattle.jcompat.proofs.Events.{for_ok}
 use Rattle.jcompat.proofs.Records.{check_records, link_records, IsOfRecords, unfit_says, refusal_says}
 
 -- ---- why comparing stopped
@@ -101,7 +100,7 @@ module _ (command : CommandOf) (c : Change TreesState) where
       by_stop (stops.Unread name fault) h = h
       by_stop (stops.ReadFault name) h = h
       by_stop stops.Memory h = tt
-      by_stop stops.Words h = absurd h
+      by_stop (stops.Usage usage) h = absurd h
       by_stop (stops.BadRoot p) h = absurd h
       by_stop (stops.Overlap t x) h = absurd h
       by_stop (stops.ClientName x p) h = absurd h
@@ -113,7 +112,7 @@ module _ (command : CommandOf) (c : Change TreesState) where
   cause_refused (stops.Overlap t x) says h = h
   cause_refused (stops.ClientName x p) says h = h
   cause_refused stops.TooManyFindings says h = h
-  cause_refused stops.Words says h = absurd says
+  cause_refused (stops.Usage usage) says h = absurd says
   cause_refused (stops.Unread t f) says h = absurd says
   cause_refused (stops.ReadFault t) says h = absurd says
   cause_refused stops.Memory says h = absurd says
@@ -122,18 +121,18 @@ module _ (command : CommandOf) (c : Change TreesState) where
   cause_memory stop h = subst (λ (s : Stop). StopsCommand command c s) (sym h) tt
 
   -- the words ask for the command
-  pub cause_asked : (words : List Bytes) → Some command ≡ asked words → (stop : Stop) → StopsCommand command c stop → HasCause words c stop
-  cause_asked words is stop h = by_stop stop h (for_some (asked words) command (λ d. StopsCommand d c stop) (sym is) h)
+  pub cause_asked : (gates : List GateOf) (words : List Bytes) → Ok command ≡ asked_of gates words → (stop : Stop) → StopsCommand command c stop → HasCause gates words c stop
+  cause_asked gates words is stop h = by_stop stop h (for_ok (asked_of gates words) command (λ d. StopsCommand d c stop) (sym is) h)
     where
-      by_stop : (stop : Stop) → StopsCommand command c stop → IsSomeAnd (asked words) (λ d. StopsCommand d c stop) → HasCause words c stop
+      by_stop : (stop : Stop) → StopsCommand command c stop → IsOkAnd (asked_of gates words) (λ d. StopsCommand d c stop) → HasCause gates words c stop
       by_stop (stops.Unread name fault) h k = k
       by_stop (stops.ReadFault name) h k = k
-      by_stop stops.Memory h k = k
+      by_stop stops.Memory h k = tt
       by_stop (stops.BadRoot p) h k = k
       by_stop (stops.Overlap t x) h k = k
       by_stop (stops.ClientName x p) h k = k
       by_stop stops.TooManyFindings h k = k
-      by_stop stops.Words h k = absurd h
+      by_stop (stops.Usage usage) h k = absurd h
 
 -- the trees that were read, one by one
 told_classes : (content : Option (List FileOf)) (wanted trees : List TreeOf) (all three : List (List ClientClass)) → wanted ≡ trees → all ≡ three → Told content (λ files. AreClassesOf files wanted all)
@@ -152,21 +151,30 @@ module _ (check : CheckOf) (c : Change TreesState) (wanted : List TreeOf) (wante
   cause_comparing stop (inl h) = cause_refused (CheckCommand check) c stop (unfit_says (facts_of platform) (facts_of old) (facts_of new) stop h) (λ files told. (checked files told, h))
   cause_comparing stop (inr h) = cause_memory (CheckCommand check) c stop h
 
-  pub verdict_reported : (v : Verdict) (report : Report) → mismatch_of (facts_of platform) (facts_of old) (facts_of new) ≡ None → IsVerdict (side (facts_of platform) (facts_of old)) (side (facts_of platform) (facts_of new)) v
-      → count_of v ≤ MAX_FINDINGS
-      → (v.findings ≡ [] → (cs : List ClientClass) → IsInScope (side (facts_of platform) (facts_of old)) (side (facts_of platform) (facts_of new)) cs
-      → MeetsNone (side (facts_of platform) (facts_of old)) cs v.collisions → Keeps (side (facts_of platform) (facts_of old)) (side (facts_of platform) (facts_of new)) cs)
-      → All (λ f. f.rule ≡ 1 → BreaksClass (side (facts_of platform) (facts_of old)) (side (facts_of platform) (facts_of new)) f.class f.error) v.findings
-      → TellsOf (CheckCommand check) v report → IsReportOf (CheckCommand check) c.before report
-  verdict_reported v report fits exact few kept broken tells = record {
-    of = v;
+  pub verdict_reported : (made : Comparison) (report : Report) → IsComparison (facts_of platform) (facts_of old) (facts_of new) made → HasToShow check.witness made.old made.new made.verdict report.shown
+      → TellsOf (CheckCommand check) made.verdict report → IsReportOf (CheckCommand check) c.before report
+  verdict_reported made report is shown tells = record {
+    of = made.verdict;
     tells = tells;
-    is_report = λ files told. (checked files told, record { fits = fits; exact = exact; few = few });
-    upholds = (
-      λ none files told. record { records = checked files told; verdict = record { fits = fits; exact = exact; few = few }; none = none; keeps = kept none },
-      λ some files told. record { records = checked files told; verdict = record { fits = fits; exact = exact; few = few }; some = some; breaks = broken },
-    );
+    dir_is = show_dir check.witness made.old made.new made.verdict report.shown shown;
+    can_show = can_show_any (facts_of platform) (facts_of old) (facts_of new) made is check.witness report.shown shown;
+    is_report = λ files told. (checked files told, is.verdict, puts_are);
+    upholds = λ files told. record {
+      records = checked files told;
+      verdict = is.verdict;
+      kept = is.kept;
+      broken = some_broken (facts_of platform) (facts_of old) (facts_of new) made.verdict is.can is.verdict.exact;
+      breaks = is.breaks;
+      shown = each_shown (facts_of platform) (facts_of old) (facts_of new) made.verdict is.can is.verdict.exact;
+      puts_are = puts_are;
+    };
   }
+    where
+      puts_are : puts_in report.shown ≡ puts_below check.witness (side (facts_of platform) (facts_of old)) (side (facts_of platform) (facts_of new)) made.verdict
+      puts_are =
+          show_puts check.witness made.old made.new made.verdict report.shown shown
+          ∙ ap (λ (W : World). puts_below check.witness W made.new made.verdict) is.old_is
+          ∙ ap (λ (W : World). puts_below check.witness (side (facts_of platform) (facts_of old)) W made.verdict) is.new_is
 
 -- ---- the linking of clients
 
@@ -180,6 +188,13 @@ module _ (link : LinkOf) (c : Change TreesState) (wanted : List TreeOf) (wanted_
   cause_linking stop (inl h) = cause_refused (LinkCommand link) c stop (refusal_says (facts_of platform) (facts_of release) clients stop h) (λ files told. (given files told, h))
   cause_linking stop (inr h) = cause_memory (LinkCommand link) c stop h
 
-  pub outcomes_reported : (list : List Outcome) (report : Report) → AreOutcomesOf (facts_of platform) (facts_of release) clients list → TellsOf (LinkCommand link) list report
+  pub outcomes_reported : (list : List Outcome) (report : Report) → AreOutcomesOf (facts_of platform) (facts_of release) clients list → report.shown ≡ None → TellsOf (LinkCommand link) list report
       → IsReportOf (LinkCommand link) c.before report
-  outcomes_reported list report exact tells = record { of = list; tells = tells; is_report = λ files told. (given files told, exact); upholds = tt }
+  outcomes_reported list report exact none tells = record {
+    of = list;
+    tells = tells;
+    dir_is = ap dir_in none;
+    can_show = subst CanShowAny (sym none) tt;
+    is_report = λ files told. (given files told, exact, ap puts_in none);
+    upholds = tt;
+  }

@@ -1,6 +1,6 @@
 -- Any words and files are refused or accepted.
 use Rattle.std.proofs.Common.{◌≡◌, ◌≤◌, ◌-◌, ◌⊎◌, inl, inr, Bool, true, false, ℕ, List, [], ◌∷◌, map, length, Option, Some, None, refl, sym, ap, subst, ◌∙◌}
-use Rattle.std.specs.Prelude.{IsSomeAnd, Result, Ok, Err, nat_lt}
+use Rattle.std.specs.Prelude.{IsOkAnd, Result, Ok, Err, nat_lt}
 use Rattle.std.specs.List.{Contains, All, list_any, filter}
 use Rattle.std.specs.Cmp.Lexicographic.{nat_list_cmp_total}
 use Rattle.std.proofs.lemmas.Bool.{ltb-true, ltb-false}
@@ -31,10 +31,12 @@ use Rattle.jc_facts.proofs.ReadLists.{read_valid}
 use Rattle.jc_sound.proofs.VerdictLaw.{verdict_is_one}
 use Rattle.jc_table.proofs.Roots.{has_root}
 use Rattle.jc_table.specs.Root.{fault_of_root}
+use Rattle.jc_gate.specs.Gates.{GateOf}
+use Rattle.jc_words.specs.declared.usage.Usage.{Usage}
 use Rattle.jcompat.specs.Answers.{IsRefused, IsAccepted, IsFirstUnread}
 use Rattle.jcompat.specs.Check.{CheckRecords, mismatch_of, count_of}
 use Rattle.jcompat.specs.ClassFiles.{is_class_path, IsClassPathOf, AreClassPaths, path_of, IsReadAs, IsReadIn, IsFileFault, IsTreeFault, IsClassIn, AreClasses, AreRecords, without_code}
-use Rattle.jcompat.specs.Command.{CommandOf, CheckOf, CheckCommand, LinkCommand, trees_of, asked}
+use Rattle.jcompat.specs.Command.{CommandOf, CheckOf, CheckCommand, LinkCommand, trees_of, asked_of}
 use Rattle.jcompat.specs.Link.{refusal_of}
 use Rattle.jcompat.specs.Reports.{RecordsOf, ReportOf, Refuses, Accepts, IsReportOn}
 use Rattle.jcompat.specs.Tree.{TreeOf}
@@ -49,7 +51,7 @@ use Rattle.jcompat.specs.declared.tree.TreeName.{TreeName}
 use Rattle.jcompat.specs.declared.tree.TreeName.TheVariants as names
 use Rattle.jcompat.specs.steps.ReadTree.{AreReadAt, IsFirstOf}
 use Rattle.jcompat.specs.steps.ReadTrees.{AreClassesOf}
-use Rattle.jcompat.proofs.Events.{for_some}
+use Rattle.jcompat.proofs.Events.{for_ok}
 use Rattle.jcompat.proofs.Gathered.{Gathered, gathered}
 use Rattle.jcompat.proofs.Records.{check_records, link_records, first_none, unmapped, IsOfRecords, refuses_says}
 use Rattle.jcompat.proofs.SomeVerdict.{some_verdict}
@@ -240,35 +242,35 @@ accepted_report files (LinkCommand link) r a = (outcomes (side r.platform r.rele
 
 -- ---- words and files
 
-module _ (words : List Bytes) (files : List FileOf) where
+module _ (gates : List GateOf) (words : List Bytes) (files : List FileOf) where
   abbrev RefusedOrAccepted : Type 0
-  RefusedOrAccepted = IsAccepted words files ⊎ ((stop : Stop) × IsRefused words files stop)
+  RefusedOrAccepted = IsAccepted gates words files ⊎ ((stop : Stop) × IsRefused gates words files stop)
 
-  module _ (command : CommandOf) (is : asked words ≡ Some command) where
-    by_command : (stop : Stop) → ((r : RecordsOf files command) × Refuses files command r stop) → IsSomeAnd (asked words) (λ c. (r : RecordsOf files c) × Refuses files c r stop)
-    by_command stop h = for_some (asked words) command (λ c. (r : RecordsOf files c) × Refuses files c r stop) is h
+  module _ (command : CommandOf) (is : asked_of gates words ≡ Ok command) where
+    by_command : (stop : Stop) → ((r : RecordsOf files command) × Refuses files command r stop) → IsOkAnd (asked_of gates words) (λ c. (r : RecordsOf files c) × Refuses files c r stop)
+    by_command stop h = for_ok (asked_of gates words) command (λ c. (r : RecordsOf files c) × Refuses files c r stop) is h
 
-    refused_for : (stop : Stop) → IsOfRecords stop → ((r : RecordsOf files command) × Refuses files command r stop) → IsRefused words files stop
+    refused_for : (stop : Stop) → IsOfRecords stop → ((r : RecordsOf files command) × Refuses files command r stop) → IsRefused gates words files stop
     refused_for (stops.BadRoot p) says h = by_command (stops.BadRoot p) h
     refused_for (stops.Overlap t x) says h = by_command (stops.Overlap t x) h
     refused_for (stops.ClientName x p) says h = by_command (stops.ClientName x p) h
     refused_for stops.TooManyFindings says h = by_command stops.TooManyFindings h
-    refused_for stops.Words says h = absurd says
+    refused_for (stops.Usage usage) says h = absurd says
     refused_for (stops.Unread t f) says h = absurd says
     refused_for (stops.ReadFault t) says h = absurd says
     refused_for stops.Memory says h = absurd says
 
     by_records : (r : RecordsOf files command) → Decided files command r → RefusedOrAccepted
-    by_records r (inl a) = inl (for_some (asked words) command (λ c. (r : RecordsOf files c) × Accepts files c r) is (r, a))
+    by_records r (inl a) = inl (for_ok (asked_of gates words) command (λ c. (r : RecordsOf files c) × Accepts files c r) is (r, a))
     by_records r (inr (stop, h)) = inr (stop, refused_for stop (refuses_says files command r stop h) (r, h))
 
     by_trees : TreesAreRead files (trees_of command) → RefusedOrAccepted
     by_trees (inl (all, h)) = let r = records_from files command all h in by_records r (decided files command r)
-    by_trees (inr (name, fault, f)) = inr (stops.Unread name fault, for_some (asked words) command (λ c. IsFirstUnread files (trees_of c) name fault) is f)
+    by_trees (inr (name, fault, f)) = inr (stops.Unread name fault, for_ok (asked_of gates words) command (λ c. IsFirstUnread files (trees_of c) name fault) is f)
 
-  pub refused_or_accepted_of : IsAccepted words files ⊎ ((stop : Stop) × IsRefused words files stop)
-  refused_or_accepted_of = go (asked words) refl
+  pub refused_or_accepted_of : IsAccepted gates words files ⊎ ((stop : Stop) × IsRefused gates words files stop)
+  refused_or_accepted_of = go (asked_of gates words) refl
     where
-      go : (o : Option CommandOf) → asked words ≡ o → RefusedOrAccepted
-      go None e = inr (stops.Words, e)
-      go (Some command) e = by_trees command e (some_trees files (trees_of command))
+      go : (r : Result CommandOf Usage) → asked_of gates words ≡ r → RefusedOrAccepted
+      go (Err usage) e = inr (stops.Usage usage, e)
+      go (Ok command) e = by_trees command e (some_trees files (trees_of command))

@@ -1,6 +1,6 @@
 -- The first event: there is at most one refusal, and none where there is a report.
 use Rattle.std.proofs.Common.{◌≡◌, ◌≢◌, ◌-◌, ◌<◌, ◌≤◌, length, arith, ◌⊎◌, inl, inr, ℕ, List, [], ◌∷◌, Option, Some, None, refl, sym, ap, subst, ◌∙◌}
-use Rattle.std.specs.Prelude.{IsSomeAnd, Ok}
+use Rattle.std.specs.Prelude.{Result, Ok, Err, IsOkAnd}
 use Rattle.std.specs.Ordering.{nat_cmp, ordering_reverse, is_eq}
 use Rattle.std.specs.Cmp.Lexicographic.{slice_cmp, nat_list_cmp_total}
 use Rattle.std.specs.declared.cmp.Ordering.{Ordering}
@@ -22,9 +22,11 @@ use Rattle.jc_facts.specs.code.ClientItems.{items, IsBadCode}
 use Rattle.jc_facts.proofs.Same.{same_is}
 use Rattle.jc_facts.proofs.ClassFiles.{never_both, one_record, one_fault}
 use Rattle.jc_facts.proofs.OneList.{one_exact}
+use Rattle.jc_gate.specs.Gates.{GateOf}
+use Rattle.jc_words.specs.declared.usage.Usage.{Usage}
 use Rattle.jcompat.specs.Answers.{IsFirstUnread, IsRefusedTo, IsRefused, IsAccepted, StopsCommand, HasCause, HasFailed}
 use Rattle.jcompat.specs.ClassFiles.{IsClassPathOf, path_of, items_in, IsReadAs, IsReadIn, IsFileFault, HasFewFiles, HasManyFiles, HasShortPaths, HasLongPath, IsFirstFault, IsTreeFault, IsClean}
-use Rattle.jcompat.specs.Command.{CommandOf, CheckCommand, LinkCommand, trees_of, asked}
+use Rattle.jcompat.specs.Command.{CommandOf, CheckCommand, LinkCommand, trees_of, asked_of}
 use Rattle.jcompat.specs.Reports.{RecordsOf, ReportOf, Refuses, Accepts, IsReportOn}
 use Rattle.jcompat.specs.Stop.{status_of}
 use Rattle.jcompat.specs.Tree.{TreeOf}
@@ -38,8 +40,8 @@ use Rattle.jcompat.specs.declared.stop.Stop.{Stop}
 use Rattle.jcompat.specs.declared.stop.Stop.TheVariants as stops
 use Rattle.jcompat.specs.declared.tree.TreeName.{TreeName}
 use Rattle.jcompat.specs.declared.tree.TreeName.TheVariants as names
-use Rattle.jcompat.proofs.Records.{none_some, same_some, apart_numbers, one_refused, accepted_or_refused, report_accepted}
-use Rattle.jcompat.proofs.Results.{same_err, ok_or_err}
+use Rattle.jcompat.proofs.Records.{apart_numbers, one_refused, accepted_or_refused, report_accepted}
+use Rattle.jcompat.proofs.Results.{same_ok, same_err, ok_or_err}
 use Rattle.jcompat.proofs.TreeRead.{one_file}
 
 -- ---- one file
@@ -184,7 +186,7 @@ module _ (files : List FileOf) (command : CommandOf) where
 
   event : (stop : Stop) → IsRefusedTo command files stop → Event stop
   event (stops.Unread name fault) h = at_tree name fault refl h
-  event stops.Words h = at_records h.0 h.1
+  event (stops.Usage usage) h = at_records h.0 h.1
   event (stops.BadRoot p) h = at_records h.0 h.1
   event (stops.Overlap t x) h = at_records h.0 h.1
   event (stops.ClientName x p) h = at_records h.0 h.1
@@ -212,95 +214,94 @@ module _ (files : List FileOf) (command : CommandOf) where
 
 -- ---- the words
 
-pub some_of : {A : Type 0} (o : Option A) (P : A → Type 0) → IsSomeAnd o P → (x : A) × (o ≡ Some x) × P x
-some_of None P p = absurd p
-some_of (Some x) P p = (x, refl, p)
+pub ok_of : {A E : Type 0} (r : Result A E) (P : A → Type 0) → IsOkAnd r P → (x : A) × (r ≡ Ok x) × P x
+ok_of (Err e) P p = absurd p
+ok_of (Ok x) P p = (x, refl, p)
 
-pub for_some : {A : Type 0} (o : Option A) (x : A) (P : A → Type 0) → o ≡ Some x → P x → IsSomeAnd o P
-for_some None x P e p = absurd (cc)
-for_some {A} (Some y) x P e p = let is : x ≡ y = cc in subst P is p
+pub for_ok : {A E : Type 0} (r : Result A E) (x : A) (P : A → Type 0) → r ≡ Ok x → P x → IsOkAnd r P
+for_ok {A} {E} r x P e p = subst (λ (s : Result A E). IsOkAnd s P) (sym e) p
 
 -- what is refused: the words, or the files to the command that they ask for
-data Refusal (words : List Bytes) (files : List FileOf) (stop : Stop) : Type 0 where
-  at_words : stop ≡ stops.Words → asked words ≡ None → Refusal words files stop
-  at_command : (command : CommandOf) → asked words ≡ Some command → IsRefusedTo command files stop → Refusal words files stop
+data Refusal (gates : List GateOf) (words : List Bytes) (files : List FileOf) (stop : Stop) : Type 0 where
+  at_words : (usage : Usage) → stop ≡ stops.Usage usage → asked_of gates words ≡ Err usage → Refusal gates words files stop
+  at_command : (command : CommandOf) → asked_of gates words ≡ Ok command → IsRefusedTo command files stop → Refusal gates words files stop
 
-to_command : (words : List Bytes) (files : List FileOf) (stop : Stop) → IsSomeAnd (asked words) (λ command. IsRefusedTo command files stop) → Refusal words files stop
-to_command words files stop h = let s = some_of (asked words) (λ command. IsRefusedTo command files stop) h in at_command s.0 s.1 s.2
+to_command : (gates : List GateOf) (words : List Bytes) (files : List FileOf) (stop : Stop) → IsOkAnd (asked_of gates words) (λ command. IsRefusedTo command files stop) → Refusal gates words files stop
+to_command gates words files stop h = let s = ok_of (asked_of gates words) (λ command. IsRefusedTo command files stop) h in at_command s.0 s.1 s.2
 
-refusal : (words : List Bytes) (files : List FileOf) (stop : Stop) → IsRefused words files stop → Refusal words files stop
-refusal words files stops.Words h = at_words refl h
-refusal words files (stops.Unread t p) h = to_command words files (stops.Unread t p) h
-refusal words files (stops.BadRoot p) h = to_command words files (stops.BadRoot p) h
-refusal words files (stops.Overlap t x) h = to_command words files (stops.Overlap t x) h
-refusal words files (stops.ClientName x p) h = to_command words files (stops.ClientName x p) h
-refusal words files stops.TooManyFindings h = to_command words files stops.TooManyFindings h
-refusal words files (stops.ReadFault t) h = to_command words files (stops.ReadFault t) h
-refusal words files stops.Memory h = to_command words files stops.Memory h
+refusal : (gates : List GateOf) (words : List Bytes) (files : List FileOf) (stop : Stop) → IsRefused gates words files stop → Refusal gates words files stop
+refusal gates words files (stops.Usage usage) h = at_words usage refl h
+refusal gates words files (stops.Unread t p) h = to_command gates words files (stops.Unread t p) h
+refusal gates words files (stops.BadRoot p) h = to_command gates words files (stops.BadRoot p) h
+refusal gates words files (stops.Overlap t x) h = to_command gates words files (stops.Overlap t x) h
+refusal gates words files (stops.ClientName x p) h = to_command gates words files (stops.ClientName x p) h
+refusal gates words files stops.TooManyFindings h = to_command gates words files stops.TooManyFindings h
+refusal gates words files (stops.ReadFault t) h = to_command gates words files (stops.ReadFault t) h
+refusal gates words files stops.Memory h = to_command gates words files stops.Memory h
 
 -- two refusals are one
-pub one_refusal_of : (words : List Bytes) (files : List FileOf) (a b : Stop) → IsRefused words files a → IsRefused words files b → a ≡ b
-one_refusal_of words files a b h k = go (refusal words files a h) (refusal words files b k)
+pub one_refusal_of : (gates : List GateOf) (words : List Bytes) (files : List FileOf) (a b : Stop) → IsRefused gates words files a → IsRefused gates words files b → a ≡ b
+one_refusal_of gates words files a b h k = go (refusal gates words files a h) (refusal gates words files b k)
   where
-    go : Refusal words files a → Refusal words files b → a ≡ b
-    go (at_words p e) (at_words q f) = p ∙ sym q
-    go (at_words p e) (at_command d f m) = absurd (none_some (asked words) d e f)
-    go (at_command c e l) (at_words q f) = absurd (none_some (asked words) c f e)
+    go : Refusal gates words files a → Refusal gates words files b → a ≡ b
+    go (at_words t p e) (at_words u q f) = p ∙ ap (λ (usage : Usage). stops.Usage usage) (same_err (asked_of gates words) t u e f) ∙ sym q
+    go (at_words t p e) (at_command d f m) = absurd (ok_or_err (asked_of gates words) d t f e)
+    go (at_command c e l) (at_words u q f) = absurd (ok_or_err (asked_of gates words) c u e f)
     go (at_command c e l) (at_command d f m) =
-        one_refused_to files c a b l (subst (λ (x : CommandOf). IsRefusedTo x files b) (same_some (asked words) d c f e) m)
+        one_refused_to files c a b l (subst (λ (x : CommandOf). IsRefusedTo x files b) (same_ok (asked_of gates words) d c f e) m)
 
 -- what is accepted isn't refused
-pub not_refused : (words : List Bytes) (files : List FileOf) (stop : Stop) → IsAccepted words files → IsRefused words files stop → ⊥
-not_refused words files stop a h = go (some_of (asked words) (λ command. (r : RecordsOf files command) × Accepts files command r) a) (refusal words files stop h)
+pub not_refused : (gates : List GateOf) (words : List Bytes) (files : List FileOf) (stop : Stop) → IsAccepted gates words files → IsRefused gates words files stop → ⊥
+not_refused gates words files stop a h = go (ok_of (asked_of gates words) (λ command. (r : RecordsOf files command) × Accepts files command r) a) (refusal gates words files stop h)
   where
-    go : (command : CommandOf) × (asked words ≡ Some command) × ((r : RecordsOf files command) × Accepts files command r) → Refusal words files stop → ⊥
-    go (c, e, (r, accepts)) (at_words p f) = none_some (asked words) c f e
-    go (c, e, (r, accepts)) (at_command d f m) = not_refused_to files c r accepts stop (subst (λ (x : CommandOf). IsRefusedTo x files stop) (same_some (asked words) d c f e) m)
+    go : (command : CommandOf) × (asked_of gates words ≡ Ok command) × ((r : RecordsOf files command) × Accepts files command r) → Refusal gates words files stop → ⊥
+    go (c, e, (r, accepts)) (at_words u p f) = ok_or_err (asked_of gates words) c u e f
+    go (c, e, (r, accepts)) (at_command d f m) = not_refused_to files c r accepts stop (subst (λ (x : CommandOf). IsRefusedTo x files stop) (same_ok (asked_of gates words) d c f e) m)
 
 -- what has a report is accepted
-pub reported_accepted : (words : List Bytes) (files : List FileOf) (command : CommandOf) → asked words ≡ Some command → (records : RecordsOf files command) (report : ReportOf command) → IsReportOn files command records report
-    → IsAccepted words files
-reported_accepted words files command e records report h =
-    for_some (asked words) command (λ c. (r : RecordsOf files c) × Accepts files c r) e (records, report_accepted files command records report h)
+pub reported_accepted : (gates : List GateOf) (words : List Bytes) (files : List FileOf) (command : CommandOf) → asked_of gates words ≡ Ok command → (records : RecordsOf files command) (report : ReportOf command) → IsReportOn files command records report
+    → IsAccepted gates words files
+reported_accepted gates words files command e records report h =
+    for_ok (asked_of gates words) command (λ c. (r : RecordsOf files c) × Accepts files c r) e (records, report_accepted files command records report h)
 
 -- a cause that the words and the files alone decide, or a failed call, or want of memory
-data Kind (words : List Bytes) (files : List FileOf) (stop : Stop) : Type 0 where
-  decided : IsRefused words files stop → Kind words files stop
-  failed : status_of stop ≡ READ_FAULT → Kind words files stop
-  no_memory : status_of stop ≡ NO_MEMORY → Kind words files stop
+data Kind (gates : List GateOf) (words : List Bytes) (files : List FileOf) (stop : Stop) : Type 0 where
+  decided : IsRefused gates words files stop → Kind gates words files stop
+  failed : status_of stop ≡ READ_FAULT → Kind gates words files stop
+  no_memory : status_of stop ≡ NO_MEMORY → Kind gates words files stop
 
-some_told : {A : Type 0} (o : Option A) (P Q : A → Type 0) → ((x : A) → P x → Q x) → IsSomeAnd o P → IsSomeAnd o Q
-some_told None P Q f p = p
-some_told (Some x) P Q f p = f x p
+ok_told : {A E : Type 0} (r : Result A E) (P Q : A → Type 0) → ((x : A) → P x → Q x) → IsOkAnd r P → IsOkAnd r Q
+ok_told (Err e) P Q f p = p
+ok_told (Ok x) P Q f p = f x p
 
-kind_of : (words : List Bytes) (c : Change TreesState) (files : List FileOf) → c.before.content ≡ Some files → (stop : Stop) → HasCause words c stop → Kind words files stop
-kind_of words c files told stops.Words h = decided h
-kind_of words c files told (stops.Unread t p) h = decided (some_told (asked words) _ _ (λ command k. k files told) h)
-kind_of words c files told (stops.BadRoot p) h = decided (some_told (asked words) _ _ (λ command k. k files told) h)
-kind_of words c files told (stops.Overlap t x) h = decided (some_told (asked words) _ _ (λ command k. k files told) h)
-kind_of words c files told (stops.ClientName x p) h = decided (some_told (asked words) _ _ (λ command k. k files told) h)
-kind_of words c files told stops.TooManyFindings h = decided (some_told (asked words) _ _ (λ command k. k files told) h)
-kind_of words c files told (stops.ReadFault t) h = failed refl
-kind_of words c files told stops.Memory h = no_memory refl
+kind_of : (gates : List GateOf) (words : List Bytes) (c : Change TreesState) (files : List FileOf) → c.before.content ≡ Some files → (stop : Stop) → HasCause gates words c stop → Kind gates words files stop
+kind_of gates words c files told (stops.Usage usage) h = decided h
+kind_of gates words c files told (stops.Unread t p) h = decided (ok_told (asked_of gates words) _ _ (λ command k. k files told) h)
+kind_of gates words c files told (stops.BadRoot p) h = decided (ok_told (asked_of gates words) _ _ (λ command k. k files told) h)
+kind_of gates words c files told (stops.Overlap t x) h = decided (ok_told (asked_of gates words) _ _ (λ command k. k files told) h)
+kind_of gates words c files told (stops.ClientName x p) h = decided (ok_told (asked_of gates words) _ _ (λ command k. k files told) h)
+kind_of gates words c files told stops.TooManyFindings h = decided (ok_told (asked_of gates words) _ _ (λ command k. k files told) h)
+kind_of gates words c files told (stops.ReadFault t) h = failed refl
+kind_of gates words c files told stops.Memory h = no_memory refl
 
 -- the status of a stop whose put may have failed
-module _ (words : List Bytes) (c : Change TreesState) (files : List FileOf) (told : c.before.content ≡ Some files) (mine : Stop) (cause : HasCause words c mine) (status : ℕ)
+module _ (gates : List GateOf) (words : List Bytes) (c : Change TreesState) (files : List FileOf) (told : c.before.content ≡ Some files) (mine : Stop) (cause : HasCause gates words c mine) (status : ℕ)
     (known : (status ≡ status_of mine) ⊎ (status ≡ WRITE_FAULT) ⊎ (status ≡ NO_MEMORY)) where
-  pub refused_status : (stop : Stop) → IsRefused words files stop → (status ≡ status_of stop) ⊎ HasFailed status
-  refused_status stop h = go (kind_of words c files told mine cause) known
+  pub refused_status : (stop : Stop) → IsRefused gates words files stop → (status ≡ status_of stop) ⊎ HasFailed status
+  refused_status stop h = go (kind_of gates words c files told mine cause) known
     where
-      go : Kind words files mine → (status ≡ status_of mine) ⊎ (status ≡ WRITE_FAULT) ⊎ (status ≡ NO_MEMORY) → (status ≡ status_of stop) ⊎ HasFailed status
-      go (decided k) (inl same) = inl (same ∙ ap status_of (one_refusal_of words files mine stop k h))
+      go : Kind gates words files mine → (status ≡ status_of mine) ⊎ (status ≡ WRITE_FAULT) ⊎ (status ≡ NO_MEMORY) → (status ≡ status_of stop) ⊎ HasFailed status
+      go (decided k) (inl same) = inl (same ∙ ap status_of (one_refusal_of gates words files mine stop k h))
       go (failed four) (inl same) = inr (inl (same ∙ four))
       go (no_memory six) (inl same) = inr (inr (inr (same ∙ six)))
       go k (inr (inl five)) = inr (inr (inl five))
       go k (inr (inr six)) = inr (inr (inr six))
 
-  pub accepted_status : IsAccepted words files → (status ≡ PASSED) ⊎ (status ≡ NOT_PASSED) ⊎ HasFailed status
-  accepted_status a = go (kind_of words c files told mine cause) known
+  pub accepted_status : IsAccepted gates words files → (status ≡ PASSED) ⊎ (status ≡ NOT_PASSED) ⊎ HasFailed status
+  accepted_status a = go (kind_of gates words c files told mine cause) known
     where
-      go : Kind words files mine → (status ≡ status_of mine) ⊎ (status ≡ WRITE_FAULT) ⊎ (status ≡ NO_MEMORY) → (status ≡ PASSED) ⊎ (status ≡ NOT_PASSED) ⊎ HasFailed status
-      go (decided k) (inl same) = absurd (not_refused words files mine a k)
+      go : Kind gates words files mine → (status ≡ status_of mine) ⊎ (status ≡ WRITE_FAULT) ⊎ (status ≡ NO_MEMORY) → (status ≡ PASSED) ⊎ (status ≡ NOT_PASSED) ⊎ HasFailed status
+      go (decided k) (inl same) = absurd (not_refused gates words files mine a k)
       go (failed four) (inl same) = inr (inr (inl (same ∙ four)))
       go (no_memory six) (inl same) = inr (inr (inr (inr (same ∙ six))))
       go k (inr (inl five)) = inr (inr (inr (inl five)))

@@ -1,6 +1,7 @@
 pub mod Ascents
 pub mod Puts
 pub mod Places
+pub mod ShortPaths
 pub mod Listings
 pub mod Results
 pub mod FrontRead
@@ -8,6 +9,12 @@ pub mod TreeRead
 pub mod TreesRead
 pub mod Records
 pub mod Events
+pub mod Asked
+pub mod FilesPut
+pub mod WitnessPaths
+pub mod PathsApart
+pub mod CausesPut
+pub mod Compared
 pub mod Causes
 pub mod Answered
 pub mod Surely

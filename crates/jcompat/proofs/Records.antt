@@ -15,6 +15,7 @@ use Rattle.jc_facts.specs.client.Linked.{outcomes}
 use Rattle.jc_facts.specs.file.Valid.{IsValidClass}
 use Rattle.jc_facts.specs.rule.Verdict.{IsVerdict}
 use Rattle.jc_facts.specs.world.World.{side}
+use Rattle.jc_facts.proofs.Clients.{facts_length, facts_valid}
 use Rattle.jc_facts.proofs.OneList.{one_exact}
 use Rattle.jc_lemmas.proofs.Listed.{EachOf}
 use Rattle.jc_sound.proofs.VerdictLaw.{verdict_is_one}
@@ -33,6 +34,7 @@ use Rattle.jcompat.specs.declared.stop.Stop.TheVariants as stops
 use Rattle.jcompat.specs.declared.tree.TreeName.{TreeName}
 use Rattle.jcompat.specs.declared.tree.TreeName.TheVariants as names
 use Rattle.jcompat.proofs.Results.{same_ok}
+use Rattle.jcompat.proofs.ShortPaths.{short_records}
 use Rattle.jcompat.specs.steps.ReadTree.{IsClassList, IsRecordList}
 use Rattle.jcompat.specs.steps.ReadTrees.{AreClassesOf}
 
@@ -105,19 +107,12 @@ link_records files link platform release clients h = record {
 
 -- ---- the records of classes that are read
 
-records_valid : (cs : List ClientClass) → EachOf IsValidClient cs → EachOf IsValidClass (facts_of cs)
-records_valid [] h = tt
-records_valid (c ∷ cs) h = (h.0.facts, records_valid cs h.1)
-
-pub as_many_records : (cs : List ClientClass) → length (facts_of cs) ≡ length cs
-as_many_records [] = refl
-as_many_records (c ∷ cs) = let more = as_many_records cs in grind arith
-
 pub record_list : (cs : List ClientClass) → IsClassList cs → IsRecordList (facts_of cs)
 record_list cs h = record {
-  valid = All-from_recursion IsValidClass (facts_of cs) (records_valid cs (recursion_from_All IsValidClient cs h.valid));
+  valid = All-from_recursion IsValidClass (facts_of cs) (facts_valid cs (recursion_from_All IsValidClient cs h.valid));
+  short = short_records cs h.short;
   differ = h.differ;
-  few = omega (arith, as_many_records cs, h.few);
+  few = omega (arith, facts_length cs, h.few);
 }
 
 -- ---- there is one record of each class

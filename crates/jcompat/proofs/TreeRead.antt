@@ -8,6 +8,7 @@ use Rattle.jc_base.specs.Outside.{FileOf, IsFileAt}
 use Rattle.jc_facts.specs.declared.class_facts.ClassFacts.{ClassFacts}
 use Rattle.jc_facts.specs.declared.client.ClientClass.{ClientClass}
 use Rattle.jc_facts.specs.declared.client.Item.{Item}
+use Rattle.jc_bodies.specs.Files.{HasShortNames}
 use Rattle.jc_facts.specs.Names.{Bytes, same}
 use Rattle.jc_facts.specs.Exactly.{Before, NamesRise, Rises}
 use Rattle.jc_facts.specs.world.World.{class_named}
@@ -80,10 +81,10 @@ differ_rising [] r = refl
 differ_rising (c ∷ cs) r = differ_step (class_named (facts_of cs) c.facts.name) (differ_by_name (facts_of cs)) (not_named c.facts.name cs r.0) (differ_rising cs r.1)
 
 -- classes that are read of a listing
-pub class_list : (cs : List ClientClass) (paths : List Bytes) → map (λ c. path_of c.facts.name) cs ≡ paths → NamesRise (λ p. p) paths → length paths ≤ MAX_FILES → All IsValidClient cs → IsClassList cs
-class_list cs paths is r few valid =
+pub class_list : (cs : List ClientClass) (paths : List Bytes) → map (λ c. path_of c.facts.name) cs ≡ paths → NamesRise (λ p. p) paths → length paths ≤ MAX_FILES → All IsValidClient cs → All (λ c. HasShortNames c.facts) cs → IsClassList cs
+class_list cs paths is r few valid short =
     let long : length cs ≡ length paths = sym (length-map cs (λ (c : ClientClass). path_of c.facts.name)) ∙ ap length is in
-    record { valid = valid; differ = differ_rising cs (rising_classes cs paths is r); few = omega (arith, few, long) }
+    record { valid = valid; short = short; differ = differ_rising cs (rising_classes cs paths is r); few = omega (arith, few, long) }
 
 -- ---- what stands at a path
 
@@ -222,7 +223,7 @@ stops_in a b c tree paths exact few short same le (stops.Unread t tree_faults.To
 stops_in a b c tree paths exact few short same le (stops.Unread t tree_faults.LongPath) s = absurd s
 stops_in a b c tree paths exact few short same le (stops.ReadFault t) s = (s.0, rose_since (a.faults tree.root) (b.faults tree.root) (c.faults tree.root) (le tree.root) s.1)
 stops_in a b c tree paths exact few short same le stops.Memory s = tt
-stops_in a b c tree paths exact few short same le stops.Words s = absurd s
+stops_in a b c tree paths exact few short same le (stops.Usage usage) s = absurd s
 stops_in a b c tree paths exact few short same le (stops.BadRoot part) s = absurd s
 stops_in a b c tree paths exact few short same le (stops.Overlap t x) s = absurd s
 stops_in a b c tree paths exact few short same le (stops.ClientName x part) s = absurd s

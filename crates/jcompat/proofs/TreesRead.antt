@@ -13,7 +13,7 @@ use Rattle.jcompat.specs.declared.tree.TreeName.{TreeName}
 use Rattle.jcompat.specs.Answers.{IsFirst}
 use Rattle.jcompat.specs.ClassFiles.{Told, IsClean, AreClasses}
 use Rattle.jcompat.specs.Tree.{TreeOf}
-use Rattle.jcompat.specs.steps.CommandView.{tree_of}
+use Rattle.jcompat.specs.steps.TreeView.{tree_of}
 use Rattle.jcompat.specs.steps.ReadTree.{StopsIn}
 use Rattle.jcompat.specs.steps.ReadTrees.{AreClassesOf, StopsAmong}
 use Rattle.jcompat.proofs.TreeRead.{rose_since}
@@ -76,7 +76,7 @@ module _ (wanted : List Tree) (i : ℕ) (none : Tree) (lt : i < length wanted) w
       first_at (λ t. Told a.content (λ files. IsClean files t)) _ name (told_clean a.content (map tree_of (take i wanted)) all read) s.0
       (rose_since (a.faults tree.root.now) (b.faults tree.root.now) (c.faults tree.root.now) (le tree.root.now) s.1)
   stops_among a b c all read same le stops.Memory s = tt
-  stops_among a b c all read same le stops.Words s = absurd s
+  stops_among a b c all read same le (stops.Usage usage) s = absurd s
   stops_among a b c all read same le (stops.BadRoot p) s = absurd s
   stops_among a b c all read same le (stops.Overlap t x) s = absurd s
   stops_among a b c all read same le (stops.ClientName x part) s = absurd s

@@ -1,22 +1,30 @@
 -- A check of two releases: what it reads, why that is refused, and its verdict.
-use Rattle.std.specs.Prelude.{◌≡◌, ◌≢◌, ◌≤◌, ◌<◌, ◌+◌, ◌⊎◌, ℕ, List, [], length, Option, Some, None, option_map}
+use Rattle.std.specs.Prelude.{◌≡◌, ◌≢◌, ◌≤◌, ◌<◌, ◌+◌, ◌⊎◌, ℕ, List, [], Bool, length, Option, Some, None, option_map, if◌then◌else◌}
 use Rattle.std.specs.List.{All}
 use Rattle.jc_base.specs.Outside.{FileOf}
+use Rattle.jc_base.specs.States.{FolderState, Change}
 use Rattle.jc_facts.specs.declared.class_facts.ClassFacts.{ClassFacts}
 use Rattle.jc_facts.specs.declared.client.ClientClass.{ClientClass}
+use Rattle.jc_facts.specs.declared.verdict.Cause.{Cause}
 use Rattle.jc_facts.specs.declared.verdict.Collision.{Collision}
 use Rattle.jc_facts.specs.declared.verdict.Verdict.{Verdict}
+use Rattle.jc_facts.specs.Names.{Bytes}
 use Rattle.jc_facts.specs.Options.{or_else}
 use Rattle.jc_facts.specs.world.World.{World, side, with_clients}
 use Rattle.jc_facts.specs.client.Clients.{IsInScope, Keeps, facts_of}
 use Rattle.jc_facts.specs.client.Kept.{BreaksClass}
 use Rattle.jc_facts.specs.client.Meets.{Meets}
+use Rattle.jc_facts.specs.print.Text.{text_of}
 use Rattle.jc_facts.specs.rule.Verdict.{IsVerdict}
+use Rattle.jc_report.specs.Json.{json_of}
 use Rattle.jc_table.specs.Root.{fault_of_root}
 use Rattle.jc_table.specs.Sides.{overlap_of}
+use Rattle.jc_complete.specs.Completeness.{IsBroken}
+use Rattle.jc_witness.specs.Witnesses.{IsWitnessOf, witness_files}
 use Rattle.jcompat.specs.ClassFiles.{AreRecords}
 use Rattle.jcompat.specs.Command.{CheckOf}
 use Rattle.jcompat.specs.Tree.{tree_at}
+use Rattle.jcompat.specs.Witness.{PutFile, PutsFiles, causes_of, witness_puts}
 use Rattle.jcompat.specs.declared.limits.TheConstants.{MAX_FINDINGS}
 use Rattle.jcompat.specs.declared.tree.TreeName.TheVariants as names
 use Rattle.jcompat.specs.declared.stop.Stop.{Stop}
@@ -89,10 +97,34 @@ pub record IsCompatible (files : List FileOf) (check : CheckOf) (v : Verdict) : 
   pub keeps : (cs : List ClientClass) → IsInScope (old_side records) (new_side records) cs → MeetsNone (old_side records) cs v.collisions
       → Keeps (old_side records) (new_side records) cs
 
--- the verdict has a finding, and whatever client world in scope there is, each client's naming of a class that is gone, by H1, is Ok with
--- the old release, and has the finding's error with the new
+-- the verdict has a finding, and there is a client world in scope that meets none of its collisions and isn't kept. Whatever client world in
+-- scope there is, each client's naming of a class that is gone, by H1, is Ok with the old release, and has the finding's error with the new
 pub record IsIncompatible (files : List FileOf) (check : CheckOf) (v : Verdict) : Type 0 where
   pub records : CheckRecords files check
   pub verdict : IsVerdictOn records.platform records.old records.new v
   pub some : v.findings ≢ []
+  pub broken : (cs : List ClientClass) × IsBroken (old_side records) (new_side records) v cs
   pub breaks : All (λ f. f.rule ≡ 1 → BreaksClass (old_side records) (new_side records) f.class f.error) v.findings
+
+-- its bytes: its JSON where that is asked for, and else its text
+abbrev pub verdict_bytes : Bool → Verdict → Bytes
+verdict_bytes json v = if json then json_of v else text_of v
+
+-- ---- the witnesses
+
+-- the witness files of the verdict, where they are asked for
+abbrev pub puts_below : Option Bytes → World → World → Verdict → List PutFile
+puts_below None O N v = []
+puts_below (Some dir) O N v = witness_puts dir O N v
+
+-- the witness files of the cause are read as a client world in scope that links whole with the old side, and that fails with the new one at one
+-- spot by the error of the cause; of the verdict's collisions that of a finding meets none, and that of a collision meets it
+abbrev pub IsShown : World → World → Cause → Type 0
+IsShown O N e = IsWitnessOf O N e (witness_files O N e)
+
+-- the folder holds the witness files of the verdict, every other path is as before, and they show each finding and each collision
+pub record IsWitnessed (files : List FileOf) (check : CheckOf) (v : Verdict) (dir : Bytes) (folder : Change FolderState) : Type 0 where
+  pub records : CheckRecords files check
+  pub verdict : IsVerdictOn records.platform records.old records.new v
+  pub put : PutsFiles folder (witness_puts dir (old_side records) (new_side records) v)
+  pub shown : All (IsShown (old_side records) (new_side records)) (causes_of v)

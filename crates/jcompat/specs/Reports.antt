@@ -1,15 +1,16 @@
 -- What each command reads, why that is refused, and its report.
-use Rattle.std.specs.Prelude.{◌≡◌, List, [], None, Some, IsTrue}
+use Rattle.std.specs.Prelude.{◌≡◌, ℕ, Bool, List, [], ◌++◌, map, None, Some}
 use Rattle.jc_base.specs.Outside.{FileOf}
 use Rattle.jc_facts.specs.declared.outcome.Outcome.{Outcome}
 use Rattle.jc_facts.specs.declared.verdict.Verdict.{Verdict}
 use Rattle.jc_facts.specs.Names.{Bytes}
 use Rattle.jc_facts.specs.client.Linked.{are_all_ok}
 use Rattle.jc_facts.specs.print.LinkText.{link_text_of}
-use Rattle.jc_facts.specs.print.Text.{text_of}
-use Rattle.jcompat.specs.Check.{CheckRecords, IsUnfit, IsFit, IsVerdictOn}
+use Rattle.jc_gate.specs.Gates.{GateOf, all_pass}
+use Rattle.jcompat.specs.Check.{CheckRecords, IsUnfit, IsFit, IsVerdictOn, old_side, new_side, verdict_bytes, puts_below}
 use Rattle.jcompat.specs.Command.{CommandOf, CheckCommand, LinkCommand}
 use Rattle.jcompat.specs.Link.{LinkRecords, refusal_of, AreOutcomesOf}
+use Rattle.jcompat.specs.Witness.{PutFile}
 use Rattle.jcompat.specs.declared.stop.Stop.{Stop}
 
 -- ---- what is read
@@ -41,12 +42,21 @@ abbrev pub IsReportOn : (files : List FileOf) → (command : CommandOf) → Reco
 IsReportOn files (CheckCommand check) r v = IsVerdictOn r.platform r.old r.new v
 IsReportOn files (LinkCommand link) r list = AreOutcomesOf r.platform r.release r.clients list
 
--- what was asked is so: there is no finding, or each outcome is Ok
-abbrev pub Passes : (command : CommandOf) → ReportOf command → Type 0
-Passes (CheckCommand check) v = v.findings ≡ []
-Passes (LinkCommand link) list = IsTrue (are_all_ok list)
+-- the rules of the findings of a verdict, and then those of its collisions
+abbrev pub rules_of : Verdict → List ℕ
+rules_of v = map (λ f. f.rule) v.findings ++ map (λ c. c.rule) v.collisions
+
+-- whether what was asked is so: of a check, each gate that it names passes, once it has seen those rules; of a link, each outcome is Ok
+abbrev pub passes : List GateOf → (command : CommandOf) → ReportOf command → Bool
+passes gates (CheckCommand check) v = all_pass gates check.gates (rules_of v)
+passes gates (LinkCommand link) list = are_all_ok list
 
 -- the bytes that are put
 abbrev pub bytes_of : (command : CommandOf) → ReportOf command → Bytes
-bytes_of (CheckCommand check) v = text_of v
+bytes_of (CheckCommand check) v = verdict_bytes check.json v
 bytes_of (LinkCommand link) list = link_text_of list
+
+-- the witness files that are put before them: those of the verdict, where a check asks for them
+abbrev pub puts_of : (files : List FileOf) → (command : CommandOf) → RecordsOf files command → ReportOf command → List PutFile
+puts_of files (CheckCommand check) r v = puts_below check.witness (old_side r) (new_side r) v
+puts_of files (LinkCommand link) r list = []

@@ -11,6 +11,8 @@ use Rattle.jc_table.specs.declared.root.RootPart.{RootPart}
 use Rattle.jc_table.specs.declared.root.RootPart.TheVariants as parts
 use Rattle.jc_link.specs.declared.refusal.ClientPart.{ClientPart}
 use Rattle.jc_link.specs.declared.refusal.ClientPart.TheVariants as client_parts
+use Rattle.jc_words.specs.declared.usage.Usage.{Usage}
+use Rattle.jc_words.specs.declared.usage.Usage.TheVariants as usages
 use Rattle.jcompat.specs.Tree.{tree_words}
 use Rattle.jcompat.specs.declared.status.TheConstants.{USAGE, BAD_INPUT, READ_FAULT, NO_MEMORY, LIMIT}
 use Rattle.jcompat.specs.declared.file_fault.FileFault.{FileFault}
@@ -71,8 +73,15 @@ client_part_name client_parts.Package = codes "package"
 client_part_name client_parts.Length = codes "length"
 client_part_name client_parts.Encoding = codes "encoding"
 
+-- why the words ask for nothing
+abbrev pub usage_words : Usage → Bytes
+usage_words usages.NoCommand = codes "no command"
+usage_words (usages.UnknownCommand word) = codes "unknown command " ++ printed word
+usage_words usages.Words = codes "words"
+usage_words (usages.UnknownGate name) = codes "unknown gate " ++ printed name
+
 abbrev pub line_of : Stop → Bytes
-line_of stops.Words = codes "jcompat: usage: words\n"
+line_of (stops.Usage usage) = codes "jcompat: usage: " ++ usage_words usage ++ codes "\n"
 line_of (stops.Unread tree fault) = codes "jcompat: " ++ tree_words tree ++ codes ": " ++ unread_words fault ++ codes "\n"
 line_of (stops.BadRoot part) = codes "jcompat: platform: bad root " ++ part_name part ++ codes "\n"
 line_of (stops.Overlap tree name) = codes "jcompat: " ++ tree_words tree ++ codes ": overlap " ++ printed name ++ codes "\n"
@@ -94,7 +103,7 @@ tree_status tree_faults.LongPath = LIMIT
 tree_status (tree_faults.File path fault) = file_status fault
 
 abbrev pub status_of : Stop → ℕ
-status_of stops.Words = USAGE
+status_of (stops.Usage usage) = USAGE
 status_of (stops.Unread tree fault) = tree_status fault
 status_of (stops.BadRoot part) = BAD_INPUT
 status_of (stops.Overlap tree name) = BAD_INPUT

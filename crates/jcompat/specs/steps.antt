@@ -1,8 +1,10 @@
 pub mod Ascending
-pub mod CommandView
+pub mod TreeView
 pub mod ReadTree
 pub mod ReadTrees
 pub mod Check
 pub mod Link
 pub mod Report
+pub mod Shown
+pub mod PutFiles
 pub mod Put

@@ -1,13 +1,14 @@
 //! A class file at its path.
 ghost use Rattle.std.specs.Prelude.{◌≡◌, ◌≤◌, ◌↔◌, ℕ, List, Ok, length, IfOk, IfErr, IsTrue};
 ghost use Rattle.jc_facts.specs.declared.class_facts.ClassFacts.{ClassFacts};
+ghost use Rattle.jc_bodies.specs.Files.{HasShortNames};
 ghost use Rattle.jc_facts.specs.client.Clients.{IsValidClient};
 ghost use Rattle.jc_facts.specs.file.ClassGrammar.{Reads};
 ghost use Rattle.jcompat.specs.ClassFiles.{is_class_path as is_class, path_of, items_in as items_of_tree, IsReadAs, IsReadIn, IsFileFault};
 ghost use Rattle.jcompat.specs.declared.tree.TreeName.{TreeName};
 
 use crate::file_fault::FileFault;
-use crate::limits::MAX_BYTES;
+use crate::limits::{MAX_BYTES, MAX_PATH};
 use crate::tree::TreeName;
 use jc_base::items::Items;
 use jc_code::items::{CodeError, items_of};
@@ -43,7 +44,9 @@ fn record_of(
     path: &str,
     bytes: &[u8],
 ) -> Result<Result<ClassFacts, FileFault>, AllocError>
+    requires { length path.now ≤ MAX_PATH }
     ensures read { IfOk result (λ found. IfOk found (IsReadAs path.now bytes.now)) }
+    ensures short { IfOk result (λ found. IfOk found HasShortNames) }
     ensures fault { IfOk result (λ found. IfErr found (λ fault. (tree : TreeName) → IsFileFault tree path.now bytes.now fault)) }
 {
     if bytes.len() > MAX_BYTES as usize {
@@ -87,15 +90,17 @@ fn items_in(
 }
 
 /// What a class file is read as in this tree, or why it isn't read: its record, where it stands at its
-/// class's place, and of a client the items of its code.
+/// class's place, and of a client the items of its code. The path isn't longer than the limit.
 pub fn class_in(
     alloc: Global,
     tree: TreeName,
     path: &str,
     bytes: &[u8],
 ) -> Result<Result<ClientClass, FileFault>, AllocError>
+    requires { length path.now ≤ MAX_PATH }
     ensures read { IfOk result (λ found. IfOk found (IsReadIn tree path.now bytes.now)) }
     ensures valid { IfOk result (λ found. IfOk found IsValidClient) }
+    ensures short { IfOk result (λ found. IfOk found (λ c. HasShortNames c.facts)) }
     ensures fault { IfOk result (λ found. IfErr found (IsFileFault tree path.now bytes.now)) }
 {
     let facts = match record_of(alloc, path, bytes)? {

@@ -1,21 +1,61 @@
 //! Deciding what there is to say.
-ghost use Rattle.std.specs.Prelude.{◌≡◌, IfOk, IfErr};
+ghost use Rattle.std.specs.Prelude.{◌≡◌, Ok, IfOk, IfErr, map};
+ghost use Rattle.std.specs.Result.{result_map_both};
 ghost use Rattle.jc_base.specs.States.{change};
+ghost use Rattle.jc_gate.specs.Gates.{gate_of};
+ghost use Rattle.jc_words.specs.CommandView.{command_of};
 ghost use Rattle.jcompat.specs.Answers.{HasCause, StopsCommand};
-ghost use Rattle.jcompat.specs.steps.CommandView.{command_of};
+ghost use Rattle.jcompat.specs.Command.{asked_of, with_gates};
 ghost use Rattle.jcompat.specs.steps.Report.{IsReportOf, Reports};
 
 use crate::check::check;
-use crate::command::Command;
+use crate::command::gates_named;
 use crate::link::link_clients;
 use crate::report::Report;
 use crate::stop::Stop;
 use jc_base::text::Text;
 use jc_base::trees::Trees;
-use std::alloc::Global;
+use jc_gate::ask::first_unknown;
+use jc_gate::gate::Gate;
+use jc_words::command::Command;
+use jc_words::usage::Usage;
+use std::alloc::{AllocError, Global};
+
+// The command, or the fault of the first gate that it names and that isn't there.
+fn with_known_gates<'a>(
+    alloc: Global,
+    command: Command<'a>,
+    gates: &[Box<dyn Gate>],
+) -> Result<Result<Command<'a>, Usage>, AllocError>
+    ensures { IfOk result (λ r. result_map_both command_of (λ usage. usage) r ≡ with_gates (map (λ gate. gate_of (⟦<dyn Gate as Gate>⟧ gate.vtable) gate.value) gates.now) (Ok (command_of command.entry))) }
+{
+    let names = gates_named(alloc, &command)?;
+    match first_unknown(gates, names.as_slice()) {
+        Some(name) => Ok(Err(Usage::UnknownGate(Text::from_str(alloc, name)?))),
+        None => Ok(Ok(command)),
+    }
+}
+
+// What the words ask for where these gates are there, or the first fault of them.
+fn asked<'a>(
+    alloc: Global,
+    words: &'a [Text],
+    gates: &[Box<dyn Gate>],
+) -> Result<Result<Command<'a>, Usage>, AllocError>
+    ensures { IfOk result (λ r. result_map_both command_of (λ usage. usage) r ≡ asked_of (map (λ gate. gate_of (⟦<dyn Gate as Gate>⟧ gate.vtable) gate.value) gates.now) words.entry.now) }
+{
+    match Command::from_words(alloc, words)? {
+        Ok(command) => with_known_gates(alloc, command, gates),
+        Err(usage) => Ok(Err(usage)),
+    }
+}
 
 // What the command comes to, or why it has no report.
-fn carry_out<T: Trees>(alloc: Global, command: &Command<'_>, trees: &mut T) -> Result<Report, Stop>
+fn carry_out<'a, T: Trees>(
+    alloc: Global,
+    command: &Command<'a>,
+    trees: &mut T,
+) -> Result<Report<'a>, Stop>
     ensures report { IfOk result (IsReportOf (command_of command.now) (T.state trees.old)) }
     ensures stopped { IfErr result (StopsCommand (command_of command.now) (change T.state trees.old trees.new)) }
     ensures content { (T.state trees.new).content ≡ (T.state trees.old).content }
@@ -32,14 +72,24 @@ fn carry_out<T: Trees>(alloc: Global, command: &Command<'_>, trees: &mut T) -> R
     }
 }
 
-/// What the command that the words ask for comes to, or why there is no report. Nothing is written.
-pub fn decide<T: Trees>(alloc: Global, words: &[Text], trees: &mut T) -> Result<Report, Stop>
-    ensures report { IfOk result (Reports words.now (T.state trees.old)) }
-    ensures stopped { IfErr result (HasCause words.now (change T.state trees.old trees.new)) }
+/// What the command that the words ask for comes to, where these gates are there, or why there is no
+/// report. Nothing is written, and no gate is asked.
+pub fn decide<'a, T: Trees>(
+    alloc: Global,
+    words: &'a [Text],
+    gates: &[Box<dyn Gate>],
+    trees: &mut T,
+) -> Result<Report<'a>, Stop>
+    ensures report { IfOk result (Reports (map (λ gate. gate_of (⟦<dyn Gate as Gate>⟧ gate.vtable) gate.value) gates.now) words.now (T.state trees.old)) }
+    ensures stopped { IfErr result (HasCause (map (λ gate. gate_of (⟦<dyn Gate as Gate>⟧ gate.vtable) gate.value) gates.now) words.now (change T.state trees.old trees.new)) }
     ensures content { (T.state trees.new).content ≡ (T.state trees.old).content }
 {
-    let Some(command) = Command::from_words(words) else {
-        return Err(Stop::Words);
+    let Ok(asked) = asked(alloc, words, gates) else {
+        return Err(Stop::Memory);
+    };
+    let command = match asked {
+        Ok(command) => command,
+        Err(usage) => return Err(Stop::Usage(usage)),
     };
     match carry_out(alloc, &command, trees) {
         Ok(report) => Ok(report),

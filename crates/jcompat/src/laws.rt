@@ -1,6 +1,6 @@
 //! Laws of the definitions that the top call's contract cites, each the contract of a function that
-//! does nothing, and the top call over trees and sinks that don't fail.
-ghost use Rattle.std.specs.Prelude.{◌≡◌, ◌≢◌, ◌⊎◌, ℕ, List};
+//! does nothing, and the top call over trees, sinks and a folder that don't fail.
+ghost use Rattle.std.specs.Prelude.{◌≡◌, ◌≢◌, ◌⊎◌, ℕ, List, map};
 ghost use Rattle.std.specs.List.{All};
 ghost use Rattle.jc_base.specs.Outside.{FileOf};
 ghost use Rattle.jc_base.specs.States.{change};
@@ -10,6 +10,7 @@ ghost use Rattle.jc_facts.specs.client.Clients.{HasRoot};
 ghost use Rattle.jc_facts.specs.file.Valid.{IsValidClass};
 ghost use Rattle.jc_facts.specs.rule.Verdict.{IsVerdict};
 ghost use Rattle.jc_facts.specs.world.World.{side};
+ghost use Rattle.jc_gate.specs.Gates.{GateOf, gate_of};
 ghost use Rattle.jcompat.specs.Answers.{Answers, ran, IsRefused, IsAccepted};
 ghost use Rattle.jcompat.specs.Command.{CommandOf};
 ghost use Rattle.jcompat.specs.Reports.{RecordsOf, ReportOf, Accepts, IsReportOn};
@@ -17,22 +18,25 @@ ghost use Rattle.jcompat.specs.declared.status.TheConstants.{READ_FAULT, WRITE_F
 ghost use Rattle.jcompat.specs.declared.stop.Stop.{Stop};
 
 use crate::run::run;
+use jc_base::folder::Folder;
 use jc_base::sink::Sink;
+use jc_base::sure_folder::SureFolder;
 use jc_base::sure_sink::SureSink;
 use jc_base::sure_trees::SureTrees;
 use jc_base::text::Text;
 use jc_base::trees::Trees;
+use jc_gate::gate::Gate;
 use std::alloc::Global;
 
 /// Words and files have at most one first refusal.
 pub fn one_refusal()
-    ensures { (words : List (List ℕ)) (files : List FileOf) (a b : Stop) → IsRefused words files a → IsRefused words files b → a ≡ b }
+    ensures { (gates : List GateOf) (words : List (List ℕ)) (files : List FileOf) (a b : Stop) → IsRefused gates words files a → IsRefused gates words files b → a ≡ b }
 {}
 
 /// Words and files are accepted, or there is a first refusal, and not both.
 pub fn refused_or_accepted()
-    ensures either { (words : List (List ℕ)) (files : List FileOf) → IsAccepted words files ⊎ ((stop : Stop) × IsRefused words files stop) }
-    ensures not_both { (words : List (List ℕ)) (files : List FileOf) (stop : Stop) → IsAccepted words files → IsRefused words files stop → ⊥ }
+    ensures either { (gates : List GateOf) (words : List (List ℕ)) (files : List FileOf) → IsAccepted gates words files ⊎ ((stop : Stop) × IsRefused gates words files stop) }
+    ensures not_both { (gates : List GateOf) (words : List (List ℕ)) (files : List FileOf) (stop : Stop) → IsAccepted gates words files → IsRefused gates words files stop → ⊥ }
 {}
 
 /// Two releases of valid classes have a verdict, where the platform has its root.
@@ -48,19 +52,22 @@ pub fn one_report()
     ensures one { (files : List FileOf) (command : CommandOf) (r s : RecordsOf files command) (a b : ReportOf command) → IsReportOn files command r a → IsReportOn files command s b → a ≡ b }
 {}
 
-/// The top call over trees and sinks that don't fail. Only want of memory stands in the way of its
-/// answer.
+/// The top call over trees, sinks and a folder that don't fail. Only want of memory stands in the way
+/// of its answer.
 pub fn run_surely(
     alloc: Global,
     words: &[Text],
     trees: &mut SureTrees,
     out: &mut SureSink,
     err: &mut SureSink,
+    witnesses: &mut SureFolder,
+    gates: Vec<Box<dyn Gate>>,
 ) -> u8
-    ensures answers { Answers (ran words.now (change ⟦<SureTrees as Trees>⟧.state trees.old trees.new)
-        (change ⟦<SureSink as Sink>⟧.state out.old out.new) (change ⟦<SureSink as Sink>⟧.state err.old err.new) result) }
+    ensures answers { Answers (ran (map (λ gate. gate_of (⟦<dyn Gate as Gate>⟧ gate.vtable) gate.value) gates.items) words.now (change ⟦<SureTrees as Trees>⟧.state trees.old trees.new)
+        (change ⟦<SureSink as Sink>⟧.state out.old out.new) (change ⟦<SureSink as Sink>⟧.state err.old err.new)
+        (change ⟦<SureFolder as Folder>⟧.state witnesses.old witnesses.new) result) }
     ensures no_read_fault { result ≢ READ_FAULT }
     ensures no_write_fault { result ≢ WRITE_FAULT }
 {
-    run(alloc, words, trees, out, err)
+    run(alloc, words, trees, out, err, witnesses, gates)
 }

@@ -5,12 +5,12 @@ ghost use Rattle.jc_facts.specs.client.Clients.{facts_of};
 ghost use Rattle.jcompat.specs.Answers.{StopsCommand};
 ghost use Rattle.jcompat.specs.Command.{LinkCommand};
 ghost use Rattle.jcompat.specs.Link.{AreOutcomesOf};
-ghost use Rattle.jcompat.specs.steps.CommandView.{link_of};
+ghost use Rattle.jc_words.specs.CommandView.{link_of};
 ghost use Rattle.jcompat.specs.steps.Link.{StopsLinking, stop_by_refusal};
 ghost use Rattle.jcompat.specs.steps.ReadTree.{IsClassList};
 ghost use Rattle.jcompat.specs.steps.Report.{IsReportOf};
 
-use crate::command::Link;
+use crate::command::trees_of_link;
 use crate::read_trees::read_trees;
 use crate::report::Report;
 use crate::stop::Stop;
@@ -21,6 +21,7 @@ use jc_facts::client::ClientClass;
 use jc_facts::outcome::Outcome;
 use jc_link::link::link;
 use jc_link::refusal::LinkRefusal;
+use jc_words::link::Link;
 use std::alloc::Global;
 
 // Why the clients aren't linked.
@@ -61,16 +62,16 @@ fn linked(
 }
 
 /// What the linking of clients comes to, or why it has no report.
-pub fn link_clients<T: Trees>(
+pub fn link_clients<'a, T: Trees>(
     alloc: Global,
-    asked: &Link<'_>,
+    asked: &Link<'a>,
     trees: &mut T,
-) -> Result<Report, Stop>
+) -> Result<Report<'a>, Stop>
     ensures report { IfOk result (IsReportOf (LinkCommand (link_of asked.now)) (T.state trees.old)) }
     ensures stopped { IfErr result (StopsCommand (LinkCommand (link_of asked.now)) (change T.state trees.old trees.new)) }
     ensures content { (T.state trees.new).content ≡ (T.state trees.old).content }
 {
-    let wanted = asked.trees();
+    let wanted = trees_of_link(asked);
     let all = match read_trees(alloc, &wanted, trees) {
         Ok(all) => all,
         Err(stop) => return Err(stop),

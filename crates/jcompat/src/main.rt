@@ -4,48 +4,101 @@
 mod check;
 mod class_file;
 mod command;
+mod comparison;
 mod decide;
+mod disk_folder;
 mod disk_trees;
 mod file_fault;
 mod laws;
 mod limits;
 mod link;
 mod put;
+mod put_witnesses;
 mod read_tree;
 mod read_trees;
 mod report;
 mod run;
+mod shown;
 mod status;
 mod std_sink;
 mod stop;
 mod three_trees;
 mod tree;
+mod witness_path;
 
+use crate::disk_folder::DiskFolder;
 use crate::disk_trees::DiskTrees;
+use crate::put::put_stop;
 use crate::run::run;
 use crate::status::NO_MEMORY;
 use crate::std_sink::StdSink;
+use crate::stop::Stop;
+use jc_base::folder::Folder;
+use jc_base::sink::Sink;
 use jc_base::text::Text;
+use jc_base::trees::Trees;
+use jc_gate::at_most::AtMost;
+use jc_gate::collisions::Collisions;
+use jc_gate::gate::Gate;
+use jc_gate::links::Links;
+use jc_words::usage::Usage;
 use std::alloc::{AllocError, Global};
 use std::env;
 use std::env::Env;
 use std::io::ErrorKind;
 use std::process::ExitCode;
 
-// The words after the program's name, or none where there is one that isn't UTF-8: then they are no
-// words of a command.
-fn words_after_name(rt: &(impl Env + AllocGlobal)) -> Result<Vec<Text>, AllocError> {
+// The words after the program's name, or none where there is one that isn't UTF-8.
+fn words_after_name(rt: &(impl Env + AllocGlobal)) -> Result<Option<Vec<Text>>, AllocError> {
     let alloc = rt.alloc();
     let mut words = Vec::new(alloc);
     let given = match env::args(rt) {
         Ok(given) => given,
         Err(error) if error.kind() == ErrorKind::OutOfMemory => return Err(AllocError),
-        Err(_) => return Ok(words),
+        Err(_) => return Ok(None),
     };
     for word in given.skip(1) {
         words.push(Text::from_str(alloc, word.as_str())?)?;
     }
-    Ok(words)
+    Ok(Some(words))
+}
+
+// Runs with these words and the gates `links`, `collisions` and `few`, which lets ten rules pass.
+fn run_with_gates<T: Trees, O: Sink, E: Sink, F: Folder>(
+    alloc: Global,
+    words: &[Text],
+    trees: &mut T,
+    out: &mut O,
+    err: &mut E,
+    witnesses: &mut F,
+) -> Result<u8, AllocError> {
+    let mut gates: Vec<Box<dyn Gate>> = Vec::new(alloc);
+    gates.push(Box::new(alloc, Links::new())?)?;
+    gates.push(Box::new(alloc, Collisions::new())?)?;
+    gates.push(Box::new(alloc, AtMost::new(10))?)?;
+    Ok(run(alloc, words, trees, out, err, witnesses, gates))
+}
+
+// Runs with these words. No command takes a word that isn't UTF-8.
+fn run_words<T: Trees, O: Sink, E: Sink, F: Folder>(
+    alloc: Global,
+    words: Option<Vec<Text>>,
+    trees: &mut T,
+    out: &mut O,
+    err: &mut E,
+    witnesses: &mut F,
+) -> u8 {
+    match words {
+        Some(words) => run_with_gates(
+            alloc,
+            words.as_slice(),
+            trees,
+            out,
+            err,
+            witnesses,
+        ).unwrap_or(NO_MEMORY),
+        None => put_stop(alloc, &Stop::Usage(Usage::Words), err),
+    }
 }
 
 fn main(rt: HostRuntime) -> ExitCode {
@@ -54,10 +107,15 @@ fn main(rt: HostRuntime) -> ExitCode {
         // There is no memory even for the words.
         return ExitCode::from(NO_MEMORY);
     };
+    let files: Result<_, _> = rt.clone();
+    let Ok(files) = files else {
+        return ExitCode::from(NO_MEMORY);
+    };
     let mut out = StdSink::new(rt.stdout());
     let mut err = StdSink::new(rt.stderr());
+    let mut witnesses = DiskFolder::new(files);
     let mut trees = DiskTrees::new(rt);
-    ExitCode::from(run(alloc, words.as_slice(), &mut trees, &mut out, &mut err))
+    ExitCode::from(run_words(alloc, words, &mut trees, &mut out, &mut err, &mut witnesses))
 }
 
 #[cfg(test)]

@@ -1,16 +1,21 @@
-//! Putting a report, or the line that says why there is none.
-ghost use Rattle.std.specs.Prelude.{◌≡◌, ◌≢◌, ◌≤◌, ◌<◌, ◌++◌, length, OnOk, OnErr, IsErrOf};
+//! Putting a report with its witness files, or the line that says why there is none.
+ghost use Rattle.std.specs.Prelude.{◌≡◌, ◌≢◌, ◌≤◌, ◌<◌, ◌++◌, ◌⊎◌, List, ℕ, length, None, Some, OnOk, OnErr, IsErrOf, map};
 ghost use Rattle.jc_base.specs.States.{change};
-ghost use Rattle.jcompat.specs.Answers.{PutsAll, PutsFront, HasPutFault};
+ghost use Rattle.jc_gate.specs.Gates.{gate_of};
+ghost use Rattle.jcompat.specs.Answers.{PutsAll, PutsFront, HasPutFault, HasFolderFault, IsUntouched};
 ghost use Rattle.jcompat.specs.Stop.{line_of, status_of};
-ghost use Rattle.jcompat.specs.steps.Report.{status_by};
-ghost use Rattle.jcompat.specs.steps.Put.{IsPutWith};
+ghost use Rattle.jcompat.specs.Witness.{PutsFiles, PutsSome};
+ghost use Rattle.jcompat.specs.steps.Report.{CanShowAny, dir_in, puts_in, passes_by, status_by};
+ghost use Rattle.jcompat.specs.steps.Put.{IsPutWith, IsPutAfter, IsCutBefore};
 ghost use Rattle.jcompat.specs.declared.stop.Stop.{Stop};
 
+use crate::put_witnesses::put_witnesses;
 use crate::report::Report;
 use crate::status::{NO_MEMORY, WRITE_FAULT};
 use crate::stop::Stop;
+use jc_base::folder::{Folder, FolderError};
 use jc_base::sink::{Sink, SinkError};
+use jc_gate::gate::Gate;
 use std::alloc::Global;
 
 // The first line, its line end with it, and what follows.
@@ -45,15 +50,58 @@ fn put_lines<O: Sink>(text: &[u8], out: &mut O) -> Result<(), SinkError>
     Ok(())
 }
 
-/// Puts a report, line by line, and answers its status. Where a put fails or there is no memory, the
-/// status says so.
-pub fn put_report<O: Sink>(report: &Report, out: &mut O) -> u8
-    ensures { IsPutWith report.now.text.items (status_by report.now.passes) (change O.state out.old out.new) result }
+// Puts the witness files of what is to be shown.
+fn put_shown<F: Folder>(
+    alloc: Global,
+    report: &Report<'_>,
+    folder: &mut F,
+) -> Result<(), FolderError>
+    requires { CanShowAny report.now.shown }
+    ensures whole { OnOk result (PutsFiles (change F.state folder.old folder.new) (puts_in report.now.shown)) }
+    ensures some { OnErr result (PutsSome (change F.state folder.old folder.new) (puts_in report.now.shown)) }
+    ensures asked_for { OnErr result ((path : List ℕ) × (dir_in report.now.shown ≡ Some path)) }
+    ensures untouched { dir_in report.now.shown ≡ None → IsUntouched (change F.state folder.old folder.new) }
+    ensures cause { IsErrOf result FolderError.Fault → HasFolderFault (change F.state folder.old folder.new) }
+{
+    match &report.shown {
+        Some(of) => match put_witnesses(alloc, of, folder) {
+            Ok(()) => Ok(()),
+            Err(error) => Err(error),
+        },
+        None => Ok(()),
+    }
+}
+
+// Puts the bytes of a report, line by line, and then asks the gates for its status, which it answers.
+fn put_text<O: Sink>(report: &Report<'_>, out: &mut O, gates: Vec<Box<dyn Gate>>) -> u8
+    ensures { IsPutWith report.now.text.items (status_by (passes_by (map (λ gate. gate_of (⟦<dyn Gate as Gate>⟧ gate.vtable) gate.value) gates.items) report.now.condition)) (change O.state out.old out.new) result }
 {
     match put_lines(report.text.as_slice(), out) {
-        Ok(()) => report.status(),
+        Ok(()) => report.status(gates),
         Err(SinkError::Fault) => WRITE_FAULT,
         Err(SinkError::Memory) => NO_MEMORY,
+    }
+}
+
+/// Puts a report, first its witness files and then its bytes, line by line, and answers its status by
+/// the gates. Where a put fails or there is no memory, the status says so, nothing more is put, and no
+/// gate is asked. All gates are dropped.
+pub fn put_report<F: Folder, O: Sink>(
+    alloc: Global,
+    report: &Report<'_>,
+    witnesses: &mut F,
+    out: &mut O,
+    gates: Vec<Box<dyn Gate>>,
+) -> u8
+    requires { CanShowAny report.now.shown }
+    ensures put { IsPutAfter (puts_in report.now.shown) (change F.state witnesses.old witnesses.new) report.now.text.items (status_by (passes_by (map (λ gate. gate_of (⟦<dyn Gate as Gate>⟧ gate.vtable) gate.value) gates.items) report.now.condition)) (change O.state out.old out.new) result
+        ⊎ IsCutBefore (dir_in report.now.shown) (puts_in report.now.shown) (change F.state witnesses.old witnesses.new) (change O.state out.old out.new) result }
+    ensures untouched { dir_in report.now.shown ≡ None → IsUntouched (change F.state witnesses.old witnesses.new) }
+{
+    match put_shown(alloc, report, witnesses) {
+        Ok(()) => put_text(report, out, gates),
+        Err(FolderError::Fault) => WRITE_FAULT,
+        Err(FolderError::Memory) => NO_MEMORY,
     }
 }
 

@@ -4,10 +4,11 @@ ghost use Rattle.std.specs.List.{All, filter, list_any};
 ghost use Rattle.jc_base.specs.Causes.{Rose};
 ghost use Rattle.jc_base.specs.Outside.{Holds};
 ghost use Rattle.jc_base.specs.States.{change};
+ghost use Rattle.jc_bodies.specs.Files.{HasShortNames};
 ghost use Rattle.jc_facts.specs.Exactly.{NamesRise};
 ghost use Rattle.jc_facts.specs.client.Clients.{IsValidClient};
 ghost use Rattle.jcompat.specs.ClassFiles.{Told, is_class_path as is_class, path_of, AreClassPaths, AreClasses};
-ghost use Rattle.jcompat.specs.steps.CommandView.{tree_of};
+ghost use Rattle.jcompat.specs.steps.TreeView.{tree_of};
 ghost use Rattle.jcompat.specs.steps.ReadTree.{IsReadAt, IsFaultAt, AreReadAt, IsClassList, StopsAt, StopsIn, stop_by};
 ghost use Rattle.jcompat.specs.declared.stop.Stop.{Stop};
 ghost use Rattle.jcompat.specs.declared.file_fault.TreeFault.{TreeFault};
@@ -63,10 +64,12 @@ fn read_one<T: Trees>(
     path: &str,
     trees: &mut T,
 ) -> Result<Result<ClientClass, FileFault>, TreeError>
-    requires { Holds (T.state trees.old).content tree.now.root.now path.now }
+    requires held { Holds (T.state trees.old).content tree.now.root.now path.now }
+    requires short { length path.now ≤ MAX_PATH }
     ensures read { IfOk result (λ found. IfOk found (λ c. Told (T.state trees.old).content (λ files. IsReadAt files (tree_of tree.now) path.now c))) }
     ensures named { IfOk result (λ found. IfOk found (λ c. path.now ≡ path_of c.facts.name)) }
     ensures valid { IfOk result (λ found. IfOk found IsValidClient) }
+    ensures short { IfOk result (λ found. IfOk found (λ c. HasShortNames c.facts)) }
     ensures fault { IfOk result (λ found. IfErr found (λ fault. Told (T.state trees.old).content (λ files. IsFaultAt files (tree_of tree.now) path.now fault))) }
     ensures content { (T.state trees.new).content ≡ (T.state trees.old).content }
     ensures never_falls { (r : List ℕ) → (T.state trees.old).faults r ≤ (T.state trees.new).faults r }
@@ -97,10 +100,12 @@ fn read_all<T: Trees>(
     paths: &[Text],
     trees: &mut T,
 ) -> Result<Vec<ClientClass>, Stop>
-    requires { All (Holds (T.state trees.old).content tree.now.root.now) paths.now }
+    requires held { All (Holds (T.state trees.old).content tree.now.root.now) paths.now }
+    requires short { All (λ path. length path ≤ MAX_PATH) paths.now }
     ensures read { IfOk result (λ classes. Told (T.state trees.old).content (λ files. AreReadAt files (tree_of tree.now) paths.now classes.items)) }
     ensures named { IfOk result (λ classes. map (λ c. path_of c.facts.name) classes.items ≡ paths.now) }
     ensures valid { IfOk result (λ classes. All IsValidClient classes.items) }
+    ensures short { IfOk result (λ classes. All (λ c. HasShortNames c.facts) classes.items) }
     ensures stopped { IfErr result (StopsAt (change T.state trees.old trees.new) (tree_of tree.now) paths.now) }
     ensures content { (T.state trees.new).content ≡ (T.state trees.old).content }
     ensures never_falls { (r : List ℕ) → (T.state trees.old).faults r ≤ (T.state trees.new).faults r }

@@ -3,7 +3,7 @@ ghost use Rattle.std.specs.Prelude.{◌≡◌, ◌≤◌, ℕ, List, map, length
 ghost use Rattle.std.specs.List.{All};
 ghost use Rattle.jc_base.specs.States.{change};
 ghost use Rattle.jcompat.specs.ClassFiles.{Told};
-ghost use Rattle.jcompat.specs.steps.CommandView.{tree_of};
+ghost use Rattle.jcompat.specs.steps.TreeView.{tree_of};
 ghost use Rattle.jcompat.specs.steps.ReadTree.{IsClassList};
 ghost use Rattle.jcompat.specs.steps.ReadTrees.{AreClassesOf, StopsAmong};
 

@@ -1,21 +1,98 @@
 //! What a command comes to.
-ghost use Rattle.std.specs.Prelude.{◌≡◌, IfOk};
+ghost use Rattle.std.specs.Prelude.{◌≡◌, ◌++◌, IfOk, OnOk, None, map};
+ghost use Rattle.std.specs.Option.{option_map};
 ghost use Rattle.jc_facts.specs.client.Linked.{are_all_ok};
-ghost use Rattle.jcompat.specs.Command.{CheckOf, LinkOf, CheckCommand, LinkCommand};
-ghost use Rattle.jcompat.specs.steps.Report.{TellsOf, status_by};
+ghost use Rattle.jc_words.specs.CommandView.{check_of};
+ghost use Rattle.jcompat.specs.Check.{verdict_bytes};
+ghost use Rattle.jcompat.specs.Command.{LinkOf, CheckCommand, LinkCommand};
+ghost use Rattle.jc_gate.specs.Gates.{gate_of};
+ghost use Rattle.jcompat.specs.Reports.{rules_of as rules_in};
+ghost use Rattle.jcompat.specs.steps.Report.{TellsOf, HasToShow, passes_by, status_by};
 
+use crate::comparison::Comparison;
+use crate::shown::Shown;
 use crate::status::{NOT_PASSED, PASSED};
+use jc_facts::finding::Finding;
 use jc_facts::outcome::Outcome;
-use jc_facts::verdict::Verdict;
+use jc_facts::verdict::{Collision, Verdict};
+use jc_gate::ask::all_pass;
+use jc_gate::gate::Gate;
+use jc_report::json::json;
 use jc_report::link_text::link_text;
 use jc_report::text::text;
+use jc_words::check::Check;
 use std::alloc::{AllocError, Global};
 
-/// What a command comes to: the bytes to put, and whether what was asked is so.
+/// Where a command passes, once its report is put.
 #[derive(Drop)]
-pub struct Report {
+pub enum Condition<'a> {
+    /// Where this is so.
+    Known(bool),
+    /// Where each gate of these names passes, once it has seen these rules in their order.
+    ByGates(Vec<&'a str>, Vec<u8>),
+}
+
+/// What a command comes to: what is to be shown by witness files, the bytes to put after them, and
+/// where it passes.
+#[derive(Drop)]
+pub struct Report<'a> {
+    pub shown: Option<Shown<'a>>,
     pub text: Vec<u8>,
-    pub passes: bool,
+    pub condition: Condition<'a>,
+}
+
+// The JSON of a verdict where it is asked for, and else its text.
+fn bytes_of_verdict(alloc: Global, verdict: &Verdict, as_json: bool) -> Result<Vec<u8>, AllocError>
+    ensures { IfOk result (λ bytes. bytes.items ≡ verdict_bytes as_json verdict.now) }
+{
+    if as_json {
+        json(alloc, verdict)
+    } else {
+        text(alloc, verdict)
+    }
+}
+
+// The rules of the findings, and then those of the collisions.
+fn rules_of(alloc: Global, verdict: &Verdict) -> Result<Vec<u8>, AllocError>
+    ensures { IfOk result (λ rules. rules.items ≡ rules_in verdict.now) }
+{
+    let mut rules = rules_of_findings(alloc, verdict.findings.as_slice())?;
+    push_rules(&mut rules, verdict.collisions.as_slice())?;
+    Ok(rules)
+}
+
+fn rules_of_findings(alloc: Global, findings: &[Finding]) -> Result<Vec<u8>, AllocError>
+    ensures { IfOk result (λ rules. rules.items ≡ map (λ f. f.rule) findings.now) }
+{
+    let mut rules = Vec::new(alloc);
+    for finding in findings {
+        rules.push(finding.rule)?;
+    }
+    Ok(rules)
+}
+
+// Adds the rules of the collisions.
+fn push_rules(rules: &mut Vec<u8>, collisions: &[Collision]) -> Result<(), AllocError>
+    ensures { OnOk result (rules.new.items ≡ rules.old.items ++ map (λ c. c.rule) collisions.now) }
+{
+    for collision in collisions {
+        rules.push(collision.rule)?;
+    }
+    Ok(())
+}
+
+// What is to be shown of a comparison, where there is a folder for it.
+fn to_show(comparison: Comparison, dir: Option<&str>) -> Option<Shown<'_>>
+    ensures { HasToShow (option_map (λ d. d.now) dir.entry) comparison.old comparison.new comparison.verdict result }
+{
+    let Comparison { old, new, verdict } = comparison;
+    let dir = dir?;
+    Some(Shown {
+        dir,
+        old,
+        new,
+        verdict,
+    })
 }
 
 // Whether each outcome is Ok.
@@ -25,29 +102,51 @@ fn are_ok(outcomes: &[Outcome]) -> bool
     outcomes.iter().all(|outcome| outcome.error.is_none())
 }
 
-impl Report {
-    /// The text of a verdict, which passes where there is no finding.
-    pub fn of_verdict(alloc: Global, verdict: &Verdict) -> Result<Report, AllocError>
-        ensures { IfOk result (λ report. (check : CheckOf) → TellsOf (CheckCommand check) verdict.now report) }
+impl<'a> Report<'a> {
+    /// The text or JSON of a comparison's verdict, as the check asks, which passes by the gates that the
+    /// check names. It is shown by witness files where the check has a folder for them.
+    pub fn of_comparison(
+        alloc: Global,
+        comparison: Comparison,
+        check: &Check<'a>,
+    ) -> Result<Report<'a>, AllocError>
+        ensures tells { IfOk result (TellsOf (CheckCommand (check_of check.now)) comparison.verdict) }
+        ensures shown { IfOk result (λ report. HasToShow (check_of check.now).witness comparison.old comparison.new comparison.verdict report.shown) }
     {
-        let text = text(alloc, verdict)?;
-        let passes = verdict.findings.as_slice().is_empty();
-        Ok(Report { text, passes })
+        let text = bytes_of_verdict(alloc, &comparison.verdict, check.json)?;
+        let names = check.gate_names(alloc)?;
+        let rules = rules_of(alloc, &comparison.verdict)?;
+        Ok(Report {
+            shown: to_show(comparison, check.witness),
+            text,
+            condition: Condition::ByGates(names, rules),
+        })
     }
 
-    /// The text of the outcomes of linking, which passes where each is Ok.
-    pub fn of_outcomes(alloc: Global, outcomes: &[Outcome]) -> Result<Report, AllocError>
-        ensures { IfOk result (λ report. (link : LinkOf) → TellsOf (LinkCommand link) outcomes.now report) }
+    /// The text of the outcomes of linking, which passes where each is Ok. Nothing is shown.
+    pub fn of_outcomes(alloc: Global, outcomes: &[Outcome]) -> Result<Report<'a>, AllocError>
+        ensures tells { IfOk result (λ report. (link : LinkOf) → TellsOf (LinkCommand link) outcomes.now report) }
+        ensures shown { IfOk result (λ report. report.shown ≡ None) }
     {
         let text = link_text(alloc, outcomes)?;
         let passes = are_ok(outcomes);
-        Ok(Report { text, passes })
+        Ok(Report {
+            shown: None,
+            text,
+            condition: Condition::Known(passes),
+        })
     }
 
-    /// The exit status once it is put.
-    pub fn status(&self) -> u8
-        ensures { result ≡ status_by self.now.passes }
+    /// The exit status once it is put, by these gates. They are dropped.
+    pub fn status(&self, gates: Vec<Box<dyn Gate>>) -> u8
+        ensures { result ≡ status_by (passes_by (map (λ gate. gate_of (⟦<dyn Gate as Gate>⟧ gate.vtable) gate.value) gates.items) self.now.condition) }
     {
-        if self.passes { PASSED } else { NOT_PASSED }
+        let passes = match &self.condition {
+            Condition::Known(passes) => *passes,
+            Condition::ByGates(names, rules) => {
+                all_pass(gates, names.as_slice(), rules.as_slice())
+            }
+        };
+        if passes { PASSED } else { NOT_PASSED }
     }
 }

@@ -2,7 +2,7 @@
 ghost use Rattle.std.specs.Prelude.{◌≡◌, ◌++◌, codes, IfOk, OnOk};
 ghost use Rattle.jc_facts.specs.print.Text.{printed};
 ghost use Rattle.jcompat.specs.Tree.{tree_words};
-ghost use Rattle.jcompat.specs.Stop.{reason_name as name_of, code_reason_name as name_of_code_reason, part_name as part_name_of, client_part_name as name_of_client_part, file_words, unread_words, line_of, file_status as file_status_of, tree_status as tree_status_of, status_of};
+ghost use Rattle.jcompat.specs.Stop.{reason_name as name_of, code_reason_name as name_of_code_reason, part_name as part_name_of, client_part_name as name_of_client_part, file_words, unread_words, usage_words, line_of, file_status as file_status_of, tree_status as tree_status_of, status_of};
 
 use crate::file_fault::{FileFault, TreeFault};
 use crate::status::{BAD_INPUT, LIMIT, NO_MEMORY, READ_FAULT, USAGE};
@@ -13,13 +13,14 @@ use jc_facts::code_fault::CodeReason;
 use jc_link::refusal::ClientPart;
 use jc_report::printed::{push_decimal, push_printed};
 use jc_table::root::RootPart;
+use jc_words::usage::Usage;
 use std::alloc::{AllocError, Global};
 
 /// Why there is no report.
 #[derive(Debug, Drop)]
 pub enum Stop {
-    /// The words ask for nothing that is built.
-    Words,
+    /// The words ask for nothing.
+    Usage(Usage),
     /// The class files of the tree aren't read.
     Unread(TreeName, TreeFault),
     /// This part of the platform's `java/lang/Object` isn't as it has to be.
@@ -201,13 +202,33 @@ fn client_name_line(alloc: Global, name: &Name, part: ClientPart) -> Result<Vec<
     Ok(line)
 }
 
+fn usage_line(alloc: Global, usage: &Usage) -> Result<Vec<u8>, AllocError>
+    ensures { IfOk result (λ line. line.items ≡ codes "jcompat: usage: " ++ usage_words usage.now ++ codes "\n") }
+{
+    let mut line = Vec::from_slice(alloc, b"jcompat: usage: ")?;
+    match usage {
+        Usage::NoCommand => line.extend_from_slice(b"no command")?,
+        Usage::UnknownCommand(word) => {
+            line.extend_from_slice(b"unknown command ")?;
+            push_printed(&mut line, word.as_str().as_bytes())?;
+        }
+        Usage::Words => line.extend_from_slice(b"words")?,
+        Usage::UnknownGate(name) => {
+            line.extend_from_slice(b"unknown gate ")?;
+            push_printed(&mut line, name.as_str().as_bytes())?;
+        }
+    }
+    line.push(b'\n')?;
+    Ok(line)
+}
+
 impl Stop {
     /// The exit status.
     pub fn status(&self) -> u8
         ensures { result ≡ status_of self.now }
     {
         match self {
-            Stop::Words => USAGE,
+            Stop::Usage(_) => USAGE,
             Stop::Unread(_, fault) => tree_status(fault),
             Stop::BadRoot(_) | Stop::Overlap(..) | Stop::ClientName(..) => BAD_INPUT,
             Stop::TooManyFindings => LIMIT,
@@ -221,7 +242,7 @@ impl Stop {
         ensures { IfOk result (λ line. line.items ≡ line_of self.now) }
     {
         match self {
-            Stop::Words => Vec::from_slice(alloc, b"jcompat: usage: words\n"),
+            Stop::Usage(usage) => usage_line(alloc, usage),
             Stop::Unread(tree, fault) => unread_line(alloc, *tree, fault),
             Stop::BadRoot(part) => bad_root_line(alloc, *part),
             Stop::Overlap(tree, name) => overlap_line(alloc, *tree, name),

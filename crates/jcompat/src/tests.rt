@@ -1,21 +1,31 @@
 //! Runs over trees in memory and over folders, against what they are to say.
 mod assembler;
+mod folders;
+mod gates;
 mod limits;
 mod links;
 mod outside;
 mod refusals;
 mod verdicts;
+mod witnesses;
+mod words;
 
 use crate::laws::run_surely;
-use crate::run::run;
+use crate::run_with_gates;
 use crate::tests::assembler::files_of;
 use jc_base::mem_file::is_file_list;
+use jc_base::mem_folder::MemFolder;
 use jc_base::mem_sink::MemSink;
 use jc_base::mem_trees::MemTrees;
+use jc_base::sure_folder::SureFolder;
 use jc_base::sure_sink::SureSink;
 use jc_base::sure_trees::SureTrees;
 use jc_base::text::Text;
 use jc_base::trees::Trees;
+use jc_gate::at_most::AtMost;
+use jc_gate::collisions::Collisions;
+use jc_gate::gate::Gate;
+use jc_gate::links::Links;
 use std::alloc::{AllocError, Global};
 use std::process::Abort;
 
@@ -56,12 +66,20 @@ fn says<T: Trees>(
     let words = texts(alloc, words)?;
     let mut out = MemSink::new(alloc, Vec::from_slice(alloc, failing[0])?);
     let mut err = MemSink::new(alloc, Vec::from_slice(alloc, failing[1])?);
-    let status = run(alloc, words.as_slice(), trees, &mut out, &mut err);
+    let mut folder = MemFolder::new(alloc, Vec::new(alloc));
+    let status = run_with_gates(
+        alloc,
+        words.as_slice(),
+        trees,
+        &mut out,
+        &mut err,
+        &mut folder,
+    )?;
     let (wanted, output, line) = *said;
     Ok(status == wanted && out.bytes() == output.as_bytes() && err.bytes() == line.as_bytes())
 }
 
-// The same over trees and sinks that don't fail.
+// The same over trees, sinks and a folder that don't fail.
 fn says_surely(
     rt: &impl Abort,
     alloc: Global,
@@ -75,7 +93,20 @@ fn says_surely(
     let mut trees = SureTrees::new(files);
     let mut out = SureSink::new(alloc);
     let mut err = SureSink::new(alloc);
-    let status = run_surely(alloc, words.as_slice(), &mut trees, &mut out, &mut err);
+    let mut folder = SureFolder::new(alloc);
+    let mut gates: Vec<Box<dyn Gate>> = Vec::new(alloc);
+    gates.push(Box::new(alloc, Links::new())?)?;
+    gates.push(Box::new(alloc, Collisions::new())?)?;
+    gates.push(Box::new(alloc, AtMost::new(10))?)?;
+    let status = run_surely(
+        alloc,
+        words.as_slice(),
+        &mut trees,
+        &mut out,
+        &mut err,
+        &mut folder,
+        gates,
+    );
     let (wanted, output, line) = *said;
     Ok(status == wanted && out.bytes() == output.as_bytes() && err.bytes() == line.as_bytes())
 }

@@ -1,16 +1,32 @@
 -- What is found in the records of a check, on the way.
-use Rattle.std.specs.Prelude.{◌≡◌, ◌<◌, ◌⊎◌, List}
+use Rattle.std.specs.Prelude.{◌≡◌, ◌<◌, ◌⊎◌, List, []}
+use Rattle.std.specs.List.{All}
 use Rattle.jc_facts.specs.declared.class_facts.ClassFacts.{ClassFacts}
+use Rattle.jc_facts.specs.declared.client.ClientClass.{ClientClass}
 use Rattle.jc_facts.specs.declared.verdict.Verdict.{Verdict}
-use Rattle.jc_facts.specs.world.World.{World}
+use Rattle.jc_facts.specs.client.Clients.{IsInScope, Keeps}
+use Rattle.jc_facts.specs.client.Kept.{BreaksClass}
+use Rattle.jc_facts.specs.rule.Verdict.{IsVerdict}
+use Rattle.jc_facts.specs.world.World.{World, side}
+use Rattle.jc_bodies.specs.Files.{CanWrite}
 use Rattle.jc_table.specs.declared.table.TableError.{TableError}
 use Rattle.jc_table.specs.declared.table.TableError.TheVariants as errors
-use Rattle.jc_facts.specs.rule.Verdict.{IsVerdict}
-use Rattle.jcompat.specs.Check.{IsUnfit, count_of}
+use Rattle.jcompat.specs.Check.{IsUnfit, IsVerdictOn, MeetsNone, count_of}
+use Rattle.jcompat.specs.declared.comparison.Comparison.{Comparison}
 use Rattle.jcompat.specs.declared.limits.TheConstants.{MAX_FINDINGS}
 use Rattle.jcompat.specs.declared.tree.TreeName.{TreeName}
 use Rattle.jcompat.specs.declared.stop.Stop.{Stop}
 use Rattle.jcompat.specs.declared.stop.Stop.TheVariants as stops
+
+-- what is known of the comparison of these records
+pub record IsComparison (platform old new : List ClassFacts) (c : Comparison) : Type 0 where
+  pub old_is : c.old ≡ side platform old
+  pub new_is : c.new ≡ side platform new
+  pub can : CanWrite platform old new
+  pub verdict : IsVerdictOn platform old new c.verdict
+  pub kept : c.verdict.findings ≡ [] → (cs : List ClientClass) → IsInScope (side platform old) (side platform new) cs → MeetsNone (side platform old) cs c.verdict.collisions
+      → Keeps (side platform old) (side platform new) cs
+  pub breaks : All (λ f. f.rule ≡ 1 → BreaksClass (side platform old) (side platform new) f.class f.error) c.verdict.findings
 
 -- why comparing the records stopped
 abbrev pub StopsComparing : List ClassFacts → List ClassFacts → List ClassFacts → Stop → Type 0

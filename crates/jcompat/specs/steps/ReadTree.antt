@@ -8,6 +8,7 @@ use Rattle.jc_base.specs.declared.trees.TreeError.{TreeError}
 use Rattle.jc_base.specs.declared.trees.TreeError.TheVariants as errors
 use Rattle.jc_facts.specs.declared.class_facts.ClassFacts.{ClassFacts}
 use Rattle.jc_facts.specs.declared.client.ClientClass.{ClientClass}
+use Rattle.jc_bodies.specs.Files.{HasShortNames}
 use Rattle.jc_facts.specs.Names.{Bytes}
 use Rattle.jc_facts.specs.client.Clients.{IsValidClient, differ_by_name, facts_of}
 use Rattle.jc_facts.specs.file.Valid.{IsValidClass}
@@ -48,15 +49,17 @@ pub record IsFirstOf (files : List FileOf) (tree : TreeOf) (paths : List Bytes) 
   pub read : AreReadAt files tree front classes
   pub fault_is : IsFaultAt files tree path fault
 
--- what the classes of a tree are whether its files are told or not: valid, no more than the limit, and their names differ
+-- what the classes of a tree are whether its files are told or not: valid, with short names, no more than the limit, and their names differ
 pub record IsClassList (cs : List ClientClass) : Type 0 where
   pub valid : All IsValidClient cs
+  pub short : All (λ c. HasShortNames c.facts) cs
   pub differ : IsTrue (differ_by_name (facts_of cs))
   pub few : length cs ≤ MAX_FILES
 
 -- what their records are
 pub record IsRecordList (records : List ClassFacts) : Type 0 where
   pub valid : All IsValidClass records
+  pub short : All HasShortNames records
   pub differ : IsTrue (differ_by_name records)
   pub few : length records ≤ MAX_FILES
 

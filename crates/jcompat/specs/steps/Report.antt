@@ -1,39 +1,94 @@
 -- What a command comes to.
-use Rattle.std.specs.Prelude.{◌≡◌, ◌≢◌, ℕ, List, [], Bool, true, false, Option, Some, if◌then◌else◌}
+use Rattle.std.specs.Prelude.{◌≡◌, ◌≢◌, ℕ, List, [], map, Bool, Option, Some, None, Ok, if◌then◌else◌}
+use Rattle.std.specs.List.{All}
 use Rattle.jc_base.specs.Outside.{FileOf}
 use Rattle.jc_base.specs.States.{TreesState}
+use Rattle.jc_facts.specs.declared.client.ClientClass.{ClientClass}
+use Rattle.jc_facts.specs.declared.verdict.Verdict.{Verdict}
+use Rattle.jc_facts.specs.client.Clients.{IsInScope, Keeps}
+use Rattle.jc_facts.specs.client.Kept.{BreaksClass}
 use Rattle.jc_facts.specs.Names.{Bytes}
-use Rattle.jcompat.specs.Check.{IsCompatible, IsIncompatible}
+use Rattle.jc_facts.specs.world.World.{World}
+use Rattle.jc_gate.specs.Gates.{GateOf, all_pass}
+use Rattle.jc_complete.specs.Completeness.{IsBroken}
+use Rattle.jcompat.specs.Check.{CheckRecords, IsVerdictOn, IsShown, MeetsNone, old_side, new_side, puts_below}
 use Rattle.jcompat.specs.ClassFiles.{Told}
-use Rattle.jcompat.specs.Command.{CommandOf, CheckCommand, LinkCommand, asked}
-use Rattle.jcompat.specs.Reports.{RecordsOf, ReportOf, IsReportOn, Passes, bytes_of}
+use Rattle.jcompat.specs.Command.{CommandOf, CheckOf, CheckCommand, LinkCommand, witness_dir, asked_of}
+use Rattle.jcompat.specs.Reports.{RecordsOf, ReportOf, IsReportOn, passes, bytes_of, puts_of}
+use Rattle.jcompat.specs.Witness.{PutFile, causes_of, witness_puts}
 use Rattle.jcompat.specs.declared.report.Report.{Report}
+use Rattle.jcompat.specs.declared.report.Condition.{Condition}
+use Rattle.jcompat.specs.declared.report.Condition.TheVariants as conditions
+use Rattle.jcompat.specs.declared.shown.Shown.{Shown}
 use Rattle.jcompat.specs.declared.status.TheConstants.{PASSED, NOT_PASSED}
+use Rattle.jcompat.specs.steps.Shown.{CanShow}
 
 -- the status once it is put
 abbrev pub status_by : Bool → ℕ
 status_by passes = if passes then PASSED else NOT_PASSED
 
--- the bytes and the answer are those of a command's report
+-- whether it passes by these gates
+abbrev pub passes_by : List GateOf → Condition → Bool
+passes_by gates (conditions.Known passes) = passes
+passes_by gates (conditions.ByGates names rules) = all_pass gates (map (λ name. name.now) names.items) rules.items
+
+-- ---- what is to be shown
+
+-- it is the verdict on these sides, where there is a path for its witness files
+abbrev pub HasToShow : Option Bytes → World → World → Verdict → Option Shown → Type 0
+HasToShow None O N v None = Unit {0}
+HasToShow (Some dir) O N v (Some of) = (of.dir.now ≡ dir) × (of.old ≡ O) × (of.new ≡ N) × (of.verdict ≡ v)
+HasToShow _ O N v _ = ⊥
+
+-- it can be shown
+abbrev pub CanShowAny : Option Shown → Type 0
+CanShowAny None = Unit {0}
+CanShowAny (Some of) = CanShow of
+
+-- where its witness files are put
+abbrev pub dir_in : Option Shown → Option Bytes
+dir_in None = None
+dir_in (Some of) = Some of.dir.now
+
+-- its witness files
+abbrev pub puts_in : Option Shown → List PutFile
+puts_in None = []
+puts_in (Some of) = witness_puts of.dir.now of.old of.new of.verdict
+
+-- ---- the report
+
+-- the bytes are those of a command's report, and by whatever gates, it passes where that does
 pub record TellsOf (command : CommandOf) (of : ReportOf command) (report : Report) : Type 0 where
   pub text : report.text.items ≡ bytes_of command of
-  pub passes : report.passes ≡ true → Passes command of
-  pub fails : report.passes ≡ false → ¬ (Passes command of)
+  pub answer : (gates : List GateOf) → passes_by gates report.condition ≡ passes gates command of
 
--- what a check promises beside its verdict
-abbrev pub Upholds : Option (List FileOf) → (command : CommandOf) → ReportOf command → Type 0
-Upholds content (CheckCommand check) v = (v.findings ≡ [] → Told content (λ files. IsCompatible files check v)) × (v.findings ≢ [] → Told content (λ files. IsIncompatible files check v))
-Upholds content (LinkCommand link) list = Unit {0}
+-- what is promised of a check's verdict and of its witness files
+pub record IsChecked (files : List FileOf) (check : CheckOf) (v : Verdict) (puts : List PutFile) : Type 0 where
+  pub records : CheckRecords files check
+  pub verdict : IsVerdictOn records.platform records.old records.new v
+  pub kept : v.findings ≡ [] → (cs : List ClientClass) → IsInScope (old_side records) (new_side records) cs → MeetsNone (old_side records) cs v.collisions
+      → Keeps (old_side records) (new_side records) cs
+  pub broken : v.findings ≢ [] → (cs : List ClientClass) × IsBroken (old_side records) (new_side records) v cs
+  pub breaks : All (λ f. f.rule ≡ 1 → BreaksClass (old_side records) (new_side records) f.class f.error) v.findings
+  pub shown : All (IsShown (old_side records) (new_side records)) (causes_of v)
+  pub puts_are : puts ≡ puts_below check.witness (old_side records) (new_side records) v
+
+-- what a command promises beside its report
+abbrev pub Upholds : Option (List FileOf) → (command : CommandOf) → ReportOf command → List PutFile → Type 0
+Upholds content (CheckCommand check) v puts = Told content (λ files. IsChecked files check v puts)
+Upholds content (LinkCommand link) list puts = Unit {0}
 
 -- it tells of the command's report on the records of its trees
 pub record IsReportOf (command : CommandOf) (trees : TreesState) (report : Report) : Type 0 where
   pub of : ReportOf command
   pub tells : TellsOf command of report
-  pub is_report : Told trees.content (λ files. (records : RecordsOf files command) × IsReportOn files command records of)
-  pub upholds : Upholds trees.content command of
+  pub dir_is : dir_in report.shown ≡ witness_dir command
+  pub can_show : CanShowAny report.shown
+  pub is_report : Told trees.content (λ files. (records : RecordsOf files command) × IsReportOn files command records of × (puts_in report.shown ≡ puts_of files command records of))
+  pub upholds : Upholds trees.content command of (puts_in report.shown)
 
--- it tells of the report of the command that the words ask for
-pub record Reports (words : List Bytes) (trees : TreesState) (report : Report) : Type 0 where
+-- it tells of the report of the command that the words ask for, where these gates are there
+pub record Reports (gates : List GateOf) (words : List Bytes) (trees : TreesState) (report : Report) : Type 0 where
   pub command : CommandOf
-  pub asked_for : asked words ≡ Some command
+  pub asked_for : asked_of gates words ≡ Ok command
   pub is : IsReportOf command trees report

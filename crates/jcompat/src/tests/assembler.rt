@@ -30,7 +30,7 @@ pub(crate) struct Class<'a> {
 }
 
 /// The text before the mark, and the text behind it, or the text and nothing.
-fn cut(text: &str, mark: char) -> (&str, &str) {
+pub(crate) fn cut(text: &str, mark: char) -> (&str, &str) {
     text.split_once(mark).unwrap_or((text, ""))
 }
 

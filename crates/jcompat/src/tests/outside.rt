@@ -1,8 +1,8 @@
 use crate::disk_trees::DiskTrees;
-use crate::run::run;
 use crate::std_sink::StdSink;
-use crate::words_after_name;
+use crate::{run_words, words_after_name};
 use jc_base::sink::{Sink, SinkError};
+use jc_base::sure_folder::SureFolder;
 use jc_base::sure_sink::SureSink;
 use jc_base::sure_trees::SureTrees;
 use jc_base::trees::{TreeError, Trees};
@@ -11,12 +11,13 @@ use std::env::{Env, FillError};
 use std::io::Write;
 use std::os::unix::fs::symlink;
 use std::test::Fail;
-use std::{fs, io, process};
+use std::{env, fs, io, process};
 
 // A new folder of this test's own.
 pub(crate) fn new_folder(rt: &HostRuntime, name: &str) -> Result<String, Fail> {
     let id = process::id(rt.process());
-    let folder = format!(in rt.alloc(); "/tmp/jcompat_{name}_{id}")?;
+    let place = env::temp_dir(rt)?;
+    let folder = format!(in rt.alloc(); "{}/jcompat_{name}_{id}", place.as_str())?;
     if fs::exists(rt, folder.as_str())? {
         fs::remove_dir_all(rt, folder.as_str())?;
     }
@@ -168,7 +169,8 @@ fn a_word_that_isnt_utf8_is_a_wrong_word(rt: HostRuntime) -> Result<(), Fail> {
     let mut trees = SureTrees::new(Vec::new(alloc));
     let mut out = SureSink::new(alloc);
     let mut err = SureSink::new(alloc);
-    let answer = run(alloc, words.as_slice(), &mut trees, &mut out, &mut err);
+    let mut folder = SureFolder::new(alloc);
+    let answer = run_words(alloc, words, &mut trees, &mut out, &mut err, &mut folder);
     assert_eq!(rt; answer, 2);
     assert!(rt; out.bytes().is_empty());
     assert!(rt; err.bytes() == b"jcompat: usage: words\n".as_slice());

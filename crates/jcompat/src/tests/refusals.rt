@@ -1,4 +1,4 @@
-//! Words, trees and calls that are refused.
+//! Trees and calls that are refused.
 use super::assembler::Class;
 use super::outside::new_folder;
 use super::{Said, WORDS, is_said, says, trees_of};
@@ -81,43 +81,6 @@ fn trees_are_refused(rt: HostRuntime) -> Result<(), Fail> {
         assert!(rt;
             is_said(&rt, alloc, WORDS, lines, &(3, "", *line))?,
             "{shown}"
-        );
-    }
-    Ok(())
-}
-
-const OTHER_WORDS: &[&[&str]] = &[
-    &[],
-    &["compare", "--platform", "P", "--old", "O", "--new", "N"],
-    &["link", "--platform", "P", "--old", "O", "--new", "N"],
-    &["link", "--client", "C", "--platform", "P", "--release", "R"],
-    &["check"],
-    &["check", "--old", "O", "--platform", "P", "--new", "N"],
-    &[
-        "check",
-        "--platform",
-        "P",
-        "--old",
-        "O",
-        "--new",
-        "N",
-        "--json",
-    ],
-];
-
-#[test]
-fn other_words_are_refused(rt: HostRuntime) -> Result<(), Fail> {
-    let alloc = rt.alloc();
-    for words in OTHER_WORDS {
-        let mut trees = trees_of(&rt, alloc, &["P java/lang/Object init"], &[])?;
-        assert!(rt;
-            says(
-                alloc,
-                words,
-                &mut trees,
-                [&[], &[]],
-                &(2, "", "jcompat: usage: words\n")
-            )?
         );
     }
     Ok(())

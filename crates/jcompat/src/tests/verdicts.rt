@@ -8,7 +8,7 @@ use std::test::Fail;
 /// What is shown, the files, the exit status and the output.
 type Row = (&'static str, &'static [&'static str], u8, &'static str);
 
-const ROWS: &[Row] = &[
+pub(super) const ROWS: &[Row] = &[
     (
         "an unchanged class",
         &["P java/lang/Object init", "O p/A init", "N p/A init"],

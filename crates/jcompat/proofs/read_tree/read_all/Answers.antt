@@ -5,8 +5,9 @@ use Rattle.jc_base.specs.States.{change}
 use Rattle.jc_facts.specs.Names.{Bytes}
 use Rattle.jc_facts.specs.declared.client.ClientClass.{ClientClass}
 use Rattle.jc_facts.specs.client.Clients.{IsValidClient}
+use Rattle.jc_bodies.specs.Files.{HasShortNames}
 use Rattle.jcompat.specs.ClassFiles.{path_of}
-use Rattle.jcompat.specs.steps.CommandView.{tree_of}
+use Rattle.jcompat.specs.steps.TreeView.{tree_of}
 use Rattle.jcompat.proofs.FrontRead.{read_more, next_taken, first_of}
 use Rattle.jcompat.proofs.TreeRead.{stops_file}
 use Rattle.jcompat.proofs.read_tree.read_all.Goals as goal
@@ -28,6 +29,7 @@ loop-path-preserved g c =
           rw (taken, c.in-Ok.ensures.items, map_push (λ (c : ClientClass). path_of c.facts.name) c.loop-path.classes.items c.in-Ok-Ok.class, c.loop-path.invariant.named)
           (ap (λ (p : Bytes). take c.loop-path.path-index c.args.paths.now ++ p ∷ []) (sym placed));
       valid = rw (c.in-Ok.ensures.items) (All-push IsValidClient c.loop-path.classes.items c.in-Ok-Ok.class c.loop-path.invariant.valid (rw c.in-Ok-Ok.field-0-is at c.in-Ok-Ok.ensures.valid));
+      short = rw (c.in-Ok.ensures.items) (All-push (λ (d : ClientClass). HasShortNames d.facts) c.loop-path.classes.items c.in-Ok-Ok.class c.loop-path.invariant.short (rw c.in-Ok-Ok.field-0-is at c.in-Ok-Ok.ensures.short));
       content = c.in-Ok-Ok.ensures.content ∙ c.loop-path.invariant.content;
       never_falls = λ r. omega (arith, c.in-Ok-Ok.ensures.never_falls r, c.loop-path.invariant.never_falls r);
     }

@@ -3,11 +3,12 @@ use Rattle.std.specs.Prelude.{map}
 use Rattle.std.specs.List.{All}
 use Rattle.jc_base.specs.States.{TreesState}
 use Rattle.jc_facts.specs.declared.client.ClientClass.{ClientClass}
+use Rattle.jc_bodies.specs.Files.{HasShortNames}
 use Rattle.jc_facts.specs.Names.{Bytes}
 use Rattle.jc_facts.specs.client.Clients.{IsValidClient}
 use Rattle.jcompat.specs.ClassFiles.{Told, path_of}
 use Rattle.jcompat.specs.Tree.{TreeOf}
-use Rattle.jcompat.specs.steps.CommandView.{tree_of}
+use Rattle.jcompat.specs.steps.TreeView.{tree_of}
 use Rattle.jcompat.specs.steps.ReadTree.{AreReadAt}
 use Rattle.jcompat.proofs.read_tree.read_all.Given as goal
 
@@ -15,6 +16,7 @@ pub record Reading (tree : TreeOf) (taken : List Bytes) (cs : List ClientClass) 
   pub read : Told before.content (λ files. AreReadAt files tree taken cs)
   pub named : map (λ c. path_of c.facts.name) cs ≡ taken
   pub valid : All IsValidClient cs
+  pub short : All (λ c. HasShortNames c.facts) cs
   pub content : now.content ≡ before.content
   pub never_falls : (r : Bytes) → before.faults r ≤ now.faults r
 

@@ -1,4 +1,4 @@
-use Rattle.jcompat.specs.steps.CommandView.{tree_of}
+use Rattle.jcompat.specs.steps.TreeView.{tree_of}
 use Rattle.jcompat.proofs.FrontRead.{read_told, fault_told}
 use Rattle.jcompat.proofs.read_tree.read_one.Goals as goal
 

@@ -2,7 +2,8 @@ use Rattle.std.proofs.Common.{◌≡◌, ◌∙◌, refl, rules, length, ◌≤�
 use Rattle.std.specs.Prelude.{nat_lt}
 use Rattle.std.specs.List.{list_any}
 use Rattle.jcompat.specs.declared.limits.TheConstants.{MAX_FILES, MAX_PATH}
-use Rattle.jcompat.specs.steps.CommandView.{tree_of}
+use Rattle.jcompat.specs.steps.TreeView.{tree_of}
+use Rattle.jcompat.proofs.ShortPaths.{short_listed}
 use Rattle.jcompat.proofs.TreeRead.{classes_are, class_list, long_path, stops_in}
 use Rattle.jcompat.proofs.read_tree.read_tree.Goals as goal
 
@@ -17,7 +18,7 @@ returns-in-Ok-read_all-clause-read g c = λ files told.
 pub returns-in-Ok-read_all-clause-classes : goal.returns-in-Ok-read_all-clause-classes
 returns-in-Ok-read_all-clause-classes g c =
     let few : length c.in-Ok.paths.items ≤ MAX_FILES = search rules in
-    class_list _ _ (rw c.as_slice-2.ensures.value at c.in-Ok-read_all.ensures.named) c.in-Ok.ensures.rising few c.in-Ok-read_all.ensures.valid
+    class_list _ _ (rw c.as_slice-2.ensures.value at c.in-Ok-read_all.ensures.named) c.in-Ok.ensures.rising few c.in-Ok-read_all.ensures.valid c.in-Ok-read_all.ensures.short
 
 pub returns-clause-stopped : goal.returns-clause-stopped
 returns-clause-stopped g c =
@@ -32,3 +33,8 @@ returns-then-has_long_path-clause-stopped g c =
     let few : length c.in-Ok.paths.items ≤ MAX_FILES = search rules in
     let long : list_any (λ p. nat_lt MAX_PATH (length p)) c.in-Ok.paths.items ≡ true = search rules in
     (refl, λ files told. let are = c.in-Ok.ensures.exact files told in (record { paths = c.in-Ok.paths.items; are = are; few = few }, long_path files c.args.tree.now.root.now _ are long))
+
+pub read_all-requires-clause-short : goal.read_all-requires-clause-short
+read_all-requires-clause-short g c =
+    let short : list_any (λ p. nat_lt MAX_PATH (length p)) c.in-Ok.paths.items ≡ false = search rules in
+    rw c.as_slice-2.ensures.value (short_listed c.in-Ok.paths.items short)

@@ -5,7 +5,7 @@ use Rattle.jc_facts.specs.declared.client.ClientClass.{ClientClass}
 use Rattle.jc_facts.specs.Names.{Bytes}
 use Rattle.jcompat.specs.ClassFiles.{Told}
 use Rattle.jcompat.specs.Tree.{TreeOf}
-use Rattle.jcompat.specs.steps.CommandView.{tree_of}
+use Rattle.jcompat.specs.steps.TreeView.{tree_of}
 use Rattle.jcompat.specs.steps.ReadTree.{IsClassList}
 use Rattle.jcompat.specs.steps.ReadTrees.{AreClassesOf}
 use Rattle.jcompat.proofs.read_trees.read_trees.Given as goal

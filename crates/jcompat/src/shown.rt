@@ -1,0 +1,13 @@
+//! What witnesses are to show.
+use jc_facts::verdict::Verdict;
+use jc_table::table::Table;
+
+/// A verdict whose witnesses are asked for: the folder that they are put into, the platform with the
+/// old release and with the new one, and what was found.
+#[derive(Drop)]
+pub struct Shown<'a> {
+    pub dir: &'a str,
+    pub old: Table,
+    pub new: Table,
+    pub verdict: Verdict,
+}
