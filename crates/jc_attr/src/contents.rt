@@ -67,7 +67,7 @@ fn host(alloc: Global, pool: &Pool<'_>, body: &[u8]) -> Result<Option<Name>, All
         Err(_) => Ok(None),
         Ok((name, rest)) => {
             if rest.is_empty() {
-                Ok(Some(Name::from_bytes(alloc, name)?))
+                Ok(Some(pool.name(alloc, name)?))
             } else {
                 Ok(None)
             }
@@ -106,7 +106,7 @@ fn text(alloc: Global, pool: &Pool<'_>, body: &[u8]) -> Result<Option<Name>, All
     };
     match pool.utf8(index) {
         None => Ok(None),
-        Some(text) => Ok(Some(Name::from_bytes(alloc, text)?)),
+        Some(text) => Ok(Some(pool.name(alloc, text)?)),
     }
 }
 
@@ -136,7 +136,7 @@ fn value(alloc: Global, pool: &Pool<'_>, body: &[u8]) -> Result<Option<Constant>
         Some(PoolConstant::Float(n)) => Ok(Some(Constant::Float(n))),
         Some(PoolConstant::Long(n)) => Ok(Some(Constant::Long(n))),
         Some(PoolConstant::Double(n)) => Ok(Some(Constant::Double(n))),
-        Some(PoolConstant::Text(text)) => Ok(Some(Constant::Text(Name::from_bytes(alloc, text)?))),
+        Some(PoolConstant::Text(text)) => Ok(Some(Constant::Text(pool.name(alloc, text)?))),
     }
 }
 

@@ -2,6 +2,7 @@
 //! folders that it writes files to.
 #![tactic(auto)]
 
+pub mod file_buf;
 mod file_map;
 pub mod folder;
 pub mod items;

@@ -69,19 +69,15 @@ fn find<'a>(files: &'a [MemFile], root: &str, path: &str) -> Option<&'a [u8]>
 }
 
 // A file's first bytes, at most as many as given.
-pub(crate) fn front(
-    alloc: Global,
-    files: &[MemFile],
+pub(crate) fn front<'a>(
+    files: &'a [MemFile],
     root: &str,
     path: &str,
     most: usize,
-) -> Result<Option<Vec<u8>>, AllocError>
-    ensures { IfOk result (λ found. MatchOption found (file_at root.now path.now (files_of files.now) ≡ None)
-        (λ read. (bytes : _) × (file_at root.now path.now (files_of files.now) ≡ Some bytes) × (read.items ≡ take most bytes))) }
+) -> Option<&'a [u8]>
+    ensures { MatchOption result (file_at root.now path.now (files_of files.now) ≡ None)
+        (λ read. (bytes : _) × (file_at root.now path.now (files_of files.now) ≡ Some bytes) × (read.now ≡ take most bytes)) }
 {
-    let Some(bytes) = find(files, root, path) else {
-        return Ok(None);
-    };
-    let len = bytes.len().min(most);
-    Ok(Some(Vec::from_slice(alloc, &bytes[..len])?))
+    let bytes = find(files, root, path)?;
+    Some(&bytes[..bytes.len().min(most)])
 }

@@ -1,10 +1,11 @@
 //! Trees in memory, whose calls fail by a list.
-ghost use Rattle.std.specs.Prelude.{◌≡◌, ◌≤◌, ◌<◌, ◌+◌, ◌^◌, ◌⊎◌, ℕ, List, Some, true, false, length, IfOk, OnOk, IsErrOf, IsOkUnless, IsTrue};
+ghost use Rattle.std.specs.Prelude.{◌≡◌, ◌≤◌, ◌<◌, ◌+◌, ◌^◌, ◌⊎◌, ℕ, List, Some, true, false, [], length, IfOk, OnOk, OnErr, IsErrOf, IsOk, IsOkUnless, IsTrue};
 ghost use Rattle.jc_base.specs.Causes.{Rose, RoseByOne, KeepsCounts, KeepsOtherCounts};
 ghost use Rattle.jc_base.specs.Outside.{Lists, Holds, ReadsFront, are_distinct, are_files};
 ghost use Rattle.jc_base.specs.MemFile.{files_of};
 ghost use Rattle.jc_base.specs.Schedule.{Plan, fails_next, after_call};
 
+use crate::file_buf::FileBuf;
 use crate::mem_file::{MemFile, front, paths};
 use crate::root_faults::RootFaults;
 use crate::schedule::Schedule;
@@ -12,7 +13,7 @@ use crate::text::Text;
 use crate::trees::{MAX_BYTES, TreeError, Trees};
 use std::alloc::Global;
 
-/// Trees in memory. The calls of the given numbers, counted from 1 over `list` and `read`, fail.
+/// Trees in memory. The calls of the given numbers, counted from 1 over `list` and `read_into`, fail.
 /// The counter of calls stops at `u64::MAX`, and no call made from then on fails.
 #[derive(Drop)]
 pub struct MemTrees {
@@ -98,17 +99,19 @@ impl Trees for MemTrees {
         }
     }
 
-    fn read(
+    fn read_into(
         &mut self,
         alloc: Global,
         root: &str,
         path: &str,
         limit: u32,
-    ) -> Result<Vec<u8>, TreeError>
+        into: &mut FileBuf,
+    ) -> Result<(), TreeError>
         requires held { Holds (Some (held_by self.old)) root.now path.now }
         requires limit { limit ≤ MAX_BYTES }
-        ensures bytes { IfOk result (λ read. ReadsFront (Some (held_by self.old)) root.now path.now (limit + 1) read.items) }
-        ensures short { IfOk result (λ read. length read.items ≤ limit + 1) }
+        ensures bytes { OnOk result (ReadsFront (Some (held_by self.old)) root.now path.now (limit + 1) into.new) }
+        ensures short { OnOk result (length into.new ≤ limit + 1) }
+        ensures empty { OnErr result (into.new ≡ []) }
         ensures content { Some (held_by self.new) ≡ Some (held_by self.old) }
         ensures never_falls { (r : List ℕ) → faults_at self.old r ≤ faults_at self.new r }
         ensures bounded { (r : List ℕ) → faults_at self.new r < 2 ^ 64 }
@@ -124,14 +127,14 @@ impl Trees for MemTrees {
         ensures counted { plan_of self.new ≡ after_call (plan_of self.old) }
         ensures fails { fails_next (plan_of self.old) ≡ true → IsErrOf result TreeError.Fault ⊎ IsErrOf result TreeError.Memory }
         ensures needs_no_memory { fails_next (plan_of self.old) ≡ true → 0 < faults_at self.old root.now → IsErrOf result TreeError.Fault }
-        ensures succeeds { fails_next (plan_of self.old) ≡ false → IsOkUnless result TreeError.Memory }
+        ensures succeeds { fails_next (plan_of self.old) ≡ false → IsOk result }
     {
+        into.clear();
         if self.schedule.next_fails() {
             return Err(self.fault(alloc, root));
         }
-        match front(alloc, self.files.as_slice(), root, path, limit as usize + 1) {
-            Ok(found) => Ok(found.unwrap()),
-            Err(_) => Err(TreeError::Memory),
-        }
+        let found = front(self.files.as_slice(), root, path, limit as usize + 1);
+        into.append(found.unwrap());
+        Ok(())
     }
 }

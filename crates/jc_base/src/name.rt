@@ -12,20 +12,22 @@ use std::cmp::Ordering;
 use std::fmt;
 use std::hash::{Hash, Hasher};
 use std::marker::Model;
+use std::rc::RcSlice;
 
 /// A name or a descriptor: a list of bytes, as a class file holds them (JVMS 4.2, 4.3, 4.4.7). A
-/// contract sees it as these bytes, which it is compared and hashed by.
+/// contract sees it as these bytes, which it is compared and hashed by. Its copies share them.
 #[derive(Drop)]
 pub struct Name {
-    bytes: Vec<u8>,
+    bytes: RcSlice<u8>,
 }
 
 impl Model for Name {
     ghost use Rattle.std.specs.Prelude.{List, ℕ};
+    ghost use Rattle.std.specs.Rc.{rc_slice_items};
 
     ghost Value = { List ℕ };
 
-    ghost view = { λ n. n.bytes.items };
+    ghost view = { λ n. rc_slice_items n.bytes };
 }
 
 impl Name {
@@ -34,7 +36,7 @@ impl Name {
         ensures { IfOk result (λ name. name ≡ bytes.now) }
     {
         Ok(Name {
-            bytes: Vec::from_slice(alloc, bytes)?,
+            bytes: RcSlice::from_slice(alloc, bytes)?,
         })
     }
 
@@ -45,11 +47,17 @@ impl Name {
         self.bytes.as_slice()
     }
 
-    /// A copy of the name. It is no `Clone`, since copying may want memory.
-    pub fn copy(&self, alloc: Global) -> Result<Name, AllocError>
+    /// A copy of the name, which shares its bytes and takes no memory.
+    ///
+    /// # Errors
+    ///
+    /// `AllocError` where the bytes have as many copies as can be counted.
+    pub fn copy(&self, _alloc: Global) -> Result<Name, AllocError>
         ensures { IfOk result (λ name. name ≡ self.now) }
     {
-        Name::from_bytes(alloc, self.as_bytes())
+        Ok(Name {
+            bytes: self.bytes.clone()?,
+        })
     }
 }
 

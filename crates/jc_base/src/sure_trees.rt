@@ -4,6 +4,7 @@ ghost use Rattle.jc_base.specs.Outside.{are_files};
 ghost use Rattle.jc_base.specs.States.{TreesState};
 ghost use Rattle.jc_base.specs.MemFile.{files_of};
 
+use crate::file_buf::FileBuf;
 use crate::mem_file::{MemFile, front, paths};
 use crate::text::Text;
 use crate::trees::{TreeError, Trees};
@@ -37,16 +38,17 @@ impl Trees for SureTrees {
         }
     }
 
-    fn read(
+    fn read_into(
         &mut self,
-        alloc: Global,
+        _alloc: Global,
         root: &str,
         path: &str,
         limit: u32,
-    ) -> Result<Vec<u8>, TreeError> {
-        match front(alloc, self.files.as_slice(), root, path, limit as usize + 1) {
-            Ok(found) => Ok(found.unwrap()),
-            Err(_) => Err(TreeError::Memory),
-        }
+        into: &mut FileBuf,
+    ) -> Result<(), TreeError> {
+        let found = front(self.files.as_slice(), root, path, limit as usize + 1);
+        into.clear();
+        into.append(found.unwrap());
+        Ok(())
     }
 }

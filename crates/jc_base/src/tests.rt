@@ -1,7 +1,8 @@
-ghost use Rattle.std.specs.Prelude.{◌≤◌, IsTrue};
+ghost use Rattle.std.specs.Prelude.{◌≤◌, IsTrue, length};
 ghost use Rattle.jc_base.specs.Outside.{are_files};
 ghost use Rattle.jc_base.specs.MemFile.{files_of};
 
+use crate::file_buf::FileBuf;
 use crate::folder::{Folder, FolderError};
 use crate::items::Items;
 use crate::mem_file::{MemFile, is_file_list};
@@ -16,6 +17,9 @@ use crate::sure_trees::SureTrees;
 use crate::text::Text;
 use crate::trees::{MAX_BYTES, TreeError, Trees};
 use std::alloc::{AllocError, Global};
+use std::io;
+use std::io::{ErrorKind, Read};
+use std::process::Abort;
 use std::test::Fail;
 
 fn file(alloc: Global, root: &str, path: &str, bytes: &[u8]) -> Result<MemFile, AllocError> {
@@ -24,6 +28,12 @@ fn file(alloc: Global, root: &str, path: &str, bytes: &[u8]) -> Result<MemFile, 
         path: Text::from_str(alloc, path)?,
         bytes: Vec::from_slice(alloc, bytes)?,
     })
+}
+
+fn one_file(alloc: Global, bytes: &[u8]) -> Result<Vec<MemFile>, AllocError> {
+    let mut files = Vec::new(alloc);
+    files.push(file(alloc, "old", "p/A", bytes)?)?;
+    Ok(files)
 }
 
 fn two_files(alloc: Global) -> Result<Vec<MemFile>, AllocError> {
@@ -65,31 +75,123 @@ fn the_listed_calls_on_trees_fail(rt: HostRuntime) -> Result<(), Fail> {
     Ok(())
 }
 
-// The front of the one file of the root.
-fn front(alloc: Global, files: Vec<MemFile>, limit: u32) -> Result<Option<Vec<u8>>, TreeError>
+// Reads the one file of the root into the buffer.
+fn read_one(
+    alloc: Global,
+    files: Vec<MemFile>,
+    limit: u32,
+    buffer: &mut FileBuf,
+) -> Result<(), TreeError>
     requires distinct { IsTrue (are_files (files_of files.items)) }
     requires limit { limit ≤ MAX_BYTES }
 {
     let mut trees = SureTrees::new(files);
     match trees.list(alloc, "old")?.first() {
-        Some(path) => Ok(Some(trees.read(alloc, "old", path.as_str(), limit)?)),
-        None => Ok(None),
+        Some(path) => trees.read_into(alloc, "old", path.as_str(), limit, buffer),
+        None => Err(TreeError::Fault),
+    }
+}
+
+// Whether the front of these bytes is read as so many of them.
+fn reads(
+    rt: &impl Abort,
+    alloc: Global,
+    bytes: &[u8],
+    limit: u32,
+    count: usize,
+    buffer: &mut FileBuf,
+) -> Result<bool, TreeError>
+    requires limit { limit ≤ MAX_BYTES }
+    requires count { count ≤ length bytes.now }
+{
+    let Ok(files) = one_file(alloc, bytes) else {
+        return Err(TreeError::Memory);
+    };
+    assert!(rt; is_file_list(files.as_slice()));
+    read_one(alloc, files, limit, buffer)?;
+    Ok(buffer.as_bytes() == &bytes[..count])
+}
+
+#[test]
+fn trees_give_the_fronts_of_files_one_after_the_other(rt: HostRuntime) -> Result<(), Fail> {
+    let alloc = rt.alloc();
+    let mut buffer = FileBuf::new(alloc)?;
+    let long = [7u8; 3_000];
+    assert!(rt; reads(&rt, alloc, &long, 2_999, 3_000, &mut buffer)?);
+    assert!(rt; reads(&rt, alloc, b"abc", 1, 2, &mut buffer)?);
+    assert!(rt; reads(&rt, alloc, b"abc", MAX_BYTES, 3, &mut buffer)?);
+    assert!(rt; reads(&rt, alloc, &long, 2_998, 2_999, &mut buffer)?);
+    assert!(rt; reads(&rt, alloc, b"", MAX_BYTES, 0, &mut buffer)?);
+    Ok(())
+}
+
+// Whether reading the one file of the root is a fault.
+fn is_fault(alloc: Global, trees: &mut MemTrees, buffer: &mut FileBuf) -> Result<bool, TreeError> {
+    match trees.list(alloc, "old")?.first() {
+        Some(path) => {
+            let read = trees.read_into(alloc, "old", path.as_str(), 9, buffer);
+            Ok(matches!(read, Err(TreeError::Fault)))
+        }
+        None => Ok(false),
     }
 }
 
 #[test]
-fn trees_give_the_front_of_a_file(rt: HostRuntime) -> Result<(), Fail> {
+fn a_failed_read_leaves_an_empty_buffer(rt: HostRuntime) -> Result<(), Fail> {
     let alloc = rt.alloc();
-    for (limit, wanted) in [
-        (1, b"ab".as_slice()),
-        (2, b"abc".as_slice()),
-        (4_194_304, b"abc".as_slice()),
-    ] {
-        let files = two_files(alloc)?;
-        assert!(rt; is_file_list(files.as_slice()));
-        let read = front(alloc, files, limit)?.ok_or("no file")?;
-        assert!(rt; read.as_slice() == wanted, "at {limit}");
+    let mut buffer = FileBuf::new(alloc)?;
+    buffer.append(b"of another file");
+    let files = two_files(alloc)?;
+    assert!(rt; is_file_list(files.as_slice()));
+    let mut trees = MemTrees::new(alloc, files, Vec::from_slice(alloc, &[2])?);
+    assert!(rt; is_fault(alloc, &mut trees, &mut buffer)?);
+    assert!(rt; buffer.as_bytes().is_empty());
+    assert_eq!(rt; trees.faults("old"), 1);
+    assert!(rt; !is_fault(alloc, &mut trees, &mut buffer)?);
+    assert!(rt; buffer.as_bytes() == b"abc".as_slice());
+    Ok(())
+}
+
+/// A source that gives so many bytes, one a read, and then fails.
+#[derive(Drop)]
+struct Torn {
+    left: usize,
+}
+
+impl Read for Torn {
+    fn read(&mut self, buf: &mut [u8]) -> io::Result<usize> {
+        if self.left == 0 {
+            return Err(io::Error::from(ErrorKind::UnexpectedEof));
+        }
+        if buf.is_empty() {
+            return Ok(0);
+        }
+        self.left -= 1;
+        buf[0] = b'x';
+        Ok(1)
     }
+}
+
+#[test]
+fn a_buffer_holds_what_was_put_since_it_was_cleared(rt: HostRuntime) -> Result<(), Fail> {
+    let alloc = rt.alloc();
+    let mut buffer = FileBuf::new(alloc)?;
+    assert!(rt; buffer.as_bytes().is_empty());
+    buffer.append(b"abc");
+    buffer.append(b"");
+    buffer.append(b"de");
+    assert!(rt; buffer.as_bytes() == b"abcde".as_slice());
+    buffer.clear();
+    buffer.append(b"f");
+    let mut source = b"ghi".as_slice();
+    assert_eq!(rt; buffer.append_from(&mut source, 2)?, 2);
+    assert_eq!(rt; buffer.append_from(&mut source, 9)?, 1);
+    assert_eq!(rt; buffer.append_from(&mut source, 9)?, 0);
+    assert!(rt; buffer.as_bytes() == b"fghi".as_slice());
+    let mut torn = Torn { left: 1 };
+    assert_eq!(rt; buffer.append_from(&mut torn, 9)?, 1);
+    assert!(rt; buffer.append_from(&mut torn, 9).is_err());
+    assert!(rt; buffer.as_bytes() == b"fghix".as_slice());
     Ok(())
 }
 

@@ -1,9 +1,10 @@
 //! Where files are read from.
-ghost use Rattle.std.specs.Prelude.{◌≡◌, ◌≤◌, ◌<◌, ◌+◌, ◌^◌, ℕ, List, length, IfOk, IsErrOf, IsTrue};
+ghost use Rattle.std.specs.Prelude.{◌≡◌, ◌≤◌, ◌<◌, ◌+◌, ◌^◌, ℕ, List, [], length, IfOk, OnOk, OnErr, IsErrOf, IsTrue};
 ghost use Rattle.jc_base.specs.Causes.{Rose};
 ghost use Rattle.jc_base.specs.Outside.{Lists, Holds, ReadsFront, are_distinct};
 ghost use Rattle.jc_base.specs.States.{TreesState};
 
+use crate::file_buf::FileBuf;
 use crate::text::Text;
 use std::alloc::Global;
 use thiserror::Error;
@@ -36,19 +37,22 @@ pub trait Trees {
         ensures bounded { (r : List ℕ) → (state self.new).faults r < 2 ^ 64 }
         ensures cause { IsErrOf result TreeError.Fault → Rose ((state self.old).faults root.now) ((state self.new).faults root.now) };
 
-    /// The first `limit + 1` bytes of a file, or the whole file where it is no longer. The limit
-    /// is at most [`MAX_BYTES`].
-    fn read(
+    /// Fills the buffer with the first `limit + 1` bytes of a file, or with the whole file where it is
+    /// no longer. The limit is at most [`MAX_BYTES`]. What the buffer held is lost; it is empty where the
+    /// file isn't read.
+    fn read_into(
         &mut self,
         alloc: Global,
         root: &str,
         path: &str,
         limit: u32,
-    ) -> Result<Vec<u8>, TreeError>
+        into: &mut FileBuf,
+    ) -> Result<(), TreeError>
         requires held { Holds (state self.old).content root.now path.now }
         requires limit { limit ≤ MAX_BYTES }
-        ensures bytes { IfOk result (λ read. ReadsFront (state self.old).content root.now path.now (limit + 1) read.items) }
-        ensures short { IfOk result (λ read. length read.items ≤ limit + 1) }
+        ensures bytes { OnOk result (ReadsFront (state self.old).content root.now path.now (limit + 1) into.new) }
+        ensures short { OnOk result (length into.new ≤ limit + 1) }
+        ensures empty { OnErr result (into.new ≡ []) }
         ensures content { (state self.new).content ≡ (state self.old).content }
         ensures never_falls { (r : List ℕ) → (state self.old).faults r ≤ (state self.new).faults r }
         ensures bounded { (r : List ℕ) → (state self.new).faults r < 2 ^ 64 }

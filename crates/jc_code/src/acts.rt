@@ -20,16 +20,16 @@ use jc_pool::pool::MemberRef;
 use std::alloc::{AllocError, Global};
 
 /// An act on a member that is not of an array class, with this receiver.
-fn use_of(
+fn use_of<'a>(
     alloc: Global,
-    a: Around<'_, '_>,
+    a: Around<'a, '_>,
     act: Act,
-    m: MemberRef<'_>,
-    receiver: Option<&[u8]>,
+    m: MemberRef<'a>,
+    receiver: Option<&'a [u8]>,
 ) -> Result<Item, AllocError>
     ensures { IfOk result (λ i. i ≡ typing.use_of (around_view a.entry) act (member_view m.entry) (option_map (λ x. x.now) receiver.entry)) }
 {
-    access_item(alloc, act, m, receiver, place_of(a.name))
+    access_item(alloc, a.pool, act, m, receiver, place_of(a.name))
 }
 
 #[tactic(auto, unfolding(jc_facts::specs::code::Typing::get_static))]
@@ -67,7 +67,7 @@ fn put_static<'a>(
         return Ok(false);
     };
     items.push(use_of(alloc, a, Act::PutStatic, m, None)?)?;
-    let fits = fit(alloc, value, kind, items)?;
+    let fits = fit(alloc, a.pool, value, kind, items)?;
     Ok(fits)
 }
 
@@ -118,7 +118,7 @@ fn put_field<'a>(
         return Ok(false);
     };
     items.push(use_of(alloc, a, Act::PutField, m, r)?)?;
-    let fits = fit(alloc, value, kind, items)?;
+    let fits = fit(alloc, a.pool, value, kind, items)?;
     Ok(fits)
 }
 
@@ -150,7 +150,13 @@ fn call_static<'a>(
         return Ok(false);
     };
     items.push(use_of(alloc, a, act, m, None)?)?;
-    let fits = fit_all(alloc, args.as_slice(), kinds.params.as_slice(), items)?;
+    let fits = fit_all(
+        alloc,
+        a.pool,
+        args.as_slice(),
+        kinds.params.as_slice(),
+        items,
+    )?;
     push_result(&mut frame.stack, kinds.result)?;
     Ok(fits)
 }
@@ -180,7 +186,13 @@ fn call<'a>(
         return Ok(false);
     };
     items.push(use_of(alloc, a, act, m, r)?)?;
-    let fits = fit_all(alloc, args.as_slice(), kinds.params.as_slice(), items)?;
+    let fits = fit_all(
+        alloc,
+        a.pool,
+        args.as_slice(),
+        kinds.params.as_slice(),
+        items,
+    )?;
     push_result(&mut frame.stack, kinds.result)?;
     Ok(fits)
 }

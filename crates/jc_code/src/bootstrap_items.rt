@@ -60,7 +60,7 @@ fn row_items(
     let Some(handle) = pool.handle(row.handle) else {
         return Ok(false);
     };
-    items.push(handle_item(alloc, handle)?)?;
+    items.push(handle_item(alloc, pool, handle)?)?;
     arguments(alloc, pool, row.arguments.as_slice(), items)
 }
 

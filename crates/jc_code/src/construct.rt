@@ -74,14 +74,14 @@ fn initialized<'a>(
             if m.class != name {
                 return Ok(None);
             }
-            let item = init_item(alloc, false, m.class, m.descriptor)?;
+            let item = init_item(alloc, a.pool, false, m.class, m.descriptor)?;
             Ok(Some((item, name)))
         }
         Kind::Unset => {
             if !is_own(a, m.class) {
                 return Ok(None);
             }
-            let item = init_item(alloc, true, m.class, m.descriptor)?;
+            let item = init_item(alloc, a.pool, true, m.class, m.descriptor)?;
             Ok(Some((item, a.class)))
         }
         Kind::Int => Ok(None),
@@ -118,7 +118,13 @@ pub(crate) fn construct<'a>(
         return Ok(false);
     };
     items.push(item)?;
-    let fits = fit_all(alloc, args.as_slice(), kinds.params.as_slice(), items)?;
+    let fits = fit_all(
+        alloc,
+        a.pool,
+        args.as_slice(),
+        kinds.params.as_slice(),
+        items,
+    )?;
     let stack = all_made(alloc, top, name, frame.stack.as_slice())?;
     let locals = all_made(alloc, top, name, frame.locals.as_slice())?;
     frame.stack = stack;

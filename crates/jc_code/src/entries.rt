@@ -8,7 +8,6 @@ ghost use Rattle.jc_facts.specs.code.Code as code;
 ghost use Rattle.jc_code.specs.steps.Pushed.{Adds};
 
 use jc_attr::classes::is_bracketed;
-use jc_base::name::Name;
 use jc_desc::tags;
 use jc_facts::act::Act;
 use jc_facts::client::{Item, Place};
@@ -17,31 +16,36 @@ use jc_pool::pool::{HandleRef, MemberRef, Pool};
 use std::alloc::{AllocError, Global};
 
 /// The item of a class.
-pub(crate) fn class_item(alloc: Global, name: &[u8]) -> Result<Item, AllocError>
+pub(crate) fn class_item<'a>(
+    alloc: Global,
+    pool: &Pool<'a>,
+    name: &'a [u8],
+) -> Result<Item, AllocError>
     ensures { IfOk result (λ i. i ≡ item.Class name.now) }
 {
     Ok(Item::Class {
-        class: Name::from_bytes(alloc, name)?,
+        class: pool.name(alloc, name)?,
     })
 }
 
 /// An act on a member, with a receiver of this type.
-pub(crate) fn access_item(
+pub(crate) fn access_item<'a>(
     alloc: Global,
+    pool: &Pool<'a>,
     act: Act,
-    m: MemberRef<'_>,
-    receiver: Option<&[u8]>,
+    m: MemberRef<'a>,
+    receiver: Option<&'a [u8]>,
     place: Place,
 ) -> Result<Item, AllocError>
     ensures { IfOk result (λ i. i ≡ item.Access act m.entry.class.now (code.key_in (member_view m.entry)) (option_map (λ x. x.now) receiver.entry) place) }
 {
     let receiver = match receiver {
         None => None,
-        Some(name) => Some(Name::from_bytes(alloc, name)?),
+        Some(name) => Some(pool.name(alloc, name)?),
     };
-    let class = Name::from_bytes(alloc, m.class)?;
-    let name = Name::from_bytes(alloc, m.name)?;
-    let descriptor = Name::from_bytes(alloc, m.descriptor)?;
+    let class = pool.name(alloc, m.class)?;
+    let name = pool.name(alloc, m.name)?;
+    let descriptor = pool.name(alloc, m.descriptor)?;
     Ok(Item::Access {
         act,
         class,
@@ -52,16 +56,17 @@ pub(crate) fn access_item(
 }
 
 /// A call of the `<init>` of this descriptor: of the own instance, or of a new object.
-pub(crate) fn init_item(
+pub(crate) fn init_item<'a>(
     alloc: Global,
+    pool: &Pool<'a>,
     own: bool,
-    class: &[u8],
-    descriptor: &[u8],
+    class: &'a [u8],
+    descriptor: &'a [u8],
 ) -> Result<Item, AllocError>
     ensures { IfOk result (λ i. i ≡ (if own then item.Init class.now descriptor.now else item.New class.now descriptor.now)) }
 {
-    let class = Name::from_bytes(alloc, class)?;
-    let descriptor = Name::from_bytes(alloc, descriptor)?;
+    let class = pool.name(alloc, class)?;
+    let descriptor = pool.name(alloc, descriptor)?;
     if own {
         Ok(Item::Init { class, descriptor })
     } else {
@@ -70,28 +75,34 @@ pub(crate) fn init_item(
 }
 
 /// An act on a member whose receiver isn't known, or the item of the array class that it names.
-pub(crate) fn access(
+pub(crate) fn access<'a>(
     alloc: Global,
+    pool: &Pool<'a>,
     act: Act,
-    m: MemberRef<'_>,
+    m: MemberRef<'a>,
     place: Place,
 ) -> Result<Item, AllocError>
     ensures { IfOk result (λ i. i ≡ code.access act (member_view m.entry) place) }
 {
     if is_bracketed(m.class) {
-        return class_item(alloc, m.class);
+        return class_item(alloc, pool, m.class);
     }
-    access_item(alloc, act, m, None, place)
+    access_item(alloc, pool, act, m, None, place)
 }
 
 /// A call of `<init>`, or the item of the array class that it names.
-pub(crate) fn construct_item(alloc: Global, own: bool, m: MemberRef<'_>) -> Result<Item, AllocError>
+pub(crate) fn construct_item<'a>(
+    alloc: Global,
+    pool: &Pool<'a>,
+    own: bool,
+    m: MemberRef<'a>,
+) -> Result<Item, AllocError>
     ensures { IfOk result (λ i. i ≡ code.of_member (member_view m.entry) (if own then item.Init m.entry.class.now m.entry.descriptor.now else item.New m.entry.class.now m.entry.descriptor.now)) }
 {
     if is_bracketed(m.class) {
-        return class_item(alloc, m.class);
+        return class_item(alloc, pool, m.class);
     }
-    init_item(alloc, own, m.class, m.descriptor)
+    init_item(alloc, pool, own, m.class, m.descriptor)
 }
 
 /// The act for a method of a class or of an interface, as the reference says.
@@ -107,22 +118,27 @@ pub(crate) fn either(m: MemberRef<'_>, method: Act, interface: Act) -> Act
 
 /// The item of a method handle, by its kind (JVMS 5.4.3.5).
 #[tactic(auto, unfolding(jc_facts::specs::code::Code::handle_item))]
-pub(crate) fn handle_item(alloc: Global, h: HandleRef<'_>) -> Result<Item, AllocError>
+pub(crate) fn handle_item<'a>(
+    alloc: Global,
+    pool: &Pool<'a>,
+    h: HandleRef<'a>,
+) -> Result<Item, AllocError>
     ensures { IfOk result (λ i. i ≡ code.handle_item (handle_view h.entry)) }
 {
     if h.kind == 1 {
-        access(alloc, Act::GetField, h.member, Place::Other)
+        access(alloc, pool, Act::GetField, h.member, Place::Other)
     } else if h.kind == 2 {
-        access(alloc, Act::GetStatic, h.member, Place::Other)
+        access(alloc, pool, Act::GetStatic, h.member, Place::Other)
     } else if h.kind == 3 {
-        access(alloc, Act::PutField, h.member, Place::Other)
+        access(alloc, pool, Act::PutField, h.member, Place::Other)
     } else if h.kind == 4 {
-        access(alloc, Act::PutStatic, h.member, Place::Other)
+        access(alloc, pool, Act::PutStatic, h.member, Place::Other)
     } else if h.kind == 5 {
-        access(alloc, Act::InvokeVirtual, h.member, Place::Other)
+        access(alloc, pool, Act::InvokeVirtual, h.member, Place::Other)
     } else if h.kind == 6 {
         access(
             alloc,
+            pool,
             either(h.member, Act::InvokeStatic, Act::InvokeStaticInterface),
             h.member,
             Place::Other,
@@ -130,14 +146,15 @@ pub(crate) fn handle_item(alloc: Global, h: HandleRef<'_>) -> Result<Item, Alloc
     } else if h.kind == 7 {
         access(
             alloc,
+            pool,
             either(h.member, Act::InvokeSpecial, Act::InvokeSpecialInterface),
             h.member,
             Place::Other,
         )
     } else if h.kind == 8 {
-        construct_item(alloc, false, h.member)
+        construct_item(alloc, pool, false, h.member)
     } else {
-        access(alloc, Act::InvokeInterface, h.member, Place::Other)
+        access(alloc, pool, Act::InvokeInterface, h.member, Place::Other)
     }
 }
 
@@ -153,7 +170,7 @@ pub(crate) fn named(
     match pool.class(i) {
         None => Ok(false),
         Some(name) => {
-            items.push(class_item(alloc, name)?)?;
+            items.push(class_item(alloc, pool, name)?)?;
             Ok(true)
         }
     }
@@ -170,7 +187,7 @@ fn push_class(
     match pool.class(i) {
         None => Ok(()),
         Some(name) => {
-            items.push(class_item(alloc, name)?)?;
+            items.push(class_item(alloc, pool, name)?)?;
             Ok(())
         }
     }
@@ -187,7 +204,7 @@ fn push_handle(
     match pool.handle(i) {
         None => Ok(()),
         Some(h) => {
-            items.push(handle_item(alloc, h)?)?;
+            items.push(handle_item(alloc, pool, h)?)?;
             Ok(())
         }
     }

@@ -22,10 +22,10 @@ use jc_pool::pool::Pool;
 use std::alloc::{AllocError, Global};
 
 /// The items of the methods of a class whose first BootstrapMethods has these contents.
-fn class_items(
+fn class_items<'a>(
     alloc: Global,
-    pool: &Pool<'_>,
-    head: ClassHead<'_>,
+    pool: &Pool<'a>,
+    head: ClassHead<'a>,
     body: Option<&[u8]>,
     count: u16,
     bytes: &[u8],

@@ -15,6 +15,7 @@ use crate::opcodes;
 use crate::values::fit;
 use jc_desc::names::is_init;
 use jc_facts::client::Item;
+use jc_pool::pool::Pool;
 use std::alloc::{AllocError, Global};
 
 pub(crate) fn is_return(op: u8) -> bool
@@ -26,6 +27,7 @@ pub(crate) fn is_return(op: u8) -> bool
 #[tactic(auto, unfolding(jc_facts::specs::code::Typing::value_fits))]
 fn value_fits<'a>(
     alloc: Global,
+    pool: &Pool<'a>,
     op: u8,
     stack: &mut Vec<Kind<'a>>,
     due: Kind<'a>,
@@ -43,12 +45,13 @@ fn value_fits<'a>(
     if !of_number(op - opcodes::IRETURN, top) {
         return Ok(false);
     }
-    let fits = fit(alloc, top, due, items)?;
+    let fits = fit(alloc, pool, top, due, items)?;
     Ok(fits)
 }
 
 fn result_fits<'a>(
     alloc: Global,
+    pool: &Pool<'a>,
     op: u8,
     stack: &mut Vec<Kind<'a>>,
     due: Option<Kind<'a>>,
@@ -59,7 +62,7 @@ fn result_fits<'a>(
 {
     match due {
         None => Ok(op == opcodes::RETURN),
-        Some(due) => value_fits(alloc, op, stack, due, items),
+        Some(due) => value_fits(alloc, pool, op, stack, due, items),
     }
 }
 
@@ -81,6 +84,6 @@ pub(crate) fn leave<'a>(
     {
         return Ok(false);
     }
-    let fits = result_fits(alloc, op, &mut frame.stack, due, items)?;
+    let fits = result_fits(alloc, a.pool, op, &mut frame.stack, due, items)?;
     Ok(fits)
 }

@@ -11,6 +11,7 @@ use crate::frame::{Frame, is_unset, local, of_number, pop, push, put, takes_two}
 use crate::kinds::Kind;
 use crate::values::receiver;
 use jc_facts::client::Item;
+use jc_pool::pool::Pool;
 use std::alloc::{AllocError, Global};
 
 /// Puts a value of this kind on top.
@@ -112,14 +113,15 @@ pub(crate) fn pop_two<'a>(frame: &mut Frame<'a>, items: &mut Vec<Item>) -> Resul
 /// A Class item of this name, with this kind on top.
 pub(crate) fn push_with<'a>(
     alloc: Global,
-    name: &[u8],
+    pool: &Pool<'a>,
+    name: &'a [u8],
     gives: Kind<'a>,
     frame: &mut Frame<'a>,
     items: &mut Vec<Item>,
 ) -> Result<bool, AllocError>
     ensures { IfOk result (λ done. Makes items.old.items items.new.items (frame_view frame.new) (typing.push_with (frame_view frame.old) name.now (kind_view gives.entry)) done) }
 {
-    items.push(class_item(alloc, name)?)?;
+    items.push(class_item(alloc, pool, name)?)?;
     push(&mut frame.stack, gives)?;
     Ok(true)
 }
@@ -128,7 +130,8 @@ pub(crate) fn push_with<'a>(
 #[tactic(auto, unfolding(jc_facts::specs::code::Typing::cast))]
 pub(crate) fn cast<'a>(
     alloc: Global,
-    name: &[u8],
+    pool: &Pool<'a>,
+    name: &'a [u8],
     gives: Kind<'a>,
     frame: &mut Frame<'a>,
     items: &mut Vec<Item>,
@@ -141,7 +144,7 @@ pub(crate) fn cast<'a>(
     match receiver(top) {
         None => Ok(false),
         Some(_) => {
-            items.push(class_item(alloc, name)?)?;
+            items.push(class_item(alloc, pool, name)?)?;
             push(&mut frame.stack, gives)?;
             Ok(true)
         }

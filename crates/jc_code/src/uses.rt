@@ -89,7 +89,7 @@ fn field_use(
     match member_at(a.pool, tags::FIELD_REF, tags::FIELD_REF, i) {
         None => Ok(false),
         Some(m) => {
-            items.push(access(alloc, act, m, place_of(a.name))?)?;
+            items.push(access(alloc, a.pool, act, m, place_of(a.name))?)?;
             Ok(true)
         }
     }
@@ -101,14 +101,14 @@ fn initializes_itself(a: Around<'_, '_>, m: MemberRef<'_>) -> bool
     is_init(a.name) && is_own(a, m.class)
 }
 
-fn special_item(alloc: Global, a: Around<'_, '_>, m: MemberRef<'_>) -> Result<Item, AllocError>
+fn special_item<'a>(alloc: Global, a: Around<'a, '_>, m: MemberRef<'a>) -> Result<Item, AllocError>
     ensures { IfOk result (λ i. i ≡ code.special_item (around_view a.entry) (member_view m.entry)) }
 {
     if is_init(m.name) {
-        return construct_item(alloc, initializes_itself(a, m), m);
+        return construct_item(alloc, a.pool, initializes_itself(a, m), m);
     }
     let act = either(m, Act::InvokeSpecial, Act::InvokeSpecialInterface);
-    access(alloc, act, m, place_of(a.name))
+    access(alloc, a.pool, act, m, place_of(a.name))
 }
 
 fn loaded(
@@ -160,7 +160,7 @@ fn invoke_virtual(
     match plain_member(a.pool, tags::METHOD_REF, tags::METHOD_REF, i) {
         None => Ok(false),
         Some(m) => {
-            items.push(access(alloc, Act::InvokeVirtual, m, place_of(a.name))?)?;
+            items.push(access(alloc, a.pool, Act::InvokeVirtual, m, place_of(a.name))?)?;
             Ok(true)
         }
     }
@@ -195,7 +195,7 @@ fn invoke_static(
         None => Ok(false),
         Some(m) => {
             let act = either(m, Act::InvokeStatic, Act::InvokeStaticInterface);
-            items.push(access(alloc, act, m, place_of(a.name))?)?;
+            items.push(access(alloc, a.pool, act, m, place_of(a.name))?)?;
             Ok(true)
         }
     }
@@ -217,7 +217,7 @@ fn invoke_interface(
     ) {
         None => Ok(false),
         Some(m) => {
-            items.push(access(alloc, Act::InvokeInterface, m, place_of(a.name))?)?;
+            items.push(access(alloc, a.pool, Act::InvokeInterface, m, place_of(a.name))?)?;
             Ok(true)
         }
     }

@@ -6,8 +6,8 @@ ghost use Rattle.jc_code.specs.steps.KindView.{kind_view, kinds_in};
 ghost use Rattle.jc_code.specs.steps.Pushed.{Adds};
 
 use crate::kinds::Kind;
-use jc_base::name::Name;
 use jc_facts::client::Item;
+use jc_pool::pool::Pool;
 use std::alloc::{AllocError, Global};
 
 /// The receiver of an item: the type of a reference, not known for null; None where the kind is no receiver.
@@ -39,24 +39,31 @@ fn same_kind(kind: Kind<'_>, due: Kind<'_>) -> bool
     }
 }
 
-fn assign(alloc: Global, from: &[u8], to: &[u8], items: &mut Vec<Item>) -> Result<(), AllocError>
+fn assign<'a>(
+    alloc: Global,
+    pool: &Pool<'a>,
+    from: &'a [u8],
+    to: &'a [u8],
+    items: &mut Vec<Item>,
+) -> Result<(), AllocError>
     ensures { OnOk result (items.new.items ≡ items.old.items ++ typing.assign from.now to.now) }
 {
     if from == to {
         return Ok(());
     }
-    let from = Name::from_bytes(alloc, from)?;
-    let to = Name::from_bytes(alloc, to)?;
+    let from = pool.name(alloc, from)?;
+    let to = pool.name(alloc, to)?;
     items.push(Item::Assign { from, to })?;
     Ok(())
 }
 
 /// Adds the Assign of a value where a value of the second kind is due; false where it doesn't fit.
 #[tactic(auto, unfolding(jc_facts::specs::code::Typing::fit))]
-pub(crate) fn fit(
+pub(crate) fn fit<'a>(
     alloc: Global,
-    kind: Kind<'_>,
-    due: Kind<'_>,
+    pool: &Pool<'a>,
+    kind: Kind<'a>,
+    due: Kind<'a>,
     items: &mut Vec<Item>,
 ) -> Result<bool, AllocError>
     ensures { IfOk result (λ done. Adds items.old.items items.new.items (typing.fit (kind_view kind.entry) (kind_view due.entry)) done) }
@@ -64,7 +71,7 @@ pub(crate) fn fit(
     match kind {
         Kind::Ref(from) => match due {
             Kind::Ref(to) => {
-                assign(alloc, from, to, items)?;
+                assign(alloc, pool, from, to, items)?;
                 Ok(true)
             }
             _ => Ok(false),
@@ -78,10 +85,11 @@ pub(crate) fn fit(
 }
 
 /// Adds the Assigns of values where values of these kinds are due, from left to right.
-pub(crate) fn fit_all(
+pub(crate) fn fit_all<'a>(
     alloc: Global,
-    kinds: &[Kind<'_>],
-    due: &[Kind<'_>],
+    pool: &Pool<'a>,
+    kinds: &[Kind<'a>],
+    due: &[Kind<'a>],
     items: &mut Vec<Item>,
 ) -> Result<bool, AllocError>
     ensures { IfOk result (λ done. Adds items.old.items items.new.items (typing.fit_all (kinds_in kinds.now) (kinds_in due.now)) done) }
@@ -90,7 +98,7 @@ pub(crate) fn fit_all(
         return Ok(false);
     }
     for i in 0..due.len() {
-        if !fit(alloc, kinds[i], due[i], items)? {
+        if !fit(alloc, pool, kinds[i], due[i], items)? {
             return Ok(false);
         }
     }

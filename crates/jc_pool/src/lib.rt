@@ -6,6 +6,7 @@ mod entry;
 mod forms;
 pub mod laws;
 mod links;
+mod names;
 pub mod pool;
 mod start;
 

@@ -11,12 +11,15 @@ ghost use Rattle.jc_pool.specs.Views.{member_view, handle_view, constant_view, P
 
 use crate::entry::{Slot, slots_at};
 use crate::links::{at, descriptor, first, is_member_ref, kind, links_fault, pair, target, text};
+use crate::names::Names;
 use crate::start::start;
 use byteorder::{BigEndian, ByteOrder};
+use jc_base::name::Name;
 use jc_desc::bytes::{malformed, u16_at};
 use jc_desc::fault::{Fault, Malformed};
 use jc_desc::tags;
 use std::alloc::{AllocError, Global};
+use std::cell::RefCell;
 use std::marker::Model;
 use thiserror::Error;
 
@@ -26,6 +29,8 @@ use thiserror::Error;
 pub struct Pool<'a> {
     major: u16,
     slots: Vec<Slot<'a>>,
+    // Behind a shared reference, as no answer depends on which names were made before.
+    names: RefCell<Names<'a>>,
 }
 
 impl<'a> Model for Pool<'a> {
@@ -131,7 +136,17 @@ impl<'a> Pool<'a> {
         };
         match links_fault(alloc, slots.as_slice())? {
             Some(fault) => Ok(Err(fault)),
-            None => Ok(Ok((Pool { major, slots }, rest))),
+            None => {
+                let names = RefCell::new(Names::new(alloc));
+                Ok(Ok((
+                    Pool {
+                        major,
+                        slots,
+                        names,
+                    },
+                    rest,
+                )))
+            }
         }
     }
 
@@ -146,6 +161,21 @@ impl<'a> Pool<'a> {
             Ok(Ok((pool, rest))) => Ok((pool, bytes.len().saturating_sub(rest.len()) as u32)),
             Ok(Err(fault)) => Err(PoolError::Malformed(malformed(bytes, fault))),
             Err(_) => Err(PoolError::Memory),
+        }
+    }
+
+    /// The name of these bytes of the file. Names of a long text share one copy of it, however often
+    /// the file mentions it.
+    ///
+    /// # Errors
+    ///
+    /// `AllocError` where memory runs out.
+    pub fn name(&self, alloc: Global, text: &'a [u8]) -> Result<Name, AllocError>
+        ensures { IfOk result (λ name. name ≡ text.now) }
+    {
+        match self.names.try_borrow_mut() {
+            Ok(mut names) => names.name(alloc, text),
+            Err(_) => Name::from_bytes(alloc, text),
         }
     }
 

@@ -5,7 +5,7 @@ ghost use Rattle.std.specs.Result.{result_map_both};
 ghost use Rattle.jc_facts.specs.file.Valid.{IsValidClass};
 ghost use Rattle.jc_facts.specs.file.ClassParts.{record_from, or_empty, signed_of};
 ghost use Rattle.jc_facts.specs.file.ClassGrammar.{Reads};
-ghost use Rattle.jc_facts.specs.file.ClassSteps.{class_of};
+ghost use Rattle.jc_facts.specs.file.ClassSteps.{class_of, ended};
 ghost use Rattle.jc_read.specs.Fails.{ReadFails};
 ghost use Rattle.jc_attr.specs.Views.{head_view};
 ghost use Rattle.jc_read.specs.steps.MemberViews.{members_view};
@@ -94,6 +94,20 @@ fn record(
     })
 }
 
+// The record, unless bytes come behind it.
+fn whole(rest: &[u8], facts: ClassFacts) -> Result<ClassFacts, Fault>
+    ensures { result ≡ ended rest.now facts }
+{
+    if rest.is_empty() {
+        Ok(facts)
+    } else {
+        Err(Fault {
+            left: rest.len(),
+            reason: Reason::Trailing,
+        })
+    }
+}
+
 #[tactic(auto, unfolding(jc_facts::specs::file::ClassSteps::class_of))]
 fn read(alloc: Global, bytes: &[u8]) -> Result<Result<ClassFacts, Fault>, AllocError>
     ensures { IfOk result (λ r. r ≡ class_of bytes.now) }
@@ -122,13 +136,7 @@ fn read(alloc: Global, bytes: &[u8]) -> Result<Result<ClassFacts, Fault>, AllocE
         Ok(read) => read,
         Err(fault) => return Ok(Err(fault)),
     };
-    if !rest.is_empty() {
-        return Ok(Err(Fault {
-            left: rest.len(),
-            reason: Reason::Trailing,
-        }));
-    }
-    Ok(Ok(record(
+    let facts = record(
         alloc,
         pool.major(),
         head,
@@ -136,7 +144,8 @@ fn read(alloc: Global, bytes: &[u8]) -> Result<Result<ClassFacts, Fault>, AllocE
         fields,
         methods,
         found,
-    )?))
+    )?;
+    Ok(whole(rest, facts))
 }
 
 /// Why a class file isn't read.

@@ -1,0 +1,42 @@
+//! The names that are made of a file's texts.
+ghost use Rattle.std.specs.Prelude.{◌≡◌, IfOk};
+
+use jc_base::name::Name;
+use std::alloc::{AllocError, Global};
+use std::collections::BTreeMap;
+
+/// How many bytes a text has at most of which each mention is a copy of its own: to copy so few costs
+/// less than to look for the copy before.
+const SHORT: usize = 32;
+
+/// Names of the texts of one file, of a long text one that all its mentions share. So the names of a
+/// file take memory in proportion to its bytes, however often it mentions a text.
+#[derive(Drop)]
+pub(crate) struct Names<'a> {
+    made: BTreeMap<&'a [u8], Name>,
+}
+
+impl<'a> Names<'a> {
+    pub(crate) fn new(alloc: Global) -> Names<'a> {
+        Names {
+            made: BTreeMap::new(alloc),
+        }
+    }
+
+    /// The name of these bytes.
+    pub(crate) fn name(&mut self, alloc: Global, text: &'a [u8]) -> Result<Name, AllocError>
+        ensures { IfOk result (λ name. name ≡ text.now) }
+    {
+        if text.len() <= SHORT {
+            return Name::from_bytes(alloc, text);
+        }
+        if let Some(name) = self.made.get(text) {
+            if name.as_bytes() == text {
+                return name.copy(alloc);
+            }
+        }
+        let name = Name::from_bytes(alloc, text)?;
+        self.made.insert(text, name.copy(alloc)?)?;
+        Ok(name)
+    }
+}
