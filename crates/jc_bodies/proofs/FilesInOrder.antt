@@ -15,7 +15,7 @@ use Rattle.jc_facts.specs.Exactly.{name_order}
 use Rattle.jc_facts.specs.world.World.{class_named}
 use Rattle.jc_facts.specs.plan.Planned.{Plan, spot_of}
 use Rattle.jc_facts.specs.plan.PlannedBodies.{Bodies, blueprint, blueprints}
-use Rattle.jc_worlds.proofs.ClientOrder.{name_of}
+use Rattle.jc_facts.proofs.Clients.{name_of}
 use Rattle.jc_sound.proofs.SoundnessLaws.{client_there}
 use Rattle.jc_lemmas.proofs.Options.{none_where}
 use Rattle.jc_facts.proofs.Same.{same_is}

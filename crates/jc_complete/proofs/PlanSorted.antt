@@ -20,7 +20,7 @@ use Rattle.jc_facts.specs.ByName.{by_name}
 use Rattle.jc_complete.specs.Completeness.{LinksWhole, FailsBy, Shows, MeetsNothing}
 use Rattle.jc_lemmas.proofs.Listed.{EachOf-map}
 use Rattle.jc_complete.proofs.PlanAlike.{fault_same, outcome_same, reach_same, names_same, field_same, method_same, interface_of_same, seat_same, has_same}
-use Rattle.jc_worlds.proofs.ClientOrder.{name_of}
+use Rattle.jc_facts.proofs.Clients.{name_of}
 use Rattle.jc_worlds.proofs.ClientOrder as order
 
 -- ---- what moves from one world to one with the same classes

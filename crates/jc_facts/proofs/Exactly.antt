@@ -55,7 +55,7 @@ module _ {A F : Type 0} (before : A → A → Ordering) (order : F → F → Ord
 
 -- ---- one list after another
 
-rise_front : (xs ys : List Bytes) → NamesRise (λ x. x) (xs ++ ys) → NamesRise (λ x. x) xs
+pub rise_front : (xs ys : List Bytes) → NamesRise (λ x. x) (xs ++ ys) → NamesRise (λ x. x) xs
 unfolding Rises
 rise_front [] ys r = tt
 rise_front (x ∷ xs) ys r = (front xs r.0, rise_front xs ys r.1)

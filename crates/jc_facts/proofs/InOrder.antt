@@ -11,7 +11,7 @@ use Rattle.jc_facts.proofs.Exact.{Gives, given, given_back}
 use Rattle.jc_lemmas.proofs.Listed.{each_in, here, there, EachOf, EachOf-map, EachOf-append, each_from, filter-each}
 
 module _ {A : Type 0} (order : A → A → Ordering) where
-  rises_append : (xs ys : List A) → Rises order xs → Rises order ys → ((x y : A) → Contains xs x → Contains ys y → order x y ≡ Less) → Rises order (xs ++ ys)
+  pub rises_append : (xs ys : List A) → Rises order xs → Rises order ys → ((x y : A) → Contains xs x → Contains ys y → order x y ≡ Less) → Rises order (xs ++ ys)
   unfolding Rises
   rises_append [] ys r s before = s
   rises_append (x ∷ xs) ys r s before = (
@@ -67,7 +67,7 @@ module _ {F : Type 0} (order : F → F → Ordering) (h : Bytes → Option F) (l
       go None q r = r
       go (Some g) q r = (later x y f g b.0 e q, r)
 
-  given_rise : (xs : List Bytes) → NamesRise (λ x. x) xs → Rises order (filter_map h xs)
+  pub given_rise : (xs : List Bytes) → NamesRise (λ x. x) xs → Rises order (filter_map h xs)
   unfolding Rises
   given_rise [] r = tt
   given_rise (x ∷ xs) r = go (h x) refl (given_rise xs r.1)

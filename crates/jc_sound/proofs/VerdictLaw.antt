@@ -1,5 +1,5 @@
 -- There is at most one verdict.
-use Rattle.std.proofs.Common.{◌≡◌, List, [], ◌∷◌, refl, sym, ◌∙◌, ap, subst, ◌⊎◌, inl, inr, arith}
+use Rattle.std.proofs.Common.{◌≡◌, ◌≤◌, suc, List, [], ◌∷◌, length, refl, sym, ◌∙◌, ap, subst, ◌⊎◌, inl, inr, arith}
 use Rattle.std.specs.List.{Contains}
 use Rattle.std.specs.declared.cmp.Ordering.{Ordering}
 use Rattle.std.specs.declared.cmp.Ordering.TheVariants.{Less, Equal}
@@ -96,6 +96,32 @@ module _ {A : Type 0} (order : A → A → Ordering) (total : IsTotalOrder order
 
       join : x ≡ y → xs ≡ ys → x ∷ xs ≡ y ∷ ys
       join p q = cc
+
+  -- a list whose items another has too isn't the longer one
+  pub no_longer : (xs ys : List A) → Rises order xs → Rises order ys → ((z : A) → Contains xs z → Contains ys z) → length xs ≤ length ys
+  unfolding Rises
+  no_longer [] ys r s f = omega arith
+  no_longer (x ∷ xs) [] r s f = absurd (none_in x (f x (first_in x xs)))
+  no_longer (x ∷ xs) (y ∷ ys) r s f = go (cases y ys x (f x (first_in x xs))) (λ has. no_longer xs ys r.1 s.1 has) (λ has. no_longer (x ∷ xs) ys r s.1 has)
+    where
+      beside_it : y ≡ x → (z : A) → Contains xs z → Contains ys z
+      beside_it is z c = by (cases y ys z (f z (Contains-append_right (x ∷ []) xs z c)))
+        where
+          by : (y ≡ z) ⊎ Contains ys z → Contains ys z
+          by (inl p) = absurd (never_itself x (subst (λ w. order x w ≡ Less) (sym (sym is ∙ p)) (after x xs z r.0 c)))
+          by (inr p) = p
+
+      later : Contains ys x → (z : A) → Contains (x ∷ xs) z → Contains ys z
+      later d z c = by (cases y ys z (f z c)) (cases x xs z c)
+        where
+          by : (y ≡ z) ⊎ Contains ys z → (x ≡ z) ⊎ Contains xs z → Contains ys z
+          by (inr p) q = p
+          by (inl p) (inl q) = absurd (never_itself y (subst (λ w. order y w ≡ Less) (q ∙ sym p) (after y ys x s.0 d)))
+          by (inl p) (inr q) = absurd (never_both y x (after y ys x s.0 d) (subst (λ w. order x w ≡ Less) (sym p) (after x xs z r.0 q)))
+
+      go : (y ≡ x) ⊎ Contains ys x → (((z : A) → Contains xs z → Contains ys z) → length xs ≤ length ys) → (((z : A) → Contains (x ∷ xs) z → Contains ys z) → suc (length xs) ≤ length ys) → suc (length xs) ≤ suc (length ys)
+      go (inl is) rest all = let l = rest (beside_it is) in omega arith
+      go (inr d) rest all = let l = all (later d) in omega arith
 
   pub exactly_one : (S : A → Type 0) (xs ys : List A) → HasExactly order S xs → HasExactly order S ys → xs ≡ ys
   exactly_one S xs ys a b = same_lists xs ys a.in_order b.in_order (λ z c. b.complete z (All-contains S xs z a.sound c)) (λ z c. a.complete z (All-contains S ys z b.sound c))

@@ -1,6 +1,6 @@
 -- The verdict on a new release: its findings, collisions and notes.
 --     IsVerdict O N v      v is the verdict on the new side N, after the old side O
-use Rattle.std.specs.Prelude.{Bool, List, [], ◌∷◌, true, false}
+use Rattle.std.specs.Prelude.{◌+◌, ℕ, Bool, List, [], ◌∷◌, length, true, false}
 use Rattle.jc_facts.specs.declared.verdict.Verdict.{Verdict}
 use Rattle.jc_facts.specs.world.World.{World}
 use Rattle.jc_facts.specs.rule.Findings.{Stands}
@@ -14,6 +14,10 @@ pub record IsVerdict (O N : World) (v : Verdict) : Type 0 where
   pub findings : HasExactly finding_order (Stands O N) v.findings
   pub collisions : HasExactly collision_order (CollisionStands O N) v.collisions
   pub notes : HasExactly note_order (NoteStands O N) v.notes
+
+-- how many findings and collisions there are
+abbrev pub count_of : Verdict → ℕ
+count_of v = length v.findings + length v.collisions
 
 -- the list holds something
 abbrev pub holds_some : {A : Type 0} → List A → Bool
