@@ -1,0 +1,89 @@
+-- Names that are numbered in a set in the order in which they were added.
+use Rattle.std.proofs.Common.{◌≡◌, ◌≢◌, ◌<◌, ◌≤◌, ◌+◌, ℕ, suc, Bool, true, false, cond, not, ◌||◌, List, [], ◌∷◌, ◌++◌, length, map, take, get_or, position, refl, sym, ◌∙◌, ap, subst, Option, Some, None, arith}
+use Rattle.std.specs.Prelude.{nat_eq, nat_lt, option_map, IsTrue}
+use Rattle.std.specs.List.{list_any, position_or_len}
+use Rattle.std.specs.Cmp.Lexicographic.{pointwise, same_text, other_text}
+use Rattle.std.proofs.lemmas.Slice.Eq.{bytes_eq-Decides}
+use Rattle.std.proofs.lemmas.List.{take_more, take_all, map-append}
+use Rattle.jc_facts.specs.declared.class_facts.ClassFacts.{ClassFacts}
+use Rattle.jc_facts.specs.Names.{Bytes, same, is_name_among}
+use Rattle.jc_facts.specs.client.Clients.{differ_by_name}
+use Rattle.jc_index.specs.Ids.{names_of, place_of}
+use Rattle.jc_index.proofs.Numbers.{place-back, names_of-rise}
+
+-- the test of the set is the test of names
+pub same-test : (x y : Bytes) → pointwise nat_eq x y ≡ same y x
+same-test x y = go (pointwise nat_eq x y) refl
+  where
+    other : (b : Bool) → same y x ≡ b → x ≢ y → false ≡ b
+    other true e n = absurd (n (sym ((bytes_eq-Decides y x).0 e)))
+    other false e n = refl
+
+    go : (b : Bool) → pointwise nat_eq x y ≡ b → b ≡ same y x
+    go true e = sym ((bytes_eq-Decides y x).1 (sym (same_text x y (sym e))))
+    go false e = other (same y x) refl (other_text x y (sym e))
+
+-- ---- the place in the set is the place in the list
+
+none_left : (l m : ℕ) → m ≡ suc l → nat_lt 0 m ≡ true
+none_left l m e = grind arith
+
+one_less : (p l m : ℕ) → m ≡ suc l → nat_lt (1 + p) m ≡ nat_lt p l
+one_less p l m e = grind arith
+
+module _ {A : Type 0} (f : A → Bytes) (x : Bytes) where
+  test : A → Bool
+  test a = pointwise nat_eq x (f a)
+
+  step : (b : Bool) (p l m : ℕ) → m ≡ suc l → cond (nat_lt (cond (not b) (1 + p) 0) m) (Some (cond (not b) (1 + p) 0)) None ≡ cond b (Some 0) (option_map suc (cond (nat_lt p l) (Some p) None))
+  step true p l m e = rw (none_left l m e) refl
+  step false p l m e = rw (one_less p l m e) (go (nat_lt p l))
+    where
+      go : (c : Bool) → cond c (Some (1 + p)) None ≡ option_map suc (cond c (Some p) None)
+      go true = ap Some (let q : 1 + p ≡ suc p = omega arith in q)
+      go false = refl
+
+  pub position-place : (vs : List A) → position (λ a. pointwise nat_eq x (f a)) vs ≡ place_of (map f vs) x
+  unfolding place_of
+  position-place [] = refl
+  position-place (v ∷ vs) =
+      step (pointwise nat_eq x (f v)) (position_or_len (λ a. pointwise nat_eq x (f a)) vs) (length vs) (length (v ∷ vs)) (let q : length (v ∷ vs) ≡ suc (length vs) = omega arith in q)
+      ∙ ap (λ (o : Option ℕ). cond (pointwise nat_eq x (f v)) (Some 0) (option_map suc o)) (position-place vs)
+      ∙ ap (λ (b : Bool). cond b (Some 0) (option_map suc (place_of (map f vs) x))) (same-test x (f v))
+
+  -- whether it is in the set
+  pub any-among : (vs : List A) → list_any (λ a. pointwise nat_eq x (f a)) vs ≡ is_name_among (map f vs) x
+  any-among [] = refl
+  any-among (v ∷ vs) = ap (λ b. b || list_any (λ a. pointwise nat_eq x (f a)) vs) (same-test x (f v)) ∙ ap (λ b. same (f v) x || b) (any-among vs)
+
+-- a name that wasn't in the set is the last one
+pub added_last : {A : Type 0} (f : A → Bytes) (x : Bytes) (v : A) (vs now : List A) (names : List Bytes) → f v ≡ x → map f vs ≡ names → now ≡ cond (list_any (λ a. pointwise nat_eq (f v) (f a)) vs) vs (vs ++ v ∷ []) → is_name_among names x ≡ false → map f now ≡ names ++ x ∷ []
+added_last f x v vs now names e n h a =
+    let none : list_any (λ a. pointwise nat_eq (f v) (f a)) vs ≡ false = any-among f (f v) vs ∙ ap (λ (ns : List Bytes). is_name_among ns (f v)) n ∙ ap (is_name_among names) e ∙ a in
+    let last : now ≡ vs ++ v ∷ [] = h ∙ ap (λ (b : Bool). cond b vs (vs ++ v ∷ [])) none in
+    ap (map f) last ∙ map-append f vs (v ∷ []) ∙ ap (λ (ns : List Bytes). ns ++ f v ∷ []) n ∙ ap (λ (y : Bytes). names ++ y ∷ []) e
+
+-- one more name is numbered
+pub one_more_name : (cs : List ClassFacts) (n : ℕ) (names now : List Bytes) (x : Bytes) → n < length (names_of cs) → names ≡ take n (names_of cs) → x ≡ get_or (names_of cs) n [] → now ≡ names ++ x ∷ [] → now ≡ take (n + 1) (names_of cs)
+one_more_name cs n names now x l h g q = q ∙ ap (λ (ns : List Bytes). ns ++ x ∷ []) h ∙ ap (λ (y : Bytes). take n (names_of cs) ++ y ∷ []) g ∙ sym (take_more (names_of cs) n [] l)
+
+pub all_names : (cs : List ClassFacts) (n : ℕ) (names : List Bytes) → length (names_of cs) ≤ n → names ≡ take n (names_of cs) → names ≡ names_of cs
+all_names cs n names l h = h ∙ take_all n (names_of cs) l
+
+-- ---- a name doesn't stand before its place
+
+before_place : (ys : List Bytes) (x : Bytes) (n : ℕ) → place_of ys x ≡ Some n → is_name_among (take n ys) x ≡ false
+unfolding place_of
+before_place [] x n e = absurd (let clash : None ≡ Some n = e in cc)
+before_place (y ∷ ys) x n e = go (same y x) refl e (before_place ys x)
+  where
+    go2 : same y x ≡ false → (o : Option ℕ) → place_of ys x ≡ o → option_map suc o ≡ Some n → ((m : ℕ) → place_of ys x ≡ Some m → is_name_among (take m ys) x ≡ false) → is_name_among (take n (y ∷ ys)) x ≡ false
+    go2 p None q k r = absurd (let clash : None ≡ Some n = k in cc)
+    go2 p (Some m) q k r = let l : suc m ≡ n = cc in subst (λ j. is_name_among (take j (y ∷ ys)) x ≡ false) l (ap (λ b. b || is_name_among (take m ys) x) p ∙ r m q)
+
+    go : (b : Bool) → same y x ≡ b → cond b (Some 0) (option_map suc (place_of ys x)) ≡ Some n → ((m : ℕ) → place_of ys x ≡ Some m → is_name_among (take m ys) x ≡ false) → is_name_among (take n (y ∷ ys)) x ≡ false
+    go true p k r = let l : 0 ≡ n = cc in subst (λ j. is_name_among (take j (y ∷ ys)) x ≡ false) l refl
+    go false p k r = go2 p (place_of ys x) refl k r
+
+pub new_name : (cs : List ClassFacts) (n : ℕ) → IsTrue (differ_by_name cs) → n < length (names_of cs) → is_name_among (take n (names_of cs)) (get_or (names_of cs) n []) ≡ false
+new_name cs n d l = before_place (names_of cs) (get_or (names_of cs) n []) n (place-back (names_of cs) n (names_of-rise cs d) l)

@@ -1,0 +1,40 @@
+use Rattle.std.proofs.Common.{◌≡◌, ◌≤◌, length, sym, ◌∙◌, arith, take, None}
+use Rattle.jc_facts.specs.world.Search.{supers}
+use Rattle.jc_facts.specs.world.Loading.{load_fault}
+use Rattle.jc_index.specs.Ids.{name_at}
+use Rattle.jc_index.specs.steps.Passing.{IsPassed}
+use Rattle.jc_index.proofs.Entering.{leads-fault, loads-more, loads-all, all-load}
+use Rattle.jc_index.proofs.Ordering.{passed-more, passed-all, of_class}
+use Rattle.jc_index.proofs.faults.way_from.Goals as goal
+
+pub loop-above-init : goal.loop-above-init
+loop-above-init c = (c.requires.before c.facts-facts.result.now (sym c.facts-facts.ensures), c.requires.past c.facts-facts.result.now (sym c.facts-facts.ensures))
+
+pub returns-in-Some-clause-goes : goal.returns-in-Some-clause-goes
+returns-in-Some-clause-goes c =
+    leads-fault c.args.index.now (name_at c.args.index.now c.args.class) c.loop-above.above c.super_at.result.now c.in-Some.fault
+    (record { class = c.facts-facts.result.now; found = sym c.facts-facts.ensures; before = c.loop-above.invariant.0; next = c.super_at.ensures })
+    (c.in-Known.ensures.says ∙ c.in-Some.is)
+
+pub loop-above-preserved : goal.loop-above-preserved
+loop-above-preserved c =
+    let e : c.in-Known.fault ≡ None = cc in (
+      loads-more (load_fault c.args.index.now) (supers c.facts-facts.result.now) c.loop-above.above c.super_at.result.now c.loop-above.invariant.0 c.super_at.ensures (c.in-Known.ensures.says ∙ e),
+      passed-more (IsPassed c.args.index.now c.args.states.now) (supers c.facts-facts.result.now) c.loop-above.above c.super_at.result.now c.loop-above.invariant.1 c.super_at.ensures (c.in-Known.ensures.past e),
+    )
+
+pub returns-in-Unknown-clause-past : goal.returns-in-Unknown-clause-past
+returns-in-Unknown-clause-past c =
+    of_class c.args.index.now (name_at c.args.index.now c.args.class) c.facts-facts.result.now (IsPassed c.args.index.now c.args.states.now) (λ d. take c.loop-above.above (supers d)) c.facts-facts.ensures c.loop-above.invariant.1
+
+pub returns-clause-goes : goal.returns-clause-goes
+returns-clause-goes c =
+    let l : length (supers c.facts-facts.result.now) ≤ c.loop-above.above = omega (arith, c.super_count-above-end.ensures) in
+    all-load c.args.index.now (name_at c.args.index.now c.args.class) c.facts-facts.result.now (sym c.facts-facts.ensures)
+    (loads-all (load_fault c.args.index.now) (supers c.facts-facts.result.now) c.loop-above.above l c.loop-above.invariant.0)
+
+pub returns-clause-past : goal.returns-clause-past
+returns-clause-past c =
+    let l : length (supers c.facts-facts.result.now) ≤ c.loop-above.above = omega (arith, c.super_count-above-end.ensures) in
+    of_class c.args.index.now (name_at c.args.index.now c.args.class) c.facts-facts.result.now (IsPassed c.args.index.now c.args.states.now) supers c.facts-facts.ensures
+    (passed-all (IsPassed c.args.index.now c.args.states.now) (supers c.facts-facts.result.now) c.loop-above.above l c.loop-above.invariant.1)

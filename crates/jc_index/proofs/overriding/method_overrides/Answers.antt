@@ -1,0 +1,40 @@
+use Rattle.std.proofs.Common.{◌≡◌, ◌<◌, Bool, false, not, ◌||◌, Option, ℕ, sym, subst, ◌∙◌, ap}
+use Rattle.std.specs.Prelude.{IfSome}
+use Rattle.jc_desc.specs.Names.{is_init_name, is_clinit_name, is_initializer_name}
+use Rattle.jc_facts.specs.world.World.{size, DeclaredMember}
+use Rattle.jc_facts.specs.Names.{key_of}
+use Rattle.jc_facts.specs.file.Valid.{has_key}
+use Rattle.jc_facts.specs.world.Hierarchy.{chain, of_super}
+use Rattle.jc_index.proofs.Walking.{number-inside}
+use Rattle.jc_index.proofs.FinalKeys.{plain-private, plain-static, plain-unfixed, plain-met}
+use Rattle.jc_index.proofs.overriding.method_overrides.Goals as goal
+
+pub returns-then-is_private : goal.returns-then-is_private
+returns-then-is_private c =
+    let m : DeclaredMember = record { owner = c.args.class.now.name; member = c.args.member.now } in
+    let a : Bool = not (is_init_name c.args.member.now.name || is_clinit_name c.args.member.now.name) in
+    sym (plain-private a (key_of c.args.member.now) m (of_super (chain c.args.index.now) c.args.class.now.superclass) (sym c.is_private.ensures ∙ c.if-is_private.true))
+
+pub returns-then-is_static : goal.returns-then-is_static
+returns-then-is_static c =
+    let m : DeclaredMember = record { owner = c.args.class.now.name; member = c.args.member.now } in
+    let a : Bool = not (is_init_name c.args.member.now.name || is_clinit_name c.args.member.now.name) in
+    sym (plain-static a (key_of c.args.member.now) m (of_super (chain c.args.index.now) c.args.class.now.superclass) (sym c.is_static.ensures ∙ c.if-is_static.true))
+
+pub returns-then-not-holds : goal.returns-then-not-holds
+returns-then-not-holds c =
+    let m : DeclaredMember = record { owner = c.args.class.now.name; member = c.args.member.now } in
+    let a : Bool = not (is_init_name c.args.member.now.name || is_clinit_name c.args.member.now.name) in
+    let f = c.requires in
+    let h : has_key c.of_member-key.result f.0 ≡ false = sym (c.holds.ensures f.0 f.1) ∙ c.if-not-holds.true in
+    let k : has_key (key_of c.args.member.now) f.0 ≡ false = rw c.of_member-key.ensures at h in
+    sym (plain-unfixed c.args.index.now f.0 a (key_of c.args.member.now) m c.args.class.now.superclass f.2 k)
+
+pub meets_final-requires : goal.meets_final-requires
+meets_final-requires c = subst (λ (o : Option ℕ). IfSome o (λ id. id < size c.args.index.now)) (sym c.number_above.ensures) (number-inside c.args.index.now c.args.class.now.superclass)
+
+pub returns : goal.returns
+returns c =
+    let m : DeclaredMember = record { owner = c.args.class.now.name; member = c.args.member.now } in
+    let i : (is_init_name c.args.member.now.name || is_clinit_name c.args.member.now.name) ≡ false = ap is_initializer_name (sym c.as_bytes.ensures) ∙ sym c.is_initializer.ensures ∙ c.if-is_initializer.false in
+    c.in_ok-met.ensures ∙ plain-met c.args.index.now c.of_member-key.result (key_of c.args.member.now) m c.args.class.now.superclass c.number_above.result (is_init_name c.args.member.now.name || is_clinit_name c.args.member.now.name) c.of_member-key.ensures c.number_above.ensures i

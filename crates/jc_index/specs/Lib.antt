@@ -1,0 +1,11 @@
+pub mod Ids
+pub mod Root
+pub mod Sides
+pub mod Mentioned
+pub mod HierarchyFields
+pub mod Above
+pub mod Lookups
+pub mod Kinds
+pub mod steps
+pub mod MentionedNames
+pub mod LoadOrder

@@ -1,0 +1,39 @@
+-- Where the classes of a list stand, in byte order of their names.
+use Rattle.std.specs.Prelude.{ℕ, ◌<◌, ◌≤◌, ◌≡◌, List, [], map, length, Option, None, Some, slice_get, take, drop}
+use Rattle.std.specs.List.{All}
+use Rattle.jc_facts.specs.declared.class_facts.ClassFacts.{ClassFacts}
+use Rattle.jc_facts.specs.Names.{Bytes}
+use Rattle.jc_facts.specs.world.World.{side}
+use Rattle.jc_index.specs.Ids.{names_of}
+use Rattle.jc_index.specs.Sides.{IsSide}
+use Rattle.jc_index.specs.declared.index.Index.TheInside.{Inside}
+
+-- the name of the class, nothing where there is none
+abbrev pub name_or : Option ClassFacts → Bytes
+name_or None = []
+name_or (Some c) = c.name
+
+-- the name of the class at this place
+abbrev pub name_in : List ClassFacts → ℕ → Bytes
+name_in cs at = name_or (slice_get cs at)
+
+-- the names of the classes, as they stand
+abbrev pub names_at : List ClassFacts → List Bytes
+names_at cs = map (λ c. c.name) cs
+
+-- a name, and the place of a class of this name
+abbrev pub IsPlace : List ClassFacts → Bytes × ℕ → Type 0
+IsPlace cs p = (p.1 < length cs) × (name_in cs p.1 ≡ p.0)
+
+-- the places of the classes, in byte order of their names
+pub record IsOrder (cs : List ClassFacts) (order : List ℕ) : Type 0 where
+  pub within : All (λ at. at < length cs) order
+  pub named : map (name_in cs) order ≡ names_of cs
+
+-- an index keeps a side's classes, those of the platform first, their order, and their names in this order
+pub record IsIndex (i : Inside) : Type 0 where
+  pub front : i.platform ≤ length i.classes.items
+  pub few : length i.classes.items ≤ 120000
+  pub order : IsOrder i.classes.items i.order.items
+  pub names : i.names ≡ names_of i.classes.items
+  pub side : IsSide (side (take i.platform i.classes.items) (drop i.platform i.classes.items))

@@ -1,0 +1,375 @@
+//! The load faults of all classes, and an order in which those that load can be loaded, in one pass
+//! (JVMS 5.3.5).
+ghost use Rattle.std.specs.Prelude.{◌≡◌, ℕ, ◌+◌, ◌<◌, List, [], cond, length, map, slice_get, vec_len, false, IfOk, Some, None};
+ghost use Rattle.std.specs.List.{All, Contains};
+ghost use Rattle.jc_facts.specs.world.Loading.{load_fault, fault_of_itself};
+ghost use Rattle.jc_facts.specs.world.Search.{supers};
+ghost use Rattle.jc_facts.specs.world.World.{World, size};
+ghost use Rattle.jc_index.specs.Ids.{name_at, names};
+ghost use Rattle.jc_index.specs.steps.Walking.{HasAllFinal};
+ghost use Rattle.jc_index.specs.steps.Entering.{state_of, is_on, is_known, is_entered, is_fresh, work, bottom, Says, Goes, Leads, IsSettled, IsUnderWay, AreRight, AllHave, Turns, LoadsBefore};
+ghost use Rattle.jc_index.specs.LoadOrder.{IsLoadOrder};
+ghost use Rattle.jc_index.specs.steps.Passing.{Passes, ArePassed, AllPassed, GoesPast, ArePassedOnWay, Orders, Grows, Orderly};
+
+use crate::ids::ClassId;
+use crate::index::Index;
+use crate::overriding::{final_keys, overrides_final};
+use crate::supertypes::{own_interfaces_fault, own_superclass_fault};
+use jc_base::name::Name;
+use jc_facts::class_facts::ClassFacts;
+use jc_facts::flags::is_interface;
+use jc_facts::key_set::KeyRef;
+use jc_facts::link_error::LinkError;
+use std::alloc::{AllocError, Global};
+use std::collections::BTreeSet;
+
+// What is known of a class.
+#[derive(Clone, Copy)]
+enum State {
+    // It wasn't entered yet.
+    Fresh,
+    // It is entered, and not all that it names above itself is known yet.
+    Entered,
+    // Its load fault.
+    Known(Option<LinkError>),
+}
+
+// A class that is entered, and how many of those that it names above itself are known to load.
+#[derive(Clone, Copy)]
+struct Frame {
+    class: ClassId,
+    above: usize,
+}
+
+// What is known of a class that another one names.
+#[derive(Clone, Copy)]
+enum Named {
+    Known(Option<LinkError>),
+    Unknown(ClassId),
+}
+
+// Where the way leads from a class that is entered.
+#[derive(Clone, Copy)]
+enum Way {
+    // All that it names above itself loads.
+    Done,
+    // The first of those that doesn't load has this fault.
+    Fault(LinkError),
+    // So many of those load, and the next one is this class, of which nothing is known yet.
+    Up(usize, ClassId),
+}
+
+// What a turn leads to: the fault of the class at the bottom, or the class at the top.
+#[derive(Clone, Copy)]
+enum Turn {
+    Over(Option<LinkError>),
+    On(Frame),
+}
+
+// What is known of the class of this name.
+fn known_of(index: &Index, states: &[State], name: &Name) -> Named
+    requires { AreRight index.now states.now }
+    ensures says { Says index.now states.now name.now result }
+    ensures past { Passes index.now states.now name.now result }
+{
+    match index.get(name.as_bytes()) {
+        None => Named::Known(Some(LinkError::NoClassDefFoundError)),
+        Some(id) => match states[id.number() as usize] {
+            State::Known(fault) => Named::Known(fault),
+            State::Fresh | State::Entered => Named::Unknown(id),
+        },
+    }
+}
+
+// How many names the class has above itself: its superclass and its interfaces.
+pub(crate) fn super_count(class: &ClassFacts) -> usize
+    ensures { result ≡ length (supers class.now) }
+{
+    let interfaces = class.interfaces.as_slice().len();
+    match &class.superclass {
+        Some(_) => 1 + interfaces,
+        None => interfaces,
+    }
+}
+
+// One of these names, the superclass first.
+pub(crate) fn super_at(class: &ClassFacts, at: usize) -> &Name
+    requires { at < length (supers class.now) }
+    ensures { slice_get (supers class.now) at ≡ Some result.now }
+{
+    let interfaces = class.interfaces.as_slice();
+    match &class.superclass {
+        Some(name) => { if at == 0 { name } else { &interfaces[at - 1] } }
+        None => &interfaces[at],
+    }
+}
+
+// Where the way leads from the class, of those above which the first so many load.
+fn way_from(index: &Index, states: &[State], class: ClassId, loaded: usize) -> Way
+    requires inside { class < size index.now }
+    requires right { AreRight index.now states.now }
+    requires before { LoadsBefore index.now (name_at index.now class) loaded }
+    requires past { ArePassed index.now states.now (name_at index.now class) loaded }
+    ensures goes { Goes index.now states.now (name_at index.now class) result }
+    ensures past { GoesPast index.now states.now (name_at index.now class) result }
+{
+    let facts = index.facts(class);
+    for above in loaded..super_count(facts) {
+        match known_of(index, states, super_at(facts, above)) {
+            Named::Unknown(class) => return Way::Up(above, class),
+            Named::Known(fault) => {
+                if let Some(fault) = fault {
+                    return Way::Fault(fault);
+                }
+            }
+        }
+    }
+    Way::Done
+}
+
+// Notes the fault of all classes of the path and of the one at the top.
+fn note(states: &mut [State], path: &[Frame], top: ClassId, fault: LinkError)
+    requires path { All (λ f. f.class < length states.old) path.now }
+    requires top { top < length states.old }
+    ensures { AllHave fault states.old path.now top states.new }
+{
+    for frame in path {
+        states[frame.class.number() as usize] = State::Known(Some(fault));
+    }
+    states[top.number() as usize] = State::Known(Some(fault));
+}
+
+// From the class at the top the way leads up to one of which nothing is known: it is entered, or
+// the way leads round in a circle.
+fn go_up(
+    index: &Index,
+    states: &mut [State],
+    path: &mut Vec<Frame>,
+    top: Frame,
+    above: usize,
+    class: ClassId,
+) -> Result<Turn, AllocError>
+    requires way { IsUnderWay index.now states.old path.old.items top }
+    requires inside { class < size index.now }
+    requires leads { Leads index.now (name_at index.now top.class) above (name_at index.now class) }
+    requires unknown { is_known (state_of states.old class) ≡ false }
+    requires passed { ArePassedOnWay index.now states.old path.old.items top }
+    requires past { ArePassed index.now states.old (name_at index.now top.class) above }
+    ensures turns { IfOk result (λ turn. Turns index.now (bottom path.old.items top.class) (work states.old path.old.items) states.new path.new.items turn) }
+    ensures ordered { IfOk result (λ turn. (order : List ℕ) → Orders index.now states.old order → Orderly index.now (bottom path.old.items top.class) states.new path.new.items order turn) }
+{
+    match states[class.number() as usize] {
+        State::Fresh => {
+            states[class.number() as usize] = State::Entered;
+            path.push(Frame {
+                class: top.class,
+                above,
+            })?;
+            Ok(Turn::On(Frame { class, above: 0 }))
+        }
+        State::Entered | State::Known(_) => {
+            let fault = LinkError::ClassCircularityError;
+            note(states, path.as_slice(), top.class, fault);
+            Ok(Turn::Over(Some(fault)))
+        }
+    }
+}
+
+// Why the class doesn't load though all that it names above itself does: its superclass, then its
+// interfaces, then a method that overrides a final one.
+#[tactic(auto, unfolding(jc_facts::specs::world::Loading::fault_of_itself, jc_facts::specs::Options::or_else))]
+fn own_fault<'a>(
+    alloc: Global,
+    index: &'a Index,
+    finals: &BTreeSet<KeyRef<'a>>,
+    class: &'a ClassFacts,
+) -> Result<Option<LinkError>, AllocError>
+    requires { HasAllFinal index.now finals.now }
+    ensures { IfOk result (λ fault. fault ≡ fault_of_itself index.now class.now) }
+{
+    let superclass = own_superclass_fault(index, class);
+    if superclass.is_some() {
+        return Ok(superclass);
+    }
+    let interface = own_interfaces_fault(index, class);
+    if interface.is_some() {
+        return Ok(interface);
+    }
+    if is_interface(class.flags) {
+        return Ok(None);
+    }
+    if overrides_final(alloc, index, finals, class)? {
+        Ok(Some(LinkError::IncompatibleClassChangeError))
+    } else {
+        Ok(None)
+    }
+}
+
+// All that the class at the top names above itself loads: so it has a fault, or loads, stands next
+// in the order, and is left.
+fn leave<'a>(
+    alloc: Global,
+    index: &'a Index,
+    finals: &BTreeSet<KeyRef<'a>>,
+    states: &mut [State],
+    path: &mut Vec<Frame>,
+    order: &mut Vec<ClassId>,
+    top: Frame,
+) -> Result<Turn, AllocError>
+    requires finals { HasAllFinal index.now finals.now }
+    requires way { IsUnderWay index.now states.old path.old.items top }
+    requires above { Goes index.now states.old (name_at index.now top.class) Way.Done }
+    requires orders { Orders index.now states.old order.old.items }
+    requires passed { ArePassedOnWay index.now states.old path.old.items top }
+    requires past { AllPassed index.now states.old (name_at index.now top.class) }
+    ensures turns { IfOk result (λ turn. Turns index.now (bottom path.old.items top.class) (work states.old path.old.items) states.new path.new.items turn) }
+    ensures ordered { IfOk result (λ turn. Orderly index.now (bottom path.old.items top.class) states.new path.new.items order.new.items turn) }
+    ensures grows { IfOk result (λ _. Grows order.old.items order.new.items) }
+{
+    if let Some(fault) = own_fault(alloc, index, finals, index.facts(top.class))? {
+        note(states, path.as_slice(), top.class, fault);
+        return Ok(Turn::Over(Some(fault)));
+    }
+    states[top.class.number() as usize] = State::Known(None);
+    order.push(top.class)?;
+    match path.pop() {
+        Some(frame) => Ok(Turn::On(frame)),
+        None => Ok(Turn::Over(None)),
+    }
+}
+
+// Goes on from the class at the top.
+fn go_on<'a>(
+    alloc: Global,
+    index: &'a Index,
+    finals: &BTreeSet<KeyRef<'a>>,
+    states: &mut [State],
+    path: &mut Vec<Frame>,
+    order: &mut Vec<ClassId>,
+    top: Frame,
+) -> Result<Turn, AllocError>
+    requires finals { HasAllFinal index.now finals.now }
+    requires way { IsUnderWay index.now states.old path.old.items top }
+    requires orders { Orders index.now states.old order.old.items }
+    requires passed { ArePassedOnWay index.now states.old path.old.items top }
+    ensures turns { IfOk result (λ turn. Turns index.now (bottom path.old.items top.class) (work states.old path.old.items) states.new path.new.items turn) }
+    ensures ordered { IfOk result (λ turn. Orderly index.now (bottom path.old.items top.class) states.new path.new.items order.new.items turn) }
+    ensures grows { IfOk result (λ _. Grows order.old.items order.new.items) }
+{
+    match way_from(index, states, top.class, top.above) {
+        Way::Fault(fault) => {
+            note(states, path.as_slice(), top.class, fault);
+            Ok(Turn::Over(Some(fault)))
+        }
+        Way::Up(above, class) => match go_up(index, states, path, top, above, class) {
+            Ok(turn) => Ok(turn),
+            Err(error) => Err(error),
+        },
+        Way::Done => match leave(alloc, index, finals, states, path, order, top) {
+            Ok(turn) => Ok(turn),
+            Err(error) => Err(error),
+        },
+    }
+}
+
+// The load fault of the class that wasn't entered yet.
+fn enter<'a>(
+    alloc: Global,
+    index: &'a Index,
+    finals: &BTreeSet<KeyRef<'a>>,
+    states: &mut [State],
+    order: &mut Vec<ClassId>,
+    class: ClassId,
+) -> Result<Option<LinkError>, AllocError>
+    requires finals { HasAllFinal index.now finals.now }
+    requires inside { class < size index.now }
+    requires settled { IsSettled index.now states.old }
+    requires orders { Orders index.now states.old order.old.items }
+    ensures settled { IfOk result (λ fault. IsSettled index.now states.new × (load_fault index.now (name_at index.now class) ≡ fault)) }
+    ensures ordered { IfOk result (λ fault. Orders index.now states.new order.new.items × (fault ≡ None → Contains order.new.items class)) }
+    ensures grows { IfOk result (λ _. Grows order.old.items order.new.items) }
+{
+    states[class.number() as usize] = State::Entered;
+    let mut path = Vec::new(alloc);
+    let mut top = Frame { class, above: 0 };
+    'up: loop {
+        match go_on(alloc, index, finals, states, &mut path, order, top)? {
+            Turn::Over(fault) => return Ok(fault),
+            Turn::On(next) => top = next,
+        }
+    }
+}
+
+// The load fault of the class.
+fn fault_of<'a>(
+    alloc: Global,
+    index: &'a Index,
+    finals: &BTreeSet<KeyRef<'a>>,
+    states: &mut [State],
+    order: &mut Vec<ClassId>,
+    class: ClassId,
+) -> Result<Option<LinkError>, AllocError>
+    requires finals { HasAllFinal index.now finals.now }
+    requires inside { class < size index.now }
+    requires settled { IsSettled index.now states.old }
+    requires orders { Orders index.now states.old order.old.items }
+    ensures settled { IfOk result (λ fault. IsSettled index.now states.new × (load_fault index.now (name_at index.now class) ≡ fault)) }
+    ensures ordered { IfOk result (λ fault. Orders index.now states.new order.new.items × (fault ≡ None → Contains order.new.items class)) }
+    ensures grows { IfOk result (λ _. Grows order.old.items order.new.items) }
+{
+    match states[class.number() as usize] {
+        State::Known(fault) => Ok(fault),
+        State::Fresh | State::Entered => match enter(alloc, index, finals, states, order, class) {
+            Ok(fault) => Ok(fault),
+            Err(error) => Err(error),
+        },
+    }
+}
+
+// The load faults of all classes, and the order.
+fn all_faults<'a>(
+    alloc: Global,
+    index: &'a Index,
+    finals: &BTreeSet<KeyRef<'a>>,
+    states: &mut [State],
+    order: &mut Vec<ClassId>,
+) -> Result<Vec<Option<LinkError>>, AllocError>
+    requires finals { HasAllFinal index.now finals.now }
+    requires settled { IsSettled index.now states.old }
+    requires orders { Orders index.now states.old order.old.items }
+    ensures faults { IfOk result (λ faults. faults.items ≡ map (load_fault index.now) (names index.now)) }
+    ensures order { IfOk result (λ _. IsLoadOrder index.now order.new.items) }
+{
+    let mut faults = Vec::with_capacity(alloc, states.len())?;
+    for n in 0..index.count() {
+        let fault = fault_of(alloc, index, finals, states, order, ClassId::new(n))?;
+        faults.push(fault)?;
+    }
+    Ok(faults)
+}
+
+/// What is found out of the loading of all classes of a side.
+#[derive(Drop)]
+pub struct Loading {
+    /// The load faults of the classes, in byte order of their names; none where a class loads.
+    pub faults: Vec<Option<LinkError>>,
+    /// The classes that load, each after those that it names above itself.
+    pub order: Vec<ClassId>,
+}
+
+/// The load faults of all classes of the side, and an order in which those that load can be loaded
+/// (JVMS 5.3.5). Each class is entered once, and each name above it is looked up twice at most.
+///
+/// # Errors
+///
+/// `AllocError` where memory runs out.
+pub fn load_all(alloc: Global, index: &Index) -> Result<Loading, AllocError>
+    ensures faults { IfOk result (λ loading. loading.faults.items ≡ map (load_fault index.now) (names index.now)) }
+    ensures order { IfOk result (λ loading. IsLoadOrder index.now loading.order.items) }
+{
+    let finals = final_keys(alloc, index)?;
+    let mut states = vec![in alloc; State::Fresh; index.count() as usize]?;
+    let mut order = Vec::new(alloc);
+    let faults = all_faults(alloc, index, &finals, &mut states, &mut order)?;
+    Ok(Loading { faults, order })
+}

@@ -1,0 +1,150 @@
+//! Classes in byte order of their names.
+ghost use Rattle.std.specs.Prelude.{◌≡◌, ◌≤◌, ◌<◌, ◌+◌, ◌++◌, List, ℕ, Some, None, is_some, take, drop, length, nat_lt, IfOk, IfSome, IsTrue};
+ghost use Rattle.std.specs.List.{All};
+ghost use Rattle.jc_facts.specs.Names.{Bytes};
+ghost use Rattle.jc_facts.specs.Options.{some_where};
+ghost use Rattle.jc_facts.specs.file.Valid.{IsValidClass};
+ghost use Rattle.jc_facts.specs.client.Clients.{differ_by_name, HasRoot};
+ghost use Rattle.jc_facts.specs.world.World.{World, side, classes, size, find_class, class_named};
+ghost use Rattle.jc_index.specs.Ids.{names, names_of, name_at, id_of, superclass_of};
+ghost use Rattle.jc_index.specs.Sides.{IsSide};
+
+use crate::ids::ClassId;
+use crate::names::{NumberedNames, numbered};
+use crate::order::ordered;
+use jc_facts::class_facts::ClassFacts;
+use std::alloc::{AllocError, Global};
+use std::marker::Model;
+
+/// The classes of a side, and their order by name. A contract sees it as the side.
+#[derive(Drop)]
+pub struct Index {
+    // Those of the platform, and then those of the release.
+    classes: Vec<ClassFacts>,
+    platform: usize,
+    // Places in `classes`, in byte order of names.
+    order: Vec<usize>,
+    // The names in this order, numbered.
+    names: NumberedNames,
+}
+
+impl Model for Index {
+    ghost use Rattle.std.specs.Prelude.{take, drop};
+    ghost use Rattle.jc_facts.specs.world.World.{World, side};
+
+    ghost Value = { World };
+
+    ghost use Rattle.jc_index.specs.steps.Order.{IsIndex};
+
+    ghost view = { λ i. side (take i.platform i.classes.items) (drop i.platform i.classes.items) };
+
+    ghost invariant = { IsIndex };
+}
+
+// The classes of the platform, and then those of the release.
+fn joined(
+    alloc: Global,
+    platform: &[ClassFacts],
+    release: Vec<ClassFacts>,
+) -> Result<Vec<ClassFacts>, AllocError>
+    ensures { IfOk result (λ classes. classes.items ≡ platform.now ++ release.items) }
+{
+    let mut classes = Vec::new(alloc);
+    for class in platform {
+        classes.push(class.copy(alloc)?)?;
+    }
+    for class in release {
+        classes.push(class)?;
+    }
+    Ok(classes)
+}
+
+impl Index {
+    /// The index of a platform and a release.
+    pub fn new(
+        alloc: Global,
+        platform: &[ClassFacts],
+        release: Vec<ClassFacts>,
+    ) -> Result<Index, AllocError>
+        requires side { IsSide (side platform.now release.items) }
+        requires few { length platform.now + length release.items ≤ 120000 }
+        ensures { IfOk result (λ index. index ≡ side platform.now release.items) }
+    {
+        let count = platform.len();
+        let classes = joined(alloc, platform, release)?;
+        let order = ordered(alloc, classes.as_slice())?;
+        let names = numbered(alloc, classes.as_slice(), order.as_slice())?;
+        Ok(Index {
+            classes,
+            platform: count,
+            order,
+            names,
+        })
+    }
+
+    /// All classes: those of the platform, and then those of the release.
+    pub fn classes(&self) -> &[ClassFacts]
+        ensures { result.now ≡ classes self.now }
+    {
+        self.classes.as_slice()
+    }
+
+    /// How many classes there are.
+    pub fn count(&self) -> u32
+        ensures count { result ≡ size self.now }
+        ensures side { IsSide self.now }
+    {
+        self.order.len() as u32
+    }
+
+    /// The class of this number; none where there are no more than so many classes.
+    pub fn id(&self, n: u32) -> Option<ClassId>
+        ensures value { result ≡ some_where (nat_lt n (size self.now)) n }
+        ensures of_table { IfSome result (λ id. id < size self.now) }
+    {
+        if n < self.count() {
+            Some(ClassId::new(n))
+        } else {
+            None
+        }
+    }
+
+    /// The class of this name; none where there is none.
+    pub fn get(&self, name: &[u8]) -> Option<ClassId>
+        ensures value { result ≡ id_of self.now name.now }
+        ensures of_table { IfSome result (λ id. id < size self.now) }
+    {
+        match self.names.number(name) {
+            Some(place) => Some(ClassId::new(place as u32)),
+            None => None,
+        }
+    }
+
+    /// The record of the class.
+    pub fn facts(&self, id: ClassId) -> &ClassFacts
+        requires { id < size self.now }
+        ensures { Some result.now ≡ find_class self.now (name_at self.now id) }
+    {
+        &self.classes[self.order[id.number() as usize]]
+    }
+
+    /// The class that the class names as its superclass; none where there is none of this name.
+    pub fn superclass(&self, id: ClassId) -> Option<ClassId>
+        requires { id < size self.now }
+        ensures value { result ≡ superclass_of self.now (name_at self.now id) }
+        ensures of_table { IfSome result (λ id. id < size self.now) }
+    {
+        match &self.facts(id).superclass {
+            Some(name) => self.get(name.as_bytes()),
+            None => None,
+        }
+    }
+
+    /// Whether the class is one of the platform's.
+    pub fn in_platform(&self, id: ClassId) -> bool
+        requires { id < size self.now }
+        ensures { result ≡ is_some (class_named self.now.platform (name_at self.now id)) }
+    {
+        self.order[id.number() as usize] < self.platform
+    }
+}

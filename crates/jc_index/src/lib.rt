@@ -1,0 +1,24 @@
+//! The classes of a side by their numbers: their order by name, what stands above each, what of it
+//! keeps a class from loading, and the choice among superinterfaces.
+#![tactic(auto)]
+
+mod above;
+pub mod choose;
+pub mod faults;
+pub mod hierarchy;
+pub mod ids;
+pub mod index;
+pub mod members;
+pub mod mentioned;
+pub mod name_set;
+mod names;
+mod order;
+pub mod overlap;
+mod overriding;
+pub mod own;
+pub mod packages;
+pub mod plain;
+mod reach;
+pub mod root;
+pub mod search;
+pub mod supertypes;

@@ -1,0 +1,75 @@
+//! Names and their numbers.
+ghost use Rattle.std.specs.Prelude.{◌≡◌, ◌++◌, ◌∷◌, [], false, IfOk, OnOk, IsTrue};
+ghost use Rattle.jc_facts.specs.Names.{is_name_among};
+ghost use Rattle.jc_facts.specs.client.Clients.{differ_by_name};
+ghost use Rattle.jc_index.specs.Ids.{names_of, place_of};
+ghost use Rattle.jc_index.specs.steps.Order.{IsOrder};
+
+use crate::order::name_there;
+use indexmap::IndexSet;
+use jc_facts::class_facts::ClassFacts;
+use std::alloc::{AllocError, Global};
+use std::marker::Model;
+
+/// Names that differ from each other, each with the number of those that were added before it. A
+/// contract sees them as a list.
+#[derive(Drop)]
+pub struct NumberedNames {
+    set: IndexSet<Vec<u8>>,
+}
+
+impl Model for NumberedNames {
+    ghost use Rattle.std.specs.Prelude.{List, map};
+    ghost use Rattle.jc_facts.specs.Names.{Bytes};
+
+    ghost Value = { List Bytes };
+
+    ghost view = { λ n. map (λ v. v.items) n.set.keys };
+}
+
+impl NumberedNames {
+    // No names.
+    fn new(alloc: Global) -> NumberedNames
+        ensures { result ≡ [] }
+    {
+        NumberedNames {
+            set: IndexSet::new(alloc),
+        }
+    }
+
+    /// The number of the name; none where it isn't one of them. It takes no memory.
+    pub fn number(&self, name: &[u8]) -> Option<usize>
+        ensures { result ≡ place_of self.now name.now }
+    {
+        self.set.get_index_of(name)
+    }
+
+    // Adds a name that isn't one of them.
+    fn push(&mut self, alloc: Global, name: &[u8]) -> Result<(), AllocError>
+        requires { is_name_among self.old name.now ≡ false }
+        ensures { OnOk result (self.new ≡ self.old ++ name.now ∷ []) }
+    {
+        let name = Vec::from_slice(alloc, name)?;
+        match self.set.insert(name) {
+            Ok(_) => Ok(()),
+            Err(_) => Err(AllocError),
+        }
+    }
+}
+
+/// The names of the classes, numbered in byte order.
+pub fn numbered(
+    alloc: Global,
+    classes: &[ClassFacts],
+    order: &[usize],
+) -> Result<NumberedNames, AllocError>
+    requires differ { IsTrue (differ_by_name classes.now) }
+    requires order { IsOrder classes.now order.now }
+    ensures { IfOk result (λ names. names ≡ names_of classes.now) }
+{
+    let mut names = NumberedNames::new(alloc);
+    for at in 0..order.len() {
+        names.push(alloc, name_there(classes, order, at))?;
+    }
+    Ok(names)
+}

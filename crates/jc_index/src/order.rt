@@ -1,0 +1,95 @@
+//! Where classes stand in byte order of their names.
+ghost use Rattle.std.specs.Prelude.{◌≡◌, ◌≤◌, ◌<◌, IfOk, OnOk, IsTrue, length, map, [], slice_index_or};
+ghost use Rattle.std.specs.List.{All};
+ghost use Rattle.std.specs.List.Sorted.{IsPermutation, IsSortedBy};
+ghost use Rattle.std.specs.Ordering.{is_lt};
+ghost use Rattle.jc_facts.specs.client.Clients.{differ_by_name};
+ghost use Rattle.jc_facts.specs.Exactly.{name_order};
+ghost use Rattle.jc_index.specs.Ids.{names_of, place_of};
+ghost use Rattle.jc_index.specs.steps.Order.{IsOrder, IsPlace, names_at};
+
+use jc_facts::class_facts::ClassFacts;
+use std::alloc::{AllocError, Global};
+use std::cmp::Ordering;
+use std::marker::Model;
+
+// A class's name, and its place among the classes.
+#[derive(Drop)]
+struct Place<'a> {
+    name: &'a [u8],
+    at: usize,
+}
+
+impl<'a> Model for Place<'a> {
+    ghost use Rattle.std.specs.Prelude.{List, ℕ};
+
+    ghost Value = { List ℕ × ℕ };
+
+    ghost view = { λ p. (p.name.now, p.at) };
+}
+
+// The places of the classes, as they stand.
+fn places(alloc: Global, classes: &[ClassFacts]) -> Result<Vec<Place<'_>>, AllocError>
+    ensures names { IfOk result (λ places. map (λ p. p.0) places.items ≡ names_at classes.now) }
+    ensures at { IfOk result (λ places. All (IsPlace classes.now) places.items) }
+{
+    let mut places = Vec::new(alloc);
+    for (at, class) in classes.iter().enumerate() {
+        places.push(Place {
+            name: class.name.as_bytes(),
+            at,
+        })?;
+    }
+    Ok(places)
+}
+
+// Sorts the places by the names.
+fn sort_by_name(places: &mut Vec<Place<'_>>) -> Result<(), AllocError>
+    ensures permutation { IsPermutation places.old.items places.new.items }
+    ensures sorted { OnOk result (IsSortedBy (λ x y. is_lt (name_order x.0 y.0)) places.new.items) }
+{
+    places.sort_by(|a, b| a.name.cmp(b.name))?;
+    Ok(())
+}
+
+/// The places of the classes, in byte order of their names.
+pub fn ordered(alloc: Global, classes: &[ClassFacts]) -> Result<Vec<usize>, AllocError>
+    requires { IsTrue (differ_by_name classes.now) }
+    ensures { IfOk result (λ order. IsOrder classes.now order.items) }
+{
+    let mut places = places(alloc, classes)?;
+    sort_by_name(&mut places)?;
+    let mut order = Vec::new(alloc);
+    for place in places.as_slice() {
+        order.push(place.at)?;
+    }
+    Ok(order)
+}
+
+/// The name that stands there in byte order.
+pub fn name_there<'a>(classes: &'a [ClassFacts], order: &[usize], at: usize) -> &'a [u8]
+    requires order { IsOrder classes.now order.now }
+    requires within { at < length order.now }
+    ensures { result.now ≡ slice_index_or (names_of classes.now) at [] }
+{
+    classes[order[at]].name.as_bytes()
+}
+
+/// How many classes stand before the one of this name; none where there is none.
+pub fn search(classes: &[ClassFacts], order: &[usize], name: &[u8]) -> Option<usize>
+    requires differ { IsTrue (differ_by_name classes.now) }
+    requires order { IsOrder classes.now order.now }
+    ensures { result ≡ place_of (names_of classes.now) name.now }
+{
+    let mut low = 0;
+    let mut high = order.len();
+    while low < high {
+        let middle = low + (high - low) / 2;
+        match name_there(classes, order, middle).cmp(name) {
+            Ordering::Less => low = middle + 1,
+            Ordering::Equal => return Some(middle),
+            Ordering::Greater => high = middle,
+        }
+    }
+    None
+}

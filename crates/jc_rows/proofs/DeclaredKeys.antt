@@ -1,0 +1,129 @@
+-- The numbered keys are those that some class declares.
+use Rattle.std.proofs.Common.{◌≡◌, Bool, true, false, List, [], ◌∷◌, ◌++◌, refl, sym, ◌∙◌, ap, subst, Option, Some, None, ◌||◌}
+use Rattle.std.specs.Prelude.{cond, is_some, is_none}
+use Rattle.std.specs.List.{list_any, Contains}
+use Rattle.std.proofs.lemmas.Bool.{and_parts}
+use Rattle.std.proofs.lemmas.List.Folds.{list_any-append}
+use Rattle.jc_facts.specs.declared.class_facts.ClassFacts.{ClassFacts}
+use Rattle.jc_facts.specs.declared.class_facts.Member.{Member}
+use Rattle.jc_facts.specs.declared.key.Key.{Key}
+use Rattle.jc_facts.specs.Names.{Bytes, same, same_key, is_key, key_of}
+use Rattle.jc_facts.specs.client.Clients.{differ_by_name}
+use Rattle.jc_facts.specs.file.Valid.{has_key}
+use Rattle.jc_facts.specs.world.World.{World, classes, class_named, find_class, own_field_of, own_method_of}
+use Rattle.jc_facts.proofs.Keys.{flip}
+use Rattle.jc_facts.proofs.Same.{same_is, same_itself}
+use Rattle.jc_facts.proofs.World.{class_named-each}
+use Rattle.jc_lemmas.proofs.Bools.{or_assoc, or_false, or_true, tests_agree}
+use Rattle.jc_lemmas.proofs.Listed.{EachOf, EachOf-both, each_in, each_from, each_of, any_passes, any_has}
+use Rattle.jc_lemmas.proofs.Lists.{found_any}
+use Rattle.jc_index.specs.Ids.{names}
+use Rattle.jc_index.specs.Lookups.{declare_field, declare_method}
+use Rattle.jc_index.proofs.Numbers.{names-in}
+use Rattle.jc_rows.specs.Keys.{with_key, with_keys, with_keys_of, with_all_keys, numbered_keys}
+use Rattle.jc_rows.proofs.Numbered.{key_is}
+
+-- ---- keys that are added
+
+module _ (q : Key) where
+  has-key : (keys : List Key) (k : Key) → has_key q (with_key keys k) ≡ (has_key q keys || same_key q k)
+  has-key keys k = go (list_any (same_key k) keys) refl
+    where
+      there : list_any (same_key k) keys ≡ true → (b : Bool) → same_key q k ≡ b → has_key q keys ≡ (has_key q keys || b)
+      there h true e = subst (λ (j : Key). has_key j keys ≡ true) (sym (key_is q k e)) h ∙ sym (or_true (has_key q keys))
+      there h false e = sym (or_false (has_key q keys))
+
+      go : (b : Bool) → list_any (same_key k) keys ≡ b → has_key q (cond b keys (keys ++ k ∷ [])) ≡ (has_key q keys || same_key q k)
+      go true h = there h (same_key q k) refl
+      go false h = list_any-append (same_key q) keys (k ∷ []) ∙ ap (λ (b : Bool). has_key q keys || b) (or_false (same_key q k))
+
+  has-keys : (keys : List Key) (ms : List Member) → has_key q (with_keys keys ms) ≡ (has_key q keys || list_any (is_key q) ms)
+  has-keys keys [] = sym (or_false (has_key q keys))
+  has-keys keys (m ∷ ms) =
+      has-keys (with_key keys (key_of m)) ms
+      ∙ ap (λ (b : Bool). b || list_any (is_key q) ms) (has-key keys (key_of m) ∙ ap (λ (b : Bool). has_key q keys || b) (flip q (key_of m)))
+      ∙ or_assoc (has_key q keys) (is_key q m) (list_any (is_key q) ms)
+
+  -- the class declares the key
+  abbrev pub declares : ClassFacts → Bool
+  declares c = is_some (own_field_of c q) || is_some (own_method_of c q)
+
+  abbrev pub some_declares : Option ClassFacts → Bool
+  some_declares None = false
+  some_declares (Some c) = declares c
+
+  has-class : (keys : List Key) (o : Option ClassFacts) → has_key q (with_keys_of keys o) ≡ (has_key q keys || some_declares o)
+  has-class keys None = sym (or_false (has_key q keys))
+  has-class keys (Some c) =
+      has-keys (with_keys keys c.fields) c.methods
+      ∙ ap (λ (b : Bool). b || list_any (is_key q) c.methods) (has-keys keys c.fields)
+      ∙ or_assoc (has_key q keys) (list_any (is_key q) c.fields) (list_any (is_key q) c.methods)
+      ∙ ap (λ (b : Bool). has_key q keys || (b || list_any (is_key q) c.methods)) (found_any (is_key q) c.fields)
+      ∙ ap (λ (b : Bool). has_key q keys || (is_some (own_field_of c q) || b)) (found_any (is_key q) c.methods)
+
+  has-all : (W : World) (keys : List Key) (xs : List Bytes) → has_key q (with_all_keys W keys xs) ≡ (has_key q keys || list_any (λ x. some_declares (find_class W x)) xs)
+  has-all W keys [] = sym (or_false (has_key q keys))
+  has-all W keys (x ∷ xs) =
+      has-all W (with_keys_of keys (find_class W x)) xs
+      ∙ ap (λ (b : Bool). b || list_any (λ y. some_declares (find_class W y)) xs) (has-class keys (find_class W x))
+      ∙ or_assoc (has_key q keys) (some_declares (find_class W x)) (list_any (λ y. some_declares (find_class W y)) xs)
+
+-- ---- classes by their names
+
+-- where no two classes have one name, each is the class of its name
+each_named : (cs : List ClassFacts) → differ_by_name cs ≡ true → EachOf (λ c. class_named cs c.name ≡ Some c) cs
+unfolding differ_by_name class_named
+each_named [] h = tt
+each_named (c ∷ cs) h = (
+  ap (λ (b : Bool). cond b (Some c) (class_named cs c.name)) (same_itself c.name),
+  EachOf-both further cs (each_named cs parts.1) (each_of (λ d. c ≡ c) (λ d. refl) cs),
+)
+  where
+    parts : (is_none (class_named cs c.name) ≡ true) × (differ_by_name cs ≡ true)
+    parts = and_parts (is_none (class_named cs c.name)) (differ_by_name cs) h
+
+    further : (d : ClassFacts) → class_named cs d.name ≡ Some d → c ≡ c → cond (same c.name d.name) (Some c) (class_named cs d.name) ≡ Some d
+    further d e u = go (same c.name d.name) refl
+      where
+        go : (b : Bool) → same c.name d.name ≡ b → cond b (Some c) (class_named cs d.name) ≡ Some d
+        go true s = absurd (let z : false ≡ true = sym (ap is_none (ap (class_named cs) (same_is c.name d.name s) ∙ e)) ∙ parts.0 in cc)
+        go false s = e
+
+module _ (W : World) (differ : differ_by_name (classes W) ≡ true) (k : Key) where
+  found_in_classes : (x : Bytes) (o : Option ClassFacts) → find_class W x ≡ o → some_declares k o ≡ true → list_any (declares k) (classes W) ≡ true
+  unfolding find_class
+  found_in_classes x None e h = absurd (let c : false ≡ true = h in cc)
+  found_in_classes x (Some c) e h = any_has (declares k) (classes W) c (class_named-each (Contains (classes W)) (classes W) x c (each_from (Contains (classes W)) (classes W) (λ d i. i)) e) h
+
+  by_name : (c : ClassFacts) → Contains (classes W) c → find_class W c.name ≡ Some c
+  unfolding find_class
+  by_name c i = each_in (λ d. class_named (classes W) d.name ≡ Some d) (classes W) c (each_named (classes W) differ) i
+
+  by_names : list_any (λ x. some_declares k (find_class W x)) (names W) ≡ list_any (declares k) (classes W)
+  by_names = tests_agree (list_any (λ x. some_declares k (find_class W x)) (names W)) (list_any (declares k) (classes W)) down up
+    where
+      down : list_any (λ x. some_declares k (find_class W x)) (names W) ≡ true → list_any (declares k) (classes W) ≡ true
+      down h = let p = any_passes (λ x. some_declares k (find_class W x)) (names W) h in found_in_classes p.one (find_class W p.one) refl p.passes
+
+      up : list_any (declares k) (classes W) ≡ true → list_any (λ x. some_declares k (find_class W x)) (names W) ≡ true
+      up h =
+          let p = any_passes (declares k) (classes W) h in
+          let e : find_class W p.one.name ≡ Some p.one = by_name p.one p.is_in in
+          any_has (λ x. some_declares k (find_class W x)) (names W) p.one.name (names-in W p.one.name (ap is_some e)) (ap (some_declares k) e ∙ p.passes)
+
+  -- one declares a field of the key, or one a method
+  each_kind : (cs : List ClassFacts) → list_any (declares k) cs ≡ (declare_field cs k || declare_method cs k)
+  each_kind [] = refl
+  each_kind (c ∷ cs) = ap (λ (b : Bool). declares k c || b) (each_kind cs) ∙ regroup (is_some (own_field_of c k)) (is_some (own_method_of c k)) (declare_field cs k) (declare_method cs k)
+    where
+      regroup : (a b f g : Bool) → ((a || b) || (f || g)) ≡ ((a || f) || (b || g))
+      regroup true b f g = refl
+      regroup false true true g = refl
+      regroup false true false g = refl
+      regroup false false true g = refl
+      regroup false false false g = refl
+
+  -- a key is numbered exactly where a class declares a field or a method of it
+  pub numbered_keys-declared : has_key k (numbered_keys W) ≡ (declare_field (classes W) k || declare_method (classes W) k)
+  unfolding numbered_keys
+  numbered_keys-declared = has-all k W [] (names W) ∙ by_names ∙ each_kind (classes W)

@@ -1,0 +1,15 @@
+pub mod Entries
+pub mod Merging
+pub mod Searching
+pub mod Numbered
+pub mod KeyLists
+pub mod Numbers
+pub mod DeclaredKeys
+pub mod OwnMembers
+pub mod RowsAbove
+pub mod FieldLaw
+pub mod Fronts
+pub mod Settling
+pub mod Unfound
+pub mod Sources
+pub mod Filling

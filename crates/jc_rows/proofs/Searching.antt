@@ -1,0 +1,62 @@
+-- A search by halves in a row.
+use Rattle.std.proofs.Common.{◌≡◌, ℕ, ◌≤◌, ◌<◌, ◌+◌, suc, zero, Bool, List, [], ◌∷◌, length, take, drop, get_or, refl, sym, ◌∙◌, ap, subst, Option, Some, None, arith}
+use Rattle.std.specs.Prelude.{cond, nat_eq}
+use Rattle.std.proofs.lemmas.Bool.{eq-eqb, ne_eqb}
+use Rattle.std.proofs.lemmas.List.{take-append-drop}
+use Rattle.jc_facts.specs.Options.{or_else}
+use Rattle.jc_index.specs.declared.ids.Found.{Found}
+use Rattle.jc_rows.specs.declared.row.RowItem.{RowItem}
+use Rattle.jc_rows.specs.Rows.{RisesFrom, entry}
+use Rattle.jc_rows.specs.steps.Merging.{IsMerged, IsRowOf}
+use Rattle.jc_rows.proofs.Entries.{entry-append, entry-below}
+
+-- no key is less than where the row rises from
+at_least : (n : ℕ) (row : List RowItem) (m : ℕ) (x : RowItem) → RisesFrom n row → m < length row → x ≡ get_or row m x → n ≤ x.key
+at_least n [] m x r l e = absurd (omega arith)
+at_least n (i ∷ is) zero x r l e = let k : x.key ≡ i.key = ap (λ (y : RowItem). y.key) e in omega (arith, k, r.0)
+at_least n (i ∷ is) (suc m) x r l e = let k = at_least (i.key + 1) is m x r.1 (omega arith) e in omega (arith, k, r.0)
+
+passed : (k n : ℕ) (f : Found) (o : Option Found) → k < n → cond (nat_eq k n) (Some f) o ≡ o
+passed k n f o l = ap (λ (b : Bool). cond b (Some f) o) (ne_eqb k n (λ e. omega (arith, e, l)))
+
+-- what stands up to a smaller key has no entry
+pub skip : (n : ℕ) (row : List RowItem) (m : ℕ) (x : RowItem) (key : ℕ) → RisesFrom n row → m < length row → x ≡ get_or row m x → x.key < key → entry row key ≡ entry (drop (m + 1) row) key
+skip n [] m x key r l e h = absurd (omega arith)
+skip n (i ∷ is) zero x key r l e h = let k : x.key ≡ i.key = ap (λ (y : RowItem). y.key) e in passed i.key key i.found (entry is key) (omega (arith, k, h))
+skip n (i ∷ is) (suc m) x key r l e h =
+    let k = at_least (i.key + 1) is m x r.1 (omega arith) e in
+    let one : suc (m + 1) ≡ suc m + 1 = omega arith in
+    passed i.key key i.found (entry is key) (omega (arith, k, h)) ∙ skip (i.key + 1) is m x key r.1 (omega arith) e h
+    ∙ ap (λ (j : ℕ). entry (drop j (i ∷ is)) key) one
+
+-- nor has what stands from a greater key on
+pub beyond : (n : ℕ) (row : List RowItem) (m : ℕ) (x : RowItem) (key : ℕ) → RisesFrom n row → m < length row → x ≡ get_or row m x → key < x.key → entry (drop m row) key ≡ None
+beyond n [] m x key r l e h = absurd (omega arith)
+beyond n (i ∷ is) zero x key r l e h =
+    let k : x.key ≡ i.key = ap (λ (y : RowItem). y.key) e in entry-below i.key key (i ∷ is) (omega (arith, k, h)) (omega arith, r.1)
+beyond n (i ∷ is) (suc m) x key r l e h = beyond (i.key + 1) is m x key r.1 (omega arith) e h
+
+pub hit : (n : ℕ) (row : List RowItem) (m : ℕ) (x : RowItem) (key : ℕ) → RisesFrom n row → m < length row → x ≡ get_or row m x → x.key ≡ key → Some x.found ≡ entry row key
+hit n [] m x key r l e h = absurd (omega arith)
+hit n (i ∷ is) zero x key r l e h =
+    let k : i.key ≡ key = sym (ap (λ (y : RowItem). y.key) e) ∙ h in
+    ap (λ (y : RowItem). Some y.found) e ∙ sym (ap (λ (b : Bool). cond b (Some i.found) (entry is key)) (eq-eqb i.key key k))
+hit n (i ∷ is) (suc m) x key r l e h =
+    let k = at_least (i.key + 1) is m x r.1 (omega arith) e in
+    hit (i.key + 1) is m x key r.1 (omega arith) e h ∙ sym (passed i.key key i.found (entry is key) (omega (arith, k, h)))
+
+-- ---- sorting
+
+pub short : (items row : List RowItem) → row ≡ items → length items ≤ 1 → IsRowOf items row
+short [] row e l = subst (IsRowOf []) (sym e) (record { rises = tt; entries = λ n. refl })
+short (i ∷ []) row e l = subst (IsRowOf (i ∷ [])) (sym e) (record { rises = (omega arith, tt); entries = λ n. refl })
+short (i ∷ j ∷ is) row e l = absurd (omega arith)
+
+pub joins : (items front back first second row : List RowItem) (m : ℕ) → front ≡ take m items → back ≡ drop m items → IsRowOf front first → IsRowOf back second → IsMerged first second row → IsRowOf items row
+joins items front back first second row m f b p q w = record {
+  rises = w.rises;
+  entries = λ n.
+      w.entries n ∙ ap (λ (o : Option Found). or_else o (entry second n)) (p.entries n ∙ ap (λ (xs : List RowItem). entry xs n) f)
+      ∙ ap (or_else (entry (take m items) n)) (q.entries n ∙ ap (λ (xs : List RowItem). entry xs n) b)
+      ∙ sym (entry-append (take m items) (drop m items) n) ∙ ap (λ (xs : List RowItem). entry xs n) (take-append-drop m items);
+}

@@ -1,0 +1,112 @@
+//! The rows of all classes, each made after those of what its class names above itself.
+ghost use Rattle.std.specs.Prelude.{◌≡◌, IfOk};
+ghost use Rattle.jc_index.specs.LoadOrder.{IsLoadOrder};
+ghost use Rattle.jc_rows.specs.AllRows.{HasRows};
+ghost use Rattle.jc_rows.specs.Rows.{IsRow, IsFieldRow, IsMethodRow};
+ghost use Rattle.jc_rows.specs.steps.Columns.{AreEmpty};
+ghost use Rattle.jc_rows.specs.steps.Fronts.{chain_method};
+ghost use Rattle.jc_rows.specs.steps.Numbering.{IsNumbering};
+
+use crate::fields::field_row;
+use crate::front::{chain_row, front_row, object_row};
+use crate::methods::method_row;
+use crate::numbering::Numbering;
+use crate::row::RowItem;
+use jc_base::items::Items;
+use jc_index::hierarchy::Hierarchy;
+use jc_index::ids::ClassId;
+use jc_index::index::Index;
+use std::alloc::{AllocError, Global};
+
+// As many empty rows as there are classes.
+fn no_rows(alloc: Global, index: &Index) -> Result<Vec<Items<RowItem>>, AllocError>
+    ensures { IfOk result (λ rows. AreEmpty index.now rows.items) }
+{
+    let mut rows = Vec::with_capacity(alloc, index.count() as usize)?;
+    for _ in 0..index.count() {
+        rows.push(Items::from_vec(Vec::new(alloc)))?;
+    }
+    Ok(rows)
+}
+
+// A copy of the row that takes no more memory than its items want.
+fn kept(alloc: Global, row: &[RowItem]) -> Result<Items<RowItem>, AllocError>
+    ensures { IfOk result (λ kept. kept ≡ row.now) }
+{
+    let items = Vec::from_slice(alloc, row)?;
+    Ok(Items::from_vec(items))
+}
+
+/// The row of fields of each class that loads; of any other class an empty one.
+pub(crate) fn field_rows(
+    alloc: Global,
+    index: &Index,
+    numbering: &Numbering,
+    order: &[ClassId],
+) -> Result<Vec<Items<RowItem>>, AllocError>
+    requires numbering { IsNumbering index.now numbering.now }
+    requires order { IsLoadOrder index.now order.now }
+    ensures { IfOk result (λ rows. HasRows (IsFieldRow index.now) index.now rows.items) }
+{
+    let mut rows = no_rows(alloc, index)?;
+    for class in order {
+        let class = *class;
+        let row = field_row(alloc, index, numbering, rows.as_slice(), class)?;
+        rows[class.number() as usize] = kept(alloc, row.as_slice())?;
+    }
+    Ok(rows)
+}
+
+// The row of the methods of its chain, for each class that loads; of any other class an empty one.
+fn chain_rows(
+    alloc: Global,
+    index: &Index,
+    numbering: &Numbering,
+    order: &[ClassId],
+) -> Result<Vec<Items<RowItem>>, AllocError>
+    requires numbering { IsNumbering index.now numbering.now }
+    requires order { IsLoadOrder index.now order.now }
+    ensures { IfOk result (λ rows. HasRows (λ x. IsRow index.now (chain_method index.now x)) index.now rows.items) }
+{
+    let mut rows = no_rows(alloc, index)?;
+    for class in order {
+        let class = *class;
+        let row = chain_row(alloc, index, numbering, rows.as_slice(), class)?;
+        rows[class.number() as usize] = kept(alloc, row.as_slice())?;
+    }
+    Ok(rows)
+}
+
+/// The row of methods of each class that loads; of any other class an empty one.
+pub(crate) fn method_rows(
+    alloc: Global,
+    hierarchy: &Hierarchy,
+    numbering: &Numbering,
+    order: &[ClassId],
+) -> Result<Vec<Items<RowItem>>, AllocError>
+    requires numbering { IsNumbering hierarchy.now numbering.now }
+    requires order { IsLoadOrder hierarchy.now order.now }
+    ensures { IfOk result (λ rows. HasRows (IsMethodRow hierarchy.now) hierarchy.now rows.items) }
+{
+    let index = hierarchy.index();
+    let keys = numbering.keys.as_slice();
+    let chains = chain_rows(alloc, index, numbering, order)?;
+    let object = object_row(alloc, index, numbering)?;
+    let mut rows = no_rows(alloc, index)?;
+    for class in order {
+        let class = *class;
+        let n = class.number() as usize;
+        let chain = chains[n].as_slice();
+        let front = front_row(alloc, index, numbering, chain, object.as_slice(), class)?;
+        let row = method_row(
+            alloc,
+            hierarchy,
+            keys,
+            rows.as_slice(),
+            front.as_slice(),
+            class,
+        )?;
+        rows[n] = kept(alloc, row.as_slice())?;
+    }
+    Ok(rows)
+}

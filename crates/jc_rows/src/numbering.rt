@@ -1,0 +1,61 @@
+//! The keys of all members of an index, numbered.
+ghost use Rattle.std.specs.Prelude.{◌≡◌, IfOk, OnOk};
+ghost use Rattle.jc_rows.specs.Keys.{with_keys};
+ghost use Rattle.jc_rows.specs.steps.Numbering.{AreNumbers, AddsClass, IsNumbering};
+
+use crate::keys::Keys;
+use jc_base::items::Items;
+use jc_facts::class_facts::{ClassFacts, Member};
+use jc_facts::key_set::KeyRef;
+use jc_index::ids::ClassId;
+use jc_index::index::Index;
+use std::alloc::{AllocError, Global};
+
+/// The keys of all members, and for each class the numbers of the keys of its fields and of its
+/// methods, in their order.
+#[derive(Drop)]
+pub(crate) struct Numbering {
+    pub keys: Keys,
+    pub fields: Vec<Items<usize>>,
+    pub methods: Vec<Items<usize>>,
+}
+
+// Adds the keys of these members, and gives their numbers.
+fn add_members(alloc: Global, keys: &mut Keys, members: &[Member]) -> Result<Vec<usize>, AllocError>
+    ensures added { OnOk result (keys.new ≡ with_keys keys.old members.now) }
+    ensures numbers { IfOk result (λ numbers. AreNumbers keys.new members.now numbers.items) }
+{
+    let mut numbers = Vec::with_capacity(alloc, members.len())?;
+    for member in members {
+        let key = KeyRef::of_member(member).to_key(alloc)?;
+        let number = keys.put(key)?;
+        numbers.push(number)?;
+    }
+    Ok(numbers)
+}
+
+// Adds the keys of the class's fields and methods, and their numbers.
+fn add_class(alloc: Global, numbering: &mut Numbering, class: &ClassFacts) -> Result<(), AllocError>
+    ensures { OnOk result (AddsClass numbering.old class.now numbering.new) }
+{
+    let fields = add_members(alloc, &mut numbering.keys, class.fields.as_slice())?;
+    let methods = add_members(alloc, &mut numbering.keys, class.methods.as_slice())?;
+    numbering.fields.push(Items::from_vec(fields))?;
+    numbering.methods.push(Items::from_vec(methods))?;
+    Ok(())
+}
+
+/// The keys of all members of the index, the classes in byte order of their names, numbered.
+pub(crate) fn number_members(alloc: Global, index: &Index) -> Result<Numbering, AllocError>
+    ensures { IfOk result (λ numbering. IsNumbering index.now numbering) }
+{
+    let mut numbering = Numbering {
+        keys: Keys::new(alloc),
+        fields: Vec::new(alloc),
+        methods: Vec::new(alloc),
+    };
+    for n in 0..index.count() {
+        add_class(alloc, &mut numbering, index.facts(ClassId::new(n)))?;
+    }
+    Ok(numbering)
+}
