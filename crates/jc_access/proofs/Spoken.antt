@@ -28,7 +28,7 @@ use Rattle.jc_facts.proofs.World.{names, find-name, EachOf-class_named}
 use Rattle.jc_table.specs.Ids.{name_at}
 use Rattle.jc_table.specs.Lookups.{IsFound}
 use Rattle.jc_table.specs.Sides.{IsSide}
-use Rattle.jc_table.specs.declared.ids.Found.{Found}
+use Rattle.jc_index.specs.declared.ids.Found.{Found}
 use Rattle.jc_table.proofs.Numbers.{class_at}
 use Rattle.jc_access.specs.steps.Parts.{inside_at, client_at, asks_receiver}
 use Rattle.jc_access.specs.Speaking.{SpeaksForSeat}

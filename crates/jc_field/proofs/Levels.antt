@@ -11,7 +11,7 @@ use Rattle.jc_facts.specs.world.Lookup.{field_found, field_step}
 use Rattle.jc_worlds.proofs.Descent.{descend-absent, descend-none_left, descend-found}
 use Rattle.jc_table.specs.Ids.{name_at, id_of}
 use Rattle.jc_table.specs.Lookups.{IsAnswer}
-use Rattle.jc_table.specs.declared.ids.Found.{Found}
+use Rattle.jc_index.specs.declared.ids.Found.{Found}
 use Rattle.jc_table.proofs.Numbers.{id_of-Some, find-None}
 use Rattle.jc_field.specs.steps.Fields.{own_found, found_to}
 use Rattle.jc_table.proofs.Lookups.{answer_none, answer_or, answer_else}

@@ -1,3 +1,4 @@
 pub mod Declared
 pub mod Steps
 pub mod Levels
+pub mod Rows

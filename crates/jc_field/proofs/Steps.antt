@@ -28,7 +28,7 @@ use Rattle.jc_table.specs.Ids.{name_at, id_of, superclass_of}
 use Rattle.jc_table.specs.Above.{AreAbove}
 use Rattle.jc_table.specs.Lookups.{IsAnswer}
 use Rattle.jc_table.specs.Sides.{IsSide}
-use Rattle.jc_table.specs.declared.ids.Found.{Found}
+use Rattle.jc_index.specs.declared.ids.Found.{Found}
 use Rattle.jc_table.proofs.Numbers.{IsClass, class_at, id_of-Some, superclass_is, find-None}
 use Rattle.jc_field.specs.steps.Fields.{declares_field, declares_at, own_found, interfaces_found, here_found, AreReady, GivenBy, Gives}
 use Rattle.jc_table.proofs.Lookups.{answer_none, answer_or}

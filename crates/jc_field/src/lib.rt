@@ -4,5 +4,6 @@
 pub mod find;
 pub mod keys;
 pub mod plain;
+pub mod walk;
 
 pub use jc_table::ids::Found;

@@ -8,7 +8,7 @@ ghost use Rattle.jc_table.specs.Ids.{name_at};
 ghost use Rattle.jc_table.specs.Lookups.{IsAnswer};
 ghost use Rattle.jc_field.specs.steps.Fields.{found_to};
 
-use crate::find::own;
+use crate::walk::own;
 use jc_facts::key::Key;
 use jc_facts::key_set::KeyRef;
 use jc_table::ids::{ClassId, Found};

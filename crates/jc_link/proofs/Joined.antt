@@ -20,7 +20,7 @@ use Rattle.jc_facts.proofs.Clients.{facts_length, facts_valid}
 use Rattle.jc_facts.proofs.Options.{or_else-none}
 use Rattle.jc_facts.proofs.Same.{same_is, same_itself}
 use Rattle.jc_worlds.proofs.Alike.{worlds_link_alike}
-use Rattle.jc_worlds.proofs.ClientOrder.{name_of}
+use Rattle.jc_facts.proofs.Clients.{name_of}
 use Rattle.jc_worlds.proofs.Clients.{class_named-back, class_named-absent}
 use Rattle.jc_table.specs.Sides.{overlap_of}
 use Rattle.jc_table.specs.Tables.{HasCause}

@@ -21,7 +21,7 @@ use Rattle.jc_lemmas.proofs.Listed.{EachOf, EachOf-append, each_in}
 use Rattle.jc_worlds.proofs.ChoiceLaws.{each_choice_gives_the_same}
 use Rattle.jc_table.specs.Sides.{IsSide}
 use Rattle.jc_table.specs.Lookups.{IsAnswer, IsChoice}
-use Rattle.jc_table.specs.declared.ids.Found.{Found}
+use Rattle.jc_index.specs.declared.ids.Found.{Found}
 use Rattle.jc_link.specs.steps.ItemSteps.{LooksUp}
 use Rattle.jc_link.proofs.Members.{use_alike}
 

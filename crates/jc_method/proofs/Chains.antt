@@ -1,5 +1,5 @@
 -- The first class of a chain that declares a key, along a walk up the superclasses.
-use Rattle.std.proofs.Common.{◌≡◌, ◌<◌, ℕ, suc, Bool, true, false, not, cond, ◌&&◌, List, [], refl, sym, ◌∙◌, ap, subst, Option, Some, None, ◌⊎◌, inl, inr}
+use Rattle.std.proofs.Common.{◌≡◌, ◌<◌, ℕ, suc, Bool, true, false, not, cond, ◌&&◌, refl, sym, ◌∙◌, ap, subst, Option, Some, None, ◌⊎◌, inl, inr}
 use Rattle.std.specs.Prelude.{IsTrue}
 use Rattle.jc_facts.specs.declared.class_facts.ClassFacts.{ClassFacts}
 use Rattle.jc_facts.specs.declared.class_facts.Member.{Member}
@@ -10,16 +10,15 @@ use Rattle.jc_facts.specs.Options.{or_else, and_then}
 use Rattle.jc_facts.specs.world.World.{World, find_class, size, classes, own_method_of, found_in, declared_method, DeclaredMember}
 use Rattle.jc_facts.specs.client.Clients.{differ_by_name}
 use Rattle.jc_facts.specs.world.Hierarchy.{chain}
-use Rattle.jc_facts.specs.world.Lookup.{first_declared, if_public_instance, public_method_of_object, or_choices}
-use Rattle.jc_lemmas.proofs.Listed.{here}
+use Rattle.jc_facts.specs.world.Lookup.{first_declared, if_public_instance, public_method_of_object}
 use Rattle.jc_facts.proofs.World.{find-name}
 use Rattle.jc_table.specs.Ids.{name_at, id_of, superclass_of}
-use Rattle.jc_table.specs.Lookups.{IsAnswer, IsChoice}
+use Rattle.jc_table.specs.Lookups.{IsAnswer}
 use Rattle.jc_table.specs.steps.Walking.{chain_from}
-use Rattle.jc_table.specs.declared.ids.Found.{Found}
+use Rattle.jc_index.specs.declared.ids.Found.{Found}
 use Rattle.jc_table.proofs.Numbers.{IsClass, class_at, find-None, id_of-Some}
 use Rattle.jc_table.proofs.Walking.{from-step, from-none, from-nothing}
-use Rattle.jc_method.specs.steps.Choosing.{own_at, as_found}
+use Rattle.jc_index.specs.steps.Choosing.{own_at, as_found}
 
 -- ---- what a class itself declares
 
@@ -135,15 +134,3 @@ module _ (W : World) (k : Key) where
             let x : public_flag m.member.flags ≡ true = ap public_flag (sym h.flags) ∙ a in
             let y : static_flag m.member.flags ≡ false = ap static_flag (sym h.flags) ∙ b in
             rw (x, y) h
-
--- ---- one step of the lookup and the next
-
-pub choice_here : (W : World) (f : Found) (o : Option DeclaredMember) (ms : List DeclaredMember) → IsAnswer W (Some f) o → IsChoice W (Some f) (or_choices o ms)
-unfolding or_choices
-choice_here W f None ms h = absurd h
-choice_here W f (Some m) ms h = (m, here m [], h)
-
-pub choice_next : (W : World) (r : Option Found) (o : Option DeclaredMember) (ms : List DeclaredMember) → IsAnswer W None o → IsChoice W r ms → IsChoice W r (or_choices o ms)
-unfolding or_choices
-choice_next W r None ms h k = k
-choice_next W r (Some m) ms h k = absurd h

@@ -26,7 +26,7 @@ use Rattle.jc_facts.proofs.Options.{or_else-cases}
 use Rattle.jc_worlds.proofs.Bare.{has_root}
 use Rattle.jc_worlds.proofs.Unrolled.{chain-unroll}
 use Rattle.jc_table.specs.Lookups.{declare_method}
-use Rattle.jc_method.proofs.Choices.{IsDeclaredIn, in_declared, choices_declared}
+use Rattle.jc_index.proofs.Choices.{IsDeclaredIn, in_declared, choices_declared}
 
 module _ (k : Key) where
   -- the class declares a method of the key

@@ -1,5 +1,4 @@
-pub mod Walks
-pub mod Choices
 pub mod Chains
 pub mod Offering
 pub mod Declared
+pub mod Rows

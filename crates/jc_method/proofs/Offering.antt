@@ -18,10 +18,10 @@ use Rattle.jc_lemmas.proofs.Lists.{IsCons}
 use Rattle.jc_worlds.proofs.Offers.{declared_by-some, declared_by-offers}
 use Rattle.jc_table.specs.Ids.{name_at}
 use Rattle.jc_table.specs.Lookups.{IsChoice}
-use Rattle.jc_table.specs.declared.ids.Found.{Found}
+use Rattle.jc_index.specs.declared.ids.Found.{Found}
 use Rattle.jc_method.specs.Inheriting.{inherits_from}
-use Rattle.jc_method.specs.steps.Choosing.{as_found, if_candidate, candidate_at, FindsAbove}
-use Rattle.jc_method.proofs.Choices.{any_choice}
+use Rattle.jc_index.specs.steps.Choosing.{as_found, if_candidate, candidate_at, FindsAbove}
+use Rattle.jc_index.proofs.Choices.{any_choice}
 
 -- a list that contains something
 cons_of : (ms : List DeclaredMember) (m : DeclaredMember) → Contains ms m → IsCons ms

@@ -1,2 +1,1 @@
 pub mod Inheriting
-pub mod steps

@@ -1,29 +1,23 @@
-//! Methods that a class itself declares (JVMS 4.6).
-ghost use Rattle.std.specs.Prelude.{◌≡◌, ◌<◌};
+//! What a class itself declares, and what the superinterfaces give, asked of a table.
+ghost use Rattle.std.specs.Prelude.{◌≡◌, ◌<◌, None};
 ghost use Rattle.jc_facts.specs.world.World.{size};
+ghost use Rattle.jc_facts.specs.world.Loading.{load_fault};
+ghost use Rattle.jc_facts.specs.world.Lookup.{superinterface_choices};
+ghost use Rattle.jc_index.specs.steps.Choosing.{own_at, candidate_at, FindsAbove};
 ghost use Rattle.jc_table.specs.Ids.{name_at};
-ghost use Rattle.jc_method.specs.steps.Choosing.{own_at, candidate_at};
+ghost use Rattle.jc_table.specs.Lookups.{IsChoice};
 
-use jc_facts::flags::{is_private, is_static};
 use jc_facts::key::Key;
-use jc_facts::key_set::KeyRef;
+use jc_index::{choose, own};
 use jc_table::ids::{ClassId, Found};
-use jc_table::members::own_method;
 use jc_table::table::Table;
 
 // The method of the key that the class itself declares.
-#[tactic(auto, unfolding(jc_facts::specs::Options::and_then))]
 pub(crate) fn declared(table: &Table, class: ClassId, key: &Key) -> Option<Found>
     requires { class < size table.now }
     ensures { result ≡ own_at table.now key.now class }
 {
-    match own_method(table.facts(class), &KeyRef::of_key(key)) {
-        None => None,
-        Some(method) => Some(Found {
-            owner: class,
-            flags: method.flags,
-        }),
-    }
+    own::declared(table.hierarchy(), class, key)
 }
 
 // The same, where it is neither private nor static.
@@ -31,11 +25,23 @@ pub(crate) fn candidate(table: &Table, class: ClassId, key: &Key) -> Option<Foun
     requires { class < size table.now }
     ensures { result ≡ candidate_at table.now key.now class }
 {
-    let Some(found) = declared(table, class, key) else {
-        return None;
-    };
-    if is_private(found.flags) || is_static(found.flags) {
-        return None;
-    }
-    Some(found)
+    own::candidate(table.hierarchy(), class, key)
+}
+
+// A method of the key that a superinterface of the class declares neither private nor static.
+pub(crate) fn any_candidate(table: &Table, class: ClassId, key: &Key) -> Option<Found>
+    requires { class < size table.now }
+    ensures { FindsAbove table.now (name_at table.now class) (candidate_at table.now key.now) result }
+{
+    choose::any_candidate(table.hierarchy(), class, key)
+}
+
+// What the superinterfaces give: a maximally specific method that isn't abstract, else any that is
+// neither private nor static.
+pub(crate) fn find_above(table: &Table, class: ClassId, key: &Key) -> Option<Found>
+    requires class { class < size table.now }
+    requires loads { load_fault table.now (name_at table.now class) ≡ None }
+    ensures { IsChoice table.now result (superinterface_choices table.now (name_at table.now class) key.now) }
+{
+    choose::find_above(table.hierarchy(), class, key)
 }

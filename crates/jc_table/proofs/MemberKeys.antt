@@ -17,12 +17,12 @@ use Rattle.jc_facts.specs.Exactly.{HasExactly}
 use Rattle.jc_facts.specs.world.World.{World, find_class, size}
 use Rattle.jc_facts.specs.world.Hierarchy.{chain, each, with_interfaces, interfaces_of, superinterfaces}
 use Rattle.jc_worlds.specs.Hierarchy.{above}
-use Rattle.jc_table.specs.Ids.{name_at, superclass_of}
-use Rattle.jc_table.specs.Above.{AreAbove}
+use Rattle.jc_index.specs.Ids.{name_at, superclass_of}
+use Rattle.jc_index.specs.Above.{AreAbove}
 use Rattle.jc_table.specs.steps.Collecting.{Adds, declares_at, HasKeys}
-use Rattle.jc_table.specs.steps.Walking.{chain_from}
-use Rattle.jc_table.proofs.Walking.{from-step, from-none, from-nothing}
-use Rattle.jc_table.proofs.Reached.{any_reached}
+use Rattle.jc_index.specs.steps.Walking.{chain_from}
+use Rattle.jc_index.proofs.Walking.{from-step, from-none, from-nothing}
+use Rattle.jc_index.proofs.Reached.{any_reached}
 use Rattle.jc_lemmas.proofs.Bools.{or_false, or_assoc}
 use Rattle.jc_lemmas.proofs.Lists.{found_any}
 use Rattle.jc_facts.proofs.KeySets.{key_exact, Comes, rises}

@@ -1,8 +1,8 @@
 -- Why a table isn't built.
 use Rattle.std.specs.Prelude.{List, Some, None, ◌≡◌}
 use Rattle.jc_facts.specs.declared.class_facts.ClassFacts.{ClassFacts}
-use Rattle.jc_table.specs.Root.{fault_of_root}
-use Rattle.jc_table.specs.Sides.{overlap_of}
+use Rattle.jc_index.specs.Root.{fault_of_root}
+use Rattle.jc_index.specs.Sides.{overlap_of}
 use Rattle.jc_table.specs.declared.table.TableError.{TableError}
 use Rattle.jc_table.specs.declared.table.TableError.TheVariants as errors
 

@@ -1,7 +1,2 @@
 pub mod Collecting
-pub mod Entering
-pub mod Order
-pub mod Queue
-pub mod Reach
-pub mod Walking
-pub mod Named
+pub use Rattle.jc_index.specs.steps.Walking

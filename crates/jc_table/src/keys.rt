@@ -6,16 +6,16 @@ ghost use Rattle.jc_facts.specs.world.World.{size};
 ghost use Rattle.jc_facts.specs.KeyOrder.{key_cmp};
 ghost use Rattle.jc_facts.specs.Exactly.{HasExactly};
 ghost use Rattle.jc_worlds.specs.Hierarchy.{above};
-ghost use Rattle.jc_table.specs.Ids.{name_at};
-ghost use Rattle.jc_table.specs.Kinds.{own_of, declare_of};
+ghost use Rattle.jc_index.specs.Ids.{name_at};
+ghost use Rattle.jc_index.specs.Kinds.{own_of, declare_of};
 ghost use Rattle.jc_table.specs.steps.Collecting.{Adds, declares_at, HasKeys};
 
-use crate::ids::ClassId;
-use crate::members::{MemberKind, members};
 use crate::table::Table;
 use jc_facts::class_facts::ClassFacts;
 use jc_facts::key::Key;
 use jc_facts::key_set::KeyRef;
+use jc_index::ids::ClassId;
+use jc_index::members::{MemberKind, members};
 use std::alloc::{AllocError, Global};
 use std::collections::BTreeSet;
 

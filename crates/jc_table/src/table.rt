@@ -1,34 +1,39 @@
 //! The classes of a side, found by their names.
-ghost use Rattle.std.specs.Prelude.{◌≡◌, ◌≤◌, ◌<◌, ◌+◌, ◌^◌, ◌||◌, length, map, is_some, nat_lt, Some, None, IfOk, IfErr, IfSome, IsTrue};
+ghost use Rattle.std.specs.Prelude.{◌≡◌, ◌≤◌, ◌<◌, ◌+◌, ◌^◌, ◌||◌, length, map, option_map, slice_get, is_some, nat_lt, Some, None, IfOk, IfErr, IfSome, IsTrue};
 ghost use Rattle.std.specs.List.{All};
 ghost use Rattle.jc_facts.specs.Options.{some_where};
-ghost use Rattle.jc_facts.specs.file.Valid.{IsValidClass};
+ghost use Rattle.jc_facts.specs.file.Valid.{IsValidClass, has_key};
+ghost use Rattle.jc_facts.specs.declared.key.Key.{Key};
 ghost use Rattle.jc_facts.specs.Names.{same};
 ghost use Rattle.jc_facts.specs.client.Clients.{differ_by_name, is_named_above};
 ghost use Rattle.jc_facts.specs.world.World.{side, size, classes, find_class, class_named};
 ghost use Rattle.jc_facts.specs.world.Mentioned.{all_mentions};
 ghost use Rattle.jc_facts.specs.world.Hierarchy.{in_chain, is_superinterface};
 ghost use Rattle.jc_facts.specs.world.Loading.{load_fault};
-ghost use Rattle.jc_table.specs.Above.{leads_by, AreAbove};
-ghost use Rattle.jc_table.specs.Ids.{name_at, names, id_of, superclass_of};
-ghost use Rattle.jc_table.specs.Mentioned.{is_package, mentions_front};
-ghost use Rattle.jc_table.specs.Root.{fault_of_root};
-ghost use Rattle.jc_table.specs.Sides.{IsSide, overlap_of};
+ghost use Rattle.jc_index.specs.Above.{AreAbove};
+ghost use Rattle.jc_index.specs.Ids.{name_at, names, id_of, superclass_of};
+ghost use Rattle.jc_index.specs.Mentioned.{is_package, mentions_front};
+ghost use Rattle.jc_index.specs.Root.{fault_of_root};
+ghost use Rattle.jc_index.specs.Sides.{IsSide, overlap_of};
+ghost use Rattle.jc_index.specs.Lookups.{declare_field, declare_method};
+ghost use Rattle.jc_rows.specs.Keys.{numbered_keys, IsNumber, AreDistinct};
+ghost use Rattle.jc_rows.specs.Rows.{IsFieldRow, IsMethodRow};
 ghost use Rattle.jc_table.specs.Tables.{HasCause};
 
-use crate::above::{interfaces_above, lists, superclasses};
-use crate::faults::load_faults;
-use crate::ids::ClassId;
-use crate::index::Index;
-use crate::mentioned::MentionedNames;
-use crate::overlap::first_overlap;
-use crate::root::{RootPart, root_fault};
-use jc_base::items::Items;
 use jc_base::name::Name;
 use jc_facts::class_facts::ClassFacts;
+use jc_facts::key::Key;
 use jc_facts::link_error::LinkError;
+use jc_index::faults::{Loading, load_all};
+use jc_index::hierarchy::Hierarchy;
+use jc_index::ids::ClassId;
+use jc_index::index::Index;
+use jc_index::mentioned::MentionedNames;
+use jc_index::overlap::first_overlap;
+use jc_index::root::{RootPart, root_fault};
+use jc_rows::row::RowItem;
+use jc_rows::rows::Rows;
 use std::alloc::{AllocError, Global};
-use std::collections::BTreeSet;
 use std::marker::Model;
 use thiserror::Error;
 
@@ -50,16 +55,13 @@ pub enum TableError {
 /// it as the side.
 #[derive(Drop)]
 pub struct Table {
-    index: Index,
+    // The classes, and what stands above each.
+    hierarchy: Hierarchy,
     mentioned: MentionedNames,
-    // For each class the one that it names as its superclass.
-    supers: Vec<Option<ClassId>>,
-    // For each class the interfaces that it names, and those that they lead to.
-    rows: Vec<BTreeSet<u32>>,
-    // The same as lists, in the order of their numbers.
-    interfaces: Vec<Items<ClassId>>,
     // For each class its load fault.
     faults: Vec<Option<LinkError>>,
+    // For each class that loads what the lookups from it find.
+    rows: Rows,
 }
 
 impl Model for Table {
@@ -69,7 +71,7 @@ impl Model for Table {
 
     ghost use Rattle.jc_table.specs.TableFields.{IsTable};
 
-    ghost view = { λ t. t.index };
+    ghost view = { λ t. t.hierarchy };
 
     ghost invariant = { IsTable };
 }
@@ -79,17 +81,14 @@ fn of_index(alloc: Global, index: Index) -> Result<Table, AllocError>
     ensures { IfOk result (λ table. table ≡ index) }
 {
     let mentioned = MentionedNames::new(alloc, index.classes())?;
-    let supers = superclasses(alloc, &index)?;
-    let rows = interfaces_above(alloc, &index)?;
-    let interfaces = lists(alloc, rows.as_slice())?;
-    let faults = load_faults(alloc, &index)?;
+    let Loading { faults, order } = load_all(alloc, &index)?;
+    let hierarchy = Hierarchy::new(alloc, index)?;
+    let rows = Rows::new(alloc, &hierarchy, order.as_slice())?;
     Ok(Table {
-        index,
+        hierarchy,
         mentioned,
-        supers,
-        rows,
-        interfaces,
         faults,
+        rows,
     })
 }
 
@@ -134,7 +133,14 @@ impl Table {
     pub fn index(&self) -> &Index
         ensures { result.now ≡ self.now }
     {
-        &self.index
+        self.hierarchy.index()
+    }
+
+    /// Its classes and what stands above each of them, as the choice among superinterfaces takes them.
+    pub fn hierarchy(&self) -> &Hierarchy
+        ensures { result.now ≡ self.now }
+    {
+        &self.hierarchy
     }
 
     /// How many classes there are.
@@ -142,7 +148,7 @@ impl Table {
         ensures count { result ≡ size self.now }
         ensures side { IsSide self.now }
     {
-        self.index.count()
+        self.hierarchy.count()
     }
 
     /// The class of this number; none exactly where there are no more than so many classes.
@@ -150,7 +156,7 @@ impl Table {
         ensures value { result ≡ some_where (nat_lt n (size self.now)) n }
         ensures of_table { IfSome result (λ id. id < size self.now) }
     {
-        self.index.id(n)
+        self.hierarchy.index().id(n)
     }
 
     /// The class of this name; none where there is none (JVMS 5.3).
@@ -158,7 +164,7 @@ impl Table {
         ensures value { result ≡ id_of self.now name.now }
         ensures of_table { IfSome result (λ id. id < size self.now) }
     {
-        self.index.get(name)
+        self.hierarchy.get(name)
     }
 
     /// The record of the class.
@@ -166,7 +172,7 @@ impl Table {
         requires { id < size self.now }
         ensures { Some result.now ≡ find_class self.now (name_at self.now id) }
     {
-        self.index.facts(id)
+        self.hierarchy.facts(id)
     }
 
     /// The class that the class names as its superclass (JVMS 4.1); none where it names none, or
@@ -176,7 +182,7 @@ impl Table {
         ensures value { result ≡ superclass_of self.now (name_at self.now id) }
         ensures of_table { IfSome result (λ id. id < size self.now) }
     {
-        self.supers[id.number() as usize]
+        self.hierarchy.superclass(id)
     }
 
     /// Whether the other class stands in the class's chain: it is the class, or one further up its
@@ -186,17 +192,7 @@ impl Table {
         requires above { of < size self.now }
         ensures { result ≡ in_chain self.now (name_at self.now id) (name_at self.now of) }
     {
-        let mut class = id;
-        for _ in 0..self.count() {
-            if class == of {
-                return true;
-            }
-            class = match self.superclass(class) {
-                Some(above) => above,
-                None => return false,
-            };
-        }
-        false
+        self.hierarchy.has_super(id, of)
     }
 
     /// Whether the class is one of the platform's.
@@ -204,7 +200,7 @@ impl Table {
         requires { id < size self.now }
         ensures { result ≡ is_some (class_named self.now.platform (name_at self.now id)) }
     {
-        self.index.in_platform(id)
+        self.hierarchy.index().in_platform(id)
     }
 
     /// The interfaces that the class names, and those that they lead to in turn (JVMS 4.1), in any
@@ -213,38 +209,7 @@ impl Table {
         requires { id < size self.now }
         ensures { AreAbove self.now (name_at self.now id) result.now }
     {
-        self.interfaces[id.number() as usize].as_slice()
-    }
-
-    // Whether the other class is an interface that the class names, or one that such an interface
-    // leads to.
-    fn leads_to(&self, id: ClassId, of: ClassId) -> bool
-        requires class { id < size self.now }
-        requires above { of < size self.now }
-        ensures { result ≡ leads_by self.now (name_at self.now id) (name_at self.now of) }
-    {
-        self.rows[id.number() as usize].contains(&of.number())
-    }
-
-    // Whether the other class is a superinterface of the class: one that a class of its chain leads
-    // to.
-    fn has_superinterface(&self, id: ClassId, of: ClassId) -> bool
-        requires class { id < size self.now }
-        requires above { of < size self.now }
-        ensures value { result ≡ is_superinterface self.now (name_at self.now id) (name_at self.now of) }
-        ensures side { IsSide self.now }
-    {
-        let mut class = id;
-        for _ in 0..self.count() {
-            if self.leads_to(class, of) {
-                return true;
-            }
-            class = match self.superclass(class) {
-                Some(above) => above,
-                None => return false,
-            };
-        }
-        false
+        self.hierarchy.interfaces(id)
     }
 
     /// Whether the other class is the class itself or one of its superinterfaces: an interface that
@@ -254,7 +219,7 @@ impl Table {
         requires above { of < size self.now }
         ensures { result ≡ (same (name_at self.now id) (name_at self.now of) || is_superinterface self.now (name_at self.now id) (name_at self.now of)) }
     {
-        id == of || self.has_superinterface(id, of)
+        self.hierarchy.is_below(id, of)
     }
 
     /// Whether a class is of this package: a name up to its last `/`, or nothing (JVMS 5.3).
@@ -302,5 +267,52 @@ impl Table {
         ensures { result ≡ load_fault self.now (name_at self.now id) }
     {
         self.faults[id.number() as usize]
+    }
+
+    /// How many different keys the fields and methods of its classes have.
+    pub fn key_count(&self) -> usize
+        ensures count { result ≡ length (numbered_keys self.now) }
+        ensures distinct { AreDistinct (numbered_keys self.now) }
+        ensures known { (k : Key) → has_key k (numbered_keys self.now) ≡ (declare_field (classes self.now) k || declare_method (classes self.now) k) }
+    {
+        self.rows.keys.count()
+    }
+
+    /// The number of the key, which is less than their count; none exactly where no class declares a
+    /// field or a method of the key. It takes no memory.
+    pub fn key_number(&self, key: &Key) -> Option<usize>
+        ensures value { IsNumber (numbered_keys self.now) key.now result }
+        ensures below { IfSome result (λ n. n < length (numbered_keys self.now)) }
+        ensures known { is_some result ≡ (declare_field (classes self.now) key.now || declare_method (classes self.now) key.now) }
+    {
+        self.rows.keys.number(key)
+    }
+
+    /// The key of this number; none exactly where the number isn't less than their count.
+    pub fn key_at(&self, number: usize) -> Option<&Key>
+        ensures { option_map (λ k. k.now) result ≡ slice_get (numbered_keys self.now) number }
+    {
+        self.rows.keys.at(number)
+    }
+
+    /// The fields that a reference to the class finds (JVMS 5.4.3.2): one entry for each key of which
+    /// it finds one, and no other, in rising order of the keys' numbers. The class has to load.
+    pub fn field_row(&self, id: ClassId) -> &[RowItem]
+        requires class { id < size self.now }
+        requires loads { load_fault self.now (name_at self.now id) ≡ None }
+        ensures { IsFieldRow self.now (name_at self.now id) result.now }
+    {
+        self.rows.fields[id.number() as usize].as_slice()
+    }
+
+    /// The methods that a reference to the class or the interface may find (JVMS 5.4.3.3, 5.4.3.4):
+    /// one entry for each key of which it may find one, and no other, in rising order of the keys'
+    /// numbers. The class has to load.
+    pub fn method_row(&self, id: ClassId) -> &[RowItem]
+        requires class { id < size self.now }
+        requires loads { load_fault self.now (name_at self.now id) ≡ None }
+        ensures { IsMethodRow self.now (name_at self.now id) result.now }
+    {
+        self.rows.methods[id.number() as usize].as_slice()
     }
 }

@@ -4,6 +4,8 @@
 #[cfg(test)]
 mod access;
 #[cfg(test)]
+mod agreeing;
+#[cfg(test)]
 mod fields;
 #[cfg(test)]
 mod linking;

@@ -17,7 +17,7 @@ use Rattle.jc_facts.specs.client.Acts.{form_of}
 use Rattle.jc_facts.specs.client.Outcome.{class_fault, class_step, look_up, use_fault, init_fault}
 use Rattle.jc_table.specs.Ids.{name_at}
 use Rattle.jc_table.specs.Lookups.{IsFound, member_of}
-use Rattle.jc_table.specs.declared.ids.Found.{Found}
+use Rattle.jc_index.specs.declared.ids.Found.{Found}
 
 -- the class is the one of this number
 pub record IsAt (W : World) (c : Bytes) (id : ℕ) : Type 0 where

@@ -10,7 +10,7 @@ use Rattle.jc_facts.specs.KeyOrder.{key_cmp}
 use Rattle.jc_facts.specs.Options.{some_and}
 use Rattle.jc_facts.specs.world.World.{World, find_class}
 use Rattle.jc_worlds.specs.Hierarchy.{above}
-use Rattle.jc_table.specs.Ids.{name_at}
+use Rattle.jc_index.specs.Ids.{name_at}
 
 -- the set has the keys that it had and those that pass the test
 abbrev pub Adds : (Key → Bool) → sorted.BTreeSet Key → sorted.BTreeSet Key → Type 0

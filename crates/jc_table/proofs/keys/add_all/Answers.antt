@@ -1,4 +1,4 @@
-use Rattle.jc_table.specs.Kinds.{own_of}
+use Rattle.jc_index.specs.Kinds.{own_of}
 use Rattle.jc_table.proofs.MemberKeys.{follows_more, follows_all}
 use Rattle.jc_table.proofs.keys.add_all.Goals as goal
 

@@ -1,4 +1,4 @@
-use Rattle.jc_table.specs.Kinds.{own_of}
+use Rattle.jc_index.specs.Kinds.{own_of}
 use Rattle.std.proofs.Common.{drop}
 use Rattle.jc_table.proofs.MemberKeys.{Follows}
 use Rattle.jc_table.proofs.keys.add_all.Given as goal

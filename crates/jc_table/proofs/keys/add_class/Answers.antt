@@ -5,7 +5,7 @@ use Rattle.jc_facts.specs.declared.key.Key.{Key}
 use Rattle.jc_facts.specs.KeyOrder.{key_cmp}
 use Rattle.jc_facts.proofs.KeySets.{comes_more}
 use Rattle.jc_table.proofs.MemberKeys.{comes_all}
-use Rattle.jc_table.specs.Kinds.{members_of}
+use Rattle.jc_index.specs.Kinds.{members_of}
 use Rattle.jc_table.proofs.keys.add_class.Goals as goal
 
 pub loop-member-preserved : goal.loop-member-preserved

@@ -1,6 +1,6 @@
 use Rattle.std.proofs.Common.{drop}
 use Rattle.jc_facts.proofs.KeySets.{Comes}
-use Rattle.jc_table.specs.Kinds.{members_of}
+use Rattle.jc_index.specs.Kinds.{members_of}
 use Rattle.jc_table.proofs.keys.add_class.Given as goal
 
 abbrev pub invariant-loop-member : goal.invariant-loop-member

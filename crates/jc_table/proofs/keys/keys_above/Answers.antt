@@ -1,7 +1,7 @@
-use Rattle.jc_table.specs.Kinds.{own_of}
+use Rattle.jc_index.specs.Kinds.{own_of}
 use Rattle.std.proofs.Common.{◌≡◌, ◌-◌, ◌+◌, suc, None, arith}
 use Rattle.jc_facts.specs.world.World.{size}
-use Rattle.jc_table.specs.Ids.{name_at}
+use Rattle.jc_index.specs.Ids.{name_at}
 use Rattle.jc_table.proofs.MemberKeys.{ahead_starts, ahead_more, ahead_top, ahead_out}
 use Rattle.jc_facts.proofs.KeySets.{empty_has}
 use Rattle.jc_table.proofs.keys.keys_above.Goals as goal

@@ -1,8 +1,8 @@
-use Rattle.jc_table.specs.Kinds.{own_of}
+use Rattle.jc_index.specs.Kinds.{own_of}
 use Rattle.std.proofs.Common.{◌<◌, ◌-◌}
 use Rattle.std.specs.Prelude.{IfSome}
 use Rattle.jc_facts.specs.world.World.{size}
-use Rattle.jc_table.specs.Ids.{name_at}
+use Rattle.jc_index.specs.Ids.{name_at}
 use Rattle.jc_table.proofs.MemberKeys.{IsAhead}
 use Rattle.jc_table.proofs.keys.keys_above.Given as goal
 

@@ -1,5 +1,5 @@
-use Rattle.jc_table.specs.Kinds.{own_of}
-use Rattle.jc_table.specs.Ids.{name_at}
+use Rattle.jc_index.specs.Kinds.{own_of}
+use Rattle.jc_index.specs.Ids.{name_at}
 use Rattle.jc_table.proofs.MemberKeys.{keys_exact}
 use Rattle.jc_table.proofs.keys.keys_of.Goals as goal
 

@@ -1,7 +1,7 @@
 use Rattle.std.proofs.Common.{List, sym, ◌∙◌, ap}
 use Rattle.jc_facts.specs.declared.class_facts.ClassFacts.{ClassFacts}
-use Rattle.jc_table.specs.Sides.{overlap_of}
-use Rattle.jc_table.proofs.Roots.{is_side}
+use Rattle.jc_index.specs.Sides.{overlap_of}
+use Rattle.jc_index.proofs.Roots.{is_side}
 use Rattle.jc_table.proofs.table.Table.build.Goals as goal
 
 pub new-requires-clause-side : goal.new-requires-clause-side

@@ -1,7 +1,0 @@
-use Rattle.std.proofs.Common.{◌∙◌}
-use Rattle.jc_table.specs.Ids.{name_at}
-use Rattle.jc_method.proofs.Choices.{rivals}
-use Rattle.jc_method.proofs.choose.has_rival.Goals as goal
-
-pub returns : goal.returns
-returns c = c.is_some.ensures ∙ rivals c.args.table.now (name_at c.args.table.now c.args.class) c.requires.loads c.args.key.now c.args.of c.any_rival.result c.any_rival.ensures

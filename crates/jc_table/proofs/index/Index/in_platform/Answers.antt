@@ -1,9 +1,0 @@
-use Rattle.std.proofs.Common.{ℕ, get_or, arith, ◌∙◌, ap}
-use Rattle.jc_table.proofs.Indexed.{count_is, front_is}
-use Rattle.jc_table.proofs.index.Index.in_platform.Goals as goal
-
-pub index-requires : goal.index-requires
-index-requires c = let many = count_is c.self.inside c.self.invariant c.args.self.now c.self.view_is in omega arith
-
-pub returns : goal.returns
-returns c = front_is c.self.inside c.self.invariant c.args.self.now c.self.view_is c.args.id c.index.result.now c.requires (c.index.ensures ∙ ap (λ (k : ℕ). get_or c.self.inside.order.items k c.index.result.now) c.number.ensures)

@@ -1,7 +1,0 @@
-use Rattle.std.proofs.Common.{◌≡◌, map, take}
-use Rattle.std.specs.List.{All}
-use Rattle.jc_table.specs.steps.Order.{IsPlace, names_at}
-use Rattle.jc_table.proofs.order.places.Given as goal
-
-abbrev pub invariant-loop-at : goal.invariant-loop-at
-invariant-loop-at l = (map (λ p. p.0) l.places.items ≡ names_at (take l.at l.classes)) × All (IsPlace l.classes) l.places.items

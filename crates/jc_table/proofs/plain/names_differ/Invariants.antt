@@ -1,6 +1,0 @@
-use Rattle.std.proofs.Common.{◌≡◌, drop}
-use Rattle.jc_facts.specs.client.Clients.{differ_by_name}
-use Rattle.jc_table.proofs.plain.names_differ.Given as goal
-
-abbrev pub invariant-loop-at : goal.invariant-loop-at
-invariant-loop-at l = differ_by_name l.classes ≡ differ_by_name (drop l.at l.classes)

@@ -1,6 +1,0 @@
-use Rattle.std.proofs.Common.{take}
-use Rattle.jc_table.specs.steps.Queue.{Adds}
-use Rattle.jc_table.proofs.reach.add.Given as goal
-
-abbrev pub invariant-loop-id : goal.invariant-loop-id
-invariant-loop-id l = Adds l.fn.set l.set l.fn.queue.items l.queue.items (take l.id-index l.ids)

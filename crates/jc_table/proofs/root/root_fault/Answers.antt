@@ -1,7 +1,0 @@
-use Rattle.std.proofs.Common.{◌∙◌, ap}
-use Rattle.jc_table.specs.Root.{root_by, fault_of_root}
-use Rattle.jc_table.proofs.root.root_fault.Goals as goal
-
-pub returns-in-Some : goal.returns-in-Some
-unfolding fault_of_root
-returns-in-Some c = c.root_part.ensures ∙ ap root_by c.in-Some.ensures
