@@ -24,7 +24,7 @@ use Rattle.jc_worlds.specs.Choices.{IsPublicInstance}
 use Rattle.jc_worlds.proofs.Inherited.{superinterface_choices-public}
 use Rattle.jc_table.specs.Ids.{name_at}
 use Rattle.jc_table.specs.Lookups.{IsFound, IsAnswer, IsChoice}
-use Rattle.jc_table.specs.declared.ids.Found.{Found}
+use Rattle.jc_index.specs.declared.ids.Found.{Found}
 use Rattle.jc_acts.specs.steps.LookedUp.{member_of, use_at, LooksUp}
 
 -- only the owner and the flags count

@@ -24,7 +24,7 @@ use Rattle.jc_worlds.proofs.Bare.{has_root}
 use Rattle.jc_sound.proofs.Uses.{and-map, or-map}
 use Rattle.jc_table.specs.Ids.{names, name_at}
 use Rattle.jc_table.specs.Sides.{IsSide}
-use Rattle.jc_table.specs.declared.ids.Found.{Found}
+use Rattle.jc_index.specs.declared.ids.Found.{Found}
 use Rattle.jc_sides.specs.SharedOf.{AreThose, IsShared, name_of, SharedOf}
 use Rattle.jc_sides.specs.SidesOf.{SidesOf}
 use Rattle.jc_sides.proofs.BaseParts.{base_class_parts}

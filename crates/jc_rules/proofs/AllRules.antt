@@ -1,6 +1,7 @@
 -- What all rules find together, and what it means.
-use Rattle.std.proofs.Common.{◌≡◌, ◌≤◌, ◌<◌, ℕ, suc, Bool, true, false, cond, List, [], ◌++◌, refl, sym, ◌∙◌, ap, subst, Option, Some, None, ◌==◌, ◌⊎◌, inl, inr, arith}
+use Rattle.std.proofs.Common.{◌≡◌, ◌≤◌, ◌<◌, ℕ, suc, Bool, true, false, cond, List, [], ◌++◌, length, refl, sym, ◌∙◌, ap, subst, Option, Some, None, ◌==◌, ◌⊎◌, inl, inr, arith}
 use Rattle.std.specs.List.{All}
+use Rattle.std.specs.declared.cmp.Ordering.{Ordering}
 use Rattle.std.specs.declared.cmp.Ordering.TheVariants.{Less}
 use Rattle.std.specs.Cmp.{nat_cmp_is}
 use Rattle.std.proofs.lemmas.Bool.{eqb-true}
@@ -28,9 +29,10 @@ use Rattle.jc_facts.proofs.InOrder.{exact_same, exact_append}
 use Rattle.jc_sound.proofs.SoundnessLaws.{keeps}
 use Rattle.jc_table.specs.Sides.{IsSide}
 use Rattle.jc_rules.specs.steps.Notes.{NoteIn, IsUnloadable, IsFixed, IsConstantNote}
-use Rattle.jc_rules.proofs.ByRule.{Between, first_rule, next_rule, all_rules}
+use Rattle.jc_rules.proofs.ByRule.{first_rule, next_rule, next_group, all_rules, rule_past, next_past, group_past}
 use Rattle.jc_rules.proofs.NoteUnloadable.{notes_exact}
-use Rattle.jc_sides.specs.Rules.{IsFinding, IsCollision}
+use Rattle.jc_sides.specs.Limit.{HasMore, over, beside}
+use Rattle.jc_sides.proofs.Limits.{past_weaker, within_both}
 use Rattle.jc_sides.specs.SidesOf.{SidesOf, AreSides}
 use Rattle.jc_sides.proofs.Subjects.{rule_before}
 
@@ -66,11 +68,11 @@ finding_rule O N s (Some k) None f h =
     (is_rule s.rule 9 _ _ f (IsWithin 1 10 s.rule) (within 1 10 s.rule 9 (omega arith) (omega arith)) (none_of f (IsWithin 1 10 s.rule)))))) h
 finding_rule O N s (Some k) (Some t) f h = none_of f (IsWithin 1 10 s.rule) h
 
-known_finding : (O N : World) (f : Finding) → Stands O N f → IsWithin 1 10 f.rule
+pub known_finding : (O N : World) (f : Finding) → Stands O N f → IsWithin 1 10 f.rule
 unfolding finding_at
 known_finding O N f h = finding_rule O N (subject_of f) f.key f.target f h
 
-known_collision : (O N : World) (c : Collision) → CollisionStands O N c → IsWithin 10 13 c.rule
+pub known_collision : (O N : World) (c : Collision) → CollisionStands O N c → IsWithin 10 13 c.rule
 unfolding collision_at
 known_collision O N c h =
     is_rule c.rule 10 _ _ c (IsWithin 10 13 c.rule) (within 10 13 c.rule 10 (omega arith) (omega arith))
@@ -82,34 +84,56 @@ known_collision O N c h =
 pub collision_rule_before : (c d : Collision) → c.rule < d.rule → collision_order c d ≡ Less
 collision_rule_before c d h = rw (sym (nat_cmp_is c.rule d.rule Less h)) refl
 
+-- the list is exact, and within the limit
+abbrev pub Listed : {F : Type 0} → (F → F → Ordering) → (F → Type 0) → Option ℕ → List F → Type 0
+Listed order Stand most xs = HasExactly order Stand xs × (over (length xs) most ≡ false)
+
+-- the room beside a list, whose length is n
+room_beside : {F : Type 0} (order : F → F → Ordering) (Stand : F → Type 0) (most room : Option ℕ) (xs : List F) (n : ℕ) → n ≡ length xs → room ≡ beside most n → HasMore order Stand room → HasMore order Stand (beside most (length xs))
+room_beside order Stand most room xs n e r h = subst (HasMore order Stand) (r ∙ ap (beside most) e) h
+
+listed_both : {F : Type 0} (most room : Option ℕ) (xs ys zs : List F) (n : ℕ) → n ≡ length xs → room ≡ beside most n → zs ≡ xs ++ ys → over (length xs) most ≡ false → over (length ys) room ≡ false → over (length zs) most ≡ false
+listed_both most room xs ys zs n e r q a b = within_both most xs ys zs q a (subst (λ (o : Option ℕ). over (length ys) o ≡ false) (r ∙ ap (beside most) e) b)
+
+-- things that have a rule, by which they are in order; what stands of them, of one rule, or of those from one to before another
+module _ {F : Type 0} (order : F → F → Ordering) (rule_of : F → ℕ) (Stand : F → Type 0) (apart : (f g : F) → rule_of f < rule_of g → order f g ≡ Less) (most : Option ℕ) where
+  abbrev pub Rule : ℕ → F → Type 0
+  Rule rule f = (rule_of f ≡ rule) × Stand f
+
+  abbrev pub Rules : ℕ → ℕ → F → Type 0
+  Rules low high f = ((low ≤ rule_of f) × (rule_of f < high)) × Stand f
+
+  pub first : (low : ℕ) (xs : List F) → Listed order (Rule low) most xs → Listed order (Rules low (suc low)) most xs
+  first low xs h = (first_rule order rule_of Stand apart low xs h.0, h.1)
+
+  pub next : (low rule : ℕ) → low ≤ rule → (room : Option ℕ) (n : ℕ) (xs ys zs : List F) → Listed order (Rules low rule) most xs → n ≡ length xs → room ≡ beside most n → Listed order (Rule rule) room ys → zs ≡ xs ++ ys
+      → Listed order (Rules low (suc rule)) most zs
+  next low rule l room n xs ys zs h e r k q =
+      (subst (HasExactly order (Rules low (suc rule))) (sym q) (next_rule order rule_of Stand apart low rule l xs ys h.0 k.0), listed_both most room xs ys zs n e r q h.1 k.1)
+
+  pub next_is_past : (low rule high : ℕ) → low ≤ rule → rule < high → (room : Option ℕ) (n : ℕ) (xs : List F) → Listed order (Rules low rule) most xs → n ≡ length xs → room ≡ beside most n → HasMore order (Rule rule) room
+      → HasMore order (Rules low high) most
+  next_is_past low rule high a b room n xs h e r more = next_past order rule_of Stand apart most low rule high a b xs h.0 h.1 (room_beside order (Rule rule) most room xs n e r more)
+
+  pub first_is_past : (low high : ℕ) → low < high → HasMore order (Rule low) most → HasMore order (Rules low high) most
+  first_is_past low high l h = rule_past order rule_of Stand apart most low low high (omega arith) l h
+
+  pub group : (low mid high : ℕ) → low ≤ mid → mid ≤ high → (room : Option ℕ) (n : ℕ) (xs ys zs : List F) → Listed order (Rules low mid) most xs → n ≡ length xs → room ≡ beside most n → Listed order (Rules mid high) room ys → zs ≡ xs ++ ys
+      → Listed order (Rules low high) most zs
+  group low mid high a b room n xs ys zs h e r k q =
+      (subst (HasExactly order (Rules low high)) (sym q) (next_group order rule_of Stand apart low mid high a b xs ys h.0 k.0), listed_both most room xs ys zs n e r q h.1 k.1)
+
+  pub group_is_past : (low mid high : ℕ) → low ≤ mid → mid ≤ high → (room : Option ℕ) (n : ℕ) (xs : List F) → Listed order (Rules low mid) most xs → n ≡ length xs → room ≡ beside most n → HasMore order (Rules mid high) room
+      → HasMore order (Rules low high) most
+  group_is_past low mid high a b room n xs h e r more = group_past order rule_of Stand apart most low mid high a b xs h.0 h.1 (room_beside order (Rules mid high) most room xs n e r more)
+
+  pub stands_past : (low high : ℕ) → HasMore order (Rules low high) most → HasMore order Stand most
+  stands_past low high h = past_weaker order (Rules low high) Stand most (λ f p. p.1) h
+
+  pub stands_whole : (low high : ℕ) → ((f : F) → Stand f → (low ≤ rule_of f) × (rule_of f < high)) → (xs : List F) → Listed order (Rules low high) most xs → Listed order Stand most xs
+  stands_whole low high known xs h = (all_rules order rule_of Stand apart low high known xs h.0, h.1)
+
 module _ (s : SidesOf) where
-  -- what stands of the first rules, up to this one
-  abbrev pub UpTo : ℕ → Finding → Type 0
-  UpTo high = Between finding_order (λ f. f.rule) (Stands s.old s.new) rule_before 1 high
-
-  pub first : {xs : List Finding} → HasExactly finding_order (IsFinding 1 s) xs → HasExactly finding_order (UpTo 2) xs
-  first {xs} h = first_rule finding_order (λ f. f.rule) (Stands s.old s.new) rule_before 1 xs h
-
-  -- one more rule
-  pub next : (high : ℕ) → 1 ≤ high → {xs ys zs : List Finding} → HasExactly finding_order (UpTo high) xs → HasExactly finding_order (IsFinding high s) ys → zs ≡ xs ++ ys → HasExactly finding_order (UpTo (suc high)) zs
-  next high l {xs} {ys} {zs} h k e = subst (HasExactly finding_order (UpTo (suc high))) (sym e) (next_rule finding_order (λ f. f.rule) (Stands s.old s.new) rule_before 1 high l xs ys h k)
-
-  pub all_findings : {xs : List Finding} → HasExactly finding_order (UpTo 10) xs → HasExactly finding_order (Stands s.old s.new) xs
-  all_findings {xs} h = all_rules finding_order (λ f. f.rule) (Stands s.old s.new) rule_before 1 10 (known_finding s.old s.new) xs h
-
-  -- the same of collisions
-  abbrev pub ToCollision : ℕ → Collision → Type 0
-  ToCollision high = Between collision_order (λ c. c.rule) (CollisionStands s.old s.new) collision_rule_before 10 high
-
-  pub first_collision : {xs : List Collision} → HasExactly collision_order (IsCollision 10 s) xs → HasExactly collision_order (ToCollision 11) xs
-  first_collision {xs} h = first_rule collision_order (λ c. c.rule) (CollisionStands s.old s.new) collision_rule_before 10 xs h
-
-  pub next_collision : (high : ℕ) → 10 ≤ high → {xs ys zs : List Collision} → HasExactly collision_order (ToCollision high) xs → HasExactly collision_order (IsCollision high s) ys → zs ≡ xs ++ ys → HasExactly collision_order (ToCollision (suc high)) zs
-  next_collision high l {xs} {ys} {zs} h k e = subst (HasExactly collision_order (ToCollision (suc high))) (sym e) (next_rule collision_order (λ c. c.rule) (CollisionStands s.old s.new) collision_rule_before 10 high l xs ys h k)
-
-  pub all_collisions : {xs : List Collision} → HasExactly collision_order (ToCollision 13) xs → HasExactly collision_order (CollisionStands s.old s.new) xs
-  all_collisions {xs} h = all_rules collision_order (λ c. c.rule) (CollisionStands s.old s.new) collision_rule_before 10 13 (known_collision s.old s.new) xs h
-
   -- notes on classes, and then on constants
   pub all_notes : {ms ns ds es fs : List Note} → HasExactly note_order (NoteIn s.old true) ms → HasExactly note_order (NoteIn s.new false) ns → es ≡ ms ++ ns → HasExactly note_order (IsConstantNote s) ds → fs ≡ es ++ ds → HasExactly note_order (NoteStands s.old s.new) fs
   all_notes {ms} {ns} {ds} {es} {fs} ha hb e hd g =
@@ -137,10 +161,6 @@ module _ (s : SidesOf) where
 side_of : (W : World) (p : _) → IsSide W → W.platform ≡ p → W ≡ side p W.release
 side_of W p s e = ap (λ cs. record { platform = W.platform; release = W.release; clients = cs }) s.no_clients ∙ ap (λ q. side q W.release) e
 
--- none of the collisions is met
-abbrev pub MeetsNone : World → List ClientClass → List Collision → Type 0
-MeetsNone O cs = All (λ c. ¬ (Meets (with_clients O (facts_of cs)) cs c))
-
 module _ (O N : World) (are : AreSides (record { old = O; new = N })) where
   old_is : O ≡ side O.platform O.release
   old_is = side_of O O.platform are.old_side refl
@@ -149,13 +169,13 @@ module _ (O N : World) (are : AreSides (record { old = O; new = N })) where
   new_is = side_of N O.platform are.new_side (sym are.platform)
 
   abbrev Kept : Verdict → World → World → Type 0
-  Kept v A B = IsVerdict A B v → v.findings ≡ [] → (cs : List ClientClass) → IsInScope A B cs → MeetsNone A cs v.collisions → Keeps A B cs
+  Kept v A B = IsVerdict A B v → v.findings ≡ [] → (cs : List ClientClass) → IsInScope A B cs → All (λ c. ¬ (Meets (with_clients A (facts_of cs)) cs c)) v.collisions → Keeps A B cs
 
   kept : (v : Verdict) → Kept v O N
   kept v = subst (λ (A : World). Kept v A N) (sym old_is) (subst (λ (B : World). Kept v (side O.platform O.release) B) (sym new_is)
       (λ verdict e cs scope met. keeps O.platform O.release N.release v cs are.old_side.root are.old_side.platform are.old_side.release are.new_side.release verdict e scope met))
 
-  pub nothing_breaks : (v : Verdict) → IsVerdict O N v → v.findings ≡ [] → (cs : List ClientClass) → IsInScope O N cs → MeetsNone O cs v.collisions → Keeps O N cs
+  pub nothing_breaks : (v : Verdict) → IsVerdict O N v → v.findings ≡ [] → (cs : List ClientClass) → IsInScope O N cs → All (λ c. ¬ (Meets (with_clients O (facts_of cs)) cs c)) v.collisions → Keeps O N cs
   nothing_breaks v = kept v
 
   abbrev Breaks : World → World → Type 0

@@ -1,11 +1,14 @@
 -- What stands of one rule after another.
-use Rattle.std.proofs.Common.{◌≡◌, ◌≢◌, ◌<◌, ◌≤◌, ℕ, suc, true, false, List, ◌++◌, sym, subst, ◌⊎◌, inl, inr, arith}
+use Rattle.std.proofs.Common.{◌≡◌, ◌≢◌, ◌<◌, ◌≤◌, ℕ, suc, Bool, true, false, List, ◌++◌, length, refl, sym, subst, Option, ◌⊎◌, inl, inr, arith, nat_lt}
 use Rattle.std.proofs.Math.Dec.{eqb}
+use Rattle.std.proofs.lemmas.Bool.{ltb-true, ltb-false}
 use Rattle.std.proofs.lemmas.Bool.Decides.{eqb_tells}
 use Rattle.std.specs.declared.cmp.Ordering.{Ordering}
 use Rattle.std.specs.declared.cmp.Ordering.TheVariants.{Less}
 use Rattle.jc_facts.specs.Exactly.{HasExactly}
 use Rattle.jc_facts.proofs.InOrder.{exact_same, exact_append}
+use Rattle.jc_sides.specs.Limit.{HasMore, over, beside}
+use Rattle.jc_sides.proofs.Limits.{past_beside, past_weaker}
 
 -- the rules of things, which decide their order
 module _ {F : Type 0} (order : F → F → Ordering) (rule_of : F → ℕ) (Stand : F → Type 0) (apart : (f g : F) → rule_of f < rule_of g → order f g ≡ Less) where
@@ -65,6 +68,67 @@ module _ {F : Type 0} (order : F → F → Ordering) (rule_of : F → ℕ) (Stan
           go : (rule_of f < high) ⊎ (rule_of f ≡ high) → Between low high f ⊎ Of high f
           go (inl a) = inl ((p.0.0, a), p.1)
           go (inr e) = inr (e, p.1)
+
+  -- one group of rules, and then another
+  pub next_group : (low mid high : ℕ) → low ≤ mid → mid ≤ high → (xs ys : List F) → HasExactly order (Between low mid) xs → HasExactly order (Between mid high) ys → HasExactly order (Between low high) (xs ++ ys)
+  next_group low mid high a b xs ys h k =
+      exact_same order (λ f. Between low mid f ⊎ Between mid high f) (Between low high) (xs ++ ys) to from
+      (exact_append order (Between low mid) (Between mid high) xs ys h k (λ f g p q. apart f g (less (rule_of f) (rule_of g) p.0.1 q.0.0)))
+    where
+      less : (r q : ℕ) → r < mid → mid ≤ q → r < q
+      less r q u v = omega arith
+
+      more : (r : ℕ) → r < mid → r < high
+      more r u = omega (arith, b)
+
+      before : (r : ℕ) → mid ≤ r → low ≤ r
+      before r u = omega (arith, a)
+
+      to : (f : F) → Between low mid f ⊎ Between mid high f → Between low high f
+      to f (inl p) = ((p.0.0, more (rule_of f) p.0.1), p.1)
+      to f (inr q) = ((before (rule_of f) q.0.0, q.0.1), q.1)
+
+      from : (f : F) → Between low high f → Between low mid f ⊎ Between mid high f
+      from f p = go (nat_lt (rule_of f) mid) refl
+        where
+          go : (t : Bool) → nat_lt (rule_of f) mid ≡ t → Between low mid f ⊎ Between mid high f
+          go true e = inl ((p.0.0, ltb-true (rule_of f) mid e), p.1)
+          go false e = inr ((ltb-false (rule_of f) mid e, p.0.1), p.1)
+
+  -- ---- past the limit
+
+  module _ (most : Option ℕ) where
+    -- one of the rules alone
+    pub rule_past : (low rule high : ℕ) → low ≤ rule → rule < high → HasMore order (Of rule) most → HasMore order (Between low high) most
+    rule_past low rule high a b h = past_weaker order (Of rule) (Between low high) most (λ f p. ((subst (λ r. low ≤ r) (sym p.0) a, subst (λ r. r < high) (sym p.0) b), p.1)) h
+
+    -- a group of rules, within the limit, and then one
+    pub next_past : (low rule high : ℕ) → low ≤ rule → rule < high → (xs : List F) → HasExactly order (Between low rule) xs → over (length xs) most ≡ false → HasMore order (Of rule) (beside most (length xs))
+        → HasMore order (Between low high) most
+    next_past low rule high a b xs h within more =
+        past_beside order (Between low rule) (Of rule) (Between low high) most xs
+        (λ f p. ((p.0.0, before (rule_of f) p.0.1), p.1)) (λ f p. ((subst (λ r. low ≤ r) (sym p.0) a, subst (λ r. r < high) (sym p.0) b), p.1))
+        (λ f g p q. apart f g (subst (λ n. rule_of f < n) (sym q.0) p.0.1)) h within more
+      where
+        before : (r : ℕ) → r < rule → r < high
+        before r u = omega (arith, b)
+
+    -- a group of rules, within the limit, and then another group
+    pub group_past : (low mid high : ℕ) → low ≤ mid → mid ≤ high → (xs : List F) → HasExactly order (Between low mid) xs → over (length xs) most ≡ false → HasMore order (Between mid high) (beside most (length xs))
+        → HasMore order (Between low high) most
+    group_past low mid high a b xs h within more =
+        past_beside order (Between low mid) (Between mid high) (Between low high) most xs
+        (λ f p. ((p.0.0, before (rule_of f) p.0.1), p.1)) (λ f q. ((after (rule_of f) q.0.0, q.0.1), q.1))
+        (λ f g p q. apart f g (less (rule_of f) (rule_of g) p.0.1 q.0.0)) h within more
+      where
+        before : (r : ℕ) → r < mid → r < high
+        before r u = omega (arith, b)
+
+        after : (r : ℕ) → mid ≤ r → low ≤ r
+        after r u = omega (arith, a)
+
+        less : (r q : ℕ) → r < mid → mid ≤ q → r < q
+        less r q u v = omega arith
 
   -- all rules
   pub all_rules : (low high : ℕ) → ((f : F) → Stand f → (low ≤ rule_of f) × (rule_of f < high)) → (xs : List F) → HasExactly order (Between low high) xs → HasExactly order Stand xs

@@ -27,7 +27,7 @@ use Rattle.jc_sides.specs.SidesOf.{SidesOf}
 use Rattle.jc_sides.proofs.ItemRules.{made_where, collision_rule}
 use Rattle.jc_sides.proofs.NamedAbove.{class_unkept}
 use Rattle.jc_table.specs.Lookups.{IsAnswer, IsChoice, declare_method}
-use Rattle.jc_table.specs.declared.ids.Found.{Found}
+use Rattle.jc_index.specs.declared.ids.Found.{Found}
 
 -- the table's lookup finds none where the world's finds nothing
 pub choice_none : (W : World) (f : Option Found) (ms : List DeclaredMember) → IsChoice W f ms → is_none f ≡ are_none ms

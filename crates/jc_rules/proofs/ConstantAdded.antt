@@ -24,7 +24,7 @@ use Rattle.jc_sides.proofs.BaseParts.{base_interface_parts}
 use Rattle.jc_sides.proofs.ItemRules.{made_where, collision_rule}
 use Rattle.jc_sides.proofs.NamedAbove.{interface_unkept}
 use Rattle.jc_table.specs.Lookups.{IsAnswer, declare_field}
-use Rattle.jc_table.specs.declared.ids.Found.{Found}
+use Rattle.jc_index.specs.declared.ids.Found.{Found}
 
 -- the table's lookup finds something where the world's does
 answer_there : (W : World) (f : Option Found) (m : Option DeclaredMember) → IsAnswer W f m → is_some f ≡ is_some m

@@ -17,3 +17,4 @@ mod ChainWalk
 mod SuperclassLost
 mod ByRule
 mod AllRules
+mod Limited

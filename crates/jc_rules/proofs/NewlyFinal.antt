@@ -23,7 +23,7 @@ use Rattle.jc_sides.specs.SidesOf.{SidesOf}
 use Rattle.jc_table.specs.Sides.{IsSide}
 use Rattle.jc_table.specs.Lookups.{IsChoice}
 use Rattle.jc_table.proofs.Sides.{classes_valid}
-use Rattle.jc_table.specs.declared.ids.Found.{Found as Answer}
+use Rattle.jc_index.specs.declared.ids.Found.{Found as Answer}
 
 -- ---- what the lookup finds
 

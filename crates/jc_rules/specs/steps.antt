@@ -4,3 +4,4 @@ pub mod Classes
 pub mod Constructors
 pub mod Methods
 pub mod Notes
+pub mod Within

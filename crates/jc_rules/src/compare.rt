@@ -1,21 +1,19 @@
 //! The comparison of two sides.
-ghost use Rattle.std.specs.Prelude.{◌≡◌, List, [], IfOk};
-ghost use Rattle.std.specs.List.{All};
+ghost use Rattle.std.specs.Prelude.{◌≡◌, IfOk, IfSome, option_map};
 ghost use Rattle.jc_acts.specs.Seats.{AreSeats};
-ghost use Rattle.jc_facts.specs.declared.client.ClientClass.{ClientClass};
-ghost use Rattle.jc_facts.specs.client.Clients.{IsInScope, Keeps, facts_of};
 ghost use Rattle.jc_facts.specs.rule.Collisions.{CollisionStands};
 ghost use Rattle.jc_facts.specs.rule.Findings.{Stands};
-ghost use Rattle.jc_facts.specs.client.Kept.{BreaksClass};
-ghost use Rattle.jc_facts.specs.client.Meets.{Meets};
 ghost use Rattle.jc_facts.specs.rule.Notes.{NoteStands};
 ghost use Rattle.jc_facts.specs.rule.Orders.{finding_order, collision_order, note_order};
 ghost use Rattle.jc_facts.specs.Exactly.{HasExactly};
 ghost use Rattle.jc_facts.specs.rule.Verdict.{IsVerdict};
 ghost use Rattle.jc_facts.specs.rule.Bases.{is_steady, is_base_class, is_base_interface};
-ghost use Rattle.jc_facts.specs.world.World.{with_clients};
-ghost use Rattle.jc_rules.specs.steps.Classes.{UpToRule};
+ghost use Rattle.jc_rules.specs.Verdicts.{IsVerdictWithin, KeepsAll, BreaksEach};
+ghost use Rattle.jc_rules.specs.steps.Classes.{OfRules};
+ghost use Rattle.jc_rules.specs.steps.Within.{IsLimited};
+ghost use Rattle.jc_sides.specs.Limit.{IsWithin};
 ghost use Rattle.jc_sides.specs.SharedOf.{AreThose};
+ghost use Rattle.jc_sides.specs.SidesOf.{AreSides};
 
 use crate::capture_added::CaptureAdded;
 use crate::class_closed::ClassClosed;
@@ -40,34 +38,54 @@ use jc_sides::classes::{base_classes, base_interfaces, classes_where, steady_cla
 use jc_sides::collision_rule::Collisions;
 use jc_sides::finding_rule::Findings;
 use jc_sides::item_rule::by_items;
+use jc_sides::limit::left;
 use jc_sides::shared::Shared;
 use jc_sides::sides::Sides;
 use jc_table::table::Table;
 use std::alloc::{AllocError, Global};
 
-// The findings on classes and their hierarchies, rule by rule.
-fn findings_on_classes(alloc: Global, sides: &Sides<'_>) -> Result<Vec<Finding>, AllocError>
-    ensures { IfOk result (λ found. HasExactly finding_order (UpToRule 4 sides.now) found.items) }
+// The findings on classes and their hierarchies, rule by rule; None where there are more than the
+// limit allows.
+fn findings_on_classes(
+    alloc: Global,
+    sides: &Sides<'_>,
+    most: Option<usize>,
+) -> Result<Option<Vec<Finding>>, AllocError>
+    ensures { IfOk result (λ found. IsWithin finding_order (OfRules 1 5 sides.now) most (option_map (λ fs. fs.items) found)) }
 {
-    let mut findings = by_class(alloc, sides, &ClassGone)?;
-    findings.append(&mut by_class(alloc, sides, &ClassClosed)?)?;
-    findings.append(&mut by_class(alloc, sides, &InterfaceBecameClass)?)?;
-    findings.append(&mut superclass_lost(alloc, sides)?)?;
-    Ok(findings)
+    let Some(mut findings) = by_class(alloc, sides, &ClassGone, most)? else {
+        return Ok(None);
+    };
+    let room = left(most, findings.len());
+    let Some(mut closed) = by_class(alloc, sides, &ClassClosed, room)? else {
+        return Ok(None);
+    };
+    findings.append(&mut closed)?;
+    let room = left(most, findings.len());
+    let Some(mut became_class) = by_class(alloc, sides, &InterfaceBecameClass, room)? else {
+        return Ok(None);
+    };
+    findings.append(&mut became_class)?;
+    let room = left(most, findings.len());
+    let Some(mut superclasses) = superclass_lost(alloc, sides, room)? else {
+        return Ok(None);
+    };
+    findings.append(&mut superclasses)?;
+    Ok(Some(findings))
 }
 
-// All findings, rule by rule.
-fn findings(
+// The findings on constructors and on methods that can't be overridden any more, rule by rule; None
+// where there are more than the limit allows.
+fn findings_below(
     alloc: Global,
     sides: &Sides<'_>,
     seats: &Seats<'_>,
     steady: &[Shared<'_>],
-    interfaces: &[Shared<'_>],
-) -> Result<Vec<Finding>, AllocError>
+    most: Option<usize>,
+) -> Result<Option<Vec<Finding>>, AllocError>
     requires seats { AreSeats sides.now seats.now }
     requires steady { AreThose (is_steady sides.now.old sides.now.new) sides.now steady.now }
-    requires interfaces { AreThose (is_base_interface sides.now.old sides.now.new) sides.now interfaces.now }
-    ensures { IfOk result (λ found. HasExactly finding_order (Stands sides.now.old sides.now.new) found.items) }
+    ensures { IfOk result (λ found. IsWithin finding_order (OfRules 5 7 sides.now) most (option_map (λ fs. fs.items) found)) }
 {
     let constructors = Findings {
         rule: ConstructorClosed,
@@ -75,6 +93,31 @@ fn findings(
     let made_final = Findings {
         rule: MethodMadeFinal,
     };
+    let Some(mut findings) = by_items(alloc, &constructors, sides, steady, most)? else {
+        return Ok(None);
+    };
+    let room = left(most, findings.len());
+    let Some(mut finals) = by_items(alloc, &made_final, sides, seats.bases(), room)? else {
+        return Ok(None);
+    };
+    findings.append(&mut finals)?;
+    Ok(Some(findings))
+}
+
+// The findings on members that are used, rule by rule; None where there are more than the limit allows.
+fn findings_on_uses(
+    alloc: Global,
+    sides: &Sides<'_>,
+    seats: &Seats<'_>,
+    steady: &[Shared<'_>],
+    interfaces: &[Shared<'_>],
+    most: Option<usize>,
+) -> Result<Option<Vec<Finding>>, AllocError>
+    requires seats { AreSeats sides.now seats.now }
+    requires steady { AreThose (is_steady sides.now.old sides.now.new) sides.now steady.now }
+    requires interfaces { AreThose (is_base_interface sides.now.old sides.now.new) sides.now interfaces.now }
+    ensures { IfOk result (λ found. IsWithin finding_order (OfRules 7 10 sides.now) most (option_map (λ fs. fs.items) found)) }
+{
     let fields = Findings {
         rule: FieldClosed { seats },
     };
@@ -84,35 +127,83 @@ fn findings(
     let inherited = Findings {
         rule: InterfaceMethodLost,
     };
-    let mut findings = findings_on_classes(alloc, sides)?;
-    findings.append(&mut by_items(alloc, &constructors, sides, steady)?)?;
-    findings.append(&mut by_items(alloc, &made_final, sides, seats.bases())?)?;
-    findings.append(&mut by_items(alloc, &fields, sides, steady)?)?;
-    findings.append(&mut by_items(alloc, &methods, sides, steady)?)?;
-    findings.append(&mut by_items(alloc, &inherited, sides, interfaces)?)?;
-    Ok(findings)
+    let Some(mut findings) = by_items(alloc, &fields, sides, steady, most)? else {
+        return Ok(None);
+    };
+    let room = left(most, findings.len());
+    let Some(mut closed) = by_items(alloc, &methods, sides, steady, room)? else {
+        return Ok(None);
+    };
+    findings.append(&mut closed)?;
+    let room = left(most, findings.len());
+    let Some(mut lost) = by_items(alloc, &inherited, sides, interfaces, room)? else {
+        return Ok(None);
+    };
+    findings.append(&mut lost)?;
+    Ok(Some(findings))
 }
 
-// All collisions, rule by rule.
+// All findings, rule by rule; None where there are more than the limit allows.
+fn findings(
+    alloc: Global,
+    sides: &Sides<'_>,
+    seats: &Seats<'_>,
+    steady: &[Shared<'_>],
+    interfaces: &[Shared<'_>],
+    most: Option<usize>,
+) -> Result<Option<Vec<Finding>>, AllocError>
+    requires seats { AreSeats sides.now seats.now }
+    requires steady { AreThose (is_steady sides.now.old sides.now.new) sides.now steady.now }
+    requires interfaces { AreThose (is_base_interface sides.now.old sides.now.new) sides.now interfaces.now }
+    ensures { IfOk result (λ found. IsWithin finding_order (Stands sides.now.old sides.now.new) most (option_map (λ fs. fs.items) found)) }
+{
+    let Some(mut findings) = findings_on_classes(alloc, sides, most)? else {
+        return Ok(None);
+    };
+    let room = left(most, findings.len());
+    let Some(mut below) = findings_below(alloc, sides, seats, steady, room)? else {
+        return Ok(None);
+    };
+    findings.append(&mut below)?;
+    let room = left(most, findings.len());
+    let Some(mut uses) = findings_on_uses(alloc, sides, seats, steady, interfaces, room)? else {
+        return Ok(None);
+    };
+    findings.append(&mut uses)?;
+    Ok(Some(findings))
+}
+
+// All collisions, rule by rule; None where there are more than the limit allows.
 fn collisions(
     alloc: Global,
     sides: &Sides<'_>,
     classes: &[Shared<'_>],
     interfaces: &[Shared<'_>],
-) -> Result<Vec<Collision>, AllocError>
+    most: Option<usize>,
+) -> Result<Option<Vec<Collision>>, AllocError>
     requires classes { AreThose (is_base_class sides.now.old sides.now.new) sides.now classes.now }
     requires interfaces { AreThose (is_base_interface sides.now.old sides.now.new) sides.now interfaces.now }
-    ensures { IfOk result (λ made. HasExactly collision_order (CollisionStands sides.now.old sides.now.new) made.items) }
+    ensures { IfOk result (λ made. IsWithin collision_order (CollisionStands sides.now.old sides.now.new) most (option_map (λ cs. cs.items) made)) }
 {
     let constants = Collisions {
         rule: ConstantAdded,
     };
     let captures = Collisions { rule: CaptureAdded };
     let finals = Collisions { rule: FinalAdded };
-    let mut collisions = by_items(alloc, &constants, sides, interfaces)?;
-    collisions.append(&mut by_items(alloc, &captures, sides, classes)?)?;
-    collisions.append(&mut by_items(alloc, &finals, sides, classes)?)?;
-    Ok(collisions)
+    let Some(mut collisions) = by_items(alloc, &constants, sides, interfaces, most)? else {
+        return Ok(None);
+    };
+    let room = left(most, collisions.len());
+    let Some(mut captured) = by_items(alloc, &captures, sides, classes, room)? else {
+        return Ok(None);
+    };
+    collisions.append(&mut captured)?;
+    let room = left(most, collisions.len());
+    let Some(mut final_now) = by_items(alloc, &finals, sides, classes, room)? else {
+        return Ok(None);
+    };
+    collisions.append(&mut final_now)?;
+    Ok(Some(collisions))
 }
 
 // All notes: on the classes of the old release that don't load, on those of the new one, and on
@@ -123,8 +214,44 @@ fn notes(alloc: Global, sides: &Sides<'_>) -> Result<Vec<Note>, AllocError>
     let classes = classes_where(alloc, sides, &InBothReleases)?;
     let mut notes = note_unloadable(alloc, sides.old, true)?;
     notes.append(&mut note_unloadable(alloc, sides.new, false)?)?;
-    notes.append(&mut by_items(alloc, &NoteConstant, sides, classes.as_slice())?)?;
+    let constants = by_items(alloc, &NoteConstant, sides, classes.as_slice(), None)?;
+    notes.append(&mut constants.unwrap())?;
     Ok(notes)
+}
+
+// The verdict; None where it has more findings and collisions than the limit allows.
+fn limited(
+    alloc: Global,
+    sides: &Sides<'_>,
+    most: Option<usize>,
+) -> Result<Option<Verdict>, AllocError>
+    ensures { IfOk result (λ v. IsLimited sides.now most v × AreSides sides.now) }
+{
+    let steady = steady_classes(alloc, sides)?;
+    let interfaces = base_interfaces(alloc, sides)?;
+    let seats = Seats::new(alloc, sides, base_classes(alloc, sides)?)?;
+    let found = findings(
+        alloc,
+        sides,
+        &seats,
+        steady.as_slice(),
+        interfaces.as_slice(),
+        most,
+    )?;
+    let Some(findings) = found else {
+        return Ok(None);
+    };
+    let room = left(most, findings.len());
+    let made = collisions(alloc, sides, seats.bases(), interfaces.as_slice(), room)?;
+    let Some(collisions) = made else {
+        return Ok(None);
+    };
+    let notes = notes(alloc, sides)?;
+    Ok(Some(Verdict {
+        findings: Items::from_vec(findings),
+        collisions: Items::from_vec(collisions),
+        notes: Items::from_vec(notes),
+    }))
 }
 
 /// The verdict on a new release, after an old one: what it breaks of what clients could do, which
@@ -135,28 +262,30 @@ pub fn compare(alloc: Global, old: &Table, new: &Table) -> Result<Verdict, Alloc
     ensures exact { IfOk result (IsVerdict old.now new.now) }
 
     // Where there is no finding, each client world in scope that meets none of the collisions keeps what held.
-    ensures kept { IfOk result (λ v. v.findings ≡ [] → (cs : List ClientClass) → IsInScope old.now new.now cs
-        → All (λ c. ¬ (Meets (with_clients old.now (facts_of cs)) cs c)) v.collisions → Keeps old.now new.now cs) }
+    ensures kept { IfOk result (KeepsAll old.now new.now) }
 
     // Whatever clients there are, whoever names a class that is gone has the finding's error.
-    ensures broken { IfOk result (λ v. All (λ f. f.rule ≡ 1 → BreaksClass old.now new.now f.class f.error) v.findings) }
+    ensures broken { IfOk result (BreaksEach old.now new.now) }
 {
     let sides = Sides::new(old, new);
-    let steady = steady_classes(alloc, &sides)?;
-    let interfaces = base_interfaces(alloc, &sides)?;
-    let seats = Seats::new(alloc, &sides, base_classes(alloc, &sides)?)?;
-    let findings = findings(
-        alloc,
-        &sides,
-        &seats,
-        steady.as_slice(),
-        interfaces.as_slice(),
-    )?;
-    let collisions = collisions(alloc, &sides, seats.bases(), interfaces.as_slice())?;
-    let notes = notes(alloc, &sides)?;
-    Ok(Verdict {
-        findings: Items::from_vec(findings),
-        collisions: Items::from_vec(collisions),
-        notes: Items::from_vec(notes),
-    })
+    let verdict = limited(alloc, &sides, None)?;
+    Ok(verdict.unwrap())
+}
+
+/// The same verdict, where its findings and collisions are at most so many; None where they are more.
+/// Past the limit no more are made than what one class adds to one rule.
+pub fn compare_within(
+    alloc: Global,
+    old: &Table,
+    new: &Table,
+    most: usize,
+) -> Result<Option<Verdict>, AllocError>
+    requires { old.now.platform ≡ new.now.platform }
+    ensures exact { IfOk result (IsVerdictWithin old.now new.now most) }
+    ensures kept { IfOk result (λ made. IfSome made (KeepsAll old.now new.now)) }
+    ensures broken { IfOk result (λ made. IfSome made (BreaksEach old.now new.now)) }
+{
+    let sides = Sides::new(old, new);
+    let verdict = limited(alloc, &sides, Some(most))?;
+    Ok(verdict)
 }

@@ -1,5 +1,5 @@
 //! The rule on superclasses that left the chain.
-ghost use Rattle.std.specs.Prelude.{◌≡◌, ◌<◌, IfOk, IsTrue};
+ghost use Rattle.std.specs.Prelude.{◌≡◌, ◌<◌, IfOk, IsTrue, option_map};
 ghost use Rattle.jc_facts.specs.world.Hierarchy.{in_chain};
 ghost use Rattle.jc_facts.specs.Names.{Bytes};
 ghost use Rattle.jc_facts.specs.rule.Orders.{finding_order};
@@ -7,6 +7,7 @@ ghost use Rattle.jc_facts.specs.Exactly.{HasExactly};
 ghost use Rattle.jc_facts.specs.rule.Bases.{is_kept};
 ghost use Rattle.jc_facts.specs.world.World.{size};
 ghost use Rattle.jc_rules.specs.steps.Chains.{HasChain, target_finding, has_left_chain, OfChain};
+ghost use Rattle.jc_sides.specs.Limit.{IsWithin};
 ghost use Rattle.jc_sides.specs.Rules.{IsFinding};
 ghost use Rattle.jc_sides.specs.SharedOf.{IsShared, name_of};
 ghost use Rattle.jc_sides.specs.SidesOf.{AreSides};
@@ -22,6 +23,7 @@ use jc_facts::rule_numbers::SUPERCLASS_LOST;
 use jc_sides::broken::broken_where;
 use jc_sides::found::{finding, push_some};
 use jc_sides::kept::kept;
+use jc_sides::limit::is_over;
 use jc_sides::shared::{Shared, after};
 use jc_sides::sides::Sides;
 use jc_table::ids::ClassId;
@@ -128,14 +130,22 @@ fn on_class(alloc: Global, sides: &Sides<'_>, id: ClassId) -> Result<Vec<Finding
 
 /// Kept superclasses that left the chain of a kept class and are no interfaces (JVMS 4.10.1.2), in
 /// byte order of the names of the class and of the superclass. Each class takes time in proportion
-/// to the lengths of its two chains, but for the logarithm of a look-up.
-pub fn superclass_lost(alloc: Global, sides: &Sides<'_>) -> Result<Vec<Finding>, AllocError>
-    ensures { IfOk result (λ found. HasExactly finding_order (IsFinding 4 sides.now) found.items) }
+/// to the lengths of its two chains, but for the logarithm of a look-up. None where there are more
+/// than the limit allows; no more are made then than what one class adds past it.
+pub fn superclass_lost(
+    alloc: Global,
+    sides: &Sides<'_>,
+    most: Option<usize>,
+) -> Result<Option<Vec<Finding>>, AllocError>
+    ensures { IfOk result (λ found. IsWithin finding_order (IsFinding 4 sides.now) most (option_map (λ fs. fs.items) found)) }
 {
     let mut findings = Vec::new(alloc);
     for n in 0..sides.old.count() {
         let id = sides.old.id(n).unwrap();
         findings.append(&mut on_class(alloc, sides, id)?)?;
+        if is_over(findings.len(), most) {
+            return Ok(None);
+        }
     }
-    Ok(findings)
+    Ok(Some(findings))
 }

@@ -8,6 +8,7 @@ mod Finals
 pub mod MemberKeys
 mod TestedClasses
 mod ByItems
+pub mod Limits
 pub mod ItemRules
 pub mod BaseParts
 pub mod Seen

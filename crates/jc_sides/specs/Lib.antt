@@ -5,5 +5,6 @@ pub mod SharedFields
 pub mod BrokenOf
 pub mod BrokenFields
 pub mod Members
+pub mod Limit
 pub mod Rules
 pub mod steps

@@ -1,14 +1,15 @@
 //! Rules that speak of a class alone.
-ghost use Rattle.std.specs.Prelude.{◌≡◌, ◌<◌, ℕ, IfOk};
+ghost use Rattle.std.specs.Prelude.{◌≡◌, ◌<◌, ℕ, IfOk, option_map};
 ghost use Rattle.jc_facts.specs.world.World.{size};
 ghost use Rattle.jc_facts.specs.rule.Orders.{finding_order};
-ghost use Rattle.jc_facts.specs.Exactly.{HasExactly};
 ghost use Rattle.jc_table.specs.Ids.{name_at};
 ghost use Rattle.jc_sides.specs.BrokenOf.{found};
+ghost use Rattle.jc_sides.specs.Limit.{IsWithin};
 ghost use Rattle.jc_sides.specs.Rules.{on_class, class_finding, IsFinding, IsOnClass};
 
 use crate::broken::BrokenAct;
 use crate::found::{finding, push_some};
+use crate::limit::is_over;
 use crate::sides::Sides;
 use jc_facts::finding::Finding;
 use jc_table::ids::ClassId;
@@ -46,18 +47,23 @@ fn of_class<R: ClassRule>(
     Ok(found)
 }
 
-/// What the rule finds, in byte order of the names of the classes.
+/// What the rule finds, in byte order of the names of the classes; None where that is more than the
+/// limit allows. No more is made than one finding past it.
 pub fn by_class<R: ClassRule>(
     alloc: Global,
     sides: &Sides<'_>,
     rule: &R,
-) -> Result<Vec<Finding>, AllocError>
-    ensures { IfOk result (λ found. HasExactly finding_order (IsFinding R.rule sides.now) found.items) }
+    most: Option<usize>,
+) -> Result<Option<Vec<Finding>>, AllocError>
+    ensures { IfOk result (λ found. IsWithin finding_order (IsFinding R.rule sides.now) most (option_map (λ fs. fs.items) found)) }
 {
     let mut findings = Vec::new(alloc);
     for n in 0..sides.old.count() {
         let id = sides.old.id(n).unwrap();
         push_some(&mut findings, of_class(alloc, sides, rule, id)?)?;
+        if is_over(findings.len(), most) {
+            return Ok(None);
+        }
     }
-    Ok(findings)
+    Ok(Some(findings))
 }

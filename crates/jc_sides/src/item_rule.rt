@@ -1,16 +1,18 @@
 //! Rules that speak of a class and a key.
-ghost use Rattle.std.specs.Prelude.{◌≡◌, Bool, IfOk, IsTrue, Option};
+ghost use Rattle.std.specs.Prelude.{◌≡◌, Bool, IfOk, IsTrue, Option, option_map};
 ghost use Rattle.std.specs.List.{filter_map};
 ghost use Rattle.std.specs.declared.cmp.Ordering.{Ordering};
 ghost use Rattle.jc_facts.specs.declared.key.Key.{Key};
 ghost use Rattle.jc_facts.specs.Names.{Bytes};
 ghost use Rattle.jc_facts.specs.Exactly.{HasExactly};
 ghost use Rattle.jc_facts.specs.rule.Bases.{is_kept};
+ghost use Rattle.jc_sides.specs.Limit.{IsWithin};
 ghost use Rattle.jc_sides.specs.Rules.{HasEachKey, IsItemRule, IsOf};
 ghost use Rattle.jc_sides.specs.SharedOf.{IsShared, AreThose, name_of};
 ghost use Rattle.jc_sides.specs.SidesOf.{SidesOf, AreSides};
 
 use crate::found::push_some;
+use crate::limit::is_over;
 use crate::shared::Shared;
 use crate::sides::Sides;
 use jc_facts::key::Key;
@@ -104,21 +106,26 @@ fn of_class<R: ItemRule>(
 }
 
 /// What the rule makes of these classes, in byte order of their names and in the order of the keys.
-/// They have to be all of which it speaks.
+/// They have to be all of which it speaks. None where that is more than the limit allows; no more is
+/// made then than what one class adds past it.
 pub fn by_items<R: ItemRule>(
     alloc: Global,
     rule: &R,
     sides: &Sides<'_>,
     classes: &[Shared<'_>],
-) -> Result<Vec<R::Item>, AllocError>
+    most: Option<usize>,
+) -> Result<Option<Vec<R::Item>>, AllocError>
     requires ready { R.ready rule.now sides.now }
     requires rule { IsItemRule R.order R.class_of R.makes R.stands R.covers }
     requires classes { AreThose (R.covers sides.now) sides.now classes.now }
-    ensures { IfOk result (λ made. HasExactly R.order (R.stands sides.now) made.items) }
+    ensures { IfOk result (λ made. IsWithin R.order (R.stands sides.now) most (option_map (λ items. items.items) made)) }
 {
     let mut items = Vec::new(alloc);
     for class in classes {
         items.append(&mut of_class(alloc, rule, sides, class)?)?;
+        if is_over(items.len(), most) {
+            return Ok(None);
+        }
     }
-    Ok(items)
+    Ok(Some(items))
 }

@@ -10,6 +10,7 @@ pub mod finding_rule;
 pub mod found;
 pub mod item_rule;
 pub mod kept;
+pub mod limit;
 pub mod members;
 pub mod shared;
 pub mod sides;

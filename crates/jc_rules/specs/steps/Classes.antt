@@ -1,5 +1,5 @@
 -- Of classes that can't be used, and of the rules on classes together.
-use Rattle.std.specs.Prelude.{ℕ, suc, ◌≤◌, ◌<◌, Option, None, Some, cond}
+use Rattle.std.specs.Prelude.{ℕ, ◌≤◌, ◌<◌, Option, None, Some, cond}
 use Rattle.jc_facts.specs.declared.finding.Finding.{Finding}
 use Rattle.jc_facts.specs.declared.link_error.LinkError.{LinkError}
 use Rattle.jc_facts.specs.rule.Findings.{gone_error, Stands}
@@ -12,6 +12,6 @@ use Rattle.jc_sides.specs.SidesOf.{SidesOf}
 abbrev pub why_unusable : World → Bytes → Option LinkError
 why_unusable W x = cond (is_class_usable W x) None (Some (gone_error W x))
 
--- the finding stands, and is one of the rules up to this one
-abbrev pub UpToRule : ℕ → SidesOf → Finding → Type 0
-UpToRule rule s f = ((1 ≤ f.rule) × (f.rule < suc rule)) × Stands s.old s.new f
+-- the finding stands, and is one of the rules from the first of these numbers on, and before the second
+abbrev pub OfRules : ℕ → ℕ → SidesOf → Finding → Type 0
+OfRules low high s f = ((low ≤ f.rule) × (f.rule < high)) × Stands s.old s.new f

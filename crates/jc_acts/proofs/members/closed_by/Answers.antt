@@ -1,6 +1,6 @@
 use Rattle.std.proofs.Common.{subst, ◌∙◌, ap, map, None, Result, Ok, Err}
 use Rattle.jc_facts.specs.declared.link_error.LinkError.{LinkError}
-use Rattle.jc_table.specs.declared.ids.Found.{Found}
+use Rattle.jc_index.specs.declared.ids.Found.{Found}
 use Rattle.jc_sides.specs.SharedFields.{shared_of}
 use Rattle.jc_sides.specs.SidesFields.{worlds}
 use Rattle.jc_sides.specs.SharedOf.{name_of}

@@ -1,32 +1,33 @@
 use Rattle.std.proofs.Common.{arith}
-use Rattle.jc_rules.proofs.AllRules.{next, all_findings}
-use Rattle.jc_rules.proofs.ConstructorClosed.{is_rule as constructor_closed}
-use Rattle.jc_rules.proofs.FieldClosed.{is_rule as field_closed}
-use Rattle.jc_rules.proofs.InterfaceMethodLost.{is_rule as interface_method_lost}
-use Rattle.jc_rules.proofs.MethodClosed.{is_rule as method_closed}
-use Rattle.jc_rules.proofs.MethodMadeFinal.{is_rule as method_made_final}
+use Rattle.jc_facts.specs.rule.Findings.{Stands}
+use Rattle.jc_facts.specs.rule.Orders.{finding_order}
+use Rattle.jc_rules.specs.steps.Classes.{OfRules}
+use Rattle.jc_sides.proofs.Subjects.{rule_before}
+use Rattle.jc_sides.proofs.Limits.{some_within, none_within}
+use Rattle.jc_rules.proofs.AllRules.{group, group_is_past, stands_past, stands_whole, known_finding}
 use Rattle.jc_rules.proofs.compare.findings.Goals as goal
 
-pub by_items-requires-clause-rule : goal.by_items-requires-clause-rule
-by_items-requires-clause-rule c = constructor_closed
+pub returns-in_default-2 : goal.returns-in_default-2
+returns-in_default-2 c =
+    stands_past finding_order (λ f. f.rule) (Stands c.args.sides.now.old c.args.sides.now.new) rule_before c.args.most 1 7
+    (group_is_past finding_order (λ f. f.rule) (Stands c.args.sides.now.old c.args.sides.now.new) rule_before c.args.most 1 5 7 (omega arith) (omega arith) c.left-room.result c.len.result c.in-Some.findings.items
+    (some_within finding_order (OfRules 1 5 c.args.sides.now) c.args.most (λ xs. xs.items) c.in_ok-findings.field-0 c.in-Some.findings c.in-Some.is c.in_ok-findings.ensures)
+    (omega (arith, c.len.ensures, c.in-Some.findings.ok.0)) c.left-room.ensures (none_within finding_order (OfRules 5 7 c.args.sides.now) c.left-room.result (λ xs. xs.items) c.in_ok-below.field-0 c.in_default-2.is c.in_ok-below.ensures))
 
-pub by_items-requires-2-clause-rule : goal.by_items-requires-2-clause-rule
-by_items-requires-2-clause-rule c = method_made_final
-
-pub by_items-requires-2-clause-classes : goal.by_items-requires-2-clause-classes
-by_items-requires-2-clause-classes c = c.bases.ensures c.args.sides.now c.requires.seats
-
-pub by_items-requires-3-clause-rule : goal.by_items-requires-3-clause-rule
-by_items-requires-3-clause-rule c = field_closed
-
-pub by_items-requires-4-clause-rule : goal.by_items-requires-4-clause-rule
-by_items-requires-4-clause-rule c = method_closed
-
-pub by_items-requires-5-clause-rule : goal.by_items-requires-5-clause-rule
-by_items-requires-5-clause-rule c = interface_method_lost
+pub returns-in_default-3 : goal.returns-in_default-3
+returns-in_default-3 c =
+    stands_past finding_order (λ f. f.rule) (Stands c.args.sides.now.old c.args.sides.now.new) rule_before c.args.most 1 10
+    (group_is_past finding_order (λ f. f.rule) (Stands c.args.sides.now.old c.args.sides.now.new) rule_before c.args.most 1 7 10 (omega arith) (omega arith) c.left-room-2.result c.len-2.result c.append.new.self.items
+    (group finding_order (λ f. f.rule) (Stands c.args.sides.now.old c.args.sides.now.new) rule_before c.args.most 1 5 7 (omega arith) (omega arith) c.left-room.result c.len.result c.in-Some.findings.items c.in-Some-2.below.items c.append.new.self.items
+    (some_within finding_order (OfRules 1 5 c.args.sides.now) c.args.most (λ xs. xs.items) c.in_ok-findings.field-0 c.in-Some.findings c.in-Some.is c.in_ok-findings.ensures)
+    (omega (arith, c.len.ensures, c.in-Some.findings.ok.0)) c.left-room.ensures (some_within finding_order (OfRules 5 7 c.args.sides.now) c.left-room.result (λ xs. xs.items) c.in_ok-below.field-0 c.in-Some-2.below c.in-Some-2.is c.in_ok-below.ensures) c.in_ok-append.ensures.items)
+    (omega (arith, c.len-2.ensures, c.append.new.self.ok.0)) c.left-room-2.ensures (none_within finding_order (OfRules 7 10 c.args.sides.now) c.left-room-2.result (λ xs. xs.items) c.in_ok-uses.field-0 c.in_default-3.is c.in_ok-uses.ensures))
 
 pub returns : goal.returns
 returns c =
-    all_findings c.args.sides.now (next c.args.sides.now 9 (omega arith) (next c.args.sides.now 8 (omega arith) (next c.args.sides.now 7 (omega arith) (next c.args.sides.now 6 (omega arith)
-    (next c.args.sides.now 5 (omega arith) c.in_ok-findings.ensures c.in_ok-by_items.ensures c.in_ok-append.ensures.items) c.in_ok-by_items-2.ensures c.in_ok-append-2.ensures.items)
-    c.in_ok-by_items-3.ensures c.in_ok-append-3.ensures.items) c.in_ok-by_items-4.ensures c.in_ok-append-4.ensures.items) c.in_ok-by_items-5.ensures c.in_ok-append-5.ensures.items)
+    stands_whole finding_order (λ f. f.rule) (Stands c.args.sides.now.old c.args.sides.now.new) rule_before c.args.most 1 10 (known_finding c.args.sides.now.old c.args.sides.now.new) c.append-2.new.self.items
+    (group finding_order (λ f. f.rule) (Stands c.args.sides.now.old c.args.sides.now.new) rule_before c.args.most 1 7 10 (omega arith) (omega arith) c.left-room-2.result c.len-2.result c.append.new.self.items c.in-Some-3.uses.items c.append-2.new.self.items
+    (group finding_order (λ f. f.rule) (Stands c.args.sides.now.old c.args.sides.now.new) rule_before c.args.most 1 5 7 (omega arith) (omega arith) c.left-room.result c.len.result c.in-Some.findings.items c.in-Some-2.below.items c.append.new.self.items
+    (some_within finding_order (OfRules 1 5 c.args.sides.now) c.args.most (λ xs. xs.items) c.in_ok-findings.field-0 c.in-Some.findings c.in-Some.is c.in_ok-findings.ensures)
+    (omega (arith, c.len.ensures, c.in-Some.findings.ok.0)) c.left-room.ensures (some_within finding_order (OfRules 5 7 c.args.sides.now) c.left-room.result (λ xs. xs.items) c.in_ok-below.field-0 c.in-Some-2.below c.in-Some-2.is c.in_ok-below.ensures) c.in_ok-append.ensures.items)
+    (omega (arith, c.len-2.ensures, c.append.new.self.ok.0)) c.left-room-2.ensures (some_within finding_order (OfRules 7 10 c.args.sides.now) c.left-room-2.result (λ xs. xs.items) c.in_ok-uses.field-0 c.in-Some-3.uses c.in-Some-3.is c.in_ok-uses.ensures) c.in_ok-append-2.ensures.items)
