@@ -7,7 +7,6 @@ use jc_facts::client::{ClientClass, Item, Place};
 use jc_facts::client_validity::is_valid_client;
 use jc_facts::key::Key;
 use std::alloc::{AllocError, Global};
-use std::process::Abort;
 use std::test::Fail;
 
 fn init(alloc: Global, class: &[u8]) -> Result<Item, AllocError> {

@@ -11,7 +11,6 @@ use jc_facts::validity::is_valid;
 use jc_facts::verdict::{Collision, Note, Verdict};
 use jc_report::made_text::made_text;
 use std::alloc::{AllocError, Global};
-use std::process::Abort;
 use std::test::Fail;
 
 type Bytes = &'static [u8];

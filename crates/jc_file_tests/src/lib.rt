@@ -10,6 +10,8 @@ mod code;
 #[cfg(test)]
 mod contents;
 #[cfg(test)]
+mod cut_files;
+#[cfg(test)]
 mod generated;
 #[cfg(test)]
 mod pool;

@@ -7,11 +7,11 @@ use std::process::Abort;
 use std::test::Fail;
 
 /// The class `p/A` without members.
-const PLAIN: &[u8] =
+pub(crate) const PLAIN: &[u8] =
     b"\xca\xfe\xba\xbe\0\0\0\x34\0\x05\x07\0\x02\x01\0\x03p/A\x07\0\x04\x01\0\x10java/lang/Object\0\x21\0\x01\0\x03\0\0\0\0\0\0\0\0";
 
 /// The class `q/U` with the method `static public use()V`, which returns.
-const USER: &[u8] =
+pub(crate) const USER: &[u8] =
     b"\xca\xfe\xba\xbe\0\0\0\x34\0\x08\x07\0\x02\x01\0\x03q/U\x07\0\x04\x01\0\x10java/lang/Object\x01\0\x03use\x01\0\x03()V\x01\0\x04Code\0\x21\0\x01\0\x03\0\0\0\0\0\x01\0\x09\0\x05\0\x06\0\x01\0\x07\0\0\0\x0d\0\0\0\0\0\0\0\x01\xb1\0\0\0\0\0\0";
 
 /// The class `p/A` with the field `static final int f`, of the value 64 and the signature `I`.
@@ -200,7 +200,7 @@ fn changed(alloc: Global, bytes: &[u8], edits: &[Edit]) -> Result<Vec<u8>, Alloc
 }
 
 // The first fault of the bytes.
-fn fault_of(alloc: Global, bytes: &[u8]) -> Result<Option<Malformed>, AllocError> {
+pub(crate) fn fault_of(alloc: Global, bytes: &[u8]) -> Result<Option<Malformed>, AllocError> {
     if bytes.len() > 1000 {
         return Ok(None);
     }

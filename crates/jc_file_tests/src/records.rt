@@ -2,7 +2,6 @@
 use crate::classes::{Declared, Row, class, plain};
 use jc_facts::validity::is_valid;
 use std::alloc::{AllocError, Global};
-use std::process::Abort;
 use std::test::Fail;
 
 /// Major and flags of a class, its name, its superclass (none where it is empty) and an interface,

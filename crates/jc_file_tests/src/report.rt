@@ -1,4 +1,4 @@
-//! The printed text of verdicts.
+//! The printed forms of verdicts.
 use jc_base::items::Items;
 use jc_base::name::Name;
 use jc_facts::act::Act;
@@ -6,6 +6,7 @@ use jc_facts::finding::Finding;
 use jc_facts::key::Key;
 use jc_facts::link_error::LinkError;
 use jc_facts::verdict::{Collision, Note, Verdict};
+use jc_report::json::json;
 use jc_report::text::text;
 use std::alloc::{AllocError, Global};
 use std::test::Fail;
@@ -34,6 +35,24 @@ const FINDINGS: &[FindingRow] = &[
         LinkError::NoClassDefFoundError,
     ),
     (
+        2,
+        b"p/B",
+        None,
+        None,
+        Act::Extend,
+        None,
+        LinkError::IncompatibleClassChangeError,
+    ),
+    (
+        3,
+        b"p/I",
+        None,
+        None,
+        Act::Assignment,
+        None,
+        LinkError::VerifyError,
+    ),
+    (
         4,
         b"p/A",
         None,
@@ -52,6 +71,24 @@ const FINDINGS: &[FindingRow] = &[
         LinkError::IllegalAccessError,
     ),
     (
+        5,
+        b"p/B",
+        Some((b"<init>", b"()V")),
+        None,
+        Act::InitSuper,
+        None,
+        LinkError::NoSuchMethodError,
+    ),
+    (
+        6,
+        b"p/A",
+        Some((b"m", b"()V")),
+        None,
+        Act::Override,
+        None,
+        LinkError::IncompatibleClassChangeError,
+    ),
+    (
         7,
         b"p/D",
         Some((b"f", b"I")),
@@ -63,10 +100,19 @@ const FINDINGS: &[FindingRow] = &[
     (
         8,
         b"p/A",
-        Some((b"m", b"()Ljava/lang/Object;")),
+        Some((b"m", b"([I)Ljava/lang/Object;")),
         None,
-        Act::InvokeVirtual,
+        Act::InvokeStaticInterface,
         Some(b"java/lang/Object"),
+        LinkError::InstantiationError,
+    ),
+    (
+        9,
+        b"p/I",
+        Some((b"n", b"()I")),
+        None,
+        Act::Inherit,
+        None,
         LinkError::NoSuchMethodError,
     ),
 ];
@@ -99,18 +145,27 @@ const COLLISIONS: &[CollisionRow] = &[
 ];
 
 const TEXT: &str = r"1 H1 p/\\\x20\xc3\xa9 - class - NoClassDefFoundError
-2 H4 p/A p/B assign - VerifyError
-3 H5 p/A <init>()V new - IllegalAccessError
-4 H7 p/D f:I getstatic p/C NoSuchFieldError
-5 H8 p/A m()Ljava/lang/Object; invokevirtual java/lang/Object NoSuchMethodError
-6 Constant p/I f:I getfield - IncompatibleClassChangeError
-7 Capture p/A run()V invokevirtual - IllegalAccessError
-8 Final p/A close()V override - IncompatibleClassChangeError
-note unloadable old p/A ClassCircularityError
-note unloadable new p/A NoClassDefFoundError
+2 H2 p/B - extend - IncompatibleClassChangeError
+3 H3 p/I - assign - VerifyError
+4 H4 p/A p/B assign - VerifyError
+5 H5 p/A <init>()V new - IllegalAccessError
+6 H5 p/B <init>()V init - NoSuchMethodError
+7 H6 p/A m()V override - IncompatibleClassChangeError
+8 H7 p/D f:I getstatic p/C NoSuchFieldError
+9 H8 p/A m([I)Ljava/lang/Object; invokestatic-interface java/lang/Object InstantiationError
+10 H9 p/I n()I inherit - NoSuchMethodError
+11 Constant p/I f:I getfield - IncompatibleClassChangeError
+12 Capture p/A run()V invokevirtual - IllegalAccessError
+13 Final p/A close()V override - IncompatibleClassChangeError
+note unloadable old p/X ClassCircularityError
+note unloadable new p/Y NoClassDefFoundError
 note constant p/A f:I
-incompatible: 5 findings, 3 collisions, 3 notes
+incompatible: 10 findings, 3 collisions, 3 notes
 ";
+
+const JSON: &str =
+    r#"{"collisions":[{"class":"p/I","error":"IncompatibleClassChangeError","member":"f:I","number":11,"operation":"getfield","rule":"Constant","seat":null},{"class":"p/A","error":"IllegalAccessError","member":"run()V","number":12,"operation":"invokevirtual","rule":"Capture","seat":null},{"class":"p/A","error":"IncompatibleClassChangeError","member":"close()V","number":13,"operation":"override","rule":"Final","seat":null}],"findings":[{"class":"p/\\\\\\x20\\xc3\\xa9","error":"NoClassDefFoundError","member":null,"number":1,"operation":"class","rule":"H1","seat":null},{"class":"p/B","error":"IncompatibleClassChangeError","member":null,"number":2,"operation":"extend","rule":"H2","seat":null},{"class":"p/I","error":"VerifyError","member":null,"number":3,"operation":"assign","rule":"H3","seat":null},{"class":"p/A","error":"VerifyError","member":"p/B","number":4,"operation":"assign","rule":"H4","seat":null},{"class":"p/A","error":"IllegalAccessError","member":"<init>()V","number":5,"operation":"new","rule":"H5","seat":null},{"class":"p/B","error":"NoSuchMethodError","member":"<init>()V","number":6,"operation":"init","rule":"H5","seat":null},{"class":"p/A","error":"IncompatibleClassChangeError","member":"m()V","number":7,"operation":"override","rule":"H6","seat":null},{"class":"p/D","error":"NoSuchFieldError","member":"f:I","number":8,"operation":"getstatic","rule":"H7","seat":"p/C"},{"class":"p/A","error":"InstantiationError","member":"m([I)Ljava/lang/Object;","number":9,"operation":"invokestatic-interface","rule":"H8","seat":"java/lang/Object"},{"class":"p/I","error":"NoSuchMethodError","member":"n()I","number":10,"operation":"inherit","rule":"H9","seat":null}],"notes":[{"class":"p/X","detail":"ClassCircularityError","kind":"unloadable","member":null,"side":"old"},{"class":"p/Y","detail":"NoClassDefFoundError","kind":"unloadable","member":null,"side":"new"},{"class":"p/A","detail":null,"kind":"constant","member":"f:I","side":null}],"verdict":"incompatible"}
+"#;
 
 fn name(alloc: Global, bytes: Option<&[u8]>) -> Result<Option<Name>, AllocError> {
     match bytes {
@@ -154,11 +209,11 @@ fn collision(alloc: Global, row: &CollisionRow) -> Result<Collision, AllocError>
 
 fn notes(alloc: Global) -> Result<Vec<Note>, AllocError> {
     let mut notes = Vec::new(alloc);
-    for (old, error) in [
-        (true, LinkError::ClassCircularityError),
-        (false, LinkError::NoClassDefFoundError),
+    for (old, class, error) in [
+        (true, b"p/X", LinkError::ClassCircularityError),
+        (false, b"p/Y", LinkError::NoClassDefFoundError),
     ] {
-        let class = Name::from_bytes(alloc, b"p/A")?;
+        let class = Name::from_bytes(alloc, class)?;
         notes.push(Note::Unloadable { old, class, error })?;
     }
     let class = Name::from_bytes(alloc, b"p/A")?;
@@ -167,9 +222,8 @@ fn notes(alloc: Global) -> Result<Vec<Note>, AllocError> {
     Ok(notes)
 }
 
-#[test]
-fn prints_each_kind_of_line(rt: HostRuntime) -> Result<(), Fail> {
-    let alloc = rt.alloc();
+// The verdict of all rows.
+fn verdict(alloc: Global) -> Result<Verdict, AllocError> {
     let mut findings = Vec::new(alloc);
     for row in FINDINGS {
         findings.push(finding(alloc, row)?)?;
@@ -178,12 +232,19 @@ fn prints_each_kind_of_line(rt: HostRuntime) -> Result<(), Fail> {
     for row in COLLISIONS {
         collisions.push(collision(alloc, row)?)?;
     }
-    let verdict = Verdict {
+    Ok(Verdict {
         findings: Items::from_vec(findings),
         collisions: Items::from_vec(collisions),
         notes: Items::from_vec(notes(alloc)?),
-    };
+    })
+}
+
+#[test]
+fn prints_each_rule_and_note(rt: HostRuntime) -> Result<(), Fail> {
+    let alloc = rt.alloc();
+    let verdict = verdict(alloc)?;
     assert!(rt; text(alloc, &verdict)?.as_slice() == TEXT.as_bytes());
+    assert!(rt; json(alloc, &verdict)?.as_slice() == JSON.as_bytes());
     Ok(())
 }
 

@@ -12,7 +12,7 @@ use std::alloc::{AllocError, AllocGlobal, Global};
 use std::process::Abort;
 use std::test::Fail;
 
-fn name(alloc: Global, text: &str) -> Result<Name, AllocError> {
+pub(crate) fn name(alloc: Global, text: &str) -> Result<Name, AllocError> {
     Name::from_bytes(alloc, text.as_bytes())
 }
 
@@ -73,7 +73,7 @@ fn implementor(alloc: Global, count: u32) -> Result<Blueprint, AllocError> {
 }
 
 // What comes of writing a blueprint that is formed.
-fn written(
+pub(crate) fn written(
     rt: &impl Abort,
     alloc: Global,
     plan: &Blueprint,

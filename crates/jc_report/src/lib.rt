@@ -9,6 +9,4 @@ pub mod link_text;
 pub mod made_text;
 pub mod printed;
 mod printed_words;
-#[cfg(test)]
-mod tests;
 pub mod text;

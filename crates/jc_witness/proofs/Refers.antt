@@ -27,7 +27,7 @@ use Rattle.jc_worlds.proofs.Inherited.{superinterface_choices-public}
 use Rattle.jc_lemmas.proofs.Listed.{EachOf, each_in, cases, none}
 use Rattle.jc_table.specs.Lookups.{IsAnswer, IsChoice}
 use Rattle.jc_table.specs.Sides.{IsSide}
-use Rattle.jc_table.specs.declared.ids.Found.{Found}
+use Rattle.jc_index.specs.declared.ids.Found.{Found}
 use Rattle.jc_table.proofs.Sides.{side_valid}
 use Rattle.jc_complete.proofs.PlanActs.{where_open-parts}
 use Rattle.jc_complete.proofs.PlanConstructorClosed.{steady_usable}

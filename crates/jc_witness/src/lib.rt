@@ -18,3 +18,4 @@ mod rows;
 pub mod short_names;
 mod texts;
 pub mod witness;
+pub mod witnessed;

@@ -10,6 +10,7 @@ ghost use Rattle.jc_witness.specs.steps.RowOf.{file_of_row, files_of_row, in_ord
 use crate::planner::Planner;
 use crate::row::Row;
 use crate::rows::{collision_row, finding_row};
+use crate::witnessed::Witnessed;
 use jc_base::items::Items;
 use jc_base::name::Name;
 use jc_facts::blueprint::Blueprint;
@@ -85,51 +86,23 @@ fn files_of(alloc: Global, row: Row) -> Result<Vec<WitnessFile>, AllocError>
     write_row(alloc, &sorted)
 }
 
-impl<'a> Planner<'a> {
-    /// The files of a witness for a finding of the comparison: class files of one to three clients, in
-    /// byte order of their names. They link with the old release, and fail with the new one by the
-    /// error of the finding, at the spot of exactly one of them. They meet no collision.
-    ///
-    /// It is asked that the finding stands in the verdict on the two sides, that each class name on
-    /// them has at most 4,090 bytes, and each name and descriptor of a member at most 65,535.
-    ///
-    /// # Errors
-    ///
-    /// `AllocError` where memory runs out.
-    pub fn show_finding(
-        &self,
-        alloc: Global,
-        finding: &Finding,
-    ) -> Result<Vec<WitnessFile>, AllocError>
-        requires cause { StandsInVerdict self.now.old self.now.new (cause.Finding finding.now) }
-        requires old_names { HasShortSide self.now.old }
-        requires new_names { HasShortSide self.now.new }
-        ensures { IfOk result (λ files. IsWitnessOf self.now.old self.now.new (cause.Finding finding.now) files.items) }
-    {
-        // The package says what always holds of the two sides.
-        let _package = self.package();
-        files_of(alloc, finding_row(alloc, self, finding)?)
-    }
+impl Witnessed for Finding {
+    ghost cause = { cause.Finding };
 
-    /// The files of a witness for a collision of the comparison, as `show_finding` gives those for a
-    /// finding. They meet the collision.
-    ///
-    /// # Errors
-    ///
-    /// `AllocError` where memory runs out.
-    pub fn show_collision(
-        &self,
-        alloc: Global,
-        collision: &Collision,
-    ) -> Result<Vec<WitnessFile>, AllocError>
-        requires cause { StandsInVerdict self.now.old self.now.new (cause.Collision collision.now) }
-        requires old_names { HasShortSide self.now.old }
-        requires new_names { HasShortSide self.now.new }
-        ensures { IfOk result (λ files. IsWitnessOf self.now.old self.now.new (cause.Collision collision.now) files.items) }
-    {
+    fn show(&self, alloc: Global, planner: &Planner<'_>) -> Result<Vec<WitnessFile>, AllocError> {
         // The package says what always holds of the two sides.
-        let _package = self.package();
-        files_of(alloc, collision_row(alloc, self, collision)?)
+        let _package = planner.package();
+        files_of(alloc, finding_row(alloc, planner, self)?)
+    }
+}
+
+impl Witnessed for Collision {
+    ghost cause = { cause.Collision };
+
+    fn show(&self, alloc: Global, planner: &Planner<'_>) -> Result<Vec<WitnessFile>, AllocError> {
+        // The package says what always holds of the two sides.
+        let _package = planner.package();
+        files_of(alloc, collision_row(alloc, planner, self)?)
     }
 }
 
@@ -153,7 +126,7 @@ pub fn witness(
 {
     let planner = Planner::new(alloc, old, new)?;
     match of {
-        Cause::Finding(finding) => planner.show_finding(alloc, finding),
-        Cause::Collision(collision) => planner.show_collision(alloc, collision),
+        Cause::Finding(finding) => finding.show(alloc, &planner),
+        Cause::Collision(collision) => collision.show(alloc, &planner),
     }
 }

@@ -1,13 +1,12 @@
 //! Changes between two small releases over a platform of `java/lang/Object` alone, and the class files that show each finding and
 //! collision, with their spots.
 ghost use Rattle.std.specs.Prelude.{◌≡◌, ◌<◌, length, IfOk};
-ghost use Rattle.jc_facts.specs.rule.Verdict.{IsVerdict};
+ghost use Rattle.std.specs.List.{All};
 ghost use Rattle.jc_witness.specs.Ground.{HasShortSide};
+ghost use Rattle.jc_witness.specs.Witnesses.{StandsInVerdict};
 
-use jc_base::items::Items;
-use jc_base::name::Name;
 use jc_facts::class_facts::ClassFacts;
-use jc_facts::verdict::{Cause, Spot, Verdict};
+use jc_facts::verdict::{Cause, Spot};
 use jc_rules::compare::compare;
 use jc_table::plain::{are_valid, names_differ};
 use jc_table::table::Table;
@@ -15,6 +14,7 @@ use jc_table_tests::rows::{INTERFACE, PLAIN, ROOT, Row, classes};
 use jc_witness::planner::Planner;
 use jc_witness::short_names::have_short_names;
 use jc_witness::witness::{WitnessFile, witness};
+use jc_witness::witnessed::Witnessed;
 use std::alloc::{AllocError, Global};
 use std::process::Abort;
 use std::test::Fail;
@@ -263,74 +263,36 @@ fn are_files(files: &[WitnessFile], wanted: &[File]) -> bool {
     true
 }
 
-// The class files that show the finding of this number.
-fn finding_files(
+// The class files that show the cause of this number.
+fn files_of<C: Witnessed>(
     alloc: Global,
     planner: &Planner<'_>,
-    verdict: &Verdict,
+    causes: &[C],
     number: usize,
 ) -> Result<Vec<WitnessFile>, AllocError>
-    requires verdict { IsVerdict planner.now.old planner.now.new verdict.now }
-    requires number { number < length verdict.now.findings }
+    requires stand { All (λ c. StandsInVerdict planner.now.old planner.now.new (C.cause c)) causes.now }
+    requires number { number < length causes.now }
     requires old_names { HasShortSide planner.now.old }
     requires new_names { HasShortSide planner.now.new }
 {
-    planner.show_finding(alloc, &verdict.findings.as_slice()[number])
+    causes[number].show(alloc, planner)
 }
 
-// The class files that show the collision of this number.
-fn collision_files(
-    alloc: Global,
-    planner: &Planner<'_>,
-    verdict: &Verdict,
-    number: usize,
-) -> Result<Vec<WitnessFile>, AllocError>
-    requires verdict { IsVerdict planner.now.old planner.now.new verdict.now }
-    requires number { number < length verdict.now.collisions }
-    requires old_names { HasShortSide planner.now.old }
-    requires new_names { HasShortSide planner.now.new }
-{
-    planner.show_collision(alloc, &verdict.collisions.as_slice()[number])
-}
-
-fn are_findings_shown(
+fn are_shown<C: Witnessed>(
     rt: &impl Abort,
     alloc: Global,
     planner: &Planner<'_>,
-    verdict: &Verdict,
+    causes: &[C],
     wanted: &[Shown],
 ) -> Result<(), Fail>
-    requires verdict { IsVerdict planner.now.old planner.now.new verdict.now }
+    requires stand { All (λ c. StandsInVerdict planner.now.old planner.now.new (C.cause c)) causes.now }
     requires old_names { HasShortSide planner.now.old }
     requires new_names { HasShortSide planner.now.new }
 {
-    let findings = verdict.findings.as_slice();
-    assert_eq!(rt; findings.len(), wanted.len());
-    for n in 0..findings.len() {
-        let (rule, files) = wanted[n];
-        let made = finding_files(alloc, planner, verdict, n)?;
-        assert!(rt; findings[n].rule == rule && are_files(made.as_slice(), files));
-    }
-    Ok(())
-}
-
-fn are_collisions_shown(
-    rt: &impl Abort,
-    alloc: Global,
-    planner: &Planner<'_>,
-    verdict: &Verdict,
-    wanted: &[Shown],
-) -> Result<(), Fail>
-    requires verdict { IsVerdict planner.now.old planner.now.new verdict.now }
-    requires old_names { HasShortSide planner.now.old }
-    requires new_names { HasShortSide planner.now.new }
-{
-    let collisions = verdict.collisions.as_slice();
-    assert_eq!(rt; collisions.len(), wanted.len());
-    for n in 0..collisions.len() {
-        let (rule, files) = wanted[n];
-        let made = collision_files(alloc, planner, verdict, n)?;
-        assert!(rt; collisions[n].rule == rule && are_files(made.as_slice(), files));
+    assert_eq!(rt; causes.len(), wanted.len());
+    for n in 0..causes.len() {
+        let made = files_of(alloc, planner, causes, n)?;
+        assert!(rt; are_files(made.as_slice(), wanted[n].1));
     }
     Ok(())
 }
@@ -345,8 +307,22 @@ fn is_change_shown(
     let new = table(rt, alloc, platform, change.new)?;
     let verdict = compare(alloc, &old, &new)?;
     let planner = Planner::new(alloc, &old, &new)?;
-    are_findings_shown(rt, alloc, &planner, &verdict, change.findings)?;
-    are_collisions_shown(rt, alloc, &planner, &verdict, change.collisions)
+    let findings = verdict.findings.as_slice();
+    let collisions = verdict.collisions.as_slice();
+    assert!(rt;
+        findings
+            .iter()
+            .map(|f| f.rule)
+            .eq(change.findings.iter().map(|s| s.0))
+    );
+    assert!(rt;
+        collisions
+            .iter()
+            .map(|c| c.rule)
+            .eq(change.collisions.iter().map(|s| s.0))
+    );
+    are_shown(rt, alloc, &planner, findings, change.findings)?;
+    are_shown(rt, alloc, &planner, collisions, change.collisions)
 }
 
 #[test]

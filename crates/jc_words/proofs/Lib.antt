@@ -1,3 +1,5 @@
 pub mod Taken
 pub mod Added
 pub mod Required
+pub mod Numbers
+pub mod Asked

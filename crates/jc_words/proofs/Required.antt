@@ -19,6 +19,7 @@ use Rattle.clap.specs.declared.builder.value_parser.Reading.{Reading}
 use Rattle.clap.specs.declared.error.kind.ErrorKind.TheVariants as kind
 use Rattle.clap.specs.declared.parser.matches.ValueSource.{ValueSource}
 use Rattle.clap.proofs.FaultLemmas.{leaf_fault}
+use Rattle.jc_lemmas.proofs.Bools.{neither_last}
 use Rattle.jc_words.specs.Arguments.{option_rule, required_rule, flag_rule, taken, unless_fault}
 use Rattle.jc_words.specs.Command.{check_arguments, link_arguments}
 
@@ -253,15 +254,11 @@ one_given true true rest e is = refl
 one_given true false rest e is = absurd (cc)
 one_given false given rest e is = absurd (cc)
 
-rest_given : (b rest : Bool) → (b || rest) ≡ false → rest ≡ false
-rest_given true rest e = absurd (cc)
-rest_given false rest e = e
-
 each_there : (c : List Rule) (rows : List Row) → HasValues rows → list_any (λ a. a.required && not (is_given a.id rows)) c ≡ false → EachThere c rows
 each_there [] rows some e = tt
 each_there (a ∷ rest) rows some e = (
   λ required. given_value a.id rows some (one_given a.required (is_given a.id rows) _ e required),
-  each_there rest rows some (rest_given (a.required && not (is_given a.id rows)) _ e),
+  each_there rest rows some (neither_last (a.required && not (is_given a.id rows)) _ e),
 )
 
 none_wanted : (help sub argument : Bool) → check_kinds help sub argument ≡ [] → argument ≡ false

@@ -19,6 +19,10 @@ required_rule id = record (option_rule id) { required = true }
 abbrev pub flag_rule : Text → Rule
 flag_rule id = record (new_rule id) { long = Some id; action = Some SetTrue }
 
+-- one word that is no option, which has to be there
+abbrev pub word_rule : Text → Rule
+word_rule id = record (new_rule id) { action = Some Set; required = true }
+
 -- a command with these arguments and no flag for help or a version. No word is its name
 abbrev pub command_with : Text → List Rule → App
 command_with name rules = record { top = record (new_shape name) { rules = rules; no_binary_name = true; disable_help_flag = true }; subs = [] }
@@ -33,7 +37,7 @@ taken app words = unless_fault (fault_of app words) (matches_of app words)
 
 -- ---- what the matches say of an argument. `first_of` of `clap` is the value of an option, where it was used
 
--- the value of an option that has to be there. By the law `required_options_have_values` it has one where the words are taken
+-- the value of an argument that has to be there. By the law `required_options_have_values` it has one where the words are taken
 abbrev pub value_of : Text → List Row → Text
 value_of id rows = unwrap_or (first_of id rows) []
 

@@ -1,11 +1,12 @@
 -- What the words ask for.
-use Rattle.std.specs.Prelude.{Bool, List, [], ◌∷◌, Option, Some, None, codes, ◌==◌, if◌then◌else◌, option_map}
+use Rattle.std.specs.Prelude.{Bool, ℕ, List, [], ◌∷◌, Option, Some, None, codes, ◌==◌, if◌then◌else◌, option_map}
 use Rattle.std.specs.Prelude.{Result, Ok, Err}
 use Rattle.std.specs.List.{slice_split}
 use Rattle.std.specs.Str.{bytes_eq}
 use Rattle.clap.specs.Walk.{Row, Text, first_of}
 use Rattle.clap.specs.Simple.{App}
-use Rattle.jc_words.specs.Arguments.{option_rule, required_rule, flag_rule, command_with, taken, value_of, is_on}
+use Rattle.jc_words.specs.Arguments.{option_rule, required_rule, flag_rule, word_rule, command_with, taken, value_of, is_on}
+use Rattle.jc_words.specs.Number.{number_of}
 use Rattle.jc_words.specs.declared.usage.Usage.{Usage}
 use Rattle.jc_words.specs.declared.usage.Usage.TheVariants as usages
 
@@ -25,10 +26,11 @@ pub record LinkOf : Type 0 where
   pub release : Text
   pub client : Text
 
--- what is asked for
+-- what is asked for: a check of two releases, the linking of clients, or the verdict on generated releases of so many classes
 pub data CommandOf : Type 0 where
   CheckCommand : CheckOf → CommandOf
   LinkCommand : LinkOf → CommandOf
+  MakeCommand : ℕ → CommandOf
 
 -- ---- check
 
@@ -75,6 +77,29 @@ link_in rows = record {
 abbrev pub link_by : List Text → Option LinkOf
 link_by words = option_map link_in (taken link_arguments words)
 
+-- ---- make
+
+abbrev pub make_arguments : App
+make_arguments = command_with (codes "make") (word_rule (codes "number") ∷ [])
+
+-- a word that says no number is a fault
+abbrev pub or_number : Text → Option ℕ → Result CommandOf Usage
+or_number word None = Err (usages.Number word)
+or_number word (Some n) = Ok (MakeCommand n)
+
+-- the word in the place of the number, where `clap` takes the words after `make`
+abbrev pub number_word : List Text → Option Text
+number_word words = option_map (value_of (codes "number")) (taken make_arguments words)
+
+-- what that word asks for, and words that aren't taken are a fault
+abbrev pub make_of : Option Text → Result CommandOf Usage
+make_of None = Err usages.Words
+make_of (Some word) = or_number word (number_of word)
+
+-- what the words after `make` ask for
+abbrev pub make_by : List Text → Result CommandOf Usage
+make_by words = make_of (number_word words)
+
 -- ---- all commands
 
 -- a command that doesn't take the words is a fault of them
@@ -87,6 +112,7 @@ abbrev pub command_by : Text → List Text → Result CommandOf Usage
 command_by name words =
     if bytes_eq name (codes "check") then or_words (option_map CheckCommand (check_by words))
     else if bytes_eq name (codes "link") then or_words (option_map LinkCommand (link_by words))
+    else if bytes_eq name (codes "make") then make_by words
     else Err (usages.UnknownCommand name)
 
 -- what the words ask for, or the first fault of them: the first word names a command, and `clap` reads those after it

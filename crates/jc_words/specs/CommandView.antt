@@ -2,9 +2,10 @@
 use Rattle.std.specs.Prelude.{option_map}
 use Rattle.jc_words.specs.declared.check.Check.{Check}
 use Rattle.jc_words.specs.declared.link.Link.{Link}
+use Rattle.jc_words.specs.declared.make.Make.{Make}
 use Rattle.jc_words.specs.declared.command.Command.{Command}
 use Rattle.jc_words.specs.declared.command.Command.TheVariants as commands
-use Rattle.jc_words.specs.Command.{CheckOf, LinkOf, CommandOf, CheckCommand, LinkCommand, gate_names}
+use Rattle.jc_words.specs.Command.{CheckOf, LinkOf, CommandOf, CheckCommand, LinkCommand, MakeCommand, gate_names}
 
 abbrev pub check_of : Check → CheckOf
 check_of c = record {
@@ -22,3 +23,4 @@ link_of l = record { platform = l.platform.now; release = l.release.now; client 
 abbrev pub command_of : Command → CommandOf
 command_of (commands.Check c) = CheckCommand (check_of c)
 command_of (commands.Link l) = LinkCommand (link_of l)
+command_of (commands.Make m) = MakeCommand m.classes

@@ -1,4 +1,6 @@
 pub mod Arguments
+pub mod Number
 pub mod Command
 pub mod CommandView
 pub mod Worked
+pub mod steps

@@ -3,7 +3,7 @@ ghost use Rattle.std.specs.Prelude.{◌≡◌, [], true, false, IfOk};
 ghost use Rattle.std.specs.Option.{option_map};
 ghost use Rattle.clap.specs.Words.{app_of, rule_of, rows_of, found_of, first_of};
 ghost use Rattle.clap.specs.Faults.{is_simple_and_free};
-ghost use Rattle.jc_words.specs.Arguments.{option_rule, required_rule, flag_rule, command_with, taken as taken_by, value_of as value_in, is_on as is_on_in};
+ghost use Rattle.jc_words.specs.Arguments.{option_rule, required_rule, flag_rule, word_rule, command_with, taken as taken_by, value_of as value_in, is_on as is_on_in};
 
 use clap::error::ErrorKind;
 use clap::{Arg, ArgAction, ArgMatches, Command};
@@ -32,6 +32,14 @@ pub fn flag<'a>(alloc: Global, id: &'a str) -> Arg<'a>
     ensures local { result.global ≡ false }
 {
     Arg::new(alloc, id).long(id).action(ArgAction::SetTrue)
+}
+
+/// One word that is no option, which has to be there.
+pub fn word<'a>(alloc: Global, id: &'a str) -> Arg<'a>
+    ensures rule { rule_of result ≡ word_rule id.entry.now }
+    ensures local { result.global ≡ false }
+{
+    Arg::new(alloc, id).action(ArgAction::Set).required(true)
 }
 
 /// A command with no argument yet. It has no flag for help or a version, and no word is its name.
@@ -67,7 +75,7 @@ pub fn value_or_none<'a>(matches: &ArgMatches<'a>, id: &str) -> Option<&'a str>
     matches.get_str(id)
 }
 
-/// The value of an option that has to be there.
+/// The value of an argument that has to be there.
 pub fn value_of<'a>(matches: &ArgMatches<'a>, id: &str) -> &'a str
     ensures { result.now ≡ value_in id.now (rows_of (found_of matches.now)) }
 {

@@ -6,6 +6,7 @@ ghost use Rattle.jc_words.specs.CommandView.{command_of};
 
 use crate::check::Check;
 use crate::link::Link;
+use crate::make::Make;
 use crate::usage::Usage;
 use jc_base::text::Text;
 use std::alloc::{AllocError, Global};
@@ -17,12 +18,15 @@ pub enum Command<'a> {
     Check(Check<'a>),
     /// Whether these clients link with the release.
     Link(Link<'a>),
+    /// What the verdict on generated releases is.
+    Make(Make),
 }
 
 impl<'a> Command<'a> {
     /// What the words ask for: the first names a command, and `clap` reads the others. The fault is
-    /// `NoCommand` where there is no word, `UnknownCommand` where the first is neither `check` nor
-    /// `link`, and `Words` where the command doesn't take the others.
+    /// `NoCommand` where there is no word, `UnknownCommand` where the first is none of `check`, `link`
+    /// and `make`, `Words` where the command doesn't take the others, and `Number` where `make` takes
+    /// the other, and it says no number from 1 to 4,096.
     pub fn from_words(
         alloc: Global,
         words: &'a [Text],
@@ -53,6 +57,12 @@ impl<'a> Command<'a> {
             return match Link::from_words(alloc, words)? {
                 Some(link) => Ok(Ok(Command::Link(link))),
                 None => Ok(Err(Usage::Words)),
+            };
+        }
+        if name.as_str() == "make" {
+            return match Make::from_words(alloc, words)? {
+                Ok(make) => Ok(Ok(Command::Make(make))),
+                Err(usage) => Ok(Err(usage)),
             };
         }
         let name = Text::from_str(alloc, name.as_str())?;

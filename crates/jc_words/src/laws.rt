@@ -1,8 +1,8 @@
 //! Laws of what is asked: what some words ask for, and that what has to be there is.
-ghost use Rattle.std.specs.Prelude.{◌≡◌, List, [], ◌∷◌, Ok, Err, Some, true, codes, IsSome};
+ghost use Rattle.std.specs.Prelude.{◌≡◌, ◌≤◌, ℕ, List, [], ◌∷◌, Ok, Err, Some, true, codes, IsSome};
 ghost use Rattle.clap.specs.Words.{Row, Text, first_of};
 ghost use Rattle.jc_words.specs.Arguments.{taken};
-ghost use Rattle.jc_words.specs.Command.{asked, CheckCommand, LinkCommand, check_arguments, link_arguments};
+ghost use Rattle.jc_words.specs.Command.{asked, CheckCommand, LinkCommand, MakeCommand, check_arguments, link_arguments};
 ghost use Rattle.jc_words.specs.declared.usage.Usage.TheVariants as usages;
 ghost use Rattle.jc_words.specs.Worked.{typed, plain_check, plain_link};
 
@@ -51,6 +51,31 @@ pub fn words_not_taken()
     ensures version { asked (typed (codes "check --platform P --old O --new N --version")) ≡ Err usages.Words }
     ensures part_of_an_option { asked (typed (codes "check --plat P --old O --new N")) ≡ Err usages.Words }
     ensures one_hyphen { asked (typed (codes "check -platform P --old O --new N")) ≡ Err usages.Words }
+{}
+
+/// `make` takes one word that is no option, the decimal digits of a number from 1 to 4,096, and names
+/// any other.
+pub fn numbers_of_classes()
+    ensures least { asked (typed (codes "make 1")) ≡ Ok (MakeCommand 1) }
+    ensures most { asked (typed (codes "make 4096")) ≡ Ok (MakeCommand 4096) }
+    ensures after_dashes { asked (typed (codes "make -- 8")) ≡ Ok (MakeCommand 8) }
+    ensures zero { asked (typed (codes "make 0")) ≡ Err (usages.Number (codes "0")) }
+    ensures too_many { asked (typed (codes "make 4097")) ≡ Err (usages.Number (codes "4097")) }
+    ensures leading_zero { asked (typed (codes "make 08")) ≡ Err (usages.Number (codes "08")) }
+    ensures sign { asked (typed (codes "make +8")) ≡ Err (usages.Number (codes "+8")) }
+    ensures sign_after_dashes { asked (typed (codes "make -- -8")) ≡ Err (usages.Number (codes "-8")) }
+    ensures letter { asked (typed (codes "make 1x")) ≡ Err (usages.Number (codes "1x")) }
+    ensures empty_word { asked (typed (codes "make ")) ≡ Err (usages.Number []) }
+    ensures twenty_digits { asked (typed (codes "make 18446744073709551617")) ≡ Err (usages.Number (codes "18446744073709551617")) }
+    ensures no_number { asked (typed (codes "make")) ≡ Err usages.Words }
+    ensures two_numbers { asked (typed (codes "make 8 8")) ≡ Err usages.Words }
+    ensures short_option { asked (typed (codes "make -8")) ≡ Err usages.Words }
+    ensures option_of_check { asked (typed (codes "make 8 --json")) ≡ Err usages.Words }
+{}
+
+/// A number of classes that is asked for is from 1 to 4,096.
+pub fn numbers_have_bounds()
+    ensures { (words : List Text) (n : ℕ) → asked words ≡ Ok (MakeCommand n) → (1 ≤ n) × (n ≤ 4096) }
 {}
 
 /// The first word is the command, whatever follows.

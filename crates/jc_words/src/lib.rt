@@ -6,6 +6,8 @@ pub mod check;
 pub mod command;
 pub mod laws;
 pub mod link;
+pub mod make;
+mod number;
 #[cfg(test)]
 mod tests;
 pub mod usage;

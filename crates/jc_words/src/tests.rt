@@ -1,6 +1,7 @@
 use crate::check::Check;
 use crate::command::Command;
 use crate::link::Link;
+use crate::make::Make;
 use crate::usage::Usage;
 use jc_base::text::Text;
 use std::alloc::{AllocError, Global};
@@ -43,6 +44,7 @@ const ROWS: &[Row] = &[
         "link --client C --release R --platform P",
         Command::Link(LINK),
     ),
+    ("make 64", Command::Make(Make { classes: 64 })),
 ];
 
 const UNKNOWN_COMMANDS: &[&str] = &["", "compare", "--help", "\u{e9}"];
@@ -56,6 +58,8 @@ const WORDS_NOT_TAKEN: &[&str] = &[
     "check --platform P --old O --new N --gate",
     "check --platform P --old O --new N ",
     "link --release R --client C",
+    "make",
+    "make 8 8",
 ];
 
 fn words(alloc: Global, line: &str) -> Result<Vec<Text>, AllocError> {

@@ -12,4 +12,6 @@ pub enum Usage {
     Words,
     /// They name this gate, which isn't there.
     UnknownGate(Text),
+    /// They have this word in place of a number of classes.
+    Number(Text),
 }

@@ -6,7 +6,7 @@ use Rattle.jc_facts.specs.client.Acts.{Form, FieldForm, MethodForm, InterfaceFor
 use Rattle.jc_facts.specs.world.World.{World}
 use Rattle.jc_facts.specs.world.Lookup.{field_found, method_choices, interface_choices}
 use Rattle.jc_table.specs.Lookups.{IsAnswer, IsChoice}
-use Rattle.jc_table.specs.declared.ids.Found.{Found}
+use Rattle.jc_index.specs.declared.ids.Found.{Found}
 
 -- the lookup by this form of reference to the class c finds it, or nothing
 abbrev pub IsFoundBy : World → Form → Bytes → Key → Option Found → Type 0
