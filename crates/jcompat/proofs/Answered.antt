@@ -15,14 +15,14 @@ use Rattle.jcompat.specs.declared.stop.Stop.TheVariants as stops
 use Rattle.jcompat.specs.Answers.{Ran, Answers, Due, has_passed, due_bytes, Puts, PutsWitnesses, IsStopped, CutsWitnesses, CutsReport, CutsRefusal, IsQuiet, IsUntouched, PutsAll, PutsFront, OfFiles, HasCause, HasFailed}
 use Rattle.jcompat.specs.Check.{IsCompatible, IsIncompatible, IsWitnessed, verdict_bytes, old_side, new_side, puts_below}
 use Rattle.jcompat.specs.ClassFiles.{Told}
-use Rattle.jcompat.specs.Command.{CommandOf, CheckOf, CheckCommand, LinkCommand, witness_dir, asked}
-use Rattle.jcompat.specs.Reports.{ReportOf}
+use Rattle.jcompat.specs.Command.{CommandOf, CheckOf, CheckCommand, LinkCommand, MakeCommand, witness_dir, asked}
+use Rattle.jcompat.specs.Reports.{RecordsOf, ReportOf, IsReportOn, puts_of}
 use Rattle.jcompat.specs.Stop.{line_of, file_status, status_of}
 use Rattle.jcompat.specs.Witness.{PutsFiles}
 use Rattle.jcompat.specs.steps.Report.{IsChecked, IsReportOf, Reports, dir_in, puts_in, passes_by, status_by}
 use Rattle.jcompat.specs.steps.Put.{IsPutWith, IsPutAfter, IsCutBefore}
 use Rattle.jcompat.proofs.Asked.{asked_without}
-use Rattle.jcompat.proofs.Events.{not_refused, reported_accepted, refused_status, accepted_status}
+use Rattle.jcompat.proofs.Events.{told_to, not_refused, reported_accepted, refused_status, accepted_status}
 use Rattle.jcompat.proofs.Results.{same_ok}
 
 -- a status isn't two numbers
@@ -59,6 +59,9 @@ same_check c d e = cc
 no_link : {P : Type 0} (l : _) (d : CheckOf) → LinkCommand l ≡ CheckCommand d → P
 no_link l d e = absurd (cc)
 
+no_make : {P : Type 0} (n : ℕ) (d : CheckOf) → MakeCommand n ≡ CheckCommand d → P
+no_make n d e = absurd (cc)
+
 upheld : (trees : TreesState) (report : Report) (check : CheckOf) (command : CommandOf) → command ≡ CheckCommand check → IsReportOf command trees report → Upheld trees.content check report
 upheld trees report check (CheckCommand c) e is = record {
   of = is.of;
@@ -66,6 +69,7 @@ upheld trees report check (CheckCommand c) e is = record {
   text = subst (λ (d : CheckOf). report.text.items ≡ verdict_bytes d.json is.of) (same_check c check e) is.tells.text;
 }
 upheld trees report check (LinkCommand l) e is = no_link l check e
+upheld trees report check (MakeCommand n) e is = no_make n check e
 
 module _ (r : Ran) (report : Report) (is : Reports r.gates r.words r.trees.before report)
     (put : IsPutAfter (puts_in report.shown) r.folder report.text.items (status_by (passes_by r.gates report.condition)) r.out r.status ⊎ IsCutBefore (dir_in report.shown) (puts_in report.shown) r.folder r.out r.status)
@@ -75,6 +79,9 @@ module _ (r : Ran) (report : Report) (is : Reports r.gates r.words r.trees.befor
 
   abbrev passed_by : Bool
   passed_by = passes_by r.gates report.condition
+
+  abbrev reported : List FileOf → Type 0
+  reported files = (records : RecordsOf files is.command) × IsReportOn files is.command records is.is.of × (puts_in report.shown ≡ puts_of files is.command records is.is.of)
 
   -- what was put with status 0, and with status 1
   record IsWhole : Type 0 where
@@ -189,7 +196,7 @@ module _ (r : Ran) (report : Report) (is : Reports r.gates r.words r.trees.befor
     write_fault = λ five. inl (due, is_cut 5 refl refl five the_case);
     no_memory = λ six. inl (due, is_cut 6 refl refl six the_case);
     refused = λ files told stop h.
-        let of = is.is.is_report files told in
+        let of = told_to is.command r.trees.before.content files told reported is.is.is_report in
         absurd (not_refused r.gates r.words files stop (reported_accepted r.gates r.words files is.command is.asked_for of.0 is.is.of of.1) h);
     accepted = λ files told a. accepted the_case;
     content = same;

@@ -21,53 +21,64 @@ use Rattle.jc_table.specs.declared.table.TableError.TheVariants as errors
 use Rattle.jc_table.specs.Tables.{HasCause as HasTableCause}
 use Rattle.jc_table.specs.Root.{fault_of_root}
 use Rattle.jc_table.specs.Sides.{overlap_of}
+use Rattle.jc_table.proofs.Roots.{has_root}
 use Rattle.jcompat.specs.declared.comparison.Comparison.{Comparison}
 use Rattle.jcompat.specs.declared.report.Report.{Report}
 use Rattle.jcompat.specs.declared.stop.Stop.{Stop}
 use Rattle.jcompat.specs.declared.stop.Stop.TheVariants as stops
 use Rattle.jcompat.specs.declared.tree.TreeName.TheVariants as names
-use Rattle.jcompat.specs.Answers.{HasCause, StopsCommand}
+use Rattle.jcompat.specs.Answers.{HasCause, IsFirstUnread, StopsCommand}
 use Rattle.jcompat.specs.Check.{CheckRecords, mismatch_of, puts_below}
 use Rattle.jcompat.specs.ClassFiles.{Told}
 use Rattle.jcompat.specs.Command.{CommandOf, CheckOf, LinkOf, CheckCommand, LinkCommand, trees_of, asked_of}
 use Rattle.jcompat.specs.Link.{LinkRecords, refusal_of, AreOutcomesOf}
-use Rattle.jcompat.specs.Reports.{RecordsOf, Refuses}
+use Rattle.jcompat.specs.Reports.{ToldTo, RecordsOf, Refuses}
 use Rattle.jcompat.specs.Tree.{TreeOf}
-use Rattle.jcompat.specs.steps.Check.{IsComparison, StopsComparing, StopsCounting, unfit_by}
+use Rattle.jcompat.specs.steps.Check.{IsComparison, StopsComparing, StopsCounting, StopsMatching, unfit_by}
 use Rattle.jcompat.specs.steps.Link.{StopsLinking, stop_by_refusal}
 use Rattle.jcompat.specs.steps.ReadTree.{IsClassList, IsRecordList}
 use Rattle.jcompat.specs.steps.ReadTrees.{AreClassesOf, StopsAmong}
 use Rattle.jcompat.specs.steps.Report.{TellsOf, HasToShow, CanShowAny, dir_in, puts_in, IsReportOf, Reports}
 use Rattle.jcompat.proofs.Compared.{some_broken, each_shown, show_dir, show_puts, can_show_any}
 use Rattle.jcompat.proofs.Events.{for_ok}
-use Rattle.jcompat.proofs.Records.{check_records, link_records, IsOfRecords, unfit_says, refusal_says}
+use Rattle.jcompat.proofs.Records.{check_records, link_records, first_none, unmapped, IsOfRecords, unfit_says, refusal_says}
+use Rattle.jcompat.proofs.SomeVerdict.{some_verdict}
 
 -- ---- why comparing stopped
 
 -- the first table isn't built
-pub unfit_old : (platform old new : List ClassFacts) (error : TableError) → HasTableCause platform old error → StopsComparing platform old new (unfit_by names.Old error)
+pub unfit_old : (platform old new : List ClassFacts) (error : TableError) → HasTableCause platform old error → StopsMatching platform old new (unfit_by names.Old error)
 unfolding or_else
-unfit_old platform old new (errors.BadRoot part) h = inl (inl (rw h refl))
-unfit_old platform old new (errors.Overlap name) h = inl (inl (rw (h.0, h.1) refl))
+unfit_old platform old new (errors.BadRoot part) h = inl (rw h refl)
+unfit_old platform old new (errors.Overlap name) h = inl (rw (h.0, h.1) refl)
 unfit_old platform old new errors.Memory h = inr refl
 
 -- the second isn't, where the first is
 pub unfit_new : (platform old new : List ClassFacts) (error : TableError) → fault_of_root platform ≡ None → overlap_of platform old ≡ None → HasTableCause platform new error
-    → StopsComparing platform old new (unfit_by names.New error)
+    → StopsMatching platform old new (unfit_by names.New error)
 unfolding or_else
 unfit_new platform old new (errors.BadRoot part) root apart h = absurd (let clash : None ≡ Some part = sym root ∙ h in cc)
-unfit_new platform old new (errors.Overlap name) root apart h = inl (inl (rw (root, apart, h.1) refl))
+unfit_new platform old new (errors.Overlap name) root apart h = inl (rw (root, apart, h.1) refl)
 unfit_new platform old new errors.Memory root apart h = inr refl
+
+-- either isn't
+pub unmatched : (platform old new : List ClassFacts) (stop : Stop) → StopsMatching platform old new stop → StopsComparing platform old new stop
+unmatched platform old new stop (inl h) = inl (inl h)
+unmatched platform old new stop (inr h) = inr h
 
 -- both are
 pub releases_fit : (platform old new : List ClassFacts) → fault_of_root platform ≡ None → overlap_of platform old ≡ None → overlap_of platform new ≡ None → mismatch_of platform old new ≡ None
 unfolding or_else
 releases_fit platform old new root apart besides = rw (root, apart, besides) refl
 
--- there is a verdict, with too many findings
-pub unfit_counting : (platform old new : List ClassFacts) (stop : Stop) → mismatch_of platform old new ≡ None → StopsCounting (side platform old) (side platform new) stop → StopsComparing platform old new stop
-unfit_counting platform old new stop fits (inl (is, (v, exact, many))) = inl (inr (is, record { fits = fits; verdict = v; exact = exact; many = many }))
-unfit_counting platform old new stop fits (inr h) = inr h
+-- their verdict has too many findings
+pub unfit_counting : (platform old new : List ClassFacts) (stop : Stop) → IsRecordList platform → IsRecordList old → IsRecordList new → mismatch_of platform old new ≡ None → StopsCounting (side platform old) (side platform new) stop
+    → StopsComparing platform old new stop
+unfit_counting platform old new stop ps os ns fits (inl (is, many)) =
+    let root : fault_of_root platform ≡ None = unmapped stops.BadRoot (fault_of_root platform) (first_none _ _ fits) in
+    let v = some_verdict platform old new (has_root platform (sym root)) ps.valid os.valid ns.valid in
+    inl (inr (is, record { fits = fits; verdict = v.0; exact = v.1; many = many v.0 v.1 }))
+unfit_counting platform old new stop ps os ns fits (inr h) = inr h
 
 -- ---- why linking stopped
 
@@ -93,11 +104,12 @@ three_lists all a b c is h = recursion_from_All IsClassList (a ∷ b ∷ c ∷ [
 
 module _ (command : CommandOf) (c : Change TreesState) where
   -- reading the trees stopped
-  pub cause_reading : (wanted : List TreeOf) → wanted ≡ trees_of command → (stop : Stop) → StopsAmong c wanted stop → StopsCommand command c stop
-  cause_reading wanted wanted_is stop h = by_stop stop (subst (λ (ts : List TreeOf). StopsAmong c ts stop) wanted_is h)
+  pub cause_reading : ((P : List FileOf → Type 0) → Told c.before.content P → ToldTo command c.before.content P)
+      → (wanted : List TreeOf) → wanted ≡ trees_of command → (stop : Stop) → StopsAmong c wanted stop → StopsCommand command c stop
+  cause_reading told wanted wanted_is stop h = by_stop stop (subst (λ (ts : List TreeOf). StopsAmong c ts stop) wanted_is h)
     where
       by_stop : (stop : Stop) → StopsAmong c (trees_of command) stop → StopsCommand command c stop
-      by_stop (stops.Unread name fault) h = h
+      by_stop (stops.Unread name fault) h = told (λ files. IsFirstUnread files (trees_of command) name fault) h
       by_stop (stops.ReadFault name) h = h
       by_stop stops.Memory h = tt
       by_stop (stops.Usage usage) h = absurd h
@@ -107,7 +119,7 @@ module _ (command : CommandOf) (c : Change TreesState) where
       by_stop stops.TooManyFindings h = absurd h
 
   -- the records of the trees are refused
-  cause_refused : (stop : Stop) → IsOfRecords stop → Told c.before.content (λ files. (r : RecordsOf files command) × Refuses files command r stop) → StopsCommand command c stop
+  cause_refused : (stop : Stop) → IsOfRecords stop → ToldTo command c.before.content (λ files. (r : RecordsOf files command) × Refuses files command r stop) → StopsCommand command c stop
   cause_refused (stops.BadRoot p) says h = h
   cause_refused (stops.Overlap t x) says h = h
   cause_refused (stops.ClientName x p) says h = h

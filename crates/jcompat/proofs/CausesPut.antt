@@ -14,6 +14,13 @@ use Rattle.jcompat.proofs.FilesPut.{IsPut, next_left, put_nothing, put_more, put
 abbrev from_to : FolderState → FolderState → Change FolderState
 from_to a b = record { before = a; after = b }
 
+-- of causes that are made of a list, all are to come
+pub no_cause : {A : Type 0} (make : A → Cause) (dir : Bytes) (O N : World) (first : ℕ) (xs : List A) (a : FolderState)
+    → IsPut (files_from dir O N (first + 0) (map make xs)) (files_from dir O N first (map make xs)) a a
+no_cause make dir O N first xs a =
+    let same_number : first + 0 ≡ first = omega arith in
+    subst (λ n. IsPut (files_from dir O N n (map make xs)) (files_from dir O N first (map make xs)) a a) (sym same_number) (put_nothing (files_from dir O N first (map make xs)) a)
+
 -- of causes that are made of a list, the next element's files come next
 pub next_cause : {A : Type 0} (make : A → Cause) (dir : Bytes) (O N : World) (first : ℕ) (xs : List A) (i : ℕ) (x : A) (all : List PutFile) (a b : FolderState) → i < length xs → x ≡ get_or xs i x
     → IsPut (files_from dir O N (first + i) (map make (drop i xs))) all a b

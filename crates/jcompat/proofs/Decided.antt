@@ -23,7 +23,7 @@ use Rattle.jc_facts.specs.Exactly.{NamesRise}
 use Rattle.jc_facts.specs.Names.{Bytes, same}
 use Rattle.jc_facts.specs.Exactly.{name_order, Rises}
 use Rattle.jc_facts.specs.file.Valid.{IsValidClass}
-use Rattle.jc_facts.specs.rule.Verdict.{IsVerdict}
+use Rattle.jc_facts.specs.rule.Verdict.{IsVerdict, count_of}
 use Rattle.jc_facts.specs.world.World.{side}
 use Rattle.jc_facts.proofs.ClassFiles.{either}
 use Rattle.jc_lemmas.proofs.Listed.{EachOf, filter_in}
@@ -34,9 +34,9 @@ use Rattle.jc_table.specs.Root.{fault_of_root}
 use Rattle.jc_gate.specs.Gates.{GateOf}
 use Rattle.jc_words.specs.declared.usage.Usage.{Usage}
 use Rattle.jcompat.specs.Answers.{IsRefused, IsAccepted, IsFirstUnread}
-use Rattle.jcompat.specs.Check.{CheckRecords, mismatch_of, count_of}
+use Rattle.jcompat.specs.Check.{CheckRecords, mismatch_of}
 use Rattle.jcompat.specs.ClassFiles.{is_class_path, IsClassPathOf, AreClassPaths, path_of, IsReadAs, IsReadIn, IsFileFault, IsTreeFault, IsClassIn, AreClasses, AreRecords, without_code}
-use Rattle.jcompat.specs.Command.{CommandOf, CheckOf, CheckCommand, LinkCommand, trees_of, asked_of}
+use Rattle.jcompat.specs.Command.{CommandOf, CheckOf, CheckCommand, LinkCommand, MakeCommand, trees_of, asked_of}
 use Rattle.jcompat.specs.Link.{refusal_of}
 use Rattle.jcompat.specs.Reports.{RecordsOf, ReportOf, Refuses, Accepts, IsReportOn}
 use Rattle.jcompat.specs.Tree.{TreeOf}
@@ -51,9 +51,12 @@ use Rattle.jcompat.specs.declared.tree.TreeName.{TreeName}
 use Rattle.jcompat.specs.declared.tree.TreeName.TheVariants as names
 use Rattle.jcompat.specs.steps.ReadTree.{AreReadAt, IsFirstOf}
 use Rattle.jcompat.specs.steps.ReadTrees.{AreClassesOf}
+use Rattle.jcompat.specs.steps.Report.{IsSized}
+use Rattle.jcompat.proofs.Asked.{is_sized}
 use Rattle.jcompat.proofs.Events.{for_ok}
 use Rattle.jcompat.proofs.Gathered.{Gathered, gathered}
 use Rattle.jcompat.proofs.Records.{check_records, link_records, first_none, unmapped, IsOfRecords, refuses_says}
+use Rattle.jcompat.proofs.Releases.{made_verdict}
 use Rattle.jcompat.proofs.SomeVerdict.{some_verdict}
 use Rattle.jcompat.proofs.Subjects.{name_tied}
 use Rattle.jcompat.proofs.TreeRead.{short_paths, long_path, classes_are, first_fault}
@@ -181,18 +184,19 @@ some_trees files (t ∷ ts) = go (some_tree files t) (some_trees files ts)
     go (inl (cs, r)) (inl (all, rs)) = inl (cs ∷ all, (r, rs))
     go (inl (cs, r)) (inr (name, fault, f)) = inr (name, fault, inr (r.clean, f))
 
--- three trees are asked for
-records_from : (files : List FileOf) (command : CommandOf) (all : List (List ClientClass)) → AreClassesOf files (trees_of command) all → RecordsOf files command
-records_from files (CheckCommand check) (p ∷ o ∷ n ∷ []) h = check_records files check p o n h
-records_from files (CheckCommand check) [] h = absurd h
-records_from files (CheckCommand check) (p ∷ []) h = absurd h.1
-records_from files (CheckCommand check) (p ∷ o ∷ []) h = absurd h.1.1
-records_from files (CheckCommand check) (p ∷ o ∷ n ∷ m ∷ more) h = absurd h.1.1.1
-records_from files (LinkCommand link) (p ∷ r ∷ cs ∷ []) h = link_records files link p r cs h
-records_from files (LinkCommand link) [] h = absurd h
-records_from files (LinkCommand link) (p ∷ []) h = absurd h.1
-records_from files (LinkCommand link) (p ∷ r ∷ []) h = absurd h.1.1
-records_from files (LinkCommand link) (p ∷ r ∷ cs ∷ m ∷ more) h = absurd h.1.1.1
+-- three trees are asked for, or none
+records_from : (files : List FileOf) (command : CommandOf) → IsSized command → (all : List (List ClientClass)) → AreClassesOf files (trees_of command) all → RecordsOf files command
+records_from files (CheckCommand check) sized (p ∷ o ∷ n ∷ []) h = check_records files check p o n h
+records_from files (CheckCommand check) sized [] h = absurd h
+records_from files (CheckCommand check) sized (p ∷ []) h = absurd h.1
+records_from files (CheckCommand check) sized (p ∷ o ∷ []) h = absurd h.1.1
+records_from files (CheckCommand check) sized (p ∷ o ∷ n ∷ m ∷ more) h = absurd h.1.1.1
+records_from files (LinkCommand link) sized (p ∷ r ∷ cs ∷ []) h = link_records files link p r cs h
+records_from files (LinkCommand link) sized [] h = absurd h
+records_from files (LinkCommand link) sized (p ∷ []) h = absurd h.1
+records_from files (LinkCommand link) sized (p ∷ r ∷ []) h = absurd h.1.1
+records_from files (LinkCommand link) sized (p ∷ r ∷ cs ∷ m ∷ more) h = absurd h.1.1.1
+records_from files (MakeCommand n) sized all h = sized
 
 -- ---- the records
 
@@ -229,6 +233,7 @@ decided files (CheckCommand check) r = by_records (mismatch_of r.platform r.old 
     by_records : (o : Option Stop) → mismatch_of r.platform r.old r.new ≡ o → Decided files (CheckCommand check) r
     by_records None e = let v = verdict_on files check r e in by_count e v.0 v.1 (nat_lt MAX_FINDINGS (count_of v.0)) refl
     by_records (Some stop) e = inr (stop, inl e)
+decided files (MakeCommand n) r = inl tt
 decided files (LinkCommand link) r = by_records (refusal_of r.platform r.release r.clients) refl
   where
     by_records : (o : Option Stop) → refusal_of r.platform r.release r.clients ≡ o → Decided files (LinkCommand link) r
@@ -239,6 +244,7 @@ decided files (LinkCommand link) r = by_records (refusal_of r.platform r.release
 pub accepted_report : (files : List FileOf) (command : CommandOf) (r : RecordsOf files command) → Accepts files command r → (report : ReportOf command) × IsReportOn files command r report
 accepted_report files (CheckCommand check) r a = let v = verdict_on files check r a.fits in (v.0, record { fits = a.fits; exact = v.1; few = a.few v.0 v.1 })
 accepted_report files (LinkCommand link) r a = (outcomes (side r.platform r.release) r.clients, record { fits = a; exact = refl })
+accepted_report files (MakeCommand n) r a = made_verdict n r
 
 -- ---- words and files
 
@@ -265,7 +271,7 @@ module _ (gates : List GateOf) (words : List Bytes) (files : List FileOf) where
     by_records r (inr (stop, h)) = inr (stop, refused_for stop (refuses_says files command r stop h) (r, h))
 
     by_trees : TreesAreRead files (trees_of command) → RefusedOrAccepted
-    by_trees (inl (all, h)) = let r = records_from files command all h in by_records r (decided files command r)
+    by_trees (inl (all, h)) = let r = records_from files command (is_sized gates words command is) all h in by_records r (decided files command r)
     by_trees (inr (name, fault, f)) = inr (stops.Unread name fault, for_ok (asked_of gates words) command (λ c. IsFirstUnread files (trees_of c) name fault) is f)
 
   pub refused_or_accepted_of : IsAccepted gates words files ⊎ ((stop : Stop) × IsRefused gates words files stop)

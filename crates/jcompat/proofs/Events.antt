@@ -26,8 +26,8 @@ use Rattle.jc_gate.specs.Gates.{GateOf}
 use Rattle.jc_words.specs.declared.usage.Usage.{Usage}
 use Rattle.jcompat.specs.Answers.{IsFirstUnread, IsRefusedTo, IsRefused, IsAccepted, StopsCommand, HasCause, HasFailed}
 use Rattle.jcompat.specs.ClassFiles.{IsClassPathOf, path_of, items_in, IsReadAs, IsReadIn, IsFileFault, HasFewFiles, HasManyFiles, HasShortPaths, HasLongPath, IsFirstFault, IsTreeFault, IsClean}
-use Rattle.jcompat.specs.Command.{CommandOf, CheckCommand, LinkCommand, trees_of, asked_of}
-use Rattle.jcompat.specs.Reports.{RecordsOf, ReportOf, Refuses, Accepts, IsReportOn}
+use Rattle.jcompat.specs.Command.{CommandOf, CheckCommand, LinkCommand, MakeCommand, trees_of, asked_of}
+use Rattle.jcompat.specs.Reports.{ToldTo, RecordsOf, ReportOf, Refuses, Accepts, IsReportOn}
 use Rattle.jcompat.specs.Stop.{status_of}
 use Rattle.jcompat.specs.Tree.{TreeOf}
 use Rattle.jcompat.specs.declared.file_fault.FileFault.{FileFault}
@@ -172,6 +172,7 @@ all_clean files (tree ∷ trees) name fault c (inr (clean, h)) = all_clean files
 clean_records : (files : List FileOf) (command : CommandOf) → RecordsOf files command → AreClean files (trees_of command)
 clean_records files (CheckCommand check) r = (r.platform_is.clean, (r.old_is.clean, (r.new_is.clean, tt)))
 clean_records files (LinkCommand link) r = (r.platform_is.clean, (r.release_is.clean, (r.clients_are.clean, tt)))
+clean_records files (MakeCommand n) r = tt
 
 -- ---- a command
 
@@ -264,6 +265,12 @@ pub reported_accepted : (gates : List GateOf) (words : List Bytes) (files : List
 reported_accepted gates words files command e records report h =
     for_ok (asked_of gates words) command (λ c. (r : RecordsOf files c) × Accepts files c r) e (records, report_accepted files command records report h)
 
+-- what holds of the files of a command holds of those that are told
+pub told_to : (command : CommandOf) (content : Option (List FileOf)) (files : List FileOf) → content ≡ Some files → (P : List FileOf → Type 0) → ToldTo command content P → P files
+told_to (CheckCommand check) content files told P h = h files told
+told_to (LinkCommand link) content files told P h = h files told
+told_to (MakeCommand n) content files told P h = h files
+
 -- a cause that the words and the files alone decide, or a failed call, or want of memory
 data Kind (gates : List GateOf) (words : List Bytes) (files : List FileOf) (stop : Stop) : Type 0 where
   decided : IsRefused gates words files stop → Kind gates words files stop
@@ -276,11 +283,11 @@ ok_told (Ok x) P Q f p = f x p
 
 kind_of : (gates : List GateOf) (words : List Bytes) (c : Change TreesState) (files : List FileOf) → c.before.content ≡ Some files → (stop : Stop) → HasCause gates words c stop → Kind gates words files stop
 kind_of gates words c files told (stops.Usage usage) h = decided h
-kind_of gates words c files told (stops.Unread t p) h = decided (ok_told (asked_of gates words) _ _ (λ command k. k files told) h)
-kind_of gates words c files told (stops.BadRoot p) h = decided (ok_told (asked_of gates words) _ _ (λ command k. k files told) h)
-kind_of gates words c files told (stops.Overlap t x) h = decided (ok_told (asked_of gates words) _ _ (λ command k. k files told) h)
-kind_of gates words c files told (stops.ClientName x p) h = decided (ok_told (asked_of gates words) _ _ (λ command k. k files told) h)
-kind_of gates words c files told stops.TooManyFindings h = decided (ok_told (asked_of gates words) _ _ (λ command k. k files told) h)
+kind_of gates words c files told (stops.Unread t p) h = decided (ok_told (asked_of gates words) _ _ (λ command k. told_to command c.before.content files told (λ f. IsRefusedTo command f (stops.Unread t p)) k) h)
+kind_of gates words c files told (stops.BadRoot p) h = decided (ok_told (asked_of gates words) _ _ (λ command k. told_to command c.before.content files told (λ f. IsRefusedTo command f (stops.BadRoot p)) k) h)
+kind_of gates words c files told (stops.Overlap t x) h = decided (ok_told (asked_of gates words) _ _ (λ command k. told_to command c.before.content files told (λ f. IsRefusedTo command f (stops.Overlap t x)) k) h)
+kind_of gates words c files told (stops.ClientName x p) h = decided (ok_told (asked_of gates words) _ _ (λ command k. told_to command c.before.content files told (λ f. IsRefusedTo command f (stops.ClientName x p)) k) h)
+kind_of gates words c files told stops.TooManyFindings h = decided (ok_told (asked_of gates words) _ _ (λ command k. told_to command c.before.content files told (λ f. IsRefusedTo command f stops.TooManyFindings) k) h)
 kind_of gates words c files told (stops.ReadFault t) h = failed refl
 kind_of gates words c files told stops.Memory h = no_memory refl
 

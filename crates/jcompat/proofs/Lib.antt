@@ -22,4 +22,6 @@ pub mod Gathered
 pub mod Declarations
 pub mod Subjects
 pub mod SomeVerdict
+pub mod Releases
 pub mod Decided
+pub mod Passed

@@ -1,13 +1,10 @@
 -- No two of the witness files of a verdict have one path.
 use Rattle.std.proofs.Common.{◌≡◌, ◌≢◌, ◌≤◌, ◌<◌, ◌+◌, ◌^◌, ℕ, Bool, true, false, cond, List, [], ◌∷◌, ◌++◌, map, length, Some, None, refl, sym, ap, subst, ◌∙◌, All, arith, IsTrue}
-use Rattle.std.specs.Prelude.{is_none}
 use Rattle.std.specs.Str.{is_utf8}
-use Rattle.std.proofs.lemmas.Bool.{and_parts}
 use Rattle.std.proofs.lemmas.List.{length-append, length-map}
 use Rattle.std.proofs.lemmas.List.Elements.{All-from_recursion, recursion_from_All}
 use Rattle.jc_lemmas.proofs.Bools.{both_last}
 use Rattle.jc_lemmas.proofs.Listed.{EachOf, EachOf-append, EachOf-map}
-use Rattle.jc_lemmas.proofs.Options.{none_where}
 use Rattle.jc_base.specs.States.{FolderState, Change}
 use Rattle.jc_facts.specs.declared.client.ClientClass.{ClientClass}
 use Rattle.jc_facts.specs.declared.verdict.Cause.{Cause}
@@ -18,10 +15,10 @@ use Rattle.jc_facts.specs.Names.{Bytes, same}
 use Rattle.jc_facts.specs.plan.Planned.{planned}
 use Rattle.jc_facts.specs.world.World.{World, class_named}
 use Rattle.jc_facts.proofs.Apart.{ApartRec}
-use Rattle.jc_facts.proofs.Same.{same_itself}
+use Rattle.jc_facts.proofs.Clients.{clients_apart, name_of}
 use Rattle.jc_witness.specs.declared.witness.WitnessFile.{WitnessFile}
 use Rattle.jc_witness.specs.Witnesses.{IsReadAs, AreReadAs, IsWitnessOf, witness_files}
-use Rattle.jcompat.specs.Check.{count_of}
+use Rattle.jc_facts.specs.rule.Verdict.{count_of}
 use Rattle.jcompat.specs.Witness.{PutFile, PutsFiles, PutsFirst, PutsSome, causes_of, files_from, files_of_cause, put_file, witness_path, witness_puts}
 use Rattle.jcompat.specs.steps.PutFiles.{IsPutWhole, IsPutInPart}
 use Rattle.jcompat.proofs.FilesPut.{all_put, first_put}
@@ -29,27 +26,8 @@ use Rattle.jcompat.proofs.WitnessPaths.{one_name, one_number}
 
 -- ---- the names of a witness
 
-abbrev name_of : ClientClass → Bytes
-name_of c = c.facts.name
-
 abbrev class_of : WitnessFile → Bytes
 class_of f = f.«class»
-
-absent : (cs : List ClientClass) (x : Bytes) → class_named (facts_of cs) x ≡ None → EachOf (λ c. x ≢ name_of c) cs
-unfolding class_named
-absent [] x e = tt
-absent (c ∷ cs) x e = go (same (name_of c) x) refl e (absent cs x)
-  where
-    go : (b : Bool) → same (name_of c) x ≡ b → cond b (Some c.facts) (class_named (facts_of cs) x) ≡ None → (class_named (facts_of cs) x ≡ None → EachOf (λ d. x ≢ name_of d) cs) → EachOf (λ d. x ≢ name_of d) (c ∷ cs)
-    go true p q r = absurd (let clash : Some c.facts ≡ None = q in cc)
-    go false p q r = (λ is. let k : same (name_of c) x ≡ true = ap (λ (z : Bytes). same (name_of c) z) is ∙ same_itself (name_of c) in absurd (cc), r q)
-
-clients_apart : (cs : List ClientClass) → differ_by_name (facts_of cs) ≡ true → ApartRec name_of cs
-unfolding differ_by_name
-clients_apart [] h = tt
-clients_apart (c ∷ cs) h =
-    let k = and_parts (is_none (class_named (facts_of cs) (name_of c))) (differ_by_name (facts_of cs)) h in
-    (absent cs (name_of c) (none_where (class_named (facts_of cs) (name_of c)) k.0), clients_apart cs k.1)
 
 -- what holds of the names of clients holds of the files that are read as they
 of_names : (P : Bytes → Type 0) (fs : List WitnessFile) (cs : List ClientClass) → AreReadAs fs cs → EachOf (λ c. P (name_of c)) cs → EachOf (λ f. P (class_of f)) fs

@@ -13,7 +13,7 @@ use Rattle.jc_facts.specs.Options.{or_else}
 use Rattle.jc_facts.specs.client.Clients.{IsValidClient, facts_of}
 use Rattle.jc_facts.specs.client.Linked.{outcomes}
 use Rattle.jc_facts.specs.file.Valid.{IsValidClass}
-use Rattle.jc_facts.specs.rule.Verdict.{IsVerdict}
+use Rattle.jc_facts.specs.rule.Verdict.{IsVerdict, count_of}
 use Rattle.jc_facts.specs.world.World.{side}
 use Rattle.jc_facts.proofs.Clients.{facts_length, facts_valid}
 use Rattle.jc_facts.proofs.OneList.{one_exact}
@@ -22,10 +22,11 @@ use Rattle.jc_sound.proofs.VerdictLaw.{verdict_is_one}
 use Rattle.jc_link.specs.Refusals.{refused_client}
 use Rattle.jc_table.specs.Root.{fault_of_root}
 use Rattle.jc_table.specs.Sides.{overlap_of}
-use Rattle.jcompat.specs.Check.{CheckRecords, IsUnfit, mismatch_of, count_of}
+use Rattle.jcompat.specs.Check.{CheckRecords, IsUnfit, mismatch_of}
 use Rattle.jcompat.specs.ClassFiles.{path_of, items_in, IsClassIn, AreClasses, AreRecords, without_code}
-use Rattle.jcompat.specs.Command.{CommandOf, CheckOf, LinkOf, CheckCommand, LinkCommand, trees_of}
+use Rattle.jcompat.specs.Command.{CommandOf, CheckOf, LinkOf, CheckCommand, LinkCommand, MakeCommand, trees_of}
 use Rattle.jcompat.specs.Link.{LinkRecords, refusal_of, client_name}
+use Rattle.jcompat.specs.Make.{old_made, new_made}
 use Rattle.jcompat.specs.Reports.{RecordsOf, ReportOf, Refuses, Accepts, IsReportOn}
 use Rattle.jcompat.specs.Tree.{TreeOf, tree_at}
 use Rattle.jcompat.specs.declared.limits.TheConstants.{MAX_FINDINGS}
@@ -161,6 +162,7 @@ refusal_says platform release clients stop h =
 pub refuses_says : (files : List FileOf) (command : CommandOf) (r : RecordsOf files command) (stop : Stop) → Refuses files command r stop → IsOfRecords stop
 refuses_says files (CheckCommand check) r stop h = unfit_says r.platform r.old r.new stop h
 refuses_says files (LinkCommand link) r stop h = refusal_says r.platform r.release r.clients stop h
+refuses_says files (MakeCommand n) r stop h = absurd h
 
 -- more and no more than a number
 pub apart_numbers : (n limit : ℕ) → n ≤ limit → limit < n → ⊥
@@ -177,6 +179,7 @@ pub one_refused : (files : List FileOf) (command : CommandOf) (r s : RecordsOf f
 one_refused files (CheckCommand check) r s a b h k = one_unfit r.platform r.old r.new a b h (same_check files check (λ p o n. IsUnfit p o n b) r s k)
 one_refused files (LinkCommand link) r s a b h k =
     same_some (refusal_of r.platform r.release r.clients) a b h (same_link files link (λ p q cs. refusal_of p q cs ≡ Some b) r s k)
+one_refused files (MakeCommand n) r s a b h k = absurd h
 
 -- and not where they are accepted
 pub accepted_or_refused : (files : List FileOf) (command : CommandOf) (r s : RecordsOf files command) (stop : Stop) → Accepts files command r → Refuses files command s stop → ⊥
@@ -187,6 +190,7 @@ accepted_or_refused files (CheckCommand check) r s stop a h = go (same_check fil
     go (inr k) = apart_numbers (count_of k.1.verdict) MAX_FINDINGS (a.few k.1.verdict k.1.exact) k.1.many
 accepted_or_refused files (LinkCommand link) r s stop a h =
     none_some (refusal_of r.platform r.release r.clients) stop a (same_link files link (λ p q cs. refusal_of p q cs ≡ Some stop) r s h)
+accepted_or_refused files (MakeCommand n) r s stop a h = h
 
 -- ---- reports
 
@@ -197,9 +201,11 @@ report_accepted files (CheckCommand check) r v h = record {
   few = λ w k. subst (λ (x : Verdict). count_of x ≤ MAX_FINDINGS) (verdict_is_one (side r.platform r.old) (side r.platform r.new) v w h.exact k) h.few;
 }
 report_accepted files (LinkCommand link) r list h = h.fits
+report_accepted files (MakeCommand n) r v h = tt
 
 -- and has one
 pub one_report_of : (files : List FileOf) (command : CommandOf) (r s : RecordsOf files command) (a b : ReportOf command) → IsReportOn files command r a → IsReportOn files command s b → a ≡ b
 one_report_of files (CheckCommand check) r s a b h k =
     verdict_is_one (side r.platform r.old) (side r.platform r.new) a b h.exact (same_check files check (λ p o n. IsVerdict (side p o) (side p n) b) r s k.exact)
 one_report_of files (LinkCommand link) r s a b h k = h.exact ∙ sym (same_link files link (λ p q cs. b ≡ outcomes (side p q) cs) r s k.exact)
+one_report_of files (MakeCommand n) r s a b h k = verdict_is_one (old_made n) (new_made n) a b h k

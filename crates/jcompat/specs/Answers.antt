@@ -9,7 +9,7 @@ use Rattle.jc_gate.specs.Gates.{GateOf}
 use Rattle.jcompat.specs.Check.{IsCompatible, IsIncompatible, IsWitnessed, verdict_bytes}
 use Rattle.jcompat.specs.ClassFiles.{Told, IsClean, IsTreeFault}
 use Rattle.jcompat.specs.Command.{CommandOf, CheckOf, CheckCommand, trees_of, witness_dir, asked, asked_of}
-use Rattle.jcompat.specs.Reports.{RecordsOf, ReportOf, IsReportOn, Refuses, Accepts, passes, bytes_of, puts_of}
+use Rattle.jcompat.specs.Reports.{ToldTo, RecordsOf, ReportOf, IsReportOn, Refuses, Accepts, passes, bytes_of, puts_of}
 use Rattle.jcompat.specs.Stop.{line_of, status_of}
 use Rattle.jcompat.specs.Tree.{TreeOf}
 use Rattle.jcompat.specs.Witness.{PutFile, PutsFiles, PutsSome}
@@ -21,7 +21,7 @@ use Rattle.jcompat.specs.declared.stop.Stop.TheVariants as stops
 
 -- ---- events, in their order: the words, and the gates that they name; the command's trees in order, each by the number of its class files, their paths, and then file by
 -- file; the records of the trees, by what the command says of them: a check of the platform's root, the names of the old release, those of
--- the new, and the number of findings and collisions; the linking of clients of the root, the names of the release, and those of the clients
+-- the new, and the number of findings and collisions; the linking of clients of the root, the names of the release, and those of the clients. Generated releases come of the words alone
 
 -- of the trees in their order this one has the second property, and each before it has the first
 abbrev pub IsFirst : (TreeOf → Type 0) → (TreeOf → Type 0) → List TreeOf → TreeName → Type 0
@@ -55,7 +55,7 @@ abbrev pub StopsCommand : CommandOf → Change TreesState → Stop → Type 0
 StopsCommand command c (stops.ReadFault name) = HasReadFault c (trees_of command) name
 StopsCommand command c stops.Memory = Unit {0}
 StopsCommand command c (stops.Usage usage) = ⊥
-StopsCommand command c stop = Told c.before.content (λ files. IsRefusedTo command files stop)
+StopsCommand command c stop = ToldTo command c.before.content (λ files. IsRefusedTo command files stop)
 
 -- why there is no report: the words ask for no command, or it has none, or there was no memory
 abbrev pub HasCause : List GateOf → List Bytes → Change TreesState → Stop → Type 0
@@ -112,7 +112,7 @@ pub record Due (r : Ran) : Type 0 where
   pub asked_for : asked_of r.gates r.words ≡ Ok command
   pub report : ReportOf command
   pub witnesses : List PutFile
-  pub is_report : OfFiles r (λ files. (records : RecordsOf files command) × IsReportOn files command records report × (witnesses ≡ puts_of files command records report))
+  pub is_report : ToldTo command r.trees.before.content (λ files. (records : RecordsOf files command) × IsReportOn files command records report × (witnesses ≡ puts_of files command records report))
 
 -- whether what was asked is so, by the report that was due
 abbrev pub has_passed : {r : Ran} → Due r → Bool

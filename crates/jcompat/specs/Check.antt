@@ -15,7 +15,7 @@ use Rattle.jc_facts.specs.client.Clients.{IsInScope, Keeps, facts_of}
 use Rattle.jc_facts.specs.client.Kept.{BreaksClass}
 use Rattle.jc_facts.specs.client.Meets.{Meets}
 use Rattle.jc_facts.specs.print.Text.{text_of}
-use Rattle.jc_facts.specs.rule.Verdict.{IsVerdict}
+use Rattle.jc_facts.specs.rule.Verdict.{IsVerdict, count_of}
 use Rattle.jc_report.specs.Json.{json_of}
 use Rattle.jc_table.specs.Root.{fault_of_root}
 use Rattle.jc_table.specs.Sides.{overlap_of}
@@ -55,10 +55,6 @@ mismatch_of platform old new =
     or_else (option_map stops.BadRoot (fault_of_root platform))
     (or_else (option_map (stops.Overlap names.Old) (overlap_of platform old))
     (option_map (stops.Overlap names.New) (overlap_of platform new)))
-
--- how many findings and collisions there are
-abbrev pub count_of : Verdict → ℕ
-count_of v = length v.findings + length v.collisions
 
 -- the releases go with the platform, and their verdict has too many findings and collisions
 pub record HasTooMany (platform old new : List ClassFacts) : Type 0 where

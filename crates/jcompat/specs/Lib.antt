@@ -5,6 +5,7 @@ pub mod Witness
 pub mod ClassFiles
 pub mod Check
 pub mod Link
+pub mod Make
 pub mod Reports
 pub mod Answers
 pub mod steps

@@ -7,8 +7,8 @@ use Rattle.jc_facts.specs.declared.code_fault.CodeReason.{CodeReason}
 use Rattle.jc_facts.specs.declared.code_fault.CodeReason.TheVariants as code_reasons
 use Rattle.jc_facts.specs.Names.{Bytes}
 use Rattle.jc_facts.specs.print.Text.{printed}
-use Rattle.jc_table.specs.declared.root.RootPart.{RootPart}
-use Rattle.jc_table.specs.declared.root.RootPart.TheVariants as parts
+use Rattle.jc_index.specs.declared.root.RootPart.{RootPart}
+use Rattle.jc_index.specs.declared.root.RootPart.TheVariants as parts
 use Rattle.jc_link.specs.declared.refusal.ClientPart.{ClientPart}
 use Rattle.jc_link.specs.declared.refusal.ClientPart.TheVariants as client_parts
 use Rattle.jc_words.specs.declared.usage.Usage.{Usage}
@@ -79,6 +79,7 @@ usage_words usages.NoCommand = codes "no command"
 usage_words (usages.UnknownCommand word) = codes "unknown command " ++ printed word
 usage_words usages.Words = codes "words"
 usage_words (usages.UnknownGate name) = codes "unknown gate " ++ printed name
+usage_words (usages.Number word) = codes "number " ++ printed word
 
 abbrev pub line_of : Stop → Bytes
 line_of (stops.Usage usage) = codes "jcompat: usage: " ++ usage_words usage ++ codes "\n"

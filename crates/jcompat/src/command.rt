@@ -56,6 +56,6 @@ pub fn gates_named<'a>(alloc: Global, command: &Command<'a>) -> Result<Vec<&'a s
 {
     match command {
         Command::Check(check) => check.gate_names(alloc),
-        Command::Link(_) => Ok(Vec::new(alloc)),
+        Command::Link(_) | Command::Make(_) => Ok(Vec::new(alloc)),
     }
 }

@@ -5,11 +5,11 @@ ghost use Rattle.jc_facts.specs.declared.client.ClientClass.{ClientClass};
 ghost use Rattle.jc_facts.specs.world.World.{side};
 ghost use Rattle.jc_facts.specs.client.Clients.{IsInScope, Keeps};
 ghost use Rattle.jc_facts.specs.client.Kept.{BreaksClass};
-ghost use Rattle.jc_facts.specs.rule.Verdict.{IsVerdict};
+ghost use Rattle.jc_facts.specs.rule.Verdict.{IsVerdict, count_of};
 ghost use Rattle.jc_bodies.specs.Files.{CanWrite};
 ghost use Rattle.jc_witness.specs.Ground.{HasShortSide};
-ghost use Rattle.jcompat.specs.Check.{count_of, mismatch_of, MeetsNone};
-ghost use Rattle.jcompat.specs.steps.Check.{IsComparison, StopsComparing, StopsCounting, unfit_by};
+ghost use Rattle.jcompat.specs.Check.{mismatch_of, MeetsNone};
+ghost use Rattle.jcompat.specs.steps.Check.{IsComparison, StopsComparing, StopsCounting, StopsMatching, unfit_by};
 ghost use Rattle.jcompat.specs.steps.ReadTree.{IsRecordList};
 
 use crate::limits::MAX_FINDINGS;
@@ -17,7 +17,7 @@ use crate::stop::Stop;
 use crate::tree::TreeName;
 use jc_facts::class_facts::ClassFacts;
 use jc_facts::verdict::Verdict;
-use jc_rules::compare::compare;
+use jc_rules::compare::compare_within;
 use jc_table::table::{Table, TableError};
 use std::alloc::Global;
 
@@ -31,9 +31,9 @@ pub struct Comparison {
 
 /// The platform with the old release, and with the new one.
 #[derive(Drop)]
-struct Sides {
-    old: Table,
-    new: Table,
+pub struct Sides {
+    pub old: Table,
+    pub new: Table,
 }
 
 // Why a release has no table.
@@ -66,8 +66,8 @@ impl Sides {
     }
 }
 
-// The tables of the two sides, or why there are none.
-fn both_sides(
+/// The tables of the two sides, or why there are none.
+pub fn both_sides(
     alloc: Global,
     platform: &[ClassFacts],
     old: Vec<ClassFacts>,
@@ -80,7 +80,7 @@ fn both_sides(
     ensures new { IfOk result (λ s. s.new ≡ side platform.now new.items) }
     ensures fits { IfOk result (λ s. mismatch_of platform.now old.items new.items ≡ None) }
     ensures can { IfOk result (λ s. CanWrite platform.now old.items new.items) }
-    ensures stopped { IfErr result (StopsComparing platform.now old.items new.items) }
+    ensures stopped { IfErr result (StopsMatching platform.now old.items new.items) }
 {
     let old = match Table::build(alloc, platform, old) {
         Ok(table) => table,
@@ -101,14 +101,11 @@ fn counted(alloc: Global, old: &Table, new: &Table) -> Result<Verdict, Stop>
     ensures broken { IfOk result (λ v. All (λ f. f.rule ≡ 1 → BreaksClass old.now new.now f.class f.error) v.findings) }
     ensures stopped { IfErr result (StopsCounting old.now new.now) }
 {
-    let Ok(verdict) = compare(alloc, old, new) else {
-        return Err(Stop::Memory);
-    };
-    let findings = verdict.findings.as_slice().len();
-    if findings + verdict.collisions.as_slice().len() > MAX_FINDINGS {
-        return Err(Stop::TooManyFindings);
+    match compare_within(alloc, old, new, MAX_FINDINGS) {
+        Ok(Some(verdict)) => Ok(verdict),
+        Ok(None) => Err(Stop::TooManyFindings),
+        Err(_) => Err(Stop::Memory),
     }
-    Ok(verdict)
 }
 
 impl Comparison {

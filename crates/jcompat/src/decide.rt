@@ -6,11 +6,12 @@ ghost use Rattle.jc_gate.specs.Gates.{gate_of};
 ghost use Rattle.jc_words.specs.CommandView.{command_of};
 ghost use Rattle.jcompat.specs.Answers.{HasCause, StopsCommand};
 ghost use Rattle.jcompat.specs.Command.{asked_of, with_gates};
-ghost use Rattle.jcompat.specs.steps.Report.{IsReportOf, Reports};
+ghost use Rattle.jcompat.specs.steps.Report.{IsReportOf, IsSized, Reports};
 
 use crate::check::check;
 use crate::command::gates_named;
 use crate::link::link_clients;
+use crate::make::make_releases;
 use crate::report::Report;
 use crate::stop::Stop;
 use jc_base::text::Text;
@@ -56,6 +57,7 @@ fn carry_out<'a, T: Trees>(
     command: &Command<'a>,
     trees: &mut T,
 ) -> Result<Report<'a>, Stop>
+    requires { IsSized (command_of command.now) }
     ensures report { IfOk result (IsReportOf (command_of command.now) (T.state trees.old)) }
     ensures stopped { IfErr result (StopsCommand (command_of command.now) (change T.state trees.old trees.new)) }
     ensures content { (T.state trees.new).content ≡ (T.state trees.old).content }
@@ -66,6 +68,10 @@ fn carry_out<'a, T: Trees>(
             Err(stop) => Err(stop),
         },
         Command::Link(asked) => match link_clients(alloc, asked, trees) {
+            Ok(report) => Ok(report),
+            Err(stop) => Err(stop),
+        },
+        Command::Make(asked) => match make_releases(alloc, asked) {
             Ok(report) => Ok(report),
             Err(stop) => Err(stop),
         },

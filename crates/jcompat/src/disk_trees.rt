@@ -1,11 +1,12 @@
 //! Real folders as trees.
-ghost use Rattle.std.specs.Prelude.{◌≡◌, ◌≤◌, ◌<◌, ◌+◌, ◌^◌, ℕ, List, length, Option, None, IfOk, IsErrOf, IsTrue};
+ghost use Rattle.std.specs.Prelude.{◌≡◌, ◌≤◌, ◌<◌, ◌+◌, ◌^◌, ℕ, List, [], length, Option, None, IfOk, OnOk, OnErr, IsErrOf, IsTrue};
 ghost use Rattle.jc_base.specs.Causes.{Rose};
 ghost use Rattle.jc_base.specs.RootFaults.{count_at};
 ghost use Rattle.jc_base.specs.Outside.{are_distinct};
 ghost use Rattle.jc_base.specs.States.{TreesState};
 ghost use Rattle.jcompat.specs.steps.Ascending.{ascends};
 
+use jc_base::file_buf::{FileBuf, MAX_READ};
 use jc_base::root_faults::RootFaults;
 use jc_base::text::Text;
 use jc_base::trees::{TreeError, Trees};
@@ -18,9 +19,6 @@ use std::rt::Files;
 
 /// A root with more entries below it isn't listed.
 const MAX_ENTRIES: u32 = 1_000_000;
-
-/// How many bytes are asked for at once.
-const BUFFER_LEN: usize = 65536;
 
 /// Real folders. A root is the path of a folder, and its files are what stands below it and is no
 /// folder. What they are isn't told.
@@ -176,26 +174,47 @@ fn open_regular<R: Files>(files: &R, path: &str) -> io::Result<R::File> {
     Ok(file)
 }
 
-// The first bytes of a regular file, at most as many as given. A read that gives nothing is the file's end.
-fn front_of<R: Files + AllocGlobal + Clone + Drop>(
+// Fills the buffer with the first bytes of a source, at most as many as given. A read that gives
+// nothing is the source's end. After a failed read the buffer is empty.
+pub(crate) fn fill<R: Read>(source: &mut R, most: usize, buffer: &mut FileBuf) -> io::Result<()>
+    requires { most ≤ MAX_READ }
+    ensures short { OnOk result (length buffer.new ≤ most) }
+    ensures empty { OnErr result (buffer.new ≡ []) }
+{
+    buffer.clear();
+    let mut left = most;
+    while left > 0 {
+        match buffer.append_from(source, left) {
+            Ok(0) => return Ok(()),
+            Ok(count) => left -= count,
+            Err(error) => {
+                buffer.clear();
+                return Err(error);
+            }
+        }
+    }
+    Ok(())
+}
+
+// Fills the buffer with the first bytes of a regular file, at most as many as given.
+fn read_front<R: Files + AllocGlobal + Clone + Drop>(
     rt: &R,
+    root: &str,
     path: &str,
     most: usize,
-) -> io::Result<Vec<u8>>
-    ensures { IfOk result (λ bytes. length bytes.items ≤ most) }
+    buffer: &mut FileBuf,
+) -> io::Result<()>
+    requires { most ≤ MAX_READ }
+    ensures short { OnOk result (length buffer.new ≤ most) }
+    ensures empty { OnErr result (buffer.new ≡ []) }
 {
-    let mut file = open_regular(rt, path)?;
-    let mut buffer = vec![in rt.alloc(); 0u8; BUFFER_LEN]?;
-    let mut bytes = Vec::new(rt.alloc());
-    while bytes.len() < most {
-        let want = (most - bytes.len()).min(buffer.len());
-        let count = file.read(&mut buffer[..want])?;
-        if count == 0 {
-            break;
-        }
-        bytes.extend_from_slice(&buffer[..count])?;
+    buffer.clear();
+    let place = joined(rt.alloc(), root, path)?;
+    let mut file = open_regular(rt, place.as_str())?;
+    match fill(&mut file, most, buffer) {
+        Ok(()) => Ok(()),
+        Err(error) => Err(error),
     }
-    Ok(bytes)
 }
 
 impl<R: Files + AllocGlobal + Clone + Drop> DiskTrees<R> {
@@ -232,18 +251,16 @@ impl<R: Files + AllocGlobal + Clone + Drop> Trees for DiskTrees<R> {
         }
     }
 
-    fn read(
+    fn read_into(
         &mut self,
         alloc: Global,
         root: &str,
         path: &str,
         limit: u32,
-    ) -> Result<Vec<u8>, TreeError> {
-        let Ok(place) = joined(alloc, root, path) else {
-            return Err(TreeError::Memory);
-        };
-        match front_of(&self.rt, place.as_str(), limit as usize + 1) {
-            Ok(bytes) => Ok(bytes),
+        into: &mut FileBuf,
+    ) -> Result<(), TreeError> {
+        match read_front(&self.rt, root, path, limit as usize + 1, into) {
+            Ok(()) => Ok(()),
             Err(error) => Err(self.fault(alloc, root, error)),
         }
     }

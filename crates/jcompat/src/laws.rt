@@ -1,6 +1,6 @@
 //! Laws of the definitions that the top call's contract cites, each the contract of a function that
 //! does nothing, and the top call over trees, sinks and a folder that don't fail.
-ghost use Rattle.std.specs.Prelude.{◌≡◌, ◌≢◌, ◌⊎◌, ℕ, List, map};
+ghost use Rattle.std.specs.Prelude.{◌≡◌, ◌≢◌, ◌⊎◌, ℕ, List, map, Ok};
 ghost use Rattle.std.specs.List.{All};
 ghost use Rattle.jc_base.specs.Outside.{FileOf};
 ghost use Rattle.jc_base.specs.States.{change};
@@ -8,13 +8,15 @@ ghost use Rattle.jc_facts.specs.declared.class_facts.ClassFacts.{ClassFacts};
 ghost use Rattle.jc_facts.specs.declared.verdict.Verdict.{Verdict};
 ghost use Rattle.jc_facts.specs.client.Clients.{HasRoot};
 ghost use Rattle.jc_facts.specs.file.Valid.{IsValidClass};
+ghost use Rattle.jc_facts.specs.print.MadeText.{made_text_of};
 ghost use Rattle.jc_facts.specs.rule.Verdict.{IsVerdict};
 ghost use Rattle.jc_facts.specs.world.World.{side};
 ghost use Rattle.jc_gate.specs.Gates.{GateOf, gate_of};
-ghost use Rattle.jcompat.specs.Answers.{Answers, ran, IsRefused, IsAccepted};
-ghost use Rattle.jcompat.specs.Command.{CommandOf};
+ghost use Rattle.jcompat.specs.Answers.{Answers, Ran, ran, Puts, IsRefused, IsAccepted};
+ghost use Rattle.jcompat.specs.Command.{CommandOf, MakeCommand, asked};
+ghost use Rattle.jcompat.specs.Make.{IsVerdictOnMade};
 ghost use Rattle.jcompat.specs.Reports.{RecordsOf, ReportOf, Accepts, IsReportOn};
-ghost use Rattle.jcompat.specs.declared.status.TheConstants.{READ_FAULT, WRITE_FAULT};
+ghost use Rattle.jcompat.specs.declared.status.TheConstants.{PASSED, READ_FAULT, WRITE_FAULT, NO_MEMORY};
 ghost use Rattle.jcompat.specs.declared.stop.Stop.{Stop};
 
 use crate::run::run;
@@ -50,6 +52,13 @@ pub fn one_report()
     ensures some { (files : List FileOf) (command : CommandOf) (records : RecordsOf files command) → Accepts files command records → (report : ReportOf command) × IsReportOn files command records report }
     ensures accepted { (files : List FileOf) (command : CommandOf) (records : RecordsOf files command) (report : ReportOf command) → IsReportOn files command records report → Accepts files command records }
     ensures one { (files : List FileOf) (command : CommandOf) (r s : RecordsOf files command) (a b : ReportOf command) → IsReportOn files command r a → IsReportOn files command s b → a ≡ b }
+{}
+
+/// A run for generated releases puts the text of the verdict on them and passes, unless a put fails or
+/// there is no memory.
+pub fn generated_releases()
+    ensures { (r : Ran) (n : ℕ) → Answers r → asked r.words ≡ Ok (MakeCommand n)
+        → ((r.status ≡ PASSED) × ((v : Verdict) × IsVerdictOnMade n v × Puts r (made_text_of n v))) ⊎ (r.status ≡ WRITE_FAULT) ⊎ (r.status ≡ NO_MEMORY) }
 {}
 
 /// The top call over trees, sinks and a folder that don't fail. Only want of memory stands in the way

@@ -12,6 +12,7 @@ mod file_fault;
 mod laws;
 mod limits;
 mod link;
+mod make;
 mod put;
 mod put_witnesses;
 mod read_tree;

@@ -4,7 +4,6 @@ ghost use Rattle.std.specs.List.{All};
 ghost use Rattle.std.specs.Str.{is_utf8};
 ghost use Rattle.jc_base.specs.Causes.{Rose};
 ghost use Rattle.jc_base.specs.States.{change};
-ghost use Rattle.jc_facts.specs.declared.verdict.Cause.TheVariants as cause;
 ghost use Rattle.jc_witness.specs.Ground.{HasShortSide};
 ghost use Rattle.jc_witness.specs.Witnesses.{StandsInVerdict};
 ghost use Rattle.jcompat.specs.Witness.{PutsFiles, PutsSome, put_file, files_of_cause, files_from, witness_puts};
@@ -14,10 +13,9 @@ ghost use Rattle.jcompat.specs.steps.Shown.{CanShow};
 use crate::shown::Shown;
 use crate::witness_path::witness_path;
 use jc_base::folder::{Folder, FolderError};
-use jc_facts::finding::Finding;
-use jc_facts::verdict::Collision;
 use jc_witness::planner::Planner;
 use jc_witness::witness::WitnessFile;
+use jc_witness::witnessed::Witnessed;
 use std::alloc::Global;
 
 // Puts a class file of the witness of this number.
@@ -66,24 +64,24 @@ fn put_files<F: Folder>(
     Ok(())
 }
 
-// Puts the witness of a finding of this number.
-fn put_finding<F: Folder>(
+// Puts the witness of this number.
+fn put_cause<F: Folder, C: Witnessed>(
     alloc: Global,
     dir: &str,
     number: usize,
     planner: &Planner<'_>,
-    finding: &Finding,
+    cause: &C,
     folder: &mut F,
 ) -> Result<(), FolderError>
-    requires stands { StandsInVerdict planner.now.old planner.now.new (cause.Finding finding.now) }
+    requires stands { StandsInVerdict planner.now.old planner.now.new (C.cause cause.now) }
     requires old_names { HasShortSide planner.now.old }
     requires new_names { HasShortSide planner.now.new }
-    ensures whole { OnOk result (IsPutWhole (files_of_cause dir.now planner.now.old planner.now.new number (cause.Finding finding.now)) (change F.state folder.old folder.new)) }
-    ensures part { OnErr result (IsPutInPart (files_of_cause dir.now planner.now.old planner.now.new number (cause.Finding finding.now)) (change F.state folder.old folder.new)) }
+    ensures whole { OnOk result (IsPutWhole (files_of_cause dir.now planner.now.old planner.now.new number (C.cause cause.now)) (change F.state folder.old folder.new)) }
+    ensures part { OnErr result (IsPutInPart (files_of_cause dir.now planner.now.old planner.now.new number (C.cause cause.now)) (change F.state folder.old folder.new)) }
     ensures never_falls { (F.state folder.old).faults ≤ (F.state folder.new).faults }
     ensures cause { IsErrOf result FolderError.Fault → Rose (F.state folder.old).faults (F.state folder.new).faults }
 {
-    let Ok(files) = planner.show_finding(alloc, finding) else {
+    let Ok(files) = cause.show(alloc, planner) else {
         return Err(FolderError::Memory);
     };
     match put_files(alloc, dir, number, files.as_slice(), folder) {
@@ -92,79 +90,26 @@ fn put_finding<F: Folder>(
     }
 }
 
-// Puts the witness of a collision of this number.
-fn put_collision<F: Folder>(
-    alloc: Global,
-    dir: &str,
-    number: usize,
-    planner: &Planner<'_>,
-    collision: &Collision,
-    folder: &mut F,
-) -> Result<(), FolderError>
-    requires stands { StandsInVerdict planner.now.old planner.now.new (cause.Collision collision.now) }
-    requires old_names { HasShortSide planner.now.old }
-    requires new_names { HasShortSide planner.now.new }
-    ensures whole { OnOk result (IsPutWhole (files_of_cause dir.now planner.now.old planner.now.new number (cause.Collision collision.now)) (change F.state folder.old folder.new)) }
-    ensures part { OnErr result (IsPutInPart (files_of_cause dir.now planner.now.old planner.now.new number (cause.Collision collision.now)) (change F.state folder.old folder.new)) }
-    ensures never_falls { (F.state folder.old).faults ≤ (F.state folder.new).faults }
-    ensures cause { IsErrOf result FolderError.Fault → Rose (F.state folder.old).faults (F.state folder.new).faults }
-{
-    let Ok(files) = planner.show_collision(alloc, collision) else {
-        return Err(FolderError::Memory);
-    };
-    match put_files(alloc, dir, number, files.as_slice(), folder) {
-        Ok(()) => Ok(()),
-        Err(error) => Err(error),
-    }
-}
-
-// Puts the witnesses of the findings, whose numbers go on from this one.
-fn put_findings<F: Folder>(
+// Puts the witnesses of the causes, whose numbers go on from this one.
+fn put_causes<F: Folder, C: Witnessed>(
     alloc: Global,
     dir: &str,
     first: usize,
     planner: &Planner<'_>,
-    findings: &[Finding],
+    causes: &[C],
     folder: &mut F,
 ) -> Result<(), FolderError>
-    requires stand { All (λ f. StandsInVerdict planner.now.old planner.now.new (cause.Finding f)) findings.now }
+    requires stand { All (λ c. StandsInVerdict planner.now.old planner.now.new (C.cause c)) causes.now }
     requires old_names { HasShortSide planner.now.old }
     requires new_names { HasShortSide planner.now.new }
-    requires few { first + length findings.now < 2 ^ 64 }
-    ensures whole { OnOk result (IsPutWhole (files_from dir.now planner.now.old planner.now.new first (map cause.Finding findings.now)) (change F.state folder.old folder.new)) }
-    ensures part { OnErr result (IsPutInPart (files_from dir.now planner.now.old planner.now.new first (map cause.Finding findings.now)) (change F.state folder.old folder.new)) }
+    requires few { first + length causes.now < 2 ^ 64 }
+    ensures whole { OnOk result (IsPutWhole (files_from dir.now planner.now.old planner.now.new first (map C.cause causes.now)) (change F.state folder.old folder.new)) }
+    ensures part { OnErr result (IsPutInPart (files_from dir.now planner.now.old planner.now.new first (map C.cause causes.now)) (change F.state folder.old folder.new)) }
     ensures never_falls { (F.state folder.old).faults ≤ (F.state folder.new).faults }
     ensures cause { IsErrOf result FolderError.Fault → Rose (F.state folder.old).faults (F.state folder.new).faults }
 {
-    for (i, finding) in findings.iter().enumerate() {
-        match put_finding(alloc, dir, first + i, planner, finding, folder) {
-            Ok(()) => {}
-            Err(error) => return Err(error),
-        }
-    }
-    Ok(())
-}
-
-// Puts the witnesses of the collisions, whose numbers go on from this one.
-fn put_collisions<F: Folder>(
-    alloc: Global,
-    dir: &str,
-    first: usize,
-    planner: &Planner<'_>,
-    collisions: &[Collision],
-    folder: &mut F,
-) -> Result<(), FolderError>
-    requires stand { All (λ c. StandsInVerdict planner.now.old planner.now.new (cause.Collision c)) collisions.now }
-    requires old_names { HasShortSide planner.now.old }
-    requires new_names { HasShortSide planner.now.new }
-    requires few { first + length collisions.now < 2 ^ 64 }
-    ensures whole { OnOk result (IsPutWhole (files_from dir.now planner.now.old planner.now.new first (map cause.Collision collisions.now)) (change F.state folder.old folder.new)) }
-    ensures part { OnErr result (IsPutInPart (files_from dir.now planner.now.old planner.now.new first (map cause.Collision collisions.now)) (change F.state folder.old folder.new)) }
-    ensures never_falls { (F.state folder.old).faults ≤ (F.state folder.new).faults }
-    ensures cause { IsErrOf result FolderError.Fault → Rose (F.state folder.old).faults (F.state folder.new).faults }
-{
-    for (i, collision) in collisions.iter().enumerate() {
-        match put_collision(alloc, dir, first + i, planner, collision, folder) {
+    for (i, cause) in causes.iter().enumerate() {
+        match put_cause(alloc, dir, first + i, planner, cause, folder) {
             Ok(()) => {}
             Err(error) => return Err(error),
         }
@@ -173,7 +118,7 @@ fn put_collisions<F: Folder>(
 }
 
 // Puts the witnesses of all findings, and then those of all collisions.
-fn put_causes<F: Folder>(
+fn put_all<F: Folder>(
     alloc: Global,
     planner: &Planner<'_>,
     of: &Shown<'_>,
@@ -187,13 +132,13 @@ fn put_causes<F: Folder>(
     ensures cause { IsErrOf result FolderError.Fault → Rose (F.state folder.old).faults (F.state folder.new).faults }
 {
     let findings = of.verdict.findings.as_slice();
-    match put_findings(alloc, of.dir, 1, planner, findings, folder) {
+    match put_causes(alloc, of.dir, 1, planner, findings, folder) {
         Ok(()) => {}
         Err(error) => return Err(error),
     }
     let next = findings.len() + 1;
     let collisions = of.verdict.collisions.as_slice();
-    match put_collisions(alloc, of.dir, next, planner, collisions, folder) {
+    match put_causes(alloc, of.dir, next, planner, collisions, folder) {
         Ok(()) => Ok(()),
         Err(error) => Err(error),
     }
@@ -221,7 +166,7 @@ pub fn put_witnesses<F: Folder>(
     let Ok(planner) = Planner::new(alloc, &of.old, &of.new) else {
         return Err(FolderError::Memory);
     };
-    match put_causes(alloc, &planner, of, folder) {
+    match put_all(alloc, &planner, of, folder) {
         Ok(()) => Ok(()),
         Err(error) => Err(error),
     }

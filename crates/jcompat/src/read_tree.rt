@@ -18,6 +18,7 @@ use crate::file_fault::{FileFault, TreeFault};
 use crate::limits::{MAX_BYTES, MAX_FILES, MAX_PATH};
 use crate::stop::Stop;
 use crate::tree::{Tree, TreeName};
+use jc_base::file_buf::FileBuf;
 use jc_base::text::Text;
 use jc_base::trees::{TreeError, Trees};
 use jc_facts::client::ClientClass;
@@ -57,12 +58,13 @@ fn class_paths<T: Trees>(alloc: Global, root: &str, trees: &mut T) -> Result<Vec
     Ok(paths)
 }
 
-// What a class file of the tree is read as, or why it isn't read.
+// What a class file of the tree is read as, or why it isn't read. Its bytes go through the buffer.
 fn read_one<T: Trees>(
     alloc: Global,
     tree: &Tree<'_>,
     path: &str,
     trees: &mut T,
+    buffer: &mut FileBuf,
 ) -> Result<Result<ClientClass, FileFault>, TreeError>
     requires held { Holds (T.state trees.old).content tree.now.root.now path.now }
     requires short { length path.now ≤ MAX_PATH }
@@ -75,8 +77,8 @@ fn read_one<T: Trees>(
     ensures never_falls { (r : List ℕ) → (T.state trees.old).faults r ≤ (T.state trees.new).faults r }
     ensures cause { IsErrOf result TreeError.Fault → Rose ((T.state trees.old).faults tree.now.root.now) ((T.state trees.new).faults tree.now.root.now) }
 {
-    let bytes = trees.read(alloc, tree.root, path, MAX_BYTES)?;
-    match class_in(alloc, tree.name, path, bytes.as_slice()) {
+    trees.read_into(alloc, tree.root, path, MAX_BYTES, buffer)?;
+    match class_in(alloc, tree.name, path, buffer.as_bytes()) {
         Ok(Ok(class)) => Ok(Ok(class)),
         Ok(Err(fault)) => Ok(Err(fault)),
         Err(_) => Err(TreeError::Memory),
@@ -93,12 +95,14 @@ fn stop_at(alloc: Global, name: TreeName, path: &Text, fault: FileFault) -> Stop
     }
 }
 
-// What the class files at these paths are read as, or why reading them stopped.
+// What the class files at these paths are read as, or why reading them stopped. The bytes of one after
+// the other go through the buffer.
 fn read_all<T: Trees>(
     alloc: Global,
     tree: &Tree<'_>,
     paths: &[Text],
     trees: &mut T,
+    buffer: &mut FileBuf,
 ) -> Result<Vec<ClientClass>, Stop>
     requires held { All (Holds (T.state trees.old).content tree.now.root.now) paths.now }
     requires short { All (λ path. length path ≤ MAX_PATH) paths.now }
@@ -112,7 +116,7 @@ fn read_all<T: Trees>(
 {
     let mut classes = Vec::new(alloc);
     for path in paths {
-        match read_one(alloc, tree, path.as_str(), trees) {
+        match read_one(alloc, tree, path.as_str(), trees, buffer) {
             Ok(Ok(class)) => match classes.push(class) {
                 Ok(()) => {}
                 Err(_) => return Err(Stop::Memory),
@@ -131,11 +135,13 @@ fn has_long_path(paths: &[Text]) -> bool
     paths.iter().any(|path| path.as_str().len() > MAX_PATH)
 }
 
-/// What a tree's class files are read as, in the order of their paths, or why it isn't read.
+/// What a tree's class files are read as, in the order of their paths, or why it isn't read. The bytes
+/// of one file after the other go through the buffer.
 pub fn read_tree<T: Trees>(
     alloc: Global,
     tree: &Tree<'_>,
     trees: &mut T,
+    buffer: &mut FileBuf,
 ) -> Result<Vec<ClientClass>, Stop>
     ensures read { IfOk result (λ classes. Told (T.state trees.old).content (λ files. AreClasses files (tree_of tree.now) classes.items)) }
     ensures classes { IfOk result (λ classes. IsClassList classes.items) }
@@ -153,7 +159,7 @@ pub fn read_tree<T: Trees>(
     if has_long_path(paths.as_slice()) {
         return Err(Stop::Unread(tree.name, TreeFault::LongPath));
     }
-    match read_all(alloc, tree, paths.as_slice(), trees) {
+    match read_all(alloc, tree, paths.as_slice(), trees, buffer) {
         Ok(classes) => Ok(classes),
         Err(stop) => Err(stop),
     }

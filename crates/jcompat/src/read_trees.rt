@@ -10,13 +10,15 @@ ghost use Rattle.jcompat.specs.steps.ReadTrees.{AreClassesOf, StopsAmong};
 use crate::read_tree::read_tree;
 use crate::stop::Stop;
 use crate::tree::Tree;
+use jc_base::file_buf::FileBuf;
 use jc_base::items::Items;
 use jc_base::trees::Trees;
 use jc_facts::client::ClientClass;
 use std::alloc::Global;
 
 /// What the class files of each of these trees are read as, in this order, or why the first tree that
-/// isn't read isn't. Of a class that is no client's there are no items.
+/// isn't read isn't. Of a class that is no client's there are no items. The bytes of all files go through
+/// one buffer, which is made first.
 pub fn read_trees<T: Trees>(
     alloc: Global,
     wanted: &[Tree<'_>],
@@ -28,9 +30,12 @@ pub fn read_trees<T: Trees>(
     ensures stopped { IfErr result (StopsAmong (change T.state trees.old trees.new) (map tree_of wanted.now)) }
     ensures content { (T.state trees.new).content ≡ (T.state trees.old).content }
 {
+    let Ok(mut buffer) = FileBuf::new(alloc) else {
+        return Err(Stop::Memory);
+    };
     let mut all = Vec::new(alloc);
     for tree in wanted {
-        match read_tree(alloc, tree, trees) {
+        match read_tree(alloc, tree, trees, &mut buffer) {
             Ok(classes) => match all.push(Items::from_vec(classes)) {
                 Ok(()) => {}
                 Err(_) => return Err(Stop::Memory),

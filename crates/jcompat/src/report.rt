@@ -4,7 +4,7 @@ ghost use Rattle.std.specs.Option.{option_map};
 ghost use Rattle.jc_facts.specs.client.Linked.{are_all_ok};
 ghost use Rattle.jc_words.specs.CommandView.{check_of};
 ghost use Rattle.jcompat.specs.Check.{verdict_bytes};
-ghost use Rattle.jcompat.specs.Command.{LinkOf, CheckCommand, LinkCommand};
+ghost use Rattle.jcompat.specs.Command.{LinkOf, CheckCommand, LinkCommand, MakeCommand};
 ghost use Rattle.jc_gate.specs.Gates.{gate_of};
 ghost use Rattle.jcompat.specs.Reports.{rules_of as rules_in};
 ghost use Rattle.jcompat.specs.steps.Report.{TellsOf, HasToShow, passes_by, status_by};
@@ -19,6 +19,7 @@ use jc_gate::ask::all_pass;
 use jc_gate::gate::Gate;
 use jc_report::json::json;
 use jc_report::link_text::link_text;
+use jc_report::made_text::made_text;
 use jc_report::text::text;
 use jc_words::check::Check;
 use std::alloc::{AllocError, Global};
@@ -134,6 +135,20 @@ impl<'a> Report<'a> {
             shown: None,
             text,
             condition: Condition::Known(passes),
+        })
+    }
+
+    /// The text of the verdict on generated releases of so many classes, which passes whatever it is.
+    /// Nothing is shown.
+    pub fn of_made(alloc: Global, classes: u32, verdict: &Verdict) -> Result<Report<'a>, AllocError>
+        ensures tells { IfOk result (TellsOf (MakeCommand classes) verdict.now) }
+        ensures shown { IfOk result (λ report. report.shown ≡ None) }
+    {
+        let text = made_text(alloc, classes, verdict)?;
+        Ok(Report {
+            shown: None,
+            text,
+            condition: Condition::Known(true),
         })
     }
 

@@ -16,7 +16,7 @@ use std::alloc::Global;
 /// Does what the words ask for, writes what there is to say, and answers the exit status:
 ///
 /// - 0: what was asked is so: of a check each gate of a name that it asks for passes, of a link each
-///   outcome is Ok; 1: it isn't so. The verdict or the outcomes were put to `out`, and before them, where
+///   outcome is Ok, of generated releases always; 1: it isn't so. The verdict or the outcomes were put to `out`, and before them, where
 ///   a check asks for it, the witness files of each finding and collision to `witnesses`. Then each such
 ///   gate saw the rules of all findings and collisions in their order, and was asked.
 /// - 2: the words ask for nothing, or name a gate that isn't there. 3: a class file is malformed or misplaced or a

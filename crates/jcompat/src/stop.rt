@@ -217,6 +217,10 @@ fn usage_line(alloc: Global, usage: &Usage) -> Result<Vec<u8>, AllocError>
             line.extend_from_slice(b"unknown gate ")?;
             push_printed(&mut line, name.as_str().as_bytes())?;
         }
+        Usage::Number(number) => {
+            line.extend_from_slice(b"number ")?;
+            push_printed(&mut line, number.as_str().as_bytes())?;
+        }
     }
     line.push(b'\n')?;
     Ok(line)

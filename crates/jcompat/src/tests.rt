@@ -1,7 +1,10 @@
 //! Runs over trees in memory and over folders, against what they are to say.
 mod assembler;
+mod files;
 mod folders;
 mod gates;
+mod generated;
+mod hostile;
 mod limits;
 mod links;
 mod outside;

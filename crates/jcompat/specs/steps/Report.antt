@@ -13,8 +13,9 @@ use Rattle.jc_gate.specs.Gates.{GateOf, all_pass}
 use Rattle.jc_complete.specs.Completeness.{IsBroken}
 use Rattle.jcompat.specs.Check.{CheckRecords, IsVerdictOn, IsShown, MeetsNone, old_side, new_side, puts_below}
 use Rattle.jcompat.specs.ClassFiles.{Told}
-use Rattle.jcompat.specs.Command.{CommandOf, CheckOf, CheckCommand, LinkCommand, witness_dir, asked_of}
-use Rattle.jcompat.specs.Reports.{RecordsOf, ReportOf, IsReportOn, passes, bytes_of, puts_of}
+use Rattle.jcompat.specs.Command.{CommandOf, CheckOf, CheckCommand, LinkCommand, MakeCommand, witness_dir, asked_of}
+use Rattle.jcompat.specs.Make.{IsSize}
+use Rattle.jcompat.specs.Reports.{ToldTo, RecordsOf, ReportOf, IsReportOn, passes, bytes_of, puts_of}
 use Rattle.jcompat.specs.Witness.{PutFile, causes_of, witness_puts}
 use Rattle.jcompat.specs.declared.report.Report.{Report}
 use Rattle.jcompat.specs.declared.report.Condition.{Condition}
@@ -57,6 +58,11 @@ puts_in (Some of) = witness_puts of.dir.now of.old of.new of.verdict
 
 -- ---- the report
 
+-- where it is for generated releases, they may have as many classes
+abbrev pub IsSized : CommandOf → Type 0
+IsSized (MakeCommand n) = IsSize n
+IsSized command = Unit {0}
+
 -- the bytes are those of a command's report, and by whatever gates, it passes where that does
 pub record TellsOf (command : CommandOf) (of : ReportOf command) (report : Report) : Type 0 where
   pub text : report.text.items ≡ bytes_of command of
@@ -77,6 +83,7 @@ pub record IsChecked (files : List FileOf) (check : CheckOf) (v : Verdict) (puts
 abbrev pub Upholds : Option (List FileOf) → (command : CommandOf) → ReportOf command → List PutFile → Type 0
 Upholds content (CheckCommand check) v puts = Told content (λ files. IsChecked files check v puts)
 Upholds content (LinkCommand link) list puts = Unit {0}
+Upholds content (MakeCommand n) v puts = Unit {0}
 
 -- it tells of the command's report on the records of its trees
 pub record IsReportOf (command : CommandOf) (trees : TreesState) (report : Report) : Type 0 where
@@ -84,7 +91,7 @@ pub record IsReportOf (command : CommandOf) (trees : TreesState) (report : Repor
   pub tells : TellsOf command of report
   pub dir_is : dir_in report.shown ≡ witness_dir command
   pub can_show : CanShowAny report.shown
-  pub is_report : Told trees.content (λ files. (records : RecordsOf files command) × IsReportOn files command records of × (puts_in report.shown ≡ puts_of files command records of))
+  pub is_report : ToldTo command trees.content (λ files. (records : RecordsOf files command) × IsReportOn files command records of × (puts_in report.shown ≡ puts_of files command records of))
   pub upholds : Upholds trees.content command of (puts_in report.shown)
 
 -- it tells of the report of the command that the words ask for, where these gates are there

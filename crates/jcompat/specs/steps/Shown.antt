@@ -1,10 +1,9 @@
 -- What is shown by witnesses.
 use Rattle.std.specs.Prelude.{◌≡◌, ◌≤◌}
 use Rattle.std.specs.List.{All}
-use Rattle.jc_facts.specs.rule.Verdict.{IsVerdict}
+use Rattle.jc_facts.specs.rule.Verdict.{IsVerdict, count_of}
 use Rattle.jc_witness.specs.Ground.{HasShortSide}
 use Rattle.jc_witness.specs.Witnesses.{IsWitnessOf, witness_files}
-use Rattle.jcompat.specs.Check.{count_of}
 use Rattle.jcompat.specs.Witness.{causes_of}
 use Rattle.jcompat.specs.declared.limits.TheConstants.{MAX_FINDINGS}
 use Rattle.jcompat.specs.declared.shown.Shown.{Shown}

@@ -1,6 +1,7 @@
 use crate::disk_folder::DiskFolder;
 use crate::disk_trees::DiskTrees;
 use crate::tests::outside::new_folder;
+use jc_base::file_buf::FileBuf;
 use jc_base::folder::{Folder, FolderError};
 use jc_base::trees::Trees;
 use std::fs;
@@ -26,13 +27,14 @@ fn real_folders_take_files(rt: HostRuntime) -> Result<(), Fail> {
     folder.put(linked.as_str(), b"")?;
 
     let mut trees = DiskTrees::new(rt.clone()?);
+    let mut buffer = FileBuf::new(alloc)?;
     for (path, bytes) in [
         ("000001/w0/A.class", "whole"),
         ("000001/w0/B.class", ""),
         ("apart.class", "apart"),
     ] {
-        let read = trees.read(alloc, root.as_str(), path, 4_194_304)?;
-        assert!(rt; read.as_slice() == bytes.as_bytes(), "{path}");
+        trees.read_into(alloc, root.as_str(), path, 4_194_304, &mut buffer)?;
+        assert!(rt; buffer.as_bytes() == bytes.as_bytes(), "{path}");
     }
     fs::remove_dir_all(&rt, root.as_str())?;
     Ok(())

@@ -1,6 +1,17 @@
 //! Which gates are asked, and what comes of it.
+ghost use Rattle.std.specs.Prelude.{refl, codes, nat_eq, if◌then◌else◌};
+
+use super::verdicts::FINALS;
 use super::words::{CAPTURE, CAPTURE_JSON, CAPTURE_TEXT, typed};
-use super::{Said, is_said};
+use super::{Said, is_said, texts, trees_of};
+use crate::run::run;
+use jc_base::mem_folder::MemFolder;
+use jc_base::mem_sink::MemSink;
+use jc_gate::gate::Gate;
+use std::alloc::{AllocError, Global};
+use std::cell::Cell;
+use std::process::Abort;
+use std::rc::Rc;
 use std::test::Fail;
 
 /// Words with single spaces, the files, and what is said.
@@ -96,6 +107,194 @@ fn gates_are_asked_by_their_names(rt: HostRuntime) -> Result<(), Fail> {
             is_said(&rt, alloc, words.as_slice(), files, said)?,
             "{line}"
         );
+    }
+    Ok(())
+}
+
+/// What has become of some gates: the rules that they saw, as the digits of a number to the base 100,
+/// how many times one was asked whether it passes, and how many were dropped.
+#[derive(Drop)]
+struct Fate {
+    seen: Cell<u64>,
+    asked: Cell<u64>,
+    dropped: Cell<u64>,
+}
+
+fn count_up(counter: &Cell<u64>) {
+    counter.set(counter.get().saturating_add(1));
+}
+
+/// A gate named `links` or `other`, which passes or doesn't whatever it sees, and tells its fate.
+struct Watched {
+    is_links: bool,
+    is_open: bool,
+    fate: Rc<Fate>,
+}
+
+impl Drop for Watched {
+    fn drop(self) {
+        let Watched {
+            is_links: _,
+            is_open: _,
+            fate,
+        } = self;
+        count_up(&fate.dropped);
+    }
+}
+
+impl Gate for Watched {
+    ghost label = { λ gate. if gate.is_links then codes "links" else codes "other" };
+
+    ghost state = { λ gate. if gate.is_open then 1 else 0 };
+
+    ghost after = { λ gate state rule. state };
+
+    ghost pass = { λ gate state. nat_eq state 1 };
+
+    ghost one_after = { λ a b. refl };
+
+    ghost one_pass = { λ a b. refl };
+
+    fn name(&self) -> &str {
+        if self.is_links { "links" } else { "other" }
+    }
+
+    fn see(&mut self, rule: u8) {
+        let before = self.fate.seen.get().saturating_mul(100);
+        self.fate.seen.set(before.saturating_add(u64::from(rule)));
+    }
+
+    fn passes(&self) -> bool {
+        count_up(&self.fate.asked);
+        self.is_open
+    }
+}
+
+/// A run over the releases whose verdict has a finding of rule 6 and a collision of rule 12.
+struct Asking {
+    shown: &'static str,
+    line: &'static str,
+    // Of each gate, whether it is named `links` and not `other`, and whether it passes.
+    gates: &'static [(bool, bool)],
+    // The calls on the output that fail.
+    failing: &'static [u64],
+    status: u8,
+    seen: u64,
+    asked: u64,
+    dropped: u64,
+}
+
+const ASKINGS: &[Asking] = &[
+    Asking {
+        shown: "without names the gate links alone, which is open",
+        line: "check --platform P --old O --new N",
+        gates: &[(true, true), (false, false)],
+        failing: &[],
+        status: 0,
+        seen: 6_12,
+        asked: 1,
+        dropped: 2,
+    },
+    Asking {
+        shown: "each gate that is named, in the order in which they were handed in",
+        line: "check --platform P --old O --new N --gate other,links",
+        gates: &[(true, false), (false, true)],
+        failing: &[],
+        status: 1,
+        seen: 6_12_06_12,
+        asked: 2,
+        dropped: 2,
+    },
+    Asking {
+        shown: "both gates of one name",
+        line: "check --platform P --old O --new N",
+        gates: &[(true, true), (true, false)],
+        failing: &[],
+        status: 1,
+        seen: 6_12_06_12,
+        asked: 2,
+        dropped: 2,
+    },
+    Asking {
+        shown: "no gate of the name",
+        line: "check --platform P --old O --new N",
+        gates: &[(false, true)],
+        failing: &[],
+        status: 2,
+        seen: 0,
+        asked: 0,
+        dropped: 1,
+    },
+    Asking {
+        shown: "a last line that isn't put",
+        line: "check --platform P --old O --new N",
+        gates: &[(true, true), (false, false)],
+        failing: &[3],
+        status: 5,
+        seen: 0,
+        asked: 0,
+        dropped: 2,
+    },
+    Asking {
+        shown: "a link, which asks no gate",
+        line: "link --platform P --release R --client C",
+        gates: &[(true, false)],
+        failing: &[],
+        status: 0,
+        seen: 0,
+        asked: 0,
+        dropped: 1,
+    },
+];
+
+// The status of the run, whose gates tell their fate.
+fn asking_status(
+    rt: &impl Abort,
+    alloc: Global,
+    asking: &Asking,
+    fate: &Rc<Fate>,
+) -> Result<u8, AllocError> {
+    let typed = typed(alloc, asking.line)?;
+    let words = texts(alloc, typed.as_slice())?;
+    let mut trees = trees_of(rt, alloc, FINALS, &[])?;
+    let mut out = MemSink::new(alloc, Vec::from_slice(alloc, asking.failing)?);
+    let mut err = MemSink::new(alloc, Vec::new(alloc));
+    let mut folder = MemFolder::new(alloc, Vec::new(alloc));
+    let mut gates: Vec<Box<dyn Gate>> = Vec::new(alloc);
+    for (is_links, is_open) in asking.gates {
+        let gate = Watched {
+            is_links: *is_links,
+            is_open: *is_open,
+            fate: fate.clone()?,
+        };
+        gates.push(Box::new(alloc, gate)?)?;
+    }
+    Ok(run(
+        alloc,
+        words.as_slice(),
+        &mut trees,
+        &mut out,
+        &mut err,
+        &mut folder,
+        gates,
+    ))
+}
+
+#[test]
+fn gates_see_the_rules_and_are_dropped(rt: HostRuntime) -> Result<(), Fail> {
+    let alloc = rt.alloc();
+    for asking in ASKINGS {
+        let fate = Fate {
+            seen: Cell::new(0),
+            asked: Cell::new(0),
+            dropped: Cell::new(0),
+        };
+        let fate = Rc::new(alloc, fate)?;
+        let status = asking_status(&rt, alloc, asking, &fate)?;
+        assert_eq!(rt; status, asking.status, "{}", asking.shown);
+        assert_eq!(rt; fate.seen.get(), asking.seen, "{}", asking.shown);
+        assert_eq!(rt; fate.asked.get(), asking.asked, "{}", asking.shown);
+        assert_eq!(rt; fate.dropped.get(), asking.dropped, "{}", asking.shown);
     }
     Ok(())
 }

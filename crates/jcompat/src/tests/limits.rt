@@ -4,8 +4,10 @@ ghost use Rattle.jc_base.specs.Outside.{are_distinct};
 ghost use Rattle.jc_base.specs.States.{TreesState};
 
 use super::assembler::{Class, files_of};
-use super::{Said, WORDS, says, texts};
+use super::files::{one_path, put_file};
+use super::{Said, WORDS, says};
 use crate::disk_trees::is_ascending;
+use jc_base::file_buf::FileBuf;
 use jc_base::mem_file::is_file_list;
 use jc_base::mem_trees::MemTrees;
 use jc_base::text::Text;
@@ -44,39 +46,13 @@ fn count_up(alloc: Global, count: u32) -> Result<Vec<Text>, TreeError>
     }
 }
 
-#[tactic(auto, using(crate::proofs::Ascents::distinct_ascending))]
-fn object_alone(alloc: Global) -> Result<Vec<Text>, TreeError>
-    ensures { IfOk result (λ paths. IsTrue (are_distinct paths.items)) }
-{
-    match texts(alloc, &["java/lang/Object.class"]) {
-        Ok(paths) if is_ascending(paths.as_slice()) => Ok(paths),
-        _ => Err(TreeError::Memory),
-    }
-}
-
-// A class file that isn't too long.
-fn short_file(alloc: Global, class: &Class<'_>, limit: u32) -> Result<Vec<u8>, TreeError>
-    ensures { IfOk result (λ bytes. length bytes.items ≤ limit) }
-{
-    match class.bytes(alloc) {
-        Ok(bytes) if bytes.len() <= limit as usize => Ok(bytes),
-        _ => Err(TreeError::Memory),
-    }
-}
-
 // A class file of a class that extends another, or what it extends by itself where no name is given.
-fn subclass(alloc: Global, name: &str, above: &str, limit: u32) -> Result<Vec<u8>, TreeError>
-    ensures { IfOk result (λ bytes. length bytes.items ≤ limit) }
-{
-    match Class::from_words(alloc, name, "init") {
-        Ok(mut class) => {
-            if !above.is_empty() {
-                class.extend(above);
-            }
-            short_file(alloc, &class, limit)
-        }
-        Err(_) => Err(TreeError::Memory),
+fn subclass(alloc: Global, name: &str, above: &str) -> Result<Vec<u8>, AllocError> {
+    let mut class = Class::from_words(alloc, name, "init")?;
+    if !above.is_empty() {
+        class.extend(above);
     }
+    class.bytes(alloc)
 }
 
 impl Trees for Numbered {
@@ -87,26 +63,33 @@ impl Trees for Numbered {
         if root == "O" {
             count_up(alloc, self.count)
         } else {
-            object_alone(alloc)
+            one_path(alloc, "java/lang/Object.class")
         }
     }
 
-    fn read(
+    fn read_into(
         &mut self,
         alloc: Global,
         _root: &str,
         _path: &str,
         limit: u32,
-    ) -> Result<Vec<u8>, TreeError> {
-        short_file(alloc, &Class::new(alloc, "java/lang/Object"), limit)
+        into: &mut FileBuf,
+    ) -> Result<(), TreeError> {
+        put_file(
+            Class::new(alloc, "java/lang/Object").bytes(alloc),
+            limit,
+            into,
+        )
     }
 }
 
-/// Trees of so many public classes under the roots `O` and `N`. Under `O` each extends the one that
-/// was read before it, and under `N` all extend `java/lang/Object`, which stands under any other root.
+/// Trees of so many public classes under the roots `O` and `N`, and of `java/lang/Object` under any
+/// other. Under `O`, and under `N` where it is to be so, each but the first extends the one before it.
 #[derive(Drop)]
 struct Chained {
     count: u32,
+    new_too: bool,
+    // The class that was read last.
     above: String,
 }
 
@@ -116,27 +99,30 @@ impl Trees for Chained {
 
     fn list(&mut self, alloc: Global, root: &str) -> Result<Vec<Text>, TreeError> {
         if root == "P" {
-            object_alone(alloc)
+            one_path(alloc, "java/lang/Object.class")
         } else {
             count_up(alloc, self.count)
         }
     }
 
-    fn read(
+    fn read_into(
         &mut self,
         alloc: Global,
         root: &str,
         path: &str,
         limit: u32,
-    ) -> Result<Vec<u8>, TreeError> {
+        into: &mut FileBuf,
+    ) -> Result<(), TreeError> {
         let name = path.strip_suffix(".class").unwrap_or(path);
         let Ok(next) = String::from_str(alloc, name) else {
+            into.clear();
             return Err(TreeError::Memory);
         };
-        let above = if root == "O" { self.above.as_str() } else { "" };
-        let file = subclass(alloc, name, above, limit);
+        let is_chained = (root == "O" || self.new_too) && name != "000000";
+        let above = if is_chained { self.above.as_str() } else { "" };
+        let file = subclass(alloc, name, above);
         self.above = next;
-        file
+        put_file(file, limit, into)
     }
 }
 
@@ -171,19 +157,20 @@ fn at_most_so_many_class_files(rt: HostRuntime) -> Result<(), Fail> {
 #[test]
 fn at_most_so_many_findings(rt: HostRuntime) -> Result<(), Fail> {
     let alloc = rt.alloc();
-    let mut trees = Chained {
-        count: 1_500,
-        above: String::from_str(alloc, "java/lang/Object")?,
-    };
-    assert!(rt;
-        says(
-            alloc,
-            WORDS,
-            &mut trees,
-            [&[], &[]],
-            &(7, "", "jcompat: limit findings\n")
-        )?
-    );
+    for (count, new_too, said) in [
+        (1_500, false, (7, "", "jcompat: limit findings\n")),
+        (2_000, true, (0, SAME, "")),
+    ] {
+        let mut trees = Chained {
+            count,
+            new_too,
+            above: String::new(alloc),
+        };
+        assert!(rt;
+            says(alloc, WORDS, &mut trees, [&[], &[]], &said)?,
+            "{count}"
+        );
+    }
     Ok(())
 }
 

@@ -1,6 +1,7 @@
 use crate::disk_trees::DiskTrees;
 use crate::std_sink::StdSink;
 use crate::{run_words, words_after_name};
+use jc_base::file_buf::FileBuf;
 use jc_base::sink::{Sink, SinkError};
 use jc_base::sure_folder::SureFolder;
 use jc_base::sure_sink::SureSink;
@@ -86,14 +87,16 @@ fn real_folders_are_listed_and_read(rt: HostRuntime) -> Result<(), Fail> {
         )?
     );
 
-    let whole = trees.read(alloc, root.as_str(), "p/q/C.class", 4_194_304)?;
-    assert!(rt; whole.as_slice() == b"p/q/C.class".as_slice());
-    let front = trees.read(alloc, root.as_str(), "D.class", 2)?;
-    assert!(rt; front.as_slice() == b"A.c".as_slice());
+    let mut buffer = FileBuf::new(alloc)?;
+    trees.read_into(alloc, root.as_str(), "p/q/C.class", 4_194_304, &mut buffer)?;
+    assert!(rt; buffer.as_bytes() == b"p/q/C.class".as_slice());
+    trees.read_into(alloc, root.as_str(), "D.class", 2, &mut buffer)?;
+    assert!(rt; buffer.as_bytes() == b"A.c".as_slice());
 
     for link in ["gone.class", "null.class"] {
-        let read = trees.read(alloc, root.as_str(), link, 9);
+        let read = trees.read_into(alloc, root.as_str(), link, 9, &mut buffer);
         assert!(rt; matches!(read, Err(TreeError::Fault)), "{link}");
+        assert!(rt; buffer.as_bytes().is_empty(), "{link}");
     }
     let no_folder = format!(in alloc; "{root}/notes.txt")?;
     assert!(rt; matches!(trees.list(alloc, no_folder.as_str()), Err(TreeError::Fault)));

@@ -182,6 +182,7 @@ fn real_folders_are_refused(rt: HostRuntime) -> Result<(), Fail> {
             "jcompat: old: p/A.class: Short at 12\n",
             3,
         ),
+        ("p/A.class", b"", "jcompat: old: p/A.class: Short at 0\n", 3),
         (
             "p/B.class",
             plain.as_slice(),

@@ -8,6 +8,13 @@ use std::test::Fail;
 /// What is shown, the files, the exit status and the output.
 type Row = (&'static str, &'static [&'static str], u8, &'static str);
 
+// A method made final that could be overridden, and a new final one.
+pub(super) const FINALS: &[&str] = &[
+    "P java/lang/Object init method=1:toString:()Ljava/lang/String;",
+    "O p/A init",
+    "N p/A init method=11:toString:()Ljava/lang/String; method=11:close:()V",
+];
+
 pub(super) const ROWS: &[Row] = &[
     (
         "an unchanged class",
@@ -163,11 +170,7 @@ pub(super) const ROWS: &[Row] = &[
     ),
     (
         "methods made final: one that could be overridden, and a new one",
-        &[
-            "P java/lang/Object init method=1:toString:()Ljava/lang/String;",
-            "O p/A init",
-            "N p/A init method=11:toString:()Ljava/lang/String; method=11:close:()V",
-        ],
+        FINALS,
         1,
         "1 H6 p/A toString()Ljava/lang/String; override - IncompatibleClassChangeError\n2 Final p/A close()V override - IncompatibleClassChangeError\nincompatible: 1 findings, 1 collisions, 0 notes\n",
     ),

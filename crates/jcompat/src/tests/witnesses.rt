@@ -12,12 +12,12 @@ use std::process::Abort;
 use std::str;
 use std::test::Fail;
 
-const CHECK: &str = "check --platform P --old O --new N --witness d";
+pub(super) const CHECK: &str = "check --platform P --old O --new N --witness d";
 
 /// A witness: its files, and the line of the outcome that is Ok with the old release and this error with the new one.
 #[derive(Clone, Copy)]
-struct Witness {
-    files: &'static [&'static str],
+pub(super) struct Witness {
+    pub(super) files: &'static [&'static str],
     line: &'static str,
     error: &'static str,
 }
@@ -25,7 +25,7 @@ struct Witness {
 /// What a row of the verdicts shows, and the witnesses of its findings and collisions, by their numbers.
 type Row = (&'static str, &'static [Witness]);
 
-const CAPTURE: Witness = Witness {
+pub(super) const CAPTURE: Witness = Witness {
     files: &[
         "d/000001/w0/J.class",
         "d/000001/w0/U.class",
@@ -147,30 +147,30 @@ const WITNESSES: &[Row] = &[
 
 /// A run that ended.
 #[derive(Drop)]
-struct Ended {
-    status: u8,
-    out: MemSink,
-    err: MemSink,
+pub(super) struct Ended {
+    pub(super) status: u8,
+    pub(super) out: MemSink,
+    pub(super) err: MemSink,
     folder: MemFolder,
 }
 
-// A run over these files, where the given calls on the folder and on the output fail.
-fn run_on(
+// A run over these files, where the given calls on the trees, on the folder, on the output and on the error stream fail.
+pub(super) fn run_on(
     rt: &impl Abort,
     alloc: Global,
     words: &str,
     files: Vec<MemFile>,
-    failing: [&[u64]; 2],
+    failing: [&[u64]; 4],
 ) -> Result<Ended, AllocError> {
     assert!(rt; is_file_list(files.as_slice()));
     let mut texts = Vec::new(alloc);
     for word in words.split_whitespace() {
         texts.push(Text::from_str(alloc, word)?)?;
     }
-    let mut trees = MemTrees::new(alloc, files, Vec::new(alloc));
-    let mut folder = MemFolder::new(alloc, Vec::from_slice(alloc, failing[0])?);
-    let mut out = MemSink::new(alloc, Vec::from_slice(alloc, failing[1])?);
-    let mut err = MemSink::new(alloc, Vec::new(alloc));
+    let mut trees = MemTrees::new(alloc, files, Vec::from_slice(alloc, failing[0])?);
+    let mut folder = MemFolder::new(alloc, Vec::from_slice(alloc, failing[1])?);
+    let mut out = MemSink::new(alloc, Vec::from_slice(alloc, failing[2])?);
+    let mut err = MemSink::new(alloc, Vec::from_slice(alloc, failing[3])?);
     let status = run_with_gates(
         alloc,
         texts.as_slice(),
@@ -189,7 +189,7 @@ fn run_on(
 
 impl Ended {
     // Whether its status and its output are these, and it put nothing to the error stream and met no fault of the folder.
-    fn says(&self, status: u8, output: &str) -> bool {
+    pub(super) fn says(&self, status: u8, output: &str) -> bool {
         self.status == status
             && self.out.bytes() == output.as_bytes()
             && self.err.bytes().is_empty()
@@ -205,7 +205,7 @@ impl Ended {
     }
 
     // Whether of these files the folder holds so many, the first ones, and none of the others.
-    fn holds(&self, files: &[&str], count: usize) -> bool {
+    pub(super) fn holds(&self, files: &[&str], count: usize) -> bool {
         files
             .iter()
             .enumerate()
@@ -230,7 +230,7 @@ fn linked(
         files.push(file(alloc, "C", place, bytes)?)?;
     }
     let words = format!(in alloc; "link --platform P --release {release} --client C")?;
-    run_on(rt, alloc, words.as_str(), files, [&[], &[]])
+    run_on(rt, alloc, words.as_str(), files, [&[], &[], &[], &[]])
 }
 
 // Whether all outcomes of the witness are Ok with the old release, and with the new one its line is its error.
@@ -270,7 +270,7 @@ fn witnesses_are_put_and_replayed(rt: HostRuntime) -> Result<(), Fail> {
             alloc,
             CHECK,
             files_of(alloc, lines)?,
-            [&[count.saturating_add(1)], &[]],
+            [&[], &[count.saturating_add(1)], &[], &[]],
         )?;
         assert!(rt; check.says(*status, output), "{shown}");
         for witness in witnesses.iter() {
@@ -284,7 +284,7 @@ fn witnesses_are_put_and_replayed(rt: HostRuntime) -> Result<(), Fail> {
     Ok(())
 }
 
-const CAPTURED: &[&str] = &[
+pub(super) const CAPTURED: &[&str] = &[
     "P java/lang/Object init",
     "O p/A init",
     "N p/A init method=2:run:()V",
@@ -293,7 +293,13 @@ const CAPTURED: &[&str] = &[
 #[test]
 fn a_captured_call_with_both_releases(rt: HostRuntime) -> Result<(), Fail> {
     let alloc = rt.alloc();
-    let check = run_on(&rt, alloc, CHECK, files_of(alloc, CAPTURED)?, [&[], &[]])?;
+    let check = run_on(
+        &rt,
+        alloc,
+        CHECK,
+        files_of(alloc, CAPTURED)?,
+        [&[], &[], &[], &[]],
+    )?;
     let old =
         "class w0/J ok\nclass w0/U ok\nitem w0/U init java/lang/Object <init>()V - ok\nitem w0/U invokevirtual w0/Y run()V w0/Y ok\nclass w0/Y ok\nitem w0/Y init p/A <init>()V - ok\nlinks: 6 outcomes, 0 errors\n";
     let new =
@@ -302,34 +308,6 @@ fn a_captured_call_with_both_releases(rt: HostRuntime) -> Result<(), Fail> {
         let link = linked(&rt, alloc, CAPTURED, release, &check.folder, &CAPTURE)?;
         assert!(rt; link.says(status, output), "{release}");
     }
-    Ok(())
-}
-
-#[test]
-fn a_fault_of_the_folder_ends_a_run(rt: HostRuntime) -> Result<(), Fail> {
-    let alloc = rt.alloc();
-    for (failing, held) in [(1, 0), (2, 1), (3, 2)] {
-        let check = run_on(
-            &rt,
-            alloc,
-            CHECK,
-            files_of(alloc, CAPTURED)?,
-            [&[failing], &[]],
-        )?;
-        assert_eq!(rt; check.status, 5);
-        assert_eq!(rt; check.folder.faults(), 1);
-        assert!(rt; check.out.bytes().is_empty() && check.err.bytes().is_empty());
-        assert!(rt; check.holds(CAPTURE.files, held), "{failing}");
-    }
-    Ok(())
-}
-
-#[test]
-fn a_fault_of_the_output_comes_after_the_witnesses(rt: HostRuntime) -> Result<(), Fail> {
-    let alloc = rt.alloc();
-    let check = run_on(&rt, alloc, CHECK, files_of(alloc, CAPTURED)?, [&[], &[1]])?;
-    assert!(rt; check.says(5, "1 Capture p/A run()V invokev"));
-    assert!(rt; check.holds(CAPTURE.files, 3));
     Ok(())
 }
 
@@ -365,7 +343,13 @@ const REFUSED: &[(&str, &[&str], u8, &str)] = &[
 fn what_is_refused_puts_no_witness(rt: HostRuntime) -> Result<(), Fail> {
     let alloc = rt.alloc();
     for (words, lines, status, line) in REFUSED {
-        let ended = run_on(&rt, alloc, words, files_of(alloc, lines)?, [&[1], &[]])?;
+        let ended = run_on(
+            &rt,
+            alloc,
+            words,
+            files_of(alloc, lines)?,
+            [&[], &[1], &[], &[]],
+        )?;
         assert!(rt;
             ended.status == *status && ended.err.bytes() == line.as_bytes(),
             "{words}"

@@ -1,19 +1,16 @@
-use Rattle.jcompat.proofs.CausesPut.{findings_failed, collisions_put, collisions_failed}
+use Rattle.jcompat.proofs.CausesPut.{no_cause, next_cause}
+use Rattle.jcompat.proofs.FilesPut.{put_more, put_failed}
 use Rattle.jcompat.proofs.put_witnesses.put_causes.Goals as goal
 
 pub returns-in-Err-clause-part : goal.returns-in-Err-clause-part
 returns-in-Err-clause-part g c =
-    findings_failed c.args.of.now.dir.now c.args.of.now.old c.args.of.now.new c.args.of.now.verdict (g.F.Folder.state c.args.folder.now) (g.F.Folder.state c.put_findings.new.folder)
-    (rw (c.requires.sides, c.as_slice-findings.ensures) at c.in-Err.ensures.part)
+    put_failed _ _ _ _ _ _
+    (next_cause g.C.Witnessed.cause c.args.dir.now c.args.planner.now.old c.args.planner.now.new c.args.first c.args.causes.now c.loop-i.i c.index-causes-i.result _ _ _ c.loop-i-test.true c.index-causes-i.is c.loop-i.invariant) c.in-Err.ensures.part
 
-pub returns-in-Ok-put_collisions-clause-whole : goal.returns-in-Ok-put_collisions-clause-whole
-returns-in-Ok-put_collisions-clause-whole g c =
-    collisions_put c.args.of.now.dir.now c.args.of.now.old c.args.of.now.new c.args.of.now.verdict (g.F.Folder.state c.args.folder.now) (g.F.Folder.state c.put_findings.new.folder)
-    (g.F.Folder.state c.put_collisions.new.folder) (rw (c.requires.sides, c.as_slice-findings.ensures) at c.in-Ok.ensures.whole) c.in-Ok.ensures.never_falls
-    (rw (c.requires.sides, c.as_slice-findings.ensures, c.as_slice-collisions.ensures) at c.in-Ok-put_collisions.ensures.whole) c.in-Ok-put_collisions.ensures.never_falls
+pub loop-i-init : goal.loop-i-init
+loop-i-init g c = no_cause g.C.Witnessed.cause c.args.dir.now c.args.planner.now.old c.args.planner.now.new c.args.first c.args.causes.now (g.F.Folder.state c.args.folder.now)
 
-pub returns-in-Err-put_collisions-clause-part : goal.returns-in-Err-put_collisions-clause-part
-returns-in-Err-put_collisions-clause-part g c =
-    collisions_failed c.args.of.now.dir.now c.args.of.now.old c.args.of.now.new c.args.of.now.verdict (g.F.Folder.state c.args.folder.now) (g.F.Folder.state c.put_findings.new.folder)
-    (g.F.Folder.state c.put_collisions.new.folder) (rw (c.requires.sides, c.as_slice-findings.ensures) at c.in-Ok.ensures.whole) c.in-Ok.ensures.never_falls
-    (rw (c.requires.sides, c.as_slice-findings.ensures, c.as_slice-collisions.ensures) at c.in-Err-put_collisions.ensures.part)
+pub loop-i-preserved : goal.loop-i-preserved
+loop-i-preserved g c =
+    put_more _ _ _ _ _ _
+    (next_cause g.C.Witnessed.cause c.args.dir.now c.args.planner.now.old c.args.planner.now.new c.args.first c.args.causes.now c.loop-i.i c.index-causes-i.result _ _ _ c.loop-i-test.true c.index-causes-i.is c.loop-i.invariant) c.in-Ok.ensures.whole c.in-Ok.ensures.never_falls
