@@ -1,0 +1,265 @@
+import java.io.IOException;
+import java.io.UncheckedIOException;
+import java.nio.file.Files;
+import java.nio.file.Path;
+import java.util.ArrayList;
+import java.util.HashSet;
+import java.util.List;
+import java.util.Map;
+import java.util.Set;
+import java.util.TreeMap;
+import java.util.TreeSet;
+import java.util.stream.Collectors;
+import java.util.stream.Stream;
+import javax.tools.JavaCompiler;
+import javax.tools.StandardJavaFileManager;
+import javax.tools.ToolProvider;
+
+/**
+ * Replays the clients of <code>examples/rules</code>: <code>java ReplayClients.java RULES PLATFORM PAGE MADE [PROGRAM]</code>, where RULES
+ * is that folder, PLATFORM a folder of class files for the checks, PAGE the document that shows the clients, and MADE an empty folder.
+ *
+ * <p>Each folder of RULES has the Java sources of an old and a new release and of a client, which is compiled against the old one.
+ * <code>app.Main</code> of the client is run beside each release, by the <code>java</code> of this machine. With the old one it ends well. With
+ * the new one it ends with the error that the file <code>message</code> has and the file <code>report</code> names; where the file
+ * <code>prints</code> stands in the place of <code>message</code>, it ends well with both and prints that. Where PROGRAM is given, its report
+ * of the two releases is the file <code>report</code>. Sources in <code>needs</code> are there when the new release is compiled, file by file,
+ * and not when the client is run.
+ *
+ * <p>PAGE links each folder, and each line of a block of it is a line of these files. There is a line of output for each folder, in the order
+ * of the rules, and a last one with the numbers. The status is 1 where something isn't so.
+ */
+public final class ReplayClients {
+    /** The version of Java by which the files <code>message</code> were recorded. Of others, the class of the error is compared alone. */
+    private static final int RECORDED = 17;
+
+    /** The rules of findings and collisions, and the kinds of notes. */
+    private static final Set<String> RULES =
+            Set.of("H1", "H2", "H3", "H4", "H5", "H6", "H7", "H8", "H9", "Constant", "Capture", "Final", "unloadable", "constant");
+
+    private final Path platform;
+    private final Path made;
+    private final List<String> program;
+
+    private ReplayClients(Path platform, Path made, List<String> program) {
+        this.platform = platform;
+        this.made = made;
+        this.program = program;
+    }
+
+    public static void main(String[] words) throws IOException {
+        List<Path> examples = examples(Path.of(words[0]));
+        ReplayClients replay = new ReplayClients(Path.of(words[1]), Path.of(words[3]), List.of(words).subList(4, words.length));
+        List<String> faults = new ArrayList<>();
+        examples.parallelStream().map(replay::outcome).forEachOrdered(line -> {
+            System.out.println(line);
+            if (!line.startsWith("ok ")) {
+                faults.add(line);
+            }
+        });
+        List<String> lacks = new ArrayList<>();
+        missing(examples).forEach(rule -> lacks.add("FAILED no example has the rule " + rule));
+        strangers(Path.of(words[2]), Path.of(words[0])).forEach(line -> lacks.add("FAILED no example has the line: " + line));
+        String page = Files.readString(Path.of(words[2]));
+        examples.stream().filter(example -> !page.contains("/" + example.getFileName() + ")"))
+                .forEach(example -> lacks.add("FAILED no section links " + example.getFileName()));
+        lacks.forEach(System.out::println);
+        faults.addAll(lacks);
+        System.out.printf("replayed: %d clients, %d faults%s%n", examples.size(), faults.size(),
+                replay.program.isEmpty() ? ", reports not compared" : "");
+        System.exit(faults.isEmpty() ? 0 : 1);
+    }
+
+    /** The folders of the examples, in the order of their first rules. */
+    private static List<Path> examples(Path rules) throws IOException {
+        Map<String, Path> byRule = new TreeMap<>();
+        try (Stream<Path> folders = Files.list(rules)) {
+            for (Path folder : (Iterable<Path>) folders::iterator) {
+                byRule.put(rules(folder).get(0) + " " + folder.getFileName(), folder);
+            }
+        }
+        return new ArrayList<>(byRule.values());
+    }
+
+    /** The rules of the findings and collisions of an example's report, and the kinds of its notes, each once. */
+    private static List<String> rules(Path example) throws IOException {
+        return Files.readAllLines(example.resolve("report")).stream().map(line -> line.split(" ")[1]).filter(RULES::contains).distinct()
+                .collect(Collectors.toList());
+    }
+
+    /** The line that says how it went with an example. */
+    private String outcome(Path example) {
+        try {
+            Example built = new Example(example, made.resolve(example.getFileName()));
+            built.compile();
+            String said = built.replayed();
+            if (!program.isEmpty()) {
+                built.compareReport(platform, program);
+            }
+            return "ok " + String.join(" ", rules(example)) + " " + example.getFileName() + ": " + said;
+        } catch (Fault fault) {
+            return "FAILED " + example.getFileName() + ": " + fault.getMessage();
+        } catch (IOException failure) {
+            throw new UncheckedIOException(failure);
+        }
+    }
+
+    /** The rules, and the kinds of notes, that no report has. */
+    private static Set<String> missing(List<Path> examples) throws IOException {
+        Set<String> missing = new TreeSet<>(RULES);
+        for (Path example : examples) {
+            missing.removeAll(rules(example));
+        }
+        return missing;
+    }
+
+    /** The lines in blocks of the page that are in no file of the examples. */
+    private static List<String> strangers(Path page, Path rules) throws IOException {
+        Set<String> known = new HashSet<>();
+        for (Path file : files(rules, "")) {
+            Files.readAllLines(file).forEach(line -> known.add(line.strip()));
+        }
+        List<String> strangers = new ArrayList<>();
+        boolean inBlock = false;
+        for (String line : Files.readAllLines(page)) {
+            if (line.startsWith("```")) {
+                inBlock = !inBlock;
+            } else if (inBlock && !known.contains(line.strip())) {
+                strangers.add(line);
+            }
+        }
+        return strangers;
+    }
+
+    private static List<Path> files(Path folder, String end) throws IOException {
+        if (!Files.isDirectory(folder)) {
+            return List.of();
+        }
+        try (Stream<Path> files = Files.walk(folder)) {
+            return files.filter(Files::isRegularFile).filter(file -> file.toString().endsWith(end)).sorted().collect(Collectors.toList());
+        }
+    }
+
+    /** What isn't as it has to be. */
+    private static final class Fault extends Exception {
+        private static final long serialVersionUID = 1;
+
+        Fault(String message) {
+            super(message);
+        }
+    }
+
+    /** A folder of sources, and the folder into which they are compiled. */
+    private static final class Example {
+        private final Path sources;
+        private final Path classes;
+
+        Example(Path sources, Path classes) {
+            this.sources = sources;
+            this.classes = classes;
+        }
+
+        void compile() throws IOException, Fault {
+            compile("old", files(sources.resolve("old"), ".java"), "old");
+            List<Path> needs = files(sources.resolve("needs"), ".java");
+            List<Path> after = files(sources.resolve("new"), ".java");
+            if (needs.isEmpty()) {
+                compile("new", after, "new");
+            } else {
+                compile("needs", needs, "needs");
+                for (Path source : after) {
+                    compile("new", List.of(source), "needs");
+                }
+            }
+            compile("client", files(sources.resolve("client"), ".java"), "old");
+        }
+
+        private void compile(String to, List<Path> from, String beside) throws IOException, Fault {
+            JavaCompiler compiler = ToolProvider.getSystemJavaCompiler();
+            Path into = Files.createDirectories(classes.resolve(to));
+            List<String> options = List.of("--release", "17", "-proc:none", "-d", into.toString(), "-cp", classes.resolve(beside).toString());
+            try (StandardJavaFileManager manager = compiler.getStandardFileManager(null, null, null)) {
+                if (!compiler.getTask(null, manager, null, options, null, manager.getJavaFileObjectsFromPaths(from)).call()) {
+                    throw new Fault("the sources of " + to + " don't compile");
+                }
+            }
+        }
+
+        /** Runs the client beside both releases, and gives what it said beside the new one. */
+        String replayed() throws IOException, Fault {
+            Output before = runMain("old");
+            if (before.status != 0 || !before.error.isEmpty()) {
+                throw new Fault("with the old release it ended with the status " + before.status + ": " + before.error);
+            }
+            Output after = runMain("new");
+            Path prints = sources.resolve("prints");
+            if (Files.exists(prints)) {
+                same("with the old release it prints", Files.readString(prints), before.text);
+                same("with the new release it prints", Files.readString(prints), after.text);
+                return "prints " + after.text.strip();
+            }
+            String wanted = Files.readString(sources.resolve("message")).strip();
+            String found = after.error.lines().findFirst().orElse("no error");
+            String thread = "Exception in thread \"main\" ";
+            same("with the new release it ends with", judged(thread + wanted), judged(found));
+            String error = wanted.split(":")[0].replace("java.lang.", " ");
+            if (Files.readAllLines(sources.resolve("report")).stream().noneMatch(line -> line.endsWith(error))) {
+                throw new Fault("no line of the report has the error" + error);
+            }
+            return found.substring(thread.length());
+        }
+
+        /** The first line of an error, or its class alone where another version of Java says it. */
+        private static String judged(String line) {
+            int colon = line.indexOf(':');
+            return Runtime.version().feature() == RECORDED || colon < 0 ? line : line.substring(0, colon);
+        }
+
+        private Output runMain(String release) throws IOException {
+            String path = classes.resolve(release) + System.getProperty("path.separator") + classes.resolve("client");
+            String java = Path.of(System.getProperty("java.home"), "bin", "java").toString();
+            return run(List.of(java, "-XX:TieredStopAtLevel=1", "-cp", path, "app.Main"));
+        }
+
+        void compareReport(Path platform, List<String> program) throws IOException, Fault {
+            List<String> words = new ArrayList<>(program);
+            words.addAll(List.of("check", "--platform", platform.toString()));
+            words.addAll(List.of("--old", classes.resolve("old").toString(), "--new", classes.resolve("new").toString()));
+            Output report = run(words);
+            same("the report is", Files.readString(sources.resolve("report")), report.text + report.error);
+        }
+
+        private static void same(String what, String wanted, String found) throws Fault {
+            if (!wanted.equals(found)) {
+                throw new Fault(what + "\n" + found.strip() + "\nand not\n" + wanted.strip());
+            }
+        }
+
+        private Output run(List<String> words) throws IOException {
+            Path text = classes.resolve("text");
+            Path error = classes.resolve("error");
+            ProcessBuilder builder = new ProcessBuilder(words).redirectOutput(text.toFile()).redirectError(error.toFile());
+            // with these a machine says more than what the client does
+            builder.environment().keySet().removeAll(Set.of("JAVA_TOOL_OPTIONS", "JDK_JAVA_OPTIONS", "_JAVA_OPTIONS"));
+            Process process = builder.start();
+            try {
+                return new Output(process.waitFor(), Files.readString(text), Files.readString(error));
+            } catch (InterruptedException stopped) {
+                throw new IllegalStateException(stopped);
+            }
+        }
+    }
+
+    /** What a program said, and its status. */
+    private static final class Output {
+        private final int status;
+        private final String text;
+        private final String error;
+
+        Output(int status, String text, String error) {
+            this.status = status;
+            this.text = text;
+            this.error = error;
+        }
+    }
+}

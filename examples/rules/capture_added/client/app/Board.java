@@ -1,0 +1,6 @@
+package app;
+
+import shapes.Canvas;
+
+public class Board extends Canvas implements Engine {
+}

@@ -1,0 +1,7 @@
+package app;
+
+public interface Engine {
+    default void start() {
+        System.out.println("started");
+    }
+}

@@ -1,0 +1,7 @@
+package app;
+
+import shapes.Circle;
+
+/** A circle that can hardly be seen. */
+public class Dot extends Circle {
+}

@@ -1,0 +1,6 @@
+package shapes;
+
+class Square {
+    public Square() {
+    }
+}

@@ -1,0 +1,9 @@
+package app;
+
+import shapes.Rectangle;
+
+public class Main {
+    public static void main(String[] words) {
+        Object rectangle = new Rectangle();
+    }
+}

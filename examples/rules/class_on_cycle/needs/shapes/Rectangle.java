@@ -1,0 +1,7 @@
+package shapes;
+
+/** As it was when Polygon was compiled. */
+public class Rectangle {
+    public Rectangle() {
+    }
+}

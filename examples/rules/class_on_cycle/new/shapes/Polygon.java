@@ -1,0 +1,6 @@
+package shapes;
+
+public class Polygon extends Rectangle {
+    public Polygon() {
+    }
+}

@@ -1,0 +1,6 @@
+package shapes;
+
+public sealed class Circle permits Ring {
+    public Circle() {
+    }
+}

@@ -1,0 +1,5 @@
+package app;
+
+public class Tool {
+    protected int WIDTH = 5;
+}

@@ -1,0 +1,7 @@
+package shapes;
+
+public interface Brush {
+    int WIDTH = 1;
+
+    void paint();
+}

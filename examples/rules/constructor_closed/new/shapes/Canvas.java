@@ -1,0 +1,9 @@
+package shapes;
+
+public class Canvas {
+    public Canvas() {
+    }
+
+    Canvas(int width) {
+    }
+}

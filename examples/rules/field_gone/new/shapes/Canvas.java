@@ -1,0 +1,8 @@
+package shapes;
+
+public class Canvas {
+    public long width;
+
+    public Canvas() {
+    }
+}

@@ -1,0 +1,9 @@
+package shapes;
+
+public class Canvas {
+    public final int width;
+
+    public Canvas() {
+        width = 10;
+    }
+}

@@ -1,0 +1,8 @@
+package shapes;
+
+public class Canvas {
+    public static int width;
+
+    public Canvas() {
+    }
+}

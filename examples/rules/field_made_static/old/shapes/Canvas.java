@@ -1,0 +1,8 @@
+package shapes;
+
+public class Canvas {
+    public int width;
+
+    public Canvas() {
+    }
+}

@@ -1,0 +1,9 @@
+package app;
+
+import shapes.Canvas;
+
+public class Board extends Canvas {
+    public void close() {
+        System.out.println("closed");
+    }
+}

@@ -1,0 +1,8 @@
+package shapes;
+
+public abstract class Named {
+    public Named() {
+    }
+
+    public abstract String name();
+}

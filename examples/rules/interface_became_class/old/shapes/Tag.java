@@ -1,0 +1,10 @@
+package shapes;
+
+public class Tag extends Shape implements Named {
+    public Tag() {
+    }
+
+    public String name() {
+        return "tag";
+    }
+}

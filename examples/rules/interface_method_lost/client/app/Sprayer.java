@@ -1,0 +1,6 @@
+package app;
+
+import shapes.Painter;
+
+public interface Sprayer extends Painter {
+}

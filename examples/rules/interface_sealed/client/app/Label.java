@@ -1,0 +1,6 @@
+package app;
+
+import shapes.Named;
+
+public class Label implements Named {
+}

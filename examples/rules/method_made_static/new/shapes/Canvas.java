@@ -1,0 +1,9 @@
+package shapes;
+
+public class Canvas {
+    public Canvas() {
+    }
+
+    public static void draw(int times) {
+    }
+}

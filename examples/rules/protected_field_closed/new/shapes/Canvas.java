@@ -1,0 +1,8 @@
+package shapes;
+
+public class Canvas {
+    int width;
+
+    public Canvas() {
+    }
+}

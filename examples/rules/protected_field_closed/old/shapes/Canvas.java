@@ -1,0 +1,8 @@
+package shapes;
+
+public class Canvas {
+    protected int width;
+
+    public Canvas() {
+    }
+}

@@ -1,0 +1,7 @@
+package shapes;
+
+public interface Painter {
+    static int most() {
+        return 3;
+    }
+}

@@ -1,0 +1,6 @@
+package shapes;
+
+public abstract class Polygon extends Shape {
+    public Polygon() {
+    }
+}

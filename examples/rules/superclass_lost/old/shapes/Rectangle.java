@@ -1,0 +1,6 @@
+package shapes;
+
+public class Rectangle extends Polygon {
+    public Rectangle() {
+    }
+}

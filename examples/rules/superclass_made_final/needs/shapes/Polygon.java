@@ -1,0 +1,7 @@
+package shapes;
+
+/** As it was when Rectangle was compiled. */
+public class Polygon {
+    public Polygon() {
+    }
+}

@@ -1,0 +1,8 @@
+package shapes;
+
+import fancy.Decoration;
+
+public class Ring extends Decoration {
+    public Ring() {
+    }
+}
