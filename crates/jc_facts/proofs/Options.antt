@@ -20,6 +20,24 @@ unfolding first_some
 first_some-none f [] h = tt
 first_some-none f (x ∷ xs) h = let q = or_else-none (f x) (first_some f xs) h in (q.0, first_some-none f xs q.1)
 
+pub none_or_else : {A : Type 0} (o : Option A) → or_else None o ≡ o
+unfolding or_else
+none_or_else o = refl
+
+pub some_or_else : {A : Type 0} (x : A) (o : Option A) → or_else (Some x) o ≡ Some x
+unfolding or_else
+some_or_else x o = refl
+
+pub or_else-assoc : {A : Type 0} (o p q : Option A) → or_else (or_else o p) q ≡ or_else o (or_else p q)
+unfolding or_else
+or_else-assoc None p q = refl
+or_else-assoc (Some x) p q = refl
+
+pub or_else-last : {A : Type 0} (o : Option A) → or_else o None ≡ o
+unfolding or_else
+or_else-last None = refl
+or_else-last (Some x) = refl
+
 pub or_else-cases : {A : Type 0} (o p : Option A) (x : A) → or_else o p ≡ Some x → (o ≡ Some x) ⊎ (p ≡ Some x)
 unfolding or_else
 or_else-cases None p x e = inr e

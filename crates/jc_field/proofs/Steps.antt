@@ -23,6 +23,7 @@ use Rattle.jc_worlds.proofs.Descent.{descend-absent}
 use Rattle.jc_worlds.proofs.Loaded.{loaded-parts, loaded-level, loads-parts, loads-found}
 use Rattle.jc_worlds.proofs.Locality.{of_interfaces}
 use Rattle.jc_worlds.proofs.Unrolled.{with_interfaces-unroll}
+use Rattle.jc_facts.proofs.Options.{none_or_else, or_else-assoc, or_else-last}
 use Rattle.jc_facts.proofs.World.{find-name}
 use Rattle.jc_table.specs.Ids.{name_at, id_of, superclass_of}
 use Rattle.jc_table.specs.Above.{AreAbove}
@@ -137,20 +138,6 @@ module _ (W : World) (k : Key) where
 
 -- ---- one of three, and then the next
 
-none_first : {A : Type 0} (p : Option A) → p ≡ or_else None p
-unfolding or_else
-none_first p = refl
-
-none_last : {A : Type 0} (p : Option A) → or_else p None ≡ p
-unfolding or_else
-none_last None = refl
-none_last (Some x) = refl
-
-or_assoc : {A : Type 0} (o p q : Option A) → or_else (or_else o p) q ≡ or_else o (or_else p q)
-unfolding or_else
-or_assoc None p q = refl
-or_assoc (Some x) p q = refl
-
 -- ---- levels
 
 pub level_all : (W : World) (x : Bytes) (m : ℕ) → m ≡ size W → load_fault W x ≡ None → fault_at W m x ≡ None
@@ -212,20 +199,20 @@ module _ (W : World) (side : IsSide W) (k : Key) (a : ℕ) (l : a < size W) wher
   next_gives h i o =
       let j : interface_flag at.facts.flags ≡ true = sym (ap (some_and (λ d. interface_flag d.flags)) at.found) ∙ i in
       split h ∙ ap (λ q. or_else q (or_else (interfaces_found W (name_at W a) k) above_found)) (answer_none W (own_found W (name_at W a) k) o)
-      ∙ sym (none_first (or_else (interfaces_found W (name_at W a) k) above_found))
-      ∙ ap (or_else (interfaces_found W (name_at W a) k)) (no_super W side k (name_at W a) at.facts at.found j) ∙ none_last (interfaces_found W (name_at W a) k)
+      ∙ none_or_else (or_else (interfaces_found W (name_at W a) k) above_found)
+      ∙ ap (or_else (interfaces_found W (name_at W a) k)) (no_super W side k (name_at W a) at.facts at.found j) ∙ or_else-last (interfaces_found W (name_at W a) k)
 
   -- ---- up to the superclass
 
   pub here_gives : (f : Found) → load_fault W (name_at W a) ≡ None → IsAnswer W (Some f) (here_found W (name_at W a) k) → IsAnswer W (Some f) (field_found W (name_at W a) k)
   here_gives f h o =
-      subst (IsAnswer W (Some f)) (or_assoc (own_found W (name_at W a) k) (interfaces_found W (name_at W a) k) above_found ∙ sym (split h))
+      subst (IsAnswer W (Some f)) (or_else-assoc (own_found W (name_at W a) k) (interfaces_found W (name_at W a) k) above_found ∙ sym (split h))
       (answer_or W f (here_found W (name_at W a) k) above_found o)
 
   up_gives : load_fault W (name_at W a) ≡ None → IsAnswer W None (here_found W (name_at W a) k) → field_found W (name_at W a) k ≡ above_found
   up_gives h o =
-      split h ∙ sym (or_assoc (own_found W (name_at W a) k) (interfaces_found W (name_at W a) k) above_found)
-      ∙ ap (λ q. or_else q above_found) (answer_none W (here_found W (name_at W a) k) o) ∙ sym (none_first above_found)
+      split h ∙ sym (or_else-assoc (own_found W (name_at W a) k) (interfaces_found W (name_at W a) k) above_found)
+      ∙ ap (λ q. or_else q above_found) (answer_none W (here_found W (name_at W a) k) o) ∙ none_or_else above_found
 
   pub up_none : load_fault W (name_at W a) ≡ None → IsAnswer W None (here_found W (name_at W a) k) → None ≡ superclass_of W (name_at W a) → field_found W (name_at W a) k ≡ None
   unfolding above_found and_then field_found

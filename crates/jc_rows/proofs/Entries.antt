@@ -8,28 +8,6 @@ use Rattle.jc_rows.specs.Rows.{RisesFrom, entry}
 use Rattle.jc_rows.specs.steps.Fronts.{item_list}
 use Rattle.jc_index.specs.declared.ids.Found.{Found}
 
--- ---- one after the other
-
-pub or_else-assoc : {A : Type 0} (o p q : Option A) → or_else (or_else o p) q ≡ or_else o (or_else p q)
-unfolding or_else
-or_else-assoc None p q = refl
-or_else-assoc (Some x) p q = refl
-
-pub or_else-last : {A : Type 0} (o : Option A) → or_else o None ≡ o
-unfolding or_else
-or_else-last None = refl
-or_else-last (Some x) = refl
-
-pub none_or_else : {A : Type 0} (o : Option A) → or_else None o ≡ o
-unfolding or_else
-none_or_else o = refl
-
-pub some_or_else : {A : Type 0} (x : A) (o : Option A) → or_else (Some x) o ≡ Some x
-unfolding or_else
-some_or_else x o = refl
-
--- ---- items
-
 pub entry-append : (xs ys : List RowItem) (n : ℕ) → entry (xs ++ ys) n ≡ or_else (entry xs n) (entry ys n)
 unfolding or_else
 entry-append [] ys n = refl

@@ -16,7 +16,7 @@ use Rattle.jc_facts.specs.world.Hierarchy.{chain, of_super}
 use Rattle.jc_facts.specs.world.Loading.{load_fault}
 use Rattle.jc_facts.specs.world.Lookup.{first_declared, public_method_of_object, if_public_instance}
 use Rattle.jc_facts.specs.world.Search.{supers, supers_of}
-use Rattle.jc_facts.proofs.Options.{or_else-both}
+use Rattle.jc_facts.proofs.Options.{or_else-both, or_else-last, none_or_else, some_or_else}
 use Rattle.jc_lemmas.proofs.Listed.{EachOf}
 use Rattle.jc_worlds.proofs.Unrolled.{chain-unroll}
 use Rattle.jc_index.specs.Ids.{id_of, name_at}
@@ -28,7 +28,7 @@ use Rattle.jc_rows.specs.Rows.{RisesFrom, entry, IsRow}
 use Rattle.jc_rows.specs.steps.Merging.{IsMerged}
 use Rattle.jc_rows.specs.steps.Gathering.{row_named, HasAbove}
 use Rattle.jc_rows.specs.steps.Fronts.{front_by, front_method, own_method, chain_method, if_open, item_list, open_items}
-use Rattle.jc_rows.proofs.Entries.{entry-append, entry-below, rises-more, none_or_else, some_or_else, or_else-last}
+use Rattle.jc_rows.proofs.Entries.{entry-append, entry-below, rises-more}
 use Rattle.jc_rows.proofs.FieldLaw.{both}
 
 -- ---- items that stay

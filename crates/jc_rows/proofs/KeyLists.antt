@@ -10,7 +10,7 @@ use Rattle.jc_facts.specs.world.World.{World, find_class}
 use Rattle.jc_index.specs.Ids.{names}
 use Rattle.jc_rows.specs.Keys.{AreDistinct, with_key, with_keys, with_keys_of, with_all_keys, numbered_keys}
 use Rattle.jc_rows.specs.steps.Numbering.{AreNumbers}
-use Rattle.jc_rows.proofs.Numbered.{key_itself}
+use Rattle.jc_facts.proofs.Same.{key_itself}
 
 -- ---- keys stay where they are
 

@@ -8,11 +8,8 @@ use Rattle.std.proofs.lemmas.List.Quantifiers.{position-Some}
 use Rattle.std.proofs.lemmas.Option.{slice_get-get_or, slice_get_within, get_or_from_slice_get}
 use Rattle.jc_facts.specs.declared.key.Key.{Key}
 use Rattle.jc_facts.specs.Names.{Bytes, same, same_key}
-use Rattle.jc_facts.proofs.Same.{same_is, same_itself}
+use Rattle.jc_facts.proofs.Same.{same_is, key_itself}
 use Rattle.jc_rows.specs.Keys.{IsNumber, AreDistinct}
-
-pub key_itself : (k : Key) → same_key k k ≡ true
-key_itself k = ap (λ b. b && same k.descriptor k.descriptor) (same_itself k.name) ∙ same_itself k.descriptor
 
 pub key_is : (k l : Key) → same_key k l ≡ true → k ≡ l
 key_is k l h =

@@ -7,7 +7,7 @@ use Rattle.jc_facts.specs.Names.{Bytes}
 use Rattle.jc_facts.specs.Options.{or_else, first_some, and_then}
 use Rattle.jc_facts.specs.world.Search.{supers, supers_of}
 use Rattle.jc_facts.specs.world.World.{World}
-use Rattle.jc_facts.proofs.Options.{or_else-both}
+use Rattle.jc_facts.proofs.Options.{or_else-both, or_else-assoc, or_else-last}
 use Rattle.jc_lemmas.proofs.Listed.{EachOf}
 use Rattle.jc_worlds.proofs.Locality.{of_interfaces}
 use Rattle.jc_index.specs.Ids.{id_of}
@@ -17,7 +17,6 @@ use Rattle.jc_rows.specs.declared.row.RowItem.{RowItem}
 use Rattle.jc_rows.specs.Rows.{Rises, entry}
 use Rattle.jc_rows.specs.steps.Merging.{IsMerged}
 use Rattle.jc_rows.specs.steps.Gathering.{AreRising, row_at, row_named, first_entry, super_entry, AddsRows, IsAdding, Gathers}
-use Rattle.jc_rows.proofs.Entries.{or_else-assoc, or_else-last}
 
 pub named-rises : (W : World) (rows : List (List RowItem)) (x : Bytes) → AreRising W rows → Rises (row_named W rows x)
 named-rises W rows x a = go (id_of W x) refl

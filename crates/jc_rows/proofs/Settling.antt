@@ -7,7 +7,7 @@ use Rattle.std.proofs.lemmas.Option.{slice_get_within}
 use Rattle.jc_facts.specs.declared.key.Key.{Key}
 use Rattle.jc_facts.specs.Names.{Bytes}
 use Rattle.jc_facts.specs.Options.{or_else}
-use Rattle.jc_facts.proofs.Options.{or_else-none, or_else-both}
+use Rattle.jc_facts.proofs.Options.{or_else-none, or_else-both, or_else-last, none_or_else}
 use Rattle.jc_facts.specs.world.Assignment.{is_interface_of}
 use Rattle.jc_facts.specs.world.World.{World, DeclaredMember}
 use Rattle.jc_facts.specs.world.Lookup.{superinterface_choices, or_choices, method_choices, interface_choices}
@@ -19,7 +19,7 @@ use Rattle.jc_rows.specs.Keys.{numbered_keys}
 use Rattle.jc_rows.specs.Rows.{Rises, RisesFrom, entry, IsRow, IsMethodRow, choices_by, lookup_choices}
 use Rattle.jc_rows.specs.steps.Fronts.{front_by, front_method, item_list}
 use Rattle.jc_rows.specs.steps.Settling.{Settles, IsSource, IsSettling}
-use Rattle.jc_rows.proofs.Entries.{entry-append, rises-without, list_entry, list_here, none_or_else, or_else-last}
+use Rattle.jc_rows.proofs.Entries.{entry-append, rises-without, list_entry, list_here}
 
 -- ---- what is found is a choice
 

@@ -16,6 +16,7 @@ use Rattle.jcompat.specs.Witness.{PutFile}
 use Rattle.jcompat.specs.declared.status.TheConstants.{PASSED, WRITE_FAULT, NO_MEMORY, LIMIT}
 use Rattle.jcompat.specs.declared.stop.Stop.{Stop}
 use Rattle.jcompat.specs.declared.stop.Stop.TheVariants as stops
+use Rattle.jc_lemmas.proofs.Bools.{contradicts}
 use Rattle.jcompat.proofs.Events.{ok_of}
 use Rattle.jcompat.proofs.Results.{same_ok, ok_or_err}
 
@@ -45,10 +46,6 @@ stops_none n c (stops.Overlap t x) h = absurd (h []).1
 stops_none n c (stops.ClientName x p) h = absurd (h []).1
 stops_none n c stops.TooManyFindings h = absurd (h []).1
 stops_none n c (stops.ReadFault t) h = absurd h
-
-true_false : (b : Bool) → b ≡ true → b ≡ false → ⊥
-true_false true h k = cc
-true_false false h k = cc
 
 -- bytes and whether they pass are those of the verdict
 record IsMadeText (n : ℕ) (bytes : Bytes) (passed : Bool) : Type 0 where
@@ -101,7 +98,7 @@ module _ (r : Ran) (n : ℕ) (answers : Answers r) (e : asked r.words ≡ Ok (Ma
   said =
       by_number (λ s. r.status ≡ s → Said) r.status answers.known
       (λ is. let p = answers.passed is in let t = text_of_due p.0 in inl (is, (t.verdict, t.exact, subst (Puts r) t.text p.2)))
-      (λ is. let p = answers.not_passed is in absurd (true_false (has_passed p.0) (text_of_due p.0).is_so p.1))
+      (λ is. let p = answers.not_passed is in absurd (contradicts (has_passed p.0) (text_of_due p.0).is_so p.1))
       (λ is. never_stopped 2 refl is (answers.usage is))
       (λ is. never_stopped 3 refl is (answers.bad_input is))
       (λ is. never_stopped 4 refl is (answers.read_fault is))
