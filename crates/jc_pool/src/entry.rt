@@ -1,15 +1,16 @@
 //! The entries of a pool, read in their order (JVMS 4.4).
-ghost use Rattle.std.specs.Prelude.{◌≡◌, IfOk};
+ghost use Rattle.std.specs.Prelude.{◌≡◌, ◌≤◌, IfOk};
 ghost use Rattle.std.specs.Result.{result_map_both};
-ghost use Rattle.jc_desc.specs.Pool.{body_length, is_wide_tag};
+ghost use Rattle.jc_desc.specs.Pool.{short_from, first_of, second_of, slot_of_index, body_length, is_wide_tag};
 ghost use Rattle.jc_desc.specs.PoolSteps.{utf8_from, body_from, entry_from};
 ghost use Rattle.jc_pool.specs.Slots.{slot_of, slots_of};
 ghost use Rattle.jc_pool.specs.steps.Slots.{all_slots_at};
 
+use crate::text::is_text;
+use byteorder::{BigEndian, ByteOrder};
 use jc_desc::bytes::{bytes_at, u8_at, u16_at};
 use jc_desc::fault::{Fault, Reason};
 use jc_desc::tags;
-use jc_desc::utf8::is_text;
 use std::alloc::{AllocError, Global};
 
 /// What an index of the pool holds: the tag of an entry, and the bytes behind the tag, of a Utf8 its
@@ -28,6 +29,42 @@ pub const NOTHING: Slot<'static> = Slot {
     body: &[],
     left: 0,
 };
+
+/// What an index holds.
+pub(crate) fn at<'a>(slots: &[Slot<'a>], index: u16) -> Slot<'a>
+    ensures { slot_of result ≡ slot_of_index (slots_of slots.now) index }
+{
+    if (index as usize) < slots.len() {
+        slots[index as usize]
+    } else {
+        NOTHING
+    }
+}
+
+/// The number in the two bytes from place `i` on, or 0 where they aren't there.
+pub(crate) fn short_in(i: usize, body: &[u8]) -> u16
+    requires { i ≤ 8 }
+    ensures { result ≡ short_from i body.now }
+{
+    if body.len() < i + 2 {
+        return 0;
+    }
+    BigEndian::read_u16(&body[i..])
+}
+
+/// The first index of an entry.
+pub(crate) fn first(slot: Slot<'_>) -> u16
+    ensures { result ≡ first_of (slot_of slot.entry) }
+{
+    short_in(0, slot.body)
+}
+
+/// The second index of an entry.
+pub(crate) fn second(slot: Slot<'_>) -> u16
+    ensures { result ≡ second_of (slot_of slot.entry) }
+{
+    short_in(2, slot.body)
+}
 
 fn body_len(tag: u8) -> Option<usize>
     ensures { result ≡ body_length tag }

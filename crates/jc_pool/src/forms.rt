@@ -1,27 +1,71 @@
-//! What the texts of a pool are. Each text is looked through once, however many entries name it, so
-//! that a pool is read in a time that grows as its bytes do.
-ghost use Rattle.std.specs.Prelude.{◌≡◌, IfOk};
+//! What the texts of a pool are. A text is looked through only for what an entry asks of it, and then
+//! once, however many entries ask, so that a pool is read in a time that grows as its bytes do.
+ghost use Rattle.std.specs.Prelude.{◌≡◌, ℕ, List, IfOk};
 ghost use Rattle.jc_desc.specs.Pool.{slot_of_index};
-ghost use Rattle.jc_pool.specs.steps.Forms.{forms_in, forms_at, forms_of_all};
+ghost use Rattle.jc_pool.specs.steps.Forms.{class_form_in, name_forms_in, descriptor_forms_in, AreForms, AreOf};
 ghost use Rattle.jc_pool.specs.Slots.{slots_of};
 
-use crate::entry::Slot;
+use crate::entry::{Slot, at, first, second};
 use jc_desc::method::returns_void;
 use jc_desc::names::{is_clinit, is_init, is_member_name};
-use jc_desc::pool_texts::{is_any_name, is_class_text, is_field, is_method};
+use jc_desc::pool_texts::{is_class_text, is_field, is_method};
+use jc_desc::tags;
 use std::alloc::{AllocError, Global};
 
-/// What a text is. It may be several things at once.
+/// What entries ask of a text in one role.
+pub(crate) trait Form: Copy {
+    /// What it is of a text.
+    ghost form_in: { List ℕ → Self };
+
+    /// What the text is.
+    fn of(text: &[u8]) -> Self
+        ensures { result ≡ form_in text.now };
+}
+
+/// What is asked of the text of a Class.
 #[derive(Clone, Copy, Debug)]
-pub struct Forms {
+pub struct ClassForm {
     /// The name of a class, or the descriptor of an array.
     pub class: bool,
+}
+
+impl Form for ClassForm {
+    ghost form_in = { class_form_in };
+
+    fn of(text: &[u8]) -> ClassForm {
+        ClassForm {
+            class: is_class_text(text),
+        }
+    }
+}
+
+/// What is asked of the name in a NameAndType.
+#[derive(Clone, Copy, Debug)]
+pub struct NameForms {
     /// The name of a field or of a method.
-    pub member_name: bool,
+    pub member: bool,
     /// The name of a method other than `<clinit>`.
-    pub method_name: bool,
+    pub method: bool,
     /// `<init>`.
     pub init: bool,
+}
+
+impl Form for NameForms {
+    ghost form_in = { name_forms_in };
+
+    fn of(text: &[u8]) -> NameForms {
+        let of_method = is_member_name(text, true);
+        NameForms {
+            member: of_method || is_member_name(text, false),
+            method: of_method && !is_clinit(text),
+            init: is_init(text),
+        }
+    }
+}
+
+/// What is asked of the descriptor in a NameAndType, or of that of a MethodType.
+#[derive(Clone, Copy, Debug)]
+pub struct DescriptorForms {
     /// The descriptor of a field.
     pub field: bool,
     /// The descriptor of a method.
@@ -30,51 +74,116 @@ pub struct Forms {
     pub void: bool,
 }
 
-/// What no bytes are.
-const NO_FORMS: Forms = Forms {
-    class: false,
-    member_name: false,
-    method_name: false,
-    init: false,
-    field: false,
-    method: false,
-    void: false,
-};
+impl Form for DescriptorForms {
+    ghost form_in = { descriptor_forms_in };
 
-fn forms_of(text: &[u8]) -> Forms
-    ensures { result ≡ forms_in text.now }
-{
-    let method_name = is_member_name(text, true) && !is_clinit(text);
-    Forms {
-        class: is_class_text(text),
-        member_name: is_any_name(text),
-        method_name,
-        init: is_init(text),
-        field: is_field(text),
-        method: is_method(text),
-        void: returns_void(text),
+    fn of(text: &[u8]) -> DescriptorForms {
+        DescriptorForms {
+            field: is_field(text),
+            method: is_method(text),
+            void: returns_void(text),
+        }
     }
 }
 
-/// What the text at each index is. Takes memory for the list.
-pub(crate) fn all_forms(alloc: Global, slots: &[Slot<'_>]) -> Result<Vec<Forms>, AllocError>
-    ensures { IfOk result (λ forms. forms.items ≡ forms_of_all (slots_of slots.now)) }
+/// What is known of the texts, at their indices.
+#[derive(Drop)]
+pub(crate) struct Forms {
+    pub classes: Vec<Option<ClassForm>>,
+    pub names: Vec<Option<NameForms>>,
+    pub descriptors: Vec<Option<DescriptorForms>>,
+}
+
+/// Keeps what the text at this index is.
+fn look<F: Form>(slots: &[Slot<'_>], known: &mut Vec<Option<F>>, index: u16)
+    requires { AreOf F.form_in (slots_of slots.now) known.old.items }
+    ensures { AreOf F.form_in (slots_of slots.now) known.new.items }
 {
-    let mut forms = Vec::new(alloc);
+    let i = index as usize;
+    if i < known.len() && known[i].is_none() {
+        known[i] = Some(F::of(at(slots, index).body));
+    }
+}
+
+/// Keeps what the texts are that an entry asks about by an index of its own. What a reference to a
+/// member asks about is asked about by its NameAndType too.
+fn look_for(slots: &[Slot<'_>], known: &mut Forms, slot: Slot<'_>)
+    requires { AreForms (slots_of slots.now) known.old }
+    ensures { AreForms (slots_of slots.now) known.new }
+{
+    match slot.tag {
+        tags::CLASS => look(slots, &mut known.classes, first(slot)),
+        tags::NAME_AND_TYPE => {
+            look(slots, &mut known.names, first(slot));
+            look(slots, &mut known.descriptors, second(slot));
+        }
+        tags::METHOD_TYPE => look(slots, &mut known.descriptors, first(slot)),
+        _ => {}
+    }
+}
+
+/// Nothing known of the texts. Takes memory for the list.
+fn nothing_known<F: Form>(alloc: Global, slots: &[Slot<'_>]) -> Result<Vec<Option<F>>, AllocError>
+    ensures { IfOk result (λ known. AreOf F.form_in (slots_of slots.now) known.items) }
+{
+    let mut known = Vec::with_capacity(alloc, slots.len())?;
+    for _ in slots {
+        known.push(None)?;
+    }
+    Ok(known)
+}
+
+/// What the texts are that entries ask about. Takes memory for the lists.
+pub(crate) fn asked_forms(alloc: Global, slots: &[Slot<'_>]) -> Result<Forms, AllocError>
+    ensures { IfOk result (λ known. AreForms (slots_of slots.now) known) }
+{
+    let mut known = Forms {
+        classes: nothing_known(alloc, slots)?,
+        names: nothing_known(alloc, slots)?,
+        descriptors: nothing_known(alloc, slots)?,
+    };
     for slot in slots {
-        forms.push(forms_of(slot.body))?;
+        look_for(slots, &mut known, *slot);
     }
-    Ok(forms)
+    Ok(known)
 }
 
-/// What the text at this index is, of the forms of these slots.
-pub(crate) fn form(slots: &[Slot<'_>], forms: &[Forms], index: u16) -> Forms
-    requires { forms.now ≡ forms_of_all (slots_of slots.now) }
-    ensures { result ≡ forms_at (slot_of_index (slots_of slots.now) index) }
+/// What the text at this index is, which is looked through only where that isn't known.
+fn form_at<F: Form>(slots: &[Slot<'_>], known: &[Option<F>], index: u16) -> F
+    requires { AreOf F.form_in (slots_of slots.now) known.now }
+    ensures { result ≡ F.form_in (slot_of_index (slots_of slots.now) index).body }
 {
-    if (index as usize) < forms.len() {
-        forms[index as usize]
-    } else {
-        NO_FORMS
+    let i = index as usize;
+    if i < known.len() {
+        if let Some(form) = known[i] {
+            return form;
+        }
+    }
+    F::of(at(slots, index).body)
+}
+
+impl Forms {
+    /// What the text of a Class is, at this index.
+    pub(crate) fn class(&self, slots: &[Slot<'_>], index: u16) -> ClassForm
+        requires { AreForms (slots_of slots.now) self.now }
+        ensures { result ≡ class_form_in (slot_of_index (slots_of slots.now) index).body }
+    {
+        form_at(slots, self.classes.as_slice(), index)
+    }
+
+    /// What the name at this index is.
+    pub(crate) fn name(&self, slots: &[Slot<'_>], index: u16) -> NameForms
+        requires { AreForms (slots_of slots.now) self.now }
+        ensures { result ≡ name_forms_in (slot_of_index (slots_of slots.now) index).body }
+    {
+        form_at(slots, self.names.as_slice(), index)
+    }
+
+    /// What the descriptor at this index is.
+    pub(crate) fn descriptor(&self, slots: &[Slot<'_>], index: u16) -> DescriptorForms
+        requires { AreForms (slots_of slots.now) self.now }
+        ensures { result ≡ descriptor_forms_in (slot_of_index (slots_of slots.now) index).body }
+    {
+        form_at(slots, self.descriptors.as_slice(), index)
     }
 }

@@ -9,5 +9,6 @@ mod links;
 mod names;
 pub mod pool;
 mod start;
+mod text;
 
 pub use jc_desc::fault::{Malformed, Reason};

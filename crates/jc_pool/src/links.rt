@@ -3,40 +3,14 @@ ghost use Rattle.std.specs.Prelude.{◌≡◌, ◌≤◌, ◌&&◌, ◌||◌, no
 ghost use Rattle.jc_desc.specs.Faults.{first_fault};
 ghost use Rattle.jc_desc.specs.Pool.{short_from, first_of, second_of, slot_of_index, holds_tag, text_in, name_in, descriptor_in, pair_in, refers_rightly, fits_handle, names_for_handle, handle_kind, handle_target, names_one_utf8, is_member_reference};
 ghost use Rattle.jc_desc.specs.PoolSteps.{want, meaning_fault, fault_of_handle, reference_fault, sense_fault, fault_of_links};
-ghost use Rattle.jc_pool.specs.steps.Forms.{forms_in, forms_of_all};
+ghost use Rattle.jc_pool.specs.steps.Forms.{name_forms_in, AreForms};
 ghost use Rattle.jc_pool.specs.Slots.{slot_of, slots_of};
 
-use crate::entry::{NOTHING, Slot};
-use crate::forms::{Forms, all_forms, form};
-use byteorder::{BigEndian, ByteOrder};
+use crate::entry::{Slot, at, first, second, short_in};
+use crate::forms::{ClassForm, DescriptorForms, Forms, NameForms, asked_forms};
 use jc_desc::fault::{Fault, Reason};
 use jc_desc::tags;
 use std::alloc::{AllocError, Global};
-
-/// The number in the two bytes from place `i` on, or 0 where they aren't there.
-pub(crate) fn short_in(i: usize, body: &[u8]) -> u16
-    requires { i ≤ 8 }
-    ensures { result ≡ short_from i body.now }
-{
-    if body.len() < i + 2 {
-        return 0;
-    }
-    BigEndian::read_u16(&body[i..])
-}
-
-/// The first index of an entry.
-pub(crate) fn first(slot: Slot<'_>) -> u16
-    ensures { result ≡ first_of (slot_of slot.entry) }
-{
-    short_in(0, slot.body)
-}
-
-/// The second index of an entry.
-pub(crate) fn second(slot: Slot<'_>) -> u16
-    ensures { result ≡ second_of (slot_of slot.entry) }
-{
-    short_in(2, slot.body)
-}
 
 /// The index of the member that a MethodHandle uses.
 pub(crate) fn target(slot: Slot<'_>) -> u16
@@ -53,17 +27,6 @@ pub(crate) fn kind(slot: Slot<'_>) -> u8
         0
     } else {
         slot.body[0]
-    }
-}
-
-/// What an index holds.
-pub(crate) fn at<'a>(slots: &[Slot<'a>], index: u16) -> Slot<'a>
-    ensures { slot_of result ≡ slot_of_index (slots_of slots.now) index }
-{
-    if (index as usize) < slots.len() {
-        slots[index as usize]
-    } else {
-        NOTHING
     }
 }
 
@@ -132,7 +95,7 @@ fn refers(slots: &[Slot<'_>], slot: Slot<'_>) -> bool
     true
 }
 
-fn class_fault(text: Forms) -> Option<Reason>
+fn class_fault(text: ClassForm) -> Option<Reason>
     ensures { result ≡ want text.class Reason.BadName None }
 {
     if text.class {
@@ -142,10 +105,10 @@ fn class_fault(text: Forms) -> Option<Reason>
     }
 }
 
-fn pair_fault(name: Forms, descriptor: Forms) -> Option<Reason>
-    ensures { result ≡ want name.member_name Reason.BadName (want (descriptor.field || descriptor.method) Reason.BadDescriptor None) }
+fn pair_fault(name: NameForms, descriptor: DescriptorForms) -> Option<Reason>
+    ensures { result ≡ want name.member Reason.BadName (want (descriptor.field || descriptor.method) Reason.BadDescriptor None) }
 {
-    if !name.member_name {
+    if !name.member {
         return Some(Reason::BadName);
     }
     if !(descriptor.field || descriptor.method) {
@@ -154,13 +117,13 @@ fn pair_fault(name: Forms, descriptor: Forms) -> Option<Reason>
     None
 }
 
-fn method_fault(interface: bool, name: Forms, descriptor: Forms) -> Option<Reason>
-    ensures { result ≡ want descriptor.method Reason.BadDescriptor (want (name.method_name && not (interface && name.init)) Reason.BadName (want (not name.init || descriptor.void) Reason.BadDescriptor None)) }
+fn method_fault(interface: bool, name: NameForms, descriptor: DescriptorForms) -> Option<Reason>
+    ensures { result ≡ want descriptor.method Reason.BadDescriptor (want (name.method && not (interface && name.init)) Reason.BadName (want (not name.init || descriptor.void) Reason.BadDescriptor None)) }
 {
     if !descriptor.method {
         return Some(Reason::BadDescriptor);
     }
-    if !(name.method_name && !(interface && name.init)) {
+    if !(name.method && !(interface && name.init)) {
         return Some(Reason::BadName);
     }
     if name.init && !descriptor.void {
@@ -181,8 +144,8 @@ fn handle_fits(kind: u8, tag: u8) -> bool
     }
 }
 
-fn handle_names(kind: u8, name: Forms) -> bool
-    ensures { (text : List ℕ) → name ≡ forms_in text → result ≡ names_for_handle kind text }
+fn handle_names(kind: u8, name: NameForms) -> bool
+    ensures { (text : List ℕ) → name ≡ name_forms_in text → result ≡ names_for_handle kind text }
 {
     match kind {
         8 => name.init,
@@ -191,8 +154,8 @@ fn handle_names(kind: u8, name: Forms) -> bool
     }
 }
 
-fn handle_fault(kind: u8, tag: u8, name: Forms) -> Option<Reason>
-    ensures { (text : List ℕ) → name ≡ forms_in text → result ≡ fault_of_handle kind tag text }
+fn handle_fault(kind: u8, tag: u8, name: NameForms) -> Option<Reason>
+    ensures { (text : List ℕ) → name ≡ name_forms_in text → result ≡ fault_of_handle kind tag text }
 {
     if !handle_fits(kind, tag) {
         return Some(Reason::BadIndex);
@@ -203,7 +166,7 @@ fn handle_fault(kind: u8, tag: u8, name: Forms) -> Option<Reason>
     None
 }
 
-fn field_fault(descriptor: Forms) -> Option<Reason>
+fn field_fault(descriptor: DescriptorForms) -> Option<Reason>
     ensures { result ≡ want descriptor.field Reason.BadDescriptor None }
 {
     if descriptor.field {
@@ -213,7 +176,7 @@ fn field_fault(descriptor: Forms) -> Option<Reason>
     }
 }
 
-fn shape_fault(descriptor: Forms) -> Option<Reason>
+fn shape_fault(descriptor: DescriptorForms) -> Option<Reason>
     ensures { result ≡ want descriptor.method Reason.BadDescriptor None }
 {
     if descriptor.method {
@@ -225,35 +188,35 @@ fn shape_fault(descriptor: Forms) -> Option<Reason>
 
 /// The first reason against what an entry names.
 #[tactic(auto, unfolding(jc_desc::specs::PoolSteps::meaning_fault))]
-fn meaning(slots: &[Slot<'_>], forms: &[Forms], slot: Slot<'_>) -> Option<Reason>
-    requires { forms.now ≡ forms_of_all (slots_of slots.now) }
+fn meaning(slots: &[Slot<'_>], known: &Forms, slot: Slot<'_>) -> Option<Reason>
+    requires { AreForms (slots_of slots.now) known.now }
     ensures { result ≡ meaning_fault (slots_of slots.now) (slot_of slot.entry) }
 {
     match slot.tag {
-        tags::CLASS => class_fault(form(slots, forms, first(slot))),
+        tags::CLASS => class_fault(known.class(slots, first(slot))),
         tags::NAME_AND_TYPE => {
-            let name = form(slots, forms, first(slot));
-            pair_fault(name, form(slots, forms, second(slot)))
+            let name = known.name(slots, first(slot));
+            pair_fault(name, known.descriptor(slots, second(slot)))
         }
-        tags::FIELD_REF => field_fault(form(slots, forms, second(pair(slots, slot)))),
+        tags::FIELD_REF => field_fault(known.descriptor(slots, second(pair(slots, slot)))),
         tags::METHOD_REF => {
             let named = pair(slots, slot);
-            let name = form(slots, forms, first(named));
-            method_fault(false, name, form(slots, forms, second(named)))
+            let name = known.name(slots, first(named));
+            method_fault(false, name, known.descriptor(slots, second(named)))
         }
         tags::INTERFACE_METHOD_REF => {
             let named = pair(slots, slot);
-            let name = form(slots, forms, first(named));
-            method_fault(true, name, form(slots, forms, second(named)))
+            let name = known.name(slots, first(named));
+            method_fault(true, name, known.descriptor(slots, second(named)))
         }
         tags::METHOD_HANDLE => {
             let member = at(slots, target(slot));
-            let name = form(slots, forms, first(pair(slots, member)));
+            let name = known.name(slots, first(pair(slots, member)));
             handle_fault(kind(slot), member.tag, name)
         }
-        tags::METHOD_TYPE => shape_fault(form(slots, forms, first(slot))),
-        tags::DYNAMIC => field_fault(form(slots, forms, second(pair(slots, slot)))),
-        tags::INVOKE_DYNAMIC => shape_fault(form(slots, forms, second(pair(slots, slot)))),
+        tags::METHOD_TYPE => shape_fault(known.descriptor(slots, first(slot))),
+        tags::DYNAMIC => field_fault(known.descriptor(slots, second(pair(slots, slot)))),
+        tags::INVOKE_DYNAMIC => shape_fault(known.descriptor(slots, second(pair(slots, slot)))),
         _ => None,
     }
 }
@@ -272,12 +235,12 @@ fn first_reference_fault(slots: &[Slot<'_>]) -> Option<Fault>
     None
 }
 
-fn first_sense_fault(slots: &[Slot<'_>], forms: &[Forms]) -> Option<Fault>
-    requires { forms.now ≡ forms_of_all (slots_of slots.now) }
+fn first_sense_fault(slots: &[Slot<'_>], known: &Forms) -> Option<Fault>
+    requires { AreForms (slots_of slots.now) known.now }
     ensures { result ≡ first_fault (sense_fault (slots_of slots.now)) (slots_of slots.now) }
 {
     for slot in slots {
-        if let Some(reason) = meaning(slots, forms, *slot) {
+        if let Some(reason) = meaning(slots, known, *slot) {
             return Some(Fault {
                 left: slot.left,
                 reason,
@@ -295,6 +258,6 @@ pub(crate) fn links_fault(alloc: Global, slots: &[Slot<'_>]) -> Result<Option<Fa
     if let Some(fault) = first_reference_fault(slots) {
         return Ok(Some(fault));
     }
-    let forms = all_forms(alloc, slots)?;
-    Ok(first_sense_fault(slots, forms.as_slice()))
+    let known = asked_forms(alloc, slots)?;
+    Ok(first_sense_fault(slots, &known))
 }

@@ -9,8 +9,8 @@ ghost use Rattle.jc_desc.specs.PoolAnswers.{tag_in, utf8_in, class_in, member_re
 ghost use Rattle.jc_pool.specs.Slots.{slot_of, slots_of};
 ghost use Rattle.jc_pool.specs.Views.{member_view, handle_view, constant_view, PoolFails};
 
-use crate::entry::{Slot, slots_at};
-use crate::links::{at, descriptor, first, is_member_ref, kind, links_fault, pair, target, text};
+use crate::entry::{Slot, at, first, slots_at};
+use crate::links::{descriptor, is_member_ref, kind, links_fault, pair, target, text};
 use crate::names::Names;
 use crate::start::start;
 use byteorder::{BigEndian, ByteOrder};
