@@ -1,12 +1,9 @@
 -- Superinterfaces by numbers.
-use Rattle.std.proofs.Common.{◌≡◌, ◌<◌, ◌≤◌, ◌+◌, ℕ, zero, suc, Bool, true, false, ◌||◌, List, [], ◌∷◌, ◌++◌, length, get_or, map, take, refl, sym, ◌∙◌, ap, subst, ◌⊎◌, inl, inr, arith, eqb, Option, Some, None}
+use Rattle.std.proofs.Common.{◌≡◌, ◌<◌, ◌≤◌, ◌+◌, ℕ, zero, suc, Bool, true, false, ◌||◌, ◌==◌, List, [], ◌∷◌, ◌++◌, length, get_or, map, take, refl, sym, ◌∙◌, ap, subst, ◌⊎◌, inl, inr, arith, eqb, Option, Some, None}
 use Rattle.std.specs.Prelude.{IsTrue, is_some, nat_lt}
 use Rattle.std.specs.List.{All, Any, Contains, list_any, filter_map, cons_option}
-use Rattle.std.specs.Ordering.{nat_cmp}
-use Rattle.std.specs.BTreeSet.{BTreeSet, contains}
 use Rattle.std.proofs.lemmas.Bool.{eqb-true, eq-eqb, ltb-true, lt-ltb, cases_lt}
-use Rattle.std.proofs.lemmas.List.{map-append, get_or-map, length-map, take_more, get_or_past, get_or_append_left}
-use Rattle.std.proofs.Math.Seq.{get_or-append_seam}
+use Rattle.std.proofs.lemmas.List.{map-append, get_or-map, length-map, take_more, get_or_past}
 use Rattle.std.proofs.lemmas.List.Folds.{list_any-append, Any-from_list_any}
 use Rattle.std.proofs.lemmas.List.Elements.{All-contains, All-from_recursion, All-weaker, All-contains_itself}
 use Rattle.jc_facts.specs.declared.class_facts.ClassFacts.{ClassFacts}
@@ -23,8 +20,8 @@ use Rattle.jc_lemmas.proofs.Lists.{any_weaker}
 use Rattle.jc_facts.proofs.World.{find-name}
 use Rattle.jc_worlds.proofs.Interfaces.{levels_suffice, above_is_one_step}
 use Rattle.jc_index.specs.Ids.{names, name_at, id_of, superclass_of}
-use Rattle.jc_index.specs.steps.Reach.{Has, next_of, IsLedTo}
-use Rattle.jc_index.specs.Above.{leads_to, leads_by, AreRows}
+use Rattle.jc_index.specs.steps.Reach.{next_of, IsLedTo, AllLedTo}
+use Rattle.jc_index.specs.Above.{leads_to, leads_by, AreAbove, AreRows}
 use Rattle.jc_index.specs.steps.Named.{named_by, edges_of}
 use Rattle.jc_index.proofs.Numbers.{IsClass, is_class, class_at, superclass_is, find-None, id_of-Some, id_of-name_at, id-find, names-length, number_of}
 use Rattle.jc_lemmas.proofs.Bools.{tests_agree}
@@ -104,19 +101,6 @@ module _ (W : World) where
   pub leads-itself : (x : Bytes) (c : ClassFacts) → find_class W x ≡ Some c → names_in (with_interfaces W x) x ≡ true
   leads-itself x c e = (above_is_one_step W x x c e).1 ∙ ap (λ b. b || list_any (λ i. names_in (with_interfaces W i) x) c.interfaces) (ap (λ w. same w x) (find-name W x c e) ∙ same_itself x)
 
--- one row more
-pub rows_step : (rows : List (BTreeSet ℕ)) (edges : List (List ℕ)) (start : ℕ) (set : BTreeSet ℕ) → length rows ≡ start
-    → ((n : ℕ) (e : BTreeSet ℕ) → n < start → IsLedTo edges n (get_or rows n e)) → IsLedTo edges start set
-    → (n : ℕ) (e : BTreeSet ℕ) → n < start + 1 → IsLedTo edges n (get_or (rows ++ set ∷ []) n e)
-rows_step rows edges start set c h s n e l = go (cases_lt n start)
-  where
-    go : (n < start) ⊎ (start ≤ n) → IsLedTo edges n (get_or (rows ++ set ∷ []) n e)
-    go (inl m) = subst (λ (r : BTreeSet ℕ). IsLedTo edges n r) (sym (get_or_append_left rows (set ∷ []) e n (subst (λ k. n < k) (sym c) m))) (h n e m)
-    go (inr m) =
-        let is : n ≡ length rows = omega (arith, c) in
-        subst (λ k. IsLedTo edges k (get_or (rows ++ set ∷ []) k e)) (sym is)
-        (subst (λ (r : BTreeSet ℕ). IsLedTo edges (length rows) r) (sym (get_or-append_seam rows set [] e)) (subst (λ k. IsLedTo edges k set) (sym c) s))
-
 -- ---- the graph of interfaces
 
 -- a number that is found for a name of the list, and which it is
@@ -195,8 +179,8 @@ module _ (W : World) where
 
   -- ---- rows
 
-  -- the search from a number has exactly what its class leads to
-  module _ (d : IsTrue (differ_by_name (classes W))) (n : ℕ) (l : n < size W) (set : BTreeSet ℕ) (s : IsLedTo (edges_of W) n set) where
+  -- what is led to from a number is exactly what its class leads to
+  module _ (d : IsTrue (differ_by_name (classes W))) (n : ℕ) (l : n < size W) (ids : List ℕ) (s : IsLedTo (edges_of W) n ids) where
     passes : ℕ → Bool
     passes k = leads_by W (name_at W n) (name_at W k)
 
@@ -244,58 +228,67 @@ module _ (W : World) where
                 ∙ any_weaker (λ i. names_in (with_interfaces W i) (name_at W k)) (λ i. names_in (with_interfaces W i) (name_at W j))
                 (λ i p. ap (names_in (with_interfaces W i)) is ∙ leads-on W i (name_at W k) m.name c p e m.is_in (sym (id-find W m.name) ∙ ap is_some m.numbered)) cls.facts.interfaces (sym (led_by (name_at W k)) ∙ h)
 
-    -- what a class of the set names is in the set
-    step_in : (x z : Bytes) (i j : ℕ) (c : ClassFacts) → id_of W x ≡ Some i → find_class W x ≡ Some c → Contains c.interfaces z → id_of W z ≡ Some j → Has set i → Has set j
+    -- what a class of the list names is in the list
+    step_in : (x z : Bytes) (i j : ℕ) (c : ClassFacts) → id_of W x ≡ Some i → find_class W x ≡ Some c → Contains c.interfaces z → id_of W z ≡ Some j → Contains ids i → Contains ids j
     step_in x z i j c ex e k ez h =
         let at = id_of-Some W x i ex in
         let is : next_of (edges_of W) i ≡ filter_map (id_of W) c.interfaces = next-is i at.0 ∙ ap (λ y. named_by W (find_class W y)) at.1 ∙ ap (named_by W) e in
-        All-contains (Has set) (next_of (edges_of W) i) j (s.further i h) (subst (λ (ks : List ℕ). Contains ks j) (sym is) (in_numbers c.interfaces z j k ez))
+        All-contains (Contains ids) (next_of (edges_of W) i) j (s.further i h) (subst (λ (ks : List ℕ). Contains ks j) (sym is) (in_numbers c.interfaces z j k ez))
 
-    -- what is reached from a number of the set is in the set
-    reached : (m : ℕ) (x y : Bytes) (i k : ℕ) → id_of W x ≡ Some i → id_of W y ≡ Some k → Has set i → led W m x y ≡ true → Has set k
+    -- what is reached from a number of the list is in the list
+    reached : (m : ℕ) (x y : Bytes) (i k : ℕ) → id_of W x ≡ Some i → id_of W y ≡ Some k → Contains ids i → led W m x y ≡ true → Contains ids k
     reached zero x y i k ex ey h p = absurd (let c : false ≡ true = sym (led-none W x y) ∙ p in cc)
     reached (suc m) x y i k ex ey h p = go (is_class W x (sym (id-find W x) ∙ ap is_some ex)) (λ z j. reached m z y j k)
       where
-        go : IsClass W x → ((z : Bytes) (j : ℕ) → id_of W z ≡ Some j → id_of W y ≡ Some k → Has set j → led W m z y ≡ true → Has set k) → Has set k
+        go : IsClass W x → ((z : Bytes) (j : ℕ) → id_of W z ≡ Some j → id_of W y ≡ Some k → Contains ids j → led W m z y ≡ true → Contains ids k) → Contains ids k
         go r more = by (same r.facts.name y) refl (sym (led-found W m x y r.facts r.found) ∙ p)
           where
-            through : Any (λ z. led W m z y ≡ true) r.facts.interfaces → Has set k
+            through : Any (λ z. led W m z y ≡ true) r.facts.interfaces → Contains ids k
             through a =
                 let z = number_of W a.1 (led-from W m a.1 y a.4) in
                 more a.1 z.0 z.1 ey (step_in x a.1 i z.0 r.facts ex r.found (a.0, a.2, a.3) z.1 h) a.4
 
-            by : (b : Bool) → same r.facts.name y ≡ b → (b || list_any (λ z. led W m z y) r.facts.interfaces) ≡ true → Has set k
-            by true q t = let is : Some i ≡ Some k = sym ex ∙ ap (id_of W) (sym r.name ∙ same_is r.facts.name y q) ∙ ey in subst (λ n. Has set n) (let e : i ≡ k = cc in e) h
+            by : (b : Bool) → same r.facts.name y ≡ b → (b || list_any (λ z. led W m z y) r.facts.interfaces) ≡ true → Contains ids k
+            by true q t = let is : Some i ≡ Some k = sym ex ∙ ap (id_of W) (sym r.name ∙ same_is r.facts.name y q) ∙ ey in subst (λ n. Contains ids n) (let e : i ≡ k = cc in e) h
             by false q t = through (Any-from_list_any (λ z. led W m z y) r.facts.interfaces t)
 
-    held : (k : ℕ) → k < size W → passes k ≡ true → contains nat_cmp set k ≡ true
+    held : (k : ℕ) → k < size W → passes k ≡ true → Contains ids k
     unfolding passes
     held k m h = through (Any-from_list_any (λ i. names_in (with_interfaces W i) (name_at W k)) cls.facts.interfaces (sym (led_by (name_at W k)) ∙ h))
       where
-        through : Any (λ i. names_in (with_interfaces W i) (name_at W k) ≡ true) cls.facts.interfaces → contains nat_cmp set k ≡ true
+        through : Any (λ i. names_in (with_interfaces W i) (name_at W k) ≡ true) cls.facts.interfaces → Contains ids k
         through a =
             let p : led W (size W) a.1 (name_at W k) ≡ true = whole W a.1 (name_at W k) ∙ a.4 in
             let z = number_of W a.1 (led-from W (size W) a.1 (name_at W k) p) in
             reached (size W) a.1 (name_at W k) z.0 k z.1 (id_of-name_at W k d m)
-            (All-contains (Has set) (next_of (edges_of W) n) z.0 s.first (subst (λ (ks : List ℕ). Contains ks z.0) (sym first_is) (in_numbers cls.facts.interfaces a.1 z.0 (a.0, a.2, a.3) z.1))) p
+            (All-contains (Contains ids) (next_of (edges_of W) n) z.0 s.first (subst (λ (ks : List ℕ). Contains ks z.0) (sym first_is) (in_numbers cls.facts.interfaces a.1 z.0 (a.0, a.2, a.3) z.1))) p
 
     -- and nothing that isn't there
-    pub row_within : (k : ℕ) → contains nat_cmp set k ≡ true → k < size W
+    row_within : (k : ℕ) → Contains ids k → k < size W
     row_within k h = ltb-true k (size W) (s.least (λ j. nat_lt j (size W)) (inside (next_of (edges_of W) n) (next_within n)) (λ j p. inside (next_of (edges_of W) j) (next_within j)) k h)
       where
         inside : (ks : List ℕ) → All (λ j. j < size W) ks → All (λ j. nat_lt j (size W) ≡ true) ks
         inside ks a = All-weaker (λ j. j < size W) (λ j. nat_lt j (size W) ≡ true) (λ j q. lt-ltb j (size W) q) ks a
 
-    pub row_exact : (k : ℕ) → k < size W → contains nat_cmp set k ≡ leads_by W (name_at W n) (name_at W k)
+    row_exact : (k : ℕ) → k < size W → list_any (λ m. m == k) ids ≡ leads_by W (name_at W n) (name_at W k)
     unfolding passes
-    row_exact k m = tests_agree (contains nat_cmp set k) (passes k) (s.least passes first_passes more_pass k) (held k m)
+    row_exact k m =
+        tests_agree (list_any (λ j. j == k) ids) (passes k) (λ h. s.least passes first_passes more_pass k (there_is (Any-from_list_any (λ j. j == k) ids h)))
+        (λ h. any_has (λ j. j == k) ids k (held k m h) (eq-eqb k k refl))
+      where
+        there_is : Any (λ j. (j == k) ≡ true) ids → Contains ids k
+        there_is a = subst (λ j. Contains ids j) (eqb-true a.1 k a.4) (a.0, a.2, a.3)
 
-  pub rows_exact : IsTrue (differ_by_name (classes W)) → (rows : List (BTreeSet ℕ)) → length rows ≡ length (edges_of W)
-      → ((n : ℕ) (e : BTreeSet ℕ) → n < length (edges_of W) → IsLedTo (edges_of W) n (get_or rows n e)) → AreRows W rows
-  rows_exact d rows c h = record {
-    count = c ∙ edges-length;
-    within = λ n k e l p. row_within d n l (get_or rows n e) (h n e (subst (λ j. n < j) (sym edges-length) l)) k p;
-    exact = λ n k e l m. row_exact d n l (get_or rows n e) (h n e (subst (λ j. n < j) (sym edges-length) l)) k m;
+    pub row-above : AreAbove W (name_at W n) ids
+    row-above = record {
+      within = All-weaker (Contains ids) (λ k. k < size W) row_within ids (All-contains_itself ids);
+      exact = row_exact;
+    }
+
+  pub rows_exact : IsTrue (differ_by_name (classes W)) → (rows : List (List ℕ)) → AllLedTo (edges_of W) rows → AreRows W rows
+  rows_exact d rows h = record {
+    count = h.count ∙ edges-length;
+    above = λ n l. row-above d n l (get_or rows n []) (h.led n (subst (λ j. n < j) (sym edges-length) l));
   }
 
 -- ---- a walk up the superclasses

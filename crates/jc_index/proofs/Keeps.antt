@@ -1,22 +1,13 @@
--- What a table keeps of each class: its superclass, and the interfaces that it leads to as a list.
-use Rattle.std.proofs.Common.{◌≡◌, ◌<◌, ◌≤◌, ◌+◌, ℕ, true, ◌||◌, ◌==◌, List, [], ◌∷◌, ◌++◌, length, get_or, map, take, refl, sym, ◌∙◌, ap, subst, arith, Option, Some, None}
+-- What a table keeps of each class: its superclass.
+use Rattle.std.proofs.Common.{◌≡◌, ◌<◌, ◌≤◌, ◌+◌, ℕ, List, [], ◌∷◌, ◌++◌, length, get_or, map, take, sym, ◌∙◌, ap, subst, arith, Option, Some, None}
 use Rattle.std.specs.Prelude.{IfSome}
-use Rattle.std.specs.List.{list_any}
-use Rattle.std.specs.Ordering.{nat_cmp, is_eq}
-use Rattle.std.specs.BTreeSet.{BTreeSet, contains, keys}
-use Rattle.std.proofs.lemmas.Cmp.{nat_cmp_total}
 use Rattle.std.proofs.lemmas.List.{map-append, get_or-map, length-map, take_more, take_all}
-use Rattle.std.proofs.lemmas.List.Elements.{All-weaker}
-use Rattle.std.proofs.lemmas.Map.Views.{All-set_contains}
 use Rattle.jc_facts.specs.declared.class_facts.ClassFacts.{ClassFacts}
 use Rattle.jc_facts.specs.Names.{Bytes}
 use Rattle.jc_facts.specs.Options.{and_then}
 use Rattle.jc_facts.specs.world.World.{World, size, find_class}
 use Rattle.jc_index.specs.Ids.{names, name_at, id_of, superclass_of}
-use Rattle.jc_index.specs.Above.{AreRows, AreAbove}
 use Rattle.jc_index.proofs.Numbers.{names-length, id_of-Some}
-
--- ---- the superclass of each class
 
 pub supers-more : (W : World) (supers : List (Option ℕ)) (n k : ℕ) (s : Option ℕ) → n < size W → k ≡ n → supers ≡ map (superclass_of W) (take n (names W)) → s ≡ superclass_of W (name_at W k)
     → supers ++ s ∷ [] ≡ map (superclass_of W) (take (n + 1) (names W))
@@ -52,31 +43,3 @@ super-below W x k h = go (find_class W x) h
 pub super-some : (W : World) (x : Bytes) (o : Option ℕ) → o ≡ superclass_of W x → IfSome o (λ id. id < size W)
 super-some W x None e = tt
 super-some W x (Some k) e = super-below W x k (sym e)
-
--- ---- the lists of interfaces
-
-at-is : (k n : ℕ) → is_eq (nat_cmp k n) ≡ (n == k)
-at-is k n = grind arith
-
-has-any : (k : ℕ) (ns : List ℕ) → list_any (λ n. is_eq (nat_cmp k n)) ns ≡ list_any (λ n. n == k) ns
-has-any k [] = refl
-has-any k (n ∷ ns) = ap (λ b. b || list_any (λ n. is_eq (nat_cmp k n)) ns) (at-is k n) ∙ ap (λ b. (n == k) || b) (has-any k ns)
-
-pub lists-length : (W : World) (rows : List (BTreeSet ℕ)) (lists : List (List ℕ)) → AreRows W rows → lists ≡ map keys rows → length lists ≡ size W
-lists-length W rows lists r h = ap length h ∙ length-map rows keys ∙ r.count
-
-pub list-at : (W : World) (rows : List (BTreeSet ℕ)) (lists : List (List ℕ)) (n : ℕ) (list : List ℕ) → AreRows W rows → lists ≡ map keys rows → n < size W → list ≡ get_or lists n list
-    → AreAbove W (name_at W n) list
-list-at W rows lists n list r h l e = subst (λ (ids : List ℕ). AreAbove W (name_at W n) ids) (sym is) (record {
-  within = All-weaker (λ k. contains nat_cmp row k ≡ true) (λ k. k < size W) (λ k c. r.within n k none l c) (keys row) (All-set_contains nat_cmp_total row);
-  exact = λ k m. sym (has-any k (keys row)) ∙ r.exact n k none l m;
-})
-  where
-    none : BTreeSet ℕ
-    none = record { keys = [] }
-
-    row : BTreeSet ℕ
-    row = get_or rows n none
-
-    is : list ≡ keys row
-    is = e ∙ ap (λ (xs : List (List ℕ)). get_or xs n list) h ∙ get_or-map keys rows n none list (subst (λ j. n < j) (sym r.count) l)

@@ -14,6 +14,7 @@ pub mod Searches
 pub mod NameSets
 pub mod Mentions
 pub mod Queues
+pub mod Shares
 pub mod Aboves
 pub mod Keeps
 pub mod Sides

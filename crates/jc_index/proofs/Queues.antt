@@ -10,16 +10,16 @@ use Rattle.std.specs.BTreeSet.{BTreeSet, contains, Updates}
 use Rattle.std.proofs.lemmas.Bool.{cases_eq, eq-eqb, ne_eqb, cases_lt}
 use Rattle.std.proofs.lemmas.List.{append-nil, length-append, get_or_append_left, get_or_past, get_or_default}
 use Rattle.std.proofs.lemmas.List.Elements.{All-append, All-contains, All-from_recursion, All-weaker, All-contains_itself, Contains-push, Contains-append_left}
-use Rattle.jc_index.specs.steps.Reach.{Has, next_of, IsLedTo}
-use Rattle.jc_index.specs.steps.Queue.{IsQueueOf, missing, Adds}
+use Rattle.jc_index.specs.steps.Reach.{next_of, IsLedTo}
+use Rattle.jc_index.specs.steps.Queue.{Has, IsQueueOf, missing, Adds}
 
 none_all : (P : ℕ → Type 0) → All P []
 none_all P i d h = absurd (omega arith)
 
-one_all : (P : ℕ → Type 0) (x : ℕ) → P x → All P (x ∷ [])
+pub one_all : (P : ℕ → Type 0) (x : ℕ) → P x → All P (x ∷ [])
 one_all P x h = All-from_recursion P (x ∷ []) (h, tt)
 
-the_one : (P : ℕ → Type 0) (x : ℕ) → All P (x ∷ []) → P x
+pub the_one : (P : ℕ → Type 0) (x : ℕ) → All P (x ∷ []) → P x
 the_one P x h = h 0 x (omega arith)
 
 tied : (x y : ℕ) → is_at (nat_cmp x) y ≡ eqb x y
@@ -213,11 +213,11 @@ module _ (edges : List (List ℕ)) (start : ℕ) where
         let l : length queue ≤ length longer = subst (λ (q : List ℕ). length queue ≤ length q) (sym a.longer_by) (omega (arith, length-append queue a.end)) in
         omega (arith, c, l, inside)
 
-    pub ends : length queue ≤ next → IsLedTo edges start set
+    pub ends : length queue ≤ next → IsLedTo edges start queue
     ends h = record {
-      first = s.first;
-      further = λ k c. by k (s.is_queue.queued k c);
-      least = s.least;
+      first = λ i d l. s.is_queue.queued _ (s.first i d l);
+      further = λ k c i d l. s.is_queue.queued _ (by k c i d l);
+      least = λ p first more k c. s.least p first more k (All-contains (Has set) queue k s.is_queue.held c);
     }
       where
         by : (k : ℕ) → Contains queue k → All (Has set) (next_of edges k)

@@ -1,8 +1,6 @@
 -- The interfaces that stand above each class, by numbers.
-use Rattle.std.specs.Prelude.{ℕ, ◌<◌, ◌==◌, Bool, true, List, ◌≡◌, length, slice_index_or}
+use Rattle.std.specs.Prelude.{ℕ, ◌<◌, ◌==◌, Bool, List, [], ◌≡◌, length, slice_index_or}
 use Rattle.std.specs.List.{All, list_any}
-use Rattle.std.specs.Ordering.{nat_cmp}
-use Rattle.std.specs.BTreeSet.{BTreeSet, contains}
 use Rattle.jc_facts.specs.declared.class_facts.ClassFacts.{ClassFacts}
 use Rattle.jc_facts.specs.Names.{Bytes}
 use Rattle.jc_facts.specs.Options.{some_and}
@@ -18,13 +16,12 @@ leads_to W c y = list_any (λ i. names_in (with_interfaces W i) y) c.interfaces
 abbrev pub leads_by : World → Bytes → Bytes → Bool
 leads_by W x y = some_and (λ c. leads_to W c y) (find_class W x)
 
--- for each class, in order, the numbers of those that it leads to
-pub record AreRows (W : World) (rows : List (BTreeSet ℕ)) : Type 0 where
-  pub count : length rows ≡ size W
-  pub within : (n k : ℕ) (d : BTreeSet ℕ) → n < size W → contains nat_cmp (slice_index_or rows n d) k ≡ true → k < size W
-  pub exact : (n k : ℕ) (d : BTreeSet ℕ) → n < size W → k < size W → contains nat_cmp (slice_index_or rows n d) k ≡ leads_by W (name_at W n) (name_at W k)
-
 -- the numbers of the interfaces that the class x names, and of those that they lead to in turn
 pub record AreAbove (W : World) (x : Bytes) (ids : List ℕ) : Type 0 where
   pub within : All (λ k. k < size W) ids
   pub exact : (k : ℕ) → k < size W → list_any (λ n. n == k) ids ≡ leads_by W x (name_at W k)
+
+-- for each class, in order, those that stand above it
+pub record AreRows (W : World) (rows : List (List ℕ)) : Type 0 where
+  pub count : length rows ≡ size W
+  pub above : (n : ℕ) → n < size W → AreAbove W (name_at W n) (slice_index_or rows n [])

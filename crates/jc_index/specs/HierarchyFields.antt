@@ -1,6 +1,5 @@
 -- What is kept of what stands above each class.
 use Rattle.std.specs.Prelude.{map, ◌≡◌}
-use Rattle.std.specs.BTreeSet.{keys}
 use Rattle.jc_index.specs.Ids.{names, superclass_of}
 use Rattle.jc_index.specs.Sides.{IsSide}
 use Rattle.jc_index.specs.Above.{AreRows}
@@ -10,5 +9,4 @@ use Rattle.jc_index.specs.declared.hierarchy.Hierarchy.TheInside.{Inside}
 pub record IsHierarchy (h : Inside) : Type 0 where
   pub side : IsSide h.index
   pub supers : h.supers.items ≡ map (superclass_of h.index) (names h.index)
-  pub rows : AreRows h.index h.rows.items
-  pub interfaces : h.interfaces.items ≡ map keys h.rows.items
+  pub interfaces : AreRows h.index h.interfaces

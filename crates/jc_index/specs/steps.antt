@@ -6,3 +6,4 @@ pub mod Walking
 pub mod Named
 pub mod Choosing
 pub mod Passing
+pub mod Parts

@@ -7,13 +7,12 @@ ghost use Rattle.jc_index.specs.Above.{leads_by, AreAbove};
 ghost use Rattle.jc_index.specs.Ids.{name_at, id_of, superclass_of};
 ghost use Rattle.jc_index.specs.Sides.{IsSide};
 
-use crate::above::{interfaces_above, lists, superclasses};
+use crate::above::{interfaces_above, superclasses};
 use crate::ids::ClassId;
 use crate::index::Index;
-use jc_base::items::Items;
+use crate::rows::Rows;
 use jc_facts::class_facts::ClassFacts;
 use std::alloc::{AllocError, Global};
-use std::collections::BTreeSet;
 use std::marker::Model;
 
 /// The classes of a side with what stands above each of them. A contract sees it as the side.
@@ -23,9 +22,7 @@ pub struct Hierarchy {
     // For each class the one that it names as its superclass.
     supers: Vec<Option<ClassId>>,
     // For each class the interfaces that it names, and those that they lead to.
-    rows: Vec<BTreeSet<u32>>,
-    // The same as lists, in the order of their numbers.
-    interfaces: Vec<Items<ClassId>>,
+    interfaces: Rows,
 }
 
 impl Model for Hierarchy {
@@ -50,12 +47,10 @@ impl Hierarchy {
         ensures { IfOk result (λ hierarchy. hierarchy ≡ index) }
     {
         let supers = superclasses(alloc, &index)?;
-        let rows = interfaces_above(alloc, &index)?;
-        let interfaces = lists(alloc, rows.as_slice())?;
+        let interfaces = interfaces_above(alloc, &index)?;
         Ok(Hierarchy {
             index,
             supers,
-            rows,
             interfaces,
         })
     }
@@ -127,7 +122,7 @@ impl Hierarchy {
         requires { id < size self.now }
         ensures { AreAbove self.now (name_at self.now id) result.now }
     {
-        self.interfaces[id.number() as usize].as_slice()
+        self.interfaces.row(id)
     }
 
     // Whether the other class is an interface that the class names, or one that such an interface
@@ -137,7 +132,7 @@ impl Hierarchy {
         requires above { of < size self.now }
         ensures { result ≡ leads_by self.now (name_at self.now id) (name_at self.now of) }
     {
-        self.rows[id.number() as usize].contains(&of.number())
+        self.interfaces.row(id).contains(&of)
     }
 
     // Whether the other class is a superinterface of the class: one that a class of its chain leads

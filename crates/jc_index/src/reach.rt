@@ -1,5 +1,5 @@
 //! What is led to in a graph.
-ghost use Rattle.std.specs.Prelude.{◌≡◌, ◌<◌, ◌∷◌, [], length, IfOk, OnOk};
+ghost use Rattle.std.specs.Prelude.{◌<◌, ◌∷◌, [], length, IfOk, OnOk};
 ghost use Rattle.std.specs.List.{All};
 ghost use Rattle.jc_index.specs.steps.Reach.{IsLedTo};
 ghost use Rattle.jc_index.specs.steps.Queue.{Adds};
@@ -28,12 +28,12 @@ fn add(set: &mut BTreeSet<u32>, queue: &mut Vec<u32>, ids: &[u32]) -> Result<(),
     Ok(())
 }
 
-/// The numbers that a number leads to by one edge or more, where `edges` are the numbers that each
-/// one names.
-pub fn led_to(alloc: Global, edges: &[Items<u32>], start: u32) -> Result<BTreeSet<u32>, AllocError>
+/// The numbers that a number leads to by one edge or more, each once, where `edges` are the numbers
+/// that each one names.
+pub fn led_to(alloc: Global, edges: &[Items<u32>], start: u32) -> Result<Vec<u32>, AllocError>
     requires within { All (λ ids. All (λ id. id < length edges.now) ids) edges.now }
     requires start { start < length edges.now }
-    ensures { IfOk result (λ set. IsLedTo edges.now start set) }
+    ensures { IfOk result (λ ids. IsLedTo edges.now start ids.items) }
 {
     let mut set = BTreeSet::new(alloc);
     let mut queue = Vec::new(alloc);
@@ -44,5 +44,5 @@ pub fn led_to(alloc: Global, edges: &[Items<u32>], start: u32) -> Result<BTreeSe
         add(&mut set, &mut queue, edges[id as usize].as_slice())?;
         next += 1;
     }
-    Ok(set)
+    Ok(queue)
 }

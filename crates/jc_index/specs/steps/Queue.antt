@@ -3,7 +3,10 @@ use Rattle.std.specs.Prelude.{ℕ, Bool, true, suc, zero, ◌+◌, ◌<◌, List
 use Rattle.std.specs.List.{All, Contains}
 use Rattle.std.specs.Ordering.{nat_cmp}
 use Rattle.std.specs.BTreeSet.{BTreeSet, contains}
-use Rattle.jc_index.specs.steps.Reach.{Has}
+
+-- the set has the number
+abbrev pub Has : BTreeSet ℕ → ℕ → Type 0
+Has set k = contains nat_cmp set k ≡ true
 
 -- the queue has what the set has
 pub record IsQueueOf (set : BTreeSet ℕ) (queue : List ℕ) : Type 0 where

@@ -1,0 +1,252 @@
+//! What each number of a graph leads to, as parts of one list. Where numbers name one other each, as
+//! in a chain, they share a part.
+ghost use Rattle.std.specs.Prelude.{◌≡◌, ◌<◌, ◌++◌, ◌∷◌, [], ℕ, length, IfOk, IfSome, OnOk};
+ghost use Rattle.std.specs.List.{All};
+ghost use Rattle.jc_index.specs.steps.Reach.{next_of, AllLedTo};
+ghost use Rattle.jc_index.specs.steps.Parts.{LiesIn, Extends, IsLonger, IsPartOf, IsMade, StayMade, AreParts};
+
+use crate::ids::ClassId;
+use crate::part::Part;
+use crate::reach::led_to;
+use crate::rows::Rows;
+use jc_base::items::Items;
+use std::alloc::{AllocError, Global};
+use std::collections::BTreeSet;
+
+// The number that the number names alone; none where it names none or several.
+fn only(edges: &[Items<u32>], n: u32) -> Option<u32>
+    requires within { All (λ ids. All (λ id. id < length edges.now) ids) edges.now }
+    requires number { n < length edges.now }
+    ensures alone { IfSome result (λ id. next_of edges.now n ≡ id ∷ []) }
+    ensures inside { IfSome result (λ id. id < length edges.now) }
+{
+    let ids = edges[n as usize].as_slice();
+    if ids.len() == 1 { Some(ids[0]) } else { None }
+}
+
+// Puts the numbers at the end, as classes.
+fn append(ids: &mut Vec<ClassId>, numbers: &[u32]) -> Result<(), AllocError>
+    ensures { OnOk result (ids.new.items ≡ ids.old.items ++ numbers.now) }
+{
+    for number in numbers {
+        ids.push(ClassId::new(*number))?;
+    }
+    Ok(())
+}
+
+// What is led to from the number, put at the end.
+fn fresh(
+    alloc: Global,
+    edges: &[Items<u32>],
+    ids: &mut Vec<ClassId>,
+    n: u32,
+) -> Result<Part, AllocError>
+    requires within { All (λ ids. All (λ id. id < length edges.now) ids) edges.now }
+    requires number { n < length edges.now }
+    ensures part { IfOk result (λ part. IsPartOf edges.now ids.new.items n part) }
+    ensures extends { OnOk result (Extends ids.old.items ids.new.items) }
+{
+    let start = ids.len();
+    let numbers = led_to(alloc, edges, n)?;
+    append(ids, numbers.as_slice())?;
+    Ok(Part {
+        start,
+        end: ids.len(),
+    })
+}
+
+// The part and the number after it, where that is this one.
+fn with_next(ids: &[ClassId], part: Part, number: u32) -> Option<Part>
+    requires { part.end < length ids.now }
+    ensures { IfSome result (λ longer. IsLonger ids.now part number longer) }
+{
+    if ids[part.end].number() == number {
+        Some(Part {
+            start: part.start,
+            end: part.end + 1,
+        })
+    } else {
+        None
+    }
+}
+
+// The part and the number after it, where that is this one or can be put there.
+fn longer(ids: &mut Vec<ClassId>, part: Part, number: u32) -> Result<Option<Part>, AllocError>
+    requires { LiesIn ids.old.items part }
+    ensures longer { IfOk result (λ found. IfSome found (λ longer. IsLonger ids.new.items part number longer)) }
+    ensures extends { OnOk result (Extends ids.old.items ids.new.items) }
+{
+    if part.end < ids.len() {
+        return Ok(with_next(ids.as_slice(), part, number));
+    }
+    ids.push(ClassId::new(number))?;
+    Ok(with_next(ids.as_slice(), part, number))
+}
+
+// What is led to from a number that names one other alone, where that one's part is made and can
+// be shared.
+fn shared(
+    edges: &[Items<u32>],
+    parts: &[Option<Part>],
+    ids: &mut Vec<ClassId>,
+    n: u32,
+) -> Result<Option<Part>, AllocError>
+    requires within { All (λ ids. All (λ id. id < length edges.now) ids) edges.now }
+    requires number { n < length edges.now }
+    requires parts { AreParts edges.now ids.old.items parts.now }
+    ensures part { IfOk result (λ found. IfSome found (λ part. IsPartOf edges.now ids.new.items n part)) }
+    ensures extends { OnOk result (Extends ids.old.items ids.new.items) }
+{
+    let Some(above) = only(edges, n) else {
+        return Ok(None);
+    };
+    let Some(part) = parts[above as usize] else {
+        return Ok(None);
+    };
+    let longer = longer(ids, part, above)?;
+    Ok(longer)
+}
+
+// What is led to from the number.
+fn part_of(
+    alloc: Global,
+    edges: &[Items<u32>],
+    parts: &[Option<Part>],
+    ids: &mut Vec<ClassId>,
+    n: u32,
+) -> Result<Part, AllocError>
+    requires within { All (λ ids. All (λ id. id < length edges.now) ids) edges.now }
+    requires number { n < length edges.now }
+    requires parts { AreParts edges.now ids.old.items parts.now }
+    ensures part { IfOk result (λ part. IsPartOf edges.now ids.new.items n part) }
+    ensures extends { OnOk result (Extends ids.old.items ids.new.items) }
+{
+    let found = shared(edges, parts, ids, n)?;
+    match found {
+        Some(part) => Ok(part),
+        None => {
+            let part = fresh(alloc, edges, ids, n)?;
+            Ok(part)
+        }
+    }
+}
+
+// Makes the part of the number, if it isn't made.
+fn make(
+    alloc: Global,
+    edges: &[Items<u32>],
+    parts: &mut [Option<Part>],
+    ids: &mut Vec<ClassId>,
+    n: u32,
+) -> Result<(), AllocError>
+    requires within { All (λ ids. All (λ id. id < length edges.now) ids) edges.now }
+    requires number { n < length edges.now }
+    requires parts { AreParts edges.now ids.old.items parts.old }
+    ensures parts { OnOk result (AreParts edges.now ids.new.items parts.new) }
+    ensures made { OnOk result (IsMade parts.new n) }
+    ensures stay { OnOk result (StayMade parts.old parts.new) }
+{
+    if parts[n as usize].is_some() {
+        return Ok(());
+    }
+    let part = part_of(alloc, edges, parts, ids, n)?;
+    parts[n as usize] = Some(part);
+    Ok(())
+}
+
+// The number that the number names alone, where the part of that one isn't made.
+fn next_unmade(edges: &[Items<u32>], parts: &[Option<Part>], n: u32) -> Option<u32>
+    requires within { All (λ ids. All (λ id. id < length edges.now) ids) edges.now }
+    requires number { n < length edges.now }
+    requires count { length parts.now ≡ length edges.now }
+    ensures { IfSome result (λ id. id < length edges.now) }
+{
+    let above = only(edges, n)?;
+    if parts[above as usize].is_none() {
+        Some(above)
+    } else {
+        None
+    }
+}
+
+// The numbers above this one whose parts aren't made, where each names the next alone.
+fn way_up(
+    alloc: Global,
+    edges: &[Items<u32>],
+    parts: &[Option<Part>],
+    n: u32,
+) -> Result<Vec<u32>, AllocError>
+    requires within { All (λ ids. All (λ id. id < length edges.now) ids) edges.now }
+    requires number { n < length edges.now }
+    requires count { length parts.now ≡ length edges.now }
+    ensures { IfOk result (λ way. All (λ id. id < length edges.now) way.items) }
+{
+    let mut seen = BTreeSet::new(alloc);
+    let mut way = Vec::new(alloc);
+    let mut at = n;
+    for _ in 0..edges.len() {
+        let Some(above) = next_unmade(edges, parts, at) else {
+            return Ok(way);
+        };
+        if !seen.insert(above)? {
+            return Ok(way);
+        }
+        way.push(above)?;
+        at = above;
+    }
+    Ok(way)
+}
+
+// Makes the parts of the numbers, the last one's first.
+fn make_back(
+    alloc: Global,
+    edges: &[Items<u32>],
+    parts: &mut [Option<Part>],
+    ids: &mut Vec<ClassId>,
+    way: &[u32],
+) -> Result<(), AllocError>
+    requires within { All (λ ids. All (λ id. id < length edges.now) ids) edges.now }
+    requires numbers { All (λ id. id < length edges.now) way.now }
+    requires parts { AreParts edges.now ids.old.items parts.old }
+    ensures parts { OnOk result (AreParts edges.now ids.new.items parts.new) }
+    ensures stay { OnOk result (StayMade parts.old parts.new) }
+{
+    for i in 0..way.len() {
+        make(alloc, edges, parts, ids, way[way.len() - 1 - i])?;
+    }
+    Ok(())
+}
+
+// Makes all parts.
+fn make_all(
+    alloc: Global,
+    edges: &[Items<u32>],
+    parts: &mut [Option<Part>],
+    ids: &mut Vec<ClassId>,
+) -> Result<(), AllocError>
+    requires within { All (λ ids. All (λ id. id < length edges.now) ids) edges.now }
+    requires few { length edges.now < 4294967296 }
+    requires parts { AreParts edges.now ids.old.items parts.old }
+    ensures parts { OnOk result (AreParts edges.now ids.new.items parts.new) }
+    ensures made { OnOk result ((n : ℕ) → n < length edges.now → IsMade parts.new n) }
+{
+    for n in 0..edges.len() as u32 {
+        let way = way_up(alloc, edges, parts, n)?;
+        make_back(alloc, edges, parts, ids, way.as_slice())?;
+        make(alloc, edges, parts, ids, n)?;
+    }
+    Ok(())
+}
+
+/// For each number those that it leads to by one edge or more, where `edges` are the numbers that
+/// each one names.
+pub fn all_led_to(alloc: Global, edges: &[Items<u32>]) -> Result<Rows, AllocError>
+    requires within { All (λ ids. All (λ id. id < length edges.now) ids) edges.now }
+    requires few { length edges.now < 4294967296 }
+    ensures { IfOk result (λ rows. AllLedTo edges.now rows) }
+{
+    let mut parts = vec![in alloc; None; edges.len()]?;
+    let mut ids = Vec::new(alloc);
+    make_all(alloc, edges, parts.as_mut_slice(), &mut ids)?;
+    Ok(Rows::new(ids, parts))
+}
