@@ -17,5 +17,3 @@ mod newly_final;
 mod note_constant;
 mod note_unloadable;
 mod superclass_lost;
-#[cfg(test)]
-mod tests;

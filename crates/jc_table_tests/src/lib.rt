@@ -13,6 +13,8 @@ mod linking;
 mod loading;
 #[cfg(test)]
 mod methods;
+#[cfg(test)]
+mod moved;
 pub mod rows;
 #[cfg(test)]
 mod sides;

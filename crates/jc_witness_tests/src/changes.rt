@@ -1,18 +1,19 @@
 //! Changes between two small releases over a platform of `java/lang/Object` alone, and the class files that show each finding and
 //! collision, with their spots.
-ghost use Rattle.std.specs.Prelude.{◌≡◌, ◌<◌, length, IfOk};
+ghost use Rattle.std.specs.Prelude.{◌≡◌, ◌<◌, length, IfSome};
 ghost use Rattle.std.specs.List.{All};
+ghost use Rattle.jc_facts.specs.rule.Verdict.{IsVerdict};
 ghost use Rattle.jc_witness.specs.Ground.{HasShortSide};
-ghost use Rattle.jc_witness.specs.Witnesses.{StandsInVerdict};
+ghost use Rattle.jc_witness.specs.Witnesses.{HasCause, StandsInVerdict};
 
+use crate::releases::{platform, table};
 use jc_facts::class_facts::ClassFacts;
-use jc_facts::verdict::{Cause, Spot};
+use jc_facts::finding::Finding;
+use jc_facts::verdict::{Cause, Collision, Spot, Verdict};
 use jc_rules::compare::compare;
-use jc_table::plain::{are_valid, names_differ};
 use jc_table::table::Table;
-use jc_table_tests::rows::{INTERFACE, PLAIN, ROOT, Row, classes};
+use jc_table_tests::rows::{INTERFACE, PLAIN, Row};
 use jc_witness::planner::Planner;
-use jc_witness::short_names::have_short_names;
 use jc_witness::witness::{WitnessFile, witness};
 use jc_witness::witnessed::Witnessed;
 use std::alloc::{AllocError, Global};
@@ -54,7 +55,16 @@ const I: Row = Row {
     ..PLAIN
 };
 
-const CHANGES: &[Change] = &[
+// A table that a function names is a part of the function, which grows with it: so there are three.
+
+const ON_CLASSES: &[Change] = &[
+    // Nothing changes.
+    Change {
+        old: &[A, I],
+        new: &[A, I],
+        findings: &[],
+        collisions: &[],
+    },
     // A class is gone. The library has the package w0, so the clients have the next one.
     Change {
         old: &[Row {
@@ -63,6 +73,20 @@ const CHANGES: &[Change] = &[
         }],
         new: &[],
         findings: &[(1, &[(b"w1/U", SECOND)])],
+        collisions: &[],
+    },
+    // A class is no longer public; another one that wasn't is gone.
+    Change {
+        old: &[
+            A,
+            Row {
+                name: b"p/Own",
+                flags: 0x0020,
+                ..PLAIN
+            },
+        ],
+        new: &[Row { flags: 0x0020, ..A }],
+        findings: &[(1, &[(b"w0/U", SECOND)])],
         collisions: &[],
     },
     // A class is final now.
@@ -115,6 +139,9 @@ const CHANGES: &[Change] = &[
         findings: &[(4, &[(b"w0/U", SECOND)])],
         collisions: &[],
     },
+];
+
+const ON_MEMBERS: &[Change] = &[
     // A public constructor is protected now, which `new` can't use, and a protected one is private, which no subclass can call.
     Change {
         old: &[Row {
@@ -197,6 +224,9 @@ const CHANGES: &[Change] = &[
         findings: &[(9, &[(b"w0/J", None), (b"w0/U", SECOND)])],
         collisions: &[],
     },
+];
+
+const COLLISIONS: &[Change] = &[
     // A constant is added to an interface.
     Change {
         old: &[I],
@@ -228,26 +258,6 @@ const CHANGES: &[Change] = &[
         collisions: &[(12, &[(b"w0/Y", LOAD)])],
     },
 ];
-
-// The table of a release, whose conditions are seen to first.
-fn table(
-    rt: &impl Abort,
-    alloc: Global,
-    platform: &[ClassFacts],
-    rows: &[Row],
-) -> Result<Table, Fail>
-    ensures platform { IfOk result (λ table. table.platform ≡ platform.now) }
-    ensures short { IfOk result HasShortSide }
-{
-    let release = classes(alloc, rows)?;
-    let valid = are_valid(alloc, platform)? && are_valid(alloc, release.as_slice())?;
-    assert!(rt; valid);
-    assert!(rt; names_differ(platform) && names_differ(release.as_slice()));
-    assert!(rt; have_short_names(platform));
-    assert!(rt; have_short_names(release.as_slice()));
-    assert!(rt; platform.len() <= 1000 && release.len() <= 1000);
-    Ok(Table::build(alloc, platform, release)?)
-}
 
 // Whether the files have these names and spots.
 fn are_files(files: &[WitnessFile], wanted: &[File]) -> bool {
@@ -297,6 +307,71 @@ fn are_shown<C: Witnessed>(
     Ok(())
 }
 
+// Whether the findings are of these rules.
+fn are_findings_of(findings: &[Finding], wanted: &[Shown]) -> bool {
+    findings
+        .iter()
+        .map(|f| f.rule)
+        .eq(wanted.iter().map(|s| s.0))
+}
+
+// Whether the collisions are of these rules.
+fn are_collisions_of(collisions: &[Collision], wanted: &[Shown]) -> bool {
+    collisions
+        .iter()
+        .map(|c| c.rule)
+        .eq(wanted.iter().map(|s| s.0))
+}
+
+fn is_verdict_shown(
+    rt: &impl Abort,
+    alloc: Global,
+    planner: &Planner<'_>,
+    verdict: &Verdict,
+    change: &Change,
+) -> Result<(), Fail>
+    requires verdict { IsVerdict planner.now.old planner.now.new verdict.now }
+    requires old_names { HasShortSide planner.now.old }
+    requires new_names { HasShortSide planner.now.new }
+{
+    let findings = verdict.findings.as_slice();
+    let collisions = verdict.collisions.as_slice();
+    assert!(rt; are_findings_of(findings, change.findings));
+    assert!(rt; are_collisions_of(collisions, change.collisions));
+    are_shown(rt, alloc, planner, findings, change.findings)?;
+    are_shown(rt, alloc, planner, collisions, change.collisions)
+}
+
+fn is_comparison_shown(
+    rt: &impl Abort,
+    alloc: Global,
+    old: &Table,
+    new: &Table,
+    change: &Change,
+) -> Result<(), Fail>
+    requires platform { old.now.platform ≡ new.now.platform }
+    requires old_names { HasShortSide old.now }
+    requires new_names { HasShortSide new.now }
+{
+    let planner = Planner::new(alloc, old, new)?;
+    let verdict = compare(alloc, old, new)?;
+    is_verdict_shown(rt, alloc, &planner, &verdict, change)
+}
+
+fn is_new_shown(
+    rt: &impl Abort,
+    alloc: Global,
+    platform: &[ClassFacts],
+    old: &Table,
+    change: &Change,
+) -> Result<(), Fail>
+    requires platform { old.now.platform ≡ platform.now }
+    requires old_names { HasShortSide old.now }
+{
+    let new = table(rt, alloc, platform, change.new)?;
+    is_comparison_shown(rt, alloc, old, &new, change)
+}
+
 fn is_change_shown(
     rt: &impl Abort,
     alloc: Global,
@@ -304,47 +379,91 @@ fn is_change_shown(
     change: &Change,
 ) -> Result<(), Fail> {
     let old = table(rt, alloc, platform, change.old)?;
-    let new = table(rt, alloc, platform, change.new)?;
-    let verdict = compare(alloc, &old, &new)?;
-    let planner = Planner::new(alloc, &old, &new)?;
-    let findings = verdict.findings.as_slice();
-    let collisions = verdict.collisions.as_slice();
-    assert!(rt;
-        findings
-            .iter()
-            .map(|f| f.rule)
-            .eq(change.findings.iter().map(|s| s.0))
-    );
-    assert!(rt;
-        collisions
-            .iter()
-            .map(|c| c.rule)
-            .eq(change.collisions.iter().map(|s| s.0))
-    );
-    are_shown(rt, alloc, &planner, findings, change.findings)?;
-    are_shown(rt, alloc, &planner, collisions, change.collisions)
+    is_new_shown(rt, alloc, platform, &old, change)
 }
 
-#[test]
-fn files_and_spots_of_each_rule(rt: HostRuntime) -> Result<(), Fail> {
-    let alloc = rt.alloc();
-    let platform = classes(alloc, &[ROOT])?;
-    for change in CHANGES {
-        is_change_shown(&rt, alloc, platform.as_slice(), change)?;
+fn are_all_shown(
+    rt: &impl Abort,
+    alloc: Global,
+    platform: &[ClassFacts],
+    changes: &[Change],
+) -> Result<(), Fail> {
+    for change in changes {
+        is_change_shown(rt, alloc, platform, change)?;
     }
     Ok(())
 }
 
 #[test]
+fn files_and_spots_of_findings_on_classes(rt: HostRuntime) -> Result<(), Fail> {
+    let alloc = rt.alloc();
+    let platform = platform(alloc)?;
+    are_all_shown(&rt, alloc, platform.as_slice(), ON_CLASSES)
+}
+
+#[test]
+fn files_and_spots_of_findings_on_members(rt: HostRuntime) -> Result<(), Fail> {
+    let alloc = rt.alloc();
+    let platform = platform(alloc)?;
+    are_all_shown(&rt, alloc, platform.as_slice(), ON_MEMBERS)
+}
+
+#[test]
+fn files_and_spots_of_collisions(rt: HostRuntime) -> Result<(), Fail> {
+    let alloc = rt.alloc();
+    let platform = platform(alloc)?;
+    are_all_shown(&rt, alloc, platform.as_slice(), COLLISIONS)
+}
+
+// The last finding of the verdict, as a cause.
+fn last_finding(verdict: Verdict) -> Option<Cause>
+    ensures { IfSome result (HasCause verdict) }
+{
+    let mut findings = verdict.findings.into_vec();
+    let finding = findings.pop()?;
+    Some(Cause::Finding(finding))
+}
+
+fn is_last_shown(
+    rt: &impl Abort,
+    alloc: Global,
+    old: &Table,
+    new: &Table,
+    wanted: &[File],
+) -> Result<(), Fail>
+    requires platform { old.now.platform ≡ new.now.platform }
+    requires old_names { HasShortSide old.now }
+    requires new_names { HasShortSide new.now }
+{
+    let verdict = compare(alloc, old, new)?;
+    let cause = last_finding(verdict).expect(rt, "a finding");
+    let files = witness(alloc, old, new, &cause)?;
+    assert!(rt; are_files(files.as_slice(), wanted));
+    Ok(())
+}
+
+// The class is gone in the new release.
+fn is_gone_shown(
+    rt: &impl Abort,
+    alloc: Global,
+    platform: &[ClassFacts],
+    old: &Table,
+) -> Result<(), Fail>
+    requires platform { old.now.platform ≡ platform.now }
+    requires old_names { HasShortSide old.now }
+{
+    let new = table(rt, alloc, platform, &[])?;
+    is_last_shown(rt, alloc, old, &new, &[(b"w0/U", SECOND)])
+}
+
+fn is_one_shown(rt: &impl Abort, alloc: Global, platform: &[ClassFacts]) -> Result<(), Fail> {
+    let old = table(rt, alloc, platform, &[A])?;
+    is_gone_shown(rt, alloc, platform, &old)
+}
+
+#[test]
 fn a_witness_of_one_cause(rt: HostRuntime) -> Result<(), Fail> {
     let alloc = rt.alloc();
-    let platform = classes(alloc, &[ROOT])?;
-    let old = table(&rt, alloc, platform.as_slice(), &[A])?;
-    let new = table(&rt, alloc, platform.as_slice(), &[])?;
-    let verdict = compare(alloc, &old, &new)?;
-    let mut findings = verdict.findings.into_vec();
-    let finding = findings.pop().expect(&rt, "a finding");
-    let files = witness(alloc, &old, &new, &Cause::Finding(finding))?;
-    assert!(rt; are_files(files.as_slice(), &[(b"w0/U", SECOND)]));
-    Ok(())
+    let platform = platform(alloc)?;
+    is_one_shown(&rt, alloc, platform.as_slice())
 }

@@ -1,5 +1,9 @@
-//! Tests of witnesses: what is planned for the changes of small releases.
+//! Tests of witnesses and of closed acts: what is planned for the changes of small releases, and which seats have to be asked.
 #![tactic(auto)]
 
 #[cfg(test)]
 mod changes;
+#[cfg(test)]
+mod releases;
+#[cfg(test)]
+mod seats;
