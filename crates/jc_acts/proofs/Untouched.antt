@@ -22,7 +22,7 @@ use Rattle.jc_facts.specs.rule.OpenActs.{act_fault, where_open}
 use Rattle.jc_facts.specs.rule.Bases.{is_steady}
 use Rattle.jc_lemmas.proofs.Bools.{neither_first, neither_last, not_true}
 use Rattle.jc_lemmas.proofs.Listed.{EachOf, each_in, EachOf-map, EachOf-both, each_from, each_of, any_has, filter_in, list_all-each}
-use Rattle.jc_worlds.specs.Agreement.{AgreeOn}
+use Rattle.jc_worlds.specs.Agreement.{AgreeOn, LooksTheSame}
 use Rattle.jc_worlds.proofs.AgreementLaw.{worlds_agree}
 use Rattle.jc_facts.proofs.Same.{same_is, same_itself}
 use Rattle.jc_facts.proofs.World.{find-name, class_named-first}
@@ -360,14 +360,32 @@ module _ (sides : SidesOf) (are : AreSides sides) (settled : platform_settled si
         no_seat : (what : Act) → first_at (closed_on sides x k what) (all_seats sides) ≡ None
         no_seat what = first_none (closed_on sides x k what) (all_seats sides) (each_from (λ a. closed_on sides x k what a ≡ None) (all_seats sides) (λ a c. not_closed a (stays_above a c) k what))
 
+  -- what is looked up from it is the same on both sides
+  looks_same : (x : Bytes) → is_platforms sides.old x ≡ true → stands_below sides.old (left_classes sides) x ≡ false → load_fault sides.old x ≡ None → LooksTheSame sides.old sides.new x
+  looks_same x p clear l =
+      (worlds_agree sides.old sides.new (test sides so one (left_classes sides) plain untouched) (both sides so one (left_classes sides) plain untouched) x (it_is sides so one (left_classes sides) plain untouched x p (ap is_some so.root.is_there) l clear)).2 l
+
 not_first : (b : Bool) → not b ≡ false → b ≡ true
 not_first true h = refl
 not_first false h = absurd (cc)
 
 -- where none may be closed
-pub none_closed : (s : SidesOf) → AreSides s → (x : Bytes) → may_be_closed s x ≡ false → is_steady s.old s.new x ≡ true → HasNoneClosed s x
-none_closed s are x h steady =
-    let below : stands_below s.old (left_classes s) x ≡ false = neither_last (not (platform_settled s (left_classes s)) || not (is_platforms s.old x)) (stands_below s.old (left_classes s) x) h in
+record IsSettled (s : SidesOf) (x : Bytes) : Type 0 where
+  settled : platform_settled s (left_classes s) ≡ true
+  platforms : is_platforms s.old x ≡ true
+  below : stands_below s.old (left_classes s) x ≡ false
+
+settled_parts : (s : SidesOf) (x : Bytes) → may_be_closed s x ≡ false → IsSettled s x
+settled_parts s x h =
     let rest : (not (platform_settled s (left_classes s)) || not (is_platforms s.old x)) ≡ false = neither_first (not (platform_settled s (left_classes s)) || not (is_platforms s.old x)) (stands_below s.old (left_classes s) x) h in
-    has_none s are (not_first (platform_settled s (left_classes s)) (neither_first (not (platform_settled s (left_classes s))) (not (is_platforms s.old x)) rest)) x
-    (not_first (is_platforms s.old x) (neither_last (not (platform_settled s (left_classes s))) (not (is_platforms s.old x)) rest)) below steady
+    record {
+      settled = not_first (platform_settled s (left_classes s)) (neither_first (not (platform_settled s (left_classes s))) (not (is_platforms s.old x)) rest);
+      platforms = not_first (is_platforms s.old x) (neither_last (not (platform_settled s (left_classes s))) (not (is_platforms s.old x)) rest);
+      below = neither_last (not (platform_settled s (left_classes s)) || not (is_platforms s.old x)) (stands_below s.old (left_classes s) x) h;
+    }
+
+pub none_closed : (s : SidesOf) → AreSides s → (x : Bytes) → may_be_closed s x ≡ false → is_steady s.old s.new x ≡ true → HasNoneClosed s x
+none_closed s are x h steady = let p = settled_parts s x h in has_none s are p.settled x p.platforms p.below steady
+
+pub looks_alike : (s : SidesOf) → AreSides s → (x : Bytes) → may_be_closed s x ≡ false → load_fault s.old x ≡ None → LooksTheSame s.old s.new x
+looks_alike s are x h loads = let p = settled_parts s x h in looks_same s are p.settled x p.platforms p.below loads

@@ -1,32 +1,43 @@
 -- What the collision of methods that are found before those of a client's interfaces makes.
-use Rattle.std.proofs.Common.{◌≡◌, ℕ, Bool, true, false, not, cond, List, [], ◌∷◌, refl, sym, ◌∙◌, ap, Option, Some, None, is_some, is_none, ◌&&◌}
-use Rattle.std.proofs.lemmas.Bool.{and_parts}
+use Rattle.std.proofs.Common.{◌≡◌, ℕ, Bool, true, false, not, cond, List, [], ◌∷◌, refl, sym, ◌∙◌, ap, Option, Some, None, is_some, is_none, ◌&&◌, ◌||◌, ◌⊎◌, inl, inr}
+use Rattle.std.specs.List.{list_any, Contains}
+use Rattle.std.proofs.lemmas.Bool.{and_parts, and_from, or_left}
+use Rattle.std.proofs.lemmas.List.Elements.{recursion_from_All}
+use Rattle.jc_facts.specs.declared.class_facts.ClassFacts.{ClassFacts}
+use Rattle.jc_facts.specs.declared.class_facts.Member.{Member}
 use Rattle.jc_facts.specs.declared.act.Act.TheVariants.{InvokeVirtual}
 use Rattle.jc_facts.specs.declared.key.Key.{Key}
 use Rattle.jc_facts.specs.declared.link_error.LinkError.{LinkError}
 use Rattle.jc_facts.specs.declared.link_error.LinkError.TheVariants.{IllegalAccessError, IncompatibleClassChangeError}
 use Rattle.jc_facts.specs.declared.verdict.Collision.{Collision}
 use Rattle.jc_facts.specs.rule.Collisions.{made_collision, collision_at, capture_added, captures, capture_error, are_none, leaves_room}
-use Rattle.jc_facts.specs.Flags.{public_flag, no_static_flag}
+use Rattle.jc_facts.specs.Flags.{public_flag, no_static_flag, final_flag, interface_flag}
 use Rattle.jc_facts.specs.world.Hierarchy.{chain}
-use Rattle.jc_facts.specs.world.Lookup.{first_declared, method_choices}
-use Rattle.jc_facts.specs.Names.{Bytes}
-use Rattle.jc_facts.specs.Options.{some_and, some_where}
+use Rattle.jc_facts.specs.world.Lookup.{first_declared, method_choices, or_choices, superinterface_choices}
+use Rattle.jc_facts.specs.world.Loading.{load_fault}
+use Rattle.jc_facts.specs.world.Assignment.{is_interface_of}
+use Rattle.jc_facts.specs.Names.{Bytes, is_init_name, is_clinit_name}
+use Rattle.jc_facts.specs.Options.{or_else, some_and, some_where}
 use Rattle.jc_facts.specs.rule.Orders.{collision_order}
-use Rattle.jc_facts.specs.rule.Bases.{is_base_class, is_key_of_method}
-use Rattle.jc_facts.specs.world.World.{World, DeclaredMember}
-use Rattle.jc_lemmas.proofs.Listed.{none}
-use Rattle.jc_worlds.specs.Hierarchy.{above}
-use Rattle.jc_method.proofs.Declared.{first_is_declared}
+use Rattle.jc_facts.specs.rule.Bases.{class_is, newly_sealed, is_steady, is_class_closed, is_extendable, is_implementable, is_base_class, is_key_of_method}
+use Rattle.jc_facts.specs.world.World.{World, find_class, own_method_of, found_in, DeclaredMember}
+use Rattle.jc_lemmas.proofs.Bools.{and_false, neither_first, neither_last, not_true}
+use Rattle.jc_lemmas.proofs.Listed.{none, cases, each_in}
+use Rattle.jc_worlds.specs.Agreement.{LooksTheSame}
+use Rattle.jc_worlds.specs.Choices.{IsPublicInstance}
+use Rattle.jc_worlds.proofs.ChoiceLaws.{inherited_are_public}
 use Rattle.jc_sides.specs.BrokenOf.{BrokenOf, broken_if, collided}
-use Rattle.jc_sides.specs.Members.{is_member, OfPassing}
+use Rattle.jc_sides.specs.Members.{is_member, is_hidden, OfPassing}
 use Rattle.jc_sides.specs.declared.members.Members.TheVariants as members
 use Rattle.jc_sides.specs.Rules.{key_collision, IsCollision, IsItemRule}
 use Rattle.jc_sides.proofs.BrokenActs.{collided_where}
 use Rattle.jc_sides.specs.SidesOf.{SidesOf}
+use Rattle.jc_sides.proofs.BaseParts.{base_class_parts}
 use Rattle.jc_sides.proofs.ItemRules.{made_where, collision_rule}
 use Rattle.jc_sides.proofs.NamedAbove.{class_unkept}
-use Rattle.jc_table.specs.Lookups.{IsAnswer, IsChoice, declare_method}
+use Rattle.jc_table.specs.Sides.{IsSide}
+use Rattle.jc_table.specs.Lookups.{IsChoice}
+use Rattle.jc_table.proofs.Sides.{classes_valid}
 use Rattle.jc_index.specs.declared.ids.Found.{Found}
 
 -- the table's lookup finds none where the world's finds nothing
@@ -57,13 +68,13 @@ last_false true true false d = refl
 last_false true false c d = refl
 last_false false b c d = refl
 
-pub no_method : (s : SidesOf) (x : Bytes) (k : Key) → IsAnswer s.new None (first_declared k (chain s.new x)) → None ≡ key_collision 11 s x k
-unfolding capture_of
+pub no_method : (s : SidesOf) (x : Bytes) (k : Key) → IsChoice s.new None (method_choices s.new x k) → None ≡ key_collision 11 s x k
+unfolding capture_of method_choices or_choices
 no_method s x k a = sym (capture_is s x k ∙ go (first_declared k (chain s.new x)) a)
   where
-    go : (o : Option DeclaredMember) → IsAnswer s.new None o → capture_of s x k o ≡ None
+    go : (o : Option DeclaredMember) → or_choices o (superinterface_choices s.new x k) ≡ [] → capture_of s x k o ≡ None
     go None b = rw (last_false (is_key_of_method k) (is_base_class s.old s.new x) (are_none (method_choices s.old x k)) (leaves_room k)) refl
-    go (Some m) b = absurd b
+    go (Some m) b = absurd (let clash : m ∷ [] ≡ [] = b in cc)
 
 -- the test of the code
 abbrev pub is_passed : World → Bytes → Key → ℕ → Bool
@@ -82,22 +93,98 @@ tests false true n true r h = refl
 tests false true n false r h = refl
 tests m false n c r h = absurd (cc)
 
-pub captured : (s : SidesOf) (x : Bytes) (k : Key) (f : Found) (b : Bool) (e : LinkError) (o : Option BrokenOf) → is_base_class s.old s.new x ≡ true → IsAnswer s.new (Some f) (first_declared k (chain s.new x)) → b ≡ is_passed s.old x k f.flags
-    → e ≡ cond (public_flag f.flags) IncompatibleClassChangeError IllegalAccessError → o ≡ broken_if b InvokeVirtual e → collided 11 x k o ≡ key_collision 11 s x k
-unfolding capture_of fails
-captured s x k f b e o base a t q r =
-    ap (collided 11 x k) r ∙ collided_where 11 x k b InvokeVirtual e ∙ ap (λ (u : LinkError). some_where b (made_collision 11 x k InvokeVirtual u)) q ∙ ap (λ p. some_where p (made x k f.flags)) t ∙ sym (capture_is s x k ∙ go (first_declared k (chain s.new x)) a)
+-- what superinterfaces give for a key of a method fails no call
+public_fails : (m : DeclaredMember) → IsPublicInstance m → fails m ≡ false
+unfolding fails
+public_fails m p = rw (p.0, p.1) refl
+
+inherited_fails : (W : World) → IsSide W → (x : Bytes) (k : Key) → load_fault W x ≡ None → is_key_of_method k ≡ true → (m : DeclaredMember) → Contains (superinterface_choices W x k) m → fails m ≡ false
+inherited_fails W d x k l h m c =
+    public_fails m (each_in IsPublicInstance (superinterface_choices W x k) m (recursion_from_All IsPublicInstance (superinterface_choices W x k) (inherited_are_public W (classes_valid W d) x k l (neither_last (is_init_name k.name) (is_clinit_name k.name) (not_true (is_init_name k.name || is_clinit_name k.name) h)))) c)
+
+none_passed : (c m n r : Bool) → (c ≡ false) ⊎ (m ≡ false) → (c && m && n && r) ≡ false
+none_passed false m n r h = refl
+none_passed true false n r h = refl
+none_passed true true n r (inl h) = absurd (cc)
+none_passed true true n r (inr h) = absurd (cc)
+
+only_one : (n m : DeclaredMember) → Contains (n ∷ []) m → n ≡ m
+only_one n m c = go (cases n [] m c)
   where
-    go : (m : Option DeclaredMember) → IsAnswer s.new (Some f) m → capture_of s x k m ≡ some_where (is_passed s.old x k f.flags) (made x k f.flags)
-    go None h = absurd h
-    go (Some m) h =
+    go : (n ≡ m) ⊎ Contains [] m → n ≡ m
+    go (inl is) = is
+    go (inr d) = absurd (none m d)
+
+-- whatever the lookup chooses: the chain's method is the choice, and where there is none, no choice is passed
+pub captured : (s : SidesOf) (x : Bytes) (k : Key) (f : Found) (b : Bool) (e : LinkError) (o : Option BrokenOf) → is_base_class s.old s.new x ≡ true → IsSide s.new → load_fault s.new x ≡ None → IsChoice s.new (Some f) (method_choices s.new x k)
+    → b ≡ is_passed s.old x k f.flags → e ≡ cond (public_flag f.flags) IncompatibleClassChangeError IllegalAccessError → o ≡ broken_if b InvokeVirtual e → collided 11 x k o ≡ key_collision 11 s x k
+unfolding capture_of fails method_choices or_choices
+captured s x k f b e o base side loads a t q r =
+    ap (collided 11 x k) r ∙ collided_where 11 x k b InvokeVirtual e ∙ ap (λ (u : LinkError). some_where b (made_collision 11 x k InvokeVirtual u)) q ∙ ap (λ p. some_where p (made x k f.flags)) t ∙ sym (capture_is s x k ∙ go (first_declared k (chain s.new x)) a.1)
+  where
+    found : DeclaredMember
+    found = a.0
+
+    flags : f.flags ≡ found.member.flags
+    flags = a.2.flags
+
+    either : (z : Bool) → is_key_of_method k ≡ z → Contains (superinterface_choices s.new x k) found → (fails found ≡ false) ⊎ (is_key_of_method k ≡ false)
+    either false i h = inr i
+    either true i h = inl (inherited_fails s.new side x k loads i found h)
+
+    unpassed : Contains (superinterface_choices s.new x k) found → is_passed s.old x k f.flags ≡ false
+    unpassed h =
+        ap (is_passed s.old x k) flags
+        ∙ none_passed (not (public_flag found.member.flags && no_static_flag found.member.flags)) (is_key_of_method k) (are_none (method_choices s.old x k)) (leaves_room k) (either (is_key_of_method k) refl h)
+
+    nothing : capture_of s x k None ≡ None
+    nothing = rw (last_false (is_key_of_method k) (is_base_class s.old s.new x) (are_none (method_choices s.old x k)) (leaves_room k)) refl
+
+    unmade : is_passed s.old x k f.flags ≡ false → some_where (is_passed s.old x k f.flags) (made x k f.flags) ≡ None
+    unmade h = ap (λ p. some_where p (made x k f.flags)) h
+
+    declared : (m : DeclaredMember) → f.flags ≡ m.member.flags → capture_of s x k (Some m) ≡ some_where (is_passed s.old x k f.flags) (made x k f.flags)
+    declared m h =
         ap (λ p. some_where p (made x k m.member.flags)) (tests (is_key_of_method k) (is_base_class s.old s.new x) (are_none (method_choices s.old x k)) (not (public_flag m.member.flags && no_static_flag m.member.flags)) (leaves_room k) base)
-        ∙ ap (λ (w : ℕ). some_where (is_passed s.old x k w) (made x k w)) (sym h.flags)
+        ∙ ap (λ (w : ℕ). some_where (is_passed s.old x k w) (made x k w)) (sym h)
+
+    go : (m : Option DeclaredMember) → Contains (or_choices m (superinterface_choices s.new x k)) found → capture_of s x k m ≡ some_where (is_passed s.old x k f.flags) (made x k f.flags)
+    go None h = nothing ∙ sym (unmade (unpassed h))
+    go (Some m) h = declared m (flags ∙ ap (λ (y : DeclaredMember). y.member.flags) (sym (only_one m found h)))
+
+-- ---- the kind of a base class
+
+-- what shuts clients out
+abbrev shuts : SidesOf → ClassFacts → ClassFacts → Bool
+shuts s c d = final_flag d.flags || (interface_flag d.flags && not (interface_flag c.flags)) || newly_sealed s.old s.new c d
+
+apart : (i j : Bool) → (i && not j) ≡ false → j ≡ false → i ≡ false
+apart true true p q = absurd (cc)
+apart true false p q = p
+apart false j p q = refl
+
+-- a base class is no interface now
+pub no_interface_now : (s : SidesOf) (x : Bytes) → is_base_class s.old s.new x ≡ true → is_interface_of s.new x ≡ false
+unfolding is_base_class is_class_closed
+no_interface_now s x h =
+    let p = and_parts (is_extendable s.old s.new x && is_steady s.old s.new x) (not (is_class_closed s.old s.new x)) h in
+    let q = and_parts (is_extendable s.old s.new x) (is_steady s.old s.new x) p.0 in
+    let n : class_is s.old (λ c. class_is s.new (shuts s c) x) x ≡ false =
+    and_false (is_steady s.old s.new x && (is_extendable s.old s.new x || is_implementable s.old s.new x)) (class_is s.old (λ c. class_is s.new (shuts s c) x) x) (not_true (is_class_closed s.old s.new x) p.1) (and_from (is_steady s.old s.new x) (is_extendable s.old s.new x || is_implementable s.old s.new x) q.1 (or_left (is_extendable s.old s.new x) (is_implementable s.old s.new x) q.0)) in
+    let r = base_class_parts s x h in
+    go (find_class s.old x) (find_class s.new x) r.both.there r.kind n
+  where
+    go : (a b : Option ClassFacts) → is_some a ≡ true → some_and (λ c. interface_flag c.flags) a ≡ false → some_and (λ c. some_and (shuts s c) b) a ≡ false → some_and (λ c. interface_flag c.flags) b ≡ false
+    go None b t k n = absurd (let clash : false ≡ true = t in cc)
+    go (Some c) None t k n = refl
+    go (Some c) (Some d) t k n =
+        apart (interface_flag d.flags) (interface_flag c.flags) (neither_last (final_flag d.flags) (interface_flag d.flags && not (interface_flag c.flags)) (neither_first (final_flag d.flags || (interface_flag d.flags && not (interface_flag c.flags))) (newly_sealed s.old s.new c d) n)) k
 
 -- ---- where it stands
 
 record IsCapture (s : SidesOf) (x : Bytes) (k : Key) : Type 0 where
   base : is_base_class s.old s.new x ≡ true
+  unknown : are_none (method_choices s.old x k) ≡ true
   declared : captures s.new x k ≡ true
 
 capture_parts : (s : SidesOf) (x : Bytes) (k : Key) (c : Collision) → key_collision 11 s x k ≡ Some c → IsCapture s x k
@@ -108,19 +195,35 @@ capture_parts s x k c h =
     let b = and_parts (is_key_of_method k && is_base_class s.old s.new x && are_none (method_choices s.old x k)) (captures s.new x k) a.0 in
     let d = and_parts (is_key_of_method k && is_base_class s.old s.new x) (are_none (method_choices s.old x k)) b.0 in
     let e = and_parts (is_key_of_method k) (is_base_class s.old s.new x) d.0 in
-    record { base = e.1; declared = b.1 }
+    record { base = e.1; unknown = d.1; declared = b.1 }
 
--- the class, or one above it, declares the key
-pub of_methods : (s : SidesOf) (x : Bytes) → OfPassing (key_collision 11 s x) (is_member members.NewMethods s x)
-unfolding captures
-of_methods s x k c e = at k (capture_parts s x k c e).declared
+-- where the first method fails calls, a class of the chain declares one that does
+first_hidden : (k : Key) (cs : List ClassFacts) → some_and (λ m. not (public_flag m.member.flags && no_static_flag m.member.flags)) (first_declared k cs) ≡ true → list_any (λ c. some_and is_hidden (own_method_of c k)) cs ≡ true
+unfolding first_declared found_in or_else
+first_hidden k [] h = absurd (let clash : false ≡ true = h in cc)
+first_hidden k (c ∷ cs) h = go (own_method_of c k) h (first_hidden k cs)
   where
-    go : (k : Key) (o : Option DeclaredMember) → first_declared k (chain s.new x) ≡ o → some_and (λ m. not (public_flag m.member.flags && no_static_flag m.member.flags)) o ≡ true → declare_method (above s.new x) k ≡ true
-    go k None q h = absurd (cc)
-    go k (Some m) q h = first_is_declared k s.new x m q
+    go : (o : Option Member) → some_and (λ m. not (public_flag m.member.flags && no_static_flag m.member.flags)) (or_else (found_in c o) (first_declared k cs)) ≡ true
+        → (some_and (λ m. not (public_flag m.member.flags && no_static_flag m.member.flags)) (first_declared k cs) ≡ true → list_any (λ c. some_and is_hidden (own_method_of c k)) cs ≡ true)
+        → (some_and is_hidden o || list_any (λ c. some_and is_hidden (own_method_of c k)) cs) ≡ true
+    go None h r = r h
+    go (Some m) h r = or_left (is_hidden m) (list_any (λ c. some_and is_hidden (own_method_of c k)) cs) h
 
-    at : (k : Key) → captures s.new x k ≡ true → declare_method (above s.new x) k ≡ true
-    at k h = go k (first_declared k (chain s.new x)) refl h
+pub of_hidden : (s : SidesOf) (x : Bytes) → OfPassing (key_collision 11 s x) (is_member members.NewHidden s x)
+unfolding captures
+of_hidden s x k c e = first_hidden k (chain s.new x) (capture_parts s x k c e).declared
+
+-- nothing is captured where all lookups are as they were
+found_none : (W : World) (x : Bytes) (k : Key) → captures W x k ≡ true → are_none (method_choices W x k) ≡ true → ⊥
+unfolding captures method_choices or_choices
+found_none W x k h n = go (first_declared k (chain W x)) h n
+  where
+    go : (o : Option DeclaredMember) → some_and (λ m. not (public_flag m.member.flags && no_static_flag m.member.flags)) o ≡ true → are_none (or_choices o (superinterface_choices W x k)) ≡ true → ⊥
+    go None h n = let clash : false ≡ true = h in cc
+    go (Some m) h n = let clash : false ≡ true = n in cc
+
+pub of_none : (s : SidesOf) (x : Bytes) → LooksTheSame s.old s.new x → OfPassing (key_collision 11 s x) (is_member members.Nothing s x)
+of_none s x same k c e = let p = capture_parts s x k c e in absurd (found_none s.new x k p.declared (ap are_none (sym (same.method k)) ∙ p.unknown))
 
 pub is_rule : IsItemRule collision_order (λ (c : Collision). c.«class») (key_collision 11) (IsCollision 11) (λ s x. is_base_class s.old s.new x)
 is_rule = collision_rule 11 (λ s x. is_base_class s.old s.new x) class_unkept (λ s x k c e. (capture_parts s x k c e).base)

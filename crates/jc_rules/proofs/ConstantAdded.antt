@@ -13,6 +13,7 @@ use Rattle.jc_facts.specs.rule.Orders.{collision_order}
 use Rattle.jc_facts.specs.rule.Bases.{is_base_interface}
 use Rattle.jc_facts.specs.world.World.{World, DeclaredMember}
 use Rattle.jc_field.proofs.Declared.{found_is_declared}
+use Rattle.jc_worlds.specs.Agreement.{LooksTheSame}
 use Rattle.jc_worlds.specs.Hierarchy.{above}
 use Rattle.jc_sides.specs.BrokenOf.{BrokenOf, broken_if, collided}
 use Rattle.jc_sides.specs.Members.{is_member, OfPassing}
@@ -72,6 +73,7 @@ module _ (s : SidesOf) (x : Bytes) (k : Key) (now : Option Found) (after : IsAns
 
 record IsConstant (s : SidesOf) (x : Bytes) (k : Key) : Type 0 where
   base : is_base_interface s.old s.new x ≡ true
+  unknown : is_none (field_found s.old x k) ≡ true
   found : is_some (field_found s.new x k) ≡ true
 
 constant_parts : (s : SidesOf) (x : Bytes) (k : Key) (c : Collision) → key_collision 10 s x k ≡ Some c → IsConstant s x k
@@ -79,7 +81,8 @@ unfolding constant_added
 constant_parts s x k c h =
     let t = (made_where (constant_added s.old s.new x k) (made_collision 10 x k GetField IncompatibleClassChangeError) c (sym (constant_is s x k) ∙ h)).0 in
     let a = and_parts (is_base_interface s.old s.new x && is_none (field_found s.old x k)) (is_some (field_found s.new x k)) t in
-    record { base = (and_parts (is_base_interface s.old s.new x) (is_none (field_found s.old x k)) a.0).0; found = a.1 }
+    let b = and_parts (is_base_interface s.old s.new x) (is_none (field_found s.old x k)) a.0 in
+    record { base = b.0; unknown = b.1; found = a.1 }
 
 -- the interface, or one above it, declares the key
 pub of_fields : (s : SidesOf) (x : Bytes) → AreSides s → is_base_interface s.old s.new x ≡ true → OfPassing (key_collision 10 s x) (is_member members.NewFields s x)
@@ -88,6 +91,14 @@ of_fields s x are base k c e = go k (field_found s.new x k) refl (constant_parts
     go : (k : Key) (o : Option DeclaredMember) → field_found s.new x k ≡ o → is_some o ≡ true → declare_field (above s.new x) k ≡ true
     go k None q h = absurd (cc)
     go k (Some m) q h = found_is_declared s.new are.new_side x k m q (base_interface_parts s x base).both.loads_now
+
+-- nothing is added where all lookups are as they were
+pub of_none : (s : SidesOf) (x : Bytes) → LooksTheSame s.old s.new x → OfPassing (key_collision 10 s x) (is_member members.Nothing s x)
+of_none s x same k c e = let p = constant_parts s x k c e in absurd (go (field_found s.new x k) (ap is_none (sym (same.field k)) ∙ p.unknown) p.found)
+  where
+    go : (o : Option DeclaredMember) → is_none o ≡ true → is_some o ≡ true → ⊥
+    go None n h = let clash : false ≡ true = h in cc
+    go (Some m) n h = let clash : false ≡ true = n in cc
 
 pub is_rule : IsItemRule collision_order (λ (c : Collision). c.«class») (key_collision 10) (IsCollision 10) (λ s x. is_base_interface s.old s.new x)
 is_rule = collision_rule 10 (λ s x. is_base_interface s.old s.new x) interface_unkept (λ s x k c e. (constant_parts s x k c e).base)

@@ -12,7 +12,8 @@ use Rattle.jc_facts.specs.rule.Findings.{finds_overridable}
 use Rattle.jc_facts.specs.rule.Orders.{collision_order}
 use Rattle.jc_lemmas.proofs.Bools.{second_of_five, third_of_five}
 use Rattle.jc_rules.specs.steps.Methods.{becomes_final, final_now}
-use Rattle.jc_rules.proofs.NewlyFinal.{row}
+use Rattle.jc_worlds.specs.Agreement.{LooksTheSame}
+use Rattle.jc_rules.proofs.NewlyFinal.{row, not_newly}
 use Rattle.jc_sides.specs.BrokenOf.{BrokenOf, broken_if, collided}
 use Rattle.jc_sides.specs.Members.{is_member, OfPassing}
 use Rattle.jc_sides.specs.declared.members.Members.TheVariants as members
@@ -57,6 +58,10 @@ met_where s x k c h = (made_where (final_added s.old s.new x k) (made_collision 
 -- its key is final in the new chain
 pub of_finals : (s : SidesOf) (x : Bytes) → OfPassing (key_collision 12 s x) (is_member members.NewFinals s x)
 of_finals s x k c m = third_of_five (is_key_of_method k) (is_base_class s.old s.new x) (is_final_in_chain s.new x k) (not (is_final_in_chain s.old x k)) (not (finds_overridable s.old x k)) (met_where s x k c m)
+
+-- no key is where all lookups are as they were
+pub of_none : (s : SidesOf) (x : Bytes) → LooksTheSame s.old s.new x → OfPassing (key_collision 12 s x) (is_member members.Nothing s x)
+of_none s x same k c m = absurd (not_newly s x k same (is_key_of_method k) (is_base_class s.old s.new x) (not (finds_overridable s.old x k)) (met_where s x k c m))
 
 met_base : (s : SidesOf) (x : Bytes) (k : Key) (c : Collision) → key_collision 12 s x k ≡ Some c → is_base_class s.old s.new x ≡ true
 met_base s x k c h = second_of_five (is_key_of_method k) (is_base_class s.old s.new x) (is_final_in_chain s.new x k) (not (is_final_in_chain s.old x k)) (not (finds_overridable s.old x k)) (met_where s x k c h)

@@ -12,7 +12,8 @@ use Rattle.jc_facts.specs.rule.Orders.{finding_order}
 use Rattle.jc_sound.proofs.ClassGoneLaw.{report_where-some}
 use Rattle.jc_lemmas.proofs.Bools.{second_of_five, third_of_five}
 use Rattle.jc_rules.specs.steps.Methods.{becomes_final, final_now}
-use Rattle.jc_rules.proofs.NewlyFinal.{row}
+use Rattle.jc_worlds.specs.Agreement.{LooksTheSame}
+use Rattle.jc_rules.proofs.NewlyFinal.{row, not_newly}
 use Rattle.jc_sides.specs.BrokenOf.{BrokenOf, broken_if, found}
 use Rattle.jc_sides.specs.Members.{is_member, OfPassing}
 use Rattle.jc_sides.specs.declared.members.Members.TheVariants as members
@@ -60,6 +61,10 @@ lost_where s x k f h = (report_where-some (is_lost s x k) (on_key 6 x k) Overrid
 -- its key is final in the new chain
 pub of_finals : (s : SidesOf) (x : Bytes) → OfPassing (key_finding 6 s x) (is_member members.NewFinals s x)
 of_finals s x k f m = third_of_five (is_key_of_method k) (is_base_class s.old s.new x) (is_final_in_chain s.new x k) (not (is_final_in_chain s.old x k)) (finds_overridable s.old x k) (lost_where s x k f m)
+
+-- no key is where all lookups are as they were
+pub of_none : (s : SidesOf) (x : Bytes) → LooksTheSame s.old s.new x → OfPassing (key_finding 6 s x) (is_member members.Nothing s x)
+of_none s x same k f m = absurd (not_newly s x k same (is_key_of_method k) (is_base_class s.old s.new x) (finds_overridable s.old x k) (lost_where s x k f m))
 
 abbrev on_6 : IsOnKey 6
 on_6 = record { not_1 = refl; not_2 = refl; not_3 = refl; not_4 = refl }

@@ -1,7 +1,7 @@
 -- Methods that are final now: what the lookup finds of them on the old side.
 use Rattle.std.proofs.Common.{◌≡◌, ℕ, Bool, true, false, not, ◌||◌, ◌&&◌, List, [], ◌∷◌, ◌++◌, refl, sym, ◌∙◌, ap, subst, Option, Some, None, ◌⊎◌, inl, inr}
-use Rattle.std.specs.List.{Contains, All}
-use Rattle.std.proofs.lemmas.Bool.{and_parts}
+use Rattle.std.specs.List.{list_any, Contains, All}
+use Rattle.std.proofs.lemmas.Bool.{and_parts, both_ways}
 use Rattle.std.proofs.lemmas.List.Elements.{recursion_from_All, All-from_recursion}
 use Rattle.jc_facts.specs.declared.class_facts.ClassFacts.{ClassFacts}
 use Rattle.jc_facts.specs.declared.key.Key.{Key}
@@ -12,10 +12,11 @@ use Rattle.jc_facts.specs.world.Hierarchy.{chain}
 use Rattle.jc_facts.specs.world.Loading.{load_fault}
 use Rattle.jc_facts.specs.world.Lookup.{method_choices, or_choices, first_declared, superinterface_choices}
 use Rattle.jc_facts.specs.file.Valid.{IsValidClass}
-use Rattle.jc_facts.specs.rule.Bases.{is_key_of_method, is_final_in_chain, public_or_protected}
+use Rattle.jc_facts.specs.rule.Bases.{is_key_of_method, declares_as_final, is_final_in_chain, public_or_protected}
 use Rattle.jc_facts.specs.rule.Findings.{finds_overridable, first_passes}
 use Rattle.jc_lemmas.proofs.Bools.{neither_last, not_true}
 use Rattle.jc_lemmas.proofs.Listed.{EachOf, none, cases, each_in, EachOf-append}
+use Rattle.jc_worlds.specs.Agreement.{LooksTheSame}
 use Rattle.jc_worlds.specs.Choices.{IsPublicInstance}
 use Rattle.jc_worlds.proofs.ChoiceLaws.{inherited_are_public}
 use Rattle.jc_rules.specs.steps.Methods.{becomes_final}
@@ -69,6 +70,17 @@ choice_none W x k e = ap (first_passes passes) e
 -- the key is no initializer's
 pub newly_key : (s : SidesOf) (x : Bytes) (k : Key) → becomes_final s x k ≡ true → is_key_of_method k ≡ true
 newly_key s x k h = (and_parts (is_key_of_method k) (not (is_final_in_chain s.old x k)) (and_parts (is_key_of_method k && not (is_final_in_chain s.old x k)) (is_final_in_chain s.new x k) h).0).0
+
+-- where all lookups are as they were, no key is
+pub not_newly : (s : SidesOf) (x : Bytes) (k : Key) → LooksTheSame s.old s.new x → (a b o : Bool) → (a && b && is_final_in_chain s.new x k && not (is_final_in_chain s.old x k) && o) ≡ true → ⊥
+unfolding is_final_in_chain
+not_newly s x k same a b o h =
+    let p = and_parts (a && b && is_final_in_chain s.new x k && not (is_final_in_chain s.old x k)) o h in
+    let q = and_parts (a && b && is_final_in_chain s.new x k) (not (is_final_in_chain s.old x k)) p.0 in
+    both_ways (is_final_in_chain s.new x k) (sym alike ∙ not_true (is_final_in_chain s.old x k) q.1) (and_parts (a && b) (is_final_in_chain s.new x k) q.0).1
+  where
+    alike : is_final_in_chain s.old x k ≡ is_final_in_chain s.new x k
+    alike = ap (list_any (declares_as_final k)) same.chain
 
 -- the tests in the order of the definition, and in that of the code
 pub row : (m b f g o : Bool) → b ≡ true → (m && b && f && g && o) ≡ ((m && g && f) && o)

@@ -1,5 +1,6 @@
 //! The collision of methods that are found before those of a client's interfaces.
 ghost use Rattle.std.specs.Prelude.{◌≡◌, ◌&&◌, not, cond, IsTrue};
+ghost use Rattle.jc_acts.specs.Seats.{AreSeats};
 ghost use Rattle.jc_facts.specs.declared.link_error.LinkError.TheVariants.{IllegalAccessError, IncompatibleClassChangeError};
 ghost use Rattle.jc_facts.specs.declared.rule_numbers.TheConstants.{CAPTURE_ADDED};
 ghost use Rattle.jc_facts.specs.rule.Collisions.{are_none, leaves_room};
@@ -8,6 +9,7 @@ ghost use Rattle.jc_facts.specs.world.Lookup.{method_choices};
 ghost use Rattle.jc_facts.specs.rule.Bases.{is_base_class, is_key_of_method};
 ghost use Rattle.jc_sides.specs.SharedOf.{IsShared, name_of};
 
+use jc_acts::seats::Seats;
 use jc_desc::method::slots;
 use jc_desc::names::is_initializer;
 use jc_facts::act::Act;
@@ -15,7 +17,7 @@ use jc_facts::flags::{is_public, is_static};
 use jc_facts::key::Key;
 use jc_facts::link_error::LinkError;
 use jc_facts::rule_numbers::CAPTURE_ADDED;
-use jc_method::find::{find_in_chain, find_method};
+use jc_method::find::find_method;
 use jc_sides::broken::{BrokenAct, broken_where};
 use jc_sides::collision_rule::CollisionRule;
 use jc_sides::members::Members;
@@ -70,23 +72,33 @@ fn is_captured(sides: &Sides<'_>, class: &Shared<'_>, key: &Key, flags: u16) -> 
 /// instance methods (JVMS 5.4.3.3): where a reference to a client class below found a method of an
 /// interface, it finds the base class's first, and fails.
 #[derive(Drop)]
-pub struct CaptureAdded;
+pub struct CaptureAdded<'a, 'b> {
+    /// The seats of clients.
+    pub seats: &'b Seats<'a>,
+}
 
-impl CollisionRule for CaptureAdded {
+impl<'a, 'b> CollisionRule for CaptureAdded<'a, 'b> {
     ghost rule = { CAPTURE_ADDED };
 
     ghost covers = { λ s x. is_base_class s.old s.new x };
+
+    ghost ready = { λ r s. AreSeats s r.seats.now };
 
     fn number(&self) -> u8 {
         CAPTURE_ADDED
     }
 
-    fn members(&self) -> Members {
-        Members::NewMethods
+    fn members(&self, sides: &Sides<'_>, class: &Shared<'_>) -> Members {
+        if self.seats.may_close(sides, class) {
+            Members::NewHidden
+        } else {
+            Members::Nothing
+        }
     }
 
     fn on_key(&self, sides: &Sides<'_>, class: &Shared<'_>, key: &Key) -> Option<BrokenAct<'_>> {
-        let method = find_in_chain(sides.new, class.new, key)?;
+        // One that superinterfaces give is a public instance method, and fails no call.
+        let method = find_method(sides.new, class.new, key)?;
         let captured = is_captured(sides, class, key, method.flags);
         broken_where(captured, Act::InvokeVirtual, error_of(method.flags))
     }

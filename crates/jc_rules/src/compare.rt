@@ -7,7 +7,7 @@ ghost use Rattle.jc_facts.specs.rule.Notes.{NoteStands};
 ghost use Rattle.jc_facts.specs.rule.Orders.{finding_order, collision_order, note_order};
 ghost use Rattle.jc_facts.specs.Exactly.{HasExactly};
 ghost use Rattle.jc_facts.specs.rule.Verdict.{IsVerdict};
-ghost use Rattle.jc_facts.specs.rule.Bases.{is_steady, is_base_class, is_base_interface};
+ghost use Rattle.jc_facts.specs.rule.Bases.{is_steady, is_base_interface};
 ghost use Rattle.jc_rules.specs.Verdicts.{IsVerdictWithin, KeepsAll, BreaksEach};
 ghost use Rattle.jc_rules.specs.steps.Classes.{OfRules};
 ghost use Rattle.jc_rules.specs.steps.Within.{IsLimited};
@@ -91,7 +91,7 @@ fn findings_below(
         rule: ConstructorClosed,
     };
     let made_final = Findings {
-        rule: MethodMadeFinal,
+        rule: MethodMadeFinal { seats },
     };
     let Some(mut findings) = by_items(alloc, &constructors, sides, steady, most)? else {
         return Ok(None);
@@ -177,19 +177,24 @@ fn findings(
 fn collisions(
     alloc: Global,
     sides: &Sides<'_>,
-    classes: &[Shared<'_>],
+    seats: &Seats<'_>,
     interfaces: &[Shared<'_>],
     most: Option<usize>,
 ) -> Result<Option<Vec<Collision>>, AllocError>
-    requires classes { AreThose (is_base_class sides.now.old sides.now.new) sides.now classes.now }
+    requires seats { AreSeats sides.now seats.now }
     requires interfaces { AreThose (is_base_interface sides.now.old sides.now.new) sides.now interfaces.now }
     ensures { IfOk result (λ made. IsWithin collision_order (CollisionStands sides.now.old sides.now.new) most (option_map (λ cs. cs.items) made)) }
 {
+    let classes = seats.bases();
     let constants = Collisions {
-        rule: ConstantAdded,
+        rule: ConstantAdded { seats },
     };
-    let captures = Collisions { rule: CaptureAdded };
-    let finals = Collisions { rule: FinalAdded };
+    let captures = Collisions {
+        rule: CaptureAdded { seats },
+    };
+    let finals = Collisions {
+        rule: FinalAdded { seats },
+    };
     let Some(mut collisions) = by_items(alloc, &constants, sides, interfaces, most)? else {
         return Ok(None);
     };
@@ -242,7 +247,7 @@ fn limited(
         return Ok(None);
     };
     let room = left(most, findings.len());
-    let made = collisions(alloc, sides, seats.bases(), interfaces.as_slice(), room)?;
+    let made = collisions(alloc, sides, &seats, interfaces.as_slice(), room)?;
     let Some(collisions) = made else {
         return Ok(None);
     };

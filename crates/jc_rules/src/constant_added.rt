@@ -1,10 +1,12 @@
 //! The collision of fields that interfaces have now.
 ghost use Rattle.std.specs.Prelude.{◌≡◌, IsTrue};
+ghost use Rattle.jc_acts.specs.Seats.{AreSeats};
 ghost use Rattle.jc_facts.specs.declared.rule_numbers.TheConstants.{CONSTANT_ADDED};
 ghost use Rattle.jc_facts.specs.rule.Bases.{is_base_interface};
 ghost use Rattle.jc_facts.specs.rule.Collisions.{constant_added};
 ghost use Rattle.jc_sides.specs.SharedOf.{IsShared, name_of};
 
+use jc_acts::seats::Seats;
 use jc_facts::act::Act;
 use jc_facts::key::Key;
 use jc_facts::link_error::LinkError;
@@ -30,19 +32,28 @@ fn is_added(sides: &Sides<'_>, class: &Shared<'_>, key: &Key) -> bool
 /// class that implements the interface and has such a field in a superclass finds the interface's
 /// instead.
 #[derive(Drop)]
-pub struct ConstantAdded;
+pub struct ConstantAdded<'a, 'b> {
+    /// The seats of clients.
+    pub seats: &'b Seats<'a>,
+}
 
-impl CollisionRule for ConstantAdded {
+impl<'a, 'b> CollisionRule for ConstantAdded<'a, 'b> {
     ghost rule = { CONSTANT_ADDED };
 
     ghost covers = { λ s x. is_base_interface s.old s.new x };
+
+    ghost ready = { λ r s. AreSeats s r.seats.now };
 
     fn number(&self) -> u8 {
         CONSTANT_ADDED
     }
 
-    fn members(&self) -> Members {
-        Members::NewFields
+    fn members(&self, sides: &Sides<'_>, class: &Shared<'_>) -> Members {
+        if self.seats.may_close(sides, class) {
+            Members::NewFields
+        } else {
+            Members::Nothing
+        }
     }
 
     fn on_key(&self, sides: &Sides<'_>, class: &Shared<'_>, key: &Key) -> Option<BrokenAct<'_>> {

@@ -1,8 +1,10 @@
 //! The rule on methods that may not be overridden any more.
+ghost use Rattle.jc_acts.specs.Seats.{AreSeats};
 ghost use Rattle.jc_facts.specs.declared.rule_numbers.TheConstants.{METHOD_MADE_FINAL};
 ghost use Rattle.jc_facts.specs.rule.Bases.{is_base_class};
 
 use crate::newly_final::made_final;
+use jc_acts::seats::Seats;
 use jc_facts::act::Act;
 use jc_facts::key::Key;
 use jc_facts::link_error::LinkError;
@@ -16,21 +18,28 @@ use jc_sides::sides::Sides;
 /// Methods that clients could override below a base class, and that are final now in its chain
 /// (JVMS 5.4.5).
 #[derive(Drop)]
-pub struct MethodMadeFinal;
+pub struct MethodMadeFinal<'a, 'b> {
+    /// The seats of clients.
+    pub seats: &'b Seats<'a>,
+}
 
-impl FindingRule for MethodMadeFinal {
+impl<'a, 'b> FindingRule for MethodMadeFinal<'a, 'b> {
     ghost rule = { METHOD_MADE_FINAL };
 
     ghost covers = { λ s x. is_base_class s.old s.new x };
 
-    ghost ready = { λ _ _. Unit {0} };
+    ghost ready = { λ r s. AreSeats s r.seats.now };
 
     fn number(&self) -> u8 {
         METHOD_MADE_FINAL
     }
 
-    fn members(&self, _sides: &Sides<'_>, _class: &Shared<'_>) -> Members {
-        Members::NewFinals
+    fn members(&self, sides: &Sides<'_>, class: &Shared<'_>) -> Members {
+        if self.seats.may_close(sides, class) {
+            Members::NewFinals
+        } else {
+            Members::Nothing
+        }
     }
 
     fn on_key(&self, sides: &Sides<'_>, class: &Shared<'_>, key: &Key) -> Option<BrokenAct<'_>> {

@@ -4,7 +4,7 @@ pub mod Subjects
 pub mod ByClass
 pub mod BrokenActs
 pub mod KeySets
-mod Finals
+mod ChainKeys
 pub mod MemberKeys
 mod TestedClasses
 mod ByItems

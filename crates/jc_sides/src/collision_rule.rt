@@ -25,13 +25,20 @@ pub trait CollisionRule {
     // The classes of which it speaks.
     ghost covers: { SidesOf → Bytes → Bool };
 
+    // What has to be true of the rule's own values, as of lists that it keeps of the sides.
+    ghost ready: { Self → SidesOf → Type 0 };
+
     /// Its number.
     fn number(&self) -> u8
         ensures { result ≡ rule };
 
-    /// Of which members it may speak.
-    fn members(&self) -> Members
-        ensures { (s : SidesOf) (x : Bytes) → AreSides s → IsTrue (covers s x) → OfPassing (key_collision rule s x) (is_member result s x) };
+    /// Of which members of the class it may speak.
+    fn members(&self, sides: &Sides<'_>, class: &Shared<'_>) -> Members
+        requires sides { AreSides sides.now }
+        requires ready { ready self.now sides.now }
+        requires shared { IsShared sides.now «class».now }
+        requires covered { IsTrue (covers sides.now (name_of «class».now)) }
+        ensures { OfPassing (key_collision rule sides.now (name_of «class».now)) (is_member result sides.now (name_of «class».now)) };
 
     /// What is broken by the change of the key's member, for clients that stand in its way.
     fn on_key(&self, sides: &Sides<'_>, class: &Shared<'_>, key: &Key) -> Option<BrokenAct<'_>>
@@ -59,7 +66,7 @@ impl<R: CollisionRule> ItemRule for Collisions<R> {
 
     ghost covers = { R.covers };
 
-    ghost ready = { λ _ _. Unit {0} };
+    ghost ready = { λ r s. R.ready r.rule s };
 
     fn keys(
         &self,
@@ -67,7 +74,8 @@ impl<R: CollisionRule> ItemRule for Collisions<R> {
         sides: &Sides<'_>,
         class: &Shared<'_>,
     ) -> Result<Vec<Key>, AllocError> {
-        let keys = keys_of(alloc, sides, class, self.rule.members())?;
+        let members = self.rule.members(sides, class);
+        let keys = keys_of(alloc, sides, class, members)?;
         Ok(keys)
     }
 

@@ -1,10 +1,11 @@
 //! The members of which a rule may speak, and their keys in order.
-ghost use Rattle.std.specs.Prelude.{◌≡◌, ◌<◌, ◌&&◌, IfOk, OnOk, IsTrue};
+ghost use Rattle.std.specs.Prelude.{◌≡◌, ◌<◌, ◌&&◌, Bool, IfOk, OnOk, IsTrue};
+ghost use Rattle.jc_facts.specs.declared.class_facts.Member.{Member as MemberOf};
 ghost use Rattle.jc_facts.specs.Names.{is_init_name, same_key};
 ghost use Rattle.jc_facts.specs.world.World.{size};
-ghost use Rattle.jc_facts.specs.rule.Bases.{is_kept, is_open_final, is_final_in_chain};
+ghost use Rattle.jc_facts.specs.rule.Bases.{is_kept, is_open_final};
 ghost use Rattle.jc_table.specs.Ids.{name_at};
-ghost use Rattle.jc_sides.specs.Members.{is_member, HasAll};
+ghost use Rattle.jc_sides.specs.Members.{is_member, is_hidden, declares_in_chain, HasAll};
 ghost use Rattle.jc_sides.specs.SharedOf.{IsShared, name_of};
 ghost use Rattle.jc_sides.specs.steps.KeySets.{Adds, HasEach, has_member};
 
@@ -36,8 +37,8 @@ pub enum Members {
     OldMethods,
     /// The fields that it has now.
     NewFields,
-    /// The methods that it has now.
-    NewMethods,
+    /// The methods of its chain now that are no public instance methods (JVMS 5.4.3.3).
+    NewHidden,
     /// The methods of its chain that may not be overridden now (JVMS 5.4.5).
     NewFinals,
 }
@@ -79,32 +80,63 @@ fn init_keys<'a>(alloc: Global, class: &'a ClassFacts) -> Result<BTreeSet<KeyRef
     Ok(keys)
 }
 
-// Whether subclasses can see the method and may not override it.
-fn is_final_method(method: &Member) -> bool
-    ensures { result ≡ is_open_final method.now }
-{
-    let flags = method.flags;
-    is_final(flags) && !is_static(flags) && (is_public(flags) || is_protected(flags))
+// A test of methods.
+trait MethodTest {
+    ghost test: { MemberOf → Bool };
+
+    // Whether the method passes.
+    fn passes(&self, method: &Member) -> bool
+        ensures { result ≡ test method.now };
 }
 
-// Adds the keys of the class's methods that may not be overridden.
-fn add_finals<'a>(keys: &mut BTreeSet<KeyRef<'a>>, class: &'a ClassFacts) -> Result<(), AllocError>
-    ensures { OnOk result (Adds (has_member is_open_final class.now.methods) keys.old keys.new) }
+// Whether subclasses can see the method and may not override it.
+struct OpenFinal;
+
+impl MethodTest for OpenFinal {
+    ghost test = { is_open_final };
+
+    fn passes(&self, method: &Member) -> bool {
+        let flags = method.flags;
+        is_final(flags) && !is_static(flags) && (is_public(flags) || is_protected(flags))
+    }
+}
+
+// Whether the method is no public instance method.
+struct Hidden;
+
+impl MethodTest for Hidden {
+    ghost test = { is_hidden };
+
+    fn passes(&self, method: &Member) -> bool {
+        let flags = method.flags;
+        !is_public(flags) || is_static(flags)
+    }
+}
+
+// Adds the keys of the class's methods that pass.
+fn add_where<'a, T: MethodTest>(
+    keys: &mut BTreeSet<KeyRef<'a>>,
+    class: &'a ClassFacts,
+    test: &T,
+) -> Result<(), AllocError>
+    ensures { OnOk result (Adds (has_member T.test class.now.methods) keys.old keys.new) }
 {
     for method in class.methods.as_slice() {
-        put_if(keys, KeyRef::of_member(method), is_final_method(method))?;
+        let wanted = test.passes(method);
+        put_if(keys, KeyRef::of_member(method), wanted)?;
     }
     Ok(())
 }
 
-// The keys of the methods of the class's chain that may not be overridden.
-fn final_keys<'a>(
+// The keys of the methods of the class's chain that pass.
+fn chain_keys<'a, T: MethodTest>(
     alloc: Global,
     table: &'a Table,
     class: ClassId,
+    test: &T,
 ) -> Result<BTreeSet<KeyRef<'a>>, AllocError>
     requires { class < size table.now }
-    ensures { IfOk result (HasEach (is_final_in_chain table.now (name_at table.now class))) }
+    ensures { IfOk result (HasEach (declares_in_chain T.test table.now (name_at table.now class))) }
 {
     let mut keys = BTreeSet::new(alloc);
     let mut next = Some(class);
@@ -112,7 +144,7 @@ fn final_keys<'a>(
         let Some(class) = next else {
             return Ok(keys);
         };
-        add_finals(&mut keys, table.facts(class))?;
+        add_where(&mut keys, table.facts(class), test)?;
         next = table.superclass(class);
     }
     Ok(keys)
@@ -135,7 +167,7 @@ pub fn keys_of(
         Members::OldFields => field_keys(alloc, sides.old, class.old),
         Members::OldMethods => method_keys(alloc, sides.old, class.old),
         Members::NewFields => field_keys(alloc, sides.new, class.new),
-        Members::NewMethods => method_keys(alloc, sides.new, class.new),
-        Members::NewFinals => to_keys(alloc, &final_keys(alloc, sides.new, class.new)?),
+        Members::NewHidden => to_keys(alloc, &chain_keys(alloc, sides.new, class.new, &Hidden)?),
+        Members::NewFinals => to_keys(alloc, &chain_keys(alloc, sides.new, class.new, &OpenFinal)?),
     }
 }

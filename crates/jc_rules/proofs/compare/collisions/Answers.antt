@@ -18,6 +18,12 @@ by_items-requires-2-clause-rule c = capture_added
 pub by_items-requires-3-clause-rule : goal.by_items-requires-3-clause-rule
 by_items-requires-3-clause-rule c = final_added
 
+pub by_items-requires-2-clause-classes : goal.by_items-requires-2-clause-classes
+by_items-requires-2-clause-classes c = c.bases-classes.ensures c.args.sides.now c.requires.seats
+
+pub by_items-requires-3-clause-classes : goal.by_items-requires-3-clause-classes
+by_items-requires-3-clause-classes c = c.bases-classes.ensures c.args.sides.now c.requires.seats
+
 pub returns-in_default-2 : goal.returns-in_default-2
 returns-in_default-2 c =
     stands_past collision_order (λ d. d.rule) (CollisionStands c.args.sides.now.old c.args.sides.now.new) collision_rule_before c.args.most 10 13

@@ -1,5 +1,14 @@
-use Rattle.jc_rules.proofs.CaptureAdded.{of_methods}
+use Rattle.std.proofs.Common.{sym, ◌∙◌}
+use Rattle.jc_acts.proofs.Untouched.{looks_alike}
+use Rattle.jc_sides.specs.SharedOf.{name_of}
+use Rattle.jc_sides.proofs.BaseParts.{base_class_parts}
+use Rattle.jc_rules.proofs.CaptureAdded.{of_none, of_hidden}
 use Rattle.jc_rules.proofs.capture_added.CaptureAddedCollisionRule.members.Goals as goal
 
-pub returns : goal.returns
-returns c = λ s x are base. of_methods s x
+pub returns-then-may_close : goal.returns-then-may_close
+returns-then-may_close c = of_hidden c.args.sides.now (name_of c.args.class.now)
+
+pub returns-else-may_close : goal.returns-else-may_close
+returns-else-may_close c =
+    of_none c.args.sides.now (name_of c.args.class.now)
+    (looks_alike c.args.sides.now c.requires.sides (name_of c.args.class.now) (sym c.may_close.ensures ∙ c.if-may_close.false) (base_class_parts c.args.sides.now (name_of c.args.class.now) c.requires.covered).both.loads)

@@ -1,5 +1,14 @@
-use Rattle.jc_rules.proofs.FinalAdded.{of_finals}
+use Rattle.std.proofs.Common.{sym, ◌∙◌}
+use Rattle.jc_acts.proofs.Untouched.{looks_alike}
+use Rattle.jc_sides.specs.SharedOf.{name_of}
+use Rattle.jc_sides.proofs.BaseParts.{base_class_parts}
+use Rattle.jc_rules.proofs.FinalAdded.{of_none, of_finals}
 use Rattle.jc_rules.proofs.final_added.FinalAddedCollisionRule.members.Goals as goal
 
-pub returns : goal.returns
-returns c = λ s x are base. of_finals s x
+pub returns-then-may_close : goal.returns-then-may_close
+returns-then-may_close c = of_finals c.args.sides.now (name_of c.args.class.now)
+
+pub returns-else-may_close : goal.returns-else-may_close
+returns-else-may_close c =
+    of_none c.args.sides.now (name_of c.args.class.now)
+    (looks_alike c.args.sides.now c.requires.sides (name_of c.args.class.now) (sym c.may_close.ensures ∙ c.if-may_close.false) (base_class_parts c.args.sides.now (name_of c.args.class.now) c.requires.covered).both.loads)
