@@ -4,9 +4,12 @@
 pub mod json;
 mod json_values;
 pub mod laws;
+mod line;
 mod lines;
 pub mod link_text;
 pub mod made_text;
 pub mod printed;
 mod printed_words;
+pub mod put_lines;
+pub mod put_text;
 pub mod text;

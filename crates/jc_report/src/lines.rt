@@ -20,9 +20,9 @@ fn push_member(text: &mut Vec<u8>, finding: &Finding) -> Result<(), AllocError>
     }
 }
 
-// The line of a finding, its line end with it.
+/// The line of a finding of this number, its line end with it.
 #[tactic(auto, unfolding(jc_facts::specs::print::Text::line_of_finding))]
-fn finding_line(alloc: Global, number: usize, finding: &Finding) -> Result<Vec<u8>, AllocError>
+pub fn finding_line(alloc: Global, number: usize, finding: &Finding) -> Result<Vec<u8>, AllocError>
     ensures { IfOk result (λ line. line.items ≡ line_of_finding number finding.now) }
 {
     let mut line = Vec::new(alloc);
@@ -55,9 +55,9 @@ pub fn finding_lines(alloc: Global, findings: &[Finding]) -> Result<Vec<u8>, All
     Ok(text)
 }
 
-// The line of a collision, its line end with it.
+/// The line of a collision of this number, its line end with it.
 #[tactic(auto, unfolding(jc_facts::specs::print::Text::line_of_collision))]
-fn collision_line(
+pub fn collision_line(
     alloc: Global,
     number: usize,
     collision: &Collision,
@@ -127,8 +127,9 @@ fn constant_line(alloc: Global, class: &Name, key: &Key) -> Result<Vec<u8>, Allo
     Ok(line)
 }
 
+/// The line of a note, its line end with it.
 #[tactic(auto, unfolding(jc_facts::specs::print::Text::line_of_note))]
-fn note_line(alloc: Global, note: &Note) -> Result<Vec<u8>, AllocError>
+pub fn note_line(alloc: Global, note: &Note) -> Result<Vec<u8>, AllocError>
     ensures { IfOk result (λ line. line.items ≡ line_of_note note.now) }
 {
     match note {

@@ -9,8 +9,9 @@ use crate::printed_words::verdict_word;
 use jc_facts::verdict::Verdict;
 use std::alloc::{AllocError, Global};
 
-// The last line: the word, and how many findings, collisions and notes there are.
-fn last_line(alloc: Global, verdict: &Verdict) -> Result<Vec<u8>, AllocError>
+/// The last line, its line end with it: the word, and how many findings, collisions and notes there
+/// are.
+pub(crate) fn last_line(alloc: Global, verdict: &Verdict) -> Result<Vec<u8>, AllocError>
     ensures { IfOk result (λ line. line.items ≡ last_line_of verdict.now) }
 {
     let findings = verdict.findings.as_slice();

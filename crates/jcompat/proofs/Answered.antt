@@ -12,14 +12,14 @@ use Rattle.jcompat.specs.declared.report.Report.{Report}
 use Rattle.jcompat.specs.declared.status.TheConstants.{PASSED, NOT_PASSED, WRITE_FAULT, NO_MEMORY, LIMIT}
 use Rattle.jcompat.specs.declared.stop.Stop.{Stop}
 use Rattle.jcompat.specs.declared.stop.Stop.TheVariants as stops
-use Rattle.jcompat.specs.Answers.{Ran, Answers, Due, has_passed, due_bytes, Puts, PutsWitnesses, IsStopped, CutsWitnesses, CutsReport, CutsRefusal, IsQuiet, IsUntouched, PutsAll, PutsFront, OfFiles, HasCause, HasFailed}
+use Rattle.jcompat.specs.Answers.{Ran, Answers, Due, due_bytes, Puts, PutsWitnesses, IsStopped, CutsWitnesses, CutsReport, CutsRefusal, IsQuiet, IsUntouched, PutsAll, PutsFront, OfFiles, HasCause, HasFailed}
 use Rattle.jcompat.specs.Check.{IsCompatible, IsIncompatible, IsWitnessed, verdict_bytes, old_side, new_side, puts_below}
 use Rattle.jcompat.specs.ClassFiles.{Told}
 use Rattle.jcompat.specs.Command.{CommandOf, CheckOf, CheckCommand, LinkCommand, MakeCommand, witness_dir, asked}
-use Rattle.jcompat.specs.Reports.{RecordsOf, ReportOf, IsReportOn, puts_of}
+use Rattle.jcompat.specs.Reports.{RecordsOf, IsReportOn, puts_of}
 use Rattle.jcompat.specs.Stop.{line_of, file_status, status_of}
 use Rattle.jcompat.specs.Witness.{PutsFiles}
-use Rattle.jcompat.specs.steps.Report.{IsChecked, IsReportOf, Reports, dir_in, puts_in, passes_by, status_by}
+use Rattle.jcompat.specs.steps.Report.{IsChecked, IsReportOf, Reports, bytes_in, dir_in, puts_in, passes_by, status_by}
 use Rattle.jcompat.specs.steps.Put.{IsPutWith, IsPutAfter, IsCutBefore}
 use Rattle.jcompat.proofs.Asked.{asked_without}
 use Rattle.jcompat.proofs.Events.{told_to, not_refused, reported_accepted, refused_status, accepted_status}
@@ -50,8 +50,8 @@ if_ok {A} {E} r x P e h = subst (λ (s : Result A E). IfOk s P) e h
 -- what a check's report upholds
 record Upheld (content : Option (List FileOf)) (check : CheckOf) (report : Report) : Type 0 where
   of : Verdict
-  checked : Told content (λ files. IsChecked files check of (puts_in report.shown))
-  text : report.text.items ≡ verdict_bytes check.json of
+  checked : Told content (λ files. IsChecked files check of (puts_in report.body))
+  text : bytes_in report.body ≡ verdict_bytes check.json of
 
 same_check : (c d : CheckOf) → CheckCommand c ≡ CheckCommand d → c ≡ d
 same_check c d e = cc
@@ -65,27 +65,27 @@ no_make n d e = absurd (cc)
 upheld : (trees : TreesState) (report : Report) (check : CheckOf) (command : CommandOf) → command ≡ CheckCommand check → IsReportOf command trees report → Upheld trees.content check report
 upheld trees report check (CheckCommand c) e is = record {
   of = is.of;
-  checked = subst (λ (d : CheckOf). Told trees.content (λ files. IsChecked files d is.of (puts_in report.shown))) (same_check c check e) is.upholds;
-  text = subst (λ (d : CheckOf). report.text.items ≡ verdict_bytes d.json is.of) (same_check c check e) is.tells.text;
+  checked = subst (λ (d : CheckOf). Told trees.content (λ files. IsChecked files d is.of (puts_in report.body))) (same_check c check e) is.upholds;
+  text = subst (λ (d : CheckOf). bytes_in report.body ≡ verdict_bytes d.json is.of) (same_check c check e) is.tells.text;
 }
 upheld trees report check (LinkCommand l) e is = no_link l check e
 upheld trees report check (MakeCommand n) e is = no_make n check e
 
 module _ (r : Ran) (report : Report) (is : Reports r.gates r.words r.trees.before report)
-    (put : IsPutAfter (puts_in report.shown) r.folder report.text.items (status_by (passes_by r.gates report.condition)) r.out r.status ⊎ IsCutBefore (dir_in report.shown) (puts_in report.shown) r.folder r.out r.status)
-    (untouched : dir_in report.shown ≡ None → IsUntouched r.folder) (quiet : IsQuiet r.err) (same : r.trees.after.content ≡ r.trees.before.content) where
+    (put : IsPutAfter (puts_in report.body) r.folder (bytes_in report.body) (status_by (passes_by r.gates report.condition)) r.out r.status ⊎ IsCutBefore (dir_in report.body) (puts_in report.body) r.folder r.out r.status)
+    (untouched : dir_in report.body ≡ None → IsUntouched r.folder) (quiet : IsQuiet r.err) (same : r.trees.after.content ≡ r.trees.before.content) where
   abbrev due : Due r
-  due = record { command = is.command; asked_for = is.asked_for; report = is.is.of; witnesses = puts_in report.shown; is_report = is.is.is_report }
+  due = record { command = is.command; asked_for = is.asked_for; report = is.is.of; witnesses = puts_in report.body; is_report = is.is.is_report }
 
   abbrev passed_by : Bool
   passed_by = passes_by r.gates report.condition
 
   abbrev reported : List FileOf → Type 0
-  reported files = (records : RecordsOf files is.command) × IsReportOn files is.command records is.is.of × (puts_in report.shown ≡ puts_of files is.command records is.is.of)
+  reported files = (records : RecordsOf files is.command) × IsReportOn files is.command records is.is.of × (puts_in report.body ≡ puts_of files is.command records is.is.of)
 
   -- what was put with status 0, and with status 1
   record IsWhole : Type 0 where
-    puts : (bytes : Bytes) → report.text.items ≡ bytes → Puts r bytes
+    puts : (bytes : Bytes) → bytes_in report.body ≡ bytes → Puts r bytes
     witnesses : PutsWitnesses r due
 
   data Case : Type 0 where
@@ -93,7 +93,7 @@ module _ (r : Ran) (report : Report) (is : Reports r.gates r.words r.trees.befor
     not_passed : passed_by ≡ false → r.status ≡ NOT_PASSED → IsWhole → Case
     cut : (r.status ≡ WRITE_FAULT) ⊎ (r.status ≡ NO_MEMORY) → CutsWitnesses r due ⊎ CutsReport r due → Case
 
-  module _ (after : IsPutAfter (puts_in report.shown) r.folder report.text.items (status_by passed_by) r.out r.status) where
+  module _ (after : IsPutAfter (puts_in report.body) r.folder (bytes_in report.body) (status_by passed_by) r.out r.status) where
     whole : r.status ≡ status_by passed_by → r.status ≢ NO_MEMORY → IsWhole
     whole s apart = record { puts = λ bytes text. record { output = subst (PutsAll r.out) text (after.put.whole s apart); errors = quiet }; witnesses = after.witnesses }
 
@@ -105,13 +105,13 @@ module _ (r : Ran) (report : Report) (is : Reports r.gates r.words r.trees.befor
     by_status false e (inl s) = let one : r.status ≡ NOT_PASSED = s ∙ ap status_by e in not_passed e one (whole s (λ six. clash r.status 1 6 one six refl))
     by_status b e (inr h) = cut h (inr (in_time h))
 
-  before_time : IsCutBefore (dir_in report.shown) (puts_in report.shown) r.folder r.out r.status → CutsWitnesses r due
+  before_time : IsCutBefore (dir_in report.body) (puts_in report.body) r.folder r.out r.status → CutsWitnesses r due
   before_time k = record { asked_for = (k.asked_for.0, sym is.is.dir_is ∙ k.asked_for.1); folder = k.witnesses; output = k.output; errors = quiet; cause = k.cause }
 
   the_case : Case
   the_case = go put
     where
-      go : IsPutAfter (puts_in report.shown) r.folder report.text.items (status_by passed_by) r.out r.status ⊎ IsCutBefore (dir_in report.shown) (puts_in report.shown) r.folder r.out r.status → Case
+      go : IsPutAfter (puts_in report.body) r.folder (bytes_in report.body) (status_by passed_by) r.out r.status ⊎ IsCutBefore (dir_in report.body) (puts_in report.body) r.folder r.out r.status → Case
       go (inl after) = by_status after passed_by refl after.put.known
       go (inr k) = cut k.known (inl (before_time k))
 

@@ -1,6 +1,6 @@
 -- Why a command has no report, and what it comes to.
 use Rattle.std.proofs.Common.{◌≡◌, inl, inr, List, [], ◌∷◌, Option, Some, None, refl, sym, ap, subst, ◌∙◌}
-use Rattle.std.specs.Prelude.{Ok, IsOkAnd, option_map}
+use Rattle.std.specs.Prelude.{Ok, IsOkAnd}
 use Rattle.std.specs.List.{All, AllByRecursion}
 use Rattle.std.proofs.lemmas.List.Elements.{recursion_from_All}
 use Rattle.jc_base.specs.Outside.{FileOf}
@@ -38,7 +38,8 @@ use Rattle.jcompat.specs.steps.Check.{IsComparison, StopsComparing, StopsCountin
 use Rattle.jcompat.specs.steps.Link.{StopsLinking, stop_by_refusal}
 use Rattle.jcompat.specs.steps.ReadTree.{IsClassList, IsRecordList}
 use Rattle.jcompat.specs.steps.ReadTrees.{AreClassesOf, StopsAmong}
-use Rattle.jcompat.specs.steps.Report.{TellsOf, HasToShow, CanShowAny, dir_in, puts_in, IsReportOf, Reports}
+use Rattle.jcompat.specs.steps.Report.{TellsOf, HasToShow, IsBare, puts_in, IsReportOf}
+use Rattle.jcompat.proofs.Bodies.{bare_dir, bare_puts, bare_can}
 use Rattle.jcompat.proofs.Compared.{some_broken, each_shown, show_dir, show_puts, can_show_any}
 use Rattle.jcompat.proofs.Events.{for_ok}
 use Rattle.jcompat.proofs.Records.{check_records, link_records, first_none, unmapped, IsOfRecords, unfit_says, refusal_says}
@@ -163,13 +164,13 @@ module _ (check : CheckOf) (c : Change TreesState) (wanted : List TreeOf) (wante
   cause_comparing stop (inl h) = cause_refused (CheckCommand check) c stop (unfit_says (facts_of platform) (facts_of old) (facts_of new) stop h) (λ files told. (checked files told, h))
   cause_comparing stop (inr h) = cause_memory (CheckCommand check) c stop h
 
-  pub verdict_reported : (made : Comparison) (report : Report) → IsComparison (facts_of platform) (facts_of old) (facts_of new) made → HasToShow check.witness made.old made.new made.verdict report.shown
+  pub verdict_reported : (made : Comparison) (report : Report) → IsComparison (facts_of platform) (facts_of old) (facts_of new) made → HasToShow check.witness made.old made.new made.verdict report.body
       → TellsOf (CheckCommand check) made.verdict report → IsReportOf (CheckCommand check) c.before report
   verdict_reported made report is shown tells = record {
     of = made.verdict;
     tells = tells;
-    dir_is = show_dir check.witness made.old made.new made.verdict report.shown shown;
-    can_show = can_show_any (facts_of platform) (facts_of old) (facts_of new) made is check.witness report.shown shown;
+    dir_is = show_dir check.witness made.old made.new made.verdict report.body shown;
+    can_show = can_show_any (facts_of platform) (facts_of old) (facts_of new) made is check.witness report.body shown;
     is_report = λ files told. (checked files told, is.verdict, puts_are);
     upholds = λ files told. record {
       records = checked files told;
@@ -182,9 +183,9 @@ module _ (check : CheckOf) (c : Change TreesState) (wanted : List TreeOf) (wante
     };
   }
     where
-      puts_are : puts_in report.shown ≡ puts_below check.witness (side (facts_of platform) (facts_of old)) (side (facts_of platform) (facts_of new)) made.verdict
+      puts_are : puts_in report.body ≡ puts_below check.witness (side (facts_of platform) (facts_of old)) (side (facts_of platform) (facts_of new)) made.verdict
       puts_are =
-          show_puts check.witness made.old made.new made.verdict report.shown shown
+          show_puts check.witness made.old made.new made.verdict report.body shown
           ∙ ap (λ (W : World). puts_below check.witness W made.new made.verdict) is.old_is
           ∙ ap (λ (W : World). puts_below check.witness (side (facts_of platform) (facts_of old)) W made.verdict) is.new_is
 
@@ -200,13 +201,13 @@ module _ (link : LinkOf) (c : Change TreesState) (wanted : List TreeOf) (wanted_
   cause_linking stop (inl h) = cause_refused (LinkCommand link) c stop (refusal_says (facts_of platform) (facts_of release) clients stop h) (λ files told. (given files told, h))
   cause_linking stop (inr h) = cause_memory (LinkCommand link) c stop h
 
-  pub outcomes_reported : (list : List Outcome) (report : Report) → AreOutcomesOf (facts_of platform) (facts_of release) clients list → report.shown ≡ None → TellsOf (LinkCommand link) list report
+  pub outcomes_reported : (list : List Outcome) (report : Report) → AreOutcomesOf (facts_of platform) (facts_of release) clients list → IsBare report.body → TellsOf (LinkCommand link) list report
       → IsReportOf (LinkCommand link) c.before report
   outcomes_reported list report exact none tells = record {
     of = list;
     tells = tells;
-    dir_is = ap dir_in none;
-    can_show = subst CanShowAny (sym none) tt;
-    is_report = λ files told. (given files told, exact, ap puts_in none);
+    dir_is = bare_dir report.body none;
+    can_show = bare_can report.body none;
+    is_report = λ files told. (given files told, exact, bare_puts report.body none);
     upholds = tt;
   }

@@ -1,12 +1,11 @@
 -- What a comparison gives beside its verdict: clients that show it.
-use Rattle.std.proofs.Common.{◌≡◌, ◌≢◌, ◌<◌, ◌^◌, ℕ, true, List, [], ◌∷◌, ◌++◌, map, length, Option, Some, None, refl, sym, ap, subst, ◌∙◌, arith, length-append}
+use Rattle.std.proofs.Common.{◌≡◌, ◌≢◌, ◌<◌, ◌^◌, ℕ, List, [], ◌∷◌, map, length, Option, Some, None, refl, sym, ap, subst, ◌∙◌, arith, length-append}
 use Rattle.std.specs.Prelude.{IsTrue}
 use Rattle.std.specs.List.{All}
 use Rattle.std.proofs.lemmas.List.Elements.{All-from_recursion, recursion_from_All}
 use Rattle.jc_facts.specs.declared.class_facts.ClassFacts.{ClassFacts}
 use Rattle.jc_facts.specs.declared.client.ClientClass.{ClientClass}
 use Rattle.jc_facts.specs.declared.finding.Finding.{Finding}
-use Rattle.jc_facts.specs.declared.verdict.Cause.{Cause}
 use Rattle.jc_facts.specs.declared.verdict.Cause.TheVariants as cause
 use Rattle.jc_facts.specs.declared.verdict.Collision.{Collision}
 use Rattle.jc_facts.specs.declared.verdict.Verdict.{Verdict}
@@ -22,18 +21,20 @@ use Rattle.jc_complete.proofs.CompletenessWhole.{verdict_is_exact}
 use Rattle.jc_bodies.specs.Files.{HasShortNames, CanWrite, FilesShow}
 use Rattle.jc_bodies.proofs.FilesWhole.{each_has_its_files}
 use Rattle.jc_table.specs.Sides.{IsSide}
-use Rattle.jc_sides.specs.SidesOf.{SidesOf}
 use Rattle.jc_witness.specs.Ground.{HasShortSide}
 use Rattle.jc_witness.specs.Witnesses.{MeetsOnly}
 use Rattle.jc_witness.proofs.Ground.{can_write}
 use Rattle.jc_witness.proofs.Shown.{is_witness}
 use Rattle.jcompat.specs.Check.{IsShown, puts_below}
 use Rattle.jcompat.specs.Witness.{causes_of, witness_puts}
+use Rattle.jcompat.specs.declared.body.Body.{Body}
+use Rattle.jcompat.specs.declared.body.Body.TheVariants as bodies
 use Rattle.jcompat.specs.declared.comparison.Comparison.{Comparison}
 use Rattle.jcompat.specs.declared.shown.Shown.{Shown}
 use Rattle.jcompat.specs.steps.Check.{IsComparison}
 use Rattle.jcompat.specs.steps.Report.{HasToShow, CanShowAny, dir_in, puts_in}
 use Rattle.jcompat.specs.steps.Shown.{CanShow}
+use Rattle.jcompat.proofs.Bodies.{bare_dir, bare_puts, bare_can}
 
 -- ---- the two sides
 
@@ -94,17 +95,17 @@ module _ (platform old new : List ClassFacts) (v : Verdict) (can : CanWrite plat
 
 -- ---- what is to be shown
 
-pub show_dir : (dir : Option Bytes) (O N : World) (v : Verdict) (shown : Option Shown) → HasToShow dir O N v shown → dir_in shown ≡ dir
-show_dir None O N v None h = refl
-show_dir None O N v (Some of) h = absurd h
-show_dir (Some d) O N v None h = absurd h
-show_dir (Some d) O N v (Some of) h = ap Some h.0
+pub show_dir : (dir : Option Bytes) (O N : World) (v : Verdict) (body : Body) → HasToShow dir O N v body → dir_in body ≡ dir
+show_dir None O N v body h = bare_dir body h
+show_dir (Some d) O N v (bodies.Bytes bytes) h = absurd h
+show_dir (Some d) O N v (bodies.Verdict json w) h = absurd h
+show_dir (Some d) O N v (bodies.Shown json of) h = ap Some h.0
 
-pub show_puts : (dir : Option Bytes) (O N : World) (v : Verdict) (shown : Option Shown) → HasToShow dir O N v shown → puts_in shown ≡ puts_below dir O N v
-show_puts None O N v None h = refl
-show_puts None O N v (Some of) h = absurd h
-show_puts (Some d) O N v None h = absurd h
-show_puts (Some d) O N v (Some of) h =
+pub show_puts : (dir : Option Bytes) (O N : World) (v : Verdict) (body : Body) → HasToShow dir O N v body → puts_in body ≡ puts_below dir O N v
+show_puts None O N v body h = bare_puts body h
+show_puts (Some d) O N v (bodies.Bytes bytes) h = absurd h
+show_puts (Some d) O N v (bodies.Verdict json w) h = absurd h
+show_puts (Some d) O N v (bodies.Shown json of) h =
     ap (λ (x : Bytes). witness_puts x of.old of.new of.verdict) h.0 ∙ ap (λ (W : World). witness_puts d W of.new of.verdict) h.1 ∙ ap (λ (W : World). witness_puts d O W of.verdict) h.2
     ∙ ap (λ (w : Verdict). witness_puts d O N w) h.3
 
@@ -125,8 +126,8 @@ module _ (platform old new : List ClassFacts) (c : Comparison) (is : IsCompariso
         (subst (λ (w : Verdict). All (IsShown (side platform old) (side platform new)) (causes_of w)) (sym v) (each_shown platform old new c.verdict is.can is.verdict.exact)));
   }
 
-  pub can_show_any : (dir : Option Bytes) (shown : Option Shown) → HasToShow dir c.old c.new c.verdict shown → CanShowAny shown
-  can_show_any None None h = tt
-  can_show_any None (Some of) h = absurd h
-  can_show_any (Some d) None h = absurd h
-  can_show_any (Some d) (Some of) h = can_show of h.1 h.2 h.3
+  pub can_show_any : (dir : Option Bytes) (body : Body) → HasToShow dir c.old c.new c.verdict body → CanShowAny body
+  can_show_any None body h = bare_can body h
+  can_show_any (Some d) (bodies.Bytes bytes) h = absurd h
+  can_show_any (Some d) (bodies.Verdict json w) h = absurd h
+  can_show_any (Some d) (bodies.Shown json of) h = can_show of h.1 h.2 h.3

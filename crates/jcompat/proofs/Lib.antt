@@ -1,5 +1,4 @@
 pub mod Ascents
-pub mod Puts
 pub mod Places
 pub mod ShortPaths
 pub mod Listings
@@ -14,6 +13,7 @@ pub mod FilesPut
 pub mod WitnessPaths
 pub mod PathsApart
 pub mod CausesPut
+pub mod Bodies
 pub mod Compared
 pub mod Causes
 pub mod Answered

@@ -3,7 +3,7 @@
 --     only_memory      want of memory alone stands in the way of their tables
 --     made_verdict      they have a verdict
 --     made_reported      a report that tells of it is the command's
-use Rattle.std.proofs.Common.{◌≡◌, ◌≤◌, ℕ, ◌%◌, ◌==◌, Bool, true, false, List, [], ◌∷◌, ◌++◌, map, length, None, refl, sym, ap, subst, inl, inr, arith, if◌then◌else◌}
+use Rattle.std.proofs.Common.{◌≡◌, ◌≤◌, ℕ, ◌%◌, ◌==◌, Bool, true, false, List, [], ◌∷◌, map, length, None, refl, sym, inl, inr, arith, if◌then◌else◌}
 use Rattle.std.specs.List.{All, range_with_len}
 use Rattle.std.proofs.lemmas.List.Elements.{All-map, All-from_recursion, recursion_from_All}
 use Rattle.jc_base.specs.States.{TreesState}
@@ -15,7 +15,6 @@ use Rattle.jc_facts.specs.declared.verdict.Verdict.{Verdict}
 use Rattle.jc_facts.specs.Generated.{four_digits, class_number, public_init, field_f, method_m, method_p, numbered_class, old_class, new_flags, new_methods, new_class, object_class, made, AreReleases, IsReleaseOver}
 use Rattle.jc_facts.specs.Names.{Bytes}
 use Rattle.jc_facts.specs.Options.{or_else}
-use Rattle.jc_facts.specs.rule.Verdict.{IsVerdict}
 use Rattle.jc_facts.specs.world.World.{class_named}
 use Rattle.jc_facts.proofs.Generated.{releases, nothing_least}
 use Rattle.jc_lemmas.proofs.Listed.{EachOf, each_of}
@@ -24,13 +23,14 @@ use Rattle.jc_table.specs.Root.{faulty_part, fault_of_root}
 use Rattle.jc_table.specs.Sides.{overlap_of}
 use Rattle.jcompat.specs.Check.{mismatch_of}
 use Rattle.jcompat.specs.Command.{MakeCommand}
-use Rattle.jcompat.specs.Make.{IsSize, old_made, new_made, IsVerdictOnMade}
+use Rattle.jcompat.specs.Make.{IsSize, IsVerdictOnMade}
 use Rattle.jcompat.specs.declared.report.Report.{Report}
 use Rattle.jcompat.specs.declared.stop.Stop.{Stop}
 use Rattle.jcompat.specs.declared.stop.Stop.TheVariants as stops
 use Rattle.jcompat.specs.steps.Check.{StopsMatching}
 use Rattle.jcompat.specs.steps.ReadTree.{IsRecordList}
-use Rattle.jcompat.specs.steps.Report.{TellsOf, CanShowAny, dir_in, puts_in, IsReportOf}
+use Rattle.jcompat.specs.steps.Report.{TellsOf, IsBare, IsReportOf}
+use Rattle.jcompat.proofs.Bodies.{bare_dir, bare_puts, bare_can}
 use Rattle.jcompat.proofs.Causes.{releases_fit}
 use Rattle.jcompat.proofs.Records.{none_some}
 use Rattle.jcompat.proofs.SomeVerdict.{some_verdict}
@@ -152,12 +152,12 @@ made_verdict n size =
     let r = are_releases n size.few in
     some_verdict (made n).platform (made n).old (made n).new (has_root (made n).platform (sym (root_fits n))) r.platform.valid r.old.valid r.new.valid
 
-pub made_reported : (n : ℕ) → IsSize n → (v : Verdict) (report : Report) → IsVerdictOnMade n v → report.shown ≡ None → TellsOf (MakeCommand n) v report → (trees : TreesState) → IsReportOf (MakeCommand n) trees report
+pub made_reported : (n : ℕ) → IsSize n → (v : Verdict) (report : Report) → IsVerdictOnMade n v → IsBare report.body → TellsOf (MakeCommand n) v report → (trees : TreesState) → IsReportOf (MakeCommand n) trees report
 made_reported n size v report exact none tells trees = record {
   of = v;
   tells = tells;
-  dir_is = ap dir_in none;
-  can_show = subst CanShowAny (sym none) tt;
-  is_report = λ files. (size, exact, ap puts_in none);
+  dir_is = bare_dir report.body none;
+  can_show = bare_can report.body none;
+  is_report = λ files. (size, exact, bare_puts report.body none);
   upholds = tt;
 }

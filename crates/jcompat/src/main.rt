@@ -1,6 +1,7 @@
 //! Says whether clients that were compiled against an old release of a library link with a new one.
 #![tactic(auto)]
 
+mod body;
 mod check;
 mod class_file;
 mod command;

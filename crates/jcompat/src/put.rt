@@ -1,82 +1,108 @@
 //! Putting a report with its witness files, or the line that says why there is none.
-ghost use Rattle.std.specs.Prelude.{◌≡◌, ◌≢◌, ◌≤◌, ◌<◌, ◌++◌, ◌⊎◌, List, ℕ, length, None, Some, OnOk, OnErr, IsErrOf, map};
+ghost use Rattle.std.specs.Prelude.{◌≡◌, ◌≢◌, ◌≤◌, ◌⊎◌, List, ℕ, None, Some, OnOk, OnErr, IsErrOf, map};
 ghost use Rattle.jc_base.specs.States.{change};
 ghost use Rattle.jc_gate.specs.Gates.{gate_of};
+ghost use Rattle.jcompat.specs.Check.{verdict_bytes};
 ghost use Rattle.jcompat.specs.Answers.{PutsAll, PutsFront, HasPutFault, HasFolderFault, IsUntouched};
 ghost use Rattle.jcompat.specs.Stop.{line_of, status_of};
 ghost use Rattle.jcompat.specs.Witness.{PutsFiles, PutsSome};
-ghost use Rattle.jcompat.specs.steps.Report.{CanShowAny, dir_in, puts_in, passes_by, status_by};
+ghost use Rattle.jcompat.specs.steps.Report.{CanShowAny, bytes_in, dir_in, puts_in, passes_by, status_by};
 ghost use Rattle.jcompat.specs.steps.Put.{IsPutWith, IsPutAfter, IsCutBefore};
 ghost use Rattle.jcompat.specs.declared.stop.Stop.{Stop};
 
+use crate::body::Body;
 use crate::put_witnesses::put_witnesses;
 use crate::report::Report;
 use crate::status::{NO_MEMORY, WRITE_FAULT};
 use crate::stop::Stop;
 use jc_base::folder::{Folder, FolderError};
 use jc_base::sink::{Sink, SinkError};
+use jc_facts::verdict::Verdict;
 use jc_gate::gate::Gate;
+use jc_report::json::json;
+use jc_report::put_lines::put_lines;
+use jc_report::put_text::put_text;
 use std::alloc::Global;
 
-// The first line, its line end with it, and what follows.
-fn split_line(text: &[u8]) -> (&[u8], &[u8])
-    requires { 0 < length text.now }
-    ensures whole { text.now ≡ result.0.now ++ result.1.now }
-    ensures shorter { length result.1.now < length text.now }
-{
-    for (i, byte) in text.iter().enumerate() {
-        if *byte == b'\n' {
-            return text.split_at(i + 1);
-        }
-    }
-    text.split_at(text.len())
-}
-
-// Puts the text, one call for each line with its line end. Nothing is put after a failed call.
-fn put_lines<O: Sink>(text: &[u8], out: &mut O) -> Result<(), SinkError>
-    ensures ok { OnOk result (PutsAll (change O.state out.old out.new) text.now) }
-    ensures err { OnErr result (PutsFront (change O.state out.old out.new) text.now) }
+// Puts the JSON of a verdict where it is asked for, made whole, and else its text, made line by line.
+fn put_verdict<O: Sink>(
+    alloc: Global,
+    as_json: bool,
+    verdict: &Verdict,
+    out: &mut O,
+) -> Result<(), SinkError>
+    ensures ok { OnOk result (PutsAll (change O.state out.old out.new) (verdict_bytes as_json verdict.now)) }
+    ensures err { OnErr result (PutsFront (change O.state out.old out.new) (verdict_bytes as_json verdict.now)) }
     ensures never_falls { (O.state out.old).faults ≤ (O.state out.new).faults }
     ensures cause { IsErrOf result SinkError.Fault → HasPutFault (change O.state out.old out.new) }
 {
-    let mut rest = text;
-    while !rest.is_empty() {
-        let (line, next) = split_line(rest);
-        match out.put(line) {
-            Ok(()) => rest = next,
-            Err(error) => return Err(error),
-        }
+    if !as_json {
+        return match put_text(alloc, verdict, out) {
+            Ok(()) => Ok(()),
+            Err(error) => Err(error),
+        };
     }
-    Ok(())
+    let Ok(bytes) = json(alloc, verdict) else {
+        return Err(SinkError::Memory);
+    };
+    match put_lines(bytes.as_slice(), out) {
+        Ok(()) => Ok(()),
+        Err(error) => Err(error),
+    }
 }
 
-// Puts the witness files of what is to be shown.
-fn put_shown<F: Folder>(
-    alloc: Global,
-    report: &Report<'_>,
-    folder: &mut F,
-) -> Result<(), FolderError>
-    requires { CanShowAny report.now.shown }
-    ensures whole { OnOk result (PutsFiles (change F.state folder.old folder.new) (puts_in report.now.shown)) }
-    ensures some { OnErr result (PutsSome (change F.state folder.old folder.new) (puts_in report.now.shown)) }
-    ensures asked_for { OnErr result ((path : List ℕ) × (dir_in report.now.shown ≡ Some path)) }
-    ensures untouched { dir_in report.now.shown ≡ None → IsUntouched (change F.state folder.old folder.new) }
-    ensures cause { IsErrOf result FolderError.Fault → HasFolderFault (change F.state folder.old folder.new) }
+// Puts the bytes of a report.
+fn put_body<O: Sink>(alloc: Global, body: &Body<'_>, out: &mut O) -> Result<(), SinkError>
+    ensures ok { OnOk result (PutsAll (change O.state out.old out.new) (bytes_in body.now)) }
+    ensures err { OnErr result (PutsFront (change O.state out.old out.new) (bytes_in body.now)) }
+    ensures never_falls { (O.state out.old).faults ≤ (O.state out.new).faults }
+    ensures cause { IsErrOf result SinkError.Fault → HasPutFault (change O.state out.old out.new) }
 {
-    match &report.shown {
-        Some(of) => match put_witnesses(alloc, of, folder) {
+    match body {
+        Body::Bytes(bytes) => match put_lines(bytes.as_slice(), out) {
             Ok(()) => Ok(()),
             Err(error) => Err(error),
         },
-        None => Ok(()),
+        Body::Verdict { json, verdict } => match put_verdict(alloc, *json, verdict, out) {
+            Ok(()) => Ok(()),
+            Err(error) => Err(error),
+        },
+        Body::Shown { json, of } => match put_verdict(alloc, *json, &of.verdict, out) {
+            Ok(()) => Ok(()),
+            Err(error) => Err(error),
+        },
     }
 }
 
-// Puts the bytes of a report, line by line, and then asks the gates for its status, which it answers.
-fn put_text<O: Sink>(report: &Report<'_>, out: &mut O, gates: Vec<Box<dyn Gate>>) -> u8
-    ensures { IsPutWith report.now.text.items (status_by (passes_by (map (λ gate. gate_of (⟦<dyn Gate as Gate>⟧ gate.vtable) gate.value) gates.items) report.now.condition)) (change O.state out.old out.new) result }
+// Puts the witness files of what is to be shown.
+fn put_shown<F: Folder>(alloc: Global, body: &Body<'_>, folder: &mut F) -> Result<(), FolderError>
+    requires { CanShowAny body.now }
+    ensures whole { OnOk result (PutsFiles (change F.state folder.old folder.new) (puts_in body.now)) }
+    ensures some { OnErr result (PutsSome (change F.state folder.old folder.new) (puts_in body.now)) }
+    ensures asked_for { OnErr result ((path : List ℕ) × (dir_in body.now ≡ Some path)) }
+    ensures untouched { dir_in body.now ≡ None → IsUntouched (change F.state folder.old folder.new) }
+    ensures cause { IsErrOf result FolderError.Fault → HasFolderFault (change F.state folder.old folder.new) }
 {
-    match put_lines(report.text.as_slice(), out) {
+    match body {
+        Body::Bytes(_) => Ok(()),
+        Body::Verdict { .. } => Ok(()),
+        Body::Shown { of, .. } => match put_witnesses(alloc, of, folder) {
+            Ok(()) => Ok(()),
+            Err(error) => Err(error),
+        },
+    }
+}
+
+// Puts the bytes of a report and then asks the gates for its status, which it answers.
+fn put_output<O: Sink>(
+    alloc: Global,
+    report: &Report<'_>,
+    out: &mut O,
+    gates: Vec<Box<dyn Gate>>,
+) -> u8
+    ensures { IsPutWith (bytes_in report.now.body) (status_by (passes_by (map (λ gate. gate_of (⟦<dyn Gate as Gate>⟧ gate.vtable) gate.value) gates.items) report.now.condition)) (change O.state out.old out.new) result }
+{
+    match put_body(alloc, &report.body, out) {
         Ok(()) => report.status(gates),
         Err(SinkError::Fault) => WRITE_FAULT,
         Err(SinkError::Memory) => NO_MEMORY,
@@ -93,13 +119,13 @@ pub fn put_report<F: Folder, O: Sink>(
     out: &mut O,
     gates: Vec<Box<dyn Gate>>,
 ) -> u8
-    requires { CanShowAny report.now.shown }
-    ensures put { IsPutAfter (puts_in report.now.shown) (change F.state witnesses.old witnesses.new) report.now.text.items (status_by (passes_by (map (λ gate. gate_of (⟦<dyn Gate as Gate>⟧ gate.vtable) gate.value) gates.items) report.now.condition)) (change O.state out.old out.new) result
-        ⊎ IsCutBefore (dir_in report.now.shown) (puts_in report.now.shown) (change F.state witnesses.old witnesses.new) (change O.state out.old out.new) result }
-    ensures untouched { dir_in report.now.shown ≡ None → IsUntouched (change F.state witnesses.old witnesses.new) }
+    requires { CanShowAny report.now.body }
+    ensures put { IsPutAfter (puts_in report.now.body) (change F.state witnesses.old witnesses.new) (bytes_in report.now.body) (status_by (passes_by (map (λ gate. gate_of (⟦<dyn Gate as Gate>⟧ gate.vtable) gate.value) gates.items) report.now.condition)) (change O.state out.old out.new) result
+        ⊎ IsCutBefore (dir_in report.now.body) (puts_in report.now.body) (change F.state witnesses.old witnesses.new) (change O.state out.old out.new) result }
+    ensures untouched { dir_in report.now.body ≡ None → IsUntouched (change F.state witnesses.old witnesses.new) }
 {
-    match put_shown(alloc, report, witnesses) {
-        Ok(()) => put_text(report, out, gates),
+    match put_shown(alloc, &report.body, witnesses) {
+        Ok(()) => put_output(alloc, report, out, gates),
         Err(FolderError::Fault) => WRITE_FAULT,
         Err(FolderError::Memory) => NO_MEMORY,
     }

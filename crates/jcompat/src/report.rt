@@ -1,5 +1,5 @@
 //! What a command comes to.
-ghost use Rattle.std.specs.Prelude.{◌≡◌, ◌++◌, IfOk, OnOk, None, map};
+ghost use Rattle.std.specs.Prelude.{◌≡◌, ◌++◌, IfOk, OnOk, map};
 ghost use Rattle.std.specs.Option.{option_map};
 ghost use Rattle.jc_facts.specs.client.Linked.{are_all_ok};
 ghost use Rattle.jc_words.specs.CommandView.{check_of};
@@ -7,8 +7,9 @@ ghost use Rattle.jcompat.specs.Check.{verdict_bytes};
 ghost use Rattle.jcompat.specs.Command.{LinkOf, CheckCommand, LinkCommand, MakeCommand};
 ghost use Rattle.jc_gate.specs.Gates.{gate_of};
 ghost use Rattle.jcompat.specs.Reports.{rules_of as rules_in};
-ghost use Rattle.jcompat.specs.steps.Report.{TellsOf, HasToShow, passes_by, status_by};
+ghost use Rattle.jcompat.specs.steps.Report.{TellsOf, HasToShow, IsBare, bytes_in, passes_by, status_by};
 
+use crate::body::Body;
 use crate::comparison::Comparison;
 use crate::shown::Shown;
 use crate::status::{NOT_PASSED, PASSED};
@@ -17,10 +18,8 @@ use jc_facts::outcome::Outcome;
 use jc_facts::verdict::{Collision, Verdict};
 use jc_gate::ask::all_pass;
 use jc_gate::gate::Gate;
-use jc_report::json::json;
 use jc_report::link_text::link_text;
 use jc_report::made_text::made_text;
-use jc_report::text::text;
 use jc_words::check::Check;
 use std::alloc::{AllocError, Global};
 
@@ -33,24 +32,11 @@ pub enum Condition<'a> {
     ByGates(Vec<&'a str>, Vec<u8>),
 }
 
-/// What a command comes to: what is to be shown by witness files, the bytes to put after them, and
-/// where it passes.
+/// What a command comes to: what is to be put, and where it passes.
 #[derive(Drop)]
 pub struct Report<'a> {
-    pub shown: Option<Shown<'a>>,
-    pub text: Vec<u8>,
+    pub body: Body<'a>,
     pub condition: Condition<'a>,
-}
-
-// The JSON of a verdict where it is asked for, and else its text.
-fn bytes_of_verdict(alloc: Global, verdict: &Verdict, as_json: bool) -> Result<Vec<u8>, AllocError>
-    ensures { IfOk result (λ bytes. bytes.items ≡ verdict_bytes as_json verdict.now) }
-{
-    if as_json {
-        json(alloc, verdict)
-    } else {
-        text(alloc, verdict)
-    }
 }
 
 // The rules of the findings, and then those of the collisions.
@@ -82,18 +68,25 @@ fn push_rules(rules: &mut Vec<u8>, collisions: &[Collision]) -> Result<(), Alloc
     Ok(())
 }
 
-// What is to be shown of a comparison, where there is a folder for it.
-fn to_show(comparison: Comparison, dir: Option<&str>) -> Option<Shown<'_>>
-    ensures { HasToShow (option_map (λ d. d.now) dir.entry) comparison.old comparison.new comparison.verdict result }
+// What is put of a comparison: its verdict, which is shown where there is a folder for that. Else the
+// tables are dropped.
+fn body_of(comparison: Comparison, json: bool, dir: Option<&str>) -> Body<'_>
+    ensures bytes { bytes_in result ≡ verdict_bytes json comparison.verdict }
+    ensures shown { HasToShow (option_map (λ d. d.now) dir.entry) comparison.old comparison.new comparison.verdict result }
 {
     let Comparison { old, new, verdict } = comparison;
-    let dir = dir?;
-    Some(Shown {
-        dir,
-        old,
-        new,
-        verdict,
-    })
+    match dir {
+        Some(dir) => Body::Shown {
+            json,
+            of: Shown {
+                dir,
+                old,
+                new,
+                verdict,
+            },
+        },
+        None => Body::Verdict { json, verdict },
+    }
 }
 
 // Whether each outcome is Ok.
@@ -112,14 +105,12 @@ impl<'a> Report<'a> {
         check: &Check<'a>,
     ) -> Result<Report<'a>, AllocError>
         ensures tells { IfOk result (TellsOf (CheckCommand (check_of check.now)) comparison.verdict) }
-        ensures shown { IfOk result (λ report. HasToShow (check_of check.now).witness comparison.old comparison.new comparison.verdict report.shown) }
+        ensures shown { IfOk result (λ report. HasToShow (check_of check.now).witness comparison.old comparison.new comparison.verdict report.body) }
     {
-        let text = bytes_of_verdict(alloc, &comparison.verdict, check.json)?;
         let names = check.gate_names(alloc)?;
         let rules = rules_of(alloc, &comparison.verdict)?;
         Ok(Report {
-            shown: to_show(comparison, check.witness),
-            text,
+            body: body_of(comparison, check.json, check.witness),
             condition: Condition::ByGates(names, rules),
         })
     }
@@ -127,13 +118,12 @@ impl<'a> Report<'a> {
     /// The text of the outcomes of linking, which passes where each is Ok. Nothing is shown.
     pub fn of_outcomes(alloc: Global, outcomes: &[Outcome]) -> Result<Report<'a>, AllocError>
         ensures tells { IfOk result (λ report. (link : LinkOf) → TellsOf (LinkCommand link) outcomes.now report) }
-        ensures shown { IfOk result (λ report. report.shown ≡ None) }
+        ensures shown { IfOk result (λ report. IsBare report.body) }
     {
         let text = link_text(alloc, outcomes)?;
         let passes = are_ok(outcomes);
         Ok(Report {
-            shown: None,
-            text,
+            body: Body::Bytes(text),
             condition: Condition::Known(passes),
         })
     }
@@ -142,12 +132,11 @@ impl<'a> Report<'a> {
     /// Nothing is shown.
     pub fn of_made(alloc: Global, classes: u32, verdict: &Verdict) -> Result<Report<'a>, AllocError>
         ensures tells { IfOk result (TellsOf (MakeCommand classes) verdict.now) }
-        ensures shown { IfOk result (λ report. report.shown ≡ None) }
+        ensures shown { IfOk result (λ report. IsBare report.body) }
     {
         let text = made_text(alloc, classes, verdict)?;
         Ok(Report {
-            shown: None,
-            text,
+            body: Body::Bytes(text),
             condition: Condition::Known(true),
         })
     }

@@ -11,7 +11,7 @@ use Rattle.jc_facts.specs.Names.{Bytes}
 use Rattle.jc_facts.specs.world.World.{World}
 use Rattle.jc_gate.specs.Gates.{GateOf, all_pass}
 use Rattle.jc_complete.specs.Completeness.{IsBroken}
-use Rattle.jcompat.specs.Check.{CheckRecords, IsVerdictOn, IsShown, MeetsNone, old_side, new_side, puts_below}
+use Rattle.jcompat.specs.Check.{CheckRecords, IsVerdictOn, IsShown, MeetsNone, old_side, new_side, verdict_bytes, puts_below}
 use Rattle.jcompat.specs.ClassFiles.{Told}
 use Rattle.jcompat.specs.Command.{CommandOf, CheckOf, CheckCommand, LinkCommand, MakeCommand, witness_dir, asked_of}
 use Rattle.jcompat.specs.Make.{IsSize}
@@ -20,7 +20,8 @@ use Rattle.jcompat.specs.Witness.{PutFile, causes_of, witness_puts}
 use Rattle.jcompat.specs.declared.report.Report.{Report}
 use Rattle.jcompat.specs.declared.report.Condition.{Condition}
 use Rattle.jcompat.specs.declared.report.Condition.TheVariants as conditions
-use Rattle.jcompat.specs.declared.shown.Shown.{Shown}
+use Rattle.jcompat.specs.declared.body.Body.{Body}
+use Rattle.jcompat.specs.declared.body.Body.TheVariants as bodies
 use Rattle.jcompat.specs.declared.status.TheConstants.{PASSED, NOT_PASSED}
 use Rattle.jcompat.specs.steps.Shown.{CanShow}
 
@@ -33,28 +34,40 @@ abbrev pub passes_by : List GateOf → Condition → Bool
 passes_by gates (conditions.Known passes) = passes
 passes_by gates (conditions.ByGates names rules) = all_pass gates (map (λ name. name.now) names.items) rules.items
 
--- ---- what is to be shown
+-- ---- what is put
 
--- it is the verdict on these sides, where there is a path for its witness files
-abbrev pub HasToShow : Option Bytes → World → World → Verdict → Option Shown → Type 0
-HasToShow None O N v None = Unit {0}
-HasToShow (Some dir) O N v (Some of) = (of.dir.now ≡ dir) × (of.old ≡ O) × (of.new ≡ N) × (of.verdict ≡ v)
-HasToShow _ O N v _ = ⊥
+-- the bytes that are put
+abbrev pub bytes_in : Body → Bytes
+bytes_in (bodies.Bytes bytes) = bytes.items
+bytes_in (bodies.Verdict json v) = verdict_bytes json v
+bytes_in (bodies.Shown json of) = verdict_bytes json of.verdict
 
--- it can be shown
-abbrev pub CanShowAny : Option Shown → Type 0
-CanShowAny None = Unit {0}
-CanShowAny (Some of) = CanShow of
+-- nothing is shown
+abbrev pub IsBare : Body → Type 0
+IsBare (bodies.Bytes bytes) = Unit {0}
+IsBare (bodies.Verdict json v) = Unit {0}
+IsBare (bodies.Shown json of) = ⊥
+
+-- what is shown is the verdict on these sides, where there is a path for its witness files
+abbrev pub HasToShow : Option Bytes → World → World → Verdict → Body → Type 0
+HasToShow None O N v body = IsBare body
+HasToShow (Some dir) O N v (bodies.Shown json of) = (of.dir.now ≡ dir) × (of.old ≡ O) × (of.new ≡ N) × (of.verdict ≡ v)
+HasToShow (Some dir) O N v _ = ⊥
+
+-- what is shown can be
+abbrev pub CanShowAny : Body → Type 0
+CanShowAny (bodies.Shown json of) = CanShow of
+CanShowAny _ = Unit {0}
 
 -- where its witness files are put
-abbrev pub dir_in : Option Shown → Option Bytes
-dir_in None = None
-dir_in (Some of) = Some of.dir.now
+abbrev pub dir_in : Body → Option Bytes
+dir_in (bodies.Shown json of) = Some of.dir.now
+dir_in _ = None
 
 -- its witness files
-abbrev pub puts_in : Option Shown → List PutFile
-puts_in None = []
-puts_in (Some of) = witness_puts of.dir.now of.old of.new of.verdict
+abbrev pub puts_in : Body → List PutFile
+puts_in (bodies.Shown json of) = witness_puts of.dir.now of.old of.new of.verdict
+puts_in _ = []
 
 -- ---- the report
 
@@ -65,7 +78,7 @@ IsSized command = Unit {0}
 
 -- the bytes are those of a command's report, and by whatever gates, it passes where that does
 pub record TellsOf (command : CommandOf) (of : ReportOf command) (report : Report) : Type 0 where
-  pub text : report.text.items ≡ bytes_of command of
+  pub text : bytes_in report.body ≡ bytes_of command of
   pub answer : (gates : List GateOf) → passes_by gates report.condition ≡ passes gates command of
 
 -- what is promised of a check's verdict and of its witness files
@@ -89,10 +102,10 @@ Upholds content (MakeCommand n) v puts = Unit {0}
 pub record IsReportOf (command : CommandOf) (trees : TreesState) (report : Report) : Type 0 where
   pub of : ReportOf command
   pub tells : TellsOf command of report
-  pub dir_is : dir_in report.shown ≡ witness_dir command
-  pub can_show : CanShowAny report.shown
-  pub is_report : ToldTo command trees.content (λ files. (records : RecordsOf files command) × IsReportOn files command records of × (puts_in report.shown ≡ puts_of files command records of))
-  pub upholds : Upholds trees.content command of (puts_in report.shown)
+  pub dir_is : dir_in report.body ≡ witness_dir command
+  pub can_show : CanShowAny report.body
+  pub is_report : ToldTo command trees.content (λ files. (records : RecordsOf files command) × IsReportOn files command records of × (puts_in report.body ≡ puts_of files command records of))
+  pub upholds : Upholds trees.content command of (puts_in report.body)
 
 -- it tells of the report of the command that the words ask for, where these gates are there
 pub record Reports (gates : List GateOf) (words : List Bytes) (trees : TreesState) (report : Report) : Type 0 where

@@ -3,8 +3,11 @@ use Rattle.jcompat.specs.steps.Report.{dir_in}
 use Rattle.jcompat.proofs.FilesPut.{none_put}
 use Rattle.jcompat.proofs.put.put_shown.Goals as goal
 
-pub returns-in-None-clause-whole : goal.returns-in-None-clause-whole
-returns-in-None-clause-whole g c = rw c.in-None.is (none_put (g.F.Folder.state c.args.folder.now).content)
+pub returns-in-Bytes-clause-whole : goal.returns-in-Bytes-clause-whole
+returns-in-Bytes-clause-whole g c = rw c.in-Bytes.is (none_put (g.F.Folder.state c.args.folder.now).content)
+
+pub returns-in-Verdict-clause-whole : goal.returns-in-Verdict-clause-whole
+returns-in-Verdict-clause-whole g c = rw c.in-Verdict.is (none_put (g.F.Folder.state c.args.folder.now).content)
 
 pub returns-in-Err-clause-asked_for : goal.returns-in-Err-clause-asked_for
-returns-in-Err-clause-asked_for g c = (c.in-Some.of.dir.now, ap dir_in c.in-Some.is)
+returns-in-Err-clause-asked_for g c = (c.in-Shown.of.dir.now, ap dir_in c.in-Shown.is)

@@ -1,6 +1,6 @@
 use Rattle.std.proofs.Common.{arith}
-use Rattle.jcompat.proofs.Puts.{put_more, put_failed}
-use Rattle.jcompat.proofs.put.put_lines.Goals as goal
+use Rattle.jc_report.proofs.Puts.{put_more, put_failed}
+use Rattle.jc_report.proofs.put_lines.put_lines.Goals as goal
 
 pub loop-rest-preserved : goal.loop-rest-preserved
 loop-rest-preserved g c = record {

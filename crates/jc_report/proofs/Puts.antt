@@ -3,12 +3,18 @@ use Rattle.std.proofs.Common.{◌≡◌, ◌≤◌, ◌+◌, ℕ, List, [], ◌+
 use Rattle.std.proofs.Math.Seq.{take-append-add}
 use Rattle.std.proofs.lemmas.List.{take-append-le, append-nil}
 use Rattle.jc_base.specs.Outside.{TakesAll, TakesFront}
+use Rattle.jc_base.specs.States.{SinkState}
 
 -- a front of the text was put, and this is left
 pub record IsPut (before now : Option (List ℕ)) (left total : List ℕ) : Type 0 where
   pub put : List ℕ
   pub told : TakesAll before now put
   pub whole : put ++ left ≡ total
+
+-- the same of a sink, whose count of faults didn't fall
+pub record Putting (left total : List ℕ) (before now : SinkState) : Type 0 where
+  pub put : IsPut before.taken now.taken left total
+  pub never_falls : before.faults ≤ now.faults
 
 told_nothing : (a : Option (List ℕ)) → TakesAll a a []
 told_nothing None = refl
