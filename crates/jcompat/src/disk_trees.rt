@@ -6,6 +6,8 @@ ghost use Rattle.jc_base.specs.Outside.{are_distinct};
 ghost use Rattle.jc_base.specs.States.{TreesState};
 ghost use Rattle.jcompat.specs.steps.Ascending.{ascends};
 
+use crate::class_file::is_class_path;
+use crate::limits::MAX_PATH;
 use jc_base::file_buf::{FileBuf, MAX_READ};
 use jc_base::root_faults::RootFaults;
 use jc_base::text::Text;
@@ -25,7 +27,8 @@ const MAX_ENTRIES: u32 = 1_000_000;
 ///
 /// Folders are followed, links to folders are passed over, and a link to anything else is a file,
 /// also one that leads nowhere. To read what doesn't lead to a regular file, as a FIFO, a socket, a
-/// device or nothing, is a fault, and it is never opened.
+/// device or nothing, is a fault, and it is never opened. What has the path of a class file with more
+/// bytes than `MAX_PATH` is a file, whatever it is, since the system takes no path so long.
 ///
 /// A call on a root fails where the system fails, and a listing also where the root isn't a folder,
 /// where a folder is gone once it is listed, where a name isn't UTF-8, where there are more than
@@ -45,6 +48,12 @@ fn joined(alloc: Global, folder: &str, name: &str) -> Result<String, AllocError>
     }
     path.push_str(name)?;
     Ok(path)
+}
+
+// Whether it is a class file's path past the limit. No call of the system takes one, so what is there
+// can't be asked, and nobody opens it.
+fn is_past_limit(path: &str) -> bool {
+    path.len() > MAX_PATH && is_class_path(path.as_bytes())
 }
 
 // Whether the link at the path leads to a folder.
@@ -106,6 +115,10 @@ impl Walk {
         }
         self.left -= 1;
         let path = joined(rt.alloc(), folder, entry.file_name())?;
+        if is_past_limit(path.as_str()) {
+            self.files.push(Text::from_str(rt.alloc(), path.as_str())?)?;
+            return Ok(());
+        }
         let kind = entry.file_type()?;
         if kind.is_dir() {
             self.folders.push(path)?;
