@@ -3,7 +3,8 @@ use jc_base::items::Items;
 use jc_base::name::Name;
 use jc_facts::class_facts::{ClassFacts, Constant, Fixed, Member, Signed};
 use jc_facts::key::Key;
-use std::alloc::{AllocError, Global};
+use std::alloc::Global;
+use std::process::Abort;
 
 /// Name, descriptor and flags of a member.
 pub type Declared<'a> = (&'a [u8], &'a [u8], u16);
@@ -46,99 +47,103 @@ pub(crate) fn plain<'a>(major: u16, flags: u16) -> Row<'a> {
     }
 }
 
-fn name_of(alloc: Global, name: &[u8]) -> Result<Option<Name>, AllocError> {
+fn name_of(rt: &impl Abort, alloc: Global, name: &[u8]) -> Option<Name> {
     if name.is_empty() {
-        return Ok(None);
+        return None;
     }
-    Ok(Some(Name::from_bytes(alloc, name)?))
+    Some(Name::from_bytes(alloc, name).expect(rt, "memory"))
 }
 
-fn names_of(alloc: Global, names: &[&[u8]]) -> Result<Items<Name>, AllocError> {
+fn names_of(rt: &impl Abort, alloc: Global, names: &[&[u8]]) -> Items<Name> {
     let mut copies = Vec::new(alloc);
     for name in names {
-        copies.push(Name::from_bytes(alloc, name)?)?;
+        copies
+            .push(Name::from_bytes(alloc, name).expect(rt, "memory"))
+            .expect(rt, "memory");
     }
-    Ok(Items::from_vec(copies))
+    Items::from_vec(copies)
 }
 
-fn permitted(alloc: Global, names: &[&[u8]]) -> Result<Option<Items<Name>>, AllocError> {
+fn permitted(rt: &impl Abort, alloc: Global, names: &[&[u8]]) -> Option<Items<Name>> {
     if names.is_empty() {
-        return Ok(None);
+        return None;
     }
-    Ok(Some(names_of(alloc, names)?))
+    Some(names_of(rt, alloc, names))
 }
 
-fn member(alloc: Global, declared: &Declared) -> Result<Member, AllocError> {
-    Ok(Member {
-        name: Name::from_bytes(alloc, declared.0)?,
-        descriptor: Name::from_bytes(alloc, declared.1)?,
+fn member(rt: &impl Abort, alloc: Global, declared: &Declared) -> Member {
+    Member {
+        name: Name::from_bytes(alloc, declared.0).expect(rt, "memory"),
+        descriptor: Name::from_bytes(alloc, declared.1).expect(rt, "memory"),
         flags: declared.2,
-    })
+    }
 }
 
-fn members(alloc: Global, list: &[Declared]) -> Result<Items<Member>, AllocError> {
+fn members(rt: &impl Abort, alloc: Global, list: &[Declared]) -> Items<Member> {
     let mut members = Vec::new(alloc);
     for declared in list {
-        members.push(member(alloc, declared)?)?;
+        members
+            .push(member(rt, alloc, declared))
+            .expect(rt, "memory");
     }
-    Ok(Items::from_vec(members))
+    Items::from_vec(members)
 }
 
-fn int_key(alloc: Global, name: &[u8]) -> Result<Key, AllocError> {
-    Ok(Key {
-        name: Name::from_bytes(alloc, name)?,
-        descriptor: Name::from_bytes(alloc, b"I")?,
-    })
+fn int_key(rt: &impl Abort, alloc: Global, name: &[u8]) -> Key {
+    Key {
+        name: Name::from_bytes(alloc, name).expect(rt, "memory"),
+        descriptor: Name::from_bytes(alloc, b"I").expect(rt, "memory"),
+    }
 }
 
-fn value(alloc: Global, text: &[u8]) -> Result<Constant, AllocError> {
+fn value(rt: &impl Abort, alloc: Global, text: &[u8]) -> Constant {
     if text.is_empty() {
-        return Ok(Constant::Int(64));
+        return Constant::Int(64);
     }
-    Ok(Constant::Text(Name::from_bytes(alloc, text)?))
+    Constant::Text(Name::from_bytes(alloc, text).expect(rt, "memory"))
 }
 
-fn constants(alloc: Global, list: &[(&[u8], &[u8])]) -> Result<Items<Fixed>, AllocError> {
+fn constants(rt: &impl Abort, alloc: Global, list: &[(&[u8], &[u8])]) -> Items<Fixed> {
     let mut constants = Vec::new(alloc);
     for (name, text) in list {
-        let key = int_key(alloc, name)?;
-        let value = value(alloc, text)?;
-        constants.push(Fixed { key, value })?;
+        let key = int_key(rt, alloc, name);
+        let value = value(rt, alloc, text);
+        constants.push(Fixed { key, value }).expect(rt, "memory");
     }
-    Ok(Items::from_vec(constants))
+    Items::from_vec(constants)
 }
 
-fn signed_key(alloc: Global, name: &[u8]) -> Result<Option<Key>, AllocError> {
+fn signed_key(rt: &impl Abort, alloc: Global, name: &[u8]) -> Option<Key> {
     if name.is_empty() {
-        return Ok(None);
+        return None;
     }
-    Ok(Some(int_key(alloc, name)?))
+    Some(int_key(rt, alloc, name))
 }
 
-fn signatures(alloc: Global, list: &[(&[u8], &[u8])]) -> Result<Items<Signed>, AllocError> {
+fn signatures(rt: &impl Abort, alloc: Global, list: &[(&[u8], &[u8])]) -> Items<Signed> {
     let mut signatures = Vec::new(alloc);
     for (name, text) in list {
-        let key = signed_key(alloc, name)?;
-        let text = Name::from_bytes(alloc, text)?;
-        signatures.push(Signed { key, text })?;
+        let key = signed_key(rt, alloc, name);
+        let text = Name::from_bytes(alloc, text).expect(rt, "memory");
+        signatures.push(Signed { key, text }).expect(rt, "memory");
     }
-    Ok(Items::from_vec(signatures))
+    Items::from_vec(signatures)
 }
 
 /// The record of a row.
-pub(crate) fn class(alloc: Global, row: &Row) -> Result<ClassFacts, AllocError> {
-    Ok(ClassFacts {
-        name: Name::from_bytes(alloc, row.name)?,
+pub(crate) fn class(rt: &impl Abort, alloc: Global, row: &Row) -> ClassFacts {
+    ClassFacts {
+        name: Name::from_bytes(alloc, row.name).expect(rt, "memory"),
         major: row.major,
         flags: row.flags,
-        superclass: name_of(alloc, row.superclass)?,
-        interfaces: names_of(alloc, row.interfaces)?,
-        fields: members(alloc, row.fields)?,
-        methods: members(alloc, row.methods)?,
-        permits: permitted(alloc, row.permits)?,
-        nest_host: name_of(alloc, row.nest_host)?,
-        nest_members: names_of(alloc, row.nest_members)?,
-        constants: constants(alloc, row.constants)?,
-        signatures: signatures(alloc, row.signatures)?,
-    })
+        superclass: name_of(rt, alloc, row.superclass),
+        interfaces: names_of(rt, alloc, row.interfaces),
+        fields: members(rt, alloc, row.fields),
+        methods: members(rt, alloc, row.methods),
+        permits: permitted(rt, alloc, row.permits),
+        nest_host: name_of(rt, alloc, row.nest_host),
+        nest_members: names_of(rt, alloc, row.nest_members),
+        constants: constants(rt, alloc, row.constants),
+        signatures: signatures(rt, alloc, row.signatures),
+    }
 }

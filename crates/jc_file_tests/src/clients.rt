@@ -6,50 +6,49 @@ use jc_facts::act::Act;
 use jc_facts::client::{ClientClass, Item, Place};
 use jc_facts::client_validity::is_valid_client;
 use jc_facts::key::Key;
-use std::alloc::{AllocError, Global};
-use std::test::Fail;
+use std::alloc::Global;
+use std::process::Abort;
 
-fn init(alloc: Global, class: &[u8]) -> Result<Item, AllocError> {
-    Ok(Item::Init {
-        class: Name::from_bytes(alloc, class)?,
-        descriptor: Name::from_bytes(alloc, b"()V")?,
-    })
+fn init(rt: &impl Abort, alloc: Global, class: &[u8]) -> Item {
+    Item::Init {
+        class: Name::from_bytes(alloc, class).expect(rt, "memory"),
+        descriptor: Name::from_bytes(alloc, b"()V").expect(rt, "memory"),
+    }
 }
 
-fn call(alloc: Global, act: Act, name: &[u8]) -> Result<Item, AllocError> {
-    Ok(Item::Access {
+fn call(rt: &impl Abort, alloc: Global, act: Act, name: &[u8]) -> Item {
+    Item::Access {
         act,
-        class: Name::from_bytes(alloc, b"p/A")?,
+        class: Name::from_bytes(alloc, b"p/A").expect(rt, "memory"),
         key: Key {
-            name: Name::from_bytes(alloc, name)?,
-            descriptor: Name::from_bytes(alloc, b"()V")?,
+            name: Name::from_bytes(alloc, name).expect(rt, "memory"),
+            descriptor: Name::from_bytes(alloc, b"()V").expect(rt, "memory"),
         },
         receiver: None,
         place: Place::Other,
-    })
+    }
 }
 
-fn is_valid_with(alloc: Global, item: Item) -> Result<bool, AllocError> {
+fn is_valid_with(rt: &impl Abort, alloc: Global, item: Item) -> bool {
     let row = Row {
         name: b"q/C",
         superclass: b"p/A",
         ..plain(52, 0x0021)
     };
     let client = ClientClass {
-        facts: class(alloc, &row)?,
-        items: Items::from_vec(vec![in alloc; item]?),
+        facts: class(rt, alloc, &row),
+        items: Items::from_vec(vec![in alloc; item].expect(rt, "memory")),
     };
-    is_valid_client(alloc, &client)
+    is_valid_client(alloc, &client).expect(rt, "memory")
 }
 
 #[test]
-fn clients_call_initializers_of_their_superclass(rt: HostRuntime) -> Result<(), Fail> {
+fn clients_call_initializers_of_their_superclass(rt: HostRuntime) {
     let alloc = rt.alloc();
-    assert!(rt; is_valid_with(alloc, init(alloc, b"p/A")?)?);
-    assert!(rt; is_valid_with(alloc, init(alloc, b"q/C")?)?);
-    assert!(rt; !is_valid_with(alloc, init(alloc, b"java/lang/Object")?)?);
-    assert!(rt; is_valid_with(alloc, call(alloc, Act::InvokeVirtual, b"run")?)?);
-    assert!(rt; !is_valid_with(alloc, call(alloc, Act::InvokeSpecial, b"<init>")?)?);
-    assert!(rt; !is_valid_with(alloc, call(alloc, Act::InvokeStatic, b"<clinit>")?)?);
-    Ok(())
+    assert!(rt; is_valid_with(&rt, alloc, init(&rt, alloc, b"p/A")));
+    assert!(rt; is_valid_with(&rt, alloc, init(&rt, alloc, b"q/C")));
+    assert!(rt; !is_valid_with(&rt, alloc, init(&rt, alloc, b"java/lang/Object")));
+    assert!(rt; is_valid_with(&rt, alloc, call(&rt, alloc, Act::InvokeVirtual, b"run")));
+    assert!(rt; !is_valid_with(&rt, alloc, call(&rt, alloc, Act::InvokeSpecial, b"<init>")));
+    assert!(rt; !is_valid_with(&rt, alloc, call(&rt, alloc, Act::InvokeStatic, b"<clinit>")));
 }

@@ -4,8 +4,8 @@ use jc_code::items::{CodeError, items_of};
 use jc_facts::act::Act;
 use jc_facts::client::{Item, Place};
 use jc_facts::code_fault::CodeReason;
-use std::alloc::{AllocError, Global};
-use std::test::Fail;
+use std::alloc::Global;
+use std::process::Abort;
 
 // ---- what `items_of` answers, as text: a line for each item, or a refusal with its place
 
@@ -42,34 +42,34 @@ fn reason_word(reason: CodeReason) -> &'static [u8] {
     }
 }
 
-fn put_name(out: &mut Vec<u8>, name: &Name) -> Result<(), AllocError> {
-    out.push(b' ')?;
-    out.extend_from_slice(name.as_bytes())
+fn put_name(rt: &impl Abort, out: &mut Vec<u8>, name: &Name) {
+    out.push(b' ').expect(rt, "memory");
+    out.extend_from_slice(name.as_bytes()).expect(rt, "memory")
 }
 
-fn put_receiver(out: &mut Vec<u8>, receiver: &Option<Name>) -> Result<(), AllocError> {
+fn put_receiver(rt: &impl Abort, out: &mut Vec<u8>, receiver: &Option<Name>) {
     match receiver {
-        Some(name) => put_name(out, name),
-        None => out.extend_from_slice(b" -"),
+        Some(name) => put_name(rt, out, name),
+        None => out.extend_from_slice(b" -").expect(rt, "memory"),
     }
 }
 
 // An item whose word is followed by two names.
-fn put_two(out: &mut Vec<u8>, word: &[u8], first: &Name, second: &Name) -> Result<(), AllocError> {
-    out.extend_from_slice(word)?;
-    put_name(out, first)?;
-    put_name(out, second)
+fn put_two(rt: &impl Abort, out: &mut Vec<u8>, word: &[u8], first: &Name, second: &Name) {
+    out.extend_from_slice(word).expect(rt, "memory");
+    put_name(rt, out, first);
+    put_name(rt, out, second)
 }
 
-fn put_item(out: &mut Vec<u8>, item: &Item) -> Result<(), AllocError> {
+fn put_item(rt: &impl Abort, out: &mut Vec<u8>, item: &Item) {
     match item {
         Item::Class { class } => {
-            out.extend_from_slice(b"class")?;
-            put_name(out, class)?;
+            out.extend_from_slice(b"class").expect(rt, "memory");
+            put_name(rt, out, class);
         }
-        Item::New { class, descriptor } => put_two(out, b"new", class, descriptor)?,
-        Item::Init { class, descriptor } => put_two(out, b"init", class, descriptor)?,
-        Item::Assign { from, to } => put_two(out, b"assign", from, to)?,
+        Item::New { class, descriptor } => put_two(rt, out, b"new", class, descriptor),
+        Item::Init { class, descriptor } => put_two(rt, out, b"init", class, descriptor),
+        Item::Assign { from, to } => put_two(rt, out, b"assign", from, to),
         Item::Access {
             act,
             class,
@@ -77,36 +77,53 @@ fn put_item(out: &mut Vec<u8>, item: &Item) -> Result<(), AllocError> {
             receiver,
             place,
         } => {
-            put_two(out, act_word(*act), class, &key.name)?;
-            put_name(out, &key.descriptor)?;
-            put_receiver(out, receiver)?;
-            out.extend_from_slice(place_word(*place))?;
+            put_two(rt, out, act_word(*act), class, &key.name);
+            put_name(rt, out, &key.descriptor);
+            put_receiver(rt, out, receiver);
+            out.extend_from_slice(place_word(*place))
+                .expect(rt, "memory");
         }
     }
-    out.push(b'\n')?;
-    Ok(())
+    out.push(b'\n').expect(rt, "memory");
+}
+
+// A refusal at this place.
+fn put_refusal(
+    rt: &impl Abort,
+    alloc: Global,
+    out: &mut Vec<u8>,
+    reason: CodeReason,
+    place: usize,
+) {
+    out.extend_from_slice(reason_word(reason))
+        .expect(rt, "memory");
+    let digits = format!(in alloc; "{place}").expect(rt, "memory");
+    out.extend_from_slice(digits.as_str().as_bytes())
+        .expect(rt, "memory");
 }
 
 // The place of a refusal is counted from this offset on.
-fn told(alloc: Global, bytes: &[u8], from: usize) -> Result<Vec<u8>, AllocError> {
+fn told(rt: &impl Abort, alloc: Global, bytes: &[u8], from: usize) -> Vec<u8> {
     let mut out = Vec::new(alloc);
-    if bytes.len() > 4194304 {
-        return Err(AllocError);
-    }
+    assert!(rt; bytes.len() <= 4_194_304);
     match items_of(alloc, bytes) {
         Ok(items) => {
             for item in items.as_slice() {
-                put_item(&mut out, item)?;
+                put_item(rt, &mut out, item);
             }
         }
         Err(CodeError::BadCode { offset, reason }) => {
-            let place = (offset as usize).saturating_sub(from);
-            out.extend_from_slice(reason_word(reason))?;
-            out.extend_from_slice(format!(in alloc; "{place}")?.as_str().as_bytes())?;
+            put_refusal(
+                rt,
+                alloc,
+                &mut out,
+                reason,
+                (offset as usize).saturating_sub(from),
+            );
         }
-        Err(CodeError::Memory) => return Err(AllocError),
+        Err(CodeError::Memory) => panic!(rt; "memory"),
     }
-    Ok(out)
+    out
 }
 
 // ---- whole files
@@ -255,74 +272,75 @@ const PLAIN: Row = Row {
     want: b"",
 };
 
-fn put_number(out: &mut Vec<u8>, n: usize) -> Result<(), AllocError> {
-    out.push((n / 256 % 256) as u8)?;
-    out.push((n % 256) as u8)?;
-    Ok(())
+fn put_number(rt: &impl Abort, out: &mut Vec<u8>, n: usize) {
+    out.push((n / 256 % 256) as u8).expect(rt, "memory");
+    out.push((n % 256) as u8).expect(rt, "memory");
 }
 
-fn put_long_number(out: &mut Vec<u8>, n: usize) -> Result<(), AllocError> {
-    put_number(out, n / 65536)?;
-    put_number(out, n)
+fn put_long_number(rt: &impl Abort, out: &mut Vec<u8>, n: usize) {
+    put_number(rt, out, n / 65536);
+    put_number(rt, out, n)
 }
 
-fn put_attribute(out: &mut Vec<u8>, name: u8, body: &[u8]) -> Result<(), AllocError> {
-    out.push(0)?;
-    out.push(name)?;
-    put_long_number(out, body.len())?;
-    out.extend_from_slice(body)
+fn put_attribute(rt: &impl Abort, out: &mut Vec<u8>, name: u8, body: &[u8]) {
+    out.push(0).expect(rt, "memory");
+    out.push(name).expect(rt, "memory");
+    put_long_number(rt, out, body.len());
+    out.extend_from_slice(body).expect(rt, "memory")
 }
 
 // The contents of the Code attribute: no stack and no locals are counted.
-fn code_body(alloc: Global, row: &Row, code: &[u8]) -> Result<Vec<u8>, AllocError> {
+fn code_body(rt: &impl Abort, alloc: Global, row: &Row, code: &[u8]) -> Vec<u8> {
     let mut out = Vec::new(alloc);
-    put_long_number(&mut out, 0)?;
-    put_long_number(&mut out, code.len())?;
-    out.extend_from_slice(code)?;
-    put_number(&mut out, row.catches.len() / 8)?;
-    out.extend_from_slice(row.catches)?;
-    out.extend_from_slice(row.attributes)?;
-    Ok(out)
+    put_long_number(rt, &mut out, 0);
+    put_long_number(rt, &mut out, code.len());
+    out.extend_from_slice(code).expect(rt, "memory");
+    put_number(rt, &mut out, row.catches.len() / 8);
+    out.extend_from_slice(row.catches).expect(rt, "memory");
+    out.extend_from_slice(row.attributes).expect(rt, "memory");
+    out
 }
 
 // All up to the method's attributes.
-fn file_head(alloc: Global, row: &Row) -> Result<Vec<u8>, AllocError> {
+fn file_head(rt: &impl Abort, alloc: Global, row: &Row) -> Vec<u8> {
     let mut out = Vec::new(alloc);
-    out.extend_from_slice(b"\xca\xfe\xba\xbe\0\0\0")?;
-    out.push(row.major)?;
-    out.push(0)?;
-    out.push(COUNT)?;
+    out.extend_from_slice(b"\xca\xfe\xba\xbe\0\0\0")
+        .expect(rt, "memory");
+    out.push(row.major).expect(rt, "memory");
+    out.push(0).expect(rt, "memory");
+    out.push(COUNT).expect(rt, "memory");
     for entry in POOL {
-        out.extend_from_slice(entry)?;
+        out.extend_from_slice(entry).expect(rt, "memory");
     }
-    out.extend_from_slice(b"\0\x21\0\x02\0\x04\0\0\0\0\0\x01")?;
-    out.extend_from_slice(row.method)?;
-    out.push(0)?;
-    out.push(row.codes)?;
-    Ok(out)
+    out.extend_from_slice(b"\0\x21\0\x02\0\x04\0\0\0\0\0\x01")
+        .expect(rt, "memory");
+    out.extend_from_slice(row.method).expect(rt, "memory");
+    out.push(0).expect(rt, "memory");
+    out.push(row.codes).expect(rt, "memory");
+    out
 }
 
 // What is told of the row's class with this code.
-fn told_of(alloc: Global, row: &Row, code: &[u8]) -> Result<Vec<u8>, AllocError> {
-    let mut out = file_head(alloc, row)?;
+fn told_of(rt: &impl Abort, alloc: Global, row: &Row, code: &[u8]) -> Vec<u8> {
+    let mut out = file_head(rt, alloc, row);
     let from = out.len();
-    let body = code_body(alloc, row, code)?;
+    let body = code_body(rt, alloc, row, code);
     for _ in 0..row.codes {
-        put_attribute(&mut out, 5, body.as_slice())?;
+        put_attribute(rt, &mut out, 5, body.as_slice());
     }
-    put_number(&mut out, row.boots.len())?;
+    put_number(rt, &mut out, row.boots.len());
     for boots in row.boots {
-        put_attribute(&mut out, 6, boots)?;
+        put_attribute(rt, &mut out, 6, boots);
     }
-    told(alloc, out.as_slice(), from)
+    told(rt, alloc, out.as_slice(), from)
 }
 
-fn repeated(alloc: Global, code: &[u8], times: usize) -> Result<Vec<u8>, AllocError> {
+fn repeated(rt: &impl Abort, alloc: Global, code: &[u8], times: usize) -> Vec<u8> {
     let mut out = Vec::new(alloc);
     for _ in 0..times {
-        out.extend_from_slice(code)?;
+        out.extend_from_slice(code).expect(rt, "memory");
     }
-    Ok(out)
+    out
 }
 
 // ---- lengths and pool entries of each opcode
@@ -382,21 +400,21 @@ const GROUPS: &[Group] = &[
 ];
 
 // The instruction with this pool index; its other operands are bytes that no opcode has.
-fn instruction(alloc: Global, group: &Group, op: u8, index: u8) -> Result<Vec<u8>, AllocError> {
+fn instruction(rt: &impl Abort, alloc: Global, group: &Group, op: u8, index: u8) -> Vec<u8> {
     let (_, _, len, entries) = *group;
     let mut out = Vec::new(alloc);
-    out.push(op)?;
+    out.push(op).expect(rt, "memory");
     if !entries.is_empty() {
         if op != 18 {
-            out.push(0)?;
+            out.push(0).expect(rt, "memory");
         }
-        out.push(index)?;
+        out.push(index).expect(rt, "memory");
     }
     for _ in 0..len {
-        out.push(0xff)?;
+        out.push(0xff).expect(rt, "memory");
     }
     out.truncate(len as usize);
-    Ok(out)
+    out
 }
 
 // Items begin with a small letter, refusals with a large one.
@@ -404,74 +422,73 @@ fn is_refused(told: &[u8]) -> bool {
     matches!(told.first(), Some(b'B' | b'C'))
 }
 
-// With a bad opcode behind it, as it is, and without its last byte.
-fn has_length(alloc: Global, group: &Group, op: u8) -> Result<bool, AllocError> {
-    let (_, _, len, entries) = *group;
-    let index = match entries.first() {
-        Some(index) => *index,
-        None => 0,
-    };
-    let mut code = instruction(alloc, group, op, index)?;
-    let whole = told_of(alloc, &PLAIN, code.as_slice())?;
-    code.push(0xff)?;
-    let longer = told_of(alloc, &PLAIN, code.as_slice())?;
-    code.truncate((len as usize).saturating_sub(1));
-    let shorter = told_of(alloc, &PLAIN, code.as_slice())?;
-    let behind = 14 + len as usize;
-    let bad_opcode = format!(in alloc; "BadOpcode {behind}")?;
+// Whether this is told of the plain row's class with this code.
+fn tells(rt: &impl Abort, alloc: Global, code: &[u8], want: &[u8]) -> bool {
+    told_of(rt, alloc, &PLAIN, code).as_slice() == want
+}
+
+// Whether the plain row's class is refused with this code.
+fn refuses(rt: &impl Abort, alloc: Global, code: &[u8]) -> bool {
+    is_refused(told_of(rt, alloc, &PLAIN, code).as_slice())
+}
+
+// As it is, with a bad opcode behind it, and without its last byte.
+fn has_length(rt: &impl Abort, alloc: Global, group: &Group, op: u8) -> bool {
+    let len = group.2 as usize;
+    let index = group.3.first().copied().unwrap_or(0);
+    let mut code = instruction(rt, alloc, group, op, index);
+    let is_whole = !refuses(rt, alloc, code.as_slice());
+    code.push(0xff).expect(rt, "memory");
+    let behind = format!(in alloc; "BadOpcode {}", 14 + len).expect(rt, "memory");
+    let is_no_longer = tells(rt, alloc, code.as_slice(), behind.as_str().as_bytes());
+    code.truncate(len.saturating_sub(1));
     let cut: &[u8] = if len == 1 {
         b"BadLayout 0"
     } else {
         b"CutShort 14"
     };
-    Ok(
-        !is_refused(whole.as_slice())
-            && longer.as_slice() == bad_opcode.as_str().as_bytes()
-            && shorter.as_slice() == cut,
-    )
+    is_whole && is_no_longer && tells(rt, alloc, code.as_slice(), cut)
 }
 
 // Refused for this index of the pool exactly where the group doesn't have it.
-fn is_judged(alloc: Global, group: &Group, op: u8, index: u8) -> Result<bool, AllocError> {
-    let code = instruction(alloc, group, op, index)?;
-    let told = told_of(alloc, &PLAIN, code.as_slice())?;
+fn is_judged(rt: &impl Abort, alloc: Global, group: &Group, op: u8, index: u8) -> bool {
+    let code = instruction(rt, alloc, group, op, index);
     if group.3.contains(&index) {
-        return Ok(!is_refused(told.as_slice()));
+        return !refuses(rt, alloc, code.as_slice());
     }
-    Ok(told.as_slice() == b"BadEntry 14".as_slice())
+    tells(rt, alloc, code.as_slice(), b"BadEntry 14")
 }
 
-fn are_judged(alloc: Global, group: &Group, op: u8) -> Result<bool, AllocError> {
+fn are_judged(rt: &impl Abort, alloc: Global, group: &Group, op: u8) -> bool {
     for index in 0..COUNT + 1 {
-        if !is_judged(alloc, group, op, index)? {
-            return Ok(false);
+        if !is_judged(rt, alloc, group, op, index) {
+            return false;
         }
     }
-    Ok(true)
+    true
 }
 
 #[test]
-fn each_opcode_has_its_length_and_names_its_entries(rt: HostRuntime) -> Result<(), Fail> {
+fn each_opcode_has_its_length_and_names_its_entries(rt: HostRuntime) {
     let alloc = rt.alloc();
     for group in GROUPS {
         for op in group.0..=group.1 {
-            assert!(rt; has_length(alloc, group, op)?, "length of {op}");
+            assert!(rt; has_length(&rt, alloc, group, op), "length of {op}");
             assert!(rt;
-                group.3.is_empty() || are_judged(alloc, group, op)?,
+                group.3.is_empty() || are_judged(&rt, alloc, group, op),
                 "entries of {op}"
             );
         }
     }
-    Ok(())
 }
 
 // ---- methods and what they give
 
 // The row's method gives what the row wants.
-fn gives(alloc: Global, row: &Row) -> Result<bool, AllocError> {
-    let code = repeated(alloc, row.code, row.times)?;
-    let found = told_of(alloc, row, code.as_slice())?;
-    Ok(found.as_slice() == row.want)
+fn gives(rt: &impl Abort, alloc: Global, row: &Row) -> bool {
+    let code = repeated(rt, alloc, row.code, row.times);
+    let found = told_of(rt, alloc, row, code.as_slice());
+    found.as_slice() == row.want
 }
 
 // Items by scan: the last instruction is no return.
@@ -598,12 +615,11 @@ const SCANNED: &[Row] = &[
 ];
 
 #[test]
-fn items_by_scan(rt: HostRuntime) -> Result<(), Fail> {
+fn items_by_scan(rt: HostRuntime) {
     let alloc = rt.alloc();
     for row in SCANNED {
-        assert!(rt; gives(alloc, row)?, "{}", row.what);
+        assert!(rt; gives(&rt, alloc, row), "{}", row.what);
     }
-    Ok(())
 }
 
 // Lengths that vary. Behind the instruction stands `new q/C`.
@@ -761,12 +777,11 @@ const LENGTHS: &[Row] = &[
 ];
 
 #[test]
-fn lengths_that_vary(rt: HostRuntime) -> Result<(), Fail> {
+fn lengths_that_vary(rt: HostRuntime) {
     let alloc = rt.alloc();
     for row in LENGTHS {
-        assert!(rt; gives(alloc, row)?, "{}", row.what);
+        assert!(rt; gives(&rt, alloc, row), "{}", row.what);
     }
-    Ok(())
 }
 
 // Refusals.
@@ -929,12 +944,11 @@ const REFUSED: &[Row] = &[
 ];
 
 #[test]
-fn refusals_of_one_method(rt: HostRuntime) -> Result<(), Fail> {
+fn refusals_of_one_method(rt: HostRuntime) {
     let alloc = rt.alloc();
     for row in REFUSED {
-        assert!(rt; gives(alloc, row)?, "{}", row.what);
+        assert!(rt; gives(&rt, alloc, row), "{}", row.what);
     }
-    Ok(())
 }
 
 // Straight methods: receivers are known, and assignments are told.
@@ -1031,12 +1045,11 @@ const STRAIGHT: &[Row] = &[
 ];
 
 #[test]
-fn items_of_straight_methods(rt: HostRuntime) -> Result<(), Fail> {
+fn items_of_straight_methods(rt: HostRuntime) {
     let alloc = rt.alloc();
     for row in STRAIGHT {
-        assert!(rt; gives(alloc, row)?, "{}", row.what);
+        assert!(rt; gives(&rt, alloc, row), "{}", row.what);
     }
-    Ok(())
 }
 
 // Methods that aren't straight: no receiver is known.
@@ -1178,20 +1191,18 @@ const NOT_STRAIGHT: &[Row] = &[
 ];
 
 #[test]
-fn items_of_other_methods(rt: HostRuntime) -> Result<(), Fail> {
+fn items_of_other_methods(rt: HostRuntime) {
     let alloc = rt.alloc();
     for row in NOT_STRAIGHT {
-        assert!(rt; gives(alloc, row)?, "{}", row.what);
+        assert!(rt; gives(&rt, alloc, row), "{}", row.what);
     }
-    Ok(())
 }
 
 #[test]
-fn whole_class_files(rt: HostRuntime) -> Result<(), Fail> {
+fn whole_class_files(rt: HostRuntime) {
     let alloc = rt.alloc();
     for file in FILES {
-        let found = told(alloc, file.bytes, 0)?;
+        let found = told(&rt, alloc, file.bytes, 0);
         assert!(rt; found.as_slice() == file.want, "want {:?}", file.want);
     }
-    Ok(())
 }

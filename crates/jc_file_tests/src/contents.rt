@@ -5,7 +5,6 @@ use jc_attr::contents::{constant_value, nest_host, nest_members, permits, signat
 use jc_base::name::Name;
 use jc_facts::class_facts::Constant;
 use jc_pool::pool::Pool;
-use std::test::Fail;
 
 /// The class `p/A` without members: entry 1 is its Class, entry 2 its name.
 const PLAIN: &[u8] =
@@ -32,40 +31,66 @@ fn is(name: &Option<Name>, wanted: &[u8]) -> bool {
 }
 
 #[test]
-fn lists_of_classes(rt: HostRuntime) -> Result<(), Fail> {
+fn lists_of_classes(rt: HostRuntime) {
     let alloc = rt.alloc();
-    let (pool, _) = Pool::read(alloc, PLAIN)?;
+    let (pool, _) = Pool::read(alloc, PLAIN).expect(&rt, "memory");
     let good = b"\0\x01\0\x01".as_slice();
-    assert!(rt; are(&permits(alloc, &pool, good)?, b"p/A".as_slice()));
-    assert!(rt; are(&nest_members(alloc, &pool, good)?, b"p/A".as_slice()));
+    assert!(rt;
+        are(
+            &permits(alloc, &pool, good).expect(&rt, "memory"),
+            b"p/A".as_slice()
+        )
+    );
+    assert!(rt;
+        are(
+            &nest_members(alloc, &pool, good).expect(&rt, "memory"),
+            b"p/A".as_slice()
+        )
+    );
     for bad in [
         b"\0\x01\0\x02".as_slice(),
         b"\0\x01\0\x01\0".as_slice(),
         b"\0\x02\0\x01".as_slice(),
     ] {
-        assert!(rt; permits(alloc, &pool, bad)?.is_none());
-        assert!(rt; nest_members(alloc, &pool, bad)?.is_none());
+        assert!(rt; permits(alloc, &pool, bad).expect(&rt, "memory").is_none());
+        assert!(rt;
+            nest_members(alloc, &pool, bad)
+                .expect(&rt, "memory")
+                .is_none()
+        );
     }
-    Ok(())
 }
 
 #[test]
-fn single_indices(rt: HostRuntime) -> Result<(), Fail> {
+fn single_indices(rt: HostRuntime) {
     let alloc = rt.alloc();
-    let (pool, _) = Pool::read(alloc, PLAIN)?;
+    let (pool, _) = Pool::read(alloc, PLAIN).expect(&rt, "memory");
     let one = b"\0\x01".as_slice();
     let two = b"\0\x02".as_slice();
-    assert!(rt; is(&nest_host(alloc, &pool, one)?, b"p/A".as_slice()));
-    assert!(rt; nest_host(alloc, &pool, two)?.is_none());
-    assert!(rt; is(&signature(alloc, &pool, two)?, b"p/A".as_slice()));
-    assert!(rt; signature(alloc, &pool, one)?.is_none());
-    assert!(rt; constant_value(alloc, &pool, one)?.is_none());
-    let (pool, _) = Pool::read(alloc, INTEGER)?;
-    match constant_value(alloc, &pool, one)? {
+    assert!(rt;
+        is(
+            &nest_host(alloc, &pool, one).expect(&rt, "memory"),
+            b"p/A".as_slice()
+        )
+    );
+    assert!(rt; nest_host(alloc, &pool, two).expect(&rt, "memory").is_none());
+    assert!(rt;
+        is(
+            &signature(alloc, &pool, two).expect(&rt, "memory"),
+            b"p/A".as_slice()
+        )
+    );
+    assert!(rt; signature(alloc, &pool, one).expect(&rt, "memory").is_none());
+    assert!(rt;
+        constant_value(alloc, &pool, one)
+            .expect(&rt, "memory")
+            .is_none()
+    );
+    let (pool, _) = Pool::read(alloc, INTEGER).expect(&rt, "memory");
+    match constant_value(alloc, &pool, one).expect(&rt, "memory") {
         Some(value) => assert!(rt; value == Constant::Int(64)),
         None => assert!(rt; false, "no value"),
     }
-    Ok(())
 }
 
 #[test]

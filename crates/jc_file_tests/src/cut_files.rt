@@ -5,12 +5,11 @@ use crate::write::{name, written};
 use jc_base::items::Items;
 use jc_desc::fault::Reason;
 use jc_write::{Blueprint, Body, Slot, Step};
-use std::alloc::{AllocError, Global};
+use std::alloc::Global;
 use std::process::Abort;
-use std::test::Fail;
 
 // `public abstract class w0/Y extends p/A implements w0/J { public Y() { super(); } }`
-fn heir(alloc: Global) -> Result<Blueprint, AllocError> {
+fn heir(rt: &impl Abort, alloc: Global) -> Blueprint {
     let row = Row {
         name: b"w0/Y",
         superclass: b"p/A",
@@ -19,21 +18,25 @@ fn heir(alloc: Global) -> Result<Blueprint, AllocError> {
         ..plain(52, 0x0421)
     };
     let mut steps = Vec::new(alloc);
-    steps.push(Step::Load(Slot::Ref, 0))?;
-    steps.push(Step::Construct(name(alloc, "p/A")?, name(alloc, "()V")?))?;
-    steps.push(Step::Return(None))?;
+    steps.push(Step::Load(Slot::Ref, 0)).expect(rt, "memory");
+    steps
+        .push(Step::Construct(name(rt, alloc, "p/A"), name(rt, alloc, "()V")))
+        .expect(rt, "memory");
+    steps.push(Step::Return(None)).expect(rt, "memory");
     let mut bodies = Vec::new(alloc);
-    bodies.push(Some(Body {
-        steps: Items::from_vec(steps),
-    }))?;
-    Ok(Blueprint {
-        facts: class(alloc, &row)?,
+    bodies
+        .push(Some(Body {
+            steps: Items::from_vec(steps),
+        }))
+        .expect(rt, "memory");
+    Blueprint {
+        facts: class(rt, alloc, &row),
         bodies: Items::from_vec(bodies),
-    })
+    }
 }
 
 // A class with two fields, three methods and a nest member, without code.
-fn canvas(alloc: Global) -> Result<Blueprint, AllocError> {
+fn canvas(rt: &impl Abort, alloc: Global) -> Blueprint {
     let row = Row {
         name: b"lib/Canvas",
         fields: &[
@@ -50,54 +53,60 @@ fn canvas(alloc: Global) -> Result<Blueprint, AllocError> {
     };
     let mut bodies = Vec::new(alloc);
     for _ in row.methods {
-        bodies.push(None)?;
+        bodies.push(None).expect(rt, "memory");
     }
-    Ok(Blueprint {
-        facts: class(alloc, &row)?,
+    Blueprint {
+        facts: class(rt, alloc, &row),
         bodies: Items::from_vec(bodies),
-    })
+    }
+}
+
+// Whether the bytes are too short, which is told at their end.
+fn is_short(rt: &impl Abort, alloc: Global, bytes: &[u8]) -> bool {
+    match fault_of(rt, alloc, bytes) {
+        Some(fault) => fault.offset as usize == bytes.len() && fault.reason == Reason::Short,
+        None => false,
+    }
 }
 
 // Each proper prefix of a class file lacks bytes of a field, which is told at its end.
-fn check_prefixes(rt: &impl Abort, alloc: Global, bytes: &[u8]) -> Result<(), AllocError> {
-    assert!(rt; fault_of(alloc, bytes)?.is_none());
+fn check_prefixes(rt: &impl Abort, alloc: Global, bytes: &[u8]) {
+    assert!(rt; fault_of(rt, alloc, bytes).is_none());
     for len in 0..bytes.len() {
-        match fault_of(alloc, &bytes[..len])? {
-            Some(fault) => {
-                assert_eq!(rt; fault.offset as usize, len);
-                assert_eq!(rt; fault.reason, Reason::Short, "{len} bytes");
-            }
-            None => assert!(rt; false, "{len} bytes"),
-        }
+        assert!(rt; is_short(rt, alloc, &bytes[..len]), "{len} bytes");
     }
-    Ok(())
 }
 
 #[test]
-fn each_proper_prefix_is_too_short(rt: HostRuntime) -> Result<(), Fail> {
+fn each_proper_prefix_is_too_short(rt: HostRuntime) {
     let alloc = rt.alloc();
-    check_prefixes(&rt, alloc, PLAIN)?;
-    check_prefixes(&rt, alloc, USER)?;
-    for plan in [heir(alloc)?, canvas(alloc)?] {
-        match written(&rt, alloc, &plan)? {
-            Ok(bytes) => check_prefixes(&rt, alloc, bytes.as_slice())?,
-            Err(_) => assert!(rt; false),
-        }
+    check_prefixes(&rt, alloc, PLAIN);
+    check_prefixes(&rt, alloc, USER);
+    for plan in [heir(&rt, alloc), canvas(&rt, alloc)] {
+        let bytes = written(&rt, alloc, &plan).expect(&rt, "written");
+        check_prefixes(&rt, alloc, bytes.as_slice());
     }
-    Ok(())
+}
+
+// Whether a fault of the bytes, if there is one, is no further than so many bytes from their start.
+fn is_within(rt: &impl Abort, alloc: Global, bytes: &[u8], most: usize) -> bool {
+    match fault_of(rt, alloc, bytes) {
+        Some(fault) => fault.offset as usize <= most,
+        None => true,
+    }
 }
 
 #[test]
-fn a_fault_of_a_changed_byte_is_in_the_file(rt: HostRuntime) -> Result<(), Fail> {
+fn a_fault_of_a_changed_byte_is_in_the_file(rt: HostRuntime) {
     let alloc = rt.alloc();
     for place in 0..PLAIN.len() {
         for byte in [0x00, 0xff] {
-            let mut changed = Vec::from_slice(alloc, PLAIN)?;
+            let mut changed = Vec::from_slice(alloc, PLAIN).expect(&rt, "memory");
             changed[place] = byte;
-            if let Some(fault) = fault_of(alloc, changed.as_slice())? {
-                assert!(rt; fault.offset as usize <= PLAIN.len(), "{byte} at {place}");
-            }
+            assert!(rt;
+                is_within(&rt, alloc, changed.as_slice(), PLAIN.len()),
+                "{byte} at {place}"
+            );
         }
     }
-    Ok(())
 }

@@ -10,8 +10,8 @@ use jc_facts::link_error::LinkError;
 use jc_facts::validity::is_valid;
 use jc_facts::verdict::{Collision, Note, Verdict};
 use jc_report::made_text::made_text;
-use std::alloc::{AllocError, Global};
-use std::test::Fail;
+use std::alloc::Global;
+use std::process::Abort;
 
 type Bytes = &'static [u8];
 
@@ -131,66 +131,73 @@ const NEW: &[Row] = &[
     ),
 ];
 
-fn methods(alloc: Global, list: &[Method]) -> Result<Vec<Member>, AllocError> {
+fn methods(rt: &impl Abort, alloc: Global, list: &[Method]) -> Vec<Member> {
     let mut methods = Vec::new(alloc);
     for (name, flags) in list {
-        methods.push(Member::new(alloc, name, b"()V", *flags)?)?;
+        methods
+            .push(Member::new(alloc, name, b"()V", *flags).expect(rt, "memory"))
+            .expect(rt, "memory");
     }
-    Ok(methods)
+    methods
 }
 
 // The record of a row.
-fn class(alloc: Global, row: &Row) -> Result<ClassFacts, AllocError> {
+fn class(rt: &impl Abort, alloc: Global, row: &Row) -> ClassFacts {
     let (_, _, name, superclass, field, flags, list) = row;
     let mut fields = Vec::new(alloc);
-    fields.push(Member::new(alloc, field, b"I", *flags)?)?;
-    let methods = methods(alloc, list)?;
-    let name = Name::from_bytes(alloc, name)?;
-    let superclass = Name::from_bytes(alloc, superclass)?;
-    Ok(ClassFacts::plain(alloc, name, Some(superclass), fields, methods))
+    fields
+        .push(Member::new(alloc, field, b"I", *flags).expect(rt, "memory"))
+        .expect(rt, "memory");
+    let methods = methods(rt, alloc, list);
+    let name = Name::from_bytes(alloc, name).expect(rt, "memory");
+    let superclass = Name::from_bytes(alloc, superclass).expect(rt, "memory");
+    ClassFacts::plain(alloc, name, Some(superclass), fields, methods)
 }
 
 // Whether the release has so many classes, all valid, and at its place the one of the row.
-fn has(alloc: Global, release: &Items<ClassFacts>, row: &Row) -> Result<bool, AllocError> {
-    let wanted = class(alloc, row)?;
+fn has(rt: &impl Abort, alloc: Global, release: &Items<ClassFacts>, row: &Row) -> bool {
+    let wanted = class(rt, alloc, row);
     let classes = release.as_slice();
     for made in classes {
-        if !is_valid(alloc, made)? {
-            return Ok(false);
+        if !is_valid(alloc, made).expect(rt, "memory") {
+            return false;
         }
     }
-    Ok(classes.len() == row.0 as usize && classes.get(row.1) == Some(&wanted))
+    classes.len() == row.0 as usize && classes.get(row.1) == Some(&wanted)
 }
 
 #[test]
-fn classes_of_the_old_release(rt: HostRuntime) -> Result<(), Fail> {
+fn classes_of_the_old_release(rt: HostRuntime) {
     for row in OLD {
         assert!(rt; row.0 >= 1 && row.0 <= 4096);
-        let made = generate(rt.alloc(), row.0)?;
-        assert!(rt; has(rt.alloc(), &made.old, row)?, "{row:?}");
+        let made = generate(rt.alloc(), row.0).expect(&rt, "memory");
+        assert!(rt; has(&rt, rt.alloc(), &made.old, row), "{row:?}");
     }
-    Ok(())
 }
 
 #[test]
-fn classes_of_the_new_release(rt: HostRuntime) -> Result<(), Fail> {
+fn classes_of_the_new_release(rt: HostRuntime) {
     for row in NEW {
         assert!(rt; row.0 >= 1 && row.0 <= 4096);
-        let made = generate(rt.alloc(), row.0)?;
-        assert!(rt; has(rt.alloc(), &made.new, row)?, "{row:?}");
+        let made = generate(rt.alloc(), row.0).expect(&rt, "memory");
+        assert!(rt; has(&rt, rt.alloc(), &made.new, row), "{row:?}");
     }
-    Ok(())
 }
 
 #[test]
-fn the_platform_is_its_root(rt: HostRuntime) -> Result<(), Fail> {
+fn the_platform_is_its_root(rt: HostRuntime) {
     let alloc = rt.alloc();
-    let made = generate(alloc, 8)?;
-    let name = Name::from_bytes(alloc, b"java/lang/Object")?;
-    let root = ClassFacts::plain(alloc, name, None, Vec::new(alloc), methods(alloc, &[INIT])?);
+    let made = generate(alloc, 8).expect(&rt, "memory");
+    let name = Name::from_bytes(alloc, b"java/lang/Object").expect(&rt, "memory");
+    let root = ClassFacts::plain(
+        alloc,
+        name,
+        None,
+        Vec::new(alloc),
+        methods(&rt, alloc, &[INIT]),
+    );
     let platform = made.platform.as_slice();
     assert!(rt; platform.len() == 1 && platform.get(0) == Some(&root));
-    Ok(())
 }
 
 /// How many classes, findings, collisions and notes there are, and the text.
@@ -227,66 +234,65 @@ const TEXTS: &[TextRow] = &[
     ),
 ];
 
-fn finding(alloc: Global) -> Result<Finding, AllocError> {
-    Ok(Finding {
+fn finding(rt: &impl Abort, alloc: Global) -> Finding {
+    Finding {
         rule: 1,
-        class: Name::from_bytes(alloc, b"p/A")?,
+        class: Name::from_bytes(alloc, b"p/A").expect(rt, "memory"),
         key: None,
         target: None,
         act: Act::ClassRef,
         seat: None,
         error: LinkError::NoClassDefFoundError,
-    })
+    }
 }
 
-fn collision(alloc: Global) -> Result<Collision, AllocError> {
-    Ok(Collision {
+fn collision(rt: &impl Abort, alloc: Global) -> Collision {
+    Collision {
         rule: 11,
-        class: Name::from_bytes(alloc, b"p/A")?,
+        class: Name::from_bytes(alloc, b"p/A").expect(rt, "memory"),
         key: Key {
-            name: Name::from_bytes(alloc, b"run")?,
-            descriptor: Name::from_bytes(alloc, b"()V")?,
+            name: Name::from_bytes(alloc, b"run").expect(rt, "memory"),
+            descriptor: Name::from_bytes(alloc, b"()V").expect(rt, "memory"),
         },
         act: Act::InvokeVirtual,
         error: LinkError::IllegalAccessError,
-    })
+    }
 }
 
-fn note(alloc: Global) -> Result<Note, AllocError> {
-    Ok(Note::Unloadable {
+fn note(rt: &impl Abort, alloc: Global) -> Note {
+    Note::Unloadable {
         old: true,
-        class: Name::from_bytes(alloc, b"p/A")?,
+        class: Name::from_bytes(alloc, b"p/A").expect(rt, "memory"),
         error: LinkError::ClassCircularityError,
-    })
+    }
 }
 
 // A verdict of so many findings, collisions and notes.
-fn verdict(alloc: Global, row: &TextRow) -> Result<Verdict, AllocError> {
+fn verdict(rt: &impl Abort, alloc: Global, row: &TextRow) -> Verdict {
     let mut findings = Vec::new(alloc);
     for _ in 0..row.1 {
-        findings.push(finding(alloc)?)?;
+        findings.push(finding(rt, alloc)).expect(rt, "memory");
     }
     let mut collisions = Vec::new(alloc);
     for _ in 0..row.2 {
-        collisions.push(collision(alloc)?)?;
+        collisions.push(collision(rt, alloc)).expect(rt, "memory");
     }
     let mut notes = Vec::new(alloc);
     for _ in 0..row.3 {
-        notes.push(note(alloc)?)?;
+        notes.push(note(rt, alloc)).expect(rt, "memory");
     }
-    Ok(Verdict {
+    Verdict {
         findings: Items::from_vec(findings),
         collisions: Items::from_vec(collisions),
         notes: Items::from_vec(notes),
-    })
+    }
 }
 
 #[test]
-fn texts_of_five_lines(rt: HostRuntime) -> Result<(), Fail> {
+fn texts_of_five_lines(rt: HostRuntime) {
     for row in TEXTS {
-        let verdict = verdict(rt.alloc(), row)?;
-        let text = made_text(rt.alloc(), row.0, &verdict)?;
+        let verdict = verdict(&rt, rt.alloc(), row);
+        let text = made_text(rt.alloc(), row.0, &verdict).expect(&rt, "memory");
         assert_eq!(rt; text.as_slice(), row.4.as_bytes(), "{row:?}");
     }
-    Ok(())
 }

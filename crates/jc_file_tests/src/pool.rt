@@ -2,9 +2,8 @@
 use jc_desc::fault::Reason;
 use jc_desc::tags;
 use jc_pool::pool::{HandleRef, MemberRef, Pool, PoolConstant, PoolError};
-use std::alloc::{AllocError, AllocGlobal, Global};
+use std::alloc::Global;
 use std::process::Abort;
-use std::test::Fail;
 
 /// The class `p/A` without members: its pool ends at 41.
 const PLAIN: [u8; 55] = [
@@ -20,50 +19,46 @@ const ENTRIES: &[u8] =
 /// Where the first fault is, and which.
 type Fault = Option<(u32, Reason)>;
 
-fn fault_of(alloc: Global, bytes: &[u8]) -> Result<Fault, AllocError> {
-    if bytes.len() > 4_194_304 {
-        return Ok(None);
-    }
+fn fault_of(rt: &impl Abort, alloc: Global, bytes: &[u8]) -> Fault {
+    assert!(rt; bytes.len() <= 4_194_304);
     match Pool::read(alloc, bytes) {
-        Ok(_) => Ok(None),
-        Err(PoolError::Malformed(fault)) => Ok(Some((fault.offset, fault.reason))),
-        Err(PoolError::Memory) => Err(AllocError),
+        Ok(_) => None,
+        Err(PoolError::Malformed(fault)) => Some((fault.offset, fault.reason)),
+        Err(PoolError::Memory) => panic!(rt; "memory"),
     }
 }
 
 const CUTS: &[u32] = &[0, 3, 5, 7, 9, 10, 12, 15, 18, 24, 40];
 
 #[test]
-fn plain_class_cut_short(rt: HostRuntime) -> Result<(), Fail> {
+fn plain_class_cut_short(rt: HostRuntime) {
     for len in CUTS {
         let (front, _) = PLAIN.split_at((*len as usize).min(PLAIN.len()));
-        let fault = fault_of(rt.alloc(), front)?;
+        let fault = fault_of(&rt, rt.alloc(), front);
         assert_eq!(rt; fault, Some((*len, Reason::Short)), "the first {len}");
     }
-    assert_eq!(rt; fault_of(rt.alloc(), &PLAIN[..41])?, None);
-    Ok(())
+    assert_eq!(rt; fault_of(&rt, rt.alloc(), &PLAIN[..41]), None);
 }
 
 /// The plain class with other bytes from a place on.
-fn changed(alloc: Global, place: usize, new: &[u8]) -> Result<Vec<u8>, AllocError> {
+fn changed(rt: &impl Abort, alloc: Global, place: usize, new: &[u8]) -> Vec<u8> {
     let mut bytes = Vec::new(alloc);
     let (front, rest) = PLAIN.split_at(place.min(PLAIN.len()));
-    bytes.extend_from_slice(front)?;
-    bytes.extend_from_slice(new)?;
+    bytes.extend_from_slice(front).expect(rt, "memory");
+    bytes.extend_from_slice(new).expect(rt, "memory");
     let (_, behind) = rest.split_at(new.len().min(rest.len()));
-    bytes.extend_from_slice(behind)?;
-    Ok(bytes)
+    bytes.extend_from_slice(behind).expect(rt, "memory");
+    bytes
 }
 
 /// A place, what stands there, and the first fault.
 type Change = (usize, &'static [u8], Fault);
 
-fn check(rt: &(impl Abort + AllocGlobal), changes: &[Change]) -> Result<(), AllocError> {
+fn check(rt: &impl Abort, alloc: Global, changes: &[Change]) {
     for (place, new, want) in changes {
-        let bytes = changed(rt.alloc(), *place, new)?;
-        assert_eq!(rt; fault_of(rt.alloc(), &bytes)?, *want, "{new:?} at {place}");
+        let bytes = changed(rt, alloc, *place, new);
+        assert!(rt; fault_of(rt, alloc, &bytes) == *want, "{new:?} at {place}");
     }
-    Ok(())
 }
 
 const CHANGES: &[Change] = &[
@@ -91,24 +86,24 @@ const VERSIONS: &[Change] = &[
 ];
 
 #[test]
-fn plain_class_with_one_byte_changed(rt: HostRuntime) -> Result<(), Fail> {
-    check(&rt, CHANGES)?;
-    Ok(())
+fn plain_class_with_one_byte_changed(rt: HostRuntime) {
+    check(&rt, rt.alloc(), CHANGES);
 }
 
 #[test]
-fn minor_is_strict_from_major_56_on(rt: HostRuntime) -> Result<(), Fail> {
-    check(&rt, VERSIONS)?;
-    Ok(())
+fn minor_is_strict_from_major_56_on(rt: HostRuntime) {
+    check(&rt, rt.alloc(), VERSIONS);
 }
 
-fn with_entries(alloc: Global, count: u8, entries: &[u8]) -> Result<Vec<u8>, AllocError> {
+fn with_entries(rt: &impl Abort, alloc: Global, count: u8, entries: &[u8]) -> Vec<u8> {
     let mut bytes = Vec::new(alloc);
-    bytes.extend_from_slice(b"\xca\xfe\xba\xbe\x00\x00\x00\x34\x00")?;
-    bytes.push(count)?;
-    bytes.extend_from_slice(ENTRIES)?;
-    bytes.extend_from_slice(entries)?;
-    Ok(bytes)
+    bytes
+        .extend_from_slice(b"\xca\xfe\xba\xbe\x00\x00\x00\x34\x00")
+        .expect(rt, "memory");
+    bytes.push(count).expect(rt, "memory");
+    bytes.extend_from_slice(ENTRIES).expect(rt, "memory");
+    bytes.extend_from_slice(entries).expect(rt, "memory");
+    bytes
 }
 
 /// A count, entries from 18 on at offset 102, and the first fault.
@@ -194,17 +189,20 @@ const ENTRY_ROWS: &[(u8, &[u8], Fault)] = &[
 ];
 
 #[test]
-fn entry_18_and_what_it_names(rt: HostRuntime) -> Result<(), Fail> {
+fn entry_18_and_what_it_names(rt: HostRuntime) {
     for (count, entries, want) in ENTRY_ROWS {
-        let bytes = with_entries(rt.alloc(), *count, entries)?;
-        assert_eq!(rt; fault_of(rt.alloc(), &bytes)?, *want, "{count} {entries:?}");
+        let bytes = with_entries(&rt, rt.alloc(), *count, entries);
+        assert_eq!(rt;
+            fault_of(&rt, rt.alloc(), &bytes),
+            *want,
+            "{count} {entries:?}"
+        );
     }
-    Ok(())
 }
 
 #[test]
-fn plain_class_answers(rt: HostRuntime) -> Result<(), Fail> {
-    let (pool, offset) = Pool::read(rt.alloc(), &PLAIN)?;
+fn plain_class_answers(rt: HostRuntime) {
+    let (pool, offset) = Pool::read(rt.alloc(), &PLAIN).expect(&rt, "memory");
     assert_eq!(rt; offset, 41);
     assert_eq!(rt; pool.major(), 52);
     assert_eq!(rt; pool.class(1), Some(b"p/A".as_slice()));
@@ -214,7 +212,6 @@ fn plain_class_answers(rt: HostRuntime) -> Result<(), Fail> {
     assert_eq!(rt; pool.tag(4), Some(1));
     assert_eq!(rt; pool.tag(0), None);
     assert_eq!(rt; pool.tag(5), None);
-    Ok(())
 }
 
 /// The entries of `KIND_ENTRIES`: an index, its tag, its bootstrap method and its constant.
@@ -236,23 +233,22 @@ const KIND_ENTRIES: &[u8] =
     b"\x05\x00\x00\x00\x01\x00\x00\x00\x02\x0f\x08\x00\x0f\x12\x00\x07\x00\x05\x03\x00\x00\x00\x40\x08\x00\x03\x04\x3f\x80\x00\x00";
 
 #[test]
-fn entries_answer_by_their_kind(rt: HostRuntime) -> Result<(), Fail> {
-    let bytes = with_entries(rt.alloc(), 25, KIND_ENTRIES)?;
+fn entries_answer_by_their_kind(rt: HostRuntime) {
+    let bytes = with_entries(&rt, rt.alloc(), 25, KIND_ENTRIES);
     assert!(rt; bytes.len() < 200);
-    let (pool, _) = Pool::read(rt.alloc(), &bytes)?;
+    let (pool, _) = Pool::read(rt.alloc(), &bytes).expect(&rt, "memory");
     for (index, tag, dynamic, constant) in KINDS {
         assert_eq!(rt; pool.tag(*index), *tag, "tag of {index}");
         assert_eq!(rt; pool.dynamic(*index), *dynamic, "bootstrap of {index}");
         assert_eq!(rt; pool.constant(*index), *constant, "constant of {index}");
     }
-    Ok(())
 }
 
 #[test]
-fn members_and_handles(rt: HostRuntime) -> Result<(), Fail> {
-    let bytes = with_entries(rt.alloc(), 19, b"\x0f\x08\x00\x0f")?;
+fn members_and_handles(rt: HostRuntime) {
+    let bytes = with_entries(&rt, rt.alloc(), 19, b"\x0f\x08\x00\x0f");
     assert!(rt; bytes.len() < 200);
-    let (pool, _) = Pool::read(rt.alloc(), &bytes)?;
+    let (pool, _) = Pool::read(rt.alloc(), &bytes).expect(&rt, "memory");
     let method = MemberRef {
         tag: tags::INTERFACE_METHOD_REF,
         class: b"A",
@@ -275,5 +271,4 @@ fn members_and_handles(rt: HostRuntime) -> Result<(), Fail> {
         })
     );
     assert_eq!(rt; pool.handle(16), None);
-    Ok(())
 }

@@ -2,9 +2,8 @@
 use jc_desc::fault::{Malformed, Reason};
 use jc_facts::class_facts::Constant;
 use jc_read::read::{ReadError, read_class};
-use std::alloc::{AllocError, Global};
+use std::alloc::Global;
 use std::process::Abort;
-use std::test::Fail;
 
 /// The class `p/A` without members.
 pub(crate) const PLAIN: &[u8] =
@@ -183,62 +182,59 @@ const HOLDER_ROWS: &[Row] = &[
     ),
 ];
 
-fn changed(alloc: Global, bytes: &[u8], edits: &[Edit]) -> Result<Vec<u8>, AllocError> {
+fn changed(rt: &impl Abort, alloc: Global, bytes: &[u8], edits: &[Edit]) -> Vec<u8> {
     let mut made = Vec::new(alloc);
     let mut rest = bytes;
     let mut place = 0;
     for (at, len, new) in edits {
         let (kept, cut) = rest.split_at(at.saturating_sub(place).min(rest.len()));
         let (_, behind) = cut.split_at((*len).min(cut.len()));
-        made.extend_from_slice(kept)?;
-        made.extend_from_slice(new)?;
+        made.extend_from_slice(kept).expect(rt, "memory");
+        made.extend_from_slice(new).expect(rt, "memory");
         rest = behind;
         place = at.saturating_add(*len);
     }
-    made.extend_from_slice(rest)?;
-    Ok(made)
+    made.extend_from_slice(rest).expect(rt, "memory");
+    made
 }
 
 // The first fault of the bytes.
-pub(crate) fn fault_of(alloc: Global, bytes: &[u8]) -> Result<Option<Malformed>, AllocError> {
-    if bytes.len() > 1000 {
-        return Ok(None);
-    }
+pub(crate) fn fault_of(rt: &impl Abort, alloc: Global, bytes: &[u8]) -> Option<Malformed> {
+    assert!(rt; bytes.len() <= 1000);
     match read_class(alloc, bytes) {
-        Ok(_) => Ok(None),
-        Err(ReadError::Malformed(malformed)) => Ok(Some(malformed)),
-        Err(ReadError::Memory) => Err(AllocError),
+        Ok(_) => None,
+        Err(ReadError::Malformed(malformed)) => Some(malformed),
+        Err(ReadError::Memory) => panic!(rt; "memory"),
     }
 }
 
-fn check(rt: &(impl Abort + AllocGlobal), bytes: &[u8], rows: &[Row]) -> Result<(), AllocError> {
+// Whether the first fault is this one.
+fn is_fault(fault: Option<Malformed>, want: Option<(u32, Reason)>) -> bool {
+    match (fault, want) {
+        (None, None) => true,
+        (Some(fault), Some((offset, reason))) => fault.offset == offset && fault.reason == reason,
+        _ => false,
+    }
+}
+
+fn check(rt: &impl Abort, alloc: Global, bytes: &[u8], rows: &[Row]) {
     for (what, edits, want) in rows {
-        let changed = changed(rt.alloc(), bytes, edits)?;
-        let fault = fault_of(rt.alloc(), changed.as_slice())?;
-        match (fault, *want) {
-            (None, None) => {}
-            (Some(fault), Some((offset, reason))) => {
-                assert_eq!(rt; fault.offset, offset, "the offset with {what}");
-                assert_eq!(rt; fault.reason, reason, "the reason with {what}");
-            }
-            (Some(_), None) => assert!(rt; false, "a fault with {what}"),
-            (None, Some(_)) => assert!(rt; false, "no fault with {what}"),
-        }
+        let changed = changed(rt, alloc, bytes, edits);
+        let fault = fault_of(rt, alloc, changed.as_slice());
+        assert!(rt; is_fault(fault, *want), "{what}");
     }
-    Ok(())
 }
 
 #[test]
-fn first_faults_of_changed_files(rt: HostRuntime) -> Result<(), Fail> {
-    check(&rt, PLAIN, PLAIN_ROWS)?;
-    check(&rt, USER, USER_ROWS)?;
-    check(&rt, HOLDER, HOLDER_ROWS)?;
-    Ok(())
+fn first_faults_of_changed_files(rt: HostRuntime) {
+    check(&rt, rt.alloc(), PLAIN, PLAIN_ROWS);
+    check(&rt, rt.alloc(), USER, USER_ROWS);
+    check(&rt, rt.alloc(), HOLDER, HOLDER_ROWS);
 }
 
 #[test]
-fn the_record_of_a_plain_class(rt: HostRuntime) -> Result<(), Fail> {
-    let facts = read_class(rt.alloc(), PLAIN)?;
+fn the_record_of_a_plain_class(rt: HostRuntime) {
+    let facts = read_class(rt.alloc(), PLAIN).expect(&rt, "memory");
     assert!(rt; facts.name.as_bytes() == b"p/A".as_slice());
     assert_eq!(rt; facts.major, 52);
     assert_eq!(rt; facts.flags, 33);
@@ -251,22 +247,22 @@ fn the_record_of_a_plain_class(rt: HostRuntime) -> Result<(), Fail> {
     assert!(rt; facts.methods.as_slice().is_empty());
     assert!(rt; facts.permits.is_none());
     assert!(rt; facts.nest_host.is_none());
-    Ok(())
+}
+
+// How many constants the holder has with these flags of its field, each of which is the number 64.
+fn count_constants(rt: &impl Abort, alloc: Global, flags: &'static [u8]) -> usize {
+    let bytes = changed(rt, alloc, HOLDER, &[(93, 1, flags)]);
+    assert!(rt; bytes.len() <= 1000);
+    let facts = read_class(alloc, bytes.as_slice()).expect(rt, "read");
+    assert!(rt; facts.signatures.as_slice().len() == 1);
+    for fixed in facts.constants.as_slice() {
+        assert!(rt; fixed.value == Constant::Int(64));
+    }
+    facts.constants.as_slice().len()
 }
 
 #[test]
-fn the_constant_of_a_static_field(rt: HostRuntime) -> Result<(), Fail> {
-    for (flags, constants) in [(b"\x18".as_slice(), 1usize), (b"\x10".as_slice(), 0)] {
-        let bytes = changed(rt.alloc(), HOLDER, &[(93, 1, flags)])?;
-        if bytes.len() > 1000 {
-            return Ok(());
-        }
-        let facts = read_class(rt.alloc(), bytes.as_slice())?;
-        assert_eq!(rt; facts.constants.as_slice().len(), constants);
-        assert_eq!(rt; facts.signatures.as_slice().len(), 1);
-        for fixed in facts.constants.as_slice() {
-            assert!(rt; fixed.value == Constant::Int(64));
-        }
-    }
-    Ok(())
+fn the_constant_of_a_static_field(rt: HostRuntime) {
+    assert!(rt; count_constants(&rt, rt.alloc(), b"\x18") == 1);
+    assert!(rt; count_constants(&rt, rt.alloc(), b"\x10") == 0);
 }

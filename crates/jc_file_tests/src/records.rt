@@ -1,8 +1,8 @@
 //! For each rule, a record that breaks it alone, beside one that doesn't.
 use crate::classes::{Declared, Row, class, plain};
 use jc_facts::validity::is_valid;
-use std::alloc::{AllocError, Global};
-use std::test::Fail;
+use std::alloc::Global;
+use std::process::Abort;
 
 /// Major and flags of a class, its name, its superclass (none where it is empty) and an interface,
 /// and whether the record is valid.
@@ -128,12 +128,12 @@ const INT_FIELDS: &[Declared<'static>] = &[
     (b"g", b"I", 0),
 ];
 
-fn valid(alloc: Global, row: &Row) -> Result<bool, AllocError> {
-    is_valid(alloc, &class(alloc, row)?)
+fn valid(rt: &impl Abort, alloc: Global, row: &Row) -> bool {
+    is_valid(alloc, &class(rt, alloc, row)).expect(rt, "memory")
 }
 
 #[test]
-fn rules_on_the_class(rt: HostRuntime) -> Result<(), Fail> {
+fn rules_on_the_class(rt: HostRuntime) {
     for row in CLASSES {
         let made = Row {
             name: row.2,
@@ -141,61 +141,57 @@ fn rules_on_the_class(rt: HostRuntime) -> Result<(), Fail> {
             interfaces: &[row.4],
             ..plain(row.0, row.1)
         };
-        assert_eq!(rt; valid(rt.alloc(), &made)?, row.5, "{row:?}");
+        assert_eq!(rt; valid(&rt, rt.alloc(), &made), row.5, "{row:?}");
     }
-    Ok(())
 }
 
 #[test]
-fn rules_on_a_field(rt: HostRuntime) -> Result<(), Fail> {
+fn rules_on_a_field(rt: HostRuntime) {
     for row in FIELDS {
         let made = Row {
             fields: &[(row.2, row.3, row.4)],
             ..plain(row.0, row.1)
         };
-        assert_eq!(rt; valid(rt.alloc(), &made)?, row.5, "{row:?}");
+        assert_eq!(rt; valid(&rt, rt.alloc(), &made), row.5, "{row:?}");
     }
-    Ok(())
 }
 
 #[test]
-fn rules_on_a_method(rt: HostRuntime) -> Result<(), Fail> {
+fn rules_on_a_method(rt: HostRuntime) {
     for row in METHODS {
         let made = Row {
             methods: &[(row.2, row.3, row.4)],
             ..plain(row.0, row.1)
         };
-        assert_eq!(rt; valid(rt.alloc(), &made)?, row.5, "{row:?}");
+        assert_eq!(rt; valid(&rt, rt.alloc(), &made), row.5, "{row:?}");
     }
-    Ok(())
 }
 
 #[test]
-fn keys_that_stand_twice(rt: HostRuntime) -> Result<(), Fail> {
+fn keys_that_stand_twice(rt: HostRuntime) {
     for row in TWO_FIELDS {
         let fields = Row {
             fields: &[(row.0, b"I", 0), (row.1, b"I", 1)],
             ..plain(61, 0x0021)
         };
-        assert_eq!(rt; valid(rt.alloc(), &fields)?, row.3, "fields {row:?}");
+        assert_eq!(rt; valid(&rt, rt.alloc(), &fields), row.3, "fields {row:?}");
         let methods = Row {
             methods: &[(row.0, b"()V", 0), (row.1, b"()V", 1)],
             ..plain(61, 0x0021)
         };
-        assert_eq!(rt; valid(rt.alloc(), &methods)?, row.3, "methods {row:?}");
+        assert_eq!(rt; valid(&rt, rt.alloc(), &methods), row.3, "methods {row:?}");
     }
-    Ok(())
 }
 
 #[test]
-fn constants_and_signatures(rt: HostRuntime) -> Result<(), Fail> {
+fn constants_and_signatures(rt: HostRuntime) {
     for row in CONSTANTS {
         let made = Row {
             fields: INT_FIELDS,
             constants: &[(row.0, b""), (row.1, row.2)],
             ..plain(61, 0x0021)
         };
-        assert_eq!(rt; valid(rt.alloc(), &made)?, row.3, "constants {row:?}");
+        assert_eq!(rt; valid(&rt, rt.alloc(), &made), row.3, "constants {row:?}");
     }
     for row in SIGNATURES {
         let made = Row {
@@ -203,13 +199,12 @@ fn constants_and_signatures(rt: HostRuntime) -> Result<(), Fail> {
             signatures: &[(row.0, row.2), (row.1, b"TT;")],
             ..plain(61, 0x0021)
         };
-        assert_eq!(rt; valid(rt.alloc(), &made)?, row.3, "signatures {row:?}");
+        assert_eq!(rt; valid(&rt, rt.alloc(), &made), row.3, "signatures {row:?}");
     }
-    Ok(())
 }
 
 #[test]
-fn nests_and_permitted_subclasses(rt: HostRuntime) -> Result<(), Fail> {
+fn nests_and_permitted_subclasses(rt: HostRuntime) {
     for row in NESTS {
         let plain = plain(row.0, 0x0021);
         let permits = Row {
@@ -224,9 +219,12 @@ fn nests_and_permitted_subclasses(rt: HostRuntime) -> Result<(), Fail> {
             nest_members: &[row.1],
             ..plain
         };
-        assert_eq!(rt; valid(rt.alloc(), &permits)?, row.2, "permits {row:?}");
-        assert_eq!(rt; valid(rt.alloc(), &host)?, row.3, "nest host {row:?}");
-        assert_eq!(rt; valid(rt.alloc(), &members)?, row.3, "nest members {row:?}");
+        assert_eq!(rt; valid(&rt, rt.alloc(), &permits), row.2, "permits {row:?}");
+        assert_eq!(rt; valid(&rt, rt.alloc(), &host), row.3, "nest host {row:?}");
+        assert_eq!(rt;
+            valid(&rt, rt.alloc(), &members),
+            row.3,
+            "nest members {row:?}"
+        );
     }
-    Ok(())
 }

@@ -8,8 +8,8 @@ use jc_facts::link_error::LinkError;
 use jc_facts::verdict::{Collision, Note, Verdict};
 use jc_report::json::json;
 use jc_report::text::text;
-use std::alloc::{AllocError, Global};
-use std::test::Fail;
+use std::alloc::Global;
+use std::process::Abort;
 
 type Bytes = &'static [u8];
 
@@ -167,89 +167,92 @@ const JSON: &str =
     r#"{"collisions":[{"class":"p/I","error":"IncompatibleClassChangeError","member":"f:I","number":11,"operation":"getfield","rule":"Constant","seat":null},{"class":"p/A","error":"IllegalAccessError","member":"run()V","number":12,"operation":"invokevirtual","rule":"Capture","seat":null},{"class":"p/A","error":"IncompatibleClassChangeError","member":"close()V","number":13,"operation":"override","rule":"Final","seat":null}],"findings":[{"class":"p/\\\\\\x20\\xc3\\xa9","error":"NoClassDefFoundError","member":null,"number":1,"operation":"class","rule":"H1","seat":null},{"class":"p/B","error":"IncompatibleClassChangeError","member":null,"number":2,"operation":"extend","rule":"H2","seat":null},{"class":"p/I","error":"VerifyError","member":null,"number":3,"operation":"assign","rule":"H3","seat":null},{"class":"p/A","error":"VerifyError","member":"p/B","number":4,"operation":"assign","rule":"H4","seat":null},{"class":"p/A","error":"IllegalAccessError","member":"<init>()V","number":5,"operation":"new","rule":"H5","seat":null},{"class":"p/B","error":"NoSuchMethodError","member":"<init>()V","number":6,"operation":"init","rule":"H5","seat":null},{"class":"p/A","error":"IncompatibleClassChangeError","member":"m()V","number":7,"operation":"override","rule":"H6","seat":null},{"class":"p/D","error":"NoSuchFieldError","member":"f:I","number":8,"operation":"getstatic","rule":"H7","seat":"p/C"},{"class":"p/A","error":"InstantiationError","member":"m([I)Ljava/lang/Object;","number":9,"operation":"invokestatic-interface","rule":"H8","seat":"java/lang/Object"},{"class":"p/I","error":"NoSuchMethodError","member":"n()I","number":10,"operation":"inherit","rule":"H9","seat":null}],"notes":[{"class":"p/X","detail":"ClassCircularityError","kind":"unloadable","member":null,"side":"old"},{"class":"p/Y","detail":"NoClassDefFoundError","kind":"unloadable","member":null,"side":"new"},{"class":"p/A","detail":null,"kind":"constant","member":"f:I","side":null}],"verdict":"incompatible"}
 "#;
 
-fn name(alloc: Global, bytes: Option<&[u8]>) -> Result<Option<Name>, AllocError> {
+fn name(rt: &impl Abort, alloc: Global, bytes: Option<&[u8]>) -> Option<Name> {
     match bytes {
-        Some(bytes) => Ok(Some(Name::from_bytes(alloc, bytes)?)),
-        None => Ok(None),
+        Some(bytes) => Some(Name::from_bytes(alloc, bytes).expect(rt, "memory")),
+        None => None,
     }
 }
 
-fn key(alloc: Global, parts: (&[u8], &[u8])) -> Result<Key, AllocError> {
-    Ok(Key {
-        name: Name::from_bytes(alloc, parts.0)?,
-        descriptor: Name::from_bytes(alloc, parts.1)?,
-    })
+fn key(rt: &impl Abort, alloc: Global, parts: (&[u8], &[u8])) -> Key {
+    Key {
+        name: Name::from_bytes(alloc, parts.0).expect(rt, "memory"),
+        descriptor: Name::from_bytes(alloc, parts.1).expect(rt, "memory"),
+    }
 }
 
-fn finding(alloc: Global, row: &FindingRow) -> Result<Finding, AllocError> {
+fn finding(rt: &impl Abort, alloc: Global, row: &FindingRow) -> Finding {
     let key = match row.2 {
-        Some(parts) => Some(key(alloc, parts)?),
+        Some(parts) => Some(key(rt, alloc, parts)),
         None => None,
     };
-    Ok(Finding {
+    Finding {
         rule: row.0,
-        class: Name::from_bytes(alloc, row.1)?,
+        class: Name::from_bytes(alloc, row.1).expect(rt, "memory"),
         key,
-        target: name(alloc, row.3)?,
+        target: name(rt, alloc, row.3),
         act: row.4,
-        seat: name(alloc, row.5)?,
+        seat: name(rt, alloc, row.5),
         error: row.6,
-    })
+    }
 }
 
-fn collision(alloc: Global, row: &CollisionRow) -> Result<Collision, AllocError> {
-    Ok(Collision {
+fn collision(rt: &impl Abort, alloc: Global, row: &CollisionRow) -> Collision {
+    Collision {
         rule: row.0,
-        class: Name::from_bytes(alloc, row.1)?,
-        key: key(alloc, row.2)?,
+        class: Name::from_bytes(alloc, row.1).expect(rt, "memory"),
+        key: key(rt, alloc, row.2),
         act: row.3,
         error: row.4,
-    })
+    }
 }
 
-fn notes(alloc: Global) -> Result<Vec<Note>, AllocError> {
+fn notes(rt: &impl Abort, alloc: Global) -> Vec<Note> {
     let mut notes = Vec::new(alloc);
     for (old, class, error) in [
         (true, b"p/X", LinkError::ClassCircularityError),
         (false, b"p/Y", LinkError::NoClassDefFoundError),
     ] {
-        let class = Name::from_bytes(alloc, class)?;
-        notes.push(Note::Unloadable { old, class, error })?;
+        let class = Name::from_bytes(alloc, class).expect(rt, "memory");
+        notes
+            .push(Note::Unloadable { old, class, error })
+            .expect(rt, "memory");
     }
-    let class = Name::from_bytes(alloc, b"p/A")?;
-    let key = key(alloc, (b"f", b"I"))?;
-    notes.push(Note::Fixed { class, key })?;
-    Ok(notes)
+    let class = Name::from_bytes(alloc, b"p/A").expect(rt, "memory");
+    let key = key(rt, alloc, (b"f", b"I"));
+    notes.push(Note::Fixed { class, key }).expect(rt, "memory");
+    notes
 }
 
 // The verdict of all rows.
-fn verdict(alloc: Global) -> Result<Verdict, AllocError> {
+fn verdict(rt: &impl Abort, alloc: Global) -> Verdict {
     let mut findings = Vec::new(alloc);
     for row in FINDINGS {
-        findings.push(finding(alloc, row)?)?;
+        findings.push(finding(rt, alloc, row)).expect(rt, "memory");
     }
     let mut collisions = Vec::new(alloc);
     for row in COLLISIONS {
-        collisions.push(collision(alloc, row)?)?;
+        collisions
+            .push(collision(rt, alloc, row))
+            .expect(rt, "memory");
     }
-    Ok(Verdict {
+    Verdict {
         findings: Items::from_vec(findings),
         collisions: Items::from_vec(collisions),
-        notes: Items::from_vec(notes(alloc)?),
-    })
+        notes: Items::from_vec(notes(rt, alloc)),
+    }
 }
 
 #[test]
-fn prints_each_rule_and_note(rt: HostRuntime) -> Result<(), Fail> {
+fn prints_each_rule_and_note(rt: HostRuntime) {
     let alloc = rt.alloc();
-    let verdict = verdict(alloc)?;
-    assert!(rt; text(alloc, &verdict)?.as_slice() == TEXT.as_bytes());
-    assert!(rt; json(alloc, &verdict)?.as_slice() == JSON.as_bytes());
-    Ok(())
+    let verdict = verdict(&rt, alloc);
+    assert!(rt; text(alloc, &verdict).expect(&rt, "memory").as_slice() == TEXT.as_bytes());
+    assert!(rt; json(alloc, &verdict).expect(&rt, "memory").as_slice() == JSON.as_bytes());
 }
 
 #[test]
-fn prints_the_last_line_alone(rt: HostRuntime) -> Result<(), Fail> {
+fn prints_the_last_line_alone(rt: HostRuntime) {
     let alloc = rt.alloc();
     let verdict = Verdict {
         findings: Items::from_vec(Vec::new(alloc)),
@@ -257,6 +260,5 @@ fn prints_the_last_line_alone(rt: HostRuntime) -> Result<(), Fail> {
         notes: Items::from_vec(Vec::new(alloc)),
     };
     let line = b"compatible: 0 findings, 0 collisions, 0 notes\n";
-    assert!(rt; text(alloc, &verdict)?.as_slice() == line.as_slice());
-    Ok(())
+    assert!(rt; text(alloc, &verdict).expect(&rt, "memory").as_slice() == line.as_slice());
 }

@@ -3,7 +3,6 @@ use jc_desc::field::{Base, field_type};
 use jc_desc::method::{method_type, returns_void, slots};
 use jc_desc::names::{is_class_name, is_member_name};
 use jc_desc::utf8::is_text;
-use std::test::Fail;
 
 const CLASS_NAMES: &[(&str, bool)] = &[
     ("java/lang/Object", true),
@@ -77,32 +76,36 @@ fn slots_of_method_descriptors(rt: HostRuntime) {
 }
 
 #[test]
-fn types_are_read(rt: HostRuntime) -> Result<(), Fail> {
-    let method = method_type(rt.alloc(), b"(IJ[Ljava/lang/String;)V")?.ok_or("a method")?;
+fn types_are_read(rt: HostRuntime) {
+    let method = method_type(rt.alloc(), b"(IJ[Ljava/lang/String;)V")
+        .expect(&rt, "memory")
+        .expect(&rt, "a method");
     let params = method.params.as_slice();
     assert_eq!(rt; params.len(), 3);
     assert_eq!(rt; params[1].base, Base::Long);
     assert_eq!(rt; params[2].dims, 1);
     assert_eq!(rt; params[2].base, Base::Class(b"java/lang/String"));
     assert!(rt; method.result.is_none());
-    assert!(rt; method_type(rt.alloc(), b"(I")?.is_none());
+    assert!(rt;
+        method_type(rt.alloc(), b"(I")
+            .expect(&rt, "memory")
+            .is_none()
+    );
     for text in ["V", "Lp/A", "Lp//A;", "L;", "[", "II", "", "p/A"] {
         assert!(rt; field_type(text.as_bytes()).is_none(), "at {text}");
     }
-    Ok(())
 }
 
 #[test]
-fn arrays_have_at_most_255_dimensions(rt: HostRuntime) -> Result<(), Fail> {
+fn arrays_have_at_most_255_dimensions(rt: HostRuntime) {
     let mut text = Vec::new(rt.alloc());
     for _ in 0..256 {
-        text.push(b'[')?;
+        text.push(b'[').expect(&rt, "memory");
     }
-    text.push(b'I')?;
-    let most = field_type(&text[1..]).ok_or("255 dimensions")?;
+    text.push(b'I').expect(&rt, "memory");
+    let most = field_type(&text[1..]).expect(&rt, "255 dimensions");
     assert_eq!(rt; most.dims, 255);
     assert!(rt; field_type(&text).is_none());
-    Ok(())
 }
 
 const UTF8: &[([u8; 3], bool)] = &[

@@ -1,7 +1,8 @@
 //! A small assembler of class files without code (JVMS 4.1).
 use jc_base::mem_file::MemFile;
 use jc_base::text::Text;
-use std::alloc::{AllocError, Global};
+use std::alloc::Global;
+use std::process::Abort;
 
 const OBJECT: &str = "java/lang/Object";
 
@@ -72,30 +73,30 @@ impl<'a> Class<'a> {
     /// A class of this name, and what the words say of it: `init` is a public constructor without
     /// parameters, `flags=21` its flags, `method=1:m:()V` a method, and so on.
     pub(crate) fn from_words(
+        rt: &impl Abort,
         alloc: Global,
         name: &'a str,
         words: &'a str,
-    ) -> Result<Class<'a>, AllocError> {
+    ) -> Class<'a> {
         let mut class = Class::new(alloc, name);
         for word in words.split_whitespace() {
-            class.take(word)?;
+            class.take(rt, word);
         }
-        Ok(class)
+        class
     }
 
     // Takes a word. One that says nothing spoils the class file.
-    fn take(&mut self, word: &'a str) -> Result<(), AllocError> {
+    fn take(&mut self, rt: &impl Abort, word: &'a str) {
         let (key, value) = cut(word, '=');
         match key {
-            "init" => self.methods.push(member_of("1:<init>:()V"))?,
-            "method" => self.methods.push(member_of(value))?,
-            "field" => self.fields.push(member_of(value))?,
-            "implements" => self.interfaces.push(value)?,
-            "permits" => self.permits.push(value)?,
-            "nest_member" => self.nest_members.push(value)?,
+            "init" => put_last(rt, &mut self.methods, member_of("1:<init>:()V")),
+            "method" => put_last(rt, &mut self.methods, member_of(value)),
+            "field" => put_last(rt, &mut self.fields, member_of(value)),
+            "implements" => put_last(rt, &mut self.interfaces, value),
+            "permits" => put_last(rt, &mut self.permits, value),
+            "nest_member" => put_last(rt, &mut self.nest_members, value),
             _ => self.set(key, value),
         }
-        Ok(())
     }
 
     fn set(&mut self, key: &str, value: &'a str) {
@@ -114,81 +115,95 @@ impl<'a> Class<'a> {
     }
 
     /// Its file, at its place below a root.
-    pub(crate) fn file(&self, alloc: Global, root: &str) -> Result<MemFile, AllocError> {
-        let mut path = String::from_str(alloc, self.name)?;
-        path.push_str(".class")?;
-        file(alloc, root, path.as_str(), self.bytes(alloc)?)
+    pub(crate) fn file(&self, rt: &impl Abort, alloc: Global, root: &str) -> MemFile {
+        let path = format!(in alloc; "{}.class", self.name).expect(rt, "memory");
+        file(rt, alloc, root, path.as_str(), self.bytes(rt, alloc))
     }
 
     /// Its class file (JVMS 4.1).
-    pub(crate) fn bytes(&self, alloc: Global) -> Result<Vec<u8>, AllocError> {
+    pub(crate) fn bytes(&self, rt: &impl Abort, alloc: Global) -> Vec<u8> {
         let mut pool = Pool {
             bytes: Vec::new(alloc),
             next: 1,
         };
         let mut body = Vec::new(alloc);
-        push_number(&mut body, self.flags)?;
-        let name = pool.class(self.name)?;
-        push_number(&mut body, name)?;
-        let superclass = pool.class(self.superclass)?;
-        push_number(&mut body, superclass)?;
-        pool.push_classes(&mut body, self.interfaces.as_slice())?;
-        pool.push_members(&mut body, self.fields.as_slice())?;
-        pool.push_members(&mut body, self.methods.as_slice())?;
-        pool.push_attributes(&mut body, self)?;
-        let mut file = Vec::from_slice(alloc, b"\xca\xfe\xba\xbe\0\0")?;
-        push_number(&mut file, self.major)?;
-        push_number(&mut file, pool.next)?;
-        file.extend_from_slice(pool.bytes.as_slice())?;
-        file.extend_from_slice(body.as_slice())?;
-        Ok(file)
+        push_number(rt, &mut body, self.flags);
+        let name = pool.class(rt, self.name);
+        push_number(rt, &mut body, name);
+        let superclass = pool.class(rt, self.superclass);
+        push_number(rt, &mut body, superclass);
+        pool.push_classes(rt, &mut body, self.interfaces.as_slice());
+        pool.push_members(rt, &mut body, self.fields.as_slice());
+        pool.push_members(rt, &mut body, self.methods.as_slice());
+        pool.push_attributes(rt, &mut body, self);
+        let mut file = Vec::new(alloc);
+        push(rt, &mut file, b"\xca\xfe\xba\xbe\0\0");
+        push_number(rt, &mut file, self.major);
+        push_number(rt, &mut file, pool.next);
+        push(rt, &mut file, pool.bytes.as_slice());
+        push(rt, &mut file, body.as_slice());
+        file
     }
 }
 
 /// A file of a tree.
 pub(crate) fn file(
+    rt: &impl Abort,
     alloc: Global,
     root: &str,
     path: &str,
     bytes: Vec<u8>,
-) -> Result<MemFile, AllocError> {
-    Ok(MemFile {
-        root: Text::from_str(alloc, root)?,
-        path: Text::from_str(alloc, path)?,
+) -> MemFile {
+    MemFile {
+        root: Text::from_str(alloc, root).expect(rt, "memory"),
+        path: Text::from_str(alloc, path).expect(rt, "memory"),
         bytes,
-    })
+    }
 }
 
-// The file of a line: `ROOT NAME WORDS..` of a class at its place, `ROOT at PATH NAME WORDS..` of one
-// at another, or `ROOT bytes PATH HEX..`.
-fn file_of(alloc: Global, line: &str) -> Result<MemFile, AllocError> {
+// The bytes of these words of hexadecimal digits.
+fn bytes_of(rt: &impl Abort, alloc: Global, words: &str) -> Vec<u8> {
+    let mut bytes = Vec::new(alloc);
+    for digits in words.split_whitespace() {
+        put_last(rt, &mut bytes, u8::from_str_radix(digits, 16).unwrap_or(0));
+    }
+    bytes
+}
+
+/// The file of a line: `ROOT NAME WORDS..` of a class at its place, `ROOT at PATH NAME WORDS..` of one
+/// at another, or `ROOT bytes PATH HEX..`.
+pub(crate) fn file_of(rt: &impl Abort, alloc: Global, line: &str) -> MemFile {
     let (root, rest) = cut(line, ' ');
     let (name, words) = cut(rest, ' ');
     let (path, content) = cut(words, ' ');
     match name {
-        "bytes" => {
-            let mut bytes = Vec::new(alloc);
-            for digits in content.split_whitespace() {
-                bytes.push(u8::from_str_radix(digits, 16).unwrap_or(0))?;
-            }
-            file(alloc, root, path, bytes)
-        }
+        "bytes" => file(rt, alloc, root, path, bytes_of(rt, alloc, content)),
         "at" => {
             let (name, words) = cut(content, ' ');
-            let class = Class::from_words(alloc, name, words)?;
-            file(alloc, root, path, class.bytes(alloc)?)
+            file(
+                rt,
+                alloc,
+                root,
+                path,
+                Class::from_words(rt, alloc, name, words).bytes(rt, alloc),
+            )
         }
-        _ => Class::from_words(alloc, name, words)?.file(alloc, root),
+        _ => Class::from_words(rt, alloc, name, words).file(rt, alloc, root),
     }
 }
 
 /// The files of these lines.
-pub(crate) fn files_of(alloc: Global, lines: &[&str]) -> Result<Vec<MemFile>, AllocError> {
+pub(crate) fn files_of(rt: &impl Abort, alloc: Global, lines: &[&str]) -> Vec<MemFile> {
     let mut files = Vec::new(alloc);
     for line in lines {
-        files.push(file_of(alloc, line)?)?;
+        put_last(rt, &mut files, file_of(rt, alloc, line));
     }
-    Ok(files)
+    files
+}
+
+/// Puts the item behind the others.
+pub(crate) fn put_last<T: Drop>(rt: &impl Abort, items: &mut Vec<T>, item: T) {
+    items.push(item).expect(rt, "memory")
 }
 
 /// A constant pool that is made (JVMS 4.4).
@@ -199,8 +214,12 @@ struct Pool {
     next: u16,
 }
 
-fn push_number(bytes: &mut Vec<u8>, number: u16) -> Result<(), AllocError> {
-    bytes.extend_from_slice(&number.to_be_bytes())
+fn push(rt: &impl Abort, bytes: &mut Vec<u8>, more: &[u8]) {
+    bytes.extend_from_slice(more).expect(rt, "memory")
+}
+
+fn push_number(rt: &impl Abort, bytes: &mut Vec<u8>, number: u16) {
+    push(rt, bytes, &number.to_be_bytes())
 }
 
 // How many there are.
@@ -217,94 +236,91 @@ impl Pool {
     }
 
     // Adds a text.
-    fn text(&mut self, text: &str) -> Result<u16, AllocError> {
-        self.bytes.push(1)?;
-        push_number(&mut self.bytes, count(text.as_bytes()))?;
-        self.bytes.extend_from_slice(text.as_bytes())?;
-        Ok(self.end())
+    fn text(&mut self, rt: &impl Abort, text: &str) -> u16 {
+        push(rt, &mut self.bytes, &[1]);
+        push_number(rt, &mut self.bytes, count(text.as_bytes()));
+        push(rt, &mut self.bytes, text.as_bytes());
+        self.end()
     }
 
     // Adds a class, or gives 0 for no name.
-    fn class(&mut self, name: &str) -> Result<u16, AllocError> {
+    fn class(&mut self, rt: &impl Abort, name: &str) -> u16 {
         if name.is_empty() {
-            return Ok(0);
+            return 0;
         }
-        let text = self.text(name)?;
-        self.bytes.push(7)?;
-        push_number(&mut self.bytes, text)?;
-        Ok(self.end())
+        let text = self.text(rt, name);
+        push(rt, &mut self.bytes, &[7]);
+        push_number(rt, &mut self.bytes, text);
+        self.end()
     }
 
     // The count and the indices of classes.
-    fn push_classes(&mut self, to: &mut Vec<u8>, names: &[&str]) -> Result<(), AllocError> {
-        push_number(to, count(names))?;
+    fn push_classes(&mut self, rt: &impl Abort, to: &mut Vec<u8>, names: &[&str]) {
+        push_number(rt, to, count(names));
         for name in names {
-            let index = self.class(name)?;
-            push_number(to, index)?;
+            let index = self.class(rt, name);
+            push_number(rt, to, index);
         }
-        Ok(())
     }
 
     // Begins an attribute of so many bytes (JVMS 4.7).
-    fn push_attribute(&mut self, to: &mut Vec<u8>, name: &str, len: u16) -> Result<(), AllocError> {
-        let name = self.text(name)?;
-        push_number(to, name)?;
-        push_number(to, 0)?;
-        push_number(to, len)
+    fn push_attribute(&mut self, rt: &impl Abort, to: &mut Vec<u8>, name: &str, len: u16) {
+        let name = self.text(rt, name);
+        push_number(rt, to, name);
+        push_number(rt, to, 0);
+        push_number(rt, to, len)
     }
 
     // The attributes of a member: its constant value, where it has one.
-    fn push_value(&mut self, to: &mut Vec<u8>, value: Option<u16>) -> Result<(), AllocError> {
+    fn push_value(&mut self, rt: &impl Abort, to: &mut Vec<u8>, value: Option<u16>) {
         let Some(value) = value else {
-            return push_number(to, 0);
+            return push_number(rt, to, 0);
         };
-        push_number(to, 1)?;
-        self.push_attribute(to, "ConstantValue", 2)?;
-        self.bytes.extend_from_slice(b"\x03\0\0")?;
-        push_number(&mut self.bytes, value)?;
-        push_number(to, self.end())
+        push_number(rt, to, 1);
+        self.push_attribute(rt, to, "ConstantValue", 2);
+        push(rt, &mut self.bytes, b"\x03\0\0");
+        push_number(rt, &mut self.bytes, value);
+        push_number(rt, to, self.end())
     }
 
     // The count of members, and each without attributes but for a constant value.
-    fn push_members(&mut self, to: &mut Vec<u8>, members: &[Member<'_>]) -> Result<(), AllocError> {
-        push_number(to, count(members))?;
+    fn push_members(&mut self, rt: &impl Abort, to: &mut Vec<u8>, members: &[Member<'_>]) {
+        push_number(rt, to, count(members));
         for member in members {
-            push_number(to, member.flags)?;
-            let index = self.text(member.name)?;
-            push_number(to, index)?;
-            let descriptor = self.text(member.descriptor)?;
-            push_number(to, descriptor)?;
-            self.push_value(to, member.value)?;
+            push_number(rt, to, member.flags);
+            let index = self.text(rt, member.name);
+            push_number(rt, to, index);
+            let descriptor = self.text(rt, member.descriptor);
+            push_number(rt, to, descriptor);
+            self.push_value(rt, to, member.value);
         }
-        Ok(())
     }
 
     // An attribute that lists classes.
-    fn push_list(
-        &mut self,
-        to: &mut Vec<u8>,
-        name: &str,
-        names: &[&str],
-    ) -> Result<(), AllocError> {
-        self.push_attribute(to, name, count(names).saturating_mul(2).saturating_add(2))?;
-        self.push_classes(to, names)
+    fn push_list(&mut self, rt: &impl Abort, to: &mut Vec<u8>, name: &str, names: &[&str]) {
+        self.push_attribute(
+            rt,
+            to,
+            name,
+            count(names).saturating_mul(2).saturating_add(2),
+        );
+        self.push_classes(rt, to, names)
     }
 
     // The attributes of a class: its nest host or its nest members, and the names that it permits.
-    fn push_attributes(&mut self, to: &mut Vec<u8>, class: &Class<'_>) -> Result<(), AllocError> {
-        push_number(to, attributes_of(class))?;
+    fn push_attributes(&mut self, rt: &impl Abort, to: &mut Vec<u8>, class: &Class<'_>) {
+        push_number(rt, to, attributes_of(class));
         if !class.nest_host.is_empty() {
-            self.push_attribute(to, "NestHost", 2)?;
-            let host = self.class(class.nest_host)?;
-            push_number(to, host)?;
+            self.push_attribute(rt, to, "NestHost", 2);
+            let host = self.class(rt, class.nest_host);
+            push_number(rt, to, host);
         }
         if !class.nest_members.is_empty() {
-            self.push_list(to, "NestMembers", class.nest_members.as_slice())?;
+            self.push_list(rt, to, "NestMembers", class.nest_members.as_slice());
         }
         if !class.permits.is_empty() {
-            self.push_list(to, "PermittedSubclasses", class.permits.as_slice())?;
+            self.push_list(rt, to, "PermittedSubclasses", class.permits.as_slice());
         }
-        Ok(())
     }
 }
 

@@ -2,17 +2,14 @@
 ghost use Rattle.std.specs.Prelude.{refl, codes, nat_eq, if◌then◌else◌};
 
 use super::verdicts::FINALS;
-use super::words::{CAPTURE, CAPTURE_JSON, CAPTURE_TEXT, typed};
-use super::{Said, is_said, texts, trees_of};
+use super::words::{CAPTURE, CAPTURE_JSON, CAPTURE_TEXT, are_said, typed};
+use super::{Said, folder, sink, texts, trees_of};
 use crate::run::run;
-use jc_base::mem_folder::MemFolder;
-use jc_base::mem_sink::MemSink;
 use jc_gate::gate::Gate;
-use std::alloc::{AllocError, Global};
+use std::alloc::Global;
 use std::cell::Cell;
 use std::process::Abort;
 use std::rc::Rc;
-use std::test::Fail;
 
 /// Words with single spaces, the files, and what is said.
 type Row = (&'static str, &'static [&'static str], Said<'static>);
@@ -99,16 +96,10 @@ const ROWS: &[Row] = &[
 ];
 
 #[test]
-fn gates_are_asked_by_their_names(rt: HostRuntime) -> Result<(), Fail> {
-    let alloc = rt.alloc();
+fn gates_are_asked_by_their_names(rt: HostRuntime) {
     for (line, files, said) in ROWS {
-        let words = typed(alloc, line)?;
-        assert!(rt;
-            is_said(&rt, alloc, words.as_slice(), files, said)?,
-            "{line}"
-        );
+        assert!(rt; are_said(&rt, rt.alloc(), line, files, said), "{line}");
     }
-    Ok(())
 }
 
 /// What has become of some gates: the rules that they saw, as the digits of a number to the base 100,
@@ -247,41 +238,45 @@ const ASKINGS: &[Asking] = &[
     },
 ];
 
-// The status of the run, whose gates tell their fate.
-fn asking_status(
+// The gates, which tell their fate.
+fn watched_gates(
     rt: &impl Abort,
     alloc: Global,
-    asking: &Asking,
+    gates: &[(bool, bool)],
     fate: &Rc<Fate>,
-) -> Result<u8, AllocError> {
-    let typed = typed(alloc, asking.line)?;
-    let words = texts(alloc, typed.as_slice())?;
-    let mut trees = trees_of(rt, alloc, FINALS, &[])?;
-    let mut out = MemSink::new(alloc, Vec::from_slice(alloc, asking.failing)?);
-    let mut err = MemSink::new(alloc, Vec::new(alloc));
-    let mut folder = MemFolder::new(alloc, Vec::new(alloc));
-    let mut gates: Vec<Box<dyn Gate>> = Vec::new(alloc);
-    for (is_links, is_open) in asking.gates {
+) -> Vec<Box<dyn Gate>> {
+    let mut watched: Vec<Box<dyn Gate>> = Vec::new(alloc);
+    for (is_links, is_open) in gates {
         let gate = Watched {
             is_links: *is_links,
             is_open: *is_open,
-            fate: fate.clone()?,
+            fate: fate.clone().expect(rt, "memory"),
         };
-        gates.push(Box::new(alloc, gate)?)?;
+        watched
+            .push(Box::new(alloc, gate).expect(rt, "memory"))
+            .expect(rt, "memory");
     }
-    Ok(run(
+    watched
+}
+
+// The status of the run, whose gates tell their fate.
+fn asking_status(rt: &impl Abort, alloc: Global, asking: &Asking, fate: &Rc<Fate>) -> u8 {
+    let words = typed(rt, alloc, asking.line);
+    let words = texts(rt, alloc, words.as_slice());
+    let mut trees = trees_of(rt, alloc, FINALS, &[]);
+    run(
         alloc,
         words.as_slice(),
         &mut trees,
-        &mut out,
-        &mut err,
-        &mut folder,
-        gates,
-    ))
+        &mut sink(rt, alloc, asking.failing),
+        &mut sink(rt, alloc, &[]),
+        &mut folder(rt, alloc, &[]),
+        watched_gates(rt, alloc, asking.gates, fate),
+    )
 }
 
 #[test]
-fn gates_see_the_rules_and_are_dropped(rt: HostRuntime) -> Result<(), Fail> {
+fn gates_see_the_rules_and_are_dropped(rt: HostRuntime) {
     let alloc = rt.alloc();
     for asking in ASKINGS {
         let fate = Fate {
@@ -289,12 +284,11 @@ fn gates_see_the_rules_and_are_dropped(rt: HostRuntime) -> Result<(), Fail> {
             asked: Cell::new(0),
             dropped: Cell::new(0),
         };
-        let fate = Rc::new(alloc, fate)?;
-        let status = asking_status(&rt, alloc, asking, &fate)?;
+        let fate = Rc::new(alloc, fate).expect(&rt, "memory");
+        let status = asking_status(&rt, alloc, asking, &fate);
         assert_eq!(rt; status, asking.status, "{}", asking.shown);
         assert_eq!(rt; fate.seen.get(), asking.seen, "{}", asking.shown);
         assert_eq!(rt; fate.asked.get(), asking.asked, "{}", asking.shown);
         assert_eq!(rt; fate.dropped.get(), asking.dropped, "{}", asking.shown);
     }
-    Ok(())
 }

@@ -1,12 +1,12 @@
 //! Generated releases.
-use super::words::typed;
-use super::{Said, is_said, says, trees_of};
-use std::test::Fail;
+use super::Said;
+use super::words::are_said;
 
 /// Words with single spaces, and what is said.
 type Row = (&'static str, Said<'static>);
 
-const EIGHT: &str = "classes 8\nfindings 4\ncollisions 1\nnotes 0\nverdict incompatible\n";
+pub(super) const EIGHT: &str =
+    "classes 8\nfindings 4\ncollisions 1\nnotes 0\nverdict incompatible\n";
 
 const ROWS: &[Row] = &[
     (
@@ -40,23 +40,8 @@ const ROWS: &[Row] = &[
 ];
 
 #[test]
-fn releases_of_a_number_of_classes(rt: HostRuntime) -> Result<(), Fail> {
-    let alloc = rt.alloc();
+fn releases_of_a_number_of_classes(rt: HostRuntime) {
     for (line, said) in ROWS {
-        let words = typed(alloc, line)?;
-        assert!(rt; is_said(&rt, alloc, words.as_slice(), &[], said)?, "{line}");
+        assert!(rt; are_said(&rt, rt.alloc(), line, &[], said), "{line}");
     }
-    Ok(())
-}
-
-// No tree is read, of which each call would fail, and nothing is put after the put that fails.
-#[test]
-fn generated_releases_are_not_read(rt: HostRuntime) -> Result<(), Fail> {
-    let alloc = rt.alloc();
-    let words = ["make", "8"];
-    let mut trees = trees_of(&rt, alloc, &[], &[1])?;
-    assert!(rt; says(alloc, &words, &mut trees, [&[], &[]], &(0, EIGHT, ""))?);
-    let said = (5, "classes 8\nfindi", "");
-    assert!(rt; says(alloc, &words, &mut trees, [&[2], &[]], &said)?);
-    Ok(())
 }

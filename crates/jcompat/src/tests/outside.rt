@@ -11,6 +11,9 @@ use std::alloc::Global;
 use std::env::{Env, FillError};
 use std::io::Write;
 use std::os::unix::fs::symlink;
+use std::path::Path;
+use std::process::Abort;
+use std::rt::Files;
 use std::test::Fail;
 use std::{env, fs, io, process};
 
@@ -26,12 +29,30 @@ pub(crate) fn new_folder(rt: &HostRuntime, name: &str) -> Result<String, Fail> {
     Ok(folder)
 }
 
+/// Writes a file below the root, and the folders that lead to it.
+pub(crate) fn put_file(
+    rt: &(impl Abort + Files + AllocGlobal),
+    root: &str,
+    path: &str,
+    bytes: &[u8],
+) {
+    let place = format!(in rt.alloc(); "{root}/{path}").expect(rt, "memory");
+    if let Some(folder) = Path::new(place.as_str()).parent() {
+        fs::create_dir_all(rt, folder).expect(rt, "made");
+    }
+    fs::write(rt, place.as_str(), bytes).expect(rt, "written");
+}
+
+// Makes a link below the root.
+fn put_link(rt: &(impl Abort + Files + AllocGlobal), root: &str, path: &str, original: &str) {
+    let place = format!(in rt.alloc(); "{root}/{path}").expect(rt, "memory");
+    symlink(rt, original, place.as_str()).expect(rt, "linked");
+}
+
 // A folder with nested folders, a file that is no class file, and links to a folder, to a file, to a device and to nothing.
-fn make_tree(rt: &HostRuntime, root: &str) -> Result<(), Fail> {
-    let alloc = rt.alloc();
-    fs::create_dir_all(rt, format!(in alloc; "{root}/p/q")?.as_str())?;
+fn make_tree(rt: &(impl Abort + Files + AllocGlobal), root: &str) {
     for file in ["A.class", "notes.txt", "p/B.class", "p/q/C.class"] {
-        fs::write(rt, format!(in alloc; "{root}/{file}")?.as_str(), file)?;
+        put_file(rt, root, file, file.as_bytes());
     }
     for (link, original) in [
         ("D.class", "A.class"),
@@ -39,34 +60,56 @@ fn make_tree(rt: &HostRuntime, root: &str) -> Result<(), Fail> {
         ("gone.class", "nowhere"),
         ("null.class", "/dev/null"),
     ] {
-        symlink(rt, original, format!(in alloc; "{root}/{link}")?.as_str())?;
+        put_link(rt, root, link, original);
     }
-    Ok(())
 }
 
 // Whether the root's files are these, in order.
-fn lists(
+fn lists(alloc: Global, trees: &mut DiskTrees<HostRuntime>, root: &str, wanted: &[&str]) -> bool {
+    match trees.list(alloc, root) {
+        Ok(paths) => {
+            paths.len() == wanted.len()
+                && paths
+                    .iter()
+                    .zip(wanted.iter())
+                    .all(|(path, want)| path.as_str() == *want)
+        }
+        Err(_) => false,
+    }
+}
+
+/// A path, and the bytes that are read, or none where the call fails.
+type Reading = (&'static str, Option<&'static str>);
+
+const READINGS: &[Reading] = &[
+    ("p/q/C.class", Some("p/q/C.class")),
+    ("D.class", Some("A.class")),
+    ("gone.class", None),
+    ("null.class", None),
+];
+
+// Whether it is read so.
+fn is_read(
     alloc: Global,
     trees: &mut DiskTrees<HostRuntime>,
     root: &str,
-    wanted: &[&str],
-) -> Result<bool, TreeError> {
-    let paths = trees.list(alloc, root)?;
-    Ok(
-        paths.len() == wanted.len()
-            && paths
-                .iter()
-                .zip(wanted.iter())
-                .all(|(path, want)| path.as_str() == *want),
-    )
+    reading: &Reading,
+    buffer: &mut FileBuf,
+) -> bool {
+    let (path, wanted) = *reading;
+    let read = trees.read_into(alloc, root, path, 100, buffer);
+    match wanted {
+        Some(bytes) => read.is_ok() && buffer.as_bytes() == bytes.as_bytes(),
+        None => read == Err(TreeError::Fault) && buffer.as_bytes().is_empty(),
+    }
 }
 
 #[test]
 fn real_folders_are_listed_and_read(rt: HostRuntime) -> Result<(), Fail> {
     let alloc = rt.alloc();
     let root = new_folder(&rt, "trees")?;
-    make_tree(&rt, root.as_str())?;
-    let mut trees = DiskTrees::new(rt.clone()?);
+    make_tree(&rt, root.as_str());
+    let mut trees = DiskTrees::new(rt.clone().expect(&rt, "memory"));
     let all = [
         "A.class",
         "D.class",
@@ -76,30 +119,25 @@ fn real_folders_are_listed_and_read(rt: HostRuntime) -> Result<(), Fail> {
         "p/B.class",
         "p/q/C.class",
     ];
-    assert!(rt; lists(alloc, &mut trees, root.as_str(), &all)?);
-    let linked = format!(in alloc; "{root}/r")?;
+    assert!(rt; lists(alloc, &mut trees, root.as_str(), &all));
+    let linked = format!(in alloc; "{root}/r").expect(&rt, "memory");
     assert!(rt;
         lists(
             alloc,
             &mut trees,
             linked.as_str(),
             &["B.class", "q/C.class"]
-        )?
+        )
     );
-
-    let mut buffer = FileBuf::new(alloc)?;
-    trees.read_into(alloc, root.as_str(), "p/q/C.class", 4_194_304, &mut buffer)?;
-    assert!(rt; buffer.as_bytes() == b"p/q/C.class".as_slice());
-    trees.read_into(alloc, root.as_str(), "D.class", 2, &mut buffer)?;
-    assert!(rt; buffer.as_bytes() == b"A.c".as_slice());
-
-    for link in ["gone.class", "null.class"] {
-        let read = trees.read_into(alloc, root.as_str(), link, 9, &mut buffer);
-        assert!(rt; matches!(read, Err(TreeError::Fault)), "{link}");
-        assert!(rt; buffer.as_bytes().is_empty(), "{link}");
+    let no_folder = format!(in alloc; "{root}/notes.txt").expect(&rt, "memory");
+    assert!(rt; trees.list(alloc, no_folder.as_str()).is_err());
+    let mut buffer = FileBuf::new(alloc).expect(&rt, "memory");
+    for reading in READINGS {
+        assert!(rt;
+            is_read(alloc, &mut trees, root.as_str(), reading, &mut buffer),
+            "{reading:?}"
+        );
     }
-    let no_folder = format!(in alloc; "{root}/notes.txt")?;
-    assert!(rt; matches!(trees.list(alloc, no_folder.as_str()), Err(TreeError::Fault)));
     fs::remove_dir_all(&rt, root.as_str())?;
     Ok(())
 }
@@ -125,19 +163,22 @@ impl Write for Narrow {
 #[test]
 fn real_files_take_what_is_put(rt: HostRuntime) -> Result<(), Fail> {
     let folder = new_folder(&rt, "sink")?;
-    let path = format!(in rt.alloc(); "{folder}/out")?;
-    let mut sink = StdSink::new(fs::create(&rt, path.as_str())?);
+    let path = format!(in rt.alloc(); "{folder}/out").expect(&rt, "memory");
+    let mut sink = StdSink::new(fs::create(&rt, path.as_str()).expect(&rt, "made"));
     for piece in ["p/A\n", "", "p/B\n"] {
-        sink.put(piece.as_bytes())?;
+        sink.put(piece.as_bytes()).expect(&rt, "put");
     }
-    let taken = fs::read_to_string(&rt, path.as_str())?;
+    let taken = fs::read_to_string(&rt, path.as_str()).expect(&rt, "read");
     assert!(rt; taken.as_str() == "p/A\np/B\n");
     fs::remove_dir_all(&rt, folder.as_str())?;
-
-    let mut narrow = StdSink::new(Narrow { room: 3 });
-    narrow.put(b"abc")?;
-    assert!(rt; matches!(narrow.put(b"d"), Err(SinkError::Fault)));
     Ok(())
+}
+
+#[test]
+fn a_writer_that_is_full_is_a_fault(rt: HostRuntime) {
+    let mut narrow = StdSink::new(Narrow { room: 3 });
+    assert!(rt; narrow.put(b"abc").is_ok());
+    assert!(rt; matches!(narrow.put(b"d"), Err(SinkError::Fault)));
 }
 
 // A program that is called with its name and one word, which isn't UTF-8.
@@ -166,9 +207,9 @@ impl Env for OddWord {
 }
 
 #[test]
-fn a_word_that_isnt_utf8_is_a_wrong_word(rt: HostRuntime) -> Result<(), Fail> {
+fn a_word_that_isnt_utf8_is_a_wrong_word(rt: HostRuntime) {
     let alloc = rt.alloc();
-    let words = words_after_name(&(OddWord, alloc))?;
+    let words = words_after_name(&(OddWord, alloc)).expect(&rt, "memory");
     let mut trees = SureTrees::new(Vec::new(alloc));
     let mut out = SureSink::new(alloc);
     let mut err = SureSink::new(alloc);
@@ -177,5 +218,4 @@ fn a_word_that_isnt_utf8_is_a_wrong_word(rt: HostRuntime) -> Result<(), Fail> {
     assert_eq!(rt; answer, 2);
     assert!(rt; out.bytes().is_empty());
     assert!(rt; err.bytes() == b"jcompat: usage: words\n".as_slice());
-    Ok(())
 }

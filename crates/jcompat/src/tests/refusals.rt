@@ -1,9 +1,12 @@
 //! Trees and calls that are refused.
-use super::assembler::Class;
-use super::outside::new_folder;
-use super::{Said, WORDS, is_said, says, trees_of};
+use super::assembler::file_of;
+use super::outside::{new_folder, put_file};
+use super::{Said, WORDS, is_said, says};
 use crate::disk_trees::DiskTrees;
+use jc_base::trees::Trees;
+use std::alloc::Global;
 use std::fs;
+use std::process::Abort;
 use std::test::Fail;
 
 /// What is shown, the files and the line on the error stream.
@@ -19,6 +22,22 @@ const ROWS: &[Row] = &[
             "O p/A init",
         ],
         "jcompat: old: p/B.class: Short at 12\n",
+    ),
+    (
+        "a byte more than a class file has",
+        &[
+            "P java/lang/Object init",
+            "O bytes p/A.class ca fe ba be 0 0 0 34 0 7 1 0 3 70 2f 41 7 0 1 1 0 10 6a 61 76 61 2f 6c 61 6e 67 2f 4f 62 6a 65 63 74 7 0 3 1 0 6 3c 69 6e 69 74 3e 1 0 3 28 29 56 0 21 0 2 0 4 0 0 0 0 0 1 0 1 0 5 0 6 0 0 0 0 0",
+        ],
+        "jcompat: old: p/A.class: Trailing at 78\n",
+    ),
+    (
+        "a byte less",
+        &[
+            "P java/lang/Object init",
+            "O bytes p/A.class ca fe ba be 0 0 0 34 0 7 1 0 3 70 2f 41 7 0 1 1 0 10 6a 61 76 61 2f 6c 61 6e 67 2f 4f 62 6a 65 63 74 7 0 3 1 0 6 3c 69 6e 69 74 3e 1 0 3 28 29 56 0 21 0 2 0 4 0 0 0 0 0 1 0 1 0 5 0 6 0 0 0",
+        ],
+        "jcompat: old: p/A.class: Short at 77\n",
     ),
     (
         "a file at another place",
@@ -75,85 +94,26 @@ const ROWS: &[Row] = &[
 ];
 
 #[test]
-fn trees_are_refused(rt: HostRuntime) -> Result<(), Fail> {
-    let alloc = rt.alloc();
+fn trees_are_refused(rt: HostRuntime) {
     for (shown, lines, line) in ROWS {
         assert!(rt;
-            is_said(&rt, alloc, WORDS, lines, &(3, "", *line))?,
+            is_said(&rt, rt.alloc(), WORDS, lines, &(3, "", *line)),
             "{shown}"
         );
     }
-    Ok(())
 }
 
-/// The files, which calls on the trees, the output and the error stream fail, and what is said then.
-type Failure = (&'static [&'static str], [&'static [u64]; 3], Said<'static>);
-
-const FAILURES: &[Failure] = &[
-    (
-        &["P java/lang/Object init"],
-        [&[2], &[], &[]],
-        (4, "", "jcompat: platform: read fault\n"),
-    ),
-    (
-        &["P java/lang/Object init"],
-        [&[4], &[], &[]],
-        (4, "", "jcompat: new: read fault\n"),
-    ),
-    (
-        &["P java/lang/Object init"],
-        [&[], &[1], &[]],
-        (5, "compatible: 0 findings,", ""),
-    ),
-    (
-        &["P java/lang/Object init", "O p/A init"],
-        [&[], &[2], &[]],
-        (
-            5,
-            "1 H1 p/A - class - NoClassDefFoundError\nincompatible: 1 findings",
-            "",
-        ),
-    ),
-    (&[], [&[], &[], &[1]], (5, "", "jcompat: platform:")),
-];
-
-#[test]
-fn failed_calls_are_told(rt: HostRuntime) -> Result<(), Fail> {
-    let alloc = rt.alloc();
-    for (lines, failing, said) in FAILURES {
-        let mut trees = trees_of(&rt, alloc, lines, failing[0])?;
-        assert!(rt;
-            says(alloc, WORDS, &mut trees, [failing[1], failing[2]], said)?,
-            "{}",
-            said.0
-        );
-    }
-    Ok(())
-}
-
-// Whether a check of a folder with this class file says just this line and answers this status.
-fn folder_refuses(
-    rt: &HostRuntime,
-    path: &str,
-    bytes: &[u8],
-    line: &str,
-    status: u8,
-) -> Result<bool, Fail> {
-    let alloc = rt.alloc();
-    let root = new_folder(rt, "check")?;
-    let platform = format!(in alloc; "{root}/platform")?;
-    let old = format!(in alloc; "{root}/old")?;
-    let new = format!(in alloc; "{root}/new")?;
-    fs::create_dir_all(rt, format!(in alloc; "{platform}/java/lang")?.as_str())?;
-    fs::create_dir_all(rt, format!(in alloc; "{old}/p")?.as_str())?;
-    fs::create_dir_all(rt, new.as_str())?;
-    let object = Class::from_words(alloc, "java/lang/Object", "init")?.bytes(alloc)?;
-    fs::write(
-        rt,
-        format!(in alloc; "{platform}/java/lang/Object.class")?.as_str(),
-        object.as_slice(),
-    )?;
-    fs::write(rt, format!(in alloc; "{old}/{path}")?.as_str(), bytes)?;
+// Whether a check of the folders below the root says just this.
+fn says_in<T: Trees>(
+    rt: &impl Abort,
+    alloc: Global,
+    trees: &mut T,
+    root: &str,
+    said: &Said<'_>,
+) -> bool {
+    let platform = format!(in alloc; "{root}/platform").expect(rt, "memory");
+    let old = format!(in alloc; "{root}/old").expect(rt, "memory");
+    let new = format!(in alloc; "{root}/new").expect(rt, "memory");
     let words = [
         "check",
         "--platform",
@@ -163,46 +123,50 @@ fn folder_refuses(
         "--new",
         new.as_str(),
     ];
-    let mut trees = DiskTrees::new(rt.clone()?);
-    let answer = says(alloc, &words, &mut trees, [&[], &[]], &(status, "", line))?;
-    fs::remove_dir_all(rt, root.as_str())?;
-    Ok(answer)
+    says(rt, alloc, &words, trees, [&[], &[]], said)
 }
 
 #[test]
 fn real_folders_are_refused(rt: HostRuntime) -> Result<(), Fail> {
     let alloc = rt.alloc();
-    let plain = Class::from_words(alloc, "p/A", "init")?.bytes(alloc)?;
-    let long = vec![in alloc; 0u8; 4_194_305]?;
-    let most = vec![in alloc; 0u8; 4_194_304]?;
-    for (path, bytes, line, status) in [
+    let root = new_folder(&rt, "check")?;
+    let object = file_of(&rt, alloc, "P java/lang/Object init").bytes;
+    put_file(
+        &rt,
+        root.as_str(),
+        "platform/java/lang/Object.class",
+        object.as_slice(),
+    );
+    put_file(&rt, root.as_str(), "new/notes.txt", b"");
+    let plain = file_of(&rt, alloc, "O p/B init").bytes;
+    let zeros = vec![in alloc; 0u8; 4_194_305].expect(&rt, "memory");
+    let mut trees = DiskTrees::new(rt.clone().expect(&rt, "memory"));
+    for (bytes, said) in [
         (
-            "p/A.class",
             b"\xca\xfe\xba\xbe\0\0\0\x34\0\x04\x07\0".as_slice(),
-            "jcompat: old: p/A.class: Short at 12\n",
-            3,
+            (3, "", "jcompat: old: p/A.class: Short at 12\n"),
         ),
-        ("p/A.class", b"", "jcompat: old: p/A.class: Short at 0\n", 3),
+        (b"", (3, "", "jcompat: old: p/A.class: Short at 0\n")),
         (
-            "p/B.class",
             plain.as_slice(),
-            "jcompat: old: p/B.class: misplaced p/A\n",
-            3,
+            (3, "", "jcompat: old: p/A.class: misplaced p/B\n"),
         ),
         (
-            "p/A.class",
-            long.as_slice(),
-            "jcompat: old: p/A.class: limit bytes\n",
-            7,
+            zeros.as_slice(),
+            (7, "", "jcompat: old: p/A.class: limit bytes\n"),
         ),
         (
-            "p/A.class",
-            most.as_slice(),
-            "jcompat: old: p/A.class: BadMagic at 0\n",
-            3,
+            &zeros.as_slice()[1..],
+            (3, "", "jcompat: old: p/A.class: BadMagic at 0\n"),
         ),
     ] {
-        assert!(rt; folder_refuses(&rt, path, bytes, line, status)?, "{line}");
+        put_file(&rt, root.as_str(), "old/p/A.class", bytes);
+        assert!(rt;
+            says_in(&rt, alloc, &mut trees, root.as_str(), &said),
+            "{}",
+            said.2
+        );
     }
+    fs::remove_dir_all(&rt, root.as_str())?;
     Ok(())
 }

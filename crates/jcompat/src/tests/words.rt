@@ -1,7 +1,8 @@
 //! What words ask for, and words that ask for nothing.
-use super::{Said, is_said, says, trees_of};
-use std::alloc::{AllocError, Global};
-use std::test::Fail;
+use super::assembler::put_last;
+use super::{Said, is_said};
+use std::alloc::Global;
+use std::process::Abort;
 
 /// Words with single spaces, the files, and what is said.
 type Row = (&'static str, &'static [&'static str], Said<'static>);
@@ -106,46 +107,40 @@ const ROWS: &[Row] = &[
     ),
 ];
 
-pub fn typed<'a>(alloc: Global, line: &'a str) -> Result<Vec<&'a str>, AllocError> {
+pub fn typed<'a>(rt: &impl Abort, alloc: Global, line: &'a str) -> Vec<&'a str> {
     let mut words = Vec::new(alloc);
     for word in line.split(' ') {
-        words.push(word)?;
+        put_last(rt, &mut words, word);
     }
-    Ok(words)
+    words
+}
+
+// Whether the words of the line, over the files of these lines, say just this.
+pub fn are_said(
+    rt: &impl Abort,
+    alloc: Global,
+    line: &str,
+    files: &[&str],
+    said: &Said<'_>,
+) -> bool {
+    let words = typed(rt, alloc, line);
+    is_said(rt, alloc, words.as_slice(), files, said)
 }
 
 #[test]
-fn words_are_taken_or_refused(rt: HostRuntime) -> Result<(), Fail> {
-    let alloc = rt.alloc();
+fn words_are_taken_or_refused(rt: HostRuntime) {
     for (line, files, said) in ROWS {
-        let words = typed(alloc, line)?;
-        assert!(rt;
-            is_said(&rt, alloc, words.as_slice(), files, said)?,
-            "{line}"
-        );
+        assert!(rt; are_said(&rt, rt.alloc(), line, files, said), "{line}");
     }
     let no_command = (2, "", "jcompat: usage: no command\n");
-    assert!(rt; is_said(&rt, alloc, &[], CAPTURE, &no_command)?);
-    Ok(())
-}
-
-// The JSON is one put: where the second put fails, none does.
-#[test]
-fn json_is_put_at_once(rt: HostRuntime) -> Result<(), Fail> {
-    let alloc = rt.alloc();
-    let words = typed(alloc, "check --json --platform P --old O --new N")?;
-    let mut trees = trees_of(&rt, alloc, CAPTURE, &[])?;
-    let said = (0, CAPTURE_JSON, "");
-    assert!(rt; says(alloc, words.as_slice(), &mut trees, [&[2], &[]], &said)?);
-    Ok(())
+    assert!(rt; is_said(&rt, rt.alloc(), &[], CAPTURE, &no_command));
 }
 
 #[test]
-fn a_long_word_is_refused(rt: HostRuntime) -> Result<(), Fail> {
+fn a_long_word_is_refused(rt: HostRuntime) {
     let alloc = rt.alloc();
-    let long = "w".repeat(alloc, 100_000)?;
-    let line = format!(in alloc; "jcompat: usage: unknown command {long}\n")?;
+    let long = "w".repeat(alloc, 100_000).expect(&rt, "memory");
+    let line = format!(in alloc; "jcompat: usage: unknown command {long}\n").expect(&rt, "memory");
     let said = (2, "", line.as_str());
-    assert!(rt; is_said(&rt, alloc, &[long.as_str()], CAPTURE, &said)?);
-    Ok(())
+    assert!(rt; is_said(&rt, alloc, &[long.as_str()], CAPTURE, &said));
 }
