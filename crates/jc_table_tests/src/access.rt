@@ -1,11 +1,12 @@
 //! Access, assignment and the check on protected members on a small side.
-use crate::sides::{INTERFACE, OBJECT, PLAIN, Row, classes, table};
+use crate::sides::{INTERFACE, OBJECT, PLAIN, Row, class_of, table};
 use jc_access::access::{Seat, accessible, class_access};
 use jc_access::assigning::assignable;
 use jc_access::protection::protected_ok;
 use jc_base::name::Name;
 use jc_table::ids::Found;
 use jc_table::table::Table;
+use std::alloc::{AllocError, Global};
 use std::process::Abort;
 use std::test::Fail;
 
@@ -60,6 +61,10 @@ const ROWS: &[Row] = &[
     },
 ];
 
+fn side(rt: &impl Abort, alloc: Global) -> Result<Table, Fail> {
+    table(rt, alloc, ROWS)
+}
+
 // Whether a member of the owner with these flags, named through the class, is accessible from the
 // class itself, and from clients that have it as their seat.
 fn access(
@@ -70,9 +75,9 @@ fn access(
     flags: u16,
     named: &[u8],
 ) -> (bool, bool) {
-    let class = table.get(from).expect(rt, "a class of the table");
-    let owner = table.get(owner).expect(rt, "a class of the table");
-    let named = table.get(named).expect(rt, "a class of the table");
+    let class = class_of(rt, table, from);
+    let owner = class_of(rt, table, owner);
+    let named = class_of(rt, table, named);
     let inside = accessible(table, Seat::Inside(class), Found { owner, flags }, named);
     let client = accessible(table, Seat::Client(class), Found { owner, flags }, named);
     (inside, client)
@@ -110,28 +115,34 @@ const SEATS: &[SeatRow] = &[
     (b"q/Other", b"q/Child", PRIVATE, b"q/Child", false, false),
 ];
 
-#[test]
-fn members_by_seat(rt: HostRuntime) -> Result<(), Fail> {
-    let alloc = rt.alloc();
-    let table = table(&rt, alloc, classes(alloc, ROWS)?)?;
+fn see_members(rt: &impl Abort, table: &Table) {
     for (from, owner, flags, named, inside, client) in SEATS {
-        let answers = access(&rt, &table, from, owner, *flags, named);
+        let answers = access(rt, table, from, owner, *flags, named);
         assert_eq!(rt; answers, (*inside, *client));
     }
+}
+
+#[test]
+fn members_by_seat(rt: HostRuntime) -> Result<(), Fail> {
+    let table = side(&rt, rt.alloc())?;
+    see_members(&rt, &table);
     Ok(())
+}
+
+fn see_classes(rt: &impl Abort, table: &Table) {
+    let near = class_of(rt, table, b"p/Near");
+    let child = class_of(rt, table, b"q/Child");
+    let hidden = class_of(rt, table, b"p/Hidden");
+    assert!(rt; class_access(table, Seat::Inside(near), hidden));
+    assert!(rt; !class_access(table, Seat::Inside(child), hidden));
+    assert!(rt; !class_access(table, Seat::Client(near), hidden));
+    assert!(rt; class_access(table, Seat::Client(near), child));
 }
 
 #[test]
 fn classes_by_seat(rt: HostRuntime) -> Result<(), Fail> {
-    let alloc = rt.alloc();
-    let table = table(&rt, alloc, classes(alloc, ROWS)?)?;
-    let near = table.get(b"p/Near").expect(&rt, "a class of the table");
-    let child = table.get(b"q/Child").expect(&rt, "a class of the table");
-    let hidden = table.get(b"p/Hidden").expect(&rt, "a class of the table");
-    assert!(rt; class_access(&table, Seat::Inside(near), hidden));
-    assert!(rt; !class_access(&table, Seat::Inside(child), hidden));
-    assert!(rt; !class_access(&table, Seat::Client(near), hidden));
-    assert!(rt; class_access(&table, Seat::Client(near), child));
+    let table = side(&rt, rt.alloc())?;
+    see_classes(&rt, &table);
     Ok(())
 }
 
@@ -154,29 +165,56 @@ const TYPES: &[(&[u8], &[u8], bool)] = &[
     (b"[", OBJECT, false),
 ];
 
-#[test]
-fn assignment_of_types(rt: HostRuntime) -> Result<(), Fail> {
-    let alloc = rt.alloc();
-    let table = table(&rt, alloc, classes(alloc, ROWS)?)?;
+// Whether a value of the one type may be used as one of the other.
+fn is_assignable(alloc: Global, table: &Table, from: &[u8], to: &[u8]) -> Result<bool, AllocError> {
+    let one = Name::from_bytes(alloc, from)?;
+    let other = Name::from_bytes(alloc, to)?;
+    Ok(assignable(table, &one, &other))
+}
+
+fn see_types(rt: &impl Abort, alloc: Global, table: &Table) -> Result<(), Fail> {
     for (from, to, expected) in TYPES {
-        let one = Name::from_bytes(alloc, from)?;
-        let other = Name::from_bytes(alloc, to)?;
-        assert_eq!(rt; assignable(&table, &one, &other), *expected);
+        let answer = is_assignable(alloc, table, from, to)?;
+        assert_eq!(rt; answer, *expected);
     }
     Ok(())
 }
 
 #[test]
-fn receivers_of_protected_members(rt: HostRuntime) -> Result<(), Fail> {
-    let alloc = rt.alloc();
-    let table = table(&rt, alloc, classes(alloc, ROWS)?)?;
-    let child = table.get(b"q/Child").expect(&rt, "a class of the table");
-    let base = table.get(b"p/Base").expect(&rt, "a class of the table");
-    let own = Name::from_bytes(alloc, b"q/Child")?;
-    let above = Name::from_bytes(alloc, b"p/Base")?;
-    let flags = PROTECTED;
-    assert!(rt; protected_ok(&table, child, base, Found { owner: base, flags }, &own));
-    assert!(rt; !protected_ok(&table, child, base, Found { owner: base, flags }, &above));
-    assert!(rt; protected_ok(&table, base, base, Found { owner: base, flags }, &above));
+fn assignment_of_types(rt: HostRuntime) -> Result<(), Fail> {
+    let table = side(&rt, rt.alloc())?;
+    see_types(&rt, rt.alloc(), &table)
+}
+
+// Whether the class of this name may have the receiver, where it uses a protected member of
+// `p/Base` through `p/Base`.
+fn is_receiver(
+    rt: &impl Abort,
+    alloc: Global,
+    table: &Table,
+    class: &[u8],
+    receiver: &[u8],
+) -> Result<bool, AllocError> {
+    let class = class_of(rt, table, class);
+    let owner = class_of(rt, table, b"p/Base");
+    let receiver = Name::from_bytes(alloc, receiver)?;
+    let found = Found {
+        owner,
+        flags: PROTECTED,
+    };
+    Ok(protected_ok(table, class, owner, found, &receiver))
+}
+
+fn see_receivers(rt: &impl Abort, alloc: Global, table: &Table) -> Result<(), Fail> {
+    let own = is_receiver(rt, alloc, table, b"q/Child", b"q/Child")?;
+    let above = is_receiver(rt, alloc, table, b"q/Child", b"p/Base")?;
+    let inside = is_receiver(rt, alloc, table, b"p/Base", b"p/Base")?;
+    assert!(rt; own && !above && inside);
     Ok(())
+}
+
+#[test]
+fn receivers_of_protected_members(rt: HostRuntime) -> Result<(), Fail> {
+    let table = side(&rt, rt.alloc())?;
+    see_receivers(&rt, rt.alloc(), &table)
 }

@@ -4,7 +4,7 @@ ghost use Rattle.jc_facts.specs.world.World.{size};
 ghost use Rattle.jc_facts.specs.world.Loading.{load_fault};
 ghost use Rattle.jc_table.specs.Ids.{name_at};
 
-use crate::sides::{INTERFACE, PLAIN, Row, classes, table};
+use crate::sides::{INTERFACE, PLAIN, Row, loaded, table};
 use jc_base::name::Name;
 use jc_facts::flags::is_interface;
 use jc_facts::key::Key;
@@ -15,6 +15,8 @@ use jc_method::find::{find_interface_method, find_method};
 use jc_method::walk::{walk_interface_method, walk_method};
 use jc_table::ids::ClassId;
 use jc_table::table::Table;
+use std::alloc::{AllocError, Global};
+use std::process::Abort;
 use std::test::Fail;
 
 const ROWS: &[Row] = &[
@@ -117,6 +119,10 @@ const LENGTHS: &[(&[u8], usize, usize)] = &[
     (b"p/Child", 2, 3),
 ];
 
+fn side(rt: &impl Abort, alloc: Global) -> Result<Table, Fail> {
+    table(rt, alloc, ROWS)
+}
+
 fn same_field(table: &Table, class: ClassId, key: &Key) -> bool
     requires class { class < size table.now }
     requires loads { load_fault table.now (name_at table.now class) ≡ None }
@@ -159,39 +165,51 @@ fn agrees(table: &Table, class: ClassId) -> bool
     true
 }
 
-#[test]
-fn lookups_in_rows_find_what_walks_find(rt: HostRuntime) -> Result<(), Fail> {
-    let alloc = rt.alloc();
-    let table = table(&rt, alloc, classes(alloc, ROWS)?)?;
+fn see_rows(rt: &impl Abort, table: &Table) {
     for number in 0..table.count() {
-        let class = table.id(number).expect(&rt, "a class of the table");
+        let class = table.id(number).expect(rt, "a class of the table");
         if table.fault_at(class).is_none() {
-            assert!(rt; agrees(&table, class));
+            assert!(rt; agrees(table, class));
         }
     }
+}
+
+fn see_lengths(rt: &impl Abort, table: &Table) {
     for (name, fields, methods) in LENGTHS {
-        let class = table.get(name).expect(&rt, "a class of the table");
-        assert!(rt; table.fault_at(class).is_none());
+        let class = loaded(rt, table, name);
         assert_eq!(rt; table.field_row(class).len(), *fields);
         assert_eq!(rt; table.method_row(class).len(), *methods);
     }
+}
+
+#[test]
+fn lookups_in_rows_find_what_walks_find(rt: HostRuntime) -> Result<(), Fail> {
+    let table = side(&rt, rt.alloc())?;
+    see_rows(&rt, &table);
+    see_lengths(&rt, &table);
+    Ok(())
+}
+
+fn unknown(alloc: Global) -> Result<Key, AllocError> {
+    Ok(Key {
+        name: Name::from_bytes(alloc, b"f")?,
+        descriptor: Name::from_bytes(alloc, b"J")?,
+    })
+}
+
+fn see_unknown(rt: &impl Abort, alloc: Global, table: &Table) -> Result<(), Fail> {
+    let unknown = unknown(alloc)?;
+    // f, g, m, a, d, h, s and the initializer of `java/lang/Object`.
+    assert_eq!(rt; table.key_count(), 8);
+    assert_eq!(rt; table.key_number(&unknown), None);
+    assert!(rt; table.key_at(8).is_none());
+    let class = loaded(rt, table, b"p/Child");
+    assert_eq!(rt; find_field(table, class, &unknown), None);
     Ok(())
 }
 
 #[test]
 fn what_no_class_declares_has_no_number(rt: HostRuntime) -> Result<(), Fail> {
-    let alloc = rt.alloc();
-    let table = table(&rt, alloc, classes(alloc, ROWS)?)?;
-    let unknown = Key {
-        name: Name::from_bytes(alloc, b"f")?,
-        descriptor: Name::from_bytes(alloc, b"J")?,
-    };
-    // f, g, m, a, d, h, s and the initializer of `java/lang/Object`.
-    assert_eq!(rt; table.key_count(), 8);
-    assert_eq!(rt; table.key_number(&unknown), None);
-    assert!(rt; table.key_at(8).is_none());
-    let class = table.get(b"p/Child").expect(&rt, "a class of the table");
-    assert!(rt; table.fault_at(class).is_none());
-    assert_eq!(rt; find_field(&table, class, &unknown), None);
-    Ok(())
+    let table = side(&rt, rt.alloc())?;
+    see_unknown(&rt, rt.alloc(), &table)
 }

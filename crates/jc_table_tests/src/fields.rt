@@ -1,11 +1,11 @@
 //! Fields of a small side, by the walk and by the plain search.
-use crate::sides::{Declared, INTERFACE, PLAIN, Row, classes, table};
+use crate::sides::{Declared, INTERFACE, PLAIN, Row, loaded, table};
 use jc_base::name::Name;
 use jc_facts::key::Key;
 use jc_field::find::find_field;
 use jc_field::keys::field_keys;
 use jc_field::plain::search_field;
-use jc_table::ids::Found;
+use jc_table::ids::ClassId;
 use jc_table::table::Table;
 use std::alloc::{AllocError, Global};
 use std::process::Abort;
@@ -72,18 +72,15 @@ const ROWS: &[Row] = &[
     },
 ];
 
+fn side(rt: &impl Abort, alloc: Global) -> Result<Table, Fail> {
+    table(rt, alloc, ROWS)
+}
+
 fn key(alloc: Global, descriptor: &[u8]) -> Result<Key, AllocError> {
     Ok(Key {
         name: Name::from_bytes(alloc, b"f")?,
         descriptor: Name::from_bytes(alloc, descriptor)?,
     })
-}
-
-// What the walk finds from the class of this name.
-fn found_from(rt: &impl Abort, table: &Table, name: &[u8], key: &Key) -> Option<Found> {
-    let class = table.get(name).expect(rt, "a class of the table");
-    assert!(rt; table.fault_at(class).is_none());
-    find_field(table, class, key)
 }
 
 // A class, and the owner of the field that is found from it.
@@ -97,33 +94,59 @@ const OWNERS: &[(&[u8], &[u8])] = &[
     (b"p/None", b""),
 ];
 
-#[test]
-fn interfaces_come_before_the_superclass(rt: HostRuntime) -> Result<(), Fail> {
-    let alloc = rt.alloc();
-    let table = table(&rt, alloc, classes(alloc, ROWS)?)?;
+// Whether the walk and the plain search find the field of the owner, and nothing of the other key.
+fn finds(
+    rt: &impl Abort,
+    table: &Table,
+    name: &[u8],
+    keys: (&Key, &Key),
+    owner: Option<ClassId>,
+) -> bool {
+    let class = loaded(rt, table, name);
+    let found = find_field(table, class, keys.0);
+    found.map(|f| f.owner) == owner
+        && search_field(table, class, keys.0) == found
+        && find_field(table, class, keys.1).is_none()
+}
+
+fn see_owners(rt: &impl Abort, alloc: Global, table: &Table) -> Result<(), Fail> {
     let number = key(alloc, b"I")?;
     let wide = key(alloc, b"J")?;
     for (name, owner) in OWNERS {
-        let class = table.get(name).expect(&rt, "a class of the table");
-        let found = found_from(&rt, &table, name, &number);
-        assert_eq!(rt; found.map(|f| f.owner), table.get(owner));
-        assert_eq!(rt; search_field(&table, class, &number), found);
-        assert_eq!(rt; found_from(&rt, &table, name, &wide), None);
+        assert!(rt; finds(rt, table, name, (&number, &wide), table.get(owner)));
     }
     Ok(())
 }
 
 #[test]
-fn keys_of_fields_above_a_class(rt: HostRuntime) -> Result<(), Fail> {
-    let alloc = rt.alloc();
-    let table = table(&rt, alloc, classes(alloc, ROWS)?)?;
+fn interfaces_come_before_the_superclass(rt: HostRuntime) -> Result<(), Fail> {
+    let table = side(&rt, rt.alloc())?;
+    see_owners(&rt, rt.alloc(), &table)
+}
+
+fn see_keys(rt: &impl Abort, alloc: Global, table: &Table) -> Result<(), Fail> {
     let number = key(alloc, b"I")?;
-    for (name, count) in [(b"p/Child".as_slice(), 1), (b"p/None", 0)] {
-        let class = table.get(name).expect(&rt, "a class of the table");
-        assert!(rt; table.fault_at(class).is_none());
-        let keys = field_keys(alloc, &table, class)?;
-        assert_eq!(rt; keys.len(), count);
-        assert!(rt; keys.as_slice().first().is_none_or(|k| *k == number));
-    }
+    let class = loaded(rt, table, b"p/Child");
+    let keys = field_keys(alloc, table, class)?;
+    assert_eq!(rt; keys.len(), 1);
+    assert!(rt; keys.as_slice().contains(&number));
     Ok(())
+}
+
+fn see_no_keys(rt: &impl Abort, alloc: Global, table: &Table) -> Result<(), Fail> {
+    let class = loaded(rt, table, b"p/None");
+    let keys = field_keys(alloc, table, class)?;
+    assert!(rt; keys.is_empty());
+    Ok(())
+}
+
+fn see_all_keys(rt: &impl Abort, alloc: Global, table: &Table) -> Result<(), Fail> {
+    see_keys(rt, alloc, table)?;
+    see_no_keys(rt, alloc, table)
+}
+
+#[test]
+fn keys_of_fields_above_a_class(rt: HostRuntime) -> Result<(), Fail> {
+    let table = side(&rt, rt.alloc())?;
+    see_all_keys(&rt, rt.alloc(), &table)
 }

@@ -1,5 +1,5 @@
 //! What linking small clients gives, step by step and error by error.
-use crate::sides::{INTERFACE, PLAIN, ROOT, Row, class, classes};
+use crate::sides::{INTERFACE, PLAIN, ROOT, Row, class, classes, platform};
 use jc_base::items::Items;
 use jc_base::name::Name;
 use jc_facts::act::Act;
@@ -419,34 +419,79 @@ const ASSIGNMENT_STEP: &[Step] = &[
     (Use::Assign(b"[I", b"[J"), Some(LinkError::VerifyError)),
 ];
 
-/// The outcomes of the client with these items: its own loading, its items, and the loading of its superclass, which stands after it
-/// by name.
-fn outcomes(rt: &impl Abort, alloc: Global, steps: &[Step]) -> Result<Vec<Outcome>, Fail> {
+fn items_of_steps(alloc: Global, steps: &[Step]) -> Result<Items<Item>, AllocError> {
     let mut items = Vec::new(alloc);
     for step in steps {
         items.push(item(alloc, &step.0)?)?;
     }
+    Ok(Items::from_vec(items))
+}
+
+fn client_of_steps(alloc: Global, steps: &[Step]) -> Result<ClientClass, AllocError> {
+    let items = items_of_steps(alloc, steps)?;
+    Ok(ClientClass {
+        facts: class(alloc, &CLIENT)?,
+        items,
+    })
+}
+
+/// The client with these items, and its superclass.
+fn clients_of_steps(alloc: Global, steps: &[Step]) -> Result<Vec<ClientClass>, AllocError> {
     let mut clients = Vec::new(alloc);
     clients.push(client(alloc, &MID, &[])?)?;
-    clients.push(ClientClass {
-        facts: class(alloc, &CLIENT)?,
-        items: Items::from_vec(items),
-    })?;
-    let platform = classes(alloc, &[ROOT])?;
-    let release = classes(alloc, RELEASE)?;
-    match linked(rt, alloc, platform.as_slice(), release, clients)? {
+    clients.push(client_of_steps(alloc, steps)?)?;
+    Ok(clients)
+}
+
+fn release(alloc: Global) -> Result<Vec<ClassFacts>, AllocError> {
+    classes(alloc, RELEASE)
+}
+
+fn linked_over(
+    rt: &impl Abort,
+    alloc: Global,
+    platform: &[ClassFacts],
+    clients: Vec<ClientClass>,
+) -> Result<Result<Vec<Outcome>, LinkRefusal>, AllocError> {
+    let release = release(alloc)?;
+    linked(rt, alloc, platform, release, clients)
+}
+
+fn outcomes_over(
+    rt: &impl Abort,
+    alloc: Global,
+    platform: &[ClassFacts],
+    clients: Vec<ClientClass>,
+) -> Result<Vec<Outcome>, Fail> {
+    match linked_over(rt, alloc, platform, clients)? {
         Ok(outcomes) => Ok(outcomes),
         Err(_) => Err(Fail::new("refused")),
     }
 }
 
-/// Whether the outcomes are those of the steps.
-fn check(rt: &impl Abort, alloc: Global, steps: &[Step]) -> Result<(), Fail> {
-    let outcomes = outcomes(rt, alloc, steps)?;
+/// The outcomes of the clients with the release.
+fn outcomes(
+    rt: &impl Abort,
+    alloc: Global,
+    clients: Vec<ClientClass>,
+) -> Result<Vec<Outcome>, Fail> {
+    let platform = platform(alloc)?;
+    outcomes_over(rt, alloc, platform.as_slice(), clients)
+}
+
+/// Whether the outcomes are those of the client's own loading, of the steps, and of the loading of its superclass, which stands after
+/// it by name.
+fn see_errors(rt: &impl Abort, outcomes: &[Outcome], steps: &[Step]) {
     assert_eq!(rt; outcomes.len(), steps.len() + 2);
-    for (outcome, step) in outcomes.as_slice()[1..].iter().zip(steps) {
+    for (outcome, step) in outcomes[1..].iter().zip(steps) {
         assert_eq!(rt; outcome.error, step.1);
     }
+}
+
+fn check(rt: &impl Abort, alloc: Global, steps: &[Step]) -> Result<(), Fail> {
+    let clients = clients_of_steps(alloc, steps)?;
+    let outcomes = outcomes(rt, alloc, clients)?;
+    see_errors(rt, outcomes.as_slice(), steps);
     Ok(())
 }
 
@@ -475,96 +520,172 @@ fn errors_of_assignment(rt: HostRuntime) -> Result<(), Fail> {
     check(&rt, rt.alloc(), ASSIGNMENT_STEP)
 }
 
-#[test]
-fn clients_by_name_and_items_where_they_load(rt: HostRuntime) -> Result<(), Fail> {
-    let alloc = rt.alloc();
+const ORPHAN: Row = Row {
+    superclass: b"p/Gone",
+    ..CLIENT
+};
+
+/// A client that loads and one that doesn't, each with an item.
+fn client_and_orphan(alloc: Global) -> Result<Vec<ClientClass>, AllocError> {
     let mut clients = Vec::new(alloc);
     clients.push(client(alloc, &MID, &[Use::Class(b"[I")])?)?;
-    let orphan = Row {
-        superclass: b"p/Gone",
-        ..CLIENT
-    };
-    clients.push(client(alloc, &orphan, &[Use::Class(b"[I")])?)?;
-    let platform = classes(alloc, &[ROOT])?;
-    let release = classes(alloc, RELEASE)?;
-    let outcomes = linked(&rt, alloc, platform.as_slice(), release, clients)?;
-    let outcomes = outcomes.expect(&rt, "allowed clients");
-    assert_eq!(rt; outcomes.len(), 3);
-    for (outcome, wanted) in outcomes.as_slice().iter().zip(&[
-        (b"q/C".as_slice(), Some(LinkError::NoClassDefFoundError)),
-        (b"q/Mid".as_slice(), None),
-        (b"q/Mid".as_slice(), None),
-    ]) {
-        assert!(rt; outcome.class.as_bytes() == wanted.0);
-        assert_eq!(rt; outcome.error, wanted.1);
+    clients.push(client(alloc, &ORPHAN, &[Use::Class(b"[I")])?)?;
+    Ok(clients)
+}
+
+/// A class and its error.
+type Told = (Word, Option<LinkError>);
+
+const BY_NAME: &[Told] = &[
+    (b"q/C", Some(LinkError::NoClassDefFoundError)),
+    (b"q/Mid", None),
+    (b"q/Mid", None),
+];
+
+fn see_told(rt: &impl Abort, outcomes: &[Outcome], wanted: &[Told]) {
+    assert_eq!(rt; outcomes.len(), wanted.len());
+    for (outcome, told) in outcomes.iter().zip(wanted) {
+        assert!(rt; outcome.class.as_bytes() == told.0);
+        assert_eq!(rt; outcome.error, told.1);
     }
+}
+
+#[test]
+fn clients_by_name_and_items_where_they_load(rt: HostRuntime) -> Result<(), Fail> {
+    let clients = client_and_orphan(rt.alloc())?;
+    let outcomes = outcomes(&rt, rt.alloc(), clients)?;
+    see_told(&rt, outcomes.as_slice(), BY_NAME);
     Ok(())
 }
 
 // ---- refusals
 
+/// A class below one that isn't there.
+const BELOW: Row = Row {
+    name: b"p/A",
+    superclass: b"q/Above",
+    ..PLAIN
+};
+
+fn renamed(facts: ClassFacts, name: Name) -> ClassFacts {
+    ClassFacts { name, ..facts }
+}
+
+/// A plain client of this name.
+fn client_called(alloc: Global, called: &[u8]) -> Result<ClientClass, AllocError> {
+    let name = name(alloc, called)?;
+    let facts = class(alloc, &PLAIN)?;
+    Ok(ClientClass {
+        facts: renamed(facts, name),
+        items: Items::from_vec(Vec::new(alloc)),
+    })
+}
+
+fn clients_called(alloc: Global, called: &[u8]) -> Result<Vec<ClientClass>, AllocError> {
+    let mut clients = Vec::new(alloc);
+    clients.push(client_called(alloc, called)?)?;
+    Ok(clients)
+}
+
+fn release_below(alloc: Global) -> Result<Vec<ClassFacts>, AllocError> {
+    classes(alloc, &[BELOW])
+}
+
+fn linked_below(
+    rt: &impl Abort,
+    alloc: Global,
+    platform: &[ClassFacts],
+    clients: Vec<ClientClass>,
+) -> Result<Result<Vec<Outcome>, LinkRefusal>, AllocError> {
+    let release = release_below(alloc)?;
+    linked(rt, alloc, platform, release, clients)
+}
+
 /// The refusal of a client of this name over a release with the class `p/A` below `q/Above`.
 fn refusal(
     rt: &impl Abort,
     alloc: Global,
-    platform: &[Row],
+    platform: &[ClassFacts],
     called: &[u8],
 ) -> Result<LinkRefusal, Fail> {
-    let mut named = client(alloc, &PLAIN, &[])?;
-    named.facts.name = name(alloc, called)?;
-    let mut clients = Vec::new(alloc);
-    clients.push(named)?;
-    let platform = classes(alloc, platform)?;
-    let release = classes(
-        alloc,
-        &[Row {
-            name: b"p/A",
-            superclass: b"q/Above",
-            ..PLAIN
-        }],
-    )?;
-    match linked(rt, alloc, platform.as_slice(), release, clients)? {
+    let clients = clients_called(alloc, called)?;
+    match linked_below(rt, alloc, platform, clients)? {
         Ok(_) => Err(Fail::new("linked")),
         Err(refusal) => Ok(refusal),
     }
 }
 
-fn refuses(rt: &impl Abort, alloc: Global, called: &[u8], wanted: ClientPart) -> Result<(), Fail> {
-    match refusal(rt, alloc, &[ROOT], called)? {
-        LinkRefusal::ClientName { name, part } => {
-            assert!(rt; name.as_bytes() == called);
-            assert_eq!(rt; part, wanted);
-            Ok(())
-        }
-        _ => Err(Fail::new("another refusal")),
+fn is_of_name(refusal: &LinkRefusal, called: &[u8], wanted: ClientPart) -> bool {
+    match refusal {
+        LinkRefusal::ClientName { name, part } => name.as_bytes() == called && *part == wanted,
+        _ => false,
     }
 }
 
-#[test]
-fn names_that_no_client_may_have(rt: HostRuntime) -> Result<(), Fail> {
-    let alloc = rt.alloc();
-    refuses(&rt, alloc, b"p/A", ClientPart::Declared)?;
-    refuses(&rt, alloc, b"q/Above", ClientPart::Super)?;
-    refuses(&rt, alloc, b"p/X", ClientPart::Package)?;
-    // A lone surrogate: a name in modified UTF-8, and no UTF-8.
-    refuses(&rt, alloc, b"r/\xed\xa0\x80", ClientPart::Encoding)?;
+fn refuses(
+    rt: &impl Abort,
+    alloc: Global,
+    platform: &[ClassFacts],
+    called: &[u8],
+    wanted: ClientPart,
+) -> Result<(), Fail> {
+    let refusal = refusal(rt, alloc, platform, called)?;
+    assert!(rt; is_of_name(&refusal, called, wanted));
+    Ok(())
+}
+
+fn long_name(alloc: Global) -> Result<Vec<u8>, AllocError> {
     let mut long = Vec::new(alloc);
     for _ in 0..4091 {
         long.push(b'n')?;
     }
-    refuses(&rt, alloc, long.as_slice(), ClientPart::Length)
+    Ok(long)
+}
+
+/// A name, and the part of it for which no client may have it.
+const REFUSED: &[(Word, ClientPart)] = &[
+    (b"p/A", ClientPart::Declared),
+    (b"q/Above", ClientPart::Super),
+    (b"p/X", ClientPart::Package),
+    // A lone surrogate: a name in modified UTF-8, and no UTF-8.
+    (b"r/\xed\xa0\x80", ClientPart::Encoding),
+];
+
+fn see_refused(rt: &impl Abort, alloc: Global, platform: &[ClassFacts]) -> Result<(), Fail> {
+    for (called, part) in REFUSED {
+        refuses(rt, alloc, platform, called, *part)?;
+    }
+    Ok(())
+}
+
+fn see_long(rt: &impl Abort, alloc: Global, platform: &[ClassFacts]) -> Result<(), Fail> {
+    let long = long_name(alloc)?;
+    refuses(rt, alloc, platform, long.as_slice(), ClientPart::Length)
 }
 
 #[test]
-fn root_and_overlap_come_before_names(rt: HostRuntime) -> Result<(), Fail> {
-    let alloc = rt.alloc();
-    let bad_root = refusal(&rt, alloc, &[], b"p/X")?;
-    assert!(rt; matches!(bad_root, LinkRefusal::BadRoot(_)));
-    let twice = Row {
-        name: b"p/A",
-        ..PLAIN
-    };
-    let overlap = refusal(&rt, alloc, &[ROOT, twice], b"p/X")?;
-    assert!(rt; matches!(overlap, LinkRefusal::Overlap(_)));
+fn names_that_no_client_may_have(rt: HostRuntime) -> Result<(), Fail> {
+    let platform = platform(rt.alloc())?;
+    see_refused(&rt, rt.alloc(), platform.as_slice())?;
+    see_long(&rt, rt.alloc(), platform.as_slice())
+}
+
+/// A platform that also has a class of the release.
+fn platform_with_it(alloc: Global) -> Result<Vec<ClassFacts>, AllocError> {
+    classes(alloc, &[ROOT, BELOW])
+}
+
+#[test]
+fn the_root_comes_before_names(rt: HostRuntime) -> Result<(), Fail> {
+    let refusal = refusal(&rt, rt.alloc(), &[], b"p/X")?;
+    assert!(rt; matches!(refusal, LinkRefusal::BadRoot(_)));
+    Ok(())
+}
+
+#[test]
+fn overlap_comes_before_names(rt: HostRuntime) -> Result<(), Fail> {
+    let platform = platform_with_it(rt.alloc())?;
+    let refusal = refusal(&rt, rt.alloc(), platform.as_slice(), b"p/X")?;
+    assert!(rt; matches!(refusal, LinkRefusal::Overlap(_)));
     Ok(())
 }

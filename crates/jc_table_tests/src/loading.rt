@@ -1,7 +1,6 @@
 //! Load faults of small sides, by the pass over all classes and by the plain search.
-use crate::sides::{INTERFACE, PLAIN, Row, class, table};
+use crate::sides::{INTERFACE, PLAIN, Row, class_of, table};
 use jc_base::name::Name;
-use jc_facts::class_facts::ClassFacts;
 use jc_facts::key::Key;
 use jc_facts::link_error::LinkError;
 use jc_load::extending::extendable;
@@ -222,24 +221,49 @@ const ROWS: &[(Row, Option<LinkError>)] = &[
     ),
 ];
 
-fn classes(alloc: Global) -> Result<Vec<ClassFacts>, AllocError> {
-    let mut classes = Vec::new(alloc);
-    for (row, _) in ROWS {
-        classes.push(class(alloc, row)?)?;
+// What a function names is a part of it: the rows are named here alone.
+fn rows() -> &'static [(Row, Option<LinkError>)] {
+    ROWS
+}
+
+fn side_rows(alloc: Global) -> Result<Vec<Row>, AllocError> {
+    let mut side = Vec::new(alloc);
+    for (row, _) in rows() {
+        side.push(*row)?;
     }
-    Ok(classes)
+    Ok(side)
+}
+
+fn side(rt: &impl Abort, alloc: Global) -> Result<Table, Fail> {
+    let side = side_rows(alloc)?;
+    table(rt, alloc, side.as_slice())
+}
+
+// Whether the pass over all classes and the plain search find this load fault.
+fn has_fault(
+    rt: &impl Abort,
+    alloc: Global,
+    table: &Table,
+    name: &[u8],
+    fault: Option<LinkError>,
+) -> Result<bool, AllocError> {
+    let class = class_of(rt, table, name);
+    let searched = search_fault(alloc, table, class)?;
+    Ok(load_error(table, class) == fault && searched == fault)
+}
+
+fn see_faults(rt: &impl Abort, alloc: Global, table: &Table) -> Result<(), Fail> {
+    for (row, fault) in rows() {
+        let is_fault = has_fault(rt, alloc, table, row.name, *fault)?;
+        assert!(rt; is_fault);
+    }
+    Ok(())
 }
 
 #[test]
 fn load_faults_of_small_sides(rt: HostRuntime) -> Result<(), Fail> {
-    let alloc = rt.alloc();
-    let table = table(&rt, alloc, classes(alloc)?)?;
-    for (row, fault) in ROWS {
-        let class = table.get(row.name).expect(&rt, "a class of the table");
-        assert_eq!(rt; load_error(&table, class), *fault);
-        assert_eq!(rt; search_fault(alloc, &table, class)?, *fault);
-    }
-    Ok(())
+    let table = side(&rt, rt.alloc())?;
+    see_faults(&rt, rt.alloc(), &table)
 }
 
 // A class, whether `p/Let` may extend it, and whether `m()V` is final in it.
@@ -252,22 +276,53 @@ const OPEN: &[(&[u8], bool, bool)] = &[
     (b"q/Far", true, false),
 ];
 
-#[test]
-fn who_may_extend_and_override(rt: HostRuntime) -> Result<(), Fail> {
-    let alloc = rt.alloc();
-    let table = table(&rt, alloc, classes(alloc)?)?;
-    let client = Name::from_bytes(alloc, b"p/Let")?;
-    let key = Key {
+fn key(alloc: Global) -> Result<Key, AllocError> {
+    Ok(Key {
         name: Name::from_bytes(alloc, b"m")?,
         descriptor: Name::from_bytes(alloc, b"()V")?,
-    };
-    for (name, extends, is_final) in OPEN {
-        let class = table.get(name).expect(&rt, "a class of the table");
-        assert_eq!(rt; extendable(&table, class, &client), *extends);
-        assert_eq!(rt; finals(&table, class, &key), *is_final);
+    })
+}
+
+// Whether a class of this name may extend the class.
+fn may_extend(
+    rt: &impl Abort,
+    alloc: Global,
+    table: &Table,
+    class: &[u8],
+    name: &[u8],
+) -> Result<bool, AllocError> {
+    let class = class_of(rt, table, class);
+    let name = Name::from_bytes(alloc, name)?;
+    Ok(extendable(table, class, &name))
+}
+
+fn see_extending(rt: &impl Abort, alloc: Global, table: &Table) -> Result<(), Fail> {
+    for (name, extends, _) in OPEN {
+        let may = may_extend(rt, alloc, table, name, b"p/Let")?;
+        assert_eq!(rt; may, *extends);
     }
-    let other = Name::from_bytes(alloc, b"p/Other")?;
-    let sealed = table.get(b"p/Sealed").expect(&rt, "a class of the table");
-    assert!(rt; !extendable(&table, sealed, &other));
+    let other = may_extend(rt, alloc, table, b"p/Sealed", b"p/Other")?;
+    assert!(rt; !other);
     Ok(())
+}
+
+fn see_finals(rt: &impl Abort, alloc: Global, table: &Table) -> Result<(), Fail> {
+    let key = key(alloc)?;
+    for (name, _, is_final) in OPEN {
+        let class = class_of(rt, table, name);
+        assert_eq!(rt; finals(table, class, &key), *is_final);
+    }
+    Ok(())
+}
+
+#[test]
+fn who_may_extend(rt: HostRuntime) -> Result<(), Fail> {
+    let table = side(&rt, rt.alloc())?;
+    see_extending(&rt, rt.alloc(), &table)
+}
+
+#[test]
+fn who_may_override(rt: HostRuntime) -> Result<(), Fail> {
+    let table = side(&rt, rt.alloc())?;
+    see_finals(&rt, rt.alloc(), &table)
 }

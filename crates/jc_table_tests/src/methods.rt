@@ -1,7 +1,11 @@
 //! Lookups of one method from the classes of a small side.
-use crate::sides::{self, INTERFACE, PLAIN, class, table};
+ghost use Rattle.std.specs.Prelude.{◌≡◌, ◌<◌, None};
+ghost use Rattle.jc_facts.specs.world.World.{size};
+ghost use Rattle.jc_facts.specs.world.Loading.{load_fault};
+ghost use Rattle.jc_table.specs.Ids.{name_at};
+
+use crate::sides::{self, INTERFACE, PLAIN, loaded, table};
 use jc_base::name::Name;
-use jc_facts::class_facts::ClassFacts;
 use jc_facts::flags::is_interface;
 use jc_facts::key::Key;
 use jc_method::find::{find_in_chain, find_interface_method, find_method, inherits_instance};
@@ -145,12 +149,17 @@ const ROWS: &[Row] = &[
     },
 ];
 
-fn classes(alloc: Global) -> Result<Vec<ClassFacts>, AllocError> {
-    let mut classes = Vec::new(alloc);
+fn rows(alloc: Global) -> Result<Vec<sides::Row>, AllocError> {
+    let mut rows = Vec::new(alloc);
     for row in ROWS {
-        classes.push(class(alloc, &row.class)?)?;
+        rows.push(row.class)?;
     }
-    Ok(classes)
+    Ok(rows)
+}
+
+fn side(rt: &impl Abort, alloc: Global) -> Result<Table, Fail> {
+    let rows = rows(alloc)?;
+    table(rt, alloc, rows.as_slice())
 }
 
 fn key(alloc: Global, name: &[u8]) -> Result<Key, AllocError> {
@@ -176,35 +185,55 @@ fn number(table: &Table, name: Option<&[u8]>) -> Option<ClassId> {
     }
 }
 
-// Whether all calls answer for the class of the row as it says.
-fn agrees(alloc: Global, table: &Table, row: &Row, key: &Key) -> Result<bool, AllocError> {
-    let Some(class) = table.get(row.class.name) else {
-        return Ok(false);
-    };
-    let None = table.fault_at(class) else {
-        return Ok(false);
-    };
-    let found = if is_interface(table.facts(class).flags) {
+// What a reference to the class or the interface finds.
+fn found(table: &Table, class: ClassId, key: &Key) -> Option<Found>
+    requires class { class < size table.now }
+    requires loads { load_fault table.now (name_at table.now class) ≡ None }
+{
+    if is_interface(table.facts(class).flags) {
         find_interface_method(table, class, key)
     } else {
         find_method(table, class, key)
-    };
+    }
+}
+
+fn key_count(alloc: Global, table: &Table, class: ClassId) -> Result<usize, AllocError>
+    requires class { class < size table.now }
+    requires loads { load_fault table.now (name_at table.now class) ≡ None }
+{
     let keys = method_keys(alloc, table, class)?;
+    Ok(keys.len())
+}
+
+// Whether all calls answer for the class of the row as it says.
+fn agrees(
+    rt: &impl Abort,
+    alloc: Global,
+    table: &Table,
+    row: &Row,
+    key: &Key,
+) -> Result<bool, AllocError> {
+    let class = loaded(rt, table, row.class.name);
+    let keys = key_count(alloc, table, class)?;
     Ok(
         owner(find_in_chain(table, class, key)) == number(table, row.chain)
-            && owner(found) == number(table, row.found)
+            && owner(found(table, class, key)) == number(table, row.found)
             && inherits_instance(table, class, key) == row.inherits
-            && keys.len() == row.keys,
+            && keys == row.keys,
     )
+}
+
+fn see_rows(rt: &impl Abort, alloc: Global, table: &Table) -> Result<(), Fail> {
+    let key = key(alloc, b"m")?;
+    for row in ROWS {
+        let agrees = agrees(rt, alloc, table, row, &key)?;
+        assert!(rt; agrees);
+    }
+    Ok(())
 }
 
 #[test]
 fn lookups_of_a_method(rt: HostRuntime) -> Result<(), Fail> {
-    let alloc = rt.alloc();
-    let table = table(&rt, alloc, classes(alloc)?)?;
-    let key = key(alloc, b"m")?;
-    for row in ROWS {
-        assert!(rt; agrees(alloc, &table, row, &key)?);
-    }
-    Ok(())
+    let table = side(&rt, rt.alloc())?;
+    see_rows(&rt, rt.alloc(), &table)
 }

@@ -1,5 +1,5 @@
 //! The rows of a class one of whose methods moved to its superclass, as the table of each release lends them.
-use crate::sides::{Declared, PLAIN, Row, classes, table};
+use crate::sides::{Declared, PLAIN, Row, table};
 use jc_base::name::Name;
 use jc_facts::key::Key;
 use jc_table::ids::Found;
@@ -107,28 +107,25 @@ fn has_keys(table: &Table, init: &Key, moved: &Key) -> bool {
 }
 
 // Whether the calls tell of a release whose method of the second key the class of this name has.
-fn is_told(
-    rt: &impl Abort,
-    alloc: Global,
-    release: &[Row],
-    keys: (&Key, &Key),
-    owner: &[u8],
-) -> Result<bool, Fail> {
-    let table = table(rt, alloc, classes(alloc, release)?)?;
-    Ok(
-        all_load(&table)
-            && has_keys(&table, keys.0, keys.1)
-            && has_methods(&table, keys.0, keys.1, owner),
-    )
+fn is_told(table: &Table, init: &Key, moved: &Key, owner: &[u8]) -> bool {
+    all_load(table) && has_keys(table, init, moved) && has_methods(table, init, moved, owner)
+}
+
+fn see_owner(rt: &impl Abort, alloc: Global, table: &Table, owner: &[u8]) -> Result<(), Fail> {
+    let init = key(alloc, b"<init>")?;
+    let moved = key(alloc, b"m")?;
+    assert!(rt; is_told(table, &init, &moved, owner));
+    Ok(())
 }
 
 #[test]
-fn a_method_moves_to_the_superclass(rt: HostRuntime) -> Result<(), Fail> {
-    let alloc = rt.alloc();
-    let init = key(alloc, b"<init>")?;
-    let moved = key(alloc, b"m")?;
-    let before = is_told(&rt, alloc, OLD, (&init, &moved), b"p/A")?;
-    let after = is_told(&rt, alloc, NEW, (&init, &moved), b"p/B")?;
-    assert!(rt; before && after);
-    Ok(())
+fn a_method_of_its_own(rt: HostRuntime) -> Result<(), Fail> {
+    let table = table(&rt, rt.alloc(), OLD)?;
+    see_owner(&rt, rt.alloc(), &table, b"p/A")
+}
+
+#[test]
+fn the_method_moved_to_the_superclass(rt: HostRuntime) -> Result<(), Fail> {
+    let table = table(&rt, rt.alloc(), NEW)?;
+    see_owner(&rt, rt.alloc(), &table, b"p/B")
 }

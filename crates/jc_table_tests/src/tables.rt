@@ -1,5 +1,5 @@
 //! Tables of small sides: a plain `p/A` over a platform of `java/lang/Object` alone, roots that aren't as they have to be, and classes on a cycle.
-use crate::sides::{INTERFACE, PLAIN, ROOT, Row, build, class, classes, table};
+use crate::sides::{INTERFACE, PLAIN, ROOT, Row, build, class, class_of, classes, platform, table};
 use jc_base::name::Name;
 use jc_facts::class_facts::ClassFacts;
 use jc_facts::key_set::KeyRef;
@@ -16,14 +16,11 @@ const A: Row = Row {
     ..PLAIN
 };
 
-#[test]
-fn plain_class_over_a_platform(rt: HostRuntime) -> Result<(), Fail> {
-    let alloc = rt.alloc();
-    let table = table(&rt, alloc, classes(alloc, &[A])?)?;
+fn see_plain_class(rt: &impl Abort, table: &Table) {
     assert_eq!(rt; table.count(), 2);
     assert_eq!(rt; table.id(2), None);
-    let object = table.id(0).expect(&rt, "a first class");
-    let plain = table.get(b"p/A").expect(&rt, "p/A");
+    let object = table.id(0).expect(rt, "a first class");
+    let plain = class_of(rt, table, b"p/A");
     assert_eq!(rt; table.id(1), Some(plain));
     assert_eq!(rt; table.get(b"java/lang/Object"), Some(object));
     assert_eq!(rt; table.get(b"p/B"), None);
@@ -33,23 +30,52 @@ fn plain_class_over_a_platform(rt: HostRuntime) -> Result<(), Fail> {
     assert!(rt; table.in_platform(object) && !table.in_platform(plain));
     assert!(rt; table.has_super(plain, object) && table.has_super(plain, plain));
     assert!(rt; !table.has_super(object, plain));
+}
+
+#[test]
+fn plain_class_over_a_platform(rt: HostRuntime) -> Result<(), Fail> {
+    let table = table(&rt, rt.alloc(), &[A])?;
+    see_plain_class(&rt, &table);
+    Ok(())
+}
+
+// Whether the name is declared twice.
+fn is_overlap(built: &Result<Table, TableError>, name: &[u8]) -> bool {
+    match built {
+        Err(TableError::Overlap(twice)) => twice.as_bytes() == name,
+        _ => false,
+    }
+}
+
+fn is_without_root(built: &Result<Table, TableError>) -> bool {
+    match built {
+        Err(TableError::BadRoot(part)) => *part == RootPart::Missing,
+        _ => false,
+    }
+}
+
+// What is built of a root as the release over this platform.
+fn build_root(
+    rt: &impl Abort,
+    alloc: Global,
+    over: &[ClassFacts],
+) -> Result<Result<Table, TableError>, AllocError> {
+    let release = platform(alloc)?;
+    build(rt, alloc, over, release)
+}
+
+#[test]
+fn a_release_with_a_class_of_the_platform(rt: HostRuntime) -> Result<(), Fail> {
+    let root = platform(rt.alloc())?;
+    let built = build_root(&rt, rt.alloc(), root.as_slice())?;
+    assert!(rt; is_overlap(&built, b"java/lang/Object"));
     Ok(())
 }
 
 #[test]
-fn refused_sides(rt: HostRuntime) -> Result<(), Fail> {
-    let alloc = rt.alloc();
-    let root = classes(alloc, &[ROOT])?;
-    match build(&rt, alloc, root.as_slice(), classes(alloc, &[ROOT])?)? {
-        Err(TableError::Overlap(name)) => {
-            assert!(rt; name.as_bytes() == b"java/lang/Object".as_slice())
-        }
-        _ => return Err(Fail::new("no overlap")),
-    }
-    match build(&rt, alloc, &[], root)? {
-        Err(TableError::BadRoot(part)) => assert_eq!(rt; part, RootPart::Missing),
-        _ => return Err(Fail::new("no bad root")),
-    }
+fn a_platform_without_a_root(rt: HostRuntime) -> Result<(), Fail> {
+    let built = build_root(&rt, rt.alloc(), &[])?;
+    assert!(rt; is_without_root(&built));
     Ok(())
 }
 
@@ -126,12 +152,17 @@ const ROOTS: &[(Row, Option<RootPart>)] = &[
     ),
 ];
 
+fn root_part(alloc: Global, row: &Row) -> Result<Option<RootPart>, AllocError> {
+    let root = class(alloc, row)?;
+    Ok(root_fault(&[root]))
+}
+
 #[test]
 fn each_part_of_a_root(rt: HostRuntime) -> Result<(), Fail> {
-    let alloc = rt.alloc();
     assert_eq!(rt; root_fault(&[]), Some(RootPart::Missing));
     for (row, part) in ROOTS {
-        assert_eq!(rt; root_fault(&[class(alloc, row)?]), *part);
+        let found = root_part(rt.alloc(), row)?;
+        assert_eq!(rt; found, *part);
     }
     Ok(())
 }
@@ -174,6 +205,9 @@ const ABOVE: &[(&[u8], &[&[u8]])] = &[
     (b"p/E", &[b"p/E"]),
 ];
 
+// Names, of which the last two are of no class.
+const SOUGHT: &[&[u8]] = &[b"p/A", b"p/E", b"java/lang/Object", b"q/None", b""];
+
 // Whether just these stand above the class, of those that have a row.
 fn has_above(table: &Table, name: &[u8], above: &[&[u8]]) -> bool {
     let Some(id) = table.get(name) else {
@@ -204,25 +238,39 @@ fn finds_the_same(
     }
 }
 
-#[test]
-fn classes_on_a_cycle(rt: HostRuntime) -> Result<(), Fail> {
-    let alloc = rt.alloc();
-    let platform = classes(alloc, &[ROOT])?;
-    let release = classes(alloc, CYCLES)?;
-    let table = table(&rt, alloc, classes(alloc, CYCLES)?)?;
+fn see_cycles(rt: &impl Abort, table: &Table) {
     for (name, above) in ABOVE {
-        assert!(rt; has_above(&table, name, above));
+        assert!(rt; has_above(table, name, above));
     }
-    for name in [
-        b"p/A".as_slice(),
-        b"p/E",
-        b"java/lang/Object",
-        b"q/None",
-        b"",
-    ] {
-        assert!(rt; finds_the_same(&table, platform.as_slice(), release.as_slice(), name));
+}
+
+fn see_same(
+    rt: &impl Abort,
+    alloc: Global,
+    table: &Table,
+    platform: &[ClassFacts],
+) -> Result<(), Fail> {
+    let release = classes(alloc, CYCLES)?;
+    for name in SOUGHT {
+        assert!(rt; finds_the_same(table, platform, release.as_slice(), name));
     }
     Ok(())
+}
+
+fn see_sought(rt: &impl Abort, alloc: Global, table: &Table) -> Result<(), Fail> {
+    let platform = platform(alloc)?;
+    see_same(rt, alloc, table, platform.as_slice())
+}
+
+fn cycles(rt: &impl Abort, alloc: Global) -> Result<Table, Fail> {
+    table(rt, alloc, CYCLES)
+}
+
+#[test]
+fn classes_on_a_cycle(rt: HostRuntime) -> Result<(), Fail> {
+    let table = cycles(&rt, rt.alloc())?;
+    see_cycles(&rt, &table);
+    see_sought(&rt, rt.alloc(), &table)
 }
 
 // `p/J` extends the interface `p/I`, which declares the field `f`, the class `p/S` implements `p/J` and permits `q/T` to extend
@@ -248,43 +296,58 @@ const SEALED: &[Row] = &[
     },
 ];
 
-#[test]
-fn interfaces_and_names_of_a_side(rt: HostRuntime) -> Result<(), Fail> {
-    let alloc = rt.alloc();
-    let table = table(&rt, alloc, classes(alloc, SEALED)?)?;
-    let upper = table.get(b"p/I").expect(&rt, "p/I");
-    let lower = table.get(b"p/J").expect(&rt, "p/J");
-    let sealed = table.get(b"p/S").expect(&rt, "p/S");
-    assert!(rt;
-        table.is_below(sealed, upper)
-            && table.is_below(sealed, lower)
-            && table.is_below(lower, upper)
-    );
-    assert!(rt;
-        table.is_below(upper, upper)
-            && !table.is_below(upper, lower)
-            && !table.is_below(lower, sealed)
-    );
-    assert!(rt;
-        table.has_package(b"p") && table.has_package(b"java/lang") && !table.has_package(b"q")
-    );
-    assert!(rt;
-        table.names_super(&Name::from_bytes(alloc, b"p/J")?)
-            && !table.names_super(&Name::from_bytes(alloc, b"q/T")?)
-    );
-    assert!(rt;
-        table.begins(b"q/")
-            && table.begins(b"p/J")
-            && !table.begins(b"p/K")
-            && !table.begins(b"q/TT")
-    );
-    assert_eq!(rt; table.mention_count(), 10);
+fn see_interfaces(rt: &impl Abort, table: &Table) {
+    let upper = class_of(rt, table, b"p/I");
+    let lower = class_of(rt, table, b"p/J");
+    let sealed = class_of(rt, table, b"p/S");
+    assert!(rt; table.is_below(sealed, upper) && table.is_below(sealed, lower));
+    assert!(rt; table.is_below(lower, upper) && table.is_below(upper, upper));
+    assert!(rt; !table.is_below(upper, lower) && !table.is_below(lower, sealed));
     assert!(rt; table.interfaces(sealed).len() == 2 && table.interfaces(sealed).contains(&upper));
     assert!(rt; table.interfaces(lower).len() == 1 && table.interfaces(upper).is_empty());
-    let key = KeyRef::new(b"f", b"I");
-    assert!(rt; own_field(table.facts(upper), &key).is_some());
-    assert!(rt; own_field(table.facts(lower), &key).is_none());
     assert_eq!(rt; table.fault_at(sealed), None);
     assert!(rt; table.load_faults().len() == 4);
+}
+
+fn see_own_fields(rt: &impl Abort, table: &Table) {
+    let key = KeyRef::new(b"f", b"I");
+    let upper = class_of(rt, table, b"p/I");
+    let lower = class_of(rt, table, b"p/J");
+    assert!(rt; own_field(table.facts(upper), &key).is_some());
+    assert!(rt; own_field(table.facts(lower), &key).is_none());
+}
+
+fn names_super(alloc: Global, table: &Table, name: &[u8]) -> Result<bool, AllocError> {
+    let name = Name::from_bytes(alloc, name)?;
+    Ok(table.names_super(&name))
+}
+
+fn see_names(rt: &impl Abort, alloc: Global, table: &Table) -> Result<(), Fail> {
+    assert!(rt; table.has_package(b"p") && table.has_package(b"java/lang"));
+    assert!(rt; !table.has_package(b"q"));
+    assert!(rt; table.begins(b"q/") && table.begins(b"p/J"));
+    assert!(rt; !table.begins(b"p/K") && !table.begins(b"q/TT"));
+    assert_eq!(rt; table.mention_count(), 10);
+    let above = names_super(alloc, table, b"p/J")?;
+    let permitted = names_super(alloc, table, b"q/T")?;
+    assert!(rt; above && !permitted);
     Ok(())
+}
+
+fn sealed(rt: &impl Abort, alloc: Global) -> Result<Table, Fail> {
+    table(rt, alloc, SEALED)
+}
+
+#[test]
+fn interfaces_and_fields_of_a_side(rt: HostRuntime) -> Result<(), Fail> {
+    let table = sealed(&rt, rt.alloc())?;
+    see_interfaces(&rt, &table);
+    see_own_fields(&rt, &table);
+    Ok(())
+}
+
+#[test]
+fn names_of_a_side(rt: HostRuntime) -> Result<(), Fail> {
+    let table = sealed(&rt, rt.alloc())?;
+    see_names(&rt, rt.alloc(), &table)
 }
