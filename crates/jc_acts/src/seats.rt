@@ -17,7 +17,6 @@ use jc_table::table::Table;
 use std::alloc::{AllocError, Global};
 
 /// The seats that clients may have.
-#[derive(Drop)]
 pub struct Seats<'a> {
     // java/lang/Object, and then the base classes.
     pub(crate) all: Vec<Shared<'a>>,
@@ -28,6 +27,13 @@ pub struct Seats<'a> {
     // Whether the platform's classes are settled: then those that stand below none of these have no
     // closed act.
     settled: bool,
+}
+
+// One call at each exit of a function that owns it, where a derived drop is written out.
+impl Drop for Seats<'_> {
+    fn drop(self) {
+        let Seats { all: _, shrunk: _, left: _, settled: _ } = self;
+    }
 }
 
 // The number of the root of all classes.

@@ -15,12 +15,18 @@ use std::alloc::Global;
 
 /// Trees in memory. The calls of the given numbers, counted from 1 over `list` and `read_into`, fail.
 /// The counter of calls stops at `u64::MAX`, and no call made from then on fails.
-#[derive(Drop)]
 pub struct MemTrees {
     files: Vec<MemFile>,
     schedule: Schedule,
     failed: RootFaults,
     ghost distinct: { IsTrue (are_files (files_of files.items)) },
+}
+
+// One call at each exit of a function that owns it, where a derived drop is written out.
+impl Drop for MemTrees {
+    fn drop(self) {
+        let MemTrees { files: _, schedule: _, failed: _ } = self;
+    }
 }
 
 impl MemTrees {

@@ -1,4 +1,6 @@
 //! Records of classes.
+ghost use Rattle.std.specs.Prelude.{◌≡◌};
+
 use crate::key::Key;
 use jc_base::items::Items;
 use jc_base::name::Name;
@@ -37,7 +39,7 @@ pub struct Signed {
 }
 
 /// What the tool knows of a class or an interface (JVMS 4.1). Each list is in file order.
-#[derive(PartialEq, Eq, Debug, Drop)]
+#[derive(PartialEq, Eq, Debug)]
 pub struct ClassFacts {
     pub name: Name,
     pub major: u16,
@@ -52,4 +54,47 @@ pub struct ClassFacts {
     pub nest_members: Items<Name>,
     pub constants: Items<Fixed>,
     pub signatures: Items<Signed>,
+}
+
+// One call at each exit of a function that owns it, where a derived drop is written out.
+impl Drop for ClassFacts {
+    fn drop(self) {
+        let ClassFacts {
+            name: _,
+            major: _,
+            flags: _,
+            superclass: _,
+            interfaces: _,
+            fields: _,
+            methods: _,
+            permits: _,
+            nest_host: _,
+            nest_members: _,
+            constants: _,
+            signatures: _,
+        } = self;
+    }
+}
+
+impl ClassFacts {
+    /// Its name. The rest of it is dropped.
+    pub fn into_name(self) -> Name
+        ensures { result ≡ self.name }
+    {
+        let ClassFacts {
+            name,
+            major: _,
+            flags: _,
+            superclass: _,
+            interfaces: _,
+            fields: _,
+            methods: _,
+            permits: _,
+            nest_host: _,
+            nest_members: _,
+            constants: _,
+            signatures: _,
+        } = self;
+        name
+    }
 }

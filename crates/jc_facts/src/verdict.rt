@@ -52,9 +52,16 @@ pub enum Note {
 }
 
 /// What a new release breaks: the findings in their order, the collisions in theirs, and the notes.
-#[derive(PartialEq, Eq, Debug, Drop)]
+#[derive(PartialEq, Eq, Debug)]
 pub struct Verdict {
     pub findings: Items<Finding>,
     pub collisions: Items<Collision>,
     pub notes: Items<Note>,
+}
+
+// One call at each exit of a function that owns it, where a derived drop is written out.
+impl Drop for Verdict {
+    fn drop(self) {
+        let Verdict { findings: _, collisions: _, notes: _ } = self;
+    }
 }

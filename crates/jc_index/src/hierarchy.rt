@@ -16,13 +16,19 @@ use std::alloc::{AllocError, Global};
 use std::marker::Model;
 
 /// The classes of a side with what stands above each of them. A contract sees it as the side.
-#[derive(Drop)]
 pub struct Hierarchy {
     index: Index,
     // For each class the one that it names as its superclass.
     supers: Vec<Option<ClassId>>,
     // For each class the interfaces that it names, and those that they lead to.
     interfaces: Rows,
+}
+
+// One call at each exit of a function that owns it, where a derived drop is written out.
+impl Drop for Hierarchy {
+    fn drop(self) {
+        let Hierarchy { index: _, supers: _, interfaces: _ } = self;
+    }
 }
 
 impl Model for Hierarchy {

@@ -17,7 +17,6 @@ use std::alloc::{AllocError, Global};
 use std::marker::Model;
 
 /// The classes of a side, and their order by name. A contract sees it as the side.
-#[derive(Drop)]
 pub struct Index {
     // Those of the platform, and then those of the release.
     classes: Vec<ClassFacts>,
@@ -26,6 +25,13 @@ pub struct Index {
     order: Vec<usize>,
     // The names in this order, numbered.
     names: NumberedNames,
+}
+
+// One call at each exit of a function that owns it, where a derived drop is written out.
+impl Drop for Index {
+    fn drop(self) {
+        let Index { classes: _, platform: _, order: _, names: _ } = self;
+    }
 }
 
 impl Model for Index {

@@ -14,11 +14,17 @@ use std::alloc::{AllocError, Global};
 
 /// The packages of classes, the names that they name above themselves, and all names that they
 /// mention: their own, those, and those that they permit to extend them.
-#[derive(Drop)]
 pub struct MentionedNames {
     pub packages: NameSet,
     pub supers: NameSet,
     pub mentioned: NameSet,
+}
+
+// One call at each exit of a function that owns it, where a derived drop is written out.
+impl Drop for MentionedNames {
+    fn drop(self) {
+        let MentionedNames { packages: _, supers: _, mentioned: _ } = self;
+    }
 }
 
 // Copies the names to the end of the list.

@@ -8,10 +8,16 @@ use std::marker::Model;
 
 /// A list of classes for each class of a table. They are parts of one list, and may share what
 /// stands in it. A contract sees the lists.
-#[derive(Drop)]
 pub struct Rows {
     ids: Vec<ClassId>,
     parts: Vec<Option<Part>>,
+}
+
+// One call at each exit of a function that owns it, where a derived drop is written out.
+impl Drop for Rows {
+    fn drop(self) {
+        let Rows { ids: _, parts: _ } = self;
+    }
 }
 
 impl Model for Rows {

@@ -21,19 +21,31 @@ use std::str;
 const MOST_BYTES: usize = 4090;
 
 // The names of clients, and the packages that they are of.
-#[derive(Drop)]
 struct ClientNames {
     names: NameSet,
     packages: NameSet,
 }
 
+// One call at each exit of a function that owns it, where a derived drop is written out.
+impl Drop for ClientNames {
+    fn drop(self) {
+        let ClientNames { names: _, packages: _ } = self;
+    }
+}
+
 // Of the names of clients those that classes have and that they name above themselves, and of the
 // packages of clients those that classes are of.
-#[derive(Drop)]
 struct TakenNames {
     declared: NameSet,
     supers: NameSet,
     packages: NameSet,
+}
+
+// One call at each exit of a function that owns it, where a derived drop is written out.
+impl Drop for TakenNames {
+    fn drop(self) {
+        let TakenNames { declared: _, supers: _, packages: _ } = self;
+    }
 }
 
 // The same as lists that grow.

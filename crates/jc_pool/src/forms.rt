@@ -87,11 +87,17 @@ impl Form for DescriptorForms {
 }
 
 /// What is known of the texts, at their indices.
-#[derive(Drop)]
 pub(crate) struct Forms {
     pub classes: Vec<Option<ClassForm>>,
     pub names: Vec<Option<NameForms>>,
     pub descriptors: Vec<Option<DescriptorForms>>,
+}
+
+// One call at each exit of a function that owns it, where a derived drop is written out.
+impl Drop for Forms {
+    fn drop(self) {
+        let Forms { classes: _, names: _, descriptors: _ } = self;
+    }
 }
 
 /// Keeps what the text at this index is.

@@ -25,12 +25,18 @@ use thiserror::Error;
 
 /// The constant pool of a class file, with the file's major version. Its slices are parts of the
 /// file's bytes.
-#[derive(Drop)]
 pub struct Pool<'a> {
     major: u16,
     slots: Vec<Slot<'a>>,
     // Behind a shared reference, as no answer depends on which names were made before.
     names: RefCell<Names<'a>>,
+}
+
+// One call at each exit of a function that owns it, where a derived drop is written out.
+impl Drop for Pool<'_> {
+    fn drop(self) {
+        let Pool { major: _, slots: _, names: _ } = self;
+    }
 }
 
 impl<'a> Model for Pool<'a> {

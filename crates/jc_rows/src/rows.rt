@@ -14,7 +14,6 @@ use std::alloc::{AllocError, Global};
 
 /// For each class that loads, by its number, the fields and the methods that a lookup from it finds,
 /// and the keys by whose numbers they stand.
-#[derive(Drop)]
 pub struct Rows {
     /// The keys of all fields and methods that the classes declare.
     pub keys: Keys,
@@ -22,6 +21,13 @@ pub struct Rows {
     pub fields: Vec<Items<RowItem>>,
     /// The rows of methods (JVMS 5.4.3.3, 5.4.3.4); that of a class that doesn't load is empty.
     pub methods: Vec<Items<RowItem>>,
+}
+
+// One call at each exit of a function that owns it, where a derived drop is written out.
+impl Drop for Rows {
+    fn drop(self) {
+        let Rows { keys: _, fields: _, methods: _ } = self;
+    }
 }
 
 impl Rows {

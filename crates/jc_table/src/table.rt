@@ -53,7 +53,6 @@ pub enum TableError {
 
 /// The classes of a platform with one release of a library, found by their names. A contract sees
 /// it as the side.
-#[derive(Drop)]
 pub struct Table {
     // The classes, and what stands above each.
     hierarchy: Hierarchy,
@@ -62,6 +61,13 @@ pub struct Table {
     faults: Vec<Option<LinkError>>,
     // For each class that loads what the lookups from it find.
     rows: Rows,
+}
+
+// One call at each exit of a function that owns it, where a derived drop is written out.
+impl Drop for Table {
+    fn drop(self) {
+        let Table { hierarchy: _, mentioned: _, faults: _, rows: _ } = self;
+    }
 }
 
 impl Model for Table {

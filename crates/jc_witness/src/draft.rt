@@ -31,7 +31,6 @@ const MAJOR: u16 = 52;
 
 /// A class file of major 52 that is being made. A contract sees it as the class file with the parts
 /// that it has so far.
-#[derive(Drop)]
 pub(crate) struct Draft {
     name: Name,
     flags: u16,
@@ -40,6 +39,21 @@ pub(crate) struct Draft {
     fields: Vec<Member>,
     methods: Vec<Member>,
     bodies: Vec<Option<Body>>,
+}
+
+// One call at each exit of a function that owns it, where a derived drop is written out.
+impl Drop for Draft {
+    fn drop(self) {
+        let Draft {
+            name: _,
+            flags: _,
+            superclass: _,
+            interfaces: _,
+            fields: _,
+            methods: _,
+            bodies: _,
+        } = self;
+    }
 }
 
 impl Model for Draft {
@@ -137,22 +151,31 @@ impl Draft {
     pub(crate) fn finish(self, alloc: Global) -> Blueprint
         ensures { result ≡ self }
     {
+        let Draft {
+            name,
+            flags,
+            superclass,
+            interfaces,
+            fields,
+            methods,
+            bodies,
+        } = self;
         Blueprint {
             facts: ClassFacts {
-                name: self.name,
+                name,
                 major: MAJOR,
-                flags: self.flags,
-                superclass: Some(self.superclass),
-                interfaces: Items::from_vec(self.interfaces),
-                fields: Items::from_vec(self.fields),
-                methods: Items::from_vec(self.methods),
+                flags,
+                superclass: Some(superclass),
+                interfaces: Items::from_vec(interfaces),
+                fields: Items::from_vec(fields),
+                methods: Items::from_vec(methods),
                 permits: None,
                 nest_host: None,
                 nest_members: Items::from_vec(Vec::new(alloc)),
                 constants: Items::from_vec(Vec::new(alloc)),
                 signatures: Items::from_vec(Vec::new(alloc)),
             },
-            bodies: Items::from_vec(self.bodies),
+            bodies: Items::from_vec(bodies),
         }
     }
 }

@@ -57,7 +57,7 @@ fn record_of(
             if is_place(path.as_bytes(), facts.name.as_bytes()) {
                 Ok(Ok(facts))
             } else {
-                Ok(Err(FileFault::Misplaced(facts.name)))
+                Ok(Err(FileFault::Misplaced(facts.into_name())))
             }
         }
         Err(ReadError::Malformed(malformed)) => Ok(Err(FileFault::Malformed(malformed))),

@@ -70,12 +70,18 @@ fn folder(rt: &impl Abort, alloc: Global, failing: &[u64]) -> MemFolder {
 }
 
 /// A run that ended.
-#[derive(Drop)]
 struct Ended {
     status: u8,
     out: MemSink,
     err: MemSink,
     folder: MemFolder,
+}
+
+// One call at each exit of a function that owns it, where a derived drop is written out.
+impl Drop for Ended {
+    fn drop(self) {
+        let Ended { status: _, out: _, err: _, folder: _ } = self;
+    }
 }
 
 impl Ended {

@@ -16,7 +16,6 @@ struct Member<'a> {
 }
 
 /// A class. It has no nest host where the name is empty, and permits all where no names are given.
-#[derive(Drop)]
 pub(crate) struct Class<'a> {
     major: u16,
     flags: u16,
@@ -28,6 +27,24 @@ pub(crate) struct Class<'a> {
     permits: Vec<&'a str>,
     nest_host: &'a str,
     nest_members: Vec<&'a str>,
+}
+
+// One call at each exit of a function that owns it, where a derived drop is written out.
+impl Drop for Class<'_> {
+    fn drop(self) {
+        let Class {
+            major: _,
+            flags: _,
+            name: _,
+            superclass: _,
+            interfaces: _,
+            fields: _,
+            methods: _,
+            permits: _,
+            nest_host: _,
+            nest_members: _,
+        } = self;
+    }
 }
 
 /// The text before the mark, and the text behind it, or the text and nothing.
