@@ -1,3 +1,4 @@
+pub mod Places
 pub mod Causes
 pub mod Outside
 pub mod States

@@ -21,7 +21,11 @@ pub struct MemFolder {
 // One call at each exit of a function that owns it, where a derived drop is written out.
 impl Drop for MemFolder {
     fn drop(self) {
-        let MemFolder { files: _, schedule: _, faults: _ } = self;
+        let MemFolder {
+            files: _,
+            schedule: _,
+            faults: _,
+        } = self;
     }
 }
 

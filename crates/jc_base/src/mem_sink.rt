@@ -20,7 +20,11 @@ pub struct MemSink {
 // One call at each exit of a function that owns it, where a derived drop is written out.
 impl Drop for MemSink {
     fn drop(self) {
-        let MemSink { bytes: _, schedule: _, faults: _ } = self;
+        let MemSink {
+            bytes: _,
+            schedule: _,
+            faults: _,
+        } = self;
     }
 }
 

@@ -25,7 +25,11 @@ pub struct MemTrees {
 // One call at each exit of a function that owns it, where a derived drop is written out.
 impl Drop for MemTrees {
     fn drop(self) {
-        let MemTrees { files: _, schedule: _, failed: _ } = self;
+        let MemTrees {
+            files: _,
+            schedule: _,
+            failed: _,
+        } = self;
     }
 }
 

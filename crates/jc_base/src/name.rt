@@ -1,5 +1,5 @@
 //! Names of classes and members, and descriptors, as class files have them.
-ghost use Rattle.std.specs.Prelude.{◌≡◌, IfOk, Some, nat_eq, refl};
+ghost use Rattle.std.specs.Prelude.{◌≡◌, ◌≤◌, length, IfOk, Some, nat_eq, refl};
 ghost use Rattle.std.specs.Ordering.{nat_cmp};
 ghost use Rattle.std.specs.Hash as fed;
 ghost use Rattle.std.specs.Cmp.Lexicographic.{pointwise, slice_cmp, nat_list_eq_equiv, nat_list_cmp_total, texts_ties, texts_po};
@@ -14,20 +14,57 @@ use std::hash::{Hash, Hasher};
 use std::marker::Model;
 use std::rc::RcSlice;
 
-/// A name or a descriptor: a list of bytes, as a class file holds them (JVMS 4.2, 4.3, 4.4.7). A
-/// contract sees it as these bytes, which it is compared and hashed by. Its copies share them.
+/// As many bytes lie in a name itself: with their number and the tag they are as large as two words.
+const MOST_INSIDE: usize = 14;
+
+/// Where the bytes of a name are.
 #[derive(Drop)]
+enum Place {
+    /// In the name itself: the first so many of these.
+    Inside { len: u8, room: [u8; MOST_INSIDE] },
+    /// In memory that the copies of the name share.
+    Shared(RcSlice<u8>),
+}
+
+/// A name or a descriptor: a list of bytes, as a class file holds them (JVMS 4.2, 4.3, 4.4.7). A
+/// contract sees it as these bytes, which it is compared and hashed by. A short one takes no memory
+/// beside its own, and the copies of a long one share its bytes.
 pub struct Name {
-    bytes: RcSlice<u8>,
+    place: Place,
+}
+
+// One call at each exit of a function that owns it, where a derived drop is written out.
+impl Drop for Name {
+    fn drop(self) {
+        let Name { place: _ } = self;
+    }
 }
 
 impl Model for Name {
     ghost use Rattle.std.specs.Prelude.{List, ℕ};
-    ghost use Rattle.std.specs.Rc.{rc_slice_items};
 
     ghost Value = { List ℕ };
 
-    ghost view = { λ n. rc_slice_items n.bytes };
+    ghost use Rattle.jc_base.specs.Places.{bytes_at, Fits};
+
+    ghost view = { λ n. bytes_at n.place };
+
+    ghost invariant = { λ n. Fits n.place };
+}
+
+// A name that holds the bytes itself.
+fn inside(bytes: &[u8]) -> Name
+    requires { length bytes.now ≤ MOST_INSIDE }
+    ensures { result ≡ bytes.now }
+{
+    let mut room = [0; MOST_INSIDE];
+    room[..bytes.len()].copy_from_slice(bytes);
+    Name {
+        place: Place::Inside {
+            len: bytes.len() as u8,
+            room,
+        },
+    }
 }
 
 impl Name {
@@ -35,8 +72,11 @@ impl Name {
     pub fn from_bytes(alloc: Global, bytes: &[u8]) -> Result<Name, AllocError>
         ensures { IfOk result (λ name. name ≡ bytes.now) }
     {
+        if bytes.len() <= MOST_INSIDE {
+            return Ok(inside(bytes));
+        }
         Ok(Name {
-            bytes: RcSlice::from_slice(alloc, bytes)?,
+            place: Place::Shared(RcSlice::from_slice(alloc, bytes)?),
         })
     }
 
@@ -44,10 +84,13 @@ impl Name {
     pub fn as_bytes(&self) -> &[u8]
         ensures { result.now ≡ self.now }
     {
-        self.bytes.as_slice()
+        match &self.place {
+            Place::Inside { len, room } => &room[..*len as usize],
+            Place::Shared(bytes) => bytes.as_slice(),
+        }
     }
 
-    /// A copy of the name, which shares its bytes and takes no memory.
+    /// A copy of the name, which takes no memory: of a long name it shares the bytes.
     ///
     /// # Errors
     ///
@@ -55,9 +98,17 @@ impl Name {
     pub fn copy(&self, _alloc: Global) -> Result<Name, AllocError>
         ensures { IfOk result (λ name. name ≡ self.now) }
     {
-        Ok(Name {
-            bytes: self.bytes.clone()?,
-        })
+        match &self.place {
+            Place::Inside { len, room } => Ok(Name {
+                place: Place::Inside {
+                    len: *len,
+                    room: *room,
+                },
+            }),
+            Place::Shared(bytes) => Ok(Name {
+                place: Place::Shared(bytes.clone()?),
+            }),
+        }
     }
 }
 
