@@ -15,7 +15,7 @@ use std::marker::Model;
 use std::rc::RcSlice;
 
 /// As many bytes lie in a name itself: with their number and the tag they are as large as two words.
-const MOST_INSIDE: usize = 14;
+pub(crate) const MOST_INSIDE: usize = 14;
 
 /// Where the bytes of a name are.
 #[derive(Drop)]
