@@ -19,8 +19,9 @@ fn copy_name(alloc: Global, name: &Option<Name>) -> Result<Option<Name>, AllocEr
 fn copy_names(alloc: Global, names: &Items<Name>) -> Result<Items<Name>, AllocError>
     ensures { IfOk result (λ copy. copy ≡ names.now) }
 {
-    let mut copies = Vec::new(alloc);
-    for name in names.as_slice() {
+    let names = names.as_slice();
+    let mut copies = Vec::with_capacity(alloc, names.len())?;
+    for name in names {
         copies.push(name.copy(alloc)?)?;
     }
     Ok(Items::from_vec(copies))
@@ -50,8 +51,9 @@ fn copy_key(alloc: Global, key: &Option<Key>) -> Result<Option<Key>, AllocError>
 fn copy_members(alloc: Global, members: &Items<Member>) -> Result<Items<Member>, AllocError>
     ensures { IfOk result (λ copy. copy ≡ members.now) }
 {
-    let mut copies = Vec::new(alloc);
-    for member in members.as_slice() {
+    let members = members.as_slice();
+    let mut copies = Vec::with_capacity(alloc, members.len())?;
+    for member in members {
         copies.push(member.copy(alloc)?)?;
     }
     Ok(Items::from_vec(copies))
@@ -60,8 +62,9 @@ fn copy_members(alloc: Global, members: &Items<Member>) -> Result<Items<Member>,
 fn copy_constants(alloc: Global, constants: &Items<Fixed>) -> Result<Items<Fixed>, AllocError>
     ensures { IfOk result (λ copy. copy ≡ constants.now) }
 {
-    let mut copies = Vec::new(alloc);
-    for constant in constants.as_slice() {
+    let constants = constants.as_slice();
+    let mut copies = Vec::with_capacity(alloc, constants.len())?;
+    for constant in constants {
         copies.push(constant.copy(alloc)?)?;
     }
     Ok(Items::from_vec(copies))
@@ -70,8 +73,9 @@ fn copy_constants(alloc: Global, constants: &Items<Fixed>) -> Result<Items<Fixed
 fn copy_signatures(alloc: Global, signatures: &Items<Signed>) -> Result<Items<Signed>, AllocError>
     ensures { IfOk result (λ copy. copy ≡ signatures.now) }
 {
-    let mut copies = Vec::new(alloc);
-    for signature in signatures.as_slice() {
+    let signatures = signatures.as_slice();
+    let mut copies = Vec::with_capacity(alloc, signatures.len())?;
+    for signature in signatures {
         copies.push(signature.copy(alloc)?)?;
     }
     Ok(Items::from_vec(copies))

@@ -143,7 +143,9 @@ pub fn slots_at(
 ) -> Result<Result<(Vec<Slot<'_>>, &[u8]), Fault>, AllocError>
     ensures { IfOk result (λ r. result_map_both (λ x. (slots_of x.0.items, x.1.now)) (λ e. e) r ≡ all_slots_at count bytes.now) }
 {
-    let mut slots = Vec::new(alloc);
+    // An entry has three bytes or more, so a false count takes no more memory than a true one.
+    let room = (count as usize).min(bytes.len() / 3) + 1;
+    let mut slots = Vec::with_capacity(alloc, room)?;
     slots.push(NOTHING)?;
     let mut rest = bytes;
     let mut second = false;

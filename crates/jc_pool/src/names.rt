@@ -2,6 +2,7 @@
 ghost use Rattle.std.specs.Prelude.{◌≡◌, IfOk};
 
 use jc_base::name::Name;
+use jc_base::recent_names::RecentNames;
 use std::alloc::{AllocError, Global};
 use std::collections::BTreeMap;
 
@@ -14,12 +15,25 @@ const SHORT: usize = 32;
 #[derive(Drop)]
 pub(crate) struct Names<'a> {
     made: BTreeMap<&'a [u8], Name>,
+    /// The names of the files before, where there are any to share.
+    recent: Option<&'a RecentNames>,
 }
 
 impl<'a> Names<'a> {
-    pub(crate) fn new(alloc: Global) -> Names<'a> {
+    pub(crate) fn new(alloc: Global, recent: Option<&'a RecentNames>) -> Names<'a> {
         Names {
             made: BTreeMap::new(alloc),
+            recent,
+        }
+    }
+
+    // A name of these bytes that this file doesn't have yet.
+    fn first(&self, alloc: Global, text: &[u8]) -> Result<Name, AllocError>
+        ensures { IfOk result (λ name. name ≡ text.now) }
+    {
+        match self.recent {
+            Some(recent) => recent.name(alloc, text),
+            None => Name::from_bytes(alloc, text),
         }
     }
 
@@ -28,14 +42,14 @@ impl<'a> Names<'a> {
         ensures { IfOk result (λ name. name ≡ text.now) }
     {
         if text.len() <= SHORT {
-            return Name::from_bytes(alloc, text);
+            return self.first(alloc, text);
         }
         if let Some(name) = self.made.get(text) {
             if name.as_bytes() == text {
                 return name.copy(alloc);
             }
         }
-        let name = Name::from_bytes(alloc, text)?;
+        let name = self.first(alloc, text)?;
         self.made.insert(text, name.copy(alloc)?)?;
         Ok(name)
     }

@@ -15,6 +15,7 @@ use crate::names::Names;
 use crate::start::start;
 use byteorder::{BigEndian, ByteOrder};
 use jc_base::name::Name;
+use jc_base::recent_names::RecentNames;
 use jc_desc::bytes::{malformed, u16_at};
 use jc_desc::fault::{Fault, Malformed};
 use jc_desc::tags;
@@ -121,9 +122,32 @@ impl<'a> Pool<'a> {
     /// The pool in front of a class file and the bytes behind it, or the first fault in the order of
     /// the steps: magic, version, count, entries, then what they name. Takes memory for a table of
     /// the entries.
-    #[tactic(auto, unfolding(jc_desc::specs::PoolSteps::pool_at))]
     pub fn read_front(
         alloc: Global,
+        bytes: &'a [u8],
+    ) -> Result<Result<(Pool<'a>, &'a [u8]), Fault>, AllocError>
+        ensures { IfOk result (λ r. result_map_both (λ x. (x.0, x.1.now)) (λ e. e) r ≡ pool_at bytes.now) }
+    {
+        let read = Pool::front(alloc, None, bytes)?;
+        Ok(read)
+    }
+
+    /// The same. Its names share the bytes of those that were made of the files before.
+    pub fn read_front_after(
+        alloc: Global,
+        recent: &'a RecentNames,
+        bytes: &'a [u8],
+    ) -> Result<Result<(Pool<'a>, &'a [u8]), Fault>, AllocError>
+        ensures { IfOk result (λ r. result_map_both (λ x. (x.0, x.1.now)) (λ e. e) r ≡ pool_at bytes.now) }
+    {
+        let read = Pool::front(alloc, Some(recent), bytes)?;
+        Ok(read)
+    }
+
+    #[tactic(auto, unfolding(jc_desc::specs::PoolSteps::pool_at))]
+    fn front(
+        alloc: Global,
+        recent: Option<&'a RecentNames>,
         bytes: &'a [u8],
     ) -> Result<Result<(Pool<'a>, &'a [u8]), Fault>, AllocError>
         ensures { IfOk result (λ r. result_map_both (λ x. (x.0, x.1.now)) (λ e. e) r ≡ pool_at bytes.now) }
@@ -143,7 +167,7 @@ impl<'a> Pool<'a> {
         match links_fault(alloc, slots.as_slice())? {
             Some(fault) => Ok(Err(fault)),
             None => {
-                let names = RefCell::new(Names::new(alloc));
+                let names = RefCell::new(Names::new(alloc, recent));
                 Ok(Ok((
                     Pool {
                         major,
