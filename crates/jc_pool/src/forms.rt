@@ -2,7 +2,7 @@
 //! once, however many entries ask, so that a pool is read in a time that grows as its bytes do.
 ghost use Rattle.std.specs.Prelude.{◌≡◌, ℕ, List, IfOk};
 ghost use Rattle.jc_desc.specs.Pool.{slot_of_index};
-ghost use Rattle.jc_pool.specs.steps.Forms.{class_form_in, name_forms_in, descriptor_forms_in, AreForms, AreOf};
+ghost use Rattle.jc_pool.specs.steps.Forms.{class_form_in, name_forms_in, descriptor_forms_in, result_form_in, AreForms, AreOf};
 ghost use Rattle.jc_pool.specs.Slots.{slots_of};
 
 use crate::entry::{Slot, at, first, second};
@@ -70,8 +70,6 @@ pub struct DescriptorForms {
     pub field: bool,
     /// The descriptor of a method.
     pub method: bool,
-    /// The descriptor of a method whose result is `void`.
-    pub void: bool,
 }
 
 impl Form for DescriptorForms {
@@ -81,6 +79,22 @@ impl Form for DescriptorForms {
         DescriptorForms {
             field: is_field(text),
             method: is_method(text),
+        }
+    }
+}
+
+/// What is asked of the descriptor beside the name `<init>`.
+#[derive(Clone, Copy, Debug)]
+pub struct ResultForm {
+    /// The descriptor of a method whose result is `void`.
+    pub void: bool,
+}
+
+impl Form for ResultForm {
+    ghost form_in = { result_form_in };
+
+    fn of(text: &[u8]) -> ResultForm {
+        ResultForm {
             void: returns_void(text),
         }
     }
@@ -91,12 +105,18 @@ pub(crate) struct Forms {
     pub classes: Vec<Option<ClassForm>>,
     pub names: Vec<Option<NameForms>>,
     pub descriptors: Vec<Option<DescriptorForms>>,
+    pub results: Vec<Option<ResultForm>>,
 }
 
 // One call at each exit of a function that owns it, where a derived drop is written out.
 impl Drop for Forms {
     fn drop(self) {
-        let Forms { classes: _, names: _, descriptors: _ } = self;
+        let Forms {
+            classes: _,
+            names: _,
+            descriptors: _,
+            results: _,
+        } = self;
     }
 }
 
@@ -111,6 +131,16 @@ fn look<F: Form>(slots: &[Slot<'_>], known: &mut Vec<Option<F>>, index: u16)
     }
 }
 
+/// Keeps what the descriptor of a NameAndType is where its name is `<init>`.
+fn look_for_result(slots: &[Slot<'_>], known: &mut Forms, slot: Slot<'_>)
+    requires { AreForms (slots_of slots.now) known.old }
+    ensures { AreForms (slots_of slots.now) known.new }
+{
+    if is_init(at(slots, first(slot)).body) {
+        look(slots, &mut known.results, second(slot));
+    }
+}
+
 /// Keeps what the texts are that an entry asks about by an index of its own. What a reference to a
 /// member asks about is asked about by its NameAndType too.
 fn look_for(slots: &[Slot<'_>], known: &mut Forms, slot: Slot<'_>)
@@ -122,6 +152,7 @@ fn look_for(slots: &[Slot<'_>], known: &mut Forms, slot: Slot<'_>)
         tags::NAME_AND_TYPE => {
             look(slots, &mut known.names, first(slot));
             look(slots, &mut known.descriptors, second(slot));
+            look_for_result(slots, known, slot);
         }
         tags::METHOD_TYPE => look(slots, &mut known.descriptors, first(slot)),
         _ => {}
@@ -147,6 +178,7 @@ pub(crate) fn asked_forms(alloc: Global, slots: &[Slot<'_>]) -> Result<Forms, Al
         classes: nothing_known(alloc, slots)?,
         names: nothing_known(alloc, slots)?,
         descriptors: nothing_known(alloc, slots)?,
+        results: nothing_known(alloc, slots)?,
     };
     for slot in slots {
         look_for(slots, &mut known, *slot);
@@ -191,5 +223,13 @@ impl Forms {
         ensures { result ≡ descriptor_forms_in (slot_of_index (slots_of slots.now) index).body }
     {
         form_at(slots, self.descriptors.as_slice(), index)
+    }
+
+    /// What the result is of the descriptor at this index.
+    pub(crate) fn result(&self, slots: &[Slot<'_>], index: u16) -> ResultForm
+        requires { AreForms (slots_of slots.now) self.now }
+        ensures { result ≡ result_form_in (slot_of_index (slots_of slots.now) index).body }
+    {
+        form_at(slots, self.results.as_slice(), index)
     }
 }

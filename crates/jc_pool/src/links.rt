@@ -1,7 +1,8 @@
 //! What the entries of a pool name, and the first fault in it (JVMS 4.4).
 ghost use Rattle.std.specs.Prelude.{◌≡◌, ◌≤◌, ◌&&◌, ◌||◌, not, List, ℕ, IfOk};
 ghost use Rattle.jc_desc.specs.Faults.{first_fault};
-ghost use Rattle.jc_desc.specs.Pool.{short_from, first_of, second_of, slot_of_index, holds_tag, text_in, name_in, descriptor_in, pair_in, refers_rightly, fits_handle, names_for_handle, handle_kind, handle_target, names_one_utf8, is_member_reference};
+ghost use Rattle.jc_desc.specs.Pool.{short_from, first_of, second_of, slot_of_index, holds_tag, text_in, name_in, descriptor_in, pair_in, refers_rightly, fits_handle, names_for_handle, handle_kind, handle_target, names_one_utf8, is_member_reference, no_result};
+ghost use Rattle.jc_desc.specs.Reading.{method_of};
 ghost use Rattle.jc_desc.specs.PoolSteps.{want, meaning_fault, fault_of_handle, reference_fault, sense_fault, fault_of_links};
 ghost use Rattle.jc_pool.specs.steps.Forms.{name_forms_in, AreForms};
 ghost use Rattle.jc_pool.specs.Slots.{slot_of, slots_of};
@@ -117,8 +118,21 @@ fn pair_fault(name: NameForms, descriptor: DescriptorForms) -> Option<Reason>
     None
 }
 
-fn method_fault(interface: bool, name: NameForms, descriptor: DescriptorForms) -> Option<Reason>
-    ensures { result ≡ want descriptor.method Reason.BadDescriptor (want (name.method && not (interface && name.init)) Reason.BadName (want (not name.init || descriptor.void) Reason.BadDescriptor None)) }
+/// Whether what a NameAndType of this name says is no constructor, or one without a result.
+fn constructs(slots: &[Slot<'_>], known: &Forms, name: NameForms, named: Slot<'_>) -> bool
+    requires { AreForms (slots_of slots.now) known.now }
+    ensures { result ≡ not name.init || no_result (method_of (descriptor_in (slots_of slots.now) (slot_of named.entry))) }
+{
+    !name.init || known.result(slots, second(named)).void
+}
+
+fn method_fault(
+    interface: bool,
+    name: NameForms,
+    descriptor: DescriptorForms,
+    fits: bool,
+) -> Option<Reason>
+    ensures { result ≡ want descriptor.method Reason.BadDescriptor (want (name.method && not (interface && name.init)) Reason.BadName (want fits Reason.BadDescriptor None)) }
 {
     if !descriptor.method {
         return Some(Reason::BadDescriptor);
@@ -126,7 +140,7 @@ fn method_fault(interface: bool, name: NameForms, descriptor: DescriptorForms) -
     if !(name.method && !(interface && name.init)) {
         return Some(Reason::BadName);
     }
-    if name.init && !descriptor.void {
+    if !fits {
         return Some(Reason::BadDescriptor);
     }
     None
@@ -202,12 +216,14 @@ fn meaning(slots: &[Slot<'_>], known: &Forms, slot: Slot<'_>) -> Option<Reason>
         tags::METHOD_REF => {
             let named = pair(slots, slot);
             let name = known.name(slots, first(named));
-            method_fault(false, name, known.descriptor(slots, second(named)))
+            let fits = constructs(slots, known, name, named);
+            method_fault(false, name, known.descriptor(slots, second(named)), fits)
         }
         tags::INTERFACE_METHOD_REF => {
             let named = pair(slots, slot);
             let name = known.name(slots, first(named));
-            method_fault(true, name, known.descriptor(slots, second(named)))
+            let fits = constructs(slots, known, name, named);
+            method_fault(true, name, known.descriptor(slots, second(named)), fits)
         }
         tags::METHOD_HANDLE => {
             let member = at(slots, target(slot));

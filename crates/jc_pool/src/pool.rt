@@ -36,7 +36,11 @@ pub struct Pool<'a> {
 // One call at each exit of a function that owns it, where a derived drop is written out.
 impl Drop for Pool<'_> {
     fn drop(self) {
-        let Pool { major: _, slots: _, names: _ } = self;
+        let Pool {
+            major: _,
+            slots: _,
+            names: _,
+        } = self;
     }
 }
 

@@ -7,6 +7,7 @@ use Rattle.jc_desc.specs.Reading.{method_of}
 use Rattle.jc_pool.specs.declared.forms.ClassForm.{ClassForm}
 use Rattle.jc_pool.specs.declared.forms.NameForms.{NameForms}
 use Rattle.jc_pool.specs.declared.forms.DescriptorForms.{DescriptorForms}
+use Rattle.jc_pool.specs.declared.forms.ResultForm.{ResultForm}
 use Rattle.jc_pool.specs.declared.forms.Forms.{Forms}
 
 -- of the text of a Class
@@ -26,8 +27,11 @@ abbrev pub descriptor_forms_in : List ℕ → DescriptorForms
 descriptor_forms_in text = record {
   field = describes_field text;
   method = describes_method text;
-  void = no_result (method_of text);
 }
+
+-- of the descriptor of a constructor
+abbrev pub result_form_in : List ℕ → ResultForm
+result_form_in text = record { void = no_result (method_of text) }
 
 -- each that is known is that of what its index holds
 abbrev pub AreOf : {F : Type 0} → (List ℕ → F) → List pool.Slot → List (Option F) → Type 0
@@ -35,4 +39,4 @@ AreOf {F} form_in slots known = (i : ℕ) (form : F) → get_or known i None ≡
 
 -- and so in each role
 abbrev pub AreForms : List pool.Slot → Forms → Type 0
-AreForms slots known = AreOf class_form_in slots known.classes.items × AreOf name_forms_in slots known.names.items × AreOf descriptor_forms_in slots known.descriptors.items
+AreForms slots known = AreOf class_form_in slots known.classes.items × AreOf name_forms_in slots known.names.items × AreOf descriptor_forms_in slots known.descriptors.items × AreOf result_form_in slots known.results.items
