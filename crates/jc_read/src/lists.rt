@@ -75,7 +75,7 @@ pub(crate) fn split(
     ensures constants { OnOk result (constants.new.items ≡ constants.old.items ++ constants_of (members_view reads.items)) }
     ensures signatures { OnOk result (signatures.new.items ≡ signatures.old.items ++ signatures_of (members_view reads.items)) }
 {
-    let mut members = Vec::new(alloc);
+    let mut members = Vec::with_capacity(alloc, reads.len())?;
     for read in reads {
         let ReadMember { member, found } = read;
         let OnMember {

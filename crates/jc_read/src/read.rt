@@ -2,6 +2,7 @@
 ghost use Rattle.std.specs.Prelude.{◌≡◌, ◌≤◌, length, IfOk, MatchResult, OnOk, ◌++◌, None};
 ghost use Rattle.std.specs.Option.{option_map};
 ghost use Rattle.std.specs.Result.{result_map_both};
+ghost use Rattle.jc_desc.specs.PoolSteps.{pool_at as pool_from};
 ghost use Rattle.jc_facts.specs.file.Valid.{IsValidClass};
 ghost use Rattle.jc_facts.specs.file.ClassParts.{record_from, or_empty, signed_of};
 ghost use Rattle.jc_facts.specs.file.ClassGrammar.{Reads};
@@ -18,6 +19,7 @@ use jc_attr::class_head::{ClassHead, head_at};
 use jc_attr::classes::classes_at;
 use jc_base::items::Items;
 use jc_base::name::Name;
+use jc_base::recent_names::RecentNames;
 use jc_desc::bytes::malformed;
 use jc_desc::fault::{Fault, Malformed, Reason};
 use jc_facts::class_facts::{ClassFacts, Signed};
@@ -34,12 +36,16 @@ fn names(found: Option<Items<Name>>, alloc: Global) -> Items<Name>
     }
 }
 
-fn superclass(alloc: Global, name: Option<&[u8]>) -> Result<Option<Name>, AllocError>
+fn superclass<'a>(
+    alloc: Global,
+    pool: &Pool<'a>,
+    name: Option<&'a [u8]>,
+) -> Result<Option<Name>, AllocError>
     ensures { IfOk result (λ r. r ≡ option_map (λ x. x.now) name.entry) }
 {
     match name {
         None => Ok(None),
-        Some(name) => Ok(Some(Name::from_bytes(alloc, name)?)),
+        Some(name) => Ok(Some(pool.name(alloc, name)?)),
     }
 }
 
@@ -55,16 +61,16 @@ fn add_class(signatures: &mut Vec<Signed>, signature: Option<Name>) -> Result<()
     }
 }
 
-fn record(
+fn record<'a>(
     alloc: Global,
-    major: u16,
-    head: ClassHead<'_>,
+    pool: &Pool<'a>,
+    head: ClassHead<'a>,
     interfaces: Vec<Name>,
     fields: Vec<ReadMember>,
     methods: Vec<ReadMember>,
     found: OnClass,
 ) -> Result<ClassFacts, AllocError>
-    ensures { IfOk result (λ r. r ≡ record_from major (head_view head.entry) interfaces.items (members_view fields.items) (members_view methods.items) (on_class_view found)) }
+    ensures { IfOk result (λ r. r ≡ record_from pool.now.major (head_view head.entry) interfaces.items (members_view fields.items) (members_view methods.items) (on_class_view found)) }
 {
     let mut constants = Vec::new(alloc);
     let mut none = Vec::new(alloc);
@@ -79,10 +85,10 @@ fn record(
     } = found;
     add_class(&mut signatures, signature)?;
     Ok(ClassFacts {
-        name: Name::from_bytes(alloc, head.name)?,
-        major,
+        name: pool.name(alloc, head.name)?,
+        major: pool.major(),
         flags: head.flags,
-        superclass: superclass(alloc, head.superclass)?,
+        superclass: superclass(alloc, pool, head.superclass)?,
         interfaces: Items::from_vec(interfaces),
         fields: Items::from_vec(fields),
         methods: Items::from_vec(methods),
@@ -108,11 +114,30 @@ fn whole(rest: &[u8], facts: ClassFacts) -> Result<ClassFacts, Fault>
     }
 }
 
+// The pool in front of the file. Its names share the bytes of those of the files before, where there
+// are any.
+fn pool_at<'a>(
+    alloc: Global,
+    recent: Option<&'a RecentNames>,
+    bytes: &'a [u8],
+) -> Result<Result<(Pool<'a>, &'a [u8]), Fault>, AllocError>
+    ensures { IfOk result (λ r. result_map_both (λ x. (x.0, x.1.now)) (λ e. e) r ≡ pool_from bytes.now) }
+{
+    match recent {
+        Some(names) => Pool::read_front_after(alloc, names, bytes),
+        None => Pool::read_front(alloc, bytes),
+    }
+}
+
 #[tactic(auto, unfolding(jc_facts::specs::file::ClassSteps::class_of))]
-fn read(alloc: Global, bytes: &[u8]) -> Result<Result<ClassFacts, Fault>, AllocError>
+fn read<'a>(
+    alloc: Global,
+    recent: Option<&'a RecentNames>,
+    bytes: &'a [u8],
+) -> Result<Result<ClassFacts, Fault>, AllocError>
     ensures { IfOk result (λ r. r ≡ class_of bytes.now) }
 {
-    let (pool, rest) = match Pool::read_front(alloc, bytes)? {
+    let (pool, rest) = match pool_at(alloc, recent, bytes)? {
         Ok(read) => read,
         Err(fault) => return Ok(Err(fault)),
     };
@@ -136,15 +161,7 @@ fn read(alloc: Global, bytes: &[u8]) -> Result<Result<ClassFacts, Fault>, AllocE
         Ok(read) => read,
         Err(fault) => return Ok(Err(fault)),
     };
-    let facts = record(
-        alloc,
-        pool.major(),
-        head,
-        interfaces,
-        fields,
-        methods,
-        found,
-    )?;
+    let facts = record(alloc, &pool, head, interfaces, fields, methods, found)?;
     Ok(whole(rest, facts))
 }
 
@@ -159,6 +176,23 @@ pub enum ReadError {
     Memory,
 }
 
+// What `read_class` and `read_class_after` answer.
+fn class_after<'a>(
+    alloc: Global,
+    recent: Option<&'a RecentNames>,
+    bytes: &'a [u8],
+) -> Result<ClassFacts, ReadError>
+    requires { length bytes.now ≤ 4194304 }
+    ensures exact { MatchResult result (λ facts. Reads bytes.now facts) (ReadFails bytes.now) }
+    ensures valid { IfOk result (λ facts. IsValidClass facts) }
+{
+    match read(alloc, recent, bytes) {
+        Ok(Ok(facts)) => Ok(facts),
+        Ok(Err(fault)) => Err(ReadError::Malformed(malformed(bytes, fault))),
+        Err(_) => Err(ReadError::Memory),
+    }
+}
+
 /// The record of a class file, or its first fault. The bytes are at most 4,194,304.
 ///
 /// # Errors
@@ -170,9 +204,23 @@ pub fn read_class(alloc: Global, bytes: &[u8]) -> Result<ClassFacts, ReadError>
     ensures exact { MatchResult result (λ facts. Reads bytes.now facts) (ReadFails bytes.now) }
     ensures valid { IfOk result (λ facts. IsValidClass facts) }
 {
-    match read(alloc, bytes) {
-        Ok(Ok(facts)) => Ok(facts),
-        Ok(Err(fault)) => Err(ReadError::Malformed(malformed(bytes, fault))),
-        Err(_) => Err(ReadError::Memory),
-    }
+    class_after(alloc, None, bytes)
+}
+
+/// The same, of one of the class files of a run: its long names share the bytes of those that were
+/// made of the files before, where these are the same.
+///
+/// # Errors
+///
+/// As `read_class`.
+pub fn read_class_after<'a>(
+    alloc: Global,
+    recent: &'a RecentNames,
+    bytes: &'a [u8],
+) -> Result<ClassFacts, ReadError>
+    requires { length bytes.now ≤ 4194304 }
+    ensures exact { MatchResult result (λ facts. Reads bytes.now facts) (ReadFails bytes.now) }
+    ensures valid { IfOk result (λ facts. IsValidClass facts) }
+{
+    class_after(alloc, Some(recent), bytes)
 }
