@@ -32,7 +32,12 @@ pub struct Seats<'a> {
 // One call at each exit of a function that owns it, where a derived drop is written out.
 impl Drop for Seats<'_> {
     fn drop(self) {
-        let Seats { all: _, shrunk: _, left: _, settled: _ } = self;
+        let Seats {
+            all: _,
+            shrunk: _,
+            left: _,
+            settled: _,
+        } = self;
     }
 }
 

@@ -21,6 +21,14 @@ pub struct Finding {
 // One call at each exit of a function that owns it, where a derived drop is written out.
 impl Drop for Finding {
     fn drop(self) {
-        let Finding { rule: _, class: _, key: _, target: _, act: _, seat: _, error: _ } = self;
+        let Finding {
+            rule: _,
+            class: _,
+            key: _,
+            target: _,
+            act: _,
+            seat: _,
+            error: _,
+        } = self;
     }
 }

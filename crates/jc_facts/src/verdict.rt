@@ -62,6 +62,10 @@ pub struct Verdict {
 // One call at each exit of a function that owns it, where a derived drop is written out.
 impl Drop for Verdict {
     fn drop(self) {
-        let Verdict { findings: _, collisions: _, notes: _ } = self;
+        let Verdict {
+            findings: _,
+            collisions: _,
+            notes: _,
+        } = self;
     }
 }

@@ -27,7 +27,11 @@ pub struct Hierarchy {
 // One call at each exit of a function that owns it, where a derived drop is written out.
 impl Drop for Hierarchy {
     fn drop(self) {
-        let Hierarchy { index: _, supers: _, interfaces: _ } = self;
+        let Hierarchy {
+            index: _,
+            supers: _,
+            interfaces: _,
+        } = self;
     }
 }
 

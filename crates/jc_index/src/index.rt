@@ -30,7 +30,12 @@ pub struct Index {
 // One call at each exit of a function that owns it, where a derived drop is written out.
 impl Drop for Index {
     fn drop(self) {
-        let Index { classes: _, platform: _, order: _, names: _ } = self;
+        let Index {
+            classes: _,
+            platform: _,
+            order: _,
+            names: _,
+        } = self;
     }
 }
 

@@ -23,7 +23,11 @@ pub struct MentionedNames {
 // One call at each exit of a function that owns it, where a derived drop is written out.
 impl Drop for MentionedNames {
     fn drop(self) {
-        let MentionedNames { packages: _, supers: _, mentioned: _ } = self;
+        let MentionedNames {
+            packages: _,
+            supers: _,
+            mentioned: _,
+        } = self;
     }
 }
 

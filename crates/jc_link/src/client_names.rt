@@ -29,7 +29,10 @@ struct ClientNames {
 // One call at each exit of a function that owns it, where a derived drop is written out.
 impl Drop for ClientNames {
     fn drop(self) {
-        let ClientNames { names: _, packages: _ } = self;
+        let ClientNames {
+            names: _,
+            packages: _,
+        } = self;
     }
 }
 
@@ -44,7 +47,11 @@ struct TakenNames {
 // One call at each exit of a function that owns it, where a derived drop is written out.
 impl Drop for TakenNames {
     fn drop(self) {
-        let TakenNames { declared: _, supers: _, packages: _ } = self;
+        let TakenNames {
+            declared: _,
+            supers: _,
+            packages: _,
+        } = self;
     }
 }
 

@@ -26,7 +26,11 @@ pub struct Rows {
 // One call at each exit of a function that owns it, where a derived drop is written out.
 impl Drop for Rows {
     fn drop(self) {
-        let Rows { keys: _, fields: _, methods: _ } = self;
+        let Rows {
+            keys: _,
+            fields: _,
+            methods: _,
+        } = self;
     }
 }
 

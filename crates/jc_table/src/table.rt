@@ -66,7 +66,12 @@ pub struct Table {
 // One call at each exit of a function that owns it, where a derived drop is written out.
 impl Drop for Table {
     fn drop(self) {
-        let Table { hierarchy: _, mentioned: _, faults: _, rows: _ } = self;
+        let Table {
+            hierarchy: _,
+            mentioned: _,
+            faults: _,
+            rows: _,
+        } = self;
     }
 }
 

@@ -567,8 +567,9 @@ const BELOW: Row = Row {
     ..PLAIN
 };
 
-fn renamed(facts: ClassFacts, name: Name) -> ClassFacts {
-    ClassFacts { name, ..facts }
+fn renamed(mut facts: ClassFacts, name: Name) -> ClassFacts {
+    facts.name = name;
+    facts
 }
 
 /// A plain client of this name.

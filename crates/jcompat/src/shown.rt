@@ -14,6 +14,11 @@ pub struct Shown<'a> {
 // One call at each exit of a function that owns it, where a derived drop is written out.
 impl Drop for Shown<'_> {
     fn drop(self) {
-        let Shown { dir: _, old: _, new: _, verdict: _ } = self;
+        let Shown {
+            dir: _,
+            old: _,
+            new: _,
+            verdict: _,
+        } = self;
     }
 }

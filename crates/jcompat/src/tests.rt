@@ -80,7 +80,12 @@ struct Ended {
 // One call at each exit of a function that owns it, where a derived drop is written out.
 impl Drop for Ended {
     fn drop(self) {
-        let Ended { status: _, out: _, err: _, folder: _ } = self;
+        let Ended {
+            status: _,
+            out: _,
+            err: _,
+            folder: _,
+        } = self;
     }
 }
 
