@@ -22,7 +22,7 @@ use Rattle.jc_lemmas.proofs.Listed.{EachOf}
 use Rattle.std.proofs.lemmas.List.Folds.{list_any-append}
 use Rattle.jc_worlds.proofs.Descent.{descend-absent, descend-none_left, descend-found}
 use Rattle.jc_index.specs.Ids.{id_of, name_at}
-use Rattle.jc_index.specs.steps.Walking.{chain_from, is_final_instance, declares_final_instance, HoldAllFinal}
+use Rattle.jc_index.specs.steps.Walking.{chain_from, is_final_instance, declares_final_instance, HaveAllFinal}
 use Rattle.jc_index.proofs.Numbers.{id_of-Some, id-find}
 use Rattle.std.proofs.lemmas.Bool.{or_parts, and_right}
 
@@ -103,7 +103,7 @@ walked W P h n x = go n x
     go zero y = start y (find_class W y) refl
     go (suc n) y = more n (go n) y (find_class W y) refl
 
-pub unfixed : (W : World) (ks : List Key) (k : Key) (below : List DeclaredMember) (n : ℕ) (next : Option ℕ) → HoldAllFinal W ks → has_key k ks ≡ false → reaches_final k below (chain_from W n next) ≡ false
+pub unfixed : (W : World) (ks : List Key) (k : Key) (below : List DeclaredMember) (n : ℕ) (next : Option ℕ) → HaveAllFinal W ks → has_key k ks ≡ false → reaches_final k below (chain_from W n next) ≡ false
 unfolding chain_from
 unfixed W ks k below n None h e = unfixed-all k [] tt below
 unfixed W ks k below n (Some id) h e = unfixed-all k (descend W [] [] chain_step n (name_at W id)) (walked W (λ c. declares_final_instance k c ≡ false) (λ x c f. h k e x c f) n (name_at W id)) below
@@ -141,7 +141,7 @@ finals-more W ks n c h f m l d e k a = go (eqb_tells m n)
     go (inr q) = let ne : m ≢ n = q.1 in h m (omega arith) d e k parts.0
 
 -- all classes are done
-pub finals-all : (W : World) (ks : List Key) (n : ℕ) → size W ≤ n → ((m : ℕ) → m < n → (d : ClassFacts) → find_class W (name_at W m) ≡ Some d → (k : Key) → has_key k ks ≡ false → declares_final_instance k d ≡ false) → HoldAllFinal W ks
+pub finals-all : (W : World) (ks : List Key) (n : ℕ) → size W ≤ n → ((m : ℕ) → m < n → (d : ClassFacts) → find_class W (name_at W m) ≡ Some d → (k : Key) → has_key k ks ≡ false → declares_final_instance k d ≡ false) → HaveAllFinal W ks
 finals-all W ks n l h k a x c e = go (id_of W x) refl
   where
     go : (o : Option ℕ) → id_of W x ≡ o → declares_final_instance k c ≡ false
@@ -149,6 +149,10 @@ finals-all W ks n l h k a x c e = go (id_of W x) refl
     go (Some id) q =
         let p = id_of-Some W x id q in
         h id (let i = p.0 in omega arith) c (ap (find_class W) p.1 ∙ e) k a
+
+-- and in other keys that are the same ones
+pub all-kept : (W : World) (ks js : List Key) → ((q : Key) → has_key q js ≡ has_key q ks) → HaveAllFinal W ks → HaveAllFinal W js
+all-kept W ks js e h k a x c f = h k (sym (e k) ∙ a) x c f
 
 -- ---- a method of a class
 
@@ -158,7 +162,7 @@ plain-private a k m cs p = and_right a (reaches_final k (m ∷ []) cs) (private-
 pub plain-static : (a : Bool) (k : Key) (m : DeclaredMember) (cs : List ClassFacts) → static_flag m.member.flags ≡ true → (a && reaches_final k (m ∷ []) cs) ≡ false
 plain-static a k m cs p = and_right a (reaches_final k (m ∷ []) cs) (static-quiet k m p cs)
 
-pub plain-unfixed : (W : World) (ks : List Key) (a : Bool) (k : Key) (m : DeclaredMember) (s : Option Bytes) → HoldAllFinal W ks → has_key k ks ≡ false → (a && reaches_final k (m ∷ []) (of_super (chain W) s)) ≡ false
+pub plain-unfixed : (W : World) (ks : List Key) (a : Bool) (k : Key) (m : DeclaredMember) (s : Option Bytes) → HaveAllFinal W ks → has_key k ks ≡ false → (a && reaches_final k (m ∷ []) (of_super (chain W) s)) ≡ false
 plain-unfixed W ks a k m s h e = and_right a (reaches_final k (m ∷ []) (of_super (chain W) s)) (ap (reaches_final k (m ∷ [])) (chain-super W s) ∙ unfixed W ks k (m ∷ []) (size W) (and_then (id_of W) s) h e)
 
 pub plain-met : (W : World) (j k : Key) (m : DeclaredMember) (s : Option Bytes) (up : Option ℕ) (i : Bool) → j ≡ k → up ≡ and_then (id_of W) s → i ≡ false

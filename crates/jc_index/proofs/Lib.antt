@@ -26,3 +26,4 @@ pub mod Choices
 pub mod Ordering
 pub mod Undeclared
 pub mod NumberedNames
+pub mod HashedKeys

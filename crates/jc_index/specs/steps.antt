@@ -7,3 +7,4 @@ pub mod Named
 pub mod Choosing
 pub mod Passing
 pub mod Parts
+pub mod HashedKeys

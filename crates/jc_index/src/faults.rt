@@ -6,11 +6,12 @@ ghost use Rattle.jc_facts.specs.world.Loading.{load_fault, fault_of_itself};
 ghost use Rattle.jc_facts.specs.world.Search.{supers};
 ghost use Rattle.jc_facts.specs.world.World.{World, size};
 ghost use Rattle.jc_index.specs.Ids.{name_at, names};
-ghost use Rattle.jc_index.specs.steps.Walking.{HasAllFinal};
+ghost use Rattle.jc_index.specs.steps.Walking.{HaveAllFinal};
 ghost use Rattle.jc_index.specs.steps.Entering.{state_of, is_on, is_known, is_entered, is_fresh, work, bottom, Says, Goes, Leads, IsSettled, IsUnderWay, AreRight, AllHave, Turns, LoadsBefore};
 ghost use Rattle.jc_index.specs.LoadOrder.{IsLoadOrder};
 ghost use Rattle.jc_index.specs.steps.Passing.{Passes, ArePassed, AllPassed, GoesPast, ArePassedOnWay, Orders, Grows, Orderly};
 
+use crate::hashed_keys::HashedKeys;
 use crate::ids::ClassId;
 use crate::index::Index;
 use crate::overriding::{final_keys, overrides_final};
@@ -18,10 +19,8 @@ use crate::supertypes::{own_interfaces_fault, own_superclass_fault};
 use jc_base::name::Name;
 use jc_facts::class_facts::ClassFacts;
 use jc_facts::flags::is_interface;
-use jc_facts::key_set::KeyRef;
 use jc_facts::link_error::LinkError;
 use std::alloc::{AllocError, Global};
-use std::collections::BTreeSet;
 
 // What is known of a class.
 #[derive(Clone, Copy)]
@@ -181,10 +180,10 @@ fn go_up(
 fn own_fault<'a>(
     alloc: Global,
     index: &'a Index,
-    finals: &BTreeSet<KeyRef<'a>>,
+    finals: &HashedKeys,
     class: &'a ClassFacts,
 ) -> Result<Option<LinkError>, AllocError>
-    requires { HasAllFinal index.now finals.now }
+    requires { HaveAllFinal index.now finals.now }
     ensures { IfOk result (λ fault. fault ≡ fault_of_itself index.now class.now) }
 {
     let superclass = own_superclass_fault(index, class);
@@ -210,13 +209,13 @@ fn own_fault<'a>(
 fn leave<'a>(
     alloc: Global,
     index: &'a Index,
-    finals: &BTreeSet<KeyRef<'a>>,
+    finals: &HashedKeys,
     states: &mut [State],
     path: &mut Vec<Frame>,
     order: &mut Vec<ClassId>,
     top: Frame,
 ) -> Result<Turn, AllocError>
-    requires finals { HasAllFinal index.now finals.now }
+    requires finals { HaveAllFinal index.now finals.now }
     requires way { IsUnderWay index.now states.old path.old.items top }
     requires above { Goes index.now states.old (name_at index.now top.class) Way.Done }
     requires orders { Orders index.now states.old order.old.items }
@@ -242,13 +241,13 @@ fn leave<'a>(
 fn go_on<'a>(
     alloc: Global,
     index: &'a Index,
-    finals: &BTreeSet<KeyRef<'a>>,
+    finals: &HashedKeys,
     states: &mut [State],
     path: &mut Vec<Frame>,
     order: &mut Vec<ClassId>,
     top: Frame,
 ) -> Result<Turn, AllocError>
-    requires finals { HasAllFinal index.now finals.now }
+    requires finals { HaveAllFinal index.now finals.now }
     requires way { IsUnderWay index.now states.old path.old.items top }
     requires orders { Orders index.now states.old order.old.items }
     requires passed { ArePassedOnWay index.now states.old path.old.items top }
@@ -276,12 +275,12 @@ fn go_on<'a>(
 fn enter<'a>(
     alloc: Global,
     index: &'a Index,
-    finals: &BTreeSet<KeyRef<'a>>,
+    finals: &HashedKeys,
     states: &mut [State],
     order: &mut Vec<ClassId>,
     class: ClassId,
 ) -> Result<Option<LinkError>, AllocError>
-    requires finals { HasAllFinal index.now finals.now }
+    requires finals { HaveAllFinal index.now finals.now }
     requires inside { class < size index.now }
     requires settled { IsSettled index.now states.old }
     requires orders { Orders index.now states.old order.old.items }
@@ -304,12 +303,12 @@ fn enter<'a>(
 fn fault_of<'a>(
     alloc: Global,
     index: &'a Index,
-    finals: &BTreeSet<KeyRef<'a>>,
+    finals: &HashedKeys,
     states: &mut [State],
     order: &mut Vec<ClassId>,
     class: ClassId,
 ) -> Result<Option<LinkError>, AllocError>
-    requires finals { HasAllFinal index.now finals.now }
+    requires finals { HaveAllFinal index.now finals.now }
     requires inside { class < size index.now }
     requires settled { IsSettled index.now states.old }
     requires orders { Orders index.now states.old order.old.items }
@@ -330,11 +329,11 @@ fn fault_of<'a>(
 fn all_faults<'a>(
     alloc: Global,
     index: &'a Index,
-    finals: &BTreeSet<KeyRef<'a>>,
+    finals: &HashedKeys,
     states: &mut [State],
     order: &mut Vec<ClassId>,
 ) -> Result<Vec<Option<LinkError>>, AllocError>
-    requires finals { HasAllFinal index.now finals.now }
+    requires finals { HaveAllFinal index.now finals.now }
     requires settled { IsSettled index.now states.old }
     requires orders { Orders index.now states.old order.old.items }
     ensures faults { IfOk result (λ faults. faults.items ≡ map (load_fault index.now) (names index.now)) }
@@ -346,6 +345,15 @@ fn all_faults<'a>(
         faults.push(fault)?;
     }
     Ok(faults)
+}
+
+// No class is entered.
+fn no_states(alloc: Global, index: &Index) -> Result<Vec<State>, AllocError>
+    ensures settled { IfOk result (λ states. IsSettled index.now states.items) }
+    ensures orders { IfOk result (λ states. Orders index.now states.items []) }
+{
+    let states = vec![in alloc; State::Fresh; index.count() as usize]?;
+    Ok(states)
 }
 
 /// What is found out of the loading of all classes of a side.
@@ -368,7 +376,7 @@ pub fn load_all(alloc: Global, index: &Index) -> Result<Loading, AllocError>
     ensures order { IfOk result (λ loading. IsLoadOrder index.now loading.order.items) }
 {
     let finals = final_keys(alloc, index)?;
-    let mut states = vec![in alloc; State::Fresh; index.count() as usize]?;
+    let mut states = no_states(alloc, index)?;
     let mut order = Vec::new(alloc);
     let faults = all_faults(alloc, index, &finals, &mut states, &mut order)?;
     Ok(Loading { faults, order })

@@ -1,10 +1,13 @@
 //! What a class itself declares (JVMS 4.5, 4.6).
-ghost use Rattle.std.specs.Prelude.{◌≡◌, option_map};
+ghost use Rattle.std.specs.Prelude.{◌≡◌, option_map, IfOk};
+ghost use Rattle.jc_facts.specs.Names.{key_of};
 ghost use Rattle.jc_facts.specs.world.World.{own_field_of, own_method_of};
 ghost use Rattle.jc_index.specs.Kinds.{members_of, own_of};
 
 use jc_facts::class_facts::{ClassFacts, Member};
+use jc_facts::key::Key;
 use jc_facts::key_set::KeyRef;
+use std::alloc::{AllocError, Global};
 
 /// The kinds of members.
 #[derive(Clone, Copy, Debug, PartialEq, Eq)]
@@ -51,4 +54,18 @@ pub fn own_method<'a>(class: &'a ClassFacts, key: &KeyRef<'_>) -> Option<&'a Mem
     ensures { option_map (λ m. m.now) result ≡ own_method_of class.now key.now }
 {
     own_member(class, MemberKind::Method, key)
+}
+
+/// The key of the member, which shares its bytes.
+///
+/// # Errors
+///
+/// `AllocError` where the bytes have as many copies as can be counted.
+pub fn key_of_member(alloc: Global, member: &Member) -> Result<Key, AllocError>
+    ensures { IfOk result (λ key. key ≡ key_of member.now) }
+{
+    Ok(Key {
+        name: member.name.copy(alloc)?,
+        descriptor: member.descriptor.copy(alloc)?,
+    })
 }

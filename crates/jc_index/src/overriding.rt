@@ -9,19 +9,20 @@ ghost use Rattle.jc_facts.specs.world.World.{size, declared_method};
 ghost use Rattle.jc_facts.specs.world.Hierarchy.{chain, of_super};
 ghost use Rattle.jc_facts.specs.world.Overriding.{directly_overrides, is_overridden_by_any, overrides_this_final, reaches_final, overrides_some_final};
 ghost use Rattle.jc_index.specs.Ids.{id_of, name_at};
-ghost use Rattle.jc_index.specs.steps.Walking.{chain_from, linked_last, HasAllFinal, is_final_instance};
+ghost use Rattle.jc_index.specs.steps.Walking.{chain_from, linked_last, HaveAllFinal, is_final_instance};
 
+use crate::hashed_keys::{HashedKeys, hashed};
 use crate::ids::ClassId;
 use crate::index::Index;
-use crate::members::own_method;
+use crate::members::{key_of_member, own_method};
 use crate::packages::same_package;
 use jc_base::name::Name;
 use jc_desc::names::is_initializer;
 use jc_facts::class_facts::{ClassFacts, Member};
 use jc_facts::flags::{is_final, is_private, is_protected, is_public, is_static};
-use jc_facts::key_set::{KeyRef, holds, set_of};
+use jc_facts::key::Key;
+use jc_facts::key_set::KeyRef;
 use std::alloc::{AllocError, Global};
-use std::collections::BTreeSet;
 use std::marker::Model;
 
 // A method, and the name of the class that declares it.
@@ -140,29 +141,26 @@ pub(crate) fn meets_final<'a>(
 }
 
 // Adds the keys of the class's final instance methods.
-fn push_finals<'a>(keys: &mut Vec<KeyRef<'a>>, class: &'a ClassFacts) -> Result<(), AllocError>
+fn push_finals(alloc: Global, keys: &mut Vec<Key>, class: &ClassFacts) -> Result<(), AllocError>
     ensures { IfOk result (λ _. keys.new.items ≡ keys.old.items ++ map key_of (filter is_final_instance class.now.methods)) }
 {
     for member in class.methods.as_slice() {
         if is_final(member.flags) && !is_static(member.flags) {
-            keys.push(KeyRef::of_member(member))?;
+            keys.push(key_of_member(alloc, member)?)?;
         }
     }
     Ok(())
 }
 
 // The keys of all final instance methods.
-pub(crate) fn final_keys<'a>(
-    alloc: Global,
-    index: &'a Index,
-) -> Result<BTreeSet<KeyRef<'a>>, AllocError>
-    ensures { IfOk result (λ set. HasAllFinal index.now set) }
+pub(crate) fn final_keys(alloc: Global, index: &Index) -> Result<HashedKeys, AllocError>
+    ensures { IfOk result (λ keys. HaveAllFinal index.now keys) }
 {
     let mut keys = Vec::new(alloc);
     for n in 0..index.count() {
-        push_finals(&mut keys, index.facts(ClassId::new(n)))?;
+        push_finals(alloc, &mut keys, index.facts(ClassId::new(n)))?;
     }
-    let set = set_of(alloc, keys)?;
+    let set = hashed(alloc, keys)?;
     Ok(set)
 }
 
@@ -183,14 +181,13 @@ pub(crate) fn number_above(index: &Index, class: &ClassFacts) -> Option<ClassId>
 fn method_overrides<'a>(
     alloc: Global,
     index: &'a Index,
-    finals: &BTreeSet<KeyRef<'a>>,
+    finals: &HashedKeys,
     class: &'a ClassFacts,
     member: &'a Member,
 ) -> Result<bool, AllocError>
-    requires { HasAllFinal index.now finals.now }
+    requires { HaveAllFinal index.now finals.now }
     ensures { IfOk result (λ met. met ≡ (not (is_init_name member.now.name || is_clinit_name member.now.name) && reaches_final (key_of member.now) (record { owner = class.now.name; member = member.now } ∷ []) (of_super (chain index.now) class.now.superclass))) }
 {
-    let key = KeyRef::of_member(member);
     if is_initializer(member.name.as_bytes()) {
         return Ok(false);
     }
@@ -200,14 +197,21 @@ fn method_overrides<'a>(
     if is_static(member.flags) {
         return Ok(false);
     }
-    if !holds(finals, &key) {
+    let key = key_of_member(alloc, member)?;
+    if !finals.has(&key) {
         return Ok(false);
     }
     let method = Method {
         owner: &class.name,
         member,
     };
-    let met = meets_final(alloc, index, &key, method, number_above(index, class))?;
+    let met = meets_final(
+        alloc,
+        index,
+        &KeyRef::of_key(&key),
+        method,
+        number_above(index, class),
+    )?;
     Ok(met)
 }
 
@@ -216,10 +220,10 @@ fn method_overrides<'a>(
 pub(crate) fn overrides_final<'a>(
     alloc: Global,
     index: &'a Index,
-    finals: &BTreeSet<KeyRef<'a>>,
+    finals: &HashedKeys,
     class: &'a ClassFacts,
 ) -> Result<bool, AllocError>
-    requires { HasAllFinal index.now finals.now }
+    requires { HaveAllFinal index.now finals.now }
     ensures { IfOk result (λ met. met ≡ overrides_some_final class.now.name class.now.methods (of_super (chain index.now) class.now.superclass)) }
 {
     for member in class.methods.as_slice() {

@@ -21,7 +21,7 @@ use Rattle.jc_index.specs.Ids.{names}
 use Rattle.jc_index.specs.Lookups.{declare_field, declare_method}
 use Rattle.jc_index.proofs.Numbers.{names-in}
 use Rattle.jc_rows.specs.Keys.{with_key, with_keys, with_keys_of, with_all_keys, numbered_keys}
-use Rattle.jc_rows.proofs.Numbered.{key_is}
+use Rattle.jc_index.proofs.HashedKeys.{key_is}
 
 -- ---- keys that are added
 

@@ -1,20 +1,16 @@
 -- Keys and their numbers.
 use Rattle.std.proofs.Common.{◌≡◌, ℕ, ◌<◌, ◌≤◌, Bool, arith, ◌⊎◌, inl, inr, suc, zero, true, false, List, [], ◌∷◌, length, get_or, refl, sym, ◌∙◌, ap, subst, Option, Some, None}
-use Rattle.std.specs.Prelude.{slice_get, ◌&&◌, ◌||◌, cond, is_some}
+use Rattle.std.specs.Prelude.{slice_get, ◌||◌, cond, is_some}
 use Rattle.std.specs.List.{list_any, IsDistinct, position, position_or_len, AllByRecursion}
 use Rattle.std.proofs.lemmas.List.Sums.{fails_before_first}
-use Rattle.std.proofs.lemmas.Bool.{and_parts, or_left, or_right, lt-ltb, cases_lt}
+use Rattle.std.proofs.lemmas.Bool.{or_left, or_right, lt-ltb, cases_lt}
 use Rattle.std.proofs.lemmas.List.Quantifiers.{position-Some}
 use Rattle.std.proofs.lemmas.Option.{slice_get-get_or, slice_get_within, get_or_from_slice_get}
 use Rattle.jc_facts.specs.declared.key.Key.{Key}
-use Rattle.jc_facts.specs.Names.{Bytes, same, same_key}
-use Rattle.jc_facts.proofs.Same.{same_is, key_itself}
+use Rattle.jc_facts.specs.Names.{same_key}
+use Rattle.jc_facts.proofs.Same.{key_itself}
+use Rattle.jc_index.proofs.HashedKeys.{key_is}
 use Rattle.jc_rows.specs.Keys.{IsNumber, AreDistinct}
-
-pub key_is : (k l : Key) → same_key k l ≡ true → k ≡ l
-key_is k l h =
-    let p = and_parts (same k.name l.name) (same k.descriptor l.descriptor) h in
-    ap (λ (x : Bytes). record { name = x; descriptor = k.descriptor }) (same_is k.name l.name p.0) ∙ ap (λ (x : Bytes). record { name = l.name; descriptor = x }) (same_is k.descriptor l.descriptor p.1)
 
 -- a key stands nowhere in what differs from it
 nowhere : (k : Key) (ks : List Key) (n : ℕ) → AllByRecursion (λ y. same_key k y ≡ false) ks → slice_get ks n ≡ Some k → ⊥
@@ -64,3 +60,12 @@ none-any (x ∷ xs) k h = go (same_key k x) refl (none-any xs k (λ n e. h (suc 
 pub number-known : (keys : List Key) (k : Key) (o : Option ℕ) → IsNumber keys k o → is_some o ≡ list_any (same_key k) keys
 number-known keys k None h = sym (none-any keys k h)
 number-known keys k (Some n) h = sym (at-any keys k n h)
+
+-- and a key that is among them has a number
+pub placed : (keys : List Key) (k : Key) → list_any (same_key k) keys ≡ true → (n : ℕ) × (slice_get keys n ≡ Some k)
+placed [] k h = absurd (cc)
+placed (x ∷ xs) k h = go (same_key k x) refl h (placed xs k)
+  where
+    go : (b : Bool) → same_key k x ≡ b → (b || list_any (same_key k) xs) ≡ true → (list_any (same_key k) xs ≡ true → (n : ℕ) × (slice_get xs n ≡ Some k)) → (n : ℕ) × (slice_get (x ∷ xs) n ≡ Some k)
+    go true e q r = (zero, ap (λ (j : Key). Some j) (sym (key_is k x e)))
+    go false e q r = let p = r q in (suc p.0, p.1)

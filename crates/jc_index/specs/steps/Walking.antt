@@ -1,6 +1,5 @@
 -- Walks up the superclasses of a class, by numbers.
 use Rattle.std.specs.Prelude.{ℕ, ◌≡◌, Bool, false, cond, List, [], ◌∷◌, ◌++◌, Option, None, Some, ◌&&◌}
-use Rattle.std.specs.BTreeSet as sorted
 use Rattle.jc_facts.specs.declared.class_facts.ClassFacts.{ClassFacts}
 use Rattle.jc_facts.specs.declared.class_facts.Member.{Member}
 use Rattle.jc_facts.specs.declared.key.Key.{Key}
@@ -8,7 +7,6 @@ use Rattle.jc_facts.specs.Names.{Bytes}
 use Rattle.jc_facts.specs.Flags.{final_flag, no_static_flag}
 use Rattle.jc_facts.specs.Options.{some_and}
 use Rattle.jc_facts.specs.file.Valid.{has_key}
-use Rattle.jc_facts.specs.Seen.{Holds}
 use Rattle.jc_facts.specs.world.World.{World, DeclaredMember, find_class, own_method_of}
 use Rattle.jc_facts.specs.world.Search.{descend}
 use Rattle.jc_facts.specs.world.Hierarchy.{chain_step}
@@ -34,9 +32,5 @@ abbrev pub declares_final_instance : Key → ClassFacts → Bool
 declares_final_instance k c = some_and is_final_instance (own_method_of c k)
 
 -- these are the keys of all final instance methods, or more
-abbrev pub HoldAllFinal : World → List Key → Type 0
-HoldAllFinal W ks = (k : Key) → has_key k ks ≡ false → (x : Bytes) (c : ClassFacts) → find_class W x ≡ Some c → declares_final_instance k c ≡ false
-
--- the set has the keys of all final instance methods, or more
-abbrev pub HasAllFinal : World → sorted.BTreeSet Key → Type 0
-HasAllFinal W set = (ks : List Key) × Holds set ks × HoldAllFinal W ks
+abbrev pub HaveAllFinal : World → List Key → Type 0
+HaveAllFinal W ks = (k : Key) → has_key k ks ≡ false → (x : Bytes) (c : ClassFacts) → find_class W x ≡ Some c → declares_final_instance k c ≡ false

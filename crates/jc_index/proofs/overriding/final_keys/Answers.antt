@@ -1,7 +1,7 @@
 use Rattle.std.proofs.Common.{◌≤◌, ◌≡◌, arith, ap, ◌∙◌, Some}
 use Rattle.jc_facts.specs.world.World.{size, find_class}
 use Rattle.jc_index.specs.Ids.{name_at}
-use Rattle.jc_index.proofs.FinalKeys.{finals-more, finals-all}
+use Rattle.jc_index.proofs.FinalKeys.{finals-more, finals-all, all-kept}
 use Rattle.jc_index.proofs.overriding.final_keys.Goals as goal
 
 pub loop-n-preserved : goal.loop-n-preserved
@@ -13,4 +13,4 @@ loop-n-preserved c =
 pub returns : goal.returns
 returns c =
     let l : size c.args.index.now ≤ c.loop-n.n = omega (arith, c.count-n-end.ensures.count) in
-    (c.loop-n.keys.items, c.in_ok-set.ensures, finals-all c.args.index.now c.loop-n.keys.items c.loop-n.n l c.loop-n.invariant)
+    all-kept c.args.index.now c.loop-n.keys.items c.in_ok-set.set c.in_ok-set.ensures (finals-all c.args.index.now c.loop-n.keys.items c.loop-n.n l c.loop-n.invariant)

@@ -21,14 +21,13 @@ returns-then-is_static c =
     let a : Bool = not (is_init_name c.args.member.now.name || is_clinit_name c.args.member.now.name) in
     sym (plain-static a (key_of c.args.member.now) m (of_super (chain c.args.index.now) c.args.class.now.superclass) (sym c.is_static.ensures ∙ c.if-is_static.true))
 
-pub returns-then-not-holds : goal.returns-then-not-holds
-returns-then-not-holds c =
+pub returns-then-not-has : goal.returns-then-not-has
+returns-then-not-has c =
     let m : DeclaredMember = record { owner = c.args.class.now.name; member = c.args.member.now } in
     let a : Bool = not (is_init_name c.args.member.now.name || is_clinit_name c.args.member.now.name) in
-    let f = c.requires in
-    let h : has_key c.of_member-key.result f.0 ≡ false = sym (c.holds.ensures f.0 f.1) ∙ c.if-not-holds.true in
-    let k : has_key (key_of c.args.member.now) f.0 ≡ false = rw c.of_member-key.ensures at h in
-    sym (plain-unfixed c.args.index.now f.0 a (key_of c.args.member.now) m c.args.class.now.superclass f.2 k)
+    let h : has_key c.in_ok-key.key c.args.finals.now ≡ false = sym c.has.ensures ∙ c.if-not-has.true in
+    let k : has_key (key_of c.args.member.now) c.args.finals.now ≡ false = rw c.in_ok-key.ensures at h in
+    sym (plain-unfixed c.args.index.now c.args.finals.now a (key_of c.args.member.now) m c.args.class.now.superclass c.requires k)
 
 pub meets_final-requires : goal.meets_final-requires
 meets_final-requires c = subst (λ (o : Option ℕ). IfSome o (λ id. id < size c.args.index.now)) (sym c.number_above.ensures) (number-inside c.args.index.now c.args.class.now.superclass)
@@ -37,4 +36,4 @@ pub returns : goal.returns
 returns c =
     let m : DeclaredMember = record { owner = c.args.class.now.name; member = c.args.member.now } in
     let i : (is_init_name c.args.member.now.name || is_clinit_name c.args.member.now.name) ≡ false = ap is_initializer_name (sym c.as_bytes.ensures) ∙ sym c.is_initializer.ensures ∙ c.if-is_initializer.false in
-    c.in_ok-met.ensures ∙ plain-met c.args.index.now c.of_member-key.result (key_of c.args.member.now) m c.args.class.now.superclass c.number_above.result (is_init_name c.args.member.now.name || is_clinit_name c.args.member.now.name) c.of_member-key.ensures c.number_above.ensures i
+    c.in_ok-met.ensures ∙ plain-met c.args.index.now c.of_key.result (key_of c.args.member.now) m c.args.class.now.superclass c.number_above.result (is_init_name c.args.member.now.name || is_clinit_name c.args.member.now.name) (c.of_key.ensures ∙ c.in_ok-key.ensures) c.number_above.ensures i

@@ -1,0 +1,13 @@
+use Rattle.std.proofs.Common.{List, sym, subst}
+use Rattle.jc_index.specs.declared.faults.State.{State}
+use Rattle.jc_index.specs.steps.Entering.{IsSettled}
+use Rattle.jc_index.specs.steps.Passing.{Orders}
+use Rattle.jc_index.proofs.faults.load_all.Goals as goal
+
+pub all_faults-requires-clause-settled : goal.all_faults-requires-clause-settled
+all_faults-requires-clause-settled c = subst (IsSettled c.args.index.now) (sym c.deref_mut.ensures.value) c.in_ok-states.ensures.settled
+
+pub all_faults-requires-clause-orders : goal.all_faults-requires-clause-orders
+all_faults-requires-clause-orders c =
+    subst (λ (ss : List State). Orders c.args.index.now ss c.new-order.result.items) (sym c.deref_mut.ensures.value)
+    (subst (Orders c.args.index.now c.in_ok-states.states.items) (sym c.new-order.ensures.items) c.in_ok-states.ensures.orders)
