@@ -1,12 +1,12 @@
 -- A search by halves in a row.
-use Rattle.std.proofs.Common.{◌≡◌, ℕ, ◌≤◌, ◌<◌, ◌+◌, suc, zero, Bool, List, [], ◌∷◌, length, take, drop, get_or, refl, sym, ◌∙◌, ap, subst, Option, Some, None, arith}
+use Rattle.std.proofs.Common.{◌≡◌, ℕ, ◌≤◌, ◌<◌, ◌+◌, ◌-◌, ◌++◌, suc, zero, Bool, List, [], ◌∷◌, length, take, drop, get_or, refl, sym, ◌∙◌, ap, subst, Option, Some, None, arith}
 use Rattle.std.specs.Prelude.{cond, nat_eq}
 use Rattle.std.proofs.lemmas.Bool.{eq-eqb, ne_eqb}
-use Rattle.std.proofs.lemmas.List.{take-append-drop}
+use Rattle.std.proofs.lemmas.List.{take-append-drop, take_more, take_all}
 use Rattle.jc_facts.specs.Options.{or_else}
 use Rattle.jc_index.specs.declared.ids.Found.{Found}
 use Rattle.jc_rows.specs.declared.row.RowItem.{RowItem}
-use Rattle.jc_rows.specs.Rows.{RisesFrom, entry}
+use Rattle.jc_rows.specs.Rows.{Rises, RisesFrom, entry}
 use Rattle.jc_rows.specs.steps.Merging.{IsMerged, IsRowOf}
 use Rattle.jc_rows.proofs.Entries.{entry-append, entry-below}
 
@@ -46,6 +46,30 @@ hit n (i ∷ is) (suc m) x key r l e h =
     hit (i.key + 1) is m x key r.1 (omega arith) e h ∙ sym (passed i.key key i.found (entry is key) (omega (arith, k, h)))
 
 -- ---- sorting
+
+rises_last : (n : ℕ) (xs : List RowItem) (x y : RowItem) → RisesFrom n (xs ++ x ∷ []) → x.key < y.key → RisesFrom n ((xs ++ x ∷ []) ++ y ∷ [])
+rises_last n [] x y r l = (r.0, (omega (arith, l), tt))
+rises_last n (z ∷ xs) x y r l = (r.0, rises_last (z.key + 1) xs x y r.1 l)
+
+-- one more that is greater than the last
+pub rises_on : (items : List RowItem) (n : ℕ) (x y : RowItem) → 1 ≤ n → n < length items → x ≡ get_or items (n - 1) x → y ≡ get_or items n y → x.key < y.key → Rises (take n items) → Rises (take (n + 1) items)
+rises_on items n x y o l p q k r =
+    let m : ℕ = n - 1 in
+    let e : m + 1 ≡ n = omega (arith, o) in
+    let front : take n items ≡ take m items ++ x ∷ [] = ap (λ (i : ℕ). take i items) (sym e) ∙ take_more items m x (omega (arith, o, l)) ∙ ap (λ (z : RowItem). take m items ++ z ∷ []) (sym p) in
+    let whole : take (n + 1) items ≡ (take m items ++ x ∷ []) ++ y ∷ [] = take_more items n y l ∙ ap (λ (z : RowItem). take n items ++ z ∷ []) (sym q) ∙ ap (λ (zs : List RowItem). zs ++ y ∷ []) front in
+    subst Rises (sym whole) (rises_last 0 (take m items) x y (subst Rises front r) k)
+
+pub rises_first : (items : List RowItem) → Rises (take 1 items)
+rises_first [] = tt
+rises_first (i ∷ is) = (omega arith, tt)
+
+pub rises_all : (items : List RowItem) (n : ℕ) → length items ≤ n → Rises (take n items) → Rises items
+rises_all items n l r = subst Rises (take_all n items l) r
+
+-- items that rise are their row
+pub as_they_are : (items row : List RowItem) → row ≡ items → Rises items → IsRowOf items row
+as_they_are items row e r = subst (IsRowOf items) (sym e) (record { rises = r; entries = λ n. refl })
 
 pub short : (items row : List RowItem) → row ≡ items → length items ≤ 1 → IsRowOf items row
 short [] row e l = subst (IsRowOf []) (sym e) (record { rises = tt; entries = λ n. refl })

@@ -66,7 +66,7 @@ clash : (m : DeclaredMember) (o : Option DeclaredMember) → or_else (Some m) o 
 unfolding or_else
 clash m o h = let c : Some m ≡ None = h in cc
 
-own_none : (W : World) (k : Key) (i : Bytes) (c : ClassFacts) → find_class W i ≡ Some c → front_by true W i k ≡ None → found_in c (own_method_of c k) ≡ None
+pub own_none : (W : World) (k : Key) (i : Bytes) (c : ClassFacts) → find_class W i ≡ Some c → front_by true W i k ≡ None → found_in c (own_method_of c k) ≡ None
 unfolding and_then
 own_none W k i c f e = go (found_in c (own_method_of c k)) (ap (λ (o : Option ClassFacts). or_else (and_then (declared_method k) o) (public_method_of_object W k)) (sym f) ∙ e)
   where

@@ -6,9 +6,9 @@ ghost use Rattle.jc_rows.specs.steps.Numbering.{AreNumbers, AddsClass, IsNumberi
 use crate::keys::Keys;
 use jc_base::items::Items;
 use jc_facts::class_facts::{ClassFacts, Member};
-use jc_facts::key_set::KeyRef;
 use jc_index::ids::ClassId;
 use jc_index::index::Index;
+use jc_index::members::key_of_member;
 use std::alloc::{AllocError, Global};
 
 /// The keys of all members, and for each class the numbers of the keys of its fields and of its
@@ -27,7 +27,7 @@ fn add_members(alloc: Global, keys: &mut Keys, members: &[Member]) -> Result<Vec
 {
     let mut numbers = Vec::with_capacity(alloc, members.len())?;
     for member in members {
-        let key = KeyRef::of_member(member).to_key(alloc)?;
+        let key = key_of_member(alloc, member)?;
         let number = keys.put(key)?;
         numbers.push(number)?;
     }

@@ -1,5 +1,5 @@
 //! A row: members by the numbers of their keys, which rise.
-ghost use Rattle.std.specs.Prelude.{◌≡◌, IfOk};
+ghost use Rattle.std.specs.Prelude.{◌≡◌, IfOk, IsTrue};
 ghost use Rattle.jc_rows.specs.Rows.{entry, Rises};
 ghost use Rattle.jc_rows.specs.steps.Merging.{IsMerged, IsRowOf};
 
@@ -24,7 +24,7 @@ pub fn merge(
     requires second { Rises second.now }
     ensures { IfOk result (λ row. IsMerged first.now second.now row.items) }
 {
-    let mut row = Vec::new(alloc);
+    let mut row = Vec::with_capacity(alloc, first.len() + second.len())?;
     let mut i = 0;
     let mut j = 0;
     while i < first.len() && j < second.len() {
@@ -51,11 +51,25 @@ pub fn merge(
     Ok(row)
 }
 
+// Whether the keys of the items rise.
+fn is_rising(items: &[RowItem]) -> bool
+    ensures { IsTrue result → Rises items.now }
+{
+    for at in 1..items.len() {
+        let before = items[at - 1].key;
+        let key = items[at].key;
+        if key <= before {
+            return false;
+        }
+    }
+    true
+}
+
 /// The items in the order of their keys; of those of one key the first.
 pub fn sorted(alloc: Global, items: &[RowItem]) -> Result<Vec<RowItem>, AllocError>
     ensures { IfOk result (λ row. IsRowOf items.now row.items) }
 {
-    if items.len() <= 1 {
+    if items.len() <= 1 || is_rising(items) {
         let row = Vec::from_slice(alloc, items)?;
         return Ok(row);
     }

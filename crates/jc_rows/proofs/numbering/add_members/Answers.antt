@@ -13,4 +13,4 @@ loop-member-preserved c =
     (c.in_ok-number.ensures.numbered ∙ ap (λ (k : Key). Some k) key) c.loop-member.invariant)
   where
     key : c.in_ok-key.key ≡ key_of c.member-item.result
-    key = c.in_ok-key.ensures ∙ c.of_member.ensures
+    key = c.in_ok-key.ensures

@@ -1,10 +1,14 @@
 use Rattle.std.proofs.Common.{◌/◌, length, sym, subst}
 use Rattle.jc_rows.specs.steps.Merging.{IsRowOf}
-use Rattle.jc_rows.proofs.Searching.{short, joins}
+use Rattle.jc_rows.proofs.Searching.{short, as_they_are, joins}
 use Rattle.jc_rows.proofs.row.+sorted.Goals as goal
+use Rattle.jc_rows.proofs.row.+sorted.Goals.{then-items-le1-via-then-items-le1, then-items-le1-via-else-items-le1+then-is_rising}
 
 pub returns-then-items-le1 : goal.returns-then-items-le1
-returns-then-items-le1 t c = short c.args.items.now c.in_ok-row.row.items c.in_ok-row.ensures.items c.if-items-le1.true
+returns-then-items-le1 t c = elim c.then-items-le1.branch [
+  | then-items-le1-via-then-items-le1 w ↦ short c.args.items.now c.in_ok-row.row.items c.in_ok-row.ensures.items w.if-items-le1.true
+  | then-items-le1-via-else-items-le1+then-is_rising w ↦ as_they_are c.args.items.now c.in_ok-row.row.items c.in_ok-row.ensures.items (w.is_rising.ensures w.if-is_rising.true)
+]
 
 pub returns : goal.returns
 returns t c =
