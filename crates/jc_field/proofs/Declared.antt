@@ -160,3 +160,11 @@ module _ (W : World) (side : IsSide W) (k : Key) where
 pub found_is_declared : (W : World) → IsSide W → (x : Bytes) (k : Key) (m : DeclaredMember) → field_found W x k ≡ Some m → load_fault W x ≡ None → declare_field (above W x) k ≡ true
 unfolding IsAbove
 found_is_declared W s x k m e h = from_class W s k x h (ap is_some e)
+
+-- ---- what a class itself declares is found
+
+pub own_found : (W : World) (k : Key) (y : Bytes) (c : ClassFacts) → find_class W y ≡ Some c → load_fault W y ≡ None → is_some (own_field_of c k) ≡ true → is_some (field_found W y k) ≡ true
+unfolding field_step
+own_found W k y c f h o =
+    ap is_some (stepped W k y c f h) ∙ some_or (found_in c (own_field_of c k)) (or_else (first_some (λ z. field_found W z k) c.interfaces) (and_then (λ z. field_found W z k) c.superclass))
+    ∙ or_left (is_some (found_in c (own_field_of c k))) (is_some (or_else (first_some (λ z. field_found W z k) c.interfaces) (and_then (λ z. field_found W z k) c.superclass))) (some_in c (own_field_of c k) ∙ o)

@@ -1,1 +1,2 @@
+pub mod FoundKeys
 pub mod steps

@@ -7,7 +7,8 @@ use Rattle.jc_facts.specs.declared.key.Key.{Key}
 use Rattle.jc_facts.specs.Names.{Bytes}
 use Rattle.jc_facts.specs.Flags.{private_flag, static_flag, interface_flag}
 use Rattle.jc_facts.specs.Options.{and_then, some_and}
-use Rattle.jc_facts.specs.world.World.{World, find_class, own_method_of, DeclaredMember}
+use Rattle.jc_facts.specs.world.World.{World, find_class, own_method_of, found_in, DeclaredMember}
+use Rattle.jc_facts.specs.rule.Collisions.{are_none}
 use Rattle.jc_facts.specs.world.Hierarchy.{superinterfaces}
 use Rattle.jc_facts.specs.world.Loading.{load_fault}
 use Rattle.jc_facts.specs.world.Lookup.{declared_by}
@@ -19,7 +20,11 @@ use Rattle.jc_worlds.proofs.Offers.{declared_by-some, declared_by-offers}
 use Rattle.jc_table.specs.Ids.{name_at}
 use Rattle.jc_table.specs.Lookups.{IsChoice}
 use Rattle.jc_index.specs.declared.ids.Found.{Found}
+use Rattle.jc_method.specs.FoundKeys.{finds_method}
 use Rattle.jc_method.specs.Inheriting.{inherits_from}
+use Rattle.jc_rows.specs.Rows.{lookup_choices}
+use Rattle.jc_rows.specs.steps.Fronts.{front_by}
+use Rattle.jc_rows.proofs.Unfound.{own_none, parts, none_declared}
 use Rattle.jc_index.specs.steps.Choosing.{as_found, if_candidate, candidate_at, FindsAbove}
 use Rattle.jc_index.proofs.Choices.{any_choice}
 
@@ -78,3 +83,38 @@ module _ (W : World) (k : Key) (n : ℕ) where
   pub inherits_above : (b : Bool) (o : Option Found) → b ≡ (is_interface_of W (name_at W n) && is_some (candidate_at W k n)) → b ≡ false → load_fault W (name_at W n) ≡ None → FindsAbove W (name_at W n) (candidate_at W k) o
       → inherits_from W (name_at W n) k ≡ is_some o
   inherits_above b o p e l h = whole ∙ ap (λ v. v || list_any (offers k) (superinterfaces W (name_at W n))) (sym p ∙ e) ∙ sym (offered W (name_at W n) l k o h)
+
+-- ---- what an interface inherits is found
+
+module _ (W : World) (k : Key) (x : Bytes) where
+  unoffered : (c : ClassFacts) (o : Option Member) → found_in c o ≡ None → some_and is_inheritable o ≡ false
+  unfolding found_in
+  unoffered c None e = refl
+  unoffered c (Some m) e = absurd (cc)
+
+  not_above : declared_by k (superinterfaces W x) ≡ [] → (b : Bool) → list_any (offers k) (superinterfaces W x) ≡ b → b ≡ false
+  not_above e false p = refl
+  not_above e true p =
+      let c : IsCons (declared_by k (superinterfaces W x)) = declared_by-some k (superinterfaces W x) p in
+      absurd (let ms : List DeclaredMember = c.head ∷ c.tail in let z : [] ≡ ms = sym e ∙ c.is in cc)
+
+  nothing_inherited : is_interface_of W x ≡ true → lookup_choices W x k ≡ [] → inherits W x k ≡ false
+  unfolding inherits
+  nothing_inherited kind e = go (find_class W x) refl
+    where
+      above : list_any (offers k) (superinterfaces W x) ≡ false
+      above = not_above (none_declared W k x (parts W k x e).1) (list_any (offers k) (superinterfaces W x)) refl
+
+      front : front_by true W x k ≡ None
+      front = ap (λ (b : Bool). front_by b W x k) (sym kind) ∙ (parts W k x e).0
+
+      go : (o : Option ClassFacts) → find_class W x ≡ o → list_any (offers k) (itself_and (superinterfaces W x) o) ≡ false
+      go None f = refl
+      go (Some c) f = ap (λ (b : Bool). b || list_any (offers k) (superinterfaces W x)) (unoffered c (own_method_of c k) (own_none W k x c f front)) ∙ above
+
+  pub inherits_is_found : is_interface_of W x ≡ true → inherits W x k ≡ true → finds_method W x k ≡ true
+  inherits_is_found kind h = go (lookup_choices W x k) refl
+    where
+      go : (ms : List DeclaredMember) → lookup_choices W x k ≡ ms → not (are_none ms) ≡ true
+      go (m ∷ ms) e = refl
+      go [] e = absurd (let z : false ≡ true = sym (nothing_inherited kind e) ∙ h in cc)

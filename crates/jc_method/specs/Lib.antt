@@ -1,1 +1,2 @@
 pub mod Inheriting
+pub mod FoundKeys

@@ -7,10 +7,11 @@ ghost use Rattle.jc_facts.specs.Exactly.{HasExactly};
 ghost use Rattle.jc_worlds.specs.Hierarchy.{above};
 ghost use Rattle.jc_table.specs.Ids.{name_at};
 ghost use Rattle.jc_table.specs.Lookups.{declare_method};
+ghost use Rattle.jc_method.specs.FoundKeys.{HaveFound};
 
 use jc_facts::key::Key;
 use jc_table::ids::ClassId;
-use jc_table::keys::keys_of;
+use jc_table::keys::{keys_in, keys_of};
 use jc_table::members::MemberKind;
 use jc_table::table::Table;
 use std::alloc::{AllocError, Global};
@@ -23,4 +24,25 @@ pub fn method_keys(alloc: Global, table: &Table, class: ClassId) -> Result<Vec<K
     ensures { IfOk result (λ keys. HasExactly key_cmp (λ k. IsTrue (declare_method (above table.now (name_at table.now class)) k)) keys.items) }
 {
     keys_of(alloc, table, class, MemberKind::Method)
+}
+
+/// The keys of the methods that a reference to the class or the interface may find, each once, in
+/// any order (JVMS 5.4.3.3, 5.4.3.4). The class has to load. They share their bytes.
+///
+/// # Errors
+///
+/// `AllocError` where memory runs out.
+pub fn found_method_keys(
+    alloc: Global,
+    table: &Table,
+    class: ClassId,
+) -> Result<Vec<Key>, AllocError>
+    requires class { class < size table.now }
+    requires loads { load_fault table.now (name_at table.now class) ≡ None }
+    ensures { IfOk result (λ keys. HaveFound table.now (name_at table.now class) keys.items) }
+{
+    let _classes = table.count();
+    let _keys = table.key_count();
+    let keys = keys_in(alloc, table, table.method_row(class))?;
+    Ok(keys)
 }

@@ -1,5 +1,6 @@
 pub mod MemberKeys
 pub mod Rows
+pub mod RowKeys
 pub use Rattle.jc_index.proofs.Numbers
 pub use Rattle.jc_index.proofs.Sides
 pub use Rattle.jc_index.proofs.Walking

@@ -1,5 +1,6 @@
 pub mod Tables
 pub mod TableFields
+pub mod RowKeys
 pub mod steps
 pub use Rattle.jc_index.specs.Ids
 pub use Rattle.jc_index.specs.Root
