@@ -18,7 +18,7 @@ pub struct RecentNames {
     names: RefCell<Vec<Name>>,
 }
 
-// The place of the name of these bytes.
+// The place of the name of these bytes, by their FNV-1a hash. On it the speed alone hangs.
 fn place_of(text: &[u8]) -> usize
     ensures { result < KEPT }
 {
