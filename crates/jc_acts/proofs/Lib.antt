@@ -12,3 +12,7 @@ mod LeftSteps
 mod Platforms
 pub mod Untouched
 mod Beside
+mod Wider
+mod Covering
+mod OpenToAll
+mod Gathered

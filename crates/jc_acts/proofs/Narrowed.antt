@@ -1,12 +1,12 @@
 -- Most seats need not be asked.
-use Rattle.std.proofs.Common.{◌≡◌, Bool, true, false, cond, not, List, [], ◌∷◌, map, refl, sym, ◌∙◌, ap, subst, Option, Some, None, Result, Ok, Err, take, ◌||◌, ◌&&◌, ◌==◌}
+use Rattle.std.proofs.Common.{◌≡◌, Bool, true, false, cond, not, List, [], ◌∷◌, map, refl, sym, ◌∙◌, ap, subst, Option, Some, None, Result, Ok, Err, take, ◌||◌, ◌&&◌}
 use Rattle.std.specs.List.{filter, All}
-use Rattle.std.proofs.lemmas.Bool.{and_parts, eqb-true, eq-eqb, not-false}
+use Rattle.std.proofs.lemmas.Bool.{not-false}
 use Rattle.std.proofs.lemmas.List.Elements.{recursion_from_All, All-from_recursion}
 use Rattle.jc_facts.specs.declared.act.Act.{Act}
 use Rattle.jc_facts.specs.declared.link_error.LinkError.{LinkError}
 use Rattle.jc_facts.specs.declared.link_error.LinkError.TheVariants.{IllegalAccessError}
-use Rattle.jc_facts.specs.Names.{Bytes, same, object_name}
+use Rattle.jc_facts.specs.Names.{Bytes, object_name}
 use Rattle.jc_facts.specs.Flags.{public_flag, protected_flag, static_flag, final_flag}
 use Rattle.jc_facts.specs.Options.{or_else}
 use Rattle.jc_facts.specs.world.World.{World, DeclaredMember}
@@ -16,8 +16,7 @@ use Rattle.jc_facts.specs.client.Acts.{is_put_act}
 use Rattle.jc_facts.specs.client.Outcome.{kind_fault}
 use Rattle.jc_facts.specs.rule.OpenActs.{is_member_open, where_open}
 use Rattle.jc_facts.specs.rule.Bases.{is_base_class}
-use Rattle.jc_lemmas.proofs.Listed.{EachOf, filter-each, each_of}
-use Rattle.jc_facts.proofs.Same.{same_is}
+use Rattle.jc_lemmas.proofs.Listed.{EachOf, filter-each}
 use Rattle.jc_worlds.proofs.Above.{fault_where-none}
 use Rattle.jc_facts.proofs.Options.{or_else-none, or_else-both}
 use Rattle.jc_worlds.proofs.Bare.{has_root}
@@ -28,12 +27,11 @@ use Rattle.jc_index.specs.declared.ids.Found.{Found}
 use Rattle.jc_sides.specs.SharedOf.{AreThose, IsShared, name_of, SharedOf}
 use Rattle.jc_sides.specs.SidesOf.{SidesOf}
 use Rattle.jc_sides.proofs.BaseParts.{base_class_parts}
-use Rattle.jc_acts.specs.Seats.{all_seats, loses_class}
+use Rattle.jc_acts.specs.Seats.{all_seats}
 use Rattle.jc_acts.specs.steps.Firsts.{with_or, first_at}
-use Rattle.jc_acts.specs.steps.LookedUp.{member_of, use_at, looked_use, closed_use, is_like, is_found_alike}
+use Rattle.jc_acts.specs.steps.LookedUp.{member_of, use_at, looked_use, closed_use}
 use Rattle.jc_acts.specs.declared.lookup.Looked.{Looked}
-use Rattle.jc_acts.proofs.SeatChains.{keeps}
-use Rattle.jc_acts.proofs.Firsts.{first_none, first_filtered}
+use Rattle.jc_acts.proofs.Firsts.{first_none}
 use Rattle.jc_acts.proofs.Roots.{only_root}
 use Rattle.jc_table.proofs.Sides.{side_valid}
 
@@ -45,7 +43,7 @@ above_base sides s a b y h =
     subst (λ (z : Bytes). in_chain sides.new a z ≡ true) (sym (only_root sides.new s y h)) (has_root sides.new (side_valid sides.new s) a (base_class_parts sides a b).both.loads_now)
 
 -- a member that is open to a seat is open where as much stands above
-open_further : (W V : World) (a b c : Bytes) (m : DeclaredMember) → (in_chain W a m.owner ≡ true → in_chain V b m.owner ≡ true) → (in_chain W a c ≡ true → in_chain V b c ≡ true) → is_member_open W a c m ≡ true → is_member_open V b c m ≡ true
+pub open_further : (W V : World) (a b c : Bytes) (m : DeclaredMember) → (in_chain W a m.owner ≡ true → in_chain V b m.owner ≡ true) → (in_chain W a c ≡ true → in_chain V b c ≡ true) → is_member_open W a c m ≡ true → is_member_open V b c m ≡ true
 open_further W V a b c m owner through h =
     or-map (public_flag m.member.flags) (protected_flag m.member.flags && in_chain W a m.owner && (static_flag m.member.flags || in_chain W a c)) (protected_flag m.member.flags && in_chain V b m.owner && (static_flag m.member.flags || in_chain V b c)) h
     (λ n r. and-map (protected_flag m.member.flags && in_chain W a m.owner) (static_flag m.member.flags || in_chain W a c) (protected_flag m.member.flags && in_chain V b m.owner) (static_flag m.member.flags || in_chain V b c) r
@@ -53,7 +51,7 @@ open_further W V a b c m owner through h =
     (λ u. or-map (static_flag m.member.flags) (in_chain W a c) (in_chain V b c) u (λ _ w. through w)))
 
 -- the steps after access
-abbrev after_access : Act → DeclaredMember → Option LinkError
+abbrev pub after_access : Act → DeclaredMember → Option LinkError
 after_access what m = or_else (kind_fault what m) (fault_where (is_put_act what && final_flag m.member.flags) IllegalAccessError)
 
 pub use_further : (W V : World) (a b c : Bytes) (what : Act) (m : DeclaredMember) → (in_chain W a m.owner ≡ true → in_chain V b m.owner ≡ true) → (in_chain W a c ≡ true → in_chain V b c ≡ true) → use_at W a c what m ≡ None → use_at V b c what m ≡ None
@@ -73,7 +71,7 @@ shut_use W a c what m p q = rw (p, q) refl
 not_open : (e : LinkError) (o r : Option LinkError) → o ≡ Some e → where_open o r ≡ None
 not_open e o r h = ap (λ z. where_open z r) h
 
--- ---- the three ways
+-- ---- the two ways
 
 module _ (sides : SidesOf) (so : IsSide sides.old) (sn : IsSide sides.new) (x : Bytes) (u : Looked) (what : Act) where
   abbrev f : Bytes → Option LinkError
@@ -98,26 +96,9 @@ module _ (sides : SidesOf) (so : IsSide sides.old) (sn : IsSide sides.new) (x : 
           ap (λ z. where_open z (looked_use sides.new a x what u.after)) d
           ∙ now u.after (sym (ap (λ z. where_open z (looked_use sides.new object_name x what u.after)) c) ∙ h)
 
-  -- alike: closed only where the chain lost a class
-  pub by_chain : is_found_alike sides u ≡ true → (a : Bytes) → loses_class sides a ≡ false → closed_use sides x u what a ≡ None
-  by_chain like a lost = at u.after like
-    where
-      at : (l : Result Found LinkError) → is_like sides u.before l ≡ true → where_open (use_at sides.old a x what (member_of sides.old u.before)) (looked_use sides.new a x what l) ≡ None
-      at (Err e) k = absurd (cc)
-      at (Ok g) k =
-          let p = and_parts (g.flags == u.before.flags) (same (name_at sides.old u.before.owner) (name_at sides.new g.owner)) k in
-          go (use_at sides.old a x what (member_of sides.old u.before)) refl
-          (eqb-true g.flags u.before.flags p.0) (same_is (name_at sides.old u.before.owner) (name_at sides.new g.owner) p.1)
-        where
-          go : (r : Option LinkError) → use_at sides.old a x what (member_of sides.old u.before) ≡ r → g.flags ≡ u.before.flags → name_at sides.old u.before.owner ≡ name_at sides.new g.owner → where_open r (use_at sides.new a x what (member_of sides.new g)) ≡ None
-          go (Some e) c d i = refl
-          go None c d i =
-              let same_member : member_of sides.old u.before ≡ member_of sides.new g = rw (← d, i) refl in
-              use_further sides.old sides.new a a x what (member_of sides.new g) (keeps sides a lost (name_at sides.new g.owner)) (keeps sides a lost x) (subst (λ (m : DeclaredMember). use_at sides.old a x what m ≡ None) same_member c)
-
 -- ---- lists of seats
 
-each_base : (P : Bytes → Type 0) (p : Bytes → Bool) (xs : List Bytes) → ((a : Bytes) → p a ≡ true → P a) → EachOf P (filter p xs)
+pub each_base : (P : Bytes → Type 0) (p : Bytes → Bool) (xs : List Bytes) → ((a : Bytes) → p a ≡ true → P a) → EachOf P (filter p xs)
 each_base P p [] h = tt
 each_base P p (x ∷ xs) h = go (p x) refl (each_base P p xs h)
   where
@@ -149,13 +130,6 @@ module _ (sides : SidesOf) (so : IsSide sides.old) (sn : IsSide sides.new) (x : 
       go None c =
           sym (first_none (closed_use sides x u what) (filter (is_base_class sides.old sides.new) (names sides.old)) (each_base (λ a. closed_use sides x u what a ≡ None) (is_base_class sides.old sides.new) (names sides.old) (shut_or_root c (public_flag u.before.flags) refl (protected_flag u.before.flags) refl h)))
 
-  -- those whose chain lost a class
-  pub shrunk_enough : (all shrunk : List SharedOf) → map name_of all ≡ all_seats sides → shrunk ≡ filter (λ b. loses_class sides (name_of b)) all → is_found_alike sides u ≡ true
-      → first_at (closed_use sides x u what) (map name_of shrunk) ≡ first_at (closed_use sides x u what) (all_seats sides)
-  shrunk_enough all shrunk a e like =
-      ap (first_at (closed_use sides x u what)) (ap (map name_of) e ∙ map_filter (loses_class sides) all ∙ ap (filter (loses_class sides)) a)
-      ∙ first_filtered (closed_use sides x u what) (loses_class sides) (all_seats sides) (each_of (λ a. loses_class sides a ≡ false → closed_use sides x u what a ≡ None) (λ a. by_chain sides so sn x u what like a) (all_seats sides))
-
 -- the first seat is the root
 pub root_first : (sides : SidesOf) (all : List SharedOf) → map name_of all ≡ all_seats sides → map name_of (take 1 all) ≡ object_name ∷ []
 root_first sides [] e = absurd (cc)
@@ -172,8 +146,3 @@ module _ (sides : SidesOf) (root : SharedOf) (bases all : List SharedOf) where
 -- the lists of them are of classes of both sides
 pub shared_filtered : (sides : SidesOf) (q : SharedOf → Bool) (all shrunk : List SharedOf) → All (IsShared sides) all → shrunk ≡ filter q all → All (IsShared sides) shrunk
 shared_filtered sides q all shrunk h e = subst (All (IsShared sides)) (sym e) (All-from_recursion (IsShared sides) (filter q all) (filter-each (IsShared sides) q all (recursion_from_All (IsShared sides) all h)))
-
--- ---- alike
-
-pub like_is : (sides : SidesOf) (u : Looked) (g : Found) (x y : Bytes) (r : Bool) → u.after ≡ Ok g → g.flags ≡ u.before.flags → x ≡ name_at sides.old u.before.owner → y ≡ name_at sides.new g.owner → r ≡ same x y → r ≡ is_found_alike sides u
-like_is sides u g x y r e f p q h = h ∙ ap (λ z. same z y) p ∙ ap (same (name_at sides.old u.before.owner)) q ∙ sym (ap (is_like sides u.before) e ∙ ap (λ b. b && same (name_at sides.old u.before.owner) (name_at sides.new g.owner)) (eq-eqb g.flags u.before.flags f))

@@ -10,6 +10,7 @@ use Rattle.jc_sides.specs.SharedOf.{IsShared, name_of}
 use Rattle.jc_sides.specs.SidesOf.{SidesOf, AreSides}
 use Rattle.jc_acts.specs.Platforms.{is_platforms, stands_below, left_a_chain, platform_settled}
 use Rattle.jc_acts.specs.declared.seats.Seats.{Seats}
+use Rattle.jc_acts.specs.steps.Commons.{AreCommon}
 
 -- all seats of clients: java/lang/Object, and then the base classes in byte order
 abbrev pub all_seats : SidesOf → List Bytes
@@ -28,8 +29,9 @@ left_classes s = filter (left_a_chain s (filter (loses_class s) (all_seats s))) 
 abbrev pub may_be_closed : SidesOf → Bytes → Bool
 may_be_closed s x = not (platform_settled s (left_classes s)) || not (is_platforms s.old x) || stands_below s.old (left_classes s) x
 
--- the seats are all seats. It is kept which of their chains lost a class, which classes of the platform left one of them, and
--- whether the platform's classes are settled
+-- the seats are all seats. It is kept which of their chains lost a class, which classes of the platform left one of them,
+-- whether the platform's classes are settled, and for each class of the old side one of the new below which the seats stand that
+-- stood below the first
 pub record AreSeats (s : SidesOf) (t : Seats) : Type 0 where
   pub sides : AreSides s
   pub all : map name_of t.all.items ≡ all_seats s
@@ -38,3 +40,4 @@ pub record AreSeats (s : SidesOf) (t : Seats) : Type 0 where
   pub within : All (λ n. n < size s.old) t.left.items
   pub left : map (name_at s.old) t.left.items ≡ left_classes s
   pub settled : t.settled ≡ platform_settled s (left_classes s)
+  pub commons : AreCommon s.old s.new (all_seats s) t.commons.items

@@ -1,4 +1,5 @@
 pub mod Chains
+pub mod Commons
 pub mod Firsts
 pub mod LookedUp
 pub mod References

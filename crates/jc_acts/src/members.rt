@@ -37,7 +37,7 @@ fn closed_by<'a>(
     };
     let after = look_up(sides.new, form, class.new, key);
     let looked = Looked { before, after };
-    let asked = asked(sides, seats, &looked);
+    let asked = asked(sides, seats, class, &looked);
     first_closed(sides, class, &looked, acts(form), asked)
 }
 

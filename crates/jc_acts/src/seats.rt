@@ -9,7 +9,9 @@ ghost use Rattle.jc_sides.specs.SharedOf.{AreThose, IsShared, name_of};
 ghost use Rattle.jc_acts.specs.Seats.{AreSeats, loses_class};
 
 use crate::chains::has_lost;
+use crate::commons::commons;
 use crate::platform::{is_below_any, is_settled, left_of};
+use crate::root::root_of;
 use jc_sides::shared::Shared;
 use jc_sides::sides::Sides;
 use jc_table::ids::ClassId;
@@ -21,12 +23,15 @@ pub struct Seats<'a> {
     // java/lang/Object, and then the base classes.
     pub(crate) all: Vec<Shared<'a>>,
     // Those whose chain lost a class.
-    pub(crate) shrunk: Vec<Shared<'a>>,
+    shrunk: Vec<Shared<'a>>,
     // The classes of the platform that left one of their chains.
     left: Vec<ClassId>,
     // Whether the platform's classes are settled: then those that stand below none of these have no
     // closed act.
     settled: bool,
+    // For each class of the old side one of the new side below which all seats stand that stood
+    // below the first; none where no seat did.
+    pub(crate) commons: Vec<Option<ClassId>>,
 }
 
 // One call at each exit of a function that owns it, where a derived drop is written out.
@@ -37,17 +42,9 @@ impl Drop for Seats<'_> {
             shrunk: _,
             left: _,
             settled: _,
+            commons: _,
         } = self;
     }
-}
-
-// The number of the root of all classes.
-fn root_of(table: &Table) -> ClassId
-    requires { IsSide table.now }
-    ensures below { result < size table.now }
-    ensures name { name_at table.now result ≡ object_name }
-{
-    table.get(b"java/lang/Object").unwrap()
 }
 
 // The root of all classes.
@@ -116,11 +113,13 @@ impl<'a> Seats<'a> {
         let shrunk = shrunk_of(alloc, sides, all.as_slice())?;
         let left = left_of(alloc, sides, shrunk.as_slice())?;
         let settled = is_settled(sides, left.as_slice());
+        let commons = commons(alloc, sides.old, sides.new, all.as_slice())?;
         Ok(Seats {
             all,
             shrunk,
             left,
             settled,
+            commons,
         })
     }
 

@@ -1,11 +1,12 @@
 -- What references find, and what the use of that gives a seat.
-use Rattle.std.specs.Prelude.{◌<◌, Bool, false, ◌==◌, [], not, Option, Some, ◌≡◌, ◌&&◌, Result, Ok, Err}
+use Rattle.std.specs.Prelude.{◌<◌, ℕ, Bool, true, false, [], not, Option, None, Some, ◌≡◌, ◌&&◌, ◌||◌, Result, Ok, Err}
+use Rattle.std.specs.Bool.{beq}
 use Rattle.jc_facts.specs.declared.act.Act.{Act}
 use Rattle.jc_facts.specs.declared.key.Key.{Key}
 use Rattle.jc_facts.specs.declared.link_error.LinkError.{LinkError}
 use Rattle.jc_facts.specs.declared.link_error.LinkError.TheVariants.{IllegalAccessError}
-use Rattle.jc_facts.specs.Names.{Bytes, same}
-use Rattle.jc_facts.specs.Flags.{final_flag}
+use Rattle.jc_facts.specs.Names.{Bytes}
+use Rattle.jc_facts.specs.Flags.{final_flag, static_flag}
 use Rattle.jc_facts.specs.Options.{or_else}
 use Rattle.jc_facts.specs.world.World.{World, size, DeclaredMember}
 use Rattle.jc_facts.specs.world.Loading.{fault_where}
@@ -54,11 +55,16 @@ pub record IsLooked (s : SidesOf) (u : Looked) : Type 0 where
   pub before : u.before.owner < size s.old
   pub after : IsInside s.new u.after
 
--- the two have the same owner, by name, and the same flags
-abbrev pub is_like : SidesOf → Found → Result Found LinkError → Bool
-is_like s was (Err e) = false
-is_like s was (Ok f) = f.flags == was.flags && same (name_at s.old was.owner) (name_at s.new f.owner)
+-- of later flags, a member is static as it was, and is final only where it was
+abbrev pub as_usable : ℕ → ℕ → Bool
+as_usable was now = beq (static_flag now) (static_flag was) && (final_flag was || not (final_flag now))
 
--- the member that is found now is as the one that was found
-abbrev pub is_found_alike : SidesOf → Looked → Bool
-is_found_alike s u = is_like s u.before u.after
+-- a member is found that is open to the seat a and as usable as one of the flags that were
+abbrev pub open_below : World → Bytes → Bytes → ℕ → Result Found LinkError → Bool
+open_below W a x was (Err e) = false
+open_below W a x was (Ok f) = is_member_open W a x (member_of W f) && as_usable was f.flags
+
+-- it is so for the class of this number, where there is one
+abbrev pub open_to_all : World → Option ℕ → Bytes → ℕ → Result Found LinkError → Bool
+open_to_all W None x was found = true
+open_to_all W (Some n) x was found = open_below W (name_at W n) x was found

@@ -36,4 +36,4 @@ returns c =
     ∙ by_looked c.args.sides.now (name_of c.args.class.now) c.args.key.now c.args.form u
     (of_old (worlds c.sides.inside) c.args.sides.now c.sides.view_is (shared_of c.class.inside) c.args.class.now c.class.view_is c.requires.class (λ V x. LooksUp V x c.args.key.now (form_view c.args.form) (Ok c.in-Ok.before)) (subst (λ (r : Result Found LinkError). LooksUp c.sides.inside.old.now (name_at c.sides.inside.old.now c.class.inside.old) c.args.key.now (form_view c.args.form) r) c.in-Ok.is c.look_up.ensures.found))
     (of_new (worlds c.sides.inside) c.args.sides.now c.sides.view_is (shared_of c.class.inside) c.args.class.now c.class.view_is c.requires.class (λ V x. LooksUp V x c.args.key.now (form_view c.args.form) c.look_up-after.result) c.look_up-after.ensures.found)
-    (map name_of c.asked-asked.result.now) (c.asked-asked.ensures.enough (name_of c.args.class.now)))
+    (map name_of c.asked-asked.result.now) c.asked-asked.ensures.enough)
