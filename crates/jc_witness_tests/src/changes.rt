@@ -7,6 +7,7 @@ ghost use Rattle.jc_witness.specs.Ground.{HasShortSide};
 ghost use Rattle.jc_witness.specs.Witnesses.{HasCause, StandsInVerdict};
 
 use crate::releases::{platform, table};
+use jc_base::items::Items;
 use jc_facts::class_facts::ClassFacts;
 use jc_facts::finding::Finding;
 use jc_facts::verdict::{Cause, Collision, Spot, Verdict};
@@ -17,6 +18,7 @@ use jc_witness::planner::Planner;
 use jc_witness::witness::{WitnessFile, witness};
 use jc_witness::witnessed::Witnessed;
 use std::alloc::{AllocError, Global};
+use std::mem::replace;
 use std::process::Abort;
 use std::test::Fail;
 
@@ -416,10 +418,11 @@ fn files_and_spots_of_collisions(rt: HostRuntime) -> Result<(), Fail> {
 }
 
 // The last finding of the verdict, as a cause.
-fn last_finding(verdict: Verdict) -> Option<Cause>
+fn last_finding(alloc: Global, mut verdict: Verdict) -> Option<Cause>
     ensures { IfSome result (HasCause verdict) }
 {
-    let mut findings = verdict.findings.into_vec();
+    let none = Items::from_vec(Vec::new(alloc));
+    let mut findings = replace(&mut verdict.findings, none).into_vec();
     let finding = findings.pop()?;
     Some(Cause::Finding(finding))
 }
@@ -436,7 +439,7 @@ fn is_last_shown(
     requires new_names { HasShortSide new.now }
 {
     let verdict = compare(alloc, old, new)?;
-    let cause = last_finding(verdict).expect(rt, "a finding");
+    let cause = last_finding(alloc, verdict).expect(rt, "a finding");
     let files = witness(alloc, old, new, &cause)?;
     assert!(rt; are_files(files.as_slice(), wanted));
     Ok(())
