@@ -34,7 +34,6 @@ use Rattle.jc_rules.proofs.NoteUnloadable.{notes_exact}
 use Rattle.jc_sides.specs.Limit.{HasMore, over, beside}
 use Rattle.jc_sides.proofs.Limits.{past_weaker, within_both}
 use Rattle.jc_sides.specs.SidesOf.{SidesOf, AreSides}
-use Rattle.jc_sides.proofs.Subjects.{rule_before}
 
 -- ---- which rules there are
 

@@ -1,5 +1,5 @@
 -- Why clients can't use a class, and what the rule on classes that are gone finds.
-use Rattle.std.proofs.Common.{◌≡◌, ℕ, Bool, true, false, cond, refl, sym, ◌∙◌, ap, subst, Option, Some, None, is_some, not, ◌&&◌}
+use Rattle.std.proofs.Common.{◌≡◌, ℕ, Bool, true, false, cond, refl, sym, ◌∙◌, ap, subst, Option, Some, None, not, ◌&&◌}
 use Rattle.jc_facts.specs.declared.act.Act.TheVariants.{ClassRef}
 use Rattle.jc_facts.specs.declared.class_facts.ClassFacts.{ClassFacts}
 use Rattle.jc_facts.specs.declared.link_error.LinkError.{LinkError}

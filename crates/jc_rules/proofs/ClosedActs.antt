@@ -1,23 +1,23 @@
 -- Acts on members that are closed to a seat: the key that they name is declared on the old side.
-use Rattle.std.proofs.Common.{◌≡◌, Bool, true, false, cond, List, [], ◌∷◌, refl, sym, ◌∙◌, ap, subst, Option, Some, None}
+use Rattle.std.proofs.Common.{◌≡◌, Bool, true, false, cond, List, [], ◌∷◌, refl, subst, Option, Some, None}
 use Rattle.std.specs.List.{Contains}
 use Rattle.jc_facts.specs.declared.act.Act.{Act}
 use Rattle.jc_facts.specs.declared.finding.Finding.{Finding}
 use Rattle.jc_facts.specs.declared.key.Key.{Key}
 use Rattle.jc_facts.specs.declared.link_error.LinkError.{LinkError}
-use Rattle.jc_facts.specs.client.Acts.{Form, FieldForm, MethodForm, InterfaceForm, form_of}
+use Rattle.jc_facts.specs.client.Acts.{Form, FieldForm, MethodForm, InterfaceForm}
 use Rattle.jc_facts.specs.world.Assignment.{is_interface_of}
 use Rattle.jc_facts.specs.rule.Findings.{Subject, report, act_finding, first_act}
 use Rattle.jc_facts.specs.world.Loading.{load_fault}
 use Rattle.jc_facts.specs.world.Lookup.{method_choices, interface_choices}
 use Rattle.jc_facts.specs.Names.{Bytes}
 use Rattle.jc_facts.specs.Options.{and_then, or_else}
-use Rattle.jc_facts.specs.rule.OpenActs.{act_fault, closed_act, where_open, first_seat}
+use Rattle.jc_facts.specs.rule.OpenActs.{act_fault, closed_act, where_open}
 use Rattle.jc_facts.specs.world.World.{World, DeclaredMember}
 use Rattle.jc_lemmas.proofs.Listed.{EachOf, here}
 use Rattle.jc_table.proofs.Sides.{side_valid}
 use Rattle.jc_worlds.specs.Hierarchy.{above}
-use Rattle.jc_sound.proofs.Looked.{looked, head_of, look_up-takes}
+use Rattle.jc_sound.proofs.Looked.{looked, head_of}
 use Rattle.jc_method.proofs.Declared.{choice_is_declared, interface_choice_is_declared}
 use Rattle.jc_sides.specs.SidesOf.{SidesOf}
 use Rattle.jc_table.specs.Lookups.{declare_method}

@@ -1,5 +1,5 @@
 -- What the collision of fields that interfaces have now makes.
-use Rattle.std.proofs.Common.{◌≡◌, ℕ, Bool, true, false, not, List, refl, sym, ◌∙◌, ap, Option, Some, None, is_some, is_none, ◌&&◌}
+use Rattle.std.proofs.Common.{◌≡◌, Bool, true, false, not, refl, sym, ◌∙◌, ap, Option, Some, None, is_some, is_none, ◌&&◌}
 use Rattle.std.proofs.lemmas.Bool.{and_parts}
 use Rattle.jc_facts.specs.declared.act.Act.TheVariants.{GetField}
 use Rattle.jc_facts.specs.declared.key.Key.{Key}

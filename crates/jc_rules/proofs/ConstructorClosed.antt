@@ -1,7 +1,6 @@
 -- What the rule on constructors finds, of a class's two records.
-use Rattle.std.proofs.Common.{◌≡◌, Bool, true, false, cond, not, ◌&&◌, List, refl, sym, ◌∙◌, ap, Option, Some, None}
+use Rattle.std.proofs.Common.{◌≡◌, ℕ, Bool, true, false, cond, not, ◌&&◌, refl, sym, ◌∙◌, ap, Option, Some, None}
 use Rattle.std.proofs.lemmas.Bool.{and_parts}
-use Rattle.jc_facts.specs.declared.act.Act.{Act}
 use Rattle.jc_facts.specs.declared.act.Act.TheVariants as act
 use Rattle.jc_facts.specs.declared.class_facts.ClassFacts.{ClassFacts}
 use Rattle.jc_facts.specs.declared.class_facts.Member.{Member}
@@ -15,14 +14,15 @@ use Rattle.jc_facts.specs.Options.{or_else, and_then, some_and}
 use Rattle.jc_facts.specs.world.World.{find_class, own_method_of}
 use Rattle.jc_facts.specs.world.Loading.{fault_where}
 use Rattle.jc_facts.specs.rule.Orders.{finding_order}
-use Rattle.jc_facts.specs.rule.Bases.{is_class_usable, is_kept, became_class, is_steady, is_base_class, public_or_protected}
+use Rattle.jc_facts.specs.rule.Bases.{is_class_usable, is_kept, became_class, is_steady, is_base_class}
 use Rattle.jc_facts.specs.rule.Findings.{Subject, finding_at, constructor_closed, report, report_where, new_broken, init_broken, missing_or}
 use Rattle.jc_facts.proofs.Same.{same_is}
 use Rattle.jc_worlds.proofs.Inherited.{found_passes}
 use Rattle.jc_sound.proofs.Standing.{usable_parts}
 use Rattle.jc_sound.proofs.UsableLaw.{Needs, or_else_needs, and_then_needs}
 use Rattle.jc_lemmas.proofs.Bools.{both_last}
-use Rattle.jc_rules.specs.steps.Constructors.{makes_no_objects, declares_init, fault_of_new, fault_of_super}
+use Rattle.jc_rules.specs.steps.Constructors.{makes_no_objects, open_flags, declares_init, why_closed, fault_of_new, fault_of_super}
+use Rattle.jc_rules.specs.steps.Own.{flags_of, method_flags_of}
 use Rattle.jc_sides.specs.BrokenOf.{BrokenOf, broken_if, found}
 use Rattle.jc_sides.specs.Members.{is_member, OfPassing}
 use Rattle.jc_sides.specs.steps.KeySets.{has_member}
@@ -44,15 +44,24 @@ never_and : (b : Bool) → (b && false) ≡ false
 never_and true = refl
 never_and false = refl
 
--- the name of the key is that of the method
-key_named : (test : Member → Bool) (c : ClassFacts) (k : Key) → (is_init_name k.name && some_and test (own_method_of c k)) ≡ declares_init test c k
+-- by the flags of what the class declares
+had_flags : (test : ℕ → Bool) (k : Key) (o : Option Member) → (is_init_name k.name && some_and (λ (m : Member). test m.flags) o) ≡ declares_init test k (flags_of o)
+had_flags test k None = never_and (is_init_name k.name)
+had_flags test k (Some m) = refl
+
+closed_flags : (test : ℕ → Bool) (o : Option Member) → missing_or (λ (m : Member). fault_where (not (test m.flags)) IllegalAccessError) o ≡ why_closed test (flags_of o)
+closed_flags test None = refl
+closed_flags test (Some m) = refl
+
+-- the key is that of an initializer which the class declares
+key_named : (test : ℕ → Bool) (c : ClassFacts) (k : Key) → declares_init test k (flags_of (own_method_of c k)) ≡ true → some_and (λ (m : Member). is_init_name m.name) (own_method_of c k) ≡ true
 key_named test c k = go (own_method_of c k) refl
   where
-    go : (o : Option Member) → own_method_of c k ≡ o → (is_init_name k.name && some_and test o) ≡ some_and (λ (m : Member). is_init_name m.name && test m) o
-    go None e = never_and (is_init_name k.name)
-    go (Some m) e =
+    go : (o : Option Member) → own_method_of c k ≡ o → declares_init test k (flags_of o) ≡ true → some_and (λ (m : Member). is_init_name m.name) o ≡ true
+    go None e h = absurd (cc)
+    go (Some m) e h =
         let p = and_parts (same m.name k.name) (same m.descriptor k.descriptor) (found_passes (is_key k) c.methods m e) in
-        ap (λ (n : Bytes). is_init_name n && test m) (sym (same_is m.name k.name p.0))
+        ap is_init_name (same_is m.name k.name p.0) ∙ (and_parts (is_init_name k.name) (test m.flags) h).0
 
 -- ---- the finding
 
@@ -60,10 +69,6 @@ init_is : (s : SidesOf) (x : Bytes) (k : Key)
     → key_finding 5 s x k ≡ or_else (and_then (report (on_key 5 x k) act.NewObject None) (new_broken s.old s.new x k)) (and_then (report (on_key 5 x k) act.InitSuper None) (init_broken s.old s.new x k))
 unfolding key_finding finding_at constructor_closed
 init_is s x k = refl
-
--- why classes below can't call the initializer of the record d
-abbrev super_error : ClassFacts → Key → Option LinkError
-super_error d k = missing_or (λ m. fault_where (not (public_or_protected m)) IllegalAccessError) (own_method_of d k)
 
 super_some : (on : Subject) (b h : Bool) (o : Option LinkError) (e : LinkError) → cond h o None ≡ Some e → and_then (report on act.InitSuper None) (cond (b && h) o None) ≡ report_where b on act.InitSuper e
 unfolding and_then
@@ -78,45 +83,64 @@ super_none on true false o q = refl
 super_none on false h o q = refl
 
 module _ (s : SidesOf) (x : Bytes) (c d : ClassFacts) (before : Some c ≡ find_class s.old x) (after : Some d ≡ find_class s.new x) (steady : is_steady s.old s.new x ≡ true) (k : Key) where
-  new_is : new_broken s.old s.new x k ≡ fault_of_new c d k
-  unfolding and_then
-  new_is = rw (steady, ← before, ← after, key_named (λ m. public_flag m.flags) c k) refl
+  -- what the two declare of the key
+  abbrev pub was_of : Option ℕ
+  was_of = flags_of (own_method_of c k)
 
-  super_is : init_broken s.old s.new x k ≡ cond (is_base_class s.old s.new x && declares_init public_or_protected c k) (super_error d k) None
-  unfolding and_then
-  super_is = rw (← before, ← after, key_named public_or_protected c k) refl
+  abbrev pub now_of : Option ℕ
+  now_of = flags_of (own_method_of d k)
 
-  finding_is : key_finding 5 s x k ≡ or_else (and_then (report (on_key 5 x k) act.NewObject None) (fault_of_new c d k)) (and_then (report (on_key 5 x k) act.InitSuper None) (cond (is_base_class s.old s.new x && declares_init public_or_protected c k) (super_error d k) None))
+  new_is : new_broken s.old s.new x k ≡ fault_of_new c d k was_of now_of
+  unfolding and_then
+  new_is = rw (steady, ← before, ← after, had_flags (λ f. public_flag f) k (own_method_of c k), closed_flags (λ f. public_flag f) (own_method_of d k)) refl
+
+  super_is : init_broken s.old s.new x k ≡ cond (is_base_class s.old s.new x && declares_init (λ f. open_flags f) k was_of) (why_closed (λ f. open_flags f) now_of) None
+  unfolding and_then
+  super_is = rw (← before, ← after, had_flags (λ f. open_flags f) k (own_method_of c k), closed_flags (λ f. open_flags f) (own_method_of d k)) refl
+
+  finding_is : key_finding 5 s x k ≡ or_else (and_then (report (on_key 5 x k) act.NewObject None) (fault_of_new c d k was_of now_of)) (and_then (report (on_key 5 x k) act.InitSuper None) (cond (is_base_class s.old s.new x && declares_init (λ f. open_flags f) k was_of) (why_closed (λ f. open_flags f) now_of) None))
   finding_is = init_is s x k ∙ rw (new_is, super_is) refl
 
-  pub found_new : (e : LinkError) (o : Option BrokenOf) → Some e ≡ fault_of_new c d k → o ≡ broken_if true act.NewObject e → found (on_key 5 x k) o ≡ key_finding 5 s x k
-  unfolding and_then or_else
-  found_new e o h r = ap (found (on_key 5 x k)) r ∙ sym (finding_is ∙ rw (← h) refl)
+  -- as the flags are looked up
+  pub was_is : (was : Option ℕ) → was ≡ method_flags_of s.old x k → was ≡ was_of
+  unfolding and_then
+  was_is was h = h ∙ ap (λ (o : Option ClassFacts). flags_of (and_then (λ e. own_method_of e k) o)) (sym before)
 
-  pub found_super : (b : Bool) (e : LinkError) (o : Option BrokenOf) → None ≡ fault_of_new c d k → Some e ≡ fault_of_super c d k → b ≡ is_base_class s.old s.new x → o ≡ broken_if b act.InitSuper e → found (on_key 5 x k) o ≡ key_finding 5 s x k
-  unfolding and_then or_else
-  found_super b e o h g q r =
-      ap (found (on_key 5 x k)) r ∙ found_where (on_key 5 x k) b act.InitSuper e ∙ ap (λ p. report_where p (on_key 5 x k) act.InitSuper e) q
-      ∙ sym (finding_is ∙ rw (← h) (super_some (on_key 5 x k) (is_base_class s.old s.new x) (declares_init public_or_protected c k) (super_error d k) e (sym g)))
+  pub now_is : (now : Option ℕ) → now ≡ method_flags_of s.new x k → now ≡ now_of
+  unfolding and_then
+  now_is now h = h ∙ ap (λ (o : Option ClassFacts). flags_of (and_then (λ e. own_method_of e k) o)) (sym after)
 
-  pub found_none : None ≡ fault_of_new c d k → None ≡ fault_of_super c d k → None ≡ key_finding 5 s x k
-  unfolding and_then or_else
-  found_none h g = sym (finding_is ∙ rw (← h) (super_none (on_key 5 x k) (is_base_class s.old s.new x) (declares_init public_or_protected c k) (super_error d k) (sym g)))
+  module _ (was now : Option ℕ) (had : was ≡ method_flags_of s.old x k) (has : now ≡ method_flags_of s.new x k) where
+    new_by : fault_of_new c d k was now ≡ fault_of_new c d k was_of now_of
+    new_by = ap (λ (o : Option ℕ). fault_of_new c d k o now) (was_is was had) ∙ ap (fault_of_new c d k was_of) (now_is now has)
 
-  some_init : (test : Member → Bool) (o : Option Member) → some_and (λ (m : Member). is_init_name m.name && test m) o ≡ true → some_and (λ (m : Member). is_init_name m.name) o ≡ true
-  some_init test None h = h
-  some_init test (Some m) h = (and_parts (is_init_name m.name) (test m) h).0
+    super_by : fault_of_super k was now ≡ fault_of_super k was_of now_of
+    super_by = ap (λ (o : Option ℕ). fault_of_super k o now) (was_is was had) ∙ ap (fault_of_super k was_of) (now_is now has)
 
-  declared : (test : Member → Bool) → declares_init test c k ≡ true → has_member (λ m. is_init_name m.name) c.methods k ≡ true
-  declared test h = some_member (λ m. is_init_name m.name) c.methods k (some_init test (own_method_of c k) h)
+    pub found_new : (e : LinkError) (o : Option BrokenOf) → Some e ≡ fault_of_new c d k was now → o ≡ broken_if true act.NewObject e → found (on_key 5 x k) o ≡ key_finding 5 s x k
+    unfolding and_then or_else
+    found_new e o h r = ap (found (on_key 5 x k)) r ∙ sym (finding_is ∙ rw (← (h ∙ new_by)) refl)
+
+    pub found_super : (b : Bool) (e : LinkError) (o : Option BrokenOf) → None ≡ fault_of_new c d k was now → Some e ≡ fault_of_super k was now → b ≡ is_base_class s.old s.new x → o ≡ broken_if b act.InitSuper e → found (on_key 5 x k) o ≡ key_finding 5 s x k
+    unfolding and_then or_else
+    found_super b e o h g q r =
+        ap (found (on_key 5 x k)) r ∙ found_where (on_key 5 x k) b act.InitSuper e ∙ ap (λ p. report_where p (on_key 5 x k) act.InitSuper e) q
+        ∙ sym (finding_is ∙ rw (← (h ∙ new_by)) (super_some (on_key 5 x k) (is_base_class s.old s.new x) (declares_init (λ f. open_flags f) k was_of) (why_closed (λ f. open_flags f) now_of) e (sym (g ∙ super_by))))
+
+    pub found_none : None ≡ fault_of_new c d k was now → None ≡ fault_of_super k was now → None ≡ key_finding 5 s x k
+    unfolding and_then or_else
+    found_none h g = sym (finding_is ∙ rw (← (h ∙ new_by)) (super_none (on_key 5 x k) (is_base_class s.old s.new x) (declares_init (λ f. open_flags f) k was_of) (why_closed (λ f. open_flags f) now_of) (sym (g ∙ super_by))))
+
+  declared : (test : ℕ → Bool) → declares_init test k was_of ≡ true → has_member (λ m. is_init_name m.name) c.methods k ≡ true
+  declared test h = some_member (λ m. is_init_name m.name) c.methods k (key_named test c k h)
 
   -- its key is that of an initializer of the class
   pub init_declared : (f : Finding) → key_finding 5 s x k ≡ Some f → has_member (λ m. is_init_name m.name) c.methods k ≡ true
   unfolding Needs
   init_declared f h =
       or_else_needs (has_member (λ m. is_init_name m.name) c.methods k ≡ true) _ _
-      (and_then_needs (has_member (λ m. is_init_name m.name) c.methods k ≡ true) (report (on_key 5 x k) act.NewObject None) (not (makes_no_objects c) && declares_init (λ m. public_flag m.flags) c k) _ (λ e. declared (λ m. public_flag m.flags) (both_last (not (makes_no_objects c)) (declares_init (λ m. public_flag m.flags) c k) e)))
-      (and_then_needs (has_member (λ m. is_init_name m.name) c.methods k ≡ true) (report (on_key 5 x k) act.InitSuper None) (is_base_class s.old s.new x && declares_init public_or_protected c k) _ (λ e. declared public_or_protected (both_last (is_base_class s.old s.new x) (declares_init public_or_protected c k) e)))
+      (and_then_needs (has_member (λ m. is_init_name m.name) c.methods k ≡ true) (report (on_key 5 x k) act.NewObject None) (not (makes_no_objects c) && declares_init (λ f. public_flag f) k was_of) _ (λ e. declared (λ f. public_flag f) (both_last (not (makes_no_objects c)) (declares_init (λ f. public_flag f) k was_of) e)))
+      (and_then_needs (has_member (λ m. is_init_name m.name) c.methods k ≡ true) (report (on_key 5 x k) act.InitSuper None) (is_base_class s.old s.new x && declares_init (λ f. open_flags f) k was_of) _ (λ e. declared (λ f. open_flags f) (both_last (is_base_class s.old s.new x) (declares_init (λ f. open_flags f) k was_of) e)))
       f (sym finding_is ∙ h)
 
 -- ---- where it stands

@@ -1,5 +1,5 @@
 -- What the rule on acts on fields that are closed to some clients finds.
-use Rattle.std.proofs.Common.{◌≡◌, Bool, true, false, List, [], refl, sym, ◌∙◌, ap, subst, Option, Some, None}
+use Rattle.std.proofs.Common.{◌≡◌, Bool, true, false, refl, sym, ◌∙◌, ap, Option, Some, None}
 use Rattle.jc_acts.specs.ClosedActs.{reported, IsFirstClosed, HasNoneClosed}
 use Rattle.jc_acts.specs.declared.closed_act.ClosedAct.{ClosedAct}
 use Rattle.jc_facts.specs.declared.finding.Finding.{Finding}
@@ -11,7 +11,6 @@ use Rattle.jc_facts.specs.rule.Orders.{finding_order}
 use Rattle.jc_facts.specs.rule.OpenActs.{act_fault, field_acts}
 use Rattle.jc_facts.specs.rule.Bases.{is_steady}
 use Rattle.jc_field.proofs.Declared.{found_is_declared}
-use Rattle.jc_worlds.specs.Hierarchy.{above}
 use Rattle.jc_sound.proofs.Looked.{looked, look_up-takes}
 use Rattle.jc_sides.specs.BrokenOf.{BrokenOf, found}
 use Rattle.jc_sides.specs.Members.{is_member, OfPassing}

@@ -1,3 +1,5 @@
+mod OwnFlags
+mod FinalMethods
 mod ClassGone
 mod ClassClosed
 mod InterfaceBecameClass

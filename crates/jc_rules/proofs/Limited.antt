@@ -1,5 +1,5 @@
 -- A verdict within a limit, or past it.
-use Rattle.std.proofs.Common.{◌≡◌, ◌≤◌, ◌<◌, ◌+◌, ◌-◌, ℕ, true, false, List, length, refl, subst, Option, Some, None, ◌⊎◌, inl, inr, arith}
+use Rattle.std.proofs.Common.{◌≡◌, ◌≤◌, ◌<◌, ◌-◌, ℕ, true, false, List, length, refl, subst, Option, Some, None, inl, inr, arith}
 use Rattle.std.specs.Option.{IfSome, IsSome}
 use Rattle.std.proofs.lemmas.Bool.{ltb-true, ltb-false}
 use Rattle.std.proofs.lemmas.List.Elements.{All-contains}
@@ -12,7 +12,7 @@ use Rattle.jc_facts.specs.rule.Orders.{finding_order, collision_order}
 use Rattle.jc_facts.specs.rule.Verdict.{IsVerdict, count_of}
 use Rattle.jc_facts.specs.world.World.{World}
 use Rattle.jc_sound.proofs.VerdictLaw.{no_longer, finding_total, collision_total}
-use Rattle.jc_sides.specs.Limit.{HasMore, over, beside}
+use Rattle.jc_sides.specs.Limit.{HasMore, beside}
 use Rattle.jc_sides.specs.SidesOf.{SidesOf, AreSides}
 use Rattle.jc_rules.specs.Verdicts.{IsVerdictWithin, KeepsAll, BreaksEach}
 use Rattle.jc_rules.specs.steps.Within.{IsLimited, IsPast}

@@ -1,5 +1,5 @@
 -- What the rule on acts on methods that are closed to some clients finds.
-use Rattle.std.proofs.Common.{◌≡◌, Bool, true, false, not, cond, ◌&&◌, ◌||◌, List, [], refl, sym, ◌∙◌, ap, subst, Option, Some, None}
+use Rattle.std.proofs.Common.{◌≡◌, Bool, true, false, cond, ◌&&◌, refl, sym, ◌∙◌, Option, Some, None}
 use Rattle.jc_acts.specs.ClosedActs.{reported, IsFirstClosed, HasNoneClosed}
 use Rattle.jc_acts.specs.declared.closed_act.ClosedAct.{ClosedAct}
 use Rattle.jc_facts.specs.declared.finding.Finding.{Finding}
@@ -10,7 +10,6 @@ use Rattle.jc_facts.specs.Names.{Bytes}
 use Rattle.jc_facts.specs.rule.Orders.{finding_order}
 use Rattle.jc_facts.specs.rule.OpenActs.{act_fault, method_acts}
 use Rattle.jc_facts.specs.rule.Bases.{is_steady, is_key_of_method}
-use Rattle.jc_worlds.specs.Hierarchy.{above}
 use Rattle.jc_sound.proofs.Looked.{look_up-takes}
 use Rattle.jc_sides.specs.BrokenOf.{BrokenOf, found}
 use Rattle.jc_sides.specs.Members.{is_member, OfPassing}
@@ -21,7 +20,6 @@ use Rattle.jc_sides.proofs.BaseParts.{steady_parts}
 use Rattle.jc_sides.proofs.ItemRules.{finding_rule}
 use Rattle.jc_sides.proofs.NamedAbove.{steady_unkept}
 use Rattle.jc_sides.proofs.Subjects.{IsOnKey}
-use Rattle.jc_table.specs.Lookups.{declare_method}
 use Rattle.jc_table.specs.Sides.{IsSide}
 use Rattle.jc_rules.proofs.ClosedActs.{NoField, found_open, looked_declared}
 

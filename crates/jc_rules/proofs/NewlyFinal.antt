@@ -1,21 +1,19 @@
 -- Methods that are final now: what the lookup finds of them on the old side.
-use Rattle.std.proofs.Common.{◌≡◌, ℕ, Bool, true, false, not, ◌||◌, ◌&&◌, List, [], ◌∷◌, ◌++◌, refl, sym, ◌∙◌, ap, subst, Option, Some, None, ◌⊎◌, inl, inr}
-use Rattle.std.specs.List.{list_any, Contains, All}
+use Rattle.std.proofs.Common.{◌≡◌, ℕ, Bool, true, false, not, ◌||◌, ◌&&◌, List, [], ◌∷◌, refl, sym, ◌∙◌, ap, Option, Some, None, ◌⊎◌, inl, inr}
+use Rattle.std.specs.List.{list_any, Contains}
 use Rattle.std.proofs.lemmas.Bool.{and_parts, both_ways}
-use Rattle.std.proofs.lemmas.List.Elements.{recursion_from_All, All-from_recursion}
-use Rattle.jc_facts.specs.declared.class_facts.ClassFacts.{ClassFacts}
+use Rattle.std.proofs.lemmas.List.Elements.{recursion_from_All}
 use Rattle.jc_facts.specs.declared.key.Key.{Key}
 use Rattle.jc_facts.specs.Names.{Bytes, is_init_name, is_clinit_name}
 use Rattle.jc_facts.specs.Flags.{public_flag, protected_flag, no_static_flag}
-use Rattle.jc_facts.specs.world.World.{World, classes, DeclaredMember}
+use Rattle.jc_facts.specs.world.World.{World, DeclaredMember}
 use Rattle.jc_facts.specs.world.Hierarchy.{chain}
 use Rattle.jc_facts.specs.world.Loading.{load_fault}
 use Rattle.jc_facts.specs.world.Lookup.{method_choices, or_choices, first_declared, superinterface_choices}
-use Rattle.jc_facts.specs.file.Valid.{IsValidClass}
 use Rattle.jc_facts.specs.rule.Bases.{is_key_of_method, declares_as_final, is_final_in_chain, public_or_protected}
 use Rattle.jc_facts.specs.rule.Findings.{finds_overridable, first_passes}
 use Rattle.jc_lemmas.proofs.Bools.{neither_last, not_true}
-use Rattle.jc_lemmas.proofs.Listed.{EachOf, none, cases, each_in, EachOf-append}
+use Rattle.jc_lemmas.proofs.Listed.{EachOf, none, cases, each_in}
 use Rattle.jc_worlds.specs.Agreement.{LooksTheSame}
 use Rattle.jc_worlds.specs.Choices.{IsPublicInstance}
 use Rattle.jc_worlds.proofs.ChoiceLaws.{inherited_are_public}

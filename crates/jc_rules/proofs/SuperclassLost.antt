@@ -31,7 +31,7 @@ use Rattle.jc_lemmas.proofs.Listed.{EachOf, here, there, none, cases, each_from}
 use Rattle.jc_facts.proofs.InOrder.{exact_none, exact_given}
 use Rattle.jc_facts.proofs.Exactly.{OfNames, grown_start, grown_more, grown_all}
 use Rattle.jc_table.proofs.Numbers.{id_of-Some, names-length, names-rise, number_of}
-use Rattle.jc_table.specs.Ids.{names, name_at, id_of}
+use Rattle.jc_table.specs.Ids.{names, name_at}
 use Rattle.jc_table.specs.Sides.{IsSide}
 use Rattle.std.specs.List.Sorted.{IsStrictlySortedBy}
 use Rattle.std.proofs.lemmas.Map.Keys.{below_from_sorted}

@@ -4,4 +4,5 @@ pub mod Classes
 pub mod Constructors
 pub mod Methods
 pub mod Notes
+pub mod Own
 pub mod Within

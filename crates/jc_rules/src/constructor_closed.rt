@@ -2,15 +2,15 @@
 ghost use Rattle.std.specs.Prelude.{◌≡◌};
 ghost use Rattle.jc_facts.specs.declared.rule_numbers.TheConstants.{CONSTRUCTOR_CLOSED};
 ghost use Rattle.jc_facts.specs.Flags.{public_flag};
-ghost use Rattle.jc_facts.specs.rule.Bases.{is_steady, public_or_protected};
-ghost use Rattle.jc_rules.specs.steps.Constructors.{makes_no_objects, declares_init, fault_of_new, fault_of_super};
+ghost use Rattle.jc_facts.specs.rule.Bases.{is_steady};
+ghost use Rattle.jc_rules.specs.steps.Constructors.{makes_no_objects, open_flags, declares_init, fault_of_new, fault_of_super};
 
+use crate::own::method_flags;
 use jc_desc::names::is_init;
 use jc_facts::act::Act;
-use jc_facts::class_facts::{ClassFacts, Member};
+use jc_facts::class_facts::ClassFacts;
 use jc_facts::flags::{is_abstract, is_interface, is_protected, is_public};
 use jc_facts::key::Key;
-use jc_facts::key_set::KeyRef;
 use jc_facts::link_error::LinkError;
 use jc_facts::rule_numbers::CONSTRUCTOR_CLOSED;
 use jc_sides::broken::{BrokenAct, broken_where};
@@ -19,7 +19,6 @@ use jc_sides::finding_rule::FindingRule;
 use jc_sides::members::Members;
 use jc_sides::shared::{Shared, after, before};
 use jc_sides::sides::Sides;
-use jc_table::members::own_method;
 
 // Whether no object of the class can be made.
 fn is_uninstantiable(class: &ClassFacts) -> bool
@@ -28,47 +27,54 @@ fn is_uninstantiable(class: &ClassFacts) -> bool
     is_abstract(class.flags) || is_interface(class.flags)
 }
 
-// Whether the class declares a public initializer of the key.
-fn declares_public(class: &ClassFacts, key: &KeyRef<'_>) -> bool
-    ensures { result ≡ declares_init (λ m. public_flag m.flags) class.now key.now }
+// Whether subclasses can call a method of these flags, as far as they go.
+fn are_open(flags: u16) -> bool
+    ensures { result ≡ open_flags flags }
 {
-    match own_method(class, key) {
+    is_public(flags) || is_protected(flags)
+}
+
+// Whether the key is an initializer's that is declared, with these flags, as public.
+fn declares_public(key: &Key, was: Option<u16>) -> bool
+    ensures { result ≡ declares_init (λ f. public_flag f) key.now was }
+{
+    match was {
         None => false,
-        Some(method) => is_init(method.name.as_bytes()) && is_public(method.flags),
+        Some(flags) => is_init(key.name.as_bytes()) && is_public(flags),
     }
 }
 
-// Whether subclasses can call the method, as far as its own flags go.
-fn is_open(method: &Member) -> bool
-    ensures { result ≡ public_or_protected method.now }
+// Whether it is one that subclasses can call.
+fn declares_open(key: &Key, was: Option<u16>) -> bool
+    ensures { result ≡ declares_init (λ f. open_flags f) key.now was }
 {
-    is_public(method.flags) || is_protected(method.flags)
-}
-
-// Whether the class declares an initializer of the key that its subclasses can call.
-fn declares_open(class: &ClassFacts, key: &KeyRef<'_>) -> bool
-    ensures { result ≡ declares_init public_or_protected class.now key.now }
-{
-    match own_method(class, key) {
+    match was {
         None => false,
-        Some(method) => is_init(method.name.as_bytes()) && is_open(method),
+        Some(flags) => is_init(key.name.as_bytes()) && are_open(flags),
     }
 }
 
-// Why clients can't make objects by the initializer any more (JVMS 6.5, new).
-fn new_fault(before: &ClassFacts, after: &ClassFacts, key: &KeyRef<'_>) -> Option<LinkError>
-    ensures { result ≡ fault_of_new before.now after.now key.now }
+// Why clients can't make objects by the initializer any more (JVMS 6.5, new). The flags are those
+// of what each of the two declares of the key.
+fn new_fault(
+    before: &ClassFacts,
+    after: &ClassFacts,
+    key: &Key,
+    was: Option<u16>,
+    now: Option<u16>,
+) -> Option<LinkError>
+    ensures { result ≡ fault_of_new before.now after.now key.now was now }
 {
-    if is_uninstantiable(before) || !declares_public(before, key) {
+    if is_uninstantiable(before) || !declares_public(key, was) {
         return None;
     }
     if is_uninstantiable(after) {
         return Some(LinkError::InstantiationError);
     }
-    match own_method(after, key) {
+    match now {
         None => Some(LinkError::NoSuchMethodError),
-        Some(method) => {
-            if is_public(method.flags) {
+        Some(flags) => {
+            if is_public(flags) {
                 None
             } else {
                 Some(LinkError::IllegalAccessError)
@@ -78,16 +84,16 @@ fn new_fault(before: &ClassFacts, after: &ClassFacts, key: &KeyRef<'_>) -> Optio
 }
 
 // Why subclasses, where there may be some, can't call the initializer any more (JVMS 5.4.4).
-fn super_fault(before: &ClassFacts, after: &ClassFacts, key: &KeyRef<'_>) -> Option<LinkError>
-    ensures { result ≡ fault_of_super before.now after.now key.now }
+fn super_fault(key: &Key, was: Option<u16>, now: Option<u16>) -> Option<LinkError>
+    ensures { result ≡ fault_of_super key.now was now }
 {
-    if !declares_open(before, key) {
+    if !declares_open(key, was) {
         return None;
     }
-    match own_method(after, key) {
+    match now {
         None => Some(LinkError::NoSuchMethodError),
-        Some(method) => {
-            if is_open(method) {
+        Some(flags) => {
+            if are_open(flags) {
                 None
             } else {
                 Some(LinkError::IllegalAccessError)
@@ -117,13 +123,12 @@ impl FindingRule for ConstructorClosed {
     }
 
     fn on_key(&self, sides: &Sides<'_>, class: &Shared<'_>, key: &Key) -> Option<BrokenAct<'_>> {
-        let was = before(sides, class);
-        let now = after(sides, class);
-        let init = KeyRef::of_key(key);
-        if let Some(error) = new_fault(was, now, &init) {
+        let was = method_flags(sides.old, class.old, key);
+        let now = method_flags(sides.new, class.new, key);
+        if let Some(error) = new_fault(before(sides, class), after(sides, class), key, was, now) {
             return broken_where(true, Act::NewObject, error);
         }
-        let error = super_fault(was, now, &init)?;
+        let error = super_fault(key, was, now)?;
         broken_where(is_base_class(sides, class), Act::InitSuper, error)
     }
 }

@@ -11,10 +11,10 @@ ghost use Rattle.jc_sides.specs.SharedOf.{IsShared, name_of};
 ghost use Rattle.jc_table.specs.Ids.{name_at};
 ghost use Rattle.jc_table.specs.Sides.{IsSide};
 
+use crate::final_methods::is_final_above;
 use jc_desc::names::is_initializer;
 use jc_facts::flags::{is_protected, is_public, is_static};
 use jc_facts::key::Key;
-use jc_load::finals::finals;
 use jc_method::find::find_method;
 use jc_sides::shared::Shared;
 use jc_sides::sides::Sides;
@@ -31,12 +31,13 @@ fn is_open_instance(flags: u16) -> bool
 // Whether the key is no initializer's, and isn't final in the old chain of the class but is in the
 // new one.
 fn is_newly_final(sides: &Sides<'_>, class: &Shared<'_>, key: &Key) -> bool
-    requires { IsShared sides.now «class».now }
+    requires shared { IsShared sides.now «class».now }
+    requires covered { IsTrue (is_base_class sides.now.old sides.now.new (name_of «class».now)) }
     ensures { result ≡ becomes_final sides.now (name_of «class».now) key.now }
 {
     !is_initializer(key.name.as_bytes())
-        && !finals(sides.old, class.old, key)
-        && finals(sides.new, class.new, key)
+        && !is_final_above(sides.old, class.old, key)
+        && is_final_above(sides.new, class.new, key)
 }
 
 // Whether the lookup from the class finds a public or protected instance method (JVMS 5.4.3.3).

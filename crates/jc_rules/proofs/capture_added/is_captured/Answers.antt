@@ -1,6 +1,5 @@
 use Rattle.std.proofs.Common.{◌≡◌, false}
 use Rattle.jc_facts.specs.world.Assignment.{is_interface_of}
-use Rattle.jc_facts.specs.world.Lookup.{method_choices}
 use Rattle.jc_sides.specs.SharedFields.{shared_of}
 use Rattle.jc_sides.specs.SharedOf.{name_of}
 use Rattle.jc_sides.specs.SidesFields.{worlds}
