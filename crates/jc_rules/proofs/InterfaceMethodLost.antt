@@ -1,39 +1,49 @@
 -- What the rule on methods that interfaces don't inherit any more finds.
-use Rattle.std.proofs.Common.{◌≡◌, ℕ, Bool, true, false, not, cond, refl, sym, ◌∙◌, ap, Option, Some, None, is_some, is_none, ◌&&◌, List}
-use Rattle.std.proofs.lemmas.Bool.{and_parts}
-use Rattle.std.specs.List.{list_any}
+use Rattle.std.proofs.Common.{◌≡◌, ℕ, Bool, true, false, not, cond, refl, sym, ◌∙◌, ap, subst, Option, Some, None, is_some, is_none, ◌&&◌, ◌||◌, List, [], ◌∷◌, ◌⊎◌, inl, inr}
+use Rattle.std.proofs.lemmas.Bool.{and_parts, or_left, both_ways}
+use Rattle.std.specs.List.{list_any, Contains}
 use Rattle.jc_facts.specs.declared.act.Act.TheVariants.{Inherit}
 use Rattle.jc_facts.specs.declared.class_facts.ClassFacts.{ClassFacts}
 use Rattle.jc_facts.specs.declared.class_facts.Member.{Member}
 use Rattle.jc_facts.specs.declared.finding.Finding.{Finding}
 use Rattle.jc_facts.specs.declared.key.Key.{Key}
 use Rattle.jc_facts.specs.declared.link_error.LinkError.TheVariants.{NoSuchMethodError}
-use Rattle.jc_facts.specs.world.Assignment.{is_interface_of}
 use Rattle.jc_facts.specs.rule.Findings.{finding_at, interface_method_lost, report_where}
-use Rattle.jc_facts.specs.Flags.{public_flag, static_flag, no_static_flag}
-use Rattle.jc_facts.specs.world.Hierarchy.{superinterfaces}
-use Rattle.jc_facts.specs.world.Lookup.{public_method_of_object, if_public_instance}
+use Rattle.jc_facts.specs.Flags.{public_flag, private_flag, static_flag, no_static_flag}
+use Rattle.jc_facts.specs.world.Hierarchy.{chain, of_super, superinterfaces}
+use Rattle.jc_facts.specs.world.Loading.{load_fault}
+use Rattle.jc_facts.specs.world.Lookup.{public_method_of_object, if_public_instance, interface_choices, superinterface_choices, or_choices}
 use Rattle.jc_facts.specs.Names.{Bytes, object_name}
-use Rattle.jc_facts.specs.Options.{and_then}
+use Rattle.jc_facts.specs.Options.{and_then, or_else, some_and}
 use Rattle.jc_facts.specs.rule.Orders.{finding_order}
-use Rattle.jc_facts.specs.rule.Bases.{is_base_interface, is_key_of_method, inherits, offers}
-use Rattle.jc_facts.specs.world.World.{World, find_class, DeclaredMember, found_in, own_method_of}
+use Rattle.jc_facts.specs.rule.Bases.{is_base_interface, is_key_of_method, inherits, offers, is_inheritable, itself_and}
+use Rattle.jc_facts.specs.world.World.{World, find_class, class_named, DeclaredMember, found_in, own_method_of, declared_method}
+use Rattle.jc_lemmas.proofs.Listed.{none, cases}
+use Rattle.jc_lemmas.proofs.Lists.{IsCons}
+use Rattle.jc_worlds.specs.Agreement.{LooksTheSame}
+use Rattle.jc_worlds.proofs.Loaded.{loads-found}
+use Rattle.jc_worlds.proofs.Offers.{choices-some, choices-offers}
+use Rattle.jc_worlds.proofs.Unrolled.{chain-unroll}
 use Rattle.jc_sound.proofs.ClassGoneLaw.{report_where-some}
-use Rattle.jc_method.specs.Inheriting.{inherits_from}
+use Rattle.jc_index.specs.Lookups.{IsChoice}
+use Rattle.jc_index.specs.steps.Choosing.{candidate_at, FindsAbove}
+use Rattle.jc_index.specs.declared.ids.Found.{Found}
 use Rattle.jc_method.proofs.Declared.{inherits_is_declared}
+use Rattle.jc_method.proofs.Offering.{offered}
 use Rattle.jc_rules.specs.steps.Methods.{loses, has_lost_method}
 use Rattle.jc_sides.specs.BrokenOf.{BrokenOf, broken_if, found}
 use Rattle.jc_sides.specs.Members.{is_member, OfPassing}
 use Rattle.jc_sides.specs.declared.members.Members.TheVariants as members
 use Rattle.jc_sides.specs.Rules.{on_key, key_finding, IsFinding, IsItemRule}
 use Rattle.jc_sides.proofs.BrokenActs.{found_where}
-use Rattle.jc_sides.specs.SidesOf.{SidesOf}
+use Rattle.jc_sides.specs.SidesOf.{SidesOf, AreSides}
 use Rattle.jc_sides.proofs.BaseParts.{base_interface_parts}
 use Rattle.jc_sides.proofs.ItemRules.{finding_rule}
 use Rattle.jc_sides.proofs.NamedAbove.{interface_unkept}
 use Rattle.jc_sides.proofs.Subjects.{IsOnKey}
 use Rattle.jc_table.specs.Ids.{name_at, id_of}
 use Rattle.jc_table.proofs.Numbers.{find-None, id_of-Some}
+use Rattle.jc_table.proofs.Sides.{root_at}
 
 -- the test of the rule
 abbrev is_lost : SidesOf → Bytes → Key → Bool
@@ -45,23 +55,21 @@ lost_is s x k = refl
 
 -- ---- as the code tests it
 
-either : (m b i j : Bool) (o : Option DeclaredMember) → b ≡ true → (m && b && i && not j && is_none o) ≡ (m && (i && not j) && not (is_some o))
-either true true true true o h = refl
+either : (m b i j : Bool) (o : Option DeclaredMember) → b ≡ true → (m && b && i && not j && is_none o) ≡ (m && not (is_some o) && (i && not j))
+either true true true true None h = refl
+either true true true true (Some f) h = refl
 either true true true false None h = refl
 either true true true false (Some f) h = refl
-either true true false j o h = refl
+either true true false j None h = refl
+either true true false j (Some f) h = refl
 either false true i j o h = refl
 either m false i j o h = absurd (cc)
 
-module _ (s : SidesOf) (x : Bytes) (k : Key) (base : is_base_interface s.old s.new x ≡ true) where
-  pub lost : (b : Bool) (o : Option BrokenOf) → b ≡ has_lost_method s x k → o ≡ broken_if b Inherit NoSuchMethodError → found (on_key 9 x k) o ≡ key_finding 9 s x k
-  lost b o e r =
+module _ (s : SidesOf) (x : Bytes) (k : Key) where
+  pub lost : is_base_interface s.old s.new x ≡ true → (b : Bool) (o : Option BrokenOf) → b ≡ has_lost_method s x k → o ≡ broken_if b Inherit NoSuchMethodError → found (on_key 9 x k) o ≡ key_finding 9 s x k
+  lost base b o e r =
       ap (found (on_key 9 x k)) r ∙ found_where (on_key 9 x k) b Inherit NoSuchMethodError ∙ ap (λ p. report_where p (on_key 9 x k) Inherit NoSuchMethodError)
       (e ∙ sym (either (is_key_of_method k) (is_base_interface s.old s.new x) (inherits s.old x k) (inherits s.new x k) (public_method_of_object s.old k) base)) ∙ sym (lost_is s x k)
-
-  -- what an interface inherits, of both sides
-  by_kind : (W : World) (r : Bool) → is_interface_of W x ≡ true → r ≡ inherits_from W x k → r ≡ inherits W x k
-  by_kind W r i e = e ∙ ap (λ (b : Bool). cond b (inherits W x k) (list_any (offers k) (superinterfaces W x))) i
 
   row_true : (i j r : Bool) → i ≡ true → r ≡ j → not r ≡ (i && not j)
   row_true true j r h e = ap not e
@@ -71,13 +79,86 @@ module _ (s : SidesOf) (x : Bytes) (k : Key) (base : is_base_interface s.old s.n
   row_false true j r e h = absurd (cc)
   row_false false j r e h = e
 
-  pub lost_then : (r q : Bool) → r ≡ inherits_from s.old x k → r ≡ true → q ≡ inherits_from s.new x k → not q ≡ loses s x k
-  lost_then r q a t b =
-      let p = base_interface_parts s x base in
-      row_true (inherits s.old x k) (inherits s.new x k) q (sym (by_kind s.old r p.interface a) ∙ t) (by_kind s.new q p.interface_now b)
+  pub lost_then : (r q : Bool) → r ≡ inherits s.old x k → r ≡ true → q ≡ inherits s.new x k → not q ≡ loses s x k
+  lost_then r q a t b = row_true (inherits s.old x k) (inherits s.new x k) q (sym a ∙ t) b
 
-  pub lost_else : (r : Bool) → r ≡ inherits_from s.old x k → r ≡ false → r ≡ loses s x k
-  lost_else r a t = row_false (inherits s.old x k) (inherits s.new x k) r (by_kind s.old r (base_interface_parts s x base).interface a) t
+  pub lost_else : (r : Bool) → r ≡ inherits s.old x k → r ≡ false → r ≡ loses s x k
+  lost_else r a t = row_false (inherits s.old x k) (inherits s.new x k) r a t
+
+-- ---- what an interface inherits, by what the lookup from it finds
+
+module _ (W : World) (x : Bytes) (c : ClassFacts) (there : find_class W x ≡ Some c) (loads : load_fault W x ≡ None) (k : Key) (apart : public_method_of_object W k ≡ None) where
+  inherits_is : inherits W x k ≡ (offers k c || list_any (offers k) (superinterfaces W x))
+  unfolding inherits
+  inherits_is = rw there refl
+
+  choices_of : (o : Option Member) → own_method_of c k ≡ o → interface_choices W x k ≡ or_choices (found_in c o) (superinterface_choices W x k)
+  unfolding interface_choices and_then or_else found_in
+  choices_of None e = rw (there, e, apart) refl
+  choices_of (Some m) e = rw (there, e) refl
+
+  none_above : superinterface_choices W x k ≡ [] → (b : Bool) → list_any (offers k) (superinterfaces W x) ≡ b → b ≡ false
+  none_above e true h =
+      let i : IsCons (superinterface_choices W x k) = choices-some W x k h in
+      let ms : List DeclaredMember = i.head ∷ i.tail in
+      absurd (let z : [] ≡ ms = sym e ∙ i.is in cc)
+  none_above e false h = refl
+
+  -- nothing is found
+  pub inherits_none : IsChoice W None (interface_choices W x k) → false ≡ inherits W x k
+  unfolding or_choices found_in
+  inherits_none h = sym (inherits_is ∙ go (own_method_of c k) refl)
+    where
+      go : (o : Option Member) → own_method_of c k ≡ o → (some_and is_inheritable o || list_any (offers k) (superinterfaces W x)) ≡ false
+      go None e = none_above (sym (choices_of None e) ∙ h) (list_any (offers k) (superinterfaces W x)) refl
+      go (Some m) e =
+          let w : DeclaredMember = record { owner = c.name; member = m } in
+          let ms : List DeclaredMember = w ∷ [] in
+          absurd (let z : ms ≡ [] = sym (choices_of (Some m) e) ∙ h in cc)
+
+  only : (n m : DeclaredMember) → Contains (n ∷ []) m → n ≡ m
+  only n m h = go (cases n [] m h)
+    where
+      go : (n ≡ m) ⊎ Contains [] m → n ≡ m
+      go (inl i) = i
+      go (inr h) = absurd (none m h)
+
+  -- its own method is what is found
+  own_flags : (m : Member) → own_method_of c k ≡ Some m → (f : Found) → IsChoice W (Some f) (interface_choices W x k) → f.flags ≡ m.flags
+  unfolding or_choices found_in
+  own_flags m e f h =
+      let w : DeclaredMember = record { owner = c.name; member = m } in
+      h.2.flags ∙ ap (λ (d : DeclaredMember). d.member.flags) (sym (only w h.0 (subst (λ (ms : List DeclaredMember). Contains ms h.0) (choices_of (Some m) e) h.1)))
+
+  -- what is found is inherited
+  pub inherits_found : (f : Found) → IsChoice W (Some f) (interface_choices W x k) → (no_static_flag f.flags && not (private_flag f.flags)) ≡ true → true ≡ inherits W x k
+  unfolding or_choices found_in
+  inherits_found f h t = sym (inherits_is ∙ go (own_method_of c k) refl)
+    where
+      cons_of : (ms : List DeclaredMember) (m : DeclaredMember) → Contains ms m → IsCons ms
+      cons_of [] m d = absurd (none m d)
+      cons_of (n ∷ ns) m d = record { head = n; tail = ns; is = refl }
+
+      go : (o : Option Member) → own_method_of c k ≡ o → (some_and is_inheritable o || list_any (offers k) (superinterfaces W x)) ≡ true
+      go None e = choices-offers W x k (cons_of (superinterface_choices W x k) h.0 (subst (λ (ms : List DeclaredMember). Contains ms h.0) (choices_of None e) h.1))
+      go (Some m) e = or_left (is_inheritable m) (list_any (offers k) (superinterfaces W x)) (ap (λ n. no_static_flag n && not (private_flag n)) (sym (own_flags m e f h)) ∙ t)
+
+  -- what is found is its own and isn't inherited
+  pub inherits_over : (f : Found) → IsChoice W (Some f) (interface_choices W x k) → (no_static_flag f.flags && not (private_flag f.flags)) ≡ false → (o : Option Found) → FindsAbove W x (candidate_at W k) o → is_some o ≡ inherits W x k
+  inherits_over f h t o a = offered W x loads k o a ∙ sym (inherits_is ∙ go (own_method_of c k) refl)
+    where
+      go : (o : Option Member) → own_method_of c k ≡ o → (some_and is_inheritable o || list_any (offers k) (superinterfaces W x)) ≡ list_any (offers k) (superinterfaces W x)
+      go None e = refl
+      go (Some m) e = ap (λ b. b || list_any (offers k) (superinterfaces W x)) (ap (λ n. no_static_flag n && not (private_flag n)) (sym (own_flags m e f h)) ∙ t)
+
+-- both sides have one java/lang/Object
+root_alike : (s : SidesOf) → AreSides s → find_class s.old object_name ≡ find_class s.new object_name
+root_alike s are =
+    root_at s.old are.old_side ∙ sym are.old_side.root.is_there ∙ ap (λ (cs : List ClassFacts). class_named cs object_name) are.platform ∙ are.new_side.root.is_there ∙ sym (root_at s.new are.new_side)
+
+pub apart_now : (s : SidesOf) → AreSides s → (k : Key) → public_method_of_object s.old k ≡ None → public_method_of_object s.new k ≡ None
+unfolding public_method_of_object
+apart_now s are k h = ap (λ (o : Option ClassFacts). and_then if_public_instance (and_then (declared_method k) o)) (sym (root_alike s are)) ∙ h
 
 -- ---- methods of java/lang/Object
 
@@ -121,6 +202,7 @@ module _ (W : World) (k : Key) where
 record IsLost (s : SidesOf) (x : Bytes) (k : Key) : Type 0 where
   base : is_base_interface s.old s.new x ≡ true
   inherited : inherits s.old x k ≡ true
+  gone : not (inherits s.new x k) ≡ true
 
 lost_parts : (s : SidesOf) (x : Bytes) (k : Key) (f : Finding) → key_finding 9 s x k ≡ Some f → IsLost s x k
 lost_parts s x k f h =
@@ -129,11 +211,26 @@ lost_parts s x k f h =
     let b = and_parts (is_key_of_method k && is_base_interface s.old s.new x && inherits s.old x k) (not (inherits s.new x k)) a.0 in
     let c = and_parts (is_key_of_method k && is_base_interface s.old s.new x) (inherits s.old x k) b.0 in
     let d = and_parts (is_key_of_method k) (is_base_interface s.old s.new x) c.0 in
-    record { base = d.1; inherited = c.1 }
+    record { base = d.1; inherited = c.1; gone = b.1 }
 
 -- the interface, or one above it, declared the key
 pub of_methods : (s : SidesOf) (x : Bytes) → is_base_interface s.old s.new x ≡ true → OfPassing (key_finding 9 s x) (is_member members.OldMethods s x)
 of_methods s x base k f e = inherits_is_declared k s.old x (base_interface_parts s x base).both.loads (lost_parts s x k f e).inherited
+
+-- nothing is lost where all lookups are as they were
+pub of_none : (s : SidesOf) (x : Bytes) → is_base_interface s.old s.new x ≡ true → LooksTheSame s.old s.new x → OfPassing (key_finding 9 s x) (is_member members.Nothing s x)
+unfolding inherits
+of_none s x base same k f e =
+    let both = (base_interface_parts s x base).both in
+    let c = loads-found s.old x both.loads in
+    let d = loads-found s.new x both.loads_now in
+    let p = lost_parts s x k f e in
+    let chains : c.0 ∷ of_super (chain s.old) c.0.superclass ≡ d.0 ∷ of_super (chain s.new) d.0.superclass = sym (chain-unroll s.old x c.0 c.1 both.loads) ∙ same.chain ∙ chain-unroll s.new x d.0 d.1 both.loads_now in
+    let one : c.0 ≡ d.0 = cc in
+    let there : find_class s.old x ≡ find_class s.new x = c.1 ∙ ap (λ (b : ClassFacts). Some b) one ∙ sym d.1 in
+    let alike : inherits s.old x k ≡ inherits s.new x k =
+    ap (λ (cs : List ClassFacts). list_any (offers k) (itself_and cs (find_class s.old x))) same.superinterfaces ∙ ap (λ (o : Option ClassFacts). list_any (offers k) (itself_and (superinterfaces s.new x) o)) there in
+    absurd (both_ways (not (inherits s.new x k)) (ap not (sym alike ∙ p.inherited)) p.gone)
 
 abbrev on_9 : IsOnKey 9
 on_9 = record { not_1 = refl; not_2 = refl; not_3 = refl; not_4 = refl }

@@ -125,7 +125,7 @@ fn findings_on_uses(
         rule: MethodClosed { seats },
     };
     let inherited = Findings {
-        rule: InterfaceMethodLost,
+        rule: InterfaceMethodLost { seats },
     };
     let Some(mut findings) = by_items(alloc, &fields, sides, steady, most)? else {
         return Ok(None);

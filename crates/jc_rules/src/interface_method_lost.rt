@@ -1,24 +1,33 @@
 //! The rule on methods that interfaces don't inherit any more.
-ghost use Rattle.std.specs.Prelude.{◌≡◌, is_some, IsTrue};
+ghost use Rattle.std.specs.Prelude.{◌≡◌, ◌<◌, ◌&&◌, not, None, is_some, IsTrue};
+ghost use Rattle.jc_acts.specs.Seats.{AreSeats};
 ghost use Rattle.jc_facts.specs.declared.rule_numbers.TheConstants.{INTERFACE_METHOD_LOST};
+ghost use Rattle.jc_facts.specs.Flags.{private_flag, no_static_flag};
+ghost use Rattle.jc_facts.specs.world.Assignment.{is_interface_of};
+ghost use Rattle.jc_facts.specs.world.Loading.{load_fault};
 ghost use Rattle.jc_facts.specs.world.Lookup.{public_method_of_object};
-ghost use Rattle.jc_facts.specs.rule.Bases.{is_base_interface};
+ghost use Rattle.jc_facts.specs.world.World.{size};
+ghost use Rattle.jc_facts.specs.rule.Bases.{is_base_interface, inherits};
 ghost use Rattle.jc_rules.specs.steps.Methods.{loses, has_lost_method};
 ghost use Rattle.jc_sides.specs.SharedOf.{IsShared, name_of};
+ghost use Rattle.jc_table.specs.Ids.{name_at};
 
+use jc_acts::seats::Seats;
 use jc_desc::names::is_initializer;
 use jc_facts::act::Act;
-use jc_facts::flags::{is_public, is_static};
+use jc_facts::flags::{is_private, is_public, is_static};
 use jc_facts::key::Key;
 use jc_facts::key_set::KeyRef;
 use jc_facts::link_error::LinkError;
 use jc_facts::rule_numbers::INTERFACE_METHOD_LOST;
-use jc_method::find::inherits_instance;
+use jc_index::choose::any_candidate;
+use jc_method::find::find_interface_method;
 use jc_sides::broken::{BrokenAct, broken_where};
 use jc_sides::finding_rule::FindingRule;
 use jc_sides::members::Members;
 use jc_sides::shared::Shared;
 use jc_sides::sides::Sides;
+use jc_table::ids::ClassId;
 use jc_table::members::own_method;
 use jc_table::table::Table;
 
@@ -35,13 +44,41 @@ fn is_of_object(table: &Table, key: &Key) -> bool
     }
 }
 
+// Whether the flags are those of an instance method that isn't private.
+fn are_inheritable(flags: u16) -> bool
+    ensures { result ≡ (no_static_flag flags && not (private_flag flags)) }
+{
+    !is_static(flags) && !is_private(flags)
+}
+
+// Whether the interface or one above it declares the key as such a method, where java/lang/Object
+// has no public instance method of it. It is looked up in the interface's row.
+fn inherits(table: &Table, class: ClassId, key: &Key) -> bool
+    requires class { class < size table.now }
+    requires loads { load_fault table.now (name_at table.now class) ≡ None }
+    requires kind { IsTrue (is_interface_of table.now (name_at table.now class)) }
+    requires apart { public_method_of_object table.now key.now ≡ None }
+    ensures { result ≡ inherits table.now (name_at table.now class) key.now }
+{
+    let _classes = table.count();
+    let Some(found) = find_interface_method(table, class, key) else {
+        return false;
+    };
+    if are_inheritable(found.flags) {
+        return true;
+    }
+    // The interface's own, which hides what is above it.
+    any_candidate(table.hierarchy(), class, key).is_some()
+}
+
 // Whether the base interface inherited the key and doesn't any more.
 fn is_lost(sides: &Sides<'_>, class: &Shared<'_>, key: &Key) -> bool
     requires shared { IsShared sides.now «class».now }
     requires covered { IsTrue (is_base_interface sides.now.old sides.now.new (name_of «class».now)) }
+    requires apart { public_method_of_object sides.now.old key.now ≡ None }
     ensures { result ≡ loses sides.now (name_of «class».now) key.now }
 {
-    inherits_instance(sides.old, class.old, key) && !inherits_instance(sides.new, class.new, key)
+    inherits(sides.old, class.old, key) && !inherits(sides.new, class.new, key)
 }
 
 // Whether the base interface has lost the method of the key.
@@ -51,28 +88,35 @@ fn loses_method(sides: &Sides<'_>, class: &Shared<'_>, key: &Key) -> bool
     ensures { result ≡ has_lost_method sides.now (name_of «class».now) key.now }
 {
     !is_initializer(key.name.as_bytes())
-        && is_lost(sides, class, key)
         && !is_of_object(sides.old, key)
+        && is_lost(sides, class, key)
 }
 
 /// Methods that interfaces inherited and don't any more (JVMS 5.4.3.4). A public instance method of
 /// `java/lang/Object` is still found.
 #[derive(Drop)]
-pub struct InterfaceMethodLost;
+pub struct InterfaceMethodLost<'a, 'b> {
+    /// The seats of clients.
+    pub seats: &'b Seats<'a>,
+}
 
-impl FindingRule for InterfaceMethodLost {
+impl<'a, 'b> FindingRule for InterfaceMethodLost<'a, 'b> {
     ghost rule = { INTERFACE_METHOD_LOST };
 
     ghost covers = { λ s x. is_base_interface s.old s.new x };
 
-    ghost ready = { λ _ _. Unit {0} };
+    ghost ready = { λ r s. AreSeats s r.seats.now };
 
     fn number(&self) -> u8 {
         INTERFACE_METHOD_LOST
     }
 
-    fn members(&self, _sides: &Sides<'_>, _class: &Shared<'_>) -> Members {
-        Members::OldMethods
+    fn members(&self, sides: &Sides<'_>, class: &Shared<'_>) -> Members {
+        if self.seats.may_close(sides, class) {
+            Members::OldMethods
+        } else {
+            Members::Nothing
+        }
     }
 
     fn on_key(&self, sides: &Sides<'_>, class: &Shared<'_>, key: &Key) -> Option<BrokenAct<'_>> {

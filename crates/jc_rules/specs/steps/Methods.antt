@@ -14,7 +14,7 @@ loses s x k = inherits s.old x k && not (inherits s.new x k)
 
 -- the same of a method, and java/lang/Object has no public instance method of the key
 abbrev pub has_lost_method : SidesOf → Bytes → Key → Bool
-has_lost_method s x k = is_key_of_method k && loses s x k && not (is_some (public_method_of_object s.old k))
+has_lost_method s x k = is_key_of_method k && not (is_some (public_method_of_object s.old k)) && loses s x k
 
 -- the key is no initializer's, and wasn't final in the chain of the class but is now
 abbrev pub becomes_final : SidesOf → Bytes → Key → Bool
