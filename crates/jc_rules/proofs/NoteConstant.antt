@@ -1,32 +1,41 @@
 -- The notes on constants.
-use Rattle.std.proofs.Common.{◌≡◌, ◌<◌, ℕ, Bool, true, false, not, cond, ◌&&◌, ◌||◌, List, [], ◌∷◌, ◌++◌, refl, sym, ◌∙◌, ap, subst, Option, Some, None, is_some}
-use Rattle.std.specs.List.{Contains, list_any}
+use Rattle.std.proofs.Common.{◌≡◌, ◌<◌, ◌≤◌, ◌+◌, ◌-◌, ℕ, Bool, true, false, not, cond, ◌&&◌, List, [], ◌∷◌, ◌++◌, length, get_or, take, drop, refl, sym, ◌∙◌, ap, subst, arith, Bor, Option, Some, None, is_some, nat_lt}
+use Rattle.std.specs.Prelude.{option_map}
+use Rattle.std.specs.BTreeMap as tree
+use Rattle.std.specs.List.{Contains, find as first_where, filter_map, cons_option}
+use Rattle.std.specs.Ordering.{is_eq}
 use Rattle.std.specs.declared.cmp.Ordering.TheVariants.{Less}
-use Rattle.std.proofs.lemmas.Bool.{and_parts, or_left}
-use Rattle.jc_lemmas.proofs.Lists.{any_left}
-use Rattle.jc_worlds.proofs.Unrolled.{chain-unroll}
-use Rattle.jc_facts.specs.declared.class_facts.Member.{Member}
-use Rattle.jc_facts.specs.world.Hierarchy.{chain, of_super, superinterfaces}
+use Rattle.std.proofs.lemmas.Bool.{and_parts}
+use Rattle.std.proofs.lemmas.List.{drop_all, at_drop_more}
+use Rattle.std.proofs.lemmas.List.Elements.{All-contains_itself, filter_map-append}
+use Rattle.std.proofs.lemmas.Map.Views.{btree_map_contains_key_iff}
 use Rattle.jc_facts.specs.declared.class_facts.ClassFacts.{ClassFacts}
+use Rattle.jc_facts.specs.declared.class_facts.Constant.{Constant}
+use Rattle.jc_facts.specs.declared.class_facts.Fixed.{Fixed}
+use Rattle.jc_facts.specs.declared.class_facts.Member.{Member}
 use Rattle.jc_facts.specs.declared.key.Key.{Key}
 use Rattle.jc_facts.specs.declared.verdict.Note.{Note}
 use Rattle.jc_facts.specs.declared.verdict.Note.TheVariants as note
+use Rattle.jc_facts.specs.Exactly.{Before, HasExactly, NamesRise}
+use Rattle.jc_facts.specs.Flags.{static_flag, final_flag}
 use Rattle.jc_facts.specs.Names.{Bytes, same, same_key}
-use Rattle.jc_facts.specs.KeyOrder.{key_cmp}
+use Rattle.jc_facts.specs.KeyOrder.{key_cmp, key_total, key_ties}
 use Rattle.jc_facts.specs.Options.{and_then, some_and, some_where}
-use Rattle.jc_facts.specs.world.World.{World, find_class, size, class_named, own_field_of}
-use Rattle.jc_facts.specs.rule.Notes.{in_release, has_lost_constant, has_static_final}
+use Rattle.jc_facts.specs.rule.Notes.{in_release, is_same_constant, value_of_constant, has_lost_constant, has_static_final}
 use Rattle.jc_facts.specs.rule.Bases.{is_kept, is_class_usable}
-use Rattle.jc_facts.specs.Exactly.{Before}
 use Rattle.jc_facts.specs.rule.Orders.{note_order, noted_class}
+use Rattle.jc_facts.specs.world.World.{World, find_class, size, class_named, own_field_of}
+use Rattle.jc_facts.proofs.Exactly.{OfNames, exact_over, grown_start, grown_more, grown_all}
+use Rattle.jc_facts.proofs.InOrder.{exact_none}
+use Rattle.jc_facts.proofs.KeySets.{key_exact, rises}
+use Rattle.jc_facts.proofs.Options.{some_where-is}
 use Rattle.jc_sound.proofs.Standing.{usable_parts}
 use Rattle.jc_table.specs.Ids.{names, name_at}
 use Rattle.jc_table.specs.Sides.{IsSide}
-use Rattle.jc_table.proofs.Numbers.{names-in, class_at}
-use Rattle.jc_rules.specs.steps.Notes.{constant_note, is_in_both, loses, IsConstantNote}
+use Rattle.jc_table.proofs.Numbers.{names-in, names-length, names-rise, class_at}
+use Rattle.jc_rules.specs.steps.Notes.{HasConstants, AreConstants, fixed_at, value_in, changed_in, static_final_flags, constant_note, is_in_both, loses, IsConstantNote, OnConstants}
+use Rattle.jc_rules.specs.steps.Own.{flags_of, field_flags_of}
 use Rattle.jc_rules.proofs.NoteUnloadable.{two_lists, of_release, not_platform}
-use Rattle.jc_sides.specs.Members.{is_member, OfPassing}
-use Rattle.jc_sides.specs.declared.members.Members.TheVariants as members
 use Rattle.jc_sides.specs.Rules.{IsItemRule, IsOf}
 use Rattle.jc_sides.specs.SidesOf.{SidesOf, AreSides}
 use Rattle.jc_sides.proofs.ItemRules.{made_where}
@@ -69,9 +78,6 @@ both_rows true true false h = absurd (cc)
 both_rows true false c h = absurd (cc)
 both_rows false b c h = absurd (cc)
 
-pub both_unkept : (s : SidesOf) (x : Bytes) → is_kept s.old s.new x ≡ false → is_in_both s x ≡ false
-both_unkept s x h = rw h refl
-
 -- a class that is kept, of its tests on both sides
 pub both_then : (s : SidesOf) (x : Bytes) (r : Bool) → is_kept s.old s.new x ≡ true → is_some (in_release s.old x) ≡ true → r ≡ is_some (in_release s.new x) → r ≡ is_in_both s x
 both_then s x r k o n = rw (k, o) n
@@ -104,15 +110,128 @@ module _ (s : SidesOf) (are : AreSides s) (x : Bytes) (c d : ClassFacts) (before
   pub noted : (y : Bytes) (k l : Key) → y ≡ x → l ≡ k → has_lost_constant c d k ≡ true → Some (note.Fixed y l) ≡ constant_note s x k
   noted y k l n e h = rw (loses_is k, h) (ap (λ (z : Bytes). Some (note.Fixed z l)) n ∙ ap (λ (i : Key). Some (note.Fixed x i)) e)
 
--- ---- its keys
+-- ---- by the maps and the flags
 
-own_there : (test : Member → Bool) (o : Option Member) → some_and test o ≡ true → is_some o ≡ true
-own_there test None h = absurd (cc)
-own_there test (Some m) h = refl
+not_third : (a b c : Bool) → c ≡ false → (a && b && c) ≡ false
+not_third true true c h = h
+not_third true false c h = refl
+not_third false b c h = refl
 
-lost_own : (c d : ClassFacts) (k : Key) → has_lost_constant c d k ≡ true → is_some (own_field_of c k) ≡ true
-unfolding has_lost_constant
-lost_own c d k h = own_there _ (own_field_of c k) (and_parts (has_static_final c k) (is_some (own_field_of d k)) (and_parts (has_static_final c k && is_some (own_field_of d k)) _ h).0).0
+not_front : (a b c : Bool) → (a && b) ≡ false → (a && b && c) ≡ false
+not_front true true c h = absurd (cc)
+not_front true false c h = refl
+not_front false b c h = refl
+
+all_three : (a b c : Bool) → (a && b) ≡ true → c ≡ true → (a && b && c) ≡ true
+all_three true true c h q = q
+all_three true false c h q = absurd (cc)
+all_three false b c h q = absurd (cc)
+
+by_flags : (o : Option Member) → some_and static_final_flags (flags_of o) ≡ some_and (λ (m : Member). static_flag m.flags && final_flag m.flags) o
+by_flags None = refl
+by_flags (Some m) = refl
+
+there_by_flags : (o : Option Member) → is_some (flags_of o) ≡ is_some o
+there_by_flags None = refl
+there_by_flags (Some m) = refl
+
+-- the value of the record's constant
+abbrev value_of : Option Fixed → Option Constant
+value_of o = and_then (λ f. Some f.value) o
+
+changed_is : (c d : ClassFacts) (k : Key) → Bool
+changed_is c d k = some_and (λ v. not (some_and (is_same_constant v) (value_of_constant d k))) (value_of_constant c k)
+
+module _ (s : SidesOf) (are : AreSides s) (x : Bytes) (both : is_in_both s x ≡ true) (was now : tree.BTreeMap Key (Bor Fixed)) (old : AreConstants s.old x was) (new : AreConstants s.new x now) where
+  kept_is : is_kept s.old s.new x ≡ true
+  kept_is = (both_rows (is_kept s.old s.new x) (is_some (in_release s.old x)) (is_some (in_release s.new x)) both).0
+
+  records : (c : ClassFacts) × (d : ClassFacts) × (find_class s.old x ≡ Some c) × (find_class s.new x ≡ Some d)
+  unfolding is_kept
+  records =
+      let q = and_parts (is_class_usable s.old x) (is_class_usable s.new x) kept_is in
+      let o = usable_parts s.old x q.0 in
+      let n = usable_parts s.new x q.1 in
+      (o.class, n.class, o.is_there, n.is_there)
+
+  c : ClassFacts
+  c = records.0
+
+  d : ClassFacts
+  d = records.1
+
+  before : Some c ≡ find_class s.old x
+  unfolding c records
+  before = sym records.2
+
+  after : Some d ≡ find_class s.new x
+  unfolding d records
+  after = sym records.3
+
+  changes_as : (k : Key) → changed_in was now k ≡ changed_is c d k
+  unfolding changed_is
+  changes_as k =
+      ap (λ (o : Option Fixed). some_and (λ v. not (some_and (is_same_constant v) (value_of o))) (value_in was k)) (new d (sym after) k)
+      ∙ ap (λ (o : Option Fixed). some_and (λ v. not (some_and (is_same_constant v) (value_of_constant d k))) (value_of o)) (old c (sym before) k)
+
+  declares_as : (k : Key) → (some_and static_final_flags (field_flags_of s.old x k) && is_some (field_flags_of s.new x k)) ≡ (has_static_final c k && is_some (own_field_of d k))
+  unfolding and_then
+  declares_as k =
+      rw (← before, ← after) (ap (λ b. b && is_some (flags_of (own_field_of d k))) (by_flags (own_field_of c k)) ∙ ap (λ b. has_static_final c k && b) (there_by_flags (own_field_of d k)))
+
+  pub unchanged : (k : Key) (b : Bool) → b ≡ changed_in was now k → b ≡ false → None ≡ constant_note s x k
+  unfolding changed_is has_lost_constant
+  unchanged k b e h = not_noted s are x c d before after both k (not_third (has_static_final c k) (is_some (own_field_of d k)) (changed_is c d k) (sym (changes_as k) ∙ sym e ∙ h))
+
+  pub undeclared : (k l : Key) (b : Bool) → l ≡ k → b ≡ (some_and static_final_flags (field_flags_of s.old x l) && is_some (field_flags_of s.new x l)) → b ≡ false → None ≡ constant_note s x k
+  unfolding changed_is has_lost_constant
+  undeclared k l b q e h =
+      not_noted s are x c d before after both k
+      (not_front (has_static_final c k) (is_some (own_field_of d k)) (changed_is c d k)
+      (subst (λ (i : Key). (has_static_final c i && is_some (own_field_of d i)) ≡ false) q (sym (declares_as l) ∙ sym e ∙ h)))
+
+  pub noted_by : (y : Bytes) (k l : Key) (b e : Bool) → y ≡ x → l ≡ k → b ≡ changed_in was now k → b ≡ true → e ≡ (some_and static_final_flags (field_flags_of s.old x l) && is_some (field_flags_of s.new x l)) → e ≡ true → Some (note.Fixed y l) ≡ constant_note s x k
+  unfolding changed_is has_lost_constant
+  noted_by y k l b e n q p t r u =
+      noted s are x c d before after both y k l n q
+      (all_three (has_static_final c k) (is_some (own_field_of d k)) (changed_is c d k)
+      (subst (λ (i : Key). (has_static_final c i && is_some (own_field_of d i)) ≡ true) q (sym (declares_as l) ∙ sym r ∙ u)) (sym (changes_as k) ∙ sym p ∙ t))
+
+-- ---- the map, from its last constant on
+
+-- it has what the last ones have
+abbrev pub HasLast : List Fixed → ℕ → tree.BTreeMap Key (Bor Fixed) → Type 0
+HasLast fs n map = (q : Key) → option_map (λ f. f.now) (tree.get key_cmp map q) ≡ first_where (λ (f : Fixed). same_key f.key q) (drop (length fs - n) fs)
+
+pub last_none : (fs : List Fixed) (map : tree.BTreeMap Key (Bor Fixed)) → ((q : Key) → tree.get key_cmp map q ≡ None) → HasLast fs 0 map
+last_none fs map h q = ap (option_map (λ f. f.now)) (h q) ∙ sym (ap (first_where (λ (f : Fixed). same_key f.key q)) (drop_all (length fs - 0) fs (omega arith)))
+
+option_cond : (b : Bool) (x : Bor Fixed) (o : Option (Bor Fixed)) → option_map (λ f. f.now) (cond b (Some x) o) ≡ cond b (Some x.now) (option_map (λ f. f.now) o)
+option_cond true x o = refl
+option_cond false x o = refl
+
+pub last_more : (fs : List Fixed) (n at : ℕ) (x : Bor Fixed) (f : Fixed) (k : Key) (old new : tree.BTreeMap Key (Bor Fixed)) → n < length fs → at ≡ length fs - 1 - n → x.now ≡ f → f ≡ get_or fs at f → k ≡ f.key → HasLast fs n old → tree.Updates key_cmp old new k (Some x) → HasLast fs (n + 1) new
+last_more fs n at x f k old new l e v is w h u q =
+    let p : Fixed → Bool = λ (g : Fixed). same_key g.key q in
+    let start : at ≡ length fs - (n + 1) = omega (arith, e) in
+    let rest : length fs - n ≡ at + 1 = omega (arith, e) in
+    let b : at < length fs = omega (arith, e) in
+    ap (option_map (λ (g : Bor Fixed). g.now)) (u.0 q)
+    ∙ option_cond (is_eq (key_cmp k q)) x (tree.get key_cmp old q)
+    ∙ ap (λ t. cond t (Some x.now) (option_map (λ (g : Bor Fixed). g.now) (tree.get key_cmp old q))) (sym (key_ties k q))
+    ∙ ap (cond (same_key k q) (Some x.now)) (h q ∙ ap (λ i. first_where p (drop i fs)) rest)
+    ∙ ap (λ (g : Fixed). cond (same_key k q) (Some g) (first_where p (drop (at + 1) fs))) v
+    ∙ ap (λ (j : Key). cond (same_key j q) (Some f) (first_where p (drop (at + 1) fs))) w
+    ∙ ap (λ (g : Fixed). cond (p g) (Some g) (first_where p (drop (at + 1) fs))) is
+    ∙ sym (at_drop_more (first_where p) fs at f b)
+    ∙ ap (λ i. first_where p (drop i fs)) start
+
+pub last_all : (c : ClassFacts) (fs : List Fixed) (n : ℕ) (map : tree.BTreeMap Key (Bor Fixed)) → fs ≡ c.constants → length fs ≤ n → HasLast fs n map → HasConstants c map
+last_all c fs n map e l h q =
+    let z : length fs - n ≡ 0 = omega (arith, l) in
+    h q ∙ ap (λ i. first_where (λ (f : Fixed). same_key f.key q) (drop i fs)) z ∙ ap (first_where (λ (f : Fixed). same_key f.key q)) e
+
+-- ---- the classes
 
 module _ (s : SidesOf) (x : Bytes) (k : Key) (h : loses s x k ≡ true) where
   kept_of : is_kept s.old s.new x ≡ true
@@ -136,18 +255,6 @@ module _ (s : SidesOf) (x : Bytes) (k : Key) (h : loses s x k ≡ true) where
 
   lost_both : is_in_both s x ≡ true
   lost_both = let r = records_of in rw (kept_of, r.old, r.new) refl
-
--- the class had a field of the key
-pub of_fields : (s : SidesOf) → AreSides s → (x : Bytes) → OfPassing (constant_note s x) (is_member members.OldFields s x)
-unfolding is_kept
-of_fields s are x k n m =
-    let l = (made_where (loses s x k) (note.Fixed x k) n m).0 in
-    let r = records_of s x k l in
-    let f : find_class s.old x ≡ Some r.before = found_is s.old are.old_side x (ap is_some r.old) ∙ r.old in
-    let loaded = (usable_parts s.old x (and_parts (is_class_usable s.old x) (is_class_usable s.new x) (kept_of s x k l)).0).loaded in
-    any_left (λ c. is_some (own_field_of c k)) (chain s.old x) (superinterfaces s.old x)
-    (ap (list_any (λ c. is_some (own_field_of c k))) (chain-unroll s.old x r.before f loaded)
-    ∙ or_left (is_some (own_field_of r.before k)) (list_any (λ c. is_some (own_field_of c k)) (of_super (chain s.old) r.before.superclass)) (lost_own r.before r.after k r.loses_it))
 
 -- ---- the notes
 
@@ -186,3 +293,80 @@ is_rule = record {
   by_class = note_class_before;
   on_covered = λ s are n p. on_covered s n p;
 }
+
+-- ---- the notes on one class
+
+-- a note is on a constant that the old class has
+constant_there : (s : SidesOf) → AreSides s → (x : Bytes) (was : tree.BTreeMap Key (Bor Fixed)) → AreConstants s.old x was → (k : Key) (n : Note) → constant_note s x k ≡ Some n → is_some (tree.get key_cmp was k) ≡ true
+unfolding has_lost_constant and_then changed_is
+constant_there s are x was h k n m =
+    let l = (made_where (loses s x k) (note.Fixed x k) n m).0 in
+    let r = records_of s x k l in
+    let f : find_class s.old x ≡ Some r.before = found_is s.old are.old_side x (ap is_some r.old) ∙ r.old in
+    let v = (and_parts (has_static_final r.before k && is_some (own_field_of r.after k)) (changed_is r.before r.after k) (lost_as r.before r.after k ∙ r.loses_it)).1 in
+    value_there (tree.get key_cmp was k) (fixed_at r.before k) (h r.before f k) (some_there (λ v. not (some_and (is_same_constant v) (value_of_constant r.after k))) (fixed_at r.before k) v)
+  where
+    lost_as : (c d : ClassFacts) (k : Key) → (has_static_final c k && is_some (own_field_of d k) && changed_is c d k) ≡ has_lost_constant c d k
+    lost_as c d k = refl
+
+    some_there : (test : Constant → Bool) (o : Option Fixed) → some_and test (value_of o) ≡ true → is_some o ≡ true
+    some_there test None h = absurd (cc)
+    some_there test (Some f) h = refl
+
+    value_there : (o : Option (Bor Fixed)) (p : Option Fixed) → option_map (λ f. f.now) o ≡ p → is_some p ≡ true → is_some o ≡ true
+    value_there None p e h = absurd (let z : is_some p ≡ false = ap is_some (sym e) in cc)
+    value_there (Some f) p e h = refl
+
+-- what the map's keys give
+pub on_exact : (s : SidesOf) → AreSides s → (x : Bytes) (was : tree.BTreeMap Key (Bor Fixed)) → tree.IsOrdered key_cmp was → AreConstants s.old x was → HasExactly note_order (OnConstants s x) (filter_map (constant_note s x) (tree.keys was))
+on_exact s are x was ordered h =
+    exact_over key_cmp note_order (constant_note s x) (is_rule.by_key s x) (Contains (tree.keys was)) (OnConstants s x) (tree.keys was)
+    (record { in_order = rises (tree.keys was) ordered; sound = All-contains_itself (tree.keys was); complete = λ k c. c })
+    (λ k n c m. is_rule.stands s x k n m)
+    (λ n p.
+    let k = is_rule.made s n p.1 in
+    let m : constant_note s x k.0 ≡ Some n = subst (λ (y : Bytes). constant_note s y k.0 ≡ Some n) p.0 k.1 in
+    record { place = k.0; stands = listed k.0 (constant_there s are x was h k.0 n m); gives = m })
+  where
+    listed : (k : Key) → is_some (tree.get key_cmp was k) ≡ true → Contains (tree.keys was) k
+    listed k t = (btree_map_contains_key_iff key_total key_exact was k).0 t
+
+-- one more key
+pub key_more : (h : Key → Option Note) (front : List Key) (k : Key) (o : Option Note) (fs gs : List Note) → fs ≡ filter_map h front → o ≡ h k → gs ≡ fs ++ cons_option o [] → gs ≡ filter_map h (front ++ k ∷ [])
+key_more h front k o fs gs e q g =
+    g ∙ ap (λ (xs : List Note). xs ++ cons_option o []) e ∙ ap (λ (p : Option Note). filter_map h front ++ cons_option p []) q ∙ sym (filter_map-append h front (k ∷ []))
+
+-- there are none on a class that isn't of both releases
+pub on_none : (s : SidesOf) (x : Bytes) → is_in_both s x ≡ false → HasExactly note_order (OnConstants s x) []
+on_none s x h = exact_none note_order (OnConstants s x) still
+  where
+    still : (n : Note) → OnConstants s x n → ⊥
+    still n p = let t : is_in_both s x ≡ true = subst (λ (y : Bytes). is_in_both s y ≡ true) p.0 (on_covered s n p.1).1 in let f = h in cc
+
+pub both_unkept : (s : SidesOf) (x : Bytes) → is_kept s.old s.new x ≡ false → is_in_both s x ≡ false
+both_unkept s x h = rw h refl
+
+-- ---- the notes on all classes
+
+module _ (s : SidesOf) (are : AreSides s) where
+  rise : NamesRise (λ x. x) (names s.old)
+  rise = names-rise s.old are.old_side.differ
+
+  -- the notes on these classes
+  abbrev pub OfThese : List Bytes → Note → Type 0
+  OfThese xs = OfNames noted_class (IsConstantNote s) xs
+
+  pub start : (ns : List Note) → ns ≡ [] → HasExactly note_order (OfThese []) ns
+  start = grown_start note_order noted_class (IsConstantNote s) (note_class_before s) (names s.old) rise
+
+  -- one more class; the table's world is the old side's
+  pub one_more : (W : World) → W ≡ s.old → (n k : ℕ) (ns found ms : List Note) → n < size W → some_where (nat_lt n (size W)) n ≡ Some k → HasExactly note_order (OfThese (take n (names s.old))) ns
+      → HasExactly note_order (OnConstants s (name_at s.old k)) found → ms ≡ ns ++ found → HasExactly note_order (OfThese (take (n + 1) (names s.old))) ms
+  one_more W v n k ns found ms l is h e g =
+      grown_more note_order noted_class (IsConstantNote s) (note_class_before s) (names s.old) rise n ns found ms (subst (λ m. n < m) (sym (names-length s.old)) (subst (λ (V : World). n < size V) v l)) h
+      (subst (λ (m : ℕ). HasExactly note_order (OnConstants s (name_at s.old m)) found) (some_where-is (nat_lt n (size W)) n k is) e) g
+
+  pub all_classes : (W : World) → W ≡ s.old → (n : ℕ) (ns : List Note) → size W ≤ n → HasExactly note_order (OfThese (take n (names s.old))) ns → HasExactly note_order (IsConstantNote s) ns
+  all_classes W v n ns l h =
+      grown_all note_order noted_class (IsConstantNote s) (note_class_before s) (names s.old) rise n ns (subst (λ m. m ≤ n) (sym (names-length s.old)) (subst (λ (V : World). size V ≤ n) v l))
+      (λ m p. (on_covered s m p).0) h

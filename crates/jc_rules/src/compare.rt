@@ -26,7 +26,7 @@ use crate::interface_became_class::InterfaceBecameClass;
 use crate::interface_method_lost::InterfaceMethodLost;
 use crate::method_closed::MethodClosed;
 use crate::method_made_final::MethodMadeFinal;
-use crate::note_constant::{InBothReleases, NoteConstant};
+use crate::note_constant::note_constant;
 use crate::note_unloadable::note_unloadable;
 use crate::superclass_lost::superclass_lost;
 use jc_acts::seats::Seats;
@@ -34,7 +34,7 @@ use jc_base::items::Items;
 use jc_facts::finding::Finding;
 use jc_facts::verdict::{Collision, Note, Verdict};
 use jc_sides::class_rule::by_class;
-use jc_sides::classes::{base_classes, base_interfaces, classes_where, steady_classes};
+use jc_sides::classes::{base_classes, base_interfaces, steady_classes};
 use jc_sides::collision_rule::Collisions;
 use jc_sides::finding_rule::Findings;
 use jc_sides::item_rule::by_items;
@@ -216,11 +216,9 @@ fn collisions(
 fn notes(alloc: Global, sides: &Sides<'_>) -> Result<Vec<Note>, AllocError>
     ensures { IfOk result (λ notes. HasExactly note_order (NoteStands sides.now.old sides.now.new) notes.items) }
 {
-    let classes = classes_where(alloc, sides, &InBothReleases)?;
     let mut notes = note_unloadable(alloc, sides.old, true)?;
     notes.append(&mut note_unloadable(alloc, sides.new, false)?)?;
-    let constants = by_items(alloc, &NoteConstant, sides, classes.as_slice(), None)?;
-    notes.append(&mut constants.unwrap())?;
+    notes.append(&mut note_constant(alloc, sides)?)?;
     Ok(notes)
 }
 

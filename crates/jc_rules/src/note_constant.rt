@@ -1,42 +1,63 @@
 //! Notes on constants.
-ghost use Rattle.std.specs.Prelude.{◌≡◌, ◌<◌, is_some, option_map, IfOk, IsTrue};
-ghost use Rattle.jc_facts.specs.rule.Notes.{is_same_constant, value_of_constant, has_static_final, has_lost_constant, in_release};
-ghost use Rattle.jc_facts.specs.rule.Orders.{note_order, noted_class};
+ghost use Rattle.std.specs.Prelude.{◌≡◌, ◌<◌, ◌&&◌, is_some, option_map, IfOk, IsTrue};
+ghost use Rattle.std.specs.BTreeMap.{keys};
+ghost use Rattle.std.specs.List.{filter_map};
 ghost use Rattle.jc_facts.specs.Exactly.{HasExactly};
+ghost use Rattle.jc_facts.specs.Options.{some_and};
+ghost use Rattle.jc_facts.specs.rule.Bases.{is_kept};
+ghost use Rattle.jc_facts.specs.rule.Notes.{is_same_constant};
+ghost use Rattle.jc_facts.specs.rule.Orders.{note_order};
 ghost use Rattle.jc_facts.specs.world.World.{size};
-ghost use Rattle.jc_rules.specs.steps.Notes.{changes, constant_note, is_in_both, IsConstantNote};
+ghost use Rattle.jc_rules.specs.steps.Notes.{HasConstants, AreConstants, value_in, changed_in, static_final_flags, is_in_both, constant_note, IsConstantNote, OnConstants};
+ghost use Rattle.jc_rules.specs.steps.Own.{field_flags_of};
 ghost use Rattle.jc_sides.specs.SharedOf.{IsShared, name_of};
 ghost use Rattle.jc_sides.specs.SidesOf.{AreSides};
 ghost use Rattle.jc_table.specs.Ids.{name_at};
 
-use jc_facts::class_facts::{ClassFacts, Constant};
+use crate::own::field_flags;
+use jc_facts::class_facts::{ClassFacts, Constant, Fixed};
 use jc_facts::flags::{is_final, is_static};
 use jc_facts::key::Key;
 use jc_facts::key_set::KeyRef;
 use jc_facts::verdict::Note;
-use jc_sides::classes::ClassTest;
-use jc_sides::item_rule::ItemRule;
-use jc_sides::members::{Members, keys_of};
+use jc_sides::found::push_some;
+use jc_sides::kept::kept;
 use jc_sides::shared::{Shared, after, before};
 use jc_sides::sides::Sides;
 use jc_table::ids::ClassId;
-use jc_table::members::own_field;
-use jc_table::table::Table;
 use std::alloc::{AllocError, Global};
+use std::collections::BTreeMap;
 
-// ---- of a class's two records
+// ---- the constants of a class
 
-// The constant value of the class's field of the key (JVMS 4.7.2).
-#[tactic(auto, unfolding(jc_facts::specs::Options::and_then))]
-fn constant_of<'a>(class: &'a ClassFacts, key: &KeyRef<'_>) -> Option<&'a Constant>
-    ensures { option_map (λ v. v.now) result ≡ value_of_constant class.now key.now }
+// The constant fields of the class by their keys (JVMS 4.7.2).
+fn constants_of<'a>(
+    alloc: Global,
+    class: &'a ClassFacts,
+) -> Result<BTreeMap<KeyRef<'a>, &'a Fixed>, AllocError>
+    ensures { IfOk result (HasConstants class.now) }
 {
-    for fixed in class.constants.as_slice() {
-        if KeyRef::of_key(&fixed.key) == *key {
-            return Some(&fixed.value);
-        }
+    let constants = class.constants.as_slice();
+    let mut by_key = BTreeMap::new(alloc);
+    // From the last on: of one key the first stays.
+    for done in 0..constants.len() {
+        let fixed = &constants[constants.len() - 1 - done];
+        by_key.insert(KeyRef::of_key(&fixed.key), fixed)?;
     }
-    None
+    Ok(by_key)
+}
+
+// The constant value of the field of the key.
+fn value_at<'a>(
+    constants: &BTreeMap<KeyRef<'a>, &'a Fixed>,
+    key: &KeyRef<'a>,
+) -> Option<&'a Constant>
+    ensures { option_map (λ v. v.now) result ≡ value_in constants.now key.now }
+{
+    match constants.get(key) {
+        None => None,
+        Some(fixed) => Some(&fixed.value),
+    }
 }
 
 // Whether the two constants are of one kind and equal.
@@ -46,99 +67,141 @@ fn same_constant(before: &Constant, after: &Constant) -> bool
     *before == *after
 }
 
-// Whether the class's own field of the key is static and final.
-fn is_static_final(class: &ClassFacts, key: &KeyRef<'_>) -> bool
-    ensures { result ≡ has_static_final class.now key.now }
-{
-    match own_field(class, key) {
-        None => false,
-        Some(field) => is_static(field.flags) && is_final(field.flags),
-    }
-}
-
 // Whether the old class's field of the key has a constant value, and the new one has none or
 // another.
-fn is_changed(before: &ClassFacts, after: &ClassFacts, key: &KeyRef<'_>) -> bool
-    ensures { result ≡ changes before.now after.now key.now }
+fn is_changed<'a>(
+    was: &BTreeMap<KeyRef<'a>, &'a Fixed>,
+    now: &BTreeMap<KeyRef<'a>, &'a Fixed>,
+    key: &KeyRef<'a>,
+) -> bool
+    ensures { result ≡ changed_in was.now now.now key.now }
 {
-    let Some(value) = constant_of(before, key) else {
+    let Some(value) = value_at(was, key) else {
         return false;
     };
-    match constant_of(after, key) {
+    match value_at(now, key) {
         None => true,
         Some(now) => !same_constant(value, now),
     }
 }
 
-// Whether both classes declare a field of the key, the old one static and final with a constant
-// value, and the new one has none or another.
-#[tactic(auto, unfolding(jc_facts::specs::rule::Notes::has_lost_constant))]
-fn loses_constant(before: &ClassFacts, after: &ClassFacts, key: &KeyRef<'_>) -> bool
-    ensures { result ≡ has_lost_constant before.now after.now key.now }
+// ---- the fields
+
+// Whether the flags are there, and are those of a static final field.
+fn are_static_final(flags: Option<u16>) -> bool
+    ensures { result ≡ some_and static_final_flags flags }
 {
-    is_static_final(before, key)
-        && own_field(after, key).is_some()
-        && is_changed(before, after, key)
-}
-
-// ---- the classes
-
-/// Whether both releases declare a kept class.
-pub struct InBothReleases;
-
-impl ClassTest for InBothReleases {
-    ghost test = { is_in_both };
-
-    fn passes(&self, sides: &Sides<'_>, class: &Shared<'_>) -> bool {
-        !sides.old.in_platform(class.old) && !sides.new.in_platform(class.new)
+    match flags {
+        None => false,
+        Some(flags) => is_static(flags) && is_final(flags),
     }
 }
 
-// ---- the notes
+// Whether the kept class itself declared a static final field of the key, and still declares a
+// field of it.
+fn declares_still(sides: &Sides<'_>, class: &Shared<'_>, key: &Key) -> bool
+    requires shared { IsShared sides.now «class».now }
+    requires kept { IsTrue (is_kept sides.now.old sides.now.new (name_of «class».now)) }
+    ensures { result ≡ (some_and static_final_flags (field_flags_of sides.now.old (name_of «class».now) key.now) && is_some (field_flags_of sides.now.new (name_of «class».now) key.now)) }
+{
+    are_static_final(field_flags(sides.old, class.old, key))
+        && field_flags(sides.new, class.new, key).is_some()
+}
 
-/// Constants whose value is another now, or that are none any more, of the classes that both
-/// releases declare (JVMS 4.7.2). Clients that were built with the old value keep it.
-pub struct NoteConstant;
+// ---- the notes on a class
 
-impl ItemRule for NoteConstant {
-    type Item = Note;
+// Whether both releases declare the kept class.
+fn in_both(sides: &Sides<'_>, class: &Shared<'_>) -> bool
+    requires shared { IsShared sides.now «class».now }
+    requires kept { IsTrue (is_kept sides.now.old sides.now.new (name_of «class».now)) }
+    ensures { result ≡ is_in_both sides.now (name_of «class».now) }
+{
+    !sides.old.in_platform(class.old) && !sides.new.in_platform(class.new)
+}
 
-    ghost order = { note_order };
-
-    ghost class_of = { noted_class };
-
-    ghost makes = { constant_note };
-
-    ghost stands = { IsConstantNote };
-
-    ghost covers = { is_in_both };
-
-    ghost ready = { λ _ s. AreSides s };
-
-    fn keys(
-        &self,
-        alloc: Global,
-        sides: &Sides<'_>,
-        class: &Shared<'_>,
-    ) -> Result<Vec<Key>, AllocError> {
-        let keys = keys_of(alloc, sides, class, Members::OldFields)?;
-        Ok(keys)
+// The note on the class's constant of the key, if there is one.
+fn note_on<'a>(
+    alloc: Global,
+    sides: &Sides<'_>,
+    class: &Shared<'_>,
+    key: &KeyRef<'a>,
+    was: &BTreeMap<KeyRef<'a>, &'a Fixed>,
+    now: &BTreeMap<KeyRef<'a>, &'a Fixed>,
+) -> Result<Option<Note>, AllocError>
+    requires sides { AreSides sides.now }
+    requires shared { IsShared sides.now «class».now }
+    requires covered { IsTrue (is_in_both sides.now (name_of «class».now)) }
+    requires was { AreConstants sides.now.old (name_of «class».now) was.now }
+    requires now { AreConstants sides.now.new (name_of «class».now) now.now }
+    ensures { IfOk result (λ note. note ≡ constant_note sides.now (name_of «class».now) key.now) }
+{
+    if !is_changed(was, now, key) {
+        return Ok(None);
     }
-
-    fn on_key(
-        &self,
-        alloc: Global,
-        sides: &Sides<'_>,
-        class: &Shared<'_>,
-        key: &Key,
-    ) -> Result<Option<Note>, AllocError> {
-        let was = before(sides, class);
-        if !loses_constant(was, after(sides, class), &KeyRef::of_key(key)) {
-            return Ok(None);
-        }
-        Ok(Some(Note::Fixed {
-            class: class.name.copy(alloc)?,
-            key: key.copy(alloc)?,
-        }))
+    let key = key.to_key(alloc)?;
+    if !declares_still(sides, class, &key) {
+        return Ok(None);
     }
+    Ok(Some(Note::Fixed {
+        class: class.name.copy(alloc)?,
+        key,
+    }))
+}
+
+// The notes on the class's constants, in the order of their keys.
+fn on_keys<'a>(
+    alloc: Global,
+    sides: &Sides<'_>,
+    class: &Shared<'_>,
+    was: &BTreeMap<KeyRef<'a>, &'a Fixed>,
+    now: &BTreeMap<KeyRef<'a>, &'a Fixed>,
+) -> Result<Vec<Note>, AllocError>
+    requires sides { AreSides sides.now }
+    requires shared { IsShared sides.now «class».now }
+    requires covered { IsTrue (is_in_both sides.now (name_of «class».now)) }
+    requires was { AreConstants sides.now.old (name_of «class».now) was.now }
+    requires now { AreConstants sides.now.new (name_of «class».now) now.now }
+    ensures { IfOk result (λ notes. HasExactly note_order (OnConstants sides.now (name_of «class».now)) notes.items) }
+{
+    let mut notes = Vec::new(alloc);
+    for key in was.keys() {
+        push_some(&mut notes, note_on(alloc, sides, class, key, was, now)?)?;
+    }
+    Ok(notes)
+}
+
+// The notes on the constants of the class of this number on the old side, in the order of their
+// keys.
+fn on_class(alloc: Global, sides: &Sides<'_>, id: ClassId) -> Result<Vec<Note>, AllocError>
+    requires sides { AreSides sides.now }
+    requires class { id < size sides.now.old }
+    ensures { IfOk result (λ notes. HasExactly note_order (OnConstants sides.now (name_at sides.now.old id)) notes.items) }
+{
+    let Some(class) = kept(sides, id) else {
+        return Ok(Vec::new(alloc));
+    };
+    if !in_both(sides, &class) {
+        return Ok(Vec::new(alloc));
+    }
+    let was = constants_of(alloc, before(sides, &class))?;
+    let now = constants_of(alloc, after(sides, &class))?;
+    let notes = on_keys(alloc, sides, &class, &was, &now)?;
+    Ok(notes)
+}
+
+// ---- all notes
+
+/// The notes on constants whose value is another now, or that are none any more, of the kept
+/// classes that both releases declare (JVMS 4.7.2): clients that were built with the old value keep
+/// it. They are in byte order of the names of the classes, and in the order of the keys. A class
+/// takes time in proportion to its constants, but for the logarithm of a look-up.
+pub fn note_constant(alloc: Global, sides: &Sides<'_>) -> Result<Vec<Note>, AllocError>
+    ensures { IfOk result (λ notes. HasExactly note_order (IsConstantNote sides.now) notes.items) }
+{
+    let mut notes = Vec::new(alloc);
+    for n in 0..sides.old.count() {
+        let id = sides.old.id(n).unwrap();
+        notes.append(&mut on_class(alloc, sides, id)?)?;
+    }
+    Ok(notes)
 }

@@ -1,15 +1,24 @@
 -- The notes, by group.
-use Rattle.std.specs.Prelude.{Bool, cond, Option, None, Some, is_some, not, IsTrue, ◌&&◌, ◌≡◌}
+use Rattle.std.specs.Borrow.{Bor}
+use Rattle.std.specs.BTreeMap as tree
+use Rattle.std.specs.List.{find as first_where}
+use Rattle.std.specs.Prelude.{ℕ, Bool, cond, Option, None, Some, is_some, not, IsTrue, option_map, ◌&&◌, ◌≡◌}
 use Rattle.jc_facts.specs.declared.class_facts.ClassFacts.{ClassFacts}
+use Rattle.jc_facts.specs.declared.class_facts.Constant.{Constant}
+use Rattle.jc_facts.specs.declared.class_facts.Fixed.{Fixed}
 use Rattle.jc_facts.specs.declared.key.Key.{Key}
 use Rattle.jc_facts.specs.declared.verdict.Note.{Note}
 use Rattle.jc_facts.specs.declared.verdict.Note.TheVariants as note
 use Rattle.jc_facts.specs.world.Loading.{load_fault}
-use Rattle.jc_facts.specs.Names.{Bytes}
-use Rattle.jc_facts.specs.rule.Notes.{NoteStands, in_release, is_same_constant, value_of_constant, has_lost_constant}
+use Rattle.jc_facts.specs.Flags.{static_flag, final_flag}
+use Rattle.jc_facts.specs.KeyOrder.{key_cmp}
+use Rattle.jc_facts.specs.Names.{Bytes, same_key}
+use Rattle.jc_facts.specs.rule.Notes.{NoteStands, in_release, is_same_constant, has_lost_constant}
+use Rattle.jc_facts.specs.rule.Orders.{noted_class}
 use Rattle.jc_facts.specs.Options.{and_then, some_and, some_where}
 use Rattle.jc_facts.specs.rule.Bases.{is_kept}
-use Rattle.jc_facts.specs.world.World.{World, class_named}
+use Rattle.jc_facts.specs.world.World.{World, class_named, find_class}
+use Rattle.jc_sides.specs.Rules.{IsOf}
 use Rattle.jc_sides.specs.SidesOf.{SidesOf}
 
 -- ---- classes that don't load
@@ -30,9 +39,29 @@ IsUnloadable (note.Fixed x k) = ⊥
 
 -- ---- constants
 
--- the field of the key has a constant value in c, and has none or another in d
-abbrev pub changes : ClassFacts → ClassFacts → Key → Bool
-changes c d k = some_and (λ v. not (some_and (is_same_constant v) (value_of_constant d k))) (value_of_constant c k)
+-- the constant field of the key
+abbrev pub fixed_at : ClassFacts → Key → Option Fixed
+fixed_at c k = first_where (λ (f : Fixed). same_key f.key k) c.constants
+
+-- the map has the constant fields of the record by their keys
+abbrev pub HasConstants : ClassFacts → tree.BTreeMap Key (Bor Fixed) → Type 0
+HasConstants c map = (k : Key) → option_map (λ f. f.now) (tree.get key_cmp map k) ≡ fixed_at c k
+
+-- the map has those of the class of this name
+abbrev pub AreConstants : World → Bytes → tree.BTreeMap Key (Bor Fixed) → Type 0
+AreConstants W x map = (c : ClassFacts) → find_class W x ≡ Some c → HasConstants c map
+
+-- the constant value that the map has of the key
+abbrev pub value_in : tree.BTreeMap Key (Bor Fixed) → Key → Option Constant
+value_in map k = and_then (λ f. Some f.value) (option_map (λ f. f.now) (tree.get key_cmp map k))
+
+-- the first map has a constant value of the key, and the second has none or another
+abbrev pub changed_in : tree.BTreeMap Key (Bor Fixed) → tree.BTreeMap Key (Bor Fixed) → Key → Bool
+changed_in was now k = some_and (λ v. not (some_and (is_same_constant v) (value_in now k))) (value_in was k)
+
+-- the flags are those of a static final field
+abbrev pub static_final_flags : ℕ → Bool
+static_final_flags f = static_flag f && final_flag f
 
 -- the class is kept, and is of both releases
 abbrev pub is_in_both : SidesOf → Bytes → Bool
@@ -54,3 +83,7 @@ IsFixed (note.Fixed x k) = Unit {0}
 -- a note on a constant, of these sides
 abbrev pub IsConstantNote : SidesOf → Note → Type 0
 IsConstantNote s n = IsFixed n × NoteStands s.old s.new n
+
+-- such a note on the class x
+abbrev pub OnConstants : SidesOf → Bytes → Note → Type 0
+OnConstants s x n = IsOf noted_class (IsConstantNote s) x n

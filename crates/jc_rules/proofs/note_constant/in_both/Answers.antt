@@ -5,7 +5,7 @@ use Rattle.jc_sides.specs.SharedOf.{name_of}
 use Rattle.jc_sides.specs.SidesFields.{worlds}
 use Rattle.jc_sides.proofs.Seen.{of_old, of_new, below_before, below_after}
 use Rattle.jc_rules.proofs.NoteConstant.{released, both_then, both_else}
-use Rattle.jc_rules.proofs.note_constant.InBothReleasesClassTest.passes.Goals as goal
+use Rattle.jc_rules.proofs.note_constant.in_both.Goals as goal
 
 pub returns-then-not-in_platform : goal.returns-then-not-in_platform
 returns-then-not-in_platform c =
