@@ -1,6 +1,5 @@
--- Acts on members that are closed to a seat: the key that they name is declared on the old side.
-use Rattle.std.proofs.Common.{◌≡◌, Bool, true, false, cond, List, [], ◌∷◌, refl, subst, Option, Some, None}
-use Rattle.std.specs.List.{Contains}
+-- Acts on members that are closed to a seat: references found the key that they name on the old side.
+use Rattle.std.proofs.Common.{◌≡◌, Bool, true, false, cond, List, [], ◌∷◌, refl, Option, Some, None, not}
 use Rattle.jc_facts.specs.declared.act.Act.{Act}
 use Rattle.jc_facts.specs.declared.finding.Finding.{Finding}
 use Rattle.jc_facts.specs.declared.key.Key.{Key}
@@ -8,20 +7,17 @@ use Rattle.jc_facts.specs.declared.link_error.LinkError.{LinkError}
 use Rattle.jc_facts.specs.client.Acts.{Form, FieldForm, MethodForm, InterfaceForm}
 use Rattle.jc_facts.specs.world.Assignment.{is_interface_of}
 use Rattle.jc_facts.specs.rule.Findings.{Subject, report, act_finding, first_act}
-use Rattle.jc_facts.specs.world.Loading.{load_fault}
 use Rattle.jc_facts.specs.world.Lookup.{method_choices, interface_choices}
 use Rattle.jc_facts.specs.Names.{Bytes}
 use Rattle.jc_facts.specs.Options.{and_then, or_else}
 use Rattle.jc_facts.specs.rule.OpenActs.{act_fault, closed_act, where_open}
 use Rattle.jc_facts.specs.world.World.{World, DeclaredMember}
-use Rattle.jc_lemmas.proofs.Listed.{EachOf, here}
-use Rattle.jc_table.proofs.Sides.{side_valid}
-use Rattle.jc_worlds.specs.Hierarchy.{above}
+use Rattle.jc_lemmas.proofs.Listed.{EachOf}
 use Rattle.jc_sound.proofs.Looked.{looked, head_of}
-use Rattle.jc_method.proofs.Declared.{choice_is_declared, interface_choice_is_declared}
+use Rattle.jc_method.specs.FoundKeys.{finds_method}
+use Rattle.jc_facts.specs.rule.Collisions.{are_none}
+use Rattle.jc_table.specs.Rows.{choices_by}
 use Rattle.jc_sides.specs.SidesOf.{SidesOf}
-use Rattle.jc_table.specs.Lookups.{declare_method}
-use Rattle.jc_table.specs.Sides.{IsSide}
 
 -- ---- an act that is closed was open
 
@@ -54,7 +50,7 @@ found_open s on k (a ∷ rest) P h f e = go (act_finding s.old s.new on k a) ref
     go None q r rec = rec r
     go (Some g) q r rec = of_act _ g q
 
--- ---- methods that are found are declared
+-- ---- methods that references find
 
 -- a reference to a method
 abbrev pub NoField : Form → Type 0
@@ -62,21 +58,21 @@ NoField FieldForm = ⊥
 NoField MethodForm = Unit {0}
 NoField InterfaceForm = Unit {0}
 
-in_choices : (ms : List DeclaredMember) (m : DeclaredMember) → head_of ms ≡ Some m → Contains ms m
+some_choice : (ms : List DeclaredMember) (m : DeclaredMember) → head_of ms ≡ Some m → not (are_none ms) ≡ true
 unfolding head_of
-in_choices [] m e = absurd (cc)
-in_choices (n ∷ ns) m e = let is : n ≡ m = cc in subst (Contains (n ∷ ns)) is (here n ns)
+some_choice [] m e = absurd (cc)
+some_choice (n ∷ ns) m e = refl
 
-pub looked_declared : (O : World) → IsSide O → (x : Bytes) → load_fault O x ≡ None → (k : Key) (form : Form) → NoField form → (m : DeclaredMember) → looked O form x k ≡ Some m → declare_method (above O x) k ≡ true
+pub looked_found : (O : World) (x : Bytes) (k : Key) (form : Form) → NoField form → (m : DeclaredMember) → looked O form x k ≡ Some m → finds_method O x k ≡ true
 unfolding looked
-looked_declared O s x l k FieldForm no_field m e = absurd no_field
-looked_declared O s x l k MethodForm no_field m e = go (is_interface_of O x) e
+looked_found O x k FieldForm no_field m e = absurd no_field
+looked_found O x k MethodForm no_field m e = go (is_interface_of O x) e
   where
-    go : (b : Bool) → cond b None (head_of (method_choices O x k)) ≡ Some m → declare_method (above O x) k ≡ true
+    go : (b : Bool) → cond b None (head_of (method_choices O x k)) ≡ Some m → not (are_none (choices_by b O x k)) ≡ true
     go true q = absurd (cc)
-    go false q = choice_is_declared k O x m (in_choices (method_choices O x k) m q)
-looked_declared O s x l k InterfaceForm no_field m e = go (is_interface_of O x) e
+    go false q = some_choice (method_choices O x k) m q
+looked_found O x k InterfaceForm no_field m e = go (is_interface_of O x) e
   where
-    go : (b : Bool) → cond b (head_of (interface_choices O x k)) None ≡ Some m → declare_method (above O x) k ≡ true
+    go : (b : Bool) → cond b (head_of (interface_choices O x k)) None ≡ Some m → not (are_none (choices_by b O x k)) ≡ true
     go false q = absurd (cc)
-    go true q = interface_choice_is_declared k O x l (side_valid O s) m (in_choices (interface_choices O x k) m q)
+    go true q = some_choice (interface_choices O x k) m q

@@ -12,9 +12,7 @@ use Rattle.jc_facts.specs.Options.{some_where}
 use Rattle.jc_facts.specs.rule.Orders.{collision_order}
 use Rattle.jc_facts.specs.rule.Bases.{is_base_interface}
 use Rattle.jc_facts.specs.world.World.{World, DeclaredMember}
-use Rattle.jc_field.proofs.Declared.{found_is_declared}
 use Rattle.jc_worlds.specs.Agreement.{LooksTheSame}
-use Rattle.jc_worlds.specs.Hierarchy.{above}
 use Rattle.jc_sides.specs.BrokenOf.{BrokenOf, broken_if, collided}
 use Rattle.jc_sides.specs.Members.{is_member, OfPassing}
 use Rattle.jc_sides.specs.declared.members.Members.TheVariants as members
@@ -24,7 +22,7 @@ use Rattle.jc_sides.proofs.BrokenActs.{collided_where}
 use Rattle.jc_sides.proofs.BaseParts.{base_interface_parts}
 use Rattle.jc_sides.proofs.ItemRules.{made_where, collision_rule}
 use Rattle.jc_sides.proofs.NamedAbove.{interface_unkept}
-use Rattle.jc_table.specs.Lookups.{IsAnswer, declare_field}
+use Rattle.jc_table.specs.Lookups.{IsAnswer}
 use Rattle.jc_index.specs.declared.ids.Found.{Found}
 
 -- the table's lookup finds something where the world's does
@@ -84,13 +82,9 @@ constant_parts s x k c h =
     let b = and_parts (is_base_interface s.old s.new x) (is_none (field_found s.old x k)) a.0 in
     record { base = b.0; unknown = b.1; found = a.1 }
 
--- the interface, or one above it, declares the key
-pub of_fields : (s : SidesOf) (x : Bytes) → AreSides s → is_base_interface s.old s.new x ≡ true → OfPassing (key_collision 10 s x) (is_member members.NewFields s x)
-of_fields s x are base k c e = go k (field_found s.new x k) refl (constant_parts s x k c e).found
-  where
-    go : (k : Key) (o : Option DeclaredMember) → field_found s.new x k ≡ o → is_some o ≡ true → declare_field (above s.new x) k ≡ true
-    go k None q h = absurd (cc)
-    go k (Some m) q h = found_is_declared s.new are.new_side x k m q (base_interface_parts s x base).both.loads_now
+-- a reference to the interface finds a field of the key
+pub of_fields : (s : SidesOf) (x : Bytes) → OfPassing (key_collision 10 s x) (is_member members.NewFields s x)
+of_fields s x k c e = (constant_parts s x k c e).found
 
 -- nothing is added where all lookups are as they were
 pub of_none : (s : SidesOf) (x : Bytes) → LooksTheSame s.old s.new x → OfPassing (key_collision 10 s x) (is_member members.Nothing s x)

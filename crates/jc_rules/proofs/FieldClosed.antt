@@ -1,27 +1,25 @@
 -- What the rule on acts on fields that are closed to some clients finds.
-use Rattle.std.proofs.Common.{◌≡◌, Bool, true, false, refl, sym, ◌∙◌, ap, Option, Some, None}
+use Rattle.std.proofs.Common.{◌≡◌, Bool, true, false, refl, sym, ◌∙◌, ap, Option, Some, None, is_some}
 use Rattle.jc_acts.specs.ClosedActs.{reported, IsFirstClosed, HasNoneClosed}
 use Rattle.jc_acts.specs.declared.closed_act.ClosedAct.{ClosedAct}
 use Rattle.jc_facts.specs.declared.finding.Finding.{Finding}
 use Rattle.jc_facts.specs.declared.key.Key.{Key}
 use Rattle.jc_facts.specs.client.Acts.{FieldForm, form_of}
 use Rattle.jc_facts.specs.rule.Findings.{finding_at, first_act, field_closed}
+use Rattle.jc_facts.specs.world.Lookup.{field_found}
 use Rattle.jc_facts.specs.Names.{Bytes}
 use Rattle.jc_facts.specs.rule.Orders.{finding_order}
 use Rattle.jc_facts.specs.rule.OpenActs.{act_fault, field_acts}
 use Rattle.jc_facts.specs.rule.Bases.{is_steady}
-use Rattle.jc_field.proofs.Declared.{found_is_declared}
 use Rattle.jc_sound.proofs.Looked.{looked, look_up-takes}
 use Rattle.jc_sides.specs.BrokenOf.{BrokenOf, found}
 use Rattle.jc_sides.specs.Members.{is_member, OfPassing}
 use Rattle.jc_sides.specs.declared.members.Members.TheVariants as members
 use Rattle.jc_sides.specs.Rules.{on_key, key_finding, IsFinding, IsItemRule}
 use Rattle.jc_sides.specs.SidesOf.{SidesOf}
-use Rattle.jc_sides.proofs.BaseParts.{steady_parts}
 use Rattle.jc_sides.proofs.ItemRules.{finding_rule}
 use Rattle.jc_sides.proofs.NamedAbove.{steady_unkept}
 use Rattle.jc_sides.proofs.Subjects.{IsOnKey}
-use Rattle.jc_table.specs.Sides.{IsSide}
 use Rattle.jc_rules.proofs.ClosedActs.{found_open}
 
 closed_is : (s : SidesOf) (x : Bytes) (k : Key) → is_steady s.old s.new x ≡ true → key_finding 7 s x k ≡ first_act s.old s.new (on_key 7 x k) k field_acts
@@ -35,13 +33,14 @@ closed s x k act o steady first r = r ∙ sym (closed_is s x k steady ∙ first 
 pub of_none : (s : SidesOf) (x : Bytes) → is_steady s.old s.new x ≡ true → HasNoneClosed s x → OfPassing (key_finding 7 s x) (is_member members.Nothing s x)
 of_none s x steady never k f m = absurd (let z : None ≡ Some f = sym (closed_is s x k steady ∙ never k field_acts (on_key 7 x k) refl) ∙ m in cc)
 
--- the class, or one above it, declared the key
-pub of_fields : (s : SidesOf) → IsSide s.old → (x : Bytes) → is_steady s.old s.new x ≡ true → OfPassing (key_finding 7 s x) (is_member members.OldFields s x)
+-- a reference to the class found a field of the key
+pub of_fields : (s : SidesOf) (x : Bytes) → is_steady s.old s.new x ≡ true → OfPassing (key_finding 7 s x) (is_member members.OldFields s x)
 unfolding act_fault looked
-of_fields s side x steady k f e =
+of_fields s x steady k f e =
     let w = found_open s (on_key 7 x k) k field_acts (λ what. form_of what ≡ FieldForm) (refl, (refl, (refl, (refl, tt)))) f (sym (closed_is s x k steady) ∙ e) in
     let t = look_up-takes s.old (form_of w.act) x k _ w.open_to in
-    found_is_declared s.old side x k t.found (sym (ap (λ form. looked s.old form x k) w.is_one) ∙ t.taken) (steady_parts s x steady).both.loads
+    let found : field_found s.old x k ≡ Some t.found = sym (ap (λ form. looked s.old form x k) w.is_one) ∙ t.taken in
+    ap is_some found
 
 -- ---- where it stands
 

@@ -28,8 +28,7 @@ use Rattle.jc_sound.proofs.ClassGoneLaw.{report_where-some}
 use Rattle.jc_index.specs.Lookups.{IsChoice}
 use Rattle.jc_index.specs.steps.Choosing.{candidate_at, FindsAbove}
 use Rattle.jc_index.specs.declared.ids.Found.{Found}
-use Rattle.jc_method.proofs.Declared.{inherits_is_declared}
-use Rattle.jc_method.proofs.Offering.{offered}
+use Rattle.jc_method.proofs.Offering.{offered, inherits_is_found}
 use Rattle.jc_rules.specs.steps.Methods.{loses, has_lost_method}
 use Rattle.jc_sides.specs.BrokenOf.{BrokenOf, broken_if, found}
 use Rattle.jc_sides.specs.Members.{is_member, OfPassing}
@@ -213,9 +212,9 @@ lost_parts s x k f h =
     let d = and_parts (is_key_of_method k) (is_base_interface s.old s.new x) c.0 in
     record { base = d.1; inherited = c.1; gone = b.1 }
 
--- the interface, or one above it, declared the key
+-- a reference to the interface found a method of the key
 pub of_methods : (s : SidesOf) (x : Bytes) → is_base_interface s.old s.new x ≡ true → OfPassing (key_finding 9 s x) (is_member members.OldMethods s x)
-of_methods s x base k f e = inherits_is_declared k s.old x (base_interface_parts s x base).both.loads (lost_parts s x k f e).inherited
+of_methods s x base k f e = inherits_is_found s.old k x (base_interface_parts s x base).interface (lost_parts s x k f e).inherited
 
 -- nothing is lost where all lookups are as they were
 pub of_none : (s : SidesOf) (x : Bytes) → is_base_interface s.old s.new x ≡ true → LooksTheSame s.old s.new x → OfPassing (key_finding 9 s x) (is_member members.Nothing s x)

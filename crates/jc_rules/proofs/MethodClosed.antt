@@ -16,12 +16,10 @@ use Rattle.jc_sides.specs.Members.{is_member, OfPassing}
 use Rattle.jc_sides.specs.declared.members.Members.TheVariants as members
 use Rattle.jc_sides.specs.Rules.{on_key, key_finding, IsFinding, IsItemRule}
 use Rattle.jc_sides.specs.SidesOf.{SidesOf}
-use Rattle.jc_sides.proofs.BaseParts.{steady_parts}
 use Rattle.jc_sides.proofs.ItemRules.{finding_rule}
 use Rattle.jc_sides.proofs.NamedAbove.{steady_unkept}
 use Rattle.jc_sides.proofs.Subjects.{IsOnKey}
-use Rattle.jc_table.specs.Sides.{IsSide}
-use Rattle.jc_rules.proofs.ClosedActs.{NoField, found_open, looked_declared}
+use Rattle.jc_rules.proofs.ClosedActs.{NoField, found_open, looked_found}
 
 closed_is : (s : SidesOf) (x : Bytes) (k : Key) → is_key_of_method k ≡ true → is_steady s.old s.new x ≡ true → key_finding 8 s x k ≡ first_act s.old s.new (on_key 8 x k) k method_acts
 unfolding key_finding finding_at method_closed
@@ -46,13 +44,13 @@ method_where s x k f h = go (is_key_of_method k) refl
 pub of_none : (s : SidesOf) (x : Bytes) → is_steady s.old s.new x ≡ true → HasNoneClosed s x → OfPassing (key_finding 8 s x) (is_member members.Nothing s x)
 of_none s x steady never k f m = absurd (let z : None ≡ Some f = sym (closed_is s x k (method_where s x k f m) steady ∙ never k method_acts (on_key 8 x k) refl) ∙ m in cc)
 
--- the class, or one above it, declared the key
-pub of_methods : (s : SidesOf) → IsSide s.old → (x : Bytes) → is_steady s.old s.new x ≡ true → OfPassing (key_finding 8 s x) (is_member members.OldMethods s x)
+-- a reference to the class found a method of the key
+pub of_methods : (s : SidesOf) (x : Bytes) → is_steady s.old s.new x ≡ true → OfPassing (key_finding 8 s x) (is_member members.OldMethods s x)
 unfolding act_fault
-of_methods s side x steady k f e =
+of_methods s x steady k f e =
     let w = found_open s (on_key 8 x k) k method_acts (λ what. NoField (form_of what)) (tt, (tt, (tt, (tt, tt)))) f (sym (closed_is s x k (method_where s x k f e) steady) ∙ e) in
     let t = look_up-takes s.old (form_of w.act) x k _ w.open_to in
-    looked_declared s.old side x (steady_parts s x steady).both.loads k (form_of w.act) w.is_one t.found t.taken
+    looked_found s.old x k (form_of w.act) w.is_one t.found t.taken
 
 -- ---- where it stands
 

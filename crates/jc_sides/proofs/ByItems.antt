@@ -15,7 +15,7 @@ use Rattle.jc_facts.proofs.InOrder.{Rises-filter}
 use Rattle.jc_table.specs.Ids.{names}
 use Rattle.jc_facts.proofs.Exactly.{OfNames, exact_over, grown_start, grown_more, grown_all}
 use Rattle.jc_table.proofs.Numbers.{names-rise}
-use Rattle.jc_sides.specs.Rules.{HasEachKey, IsItemRule, IsOf}
+use Rattle.jc_sides.specs.Rules.{HasEachInOrder, IsItemRule, IsOf}
 use Rattle.jc_sides.specs.SharedOf.{AreThose, name_of, SharedOf}
 use Rattle.jc_sides.specs.SidesOf.{SidesOf}
 
@@ -34,7 +34,7 @@ keys_more h ks n k o fs gs l is e q g =
 module _ {F : Type 0} (order : F → F → Ordering) (class_of : F → Bytes) (makes : SidesOf → Bytes → Key → Option F) (Stand : SidesOf → F → Type 0) (covers : SidesOf → Bytes → Bool)
     (h : IsItemRule order class_of makes Stand covers) (s : SidesOf) where
   -- what stands of one class
-  pub of_class : (x : Bytes) (keys : List Key) → HasEachKey (makes s x) keys → HasExactly order (IsOf class_of (Stand s) x) (filter_map (makes s x) keys)
+  pub of_class : (x : Bytes) (keys : List Key) → HasEachInOrder (makes s x) keys → HasExactly order (IsOf class_of (Stand s) x) (filter_map (makes s x) keys)
   of_class x keys e =
       exact_over key_cmp order (makes s x) (h.by_key s x) (Contains keys) (IsOf class_of (Stand s) x) keys
       (record { in_order = e.in_order; sound = All-contains_itself keys; complete = λ k c. c })

@@ -1,6 +1,5 @@
 -- The keys of methods that pass a test, along a walk up the superclasses.
-use Rattle.std.proofs.Common.{◌≡◌, ◌<◌, ℕ, suc, Bool, true, false, ◌||◌, sym, ◌∙◌, ap, refl, Option, Some, None}
-use Rattle.std.specs.BTreeSet as sorted
+use Rattle.std.proofs.Common.{◌≡◌, ◌<◌, ℕ, suc, Bool, true, false, List, ◌||◌, sym, ◌∙◌, ap, refl, Option, Some, None}
 use Rattle.std.specs.List.{list_any}
 use Rattle.std.specs.Prelude.{IfSome}
 use Rattle.std.proofs.lemmas.Bool.{or_right}
@@ -8,7 +7,7 @@ use Rattle.jc_facts.specs.declared.class_facts.ClassFacts.{ClassFacts}
 use Rattle.jc_facts.specs.declared.class_facts.Member.{Member}
 use Rattle.jc_facts.specs.declared.key.Key.{Key}
 use Rattle.jc_facts.specs.Names.{Bytes}
-use Rattle.jc_facts.specs.KeyOrder.{key_cmp}
+use Rattle.jc_facts.specs.file.Valid.{has_key}
 use Rattle.jc_facts.specs.Options.{some_and}
 use Rattle.jc_facts.specs.world.World.{World, find_class, size, own_method_of}
 use Rattle.jc_facts.specs.world.Hierarchy.{chain}
@@ -16,8 +15,8 @@ use Rattle.jc_lemmas.proofs.Bools.{or_without}
 use Rattle.jc_table.specs.Ids.{name_at, superclass_of}
 use Rattle.jc_table.specs.steps.Walking.{chain_from}
 use Rattle.jc_table.proofs.Walking.{from-step, from-none, from-nothing}
-use Rattle.jc_sides.specs.Members.{declares_in_chain}
-use Rattle.jc_sides.specs.steps.KeySets.{Adds, HasEach, has_member}
+use Rattle.jc_sides.specs.Members.{declares_in_chain, HasAll}
+use Rattle.jc_sides.specs.steps.KeySets.{Adds, has_member}
 use Rattle.jc_sides.proofs.KeySets.{some_member}
 
 module _ (test : Member → Bool) where
@@ -39,44 +38,35 @@ module _ (test : Member → Bool) where
       ap (declared_from W k m) e ∙ ap (list_any (declares k)) (from-step W m n id c q (sym f)) ∙ ap (λ (o : Option ℕ). declares k c || declared_from W k n o) (sym u)
 
   -- the set has the keys of the classes passed, and the rest is still ahead
-  pub record HasPassed (W : World) (x : Bytes) (left : ℕ) (next : Option ℕ) (keys : sorted.BTreeSet Key) : Type 0 where
+  pub record HasPassed (W : World) (x : Bytes) (left : ℕ) (next : Option ℕ) (keys : List Key) : Type 0 where
     pub below : IfSome next (λ id. id < size W)
-    pub ordered : sorted.IsOrdered key_cmp keys
-    pub has : (k : Key) → declares_in_chain test W x k ≡ true → (sorted.contains key_cmp keys k || declared_from W k left next) ≡ true
+    pub has : (k : Key) → declares_in_chain test W x k ≡ true → (has_key k keys || declared_from W k left next) ≡ true
 
-  pub passed_start : (W : World) (id left : ℕ) (keys : sorted.BTreeSet Key) → id < size W → left ≡ size W → sorted.IsOrdered key_cmp keys → HasPassed W (name_at W id) left (Some id) keys
-  passed_start W id left keys l e o = record {
+  pub passed_start : (W : World) (id left : ℕ) (keys : List Key) → id < size W → left ≡ size W → HasPassed W (name_at W id) left (Some id) keys
+  passed_start W id left keys l e = record {
     below = l;
-    ordered = o;
-    has = λ k h. or_right (sorted.contains key_cmp keys k) (declared_from W k left (Some id)) (sym (starts W id left k e) ∙ h);
+    has = λ k h. or_right (has_key k keys) (declared_from W k left (Some id)) (sym (starts W id left k e) ∙ h);
   }
 
   -- one more class
-  pub passed_more : (W : World) (x : Bytes) (left more id : ℕ) (next up : Option ℕ) (c : ClassFacts) (keys now : sorted.BTreeSet Key) → left ≡ suc more → next ≡ Some id → Some c ≡ find_class W (name_at W id) → up ≡ superclass_of W (name_at W id)
+  pub passed_more : (W : World) (x : Bytes) (left more id : ℕ) (next up : Option ℕ) (c : ClassFacts) (keys now : List Key) → left ≡ suc more → next ≡ Some id → Some c ≡ find_class W (name_at W id) → up ≡ superclass_of W (name_at W id)
       → IfSome up (λ id. id < size W) → HasPassed W x left next keys → Adds (has_member test c.methods) keys now → HasPassed W x more up now
   passed_more W x left more id next up c keys now q e f u b h a = record {
     below = b;
-    ordered = a.ordered h.ordered;
-    has = λ k p. go k (sorted.contains key_cmp keys k) refl (declares k c) refl (h.has k p);
+    has = λ k p. go k (has_key k keys) refl (declares k c) refl (h.has k p);
   }
     where
-      go : (k : Key) (s : Bool) → sorted.contains key_cmp keys k ≡ s → (d : Bool) → declares k c ≡ d → (s || declared_from W k left next) ≡ true → (sorted.contains key_cmp now k || declared_from W k more up) ≡ true
+      go : (k : Key) (s : Bool) → has_key k keys ≡ s → (d : Bool) → declares k c ≡ d → (s || declared_from W k left next) ≡ true → (has_key k now || declared_from W k more up) ≡ true
       go k true is d dis r = ap (λ (b : Bool). b || declared_from W k more up) (a.has k ∙ ap (λ (b : Bool). b || has_member test c.methods k) is)
       go k false is true dis r =
-          ap (λ (b : Bool). b || declared_from W k more up) (a.has k ∙ or_right (sorted.contains key_cmp keys k) (has_member test c.methods k) (some_member test c.methods k dis))
+          ap (λ (b : Bool). b || declared_from W k more up) (a.has k ∙ or_right (has_key k keys) (has_member test c.methods k) (some_member test c.methods k dis))
       go k false is false dis r =
-          or_right (sorted.contains key_cmp now k) (declared_from W k more up)
+          or_right (has_key k now) (declared_from W k more up)
           (sym (steps W k left more id next up c q e f u ∙ ap (λ (b : Bool). b || declared_from W k more up) dis) ∙ r)
 
   -- nothing is ahead
-  pub passed_out : (W : World) (x : Bytes) (left : ℕ) (next : Option ℕ) (keys : sorted.BTreeSet Key) → next ≡ None → HasPassed W x left next keys → HasEach (declares_in_chain test W x) keys
-  passed_out W x left next keys e h = record {
-    ordered = h.ordered;
-    has = λ k p. or_without (sorted.contains key_cmp keys k) (declared_from W k left next) (ap (declared_from W k left) e ∙ ap (list_any (declares k)) (from-nothing W left)) (h.has k p);
-  }
+  pub passed_out : (W : World) (x : Bytes) (left : ℕ) (next : Option ℕ) (keys : List Key) → next ≡ None → HasPassed W x left next keys → HasAll (declares_in_chain test W x) keys
+  passed_out W x left next keys e h = λ k p. or_without (has_key k keys) (declared_from W k left next) (ap (declared_from W k left) e ∙ ap (list_any (declares k)) (from-nothing W left)) (h.has k p)
 
-  pub passed_end : (W : World) (x : Bytes) (left : ℕ) (next : Option ℕ) (keys : sorted.BTreeSet Key) → left ≡ 0 → HasPassed W x left next keys → HasEach (declares_in_chain test W x) keys
-  passed_end W x left next keys e h = record {
-    ordered = h.ordered;
-    has = λ k p. or_without (sorted.contains key_cmp keys k) (declared_from W k left next) (ap (λ n. declared_from W k n next) e ∙ ap (list_any (declares k)) (from-none W next)) (h.has k p);
-  }
+  pub passed_end : (W : World) (x : Bytes) (left : ℕ) (next : Option ℕ) (keys : List Key) → left ≡ 0 → HasPassed W x left next keys → HasAll (declares_in_chain test W x) keys
+  passed_end W x left next keys e h = λ k p. or_without (has_key k keys) (declared_from W k left next) (ap (λ n. declared_from W k n next) e ∙ ap (list_any (declares k)) (from-none W next)) (h.has k p)

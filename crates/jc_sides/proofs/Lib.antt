@@ -4,6 +4,7 @@ pub mod Subjects
 pub mod ByClass
 pub mod BrokenActs
 pub mod KeySets
+mod MadeKeys
 mod ChainKeys
 pub mod MemberKeys
 mod TestedClasses

@@ -1,9 +1,6 @@
 -- Lists of the keys of which a rule may speak.
-use Rattle.std.proofs.Common.{◌≡◌, Bool, false, List, [], ◌∷◌, Option, Some, ap, ◌∙◌, subst, sym}
-use Rattle.std.specs.Prelude.{IsTrue}
+use Rattle.std.proofs.Common.{◌≡◌, Bool, true, false, List, Option, Some, ap, ◌∙◌, subst, sym}
 use Rattle.jc_facts.specs.declared.key.Key.{Key}
-use Rattle.jc_facts.specs.KeyOrder.{key_cmp}
-use Rattle.jc_facts.specs.Exactly.{HasExactly, Rises}
 use Rattle.jc_facts.specs.declared.class_facts.ClassFacts.{ClassFacts}
 use Rattle.jc_facts.specs.Names.{Bytes, is_init_name}
 use Rattle.jc_facts.specs.Options.{some_and}
@@ -16,18 +13,12 @@ use Rattle.jc_sides.specs.SidesOf.{SidesOf}
 use Rattle.jc_sides.specs.Rules.{HasEachKey}
 
 -- no key passes
-pub none_pass : (keys : List Key) → keys ≡ [] → HasAll (λ k. false) keys
-unfolding Rises
-none_pass [] e = record { in_order = tt; each = λ k p. absurd (cc) }
-none_pass (k ∷ ks) e = absurd (cc)
-
--- the keys that pass, and no other
-pub all_of : (passes : Key → Bool) (keys : List Key) → HasExactly key_cmp (λ k. IsTrue (passes k)) keys → HasAll passes keys
-all_of passes keys h = record { in_order = h.in_order; each = λ k p. h.complete k p }
+pub none_pass : (keys : List Key) → HasAll (λ k. false) keys
+none_pass keys k p = absurd (let z : false ≡ true = p in cc)
 
 -- each key of which something is made is among those that pass
 pub each_key : {F : Type 0} (makes : Key → Option F) (passes : Key → Bool) (keys : List Key) → HasAll passes keys → OfPassing makes passes → HasEachKey makes keys
-each_key makes passes keys h of = record { in_order = h.in_order; each = λ k f e. h.each k (of k f e) }
+each_key makes passes keys h of k f e = h k (of k f e)
 
 -- the members by another name
 pub named_so : (m n : Members) → m ≡ n → (s : SidesOf) (x : Bytes) (keys : List Key) → HasAll (is_member n s x) keys → HasAll (is_member m s x) keys
@@ -35,4 +26,4 @@ named_so m n e s x keys h = subst (λ (i : Members). HasAll (is_member i s x) ke
 
 -- the initializers of a class, of its record
 pub inits : (s : SidesOf) (x : Bytes) (c : ClassFacts) → Some c ≡ find_class s.old x → (keys : List Key) → HasAll (has_member (λ m. is_init_name m.name) c.methods) keys → HasAll (is_member members.OldInitializers s x) keys
-inits s x c f keys h = record { in_order = h.in_order; each = λ k p. h.each k (ap (some_and (λ (d : ClassFacts). has_member (λ m. is_init_name m.name) d.methods k)) f ∙ p) }
+inits s x c f keys h k p = h k (ap (some_and (λ (d : ClassFacts). has_member (λ m. is_init_name m.name) d.methods k)) f ∙ p)

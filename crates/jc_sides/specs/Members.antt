@@ -1,18 +1,17 @@
 -- The keys of which a rule may speak.
-use Rattle.std.specs.Prelude.{◌≡◌, ◌&&◌, Bool, true, false, not, List, Option, Some}
-use Rattle.std.specs.List.{list_any, Contains}
+use Rattle.std.specs.Prelude.{◌≡◌, ◌&&◌, Bool, true, false, not, List, Option, Some, is_some}
+use Rattle.std.specs.List.{list_any}
 use Rattle.jc_facts.specs.declared.class_facts.Member.{Member}
 use Rattle.jc_facts.specs.declared.key.Key.{Key}
-use Rattle.jc_facts.specs.KeyOrder.{key_cmp}
 use Rattle.jc_facts.specs.Names.{Bytes, is_init_name}
 use Rattle.jc_facts.specs.Flags.{public_flag, no_static_flag}
-use Rattle.jc_facts.specs.Exactly.{Rises}
+use Rattle.jc_facts.specs.file.Valid.{has_key}
 use Rattle.jc_facts.specs.Options.{some_and}
 use Rattle.jc_facts.specs.rule.Bases.{is_final_in_chain}
 use Rattle.jc_facts.specs.world.World.{World, find_class, own_method_of}
 use Rattle.jc_facts.specs.world.Hierarchy.{chain}
-use Rattle.jc_table.specs.Lookups.{declare_field, declare_method}
-use Rattle.jc_worlds.specs.Hierarchy.{above}
+use Rattle.jc_facts.specs.world.Lookup.{field_found}
+use Rattle.jc_method.specs.FoundKeys.{finds_method}
 use Rattle.jc_sides.specs.SidesOf.{SidesOf}
 use Rattle.jc_sides.specs.steps.KeySets.{has_member}
 use Rattle.jc_sides.specs.declared.members.Members.{Members}
@@ -30,16 +29,15 @@ declares_in_chain test W x k = list_any (λ c. some_and test (own_method_of c k)
 abbrev pub is_member : Members → SidesOf → Bytes → Key → Bool
 is_member members.Nothing s x k = false
 is_member members.OldInitializers s x k = some_and (λ c. has_member (λ m. is_init_name m.name) c.methods k) (find_class s.old x)
-is_member members.OldFields s x k = declare_field (above s.old x) k
-is_member members.OldMethods s x k = declare_method (above s.old x) k
-is_member members.NewFields s x k = declare_field (above s.new x) k
+is_member members.OldFields s x k = is_some (field_found s.old x k)
+is_member members.OldMethods s x k = finds_method s.old x k
+is_member members.NewFields s x k = is_some (field_found s.new x k)
 is_member members.NewHidden s x k = declares_in_chain is_hidden s.new x k
 is_member members.NewFinals s x k = is_final_in_chain s.new x k
 
--- the keys rise, and each that passes is among them
-pub record HasAll (passes : Key → Bool) (keys : List Key) : Type 0 where
-  pub in_order : Rises key_cmp keys
-  pub each : (k : Key) → passes k ≡ true → Contains keys k
+-- each key that passes is among these
+abbrev pub HasAll : (Key → Bool) → List Key → Type 0
+HasAll passes keys = (k : Key) → passes k ≡ true → has_key k keys ≡ true
 
 -- something is made of keys alone that pass
 abbrev pub OfPassing : {F : Type 0} → (Key → Option F) → (Key → Bool) → Type 0

@@ -1,5 +1,5 @@
 -- Of what a rule speaks, and what it makes.
-use Rattle.std.specs.Prelude.{◌≡◌, ◌==◌, Bool, false, ℕ, List, Option, None, Some, IsTrue}
+use Rattle.std.specs.Prelude.{◌≡◌, ◌==◌, Bool, true, false, ℕ, List, Option, None, Some, IsTrue}
 use Rattle.std.specs.List.{Contains}
 use Rattle.std.specs.declared.cmp.Ordering.{Ordering}
 use Rattle.std.specs.declared.cmp.Ordering.TheVariants.{Less}
@@ -13,6 +13,7 @@ use Rattle.jc_facts.specs.rule.Findings.{Subject, finding_at, Stands}
 use Rattle.jc_facts.specs.KeyOrder.{key_cmp}
 use Rattle.jc_facts.specs.Names.{Bytes}
 use Rattle.jc_facts.specs.Exactly.{Rises}
+use Rattle.jc_facts.specs.file.Valid.{has_key}
 use Rattle.jc_table.specs.Ids.{names}
 use Rattle.jc_sides.specs.SidesOf.{SidesOf, AreSides}
 
@@ -57,8 +58,12 @@ pub record IsOnClass (r : ℕ) : Type 0 where
 
 -- ---- rules on a class and a key, whatever they make: findings, collisions or notes
 
--- the keys rise, and each of which something is made is among them
-pub record HasEachKey {F : Type 0} (makes : Key → Option F) (keys : List Key) : Type 0 where
+-- each key of which something is made is among these
+abbrev pub HasEachKey : {F : Type 0} → (Key → Option F) → List Key → Type 0
+HasEachKey {F} makes keys = (k : Key) (f : F) → makes k ≡ Some f → has_key k keys ≡ true
+
+-- the same, and the keys rise
+pub record HasEachInOrder {F : Type 0} (makes : Key → Option F) (keys : List Key) : Type 0 where
   pub in_order : Rises key_cmp keys
   pub each : (k : Key) (f : F) → makes k ≡ Some f → Contains keys k
 

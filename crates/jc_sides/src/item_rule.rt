@@ -1,14 +1,16 @@
 //! Rules that speak of a class and a key.
-ghost use Rattle.std.specs.Prelude.{◌≡◌, Bool, IfOk, IsTrue, Option, option_map};
+ghost use Rattle.std.specs.Prelude.{◌≡◌, Bool, IfOk, IsTrue, Option, option_map, is_some};
 ghost use Rattle.std.specs.List.{filter_map};
 ghost use Rattle.std.specs.declared.cmp.Ordering.{Ordering};
 ghost use Rattle.jc_facts.specs.declared.key.Key.{Key};
 ghost use Rattle.jc_facts.specs.Names.{Bytes};
 ghost use Rattle.jc_facts.specs.Exactly.{HasExactly};
+ghost use Rattle.jc_facts.specs.Options.{some_where};
 ghost use Rattle.jc_facts.specs.rule.Bases.{is_kept};
 ghost use Rattle.jc_sides.specs.Limit.{IsWithin};
 ghost use Rattle.jc_sides.specs.Rules.{HasEachKey, IsItemRule, IsOf};
 ghost use Rattle.jc_sides.specs.SharedOf.{IsShared, AreThose, name_of};
+ghost use Rattle.jc_sides.specs.steps.KeySets.{AreInOrder};
 ghost use Rattle.jc_sides.specs.SidesOf.{SidesOf, AreSides};
 
 use crate::found::push_some;
@@ -16,6 +18,8 @@ use crate::limit::is_over;
 use crate::shared::Shared;
 use crate::sides::Sides;
 use jc_facts::key::Key;
+use jc_facts::key_set::{KeyRef, set_of};
+use jc_table::keys::to_keys;
 use std::alloc::{AllocError, Global};
 
 /// A rule that speaks of a class and a key, whatever it makes: findings, collisions or notes.
@@ -38,7 +42,7 @@ pub trait ItemRule {
     // What has to be true of the rule's own values, as of lists that it keeps of the sides.
     ghost ready: { Self → SidesOf → Type 0 };
 
-    /// Keys in their order, each of which it makes something among them.
+    /// Keys in any order, each of which it makes something among them.
     fn keys(
         &self,
         alloc: Global,
@@ -86,7 +90,58 @@ fn on_keys<R: ItemRule>(
     Ok(items)
 }
 
-// What the rule makes of the class, in the order of the keys.
+// The key, where the rule makes something of it.
+fn if_made<'a, R: ItemRule>(
+    alloc: Global,
+    rule: &R,
+    sides: &Sides<'_>,
+    class: &Shared<'_>,
+    key: &'a Key,
+) -> Result<Option<KeyRef<'a>>, AllocError>
+    requires ready { R.ready rule.now sides.now }
+    requires shared { IsShared sides.now «class».now }
+    requires covered { IsTrue (R.covers sides.now (name_of «class».now)) }
+    ensures { IfOk result (λ made. made ≡ some_where (is_some (R.makes sides.now (name_of «class».now) key.now)) key.now) }
+{
+    let item = rule.on_key(alloc, sides, class, key)?;
+    if item.is_some() {
+        Ok(Some(KeyRef::of_key(key)))
+    } else {
+        Ok(None)
+    }
+}
+
+// Those of the keys of which the rule makes something.
+fn made_of<'a, R: ItemRule>(
+    alloc: Global,
+    rule: &R,
+    sides: &Sides<'_>,
+    class: &Shared<'_>,
+    keys: &'a [Key],
+) -> Result<Vec<KeyRef<'a>>, AllocError>
+    requires ready { R.ready rule.now sides.now }
+    requires shared { IsShared sides.now «class».now }
+    requires covered { IsTrue (R.covers sides.now (name_of «class».now)) }
+    ensures { IfOk result (λ made. made.items ≡ filter_map (λ k. some_where (is_some (R.makes sides.now (name_of «class».now) k)) k) keys.now) }
+{
+    let mut made = Vec::new(alloc);
+    for key in keys {
+        push_some(&mut made, if_made(alloc, rule, sides, class, key)?)?;
+    }
+    Ok(made)
+}
+
+// The keys, each once, in their order.
+fn in_order(alloc: Global, keys: Vec<KeyRef<'_>>) -> Result<Vec<Key>, AllocError>
+    ensures { IfOk result (λ sorted. AreInOrder keys.entry.items sorted.items) }
+{
+    let set = set_of(alloc, keys)?;
+    let keys = to_keys(alloc, &set)?;
+    Ok(keys)
+}
+
+// What the rule makes of the class, in the order of the keys. Of most keys it makes nothing, so those
+// alone of which it makes something are sorted.
 fn of_class<R: ItemRule>(
     alloc: Global,
     rule: &R,
@@ -101,8 +156,10 @@ fn of_class<R: ItemRule>(
     ensures { IfOk result (λ made. HasExactly R.order (IsOf R.class_of (R.stands sides.now) (name_of «class».now)) made.items) }
 {
     let keys = rule.keys(alloc, sides, class)?;
-    let made = on_keys(alloc, rule, sides, class, keys.as_slice())?;
-    Ok(made)
+    let made = made_of(alloc, rule, sides, class, keys.as_slice())?;
+    let sorted = in_order(alloc, made)?;
+    let items = on_keys(alloc, rule, sides, class, sorted.as_slice())?;
+    Ok(items)
 }
 
 /// What the rule makes of these classes, in byte order of their names and in the order of the keys.

@@ -1,13 +1,13 @@
-//! The members of which a rule may speak, and their keys in order.
+//! The members of which a rule may speak, and their keys.
 ghost use Rattle.std.specs.Prelude.{◌≡◌, ◌<◌, ◌&&◌, Bool, IfOk, OnOk, IsTrue};
 ghost use Rattle.jc_facts.specs.declared.class_facts.Member.{Member as MemberOf};
-ghost use Rattle.jc_facts.specs.Names.{is_init_name, same_key};
+ghost use Rattle.jc_facts.specs.Names.{is_init_name, is_key};
 ghost use Rattle.jc_facts.specs.world.World.{size};
 ghost use Rattle.jc_facts.specs.rule.Bases.{is_kept, is_open_final};
 ghost use Rattle.jc_table.specs.Ids.{name_at};
 ghost use Rattle.jc_sides.specs.Members.{is_member, is_hidden, declares_in_chain, HasAll};
 ghost use Rattle.jc_sides.specs.SharedOf.{IsShared, name_of};
-ghost use Rattle.jc_sides.specs.steps.KeySets.{Adds, HasEach, has_member};
+ghost use Rattle.jc_sides.specs.steps.KeySets.{Adds, has_member};
 
 use crate::shared::{Shared, before};
 use crate::sides::Sides;
@@ -15,16 +15,15 @@ use jc_desc::names::is_init;
 use jc_facts::class_facts::{ClassFacts, Member};
 use jc_facts::flags::{is_final, is_protected, is_public, is_static};
 use jc_facts::key::Key;
-use jc_facts::key_set::KeyRef;
-use jc_field::keys::field_keys;
-use jc_method::keys::method_keys;
+use jc_field::keys::found_field_keys;
+use jc_method::keys::found_method_keys;
 use jc_table::ids::ClassId;
+use jc_table::members::key_of_member;
 use jc_table::table::Table;
 use std::alloc::{AllocError, Global};
-use std::collections::BTreeSet;
 
-/// Of which members of a class a rule may speak. Those that a class has are its own, and those of
-/// its superclasses and superinterfaces.
+/// Of which members of a class a rule may speak. Those that a class has are what references to it
+/// find (JVMS 5.4.3.2 to 5.4.3.4).
 #[derive(Clone, Copy)]
 pub enum Members {
     /// Of none.
@@ -43,39 +42,29 @@ pub enum Members {
     NewFinals,
 }
 
-// Adds the key, if it is wanted.
-fn put_if<'a>(
-    keys: &mut BTreeSet<KeyRef<'a>>,
-    key: KeyRef<'a>,
+// Adds the member's key, if it is wanted.
+fn push_if(
+    alloc: Global,
+    keys: &mut Vec<Key>,
+    member: &Member,
     wanted: bool,
 ) -> Result<(), AllocError>
-    ensures { OnOk result (Adds (λ q. wanted && same_key key.entry q) keys.old keys.new) }
+    ensures { OnOk result (Adds (λ q. wanted && is_key q member.now) keys.old.items keys.new.items) }
 {
     if wanted {
-        keys.insert(key)?;
+        keys.push(key_of_member(alloc, member)?)?;
     }
     Ok(())
 }
 
-// The keys, each as one of its own, in their order.
-fn to_keys(alloc: Global, set: &BTreeSet<KeyRef<'_>>) -> Result<Vec<Key>, AllocError>
-    ensures { IfOk result (λ keys. keys.items ≡ set.now.keys) }
+// The keys of the class's initializers.
+fn init_keys(alloc: Global, class: &ClassFacts) -> Result<Vec<Key>, AllocError>
+    ensures { IfOk result (λ keys. HasAll (has_member (λ m. is_init_name m.name) class.now.methods) keys.items) }
 {
     let mut keys = Vec::new(alloc);
-    for key in set {
-        keys.push(key.to_key(alloc)?)?;
-    }
-    Ok(keys)
-}
-
-// The keys of the class's initializers.
-fn init_keys<'a>(alloc: Global, class: &'a ClassFacts) -> Result<BTreeSet<KeyRef<'a>>, AllocError>
-    ensures { IfOk result (HasEach (has_member (λ m. is_init_name m.name) class.now.methods)) }
-{
-    let mut keys = BTreeSet::new(alloc);
     for method in class.methods.as_slice() {
         let wanted = is_init(method.name.as_bytes());
-        put_if(&mut keys, KeyRef::of_member(method), wanted)?;
+        push_if(alloc, &mut keys, method, wanted)?;
     }
     Ok(keys)
 }
@@ -114,43 +103,45 @@ impl MethodTest for Hidden {
 }
 
 // Adds the keys of the class's methods that pass.
-fn add_where<'a, T: MethodTest>(
-    keys: &mut BTreeSet<KeyRef<'a>>,
-    class: &'a ClassFacts,
+fn add_where<T: MethodTest>(
+    alloc: Global,
+    keys: &mut Vec<Key>,
+    class: &ClassFacts,
     test: &T,
 ) -> Result<(), AllocError>
-    ensures { OnOk result (Adds (has_member T.test class.now.methods) keys.old keys.new) }
+    ensures { OnOk result (Adds (has_member T.test class.now.methods) keys.old.items keys.new.items) }
 {
     for method in class.methods.as_slice() {
         let wanted = test.passes(method);
-        put_if(keys, KeyRef::of_member(method), wanted)?;
+        push_if(alloc, keys, method, wanted)?;
     }
     Ok(())
 }
 
 // The keys of the methods of the class's chain that pass.
-fn chain_keys<'a, T: MethodTest>(
+fn chain_keys<T: MethodTest>(
     alloc: Global,
-    table: &'a Table,
+    table: &Table,
     class: ClassId,
     test: &T,
-) -> Result<BTreeSet<KeyRef<'a>>, AllocError>
+) -> Result<Vec<Key>, AllocError>
     requires { class < size table.now }
-    ensures { IfOk result (HasEach (declares_in_chain T.test table.now (name_at table.now class))) }
+    ensures { IfOk result (λ keys. HasAll (declares_in_chain T.test table.now (name_at table.now class)) keys.items) }
 {
-    let mut keys = BTreeSet::new(alloc);
+    let mut keys = Vec::new(alloc);
     let mut next = Some(class);
     for done in 0..table.count() {
         let Some(class) = next else {
             return Ok(keys);
         };
-        add_where(&mut keys, table.facts(class), test)?;
+        add_where(alloc, &mut keys, table.facts(class), test)?;
         next = table.superclass(class);
     }
     Ok(keys)
 }
 
-/// The keys of these members of the kept class, in their order, and maybe further ones.
+/// The keys of these members of the kept class, in any order, and maybe further ones. They share their
+/// bytes.
 pub fn keys_of(
     alloc: Global,
     sides: &Sides<'_>,
@@ -163,11 +154,11 @@ pub fn keys_of(
 {
     match members {
         Members::Nothing => Ok(Vec::new(alloc)),
-        Members::OldInitializers => to_keys(alloc, &init_keys(alloc, before(sides, class))?),
-        Members::OldFields => field_keys(alloc, sides.old, class.old),
-        Members::OldMethods => method_keys(alloc, sides.old, class.old),
-        Members::NewFields => field_keys(alloc, sides.new, class.new),
-        Members::NewHidden => to_keys(alloc, &chain_keys(alloc, sides.new, class.new, &Hidden)?),
-        Members::NewFinals => to_keys(alloc, &chain_keys(alloc, sides.new, class.new, &OpenFinal)?),
+        Members::OldInitializers => init_keys(alloc, before(sides, class)),
+        Members::OldFields => found_field_keys(alloc, sides.old, class.old),
+        Members::OldMethods => found_method_keys(alloc, sides.old, class.old),
+        Members::NewFields => found_field_keys(alloc, sides.new, class.new),
+        Members::NewHidden => chain_keys(alloc, sides.new, class.new, &Hidden),
+        Members::NewFinals => chain_keys(alloc, sides.new, class.new, &OpenFinal),
     }
 }

@@ -5,18 +5,18 @@ use Rattle.jc_sides.proofs.KeySets.{adds_none, put_member, adds_all}
 use Rattle.jc_sides.proofs.members.add_where.Goals as goal
 
 pub loop-method-init : goal.loop-method-init
-loop-method-init g c = adds_none c.args.keys.now
+loop-method-init g c = adds_none c.args.keys.now.items
 
 pub loop-method-preserved : goal.loop-method-preserved
 loop-method-preserved g c =
     let here : c.as_slice-method-items.result.now ≡ c.args.class.now.methods = c.as_slice-method-items.ensures in
     let within : c.loop-method.method-index < length c.args.class.now.methods = omega (arith, ap (λ (xs : List Member). length xs) here) in
-    put_member g.T.MethodTest.test c.args.class.now.methods c.loop-method.method-index c.method-item.result c.of_member.result c.passes-wanted.result _ _ _ within
-    (c.method-item.is ∙ ap (λ (xs : List Member). get_or xs c.loop-method.method-index c.method-item.result) here) c.of_member.ensures c.passes-wanted.ensures
-    c.loop-method.invariant c.in_ok-put_if.ensures
+    put_member g.T.MethodTest.test c.args.class.now.methods c.loop-method.method-index c.method-item.result c.passes-wanted.result _ _ _ within
+    (c.method-item.is ∙ ap (λ (xs : List Member). get_or xs c.loop-method.method-index c.method-item.result) here) c.passes-wanted.ensures
+    c.loop-method.invariant c.in_ok-push_if.ensures
 
 pub returns : goal.returns
 returns g c =
     let here : c.as_slice-method-items.result.now ≡ c.args.class.now.methods = c.as_slice-method-items.ensures in
     let end : length c.args.class.now.methods ≤ c.loop-method.method-index = omega (arith, ap (λ (xs : List Member). length xs) here) in
-    adds_all (λ q m. g.T.MethodTest.test m && is_key q m) c.args.class.now.methods c.loop-method.method-index c.args.keys.now c.loop-method.keys end c.loop-method.invariant
+    adds_all (λ q m. g.T.MethodTest.test m && is_key q m) c.args.class.now.methods c.loop-method.method-index c.args.keys.now.items c.loop-method.keys.items end c.loop-method.invariant

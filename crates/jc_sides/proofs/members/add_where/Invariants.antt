@@ -3,4 +3,4 @@ use Rattle.jc_sides.specs.steps.KeySets.{Adds, has_member}
 use Rattle.jc_sides.proofs.members.add_where.Given as goal
 
 abbrev pub invariant-loop-method : goal.invariant-loop-method
-invariant-loop-method g l = Adds (has_member g.T.MethodTest.test (take l.method-index l.class.methods)) l.fn.keys l.keys
+invariant-loop-method g l = Adds (has_member g.T.MethodTest.test (take l.method-index l.class.methods)) l.fn.keys.items l.keys.items

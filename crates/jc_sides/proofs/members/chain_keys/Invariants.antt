@@ -5,4 +5,4 @@ use Rattle.jc_sides.proofs.ChainKeys.{HasPassed}
 use Rattle.jc_sides.proofs.members.chain_keys.Given as goal
 
 abbrev pub invariant-loop-done : goal.invariant-loop-done
-invariant-loop-done g l = HasPassed g.T.MethodTest.test l.table (name_at l.table l.fn.class) (size l.table - l.done) l.next l.keys
+invariant-loop-done g l = HasPassed g.T.MethodTest.test l.table (name_at l.table l.fn.class) (size l.table - l.done) l.next l.keys.items

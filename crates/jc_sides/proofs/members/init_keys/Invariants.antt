@@ -4,4 +4,4 @@ use Rattle.jc_sides.specs.steps.KeySets.{Adds, has_member}
 use Rattle.jc_sides.proofs.members.init_keys.Given as goal
 
 abbrev pub invariant-loop-method : goal.invariant-loop-method
-invariant-loop-method l = Adds (has_member (λ m. is_init_name m.name) (take l.method-index l.class.methods)) l.initial.keys l.keys
+invariant-loop-method l = Adds (has_member (λ m. is_init_name m.name) (take l.method-index l.class.methods)) l.initial.keys.items l.keys.items

@@ -6,7 +6,7 @@ use Rattle.jc_rules.proofs.ConstantAdded.{of_none, of_fields}
 use Rattle.jc_rules.proofs.constant_added.ConstantAddedCollisionRule.members.Goals as goal
 
 pub returns-then-may_close : goal.returns-then-may_close
-returns-then-may_close c = of_fields c.args.sides.now (name_of c.args.class.now) c.requires.sides c.requires.covered
+returns-then-may_close c = of_fields c.args.sides.now (name_of c.args.class.now)
 
 pub returns-else-may_close : goal.returns-else-may_close
 returns-else-may_close c =
