@@ -3,7 +3,6 @@ use crate::classes::{Row, class, plain};
 use jc_base::items::Items;
 use jc_base::name::Name;
 use jc_facts::act::Act;
-use jc_facts::class_facts::ClassFacts;
 use jc_facts::key::Key;
 use jc_write::formed::is_formed;
 use jc_write::write::{WriteError, write_class};
@@ -68,11 +67,10 @@ fn implementor(rt: &impl Abort, alloc: Global, count: u32) -> Blueprint {
             .push(name(rt, alloc, text.as_str()))
             .expect(rt, "memory");
     }
+    let mut facts = class(rt, alloc, &plain(52, 0x0021));
+    facts.interfaces = Items::from_vec(interfaces);
     Blueprint {
-        facts: ClassFacts {
-            interfaces: Items::from_vec(interfaces),
-            ..class(rt, alloc, &plain(52, 0x0021))
-        },
+        facts,
         bodies: Items::from_vec(Vec::new(alloc)),
     }
 }
