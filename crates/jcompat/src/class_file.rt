@@ -11,10 +11,11 @@ use crate::file_fault::FileFault;
 use crate::limits::{MAX_BYTES, MAX_PATH};
 use crate::tree::TreeName;
 use jc_base::items::Items;
+use jc_base::recent_names::RecentNames;
 use jc_code::items::{CodeError, items_of};
 use jc_facts::class_facts::ClassFacts;
 use jc_facts::client::{ClientClass, Item};
-use jc_read::read::{ReadError, read_class};
+use jc_read::read::{ReadError, read_class_after};
 use std::alloc::{AllocError, Global};
 
 /// Whether a path is that of a class file: it ends in `.class`, its first part isn't `META-INF`, and
@@ -41,6 +42,7 @@ fn is_place(path: &[u8], name: &[u8]) -> bool
 // The record of a class file that stands at its class's place, or why it isn't read.
 fn record_of(
     alloc: Global,
+    recent: &RecentNames,
     path: &str,
     bytes: &[u8],
 ) -> Result<Result<ClassFacts, FileFault>, AllocError>
@@ -52,7 +54,7 @@ fn record_of(
     if bytes.len() > MAX_BYTES as usize {
         return Ok(Err(FileFault::TooLong));
     }
-    match read_class(alloc, bytes) {
+    match read_class_after(alloc, recent, bytes) {
         Ok(facts) => {
             if is_place(path.as_bytes(), facts.name.as_bytes()) {
                 Ok(Ok(facts))
@@ -90,9 +92,11 @@ fn items_in(
 }
 
 /// What a class file is read as in this tree, or why it isn't read: its record, where it stands at its
-/// class's place, and of a client the items of its code. The path isn't longer than the limit.
+/// class's place, and of a client the items of its code. The path isn't longer than the limit. Its
+/// names share the bytes of those of the files before.
 pub fn class_in(
     alloc: Global,
+    recent: &RecentNames,
     tree: TreeName,
     path: &str,
     bytes: &[u8],
@@ -103,7 +107,7 @@ pub fn class_in(
     ensures short { IfOk result (λ found. IfOk found (λ c. HasShortNames c.facts)) }
     ensures fault { IfOk result (λ found. IfErr found (IsFileFault tree path.now bytes.now)) }
 {
-    let facts = match record_of(alloc, path, bytes)? {
+    let facts = match record_of(alloc, recent, path, bytes)? {
         Ok(facts) => facts,
         Err(fault) => return Ok(Err(fault)),
     };

@@ -19,6 +19,7 @@ use crate::limits::{MAX_BYTES, MAX_FILES, MAX_PATH};
 use crate::stop::Stop;
 use crate::tree::{Tree, TreeName};
 use jc_base::file_buf::FileBuf;
+use jc_base::recent_names::RecentNames;
 use jc_base::text::Text;
 use jc_base::trees::{TreeError, Trees};
 use jc_facts::client::ClientClass;
@@ -65,6 +66,7 @@ fn read_one<T: Trees>(
     path: &str,
     trees: &mut T,
     buffer: &mut FileBuf,
+    recent: &RecentNames,
 ) -> Result<Result<ClientClass, FileFault>, TreeError>
     requires held { Holds (T.state trees.old).content tree.now.root.now path.now }
     requires short { length path.now ≤ MAX_PATH }
@@ -78,7 +80,7 @@ fn read_one<T: Trees>(
     ensures cause { IsErrOf result TreeError.Fault → Rose ((T.state trees.old).faults tree.now.root.now) ((T.state trees.new).faults tree.now.root.now) }
 {
     trees.read_into(alloc, tree.root, path, MAX_BYTES, buffer)?;
-    match class_in(alloc, tree.name, path, buffer.as_bytes()) {
+    match class_in(alloc, recent, tree.name, path, buffer.as_bytes()) {
         Ok(Ok(class)) => Ok(Ok(class)),
         Ok(Err(fault)) => Ok(Err(fault)),
         Err(_) => Err(TreeError::Memory),
@@ -103,6 +105,7 @@ fn read_all<T: Trees>(
     paths: &[Text],
     trees: &mut T,
     buffer: &mut FileBuf,
+    recent: &RecentNames,
 ) -> Result<Vec<ClientClass>, Stop>
     requires held { All (Holds (T.state trees.old).content tree.now.root.now) paths.now }
     requires short { All (λ path. length path ≤ MAX_PATH) paths.now }
@@ -116,7 +119,7 @@ fn read_all<T: Trees>(
 {
     let mut classes = Vec::new(alloc);
     for path in paths {
-        match read_one(alloc, tree, path.as_str(), trees, buffer) {
+        match read_one(alloc, tree, path.as_str(), trees, buffer, recent) {
             Ok(Ok(class)) => match classes.push(class) {
                 Ok(()) => {}
                 Err(_) => return Err(Stop::Memory),
@@ -136,12 +139,13 @@ fn has_long_path(paths: &[Text]) -> bool
 }
 
 /// What a tree's class files are read as, in the order of their paths, or why it isn't read. The bytes
-/// of one file after the other go through the buffer.
+/// of one file after the other go through the buffer, and their names share what is the same.
 pub fn read_tree<T: Trees>(
     alloc: Global,
     tree: &Tree<'_>,
     trees: &mut T,
     buffer: &mut FileBuf,
+    recent: &RecentNames,
 ) -> Result<Vec<ClientClass>, Stop>
     ensures read { IfOk result (λ classes. Told (T.state trees.old).content (λ files. AreClasses files (tree_of tree.now) classes.items)) }
     ensures classes { IfOk result (λ classes. IsClassList classes.items) }
@@ -159,7 +163,7 @@ pub fn read_tree<T: Trees>(
     if has_long_path(paths.as_slice()) {
         return Err(Stop::Unread(tree.name, TreeFault::LongPath));
     }
-    match read_all(alloc, tree, paths.as_slice(), trees, buffer) {
+    match read_all(alloc, tree, paths.as_slice(), trees, buffer, recent) {
         Ok(classes) => Ok(classes),
         Err(stop) => Err(stop),
     }

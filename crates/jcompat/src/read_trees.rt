@@ -12,13 +12,14 @@ use crate::stop::Stop;
 use crate::tree::Tree;
 use jc_base::file_buf::FileBuf;
 use jc_base::items::Items;
+use jc_base::recent_names::RecentNames;
 use jc_base::trees::Trees;
 use jc_facts::client::ClientClass;
 use std::alloc::Global;
 
 /// What the class files of each of these trees are read as, in this order, or why the first tree that
 /// isn't read isn't. Of a class that is no client's there are no items. The bytes of all files go through
-/// one buffer, which is made first.
+/// one buffer, which is made first, and the long names of all share what is the same.
 pub fn read_trees<T: Trees>(
     alloc: Global,
     wanted: &[Tree<'_>],
@@ -33,9 +34,12 @@ pub fn read_trees<T: Trees>(
     let Ok(mut buffer) = FileBuf::new(alloc) else {
         return Err(Stop::Memory);
     };
+    let Ok(recent) = RecentNames::new(alloc) else {
+        return Err(Stop::Memory);
+    };
     let mut all = Vec::new(alloc);
     for tree in wanted {
-        match read_tree(alloc, tree, trees, &mut buffer) {
+        match read_tree(alloc, tree, trees, &mut buffer, &recent) {
             Ok(classes) => match all.push(Items::from_vec(classes)) {
                 Ok(()) => {}
                 Err(_) => return Err(Stop::Memory),

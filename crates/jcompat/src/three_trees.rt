@@ -24,7 +24,7 @@ pub fn three_of(
 pub fn records_of(alloc: Global, classes: Vec<ClientClass>) -> Result<Vec<ClassFacts>, AllocError>
     ensures { IfOk result (λ records. records.items ≡ facts_of classes.items) }
 {
-    let mut records = Vec::new(alloc);
+    let mut records = Vec::with_capacity(alloc, classes.len())?;
     for class in classes {
         records.push(class.facts)?;
     }
