@@ -1,10 +1,13 @@
 //! Rules that speak of a class and a key.
-ghost use Rattle.std.specs.Prelude.{◌≡◌, Bool, IfOk, IsTrue, Option, option_map, is_some};
+ghost use Rattle.std.specs.BTreeSet.{IsOrdered};
+ghost use Rattle.std.specs.Prelude.{◌≡◌, ◌++◌, ◌∷◌, [], List, Bool, IfOk, IsTrue, Option, option_map, is_some};
 ghost use Rattle.std.specs.List.{filter_map};
 ghost use Rattle.std.specs.declared.cmp.Ordering.{Ordering};
-ghost use Rattle.jc_facts.specs.declared.key.Key.{Key};
+ghost use Rattle.jc_facts.specs.declared.key.Key.{Key as KeyOf};
 ghost use Rattle.jc_facts.specs.Names.{Bytes};
 ghost use Rattle.jc_facts.specs.Exactly.{HasExactly};
+ghost use Rattle.jc_facts.specs.KeyOrder.{key_cmp};
+ghost use Rattle.jc_facts.specs.Seen.{Holds};
 ghost use Rattle.jc_facts.specs.Options.{some_where};
 ghost use Rattle.jc_facts.specs.rule.Bases.{is_kept};
 ghost use Rattle.jc_sides.specs.Limit.{IsWithin};
@@ -18,9 +21,8 @@ use crate::limit::is_over;
 use crate::shared::Shared;
 use crate::sides::Sides;
 use jc_facts::key::Key;
-use jc_facts::key_set::{KeyRef, set_of};
-use jc_table::keys::to_keys;
 use std::alloc::{AllocError, Global};
+use std::collections::BTreeSet;
 
 /// A rule that speaks of a class and a key, whatever it makes: findings, collisions or notes.
 pub trait ItemRule {
@@ -32,7 +34,7 @@ pub trait ItemRule {
     ghost class_of: { Self.Item → Bytes };
 
     // What it makes of a class and a key, and what stands.
-    ghost makes: { SidesOf → Bytes → Key → Option Self.Item };
+    ghost makes: { SidesOf → Bytes → KeyOf → Option Self.Item };
 
     ghost stands: { SidesOf → Self.Item → Type 0 };
 
@@ -91,13 +93,13 @@ fn on_keys<R: ItemRule>(
 }
 
 // The key, where the rule makes something of it.
-fn if_made<'a, R: ItemRule>(
+fn if_made<R: ItemRule>(
     alloc: Global,
     rule: &R,
     sides: &Sides<'_>,
     class: &Shared<'_>,
-    key: &'a Key,
-) -> Result<Option<KeyRef<'a>>, AllocError>
+    key: &Key,
+) -> Result<Option<Key>, AllocError>
     requires ready { R.ready rule.now sides.now }
     requires shared { IsShared sides.now «class».now }
     requires covered { IsTrue (R.covers sides.now (name_of «class».now)) }
@@ -105,20 +107,20 @@ fn if_made<'a, R: ItemRule>(
 {
     let item = rule.on_key(alloc, sides, class, key)?;
     if item.is_some() {
-        Ok(Some(KeyRef::of_key(key)))
+        Ok(Some(key.copy(alloc)?))
     } else {
         Ok(None)
     }
 }
 
 // Those of the keys of which the rule makes something.
-fn made_of<'a, R: ItemRule>(
+fn made_of<R: ItemRule>(
     alloc: Global,
     rule: &R,
     sides: &Sides<'_>,
     class: &Shared<'_>,
-    keys: &'a [Key],
-) -> Result<Vec<KeyRef<'a>>, AllocError>
+    keys: &[Key],
+) -> Result<Vec<Key>, AllocError>
     requires ready { R.ready rule.now sides.now }
     requires shared { IsShared sides.now «class».now }
     requires covered { IsTrue (R.covers sides.now (name_of «class».now)) }
@@ -131,12 +133,43 @@ fn made_of<'a, R: ItemRule>(
     Ok(made)
 }
 
+// Adds the key.
+fn put(set: &mut BTreeSet<Key>, key: Key) -> Result<(), AllocError>
+    ensures { IfOk result (λ _. (seen : List KeyOf) → Holds set.old seen → Holds set.new (seen ++ key ∷ [])) }
+{
+    set.insert(key)?;
+    Ok(())
+}
+
+// The set of these keys.
+fn set_of(alloc: Global, keys: Vec<Key>) -> Result<BTreeSet<Key>, AllocError>
+    ensures { IfOk result (λ set. Holds set keys.items) }
+{
+    let mut set = BTreeSet::new(alloc);
+    for key in keys {
+        put(&mut set, key)?;
+    }
+    Ok(set)
+}
+
+// The keys of the set, in their order. They share their bytes.
+fn listed(alloc: Global, set: &BTreeSet<Key>) -> Result<Vec<Key>, AllocError>
+    ensures value { IfOk result (λ keys. keys.items ≡ set.now.keys) }
+    ensures ordered { IfOk result (λ _. IsOrdered key_cmp set.now) }
+{
+    let mut keys = Vec::new(alloc);
+    for key in set {
+        keys.push(key.copy(alloc)?)?;
+    }
+    Ok(keys)
+}
+
 // The keys, each once, in their order.
-fn in_order(alloc: Global, keys: Vec<KeyRef<'_>>) -> Result<Vec<Key>, AllocError>
-    ensures { IfOk result (λ sorted. AreInOrder keys.entry.items sorted.items) }
+fn in_order(alloc: Global, keys: Vec<Key>) -> Result<Vec<Key>, AllocError>
+    ensures { IfOk result (λ sorted. AreInOrder keys.items sorted.items) }
 {
     let set = set_of(alloc, keys)?;
-    let keys = to_keys(alloc, &set)?;
+    let keys = listed(alloc, &set)?;
     Ok(keys)
 }
 

@@ -74,12 +74,8 @@ fn keys_above<'a>(
     Ok(keys)
 }
 
-/// The keys of the set, each as one of its own, in their order.
-///
-/// # Errors
-///
-/// `AllocError` where memory runs out.
-pub fn to_keys(alloc: Global, set: &BTreeSet<KeyRef<'_>>) -> Result<Vec<Key>, AllocError>
+// The same keys, each as one of its own, in their order.
+fn to_keys(alloc: Global, set: &BTreeSet<KeyRef<'_>>) -> Result<Vec<Key>, AllocError>
     ensures value { IfOk result (λ keys. keys.items ≡ set.now.keys) }
     ensures ordered { IfOk result (λ _. IsOrdered key_cmp set.now) }
 {
