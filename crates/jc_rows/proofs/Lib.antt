@@ -4,6 +4,7 @@ pub mod Searching
 pub mod Numbered
 pub mod KeyLists
 pub mod Numbers
+pub mod WithRows
 pub mod DeclaredKeys
 pub mod OwnMembers
 pub mod RowsAbove
