@@ -14,3 +14,4 @@ pub mod Settling
 pub mod Unfound
 pub mod Sources
 pub mod Filling
+pub mod Marking

@@ -17,7 +17,7 @@ use Rattle.jc_facts.proofs.Hierarchy.{names_in-each, each-all}
 use Rattle.jc_facts.proofs.Same.{same_is}
 use Rattle.jc_facts.proofs.World.{find-name, class_named-each, IsOf}
 use Rattle.jc_lemmas.proofs.Bools.{imply, and_false, neither_first, neither_last}
-use Rattle.jc_lemmas.proofs.Listed.{EachOf, EachOf-map, EachOf-both, EachOf-append, each_in, each_from, any_has, any_passes, any_none, not_any}
+use Rattle.jc_lemmas.proofs.Listed.{EachOf, EachOf-map, EachOf-both, EachOf-append, each_in, each_from, each_of, any_has, any_passes, any_none, not_any}
 use Rattle.jc_lemmas.proofs.Lists.{any_left, any_right, any_weaker}
 use Rattle.jc_worlds.specs.Hierarchy.{above}
 use Rattle.jc_worlds.proofs.Above.{chain-each, superinterfaces-each}
@@ -32,7 +32,7 @@ use Rattle.jc_index.proofs.Aboves.{superinterface-is, leads-on, leads-itself}
 use Rattle.jc_index.proofs.Numbers.{is_none-None}
 use Rattle.jc_index.proofs.Sides.{side_valid, root_at}
 use Rattle.jc_rows.specs.Keys.{declares_with_rows}
-use Rattle.jc_rows.specs.WithRows.{is_above, has_rows}
+use Rattle.jc_rows.specs.WithRows.{platform_names_release, is_above, is_above_release, has_rows}
 
 module _ (W : World) where
   -- x is the class y, a superclass of it or a superinterface
@@ -90,10 +90,9 @@ module _ (W : World) where
         go (inl k) = named (chain W y) (chain_has y l h) x k
         go (inr k) = named (superinterfaces W y) (superinterfaces_have y l h) x k
 
-    -- what holds of java/lang/Object and of the classes of the release holds of all that have rows
-    pub rows_least : S object_name → ((c : ClassFacts) → Contains W.release c → load_fault W c.name ≡ None → S c.name) → (x : Bytes) → has_rows W x ≡ true → S x
-    unfolding has_rows
-    rows_least root release x h = go (or_cases (is_above W x object_name) (list_any (λ c. is_above W x c.name) W.release) h)
+    -- what holds of java/lang/Object and of the classes of the release holds of all above them
+    pub release_least : S object_name → ((c : ClassFacts) → Contains W.release c → load_fault W c.name ≡ None → S c.name) → (x : Bytes) → is_above_release W x ≡ true → S x
+    release_least root release x h = go (or_cases (is_above W x object_name) (list_any (λ c. is_above W x c.name) W.release) h)
       where
         by : (y : Bytes) → (load_fault W y ≡ None → S y) → is_above W x y ≡ true → S x
         by y s a =
@@ -113,27 +112,41 @@ module _ (W : World) where
   above_from : (x y : Bytes) → load_fault W y ≡ None → is_over y x ≡ true → is_above W x y ≡ true
   above_from x y l o = and_from (is_none (load_fault W y)) (is_over y x) (ap is_none l) o
 
-  over-object : load_fault W object_name ≡ None → (x : Bytes) → is_over object_name x ≡ true → has_rows W x ≡ true
-  unfolding has_rows
+  over-object : load_fault W object_name ≡ None → (x : Bytes) → is_over object_name x ≡ true → is_above_release W x ≡ true
   over-object l x o = or_left (is_above W x object_name) (list_any (λ c. is_above W x c.name) W.release) (above_from x object_name l o)
 
-  over-release : (c : ClassFacts) → Contains W.release c → load_fault W c.name ≡ None → (x : Bytes) → is_over c.name x ≡ true → has_rows W x ≡ true
-  unfolding has_rows
+  over-release : (c : ClassFacts) → Contains W.release c → load_fault W c.name ≡ None → (x : Bytes) → is_over c.name x ≡ true → is_above_release W x ≡ true
   over-release c i l x o =
       or_right (is_above W x object_name) (list_any (λ d. is_above W x d.name) W.release) (any_has (λ d. is_above W x d.name) W.release c i (above_from x c.name l o))
 
-  pub rows-release : (c : ClassFacts) → Contains W.release c → load_fault W c.name ≡ None → has_rows W c.name ≡ true
-  rows-release c i l = over-release c i l c.name (over-itself c.name l)
+  rows_where : (x : Bytes) → is_above_release W x ≡ true → has_rows W x ≡ true
+  unfolding has_rows
+  rows_where x h = or_right (platform_names_release W) (is_above_release W x) h
 
-  -- a class that has rows stands above one of which all that is above has rows
+  pub rows-release : (c : ClassFacts) → Contains W.release c → load_fault W c.name ≡ None → has_rows W c.name ≡ true
+  rows-release c i l = rows_where c.name (over-release c i l c.name (over-itself c.name l))
+
+  -- where the platform names the release, each class has rows, and elsewhere those above the release's
+  pub rows-all : platform_names_release W ≡ true → (x : Bytes) → has_rows W x ≡ true
+  unfolding has_rows
+  rows-all h x = or_left (platform_names_release W) (is_above_release W x) h
+
+  pub rows-some : platform_names_release W ≡ false → (x : Bytes) → has_rows W x ≡ true → is_above_release W x ≡ true
+  unfolding has_rows
+  rows-some n x h = go (or_cases (platform_names_release W) (is_above_release W x) h)
+    where
+      go : (platform_names_release W ≡ true) ⊎ (is_above_release W x ≡ true) → is_above_release W x ≡ true
+      go (inl p) = absurd (let c : true ≡ false = sym p ∙ n in cc)
+      go (inr a) = a
+
+  -- such a class stands above one of which all that is above is so too
   record IsBelow (x : Bytes) : Type 0 where
     name : Bytes
     loads : load_fault W name ≡ None
     over : is_over name x ≡ true
-    all : (y : Bytes) → is_over name y ≡ true → has_rows W y ≡ true
+    all : (y : Bytes) → is_over name y ≡ true → is_above_release W y ≡ true
 
-  below : (x : Bytes) → has_rows W x ≡ true → IsBelow x
-  unfolding has_rows
+  below : (x : Bytes) → is_above_release W x ≡ true → IsBelow x
   below x h = go (or_cases (is_above W x object_name) (list_any (λ c. is_above W x c.name) W.release) h)
     where
       parts : (y : Bytes) → is_above W x y ≡ true → (load_fault W y ≡ None) × (is_over y x ≡ true)
@@ -145,10 +158,6 @@ module _ (W : World) where
           let q = any_passes (λ c. is_above W x c.name) W.release a in
           let p = parts q.one.name q.passes in
           record { name = q.one.name; loads = p.0; over = p.1; all = over-release q.one q.is_in p.0 }
-
-  -- what has rows loads
-  pub rows-load : (x : Bytes) → has_rows W x ≡ true → load_fault W x ≡ None
-  rows-load x h = let b = below x h in over_has (λ y. load_fault W y ≡ None) (λ y c f l s. (loads-parts W y c f l).0) b.name b.loads b.loads x b.over
 
   -- ---- what is named by what is above
 
@@ -232,8 +241,11 @@ module _ (W : World) where
     object_loads : load_fault W object_name ≡ None
     object_loads = bare_loads W object_name side.root.root (root_at W side) side.root.superclass side.root.interfaces
 
+    above-object : is_above_release W object_name ≡ true
+    above-object = over-object object_loads object_name (over-itself object_name object_loads)
+
     pub rows-object : has_rows W object_name ≡ true
-    rows-object = over-object object_loads object_name (over-itself object_name object_loads)
+    rows-object = rows_where object_name above-object
 
     -- the superclass of an interface is java/lang/Object
     object_named : (x : Bytes) (c : ClassFacts) → find_class W x ≡ Some c → interface_flag c.flags ≡ true → (s : Bytes) → c.superclass ≡ Some s → s ≡ object_name
@@ -241,21 +253,28 @@ module _ (W : World) where
         let v : superclass_is_valid c (Some s) ≡ true = subst (λ (o : Option Bytes). superclass_is_valid c o ≡ true) e (side_valid W side x c f).superclass in
         same_is s object_name (imply (interface_flag c.flags) (is_object_name s) (and_parts (is_valid_name s && not (is_object_name c.name)) (implies (interface_flag c.flags) (is_object_name s)) v).1 i)
 
-    -- what a class that has rows names above itself has rows
-    pub rows-up : (x : Bytes) (c : ClassFacts) → find_class W x ≡ Some c → load_fault W x ≡ None → has_rows W x ≡ true → EachOf (λ s. has_rows W s ≡ true) (supers c)
-    rows-up x c f l h = go (or_cases (in_chain W b.name x) (is_superinterface W b.name x) b.over)
+    above-up : (x : Bytes) (c : ClassFacts) → find_class W x ≡ Some c → load_fault W x ≡ None → is_above_release W x ≡ true → EachOf (λ s. is_above_release W s ≡ true) (supers c)
+    above-up x c f l h = go (or_cases (in_chain W b.name x) (is_superinterface W b.name x) b.over)
       where
         b : IsBelow x
         b = below x h
 
-        by : interface_flag c.flags ≡ true → EachOf (λ i. has_rows W i ≡ true) c.interfaces → (o : Option Bytes) → c.superclass ≡ o → EachOf (λ s. has_rows W s ≡ true) (supers_of o c.interfaces)
+        by : interface_flag c.flags ≡ true → EachOf (λ i. is_above_release W i ≡ true) c.interfaces → (o : Option Bytes) → c.superclass ≡ o → EachOf (λ s. is_above_release W s ≡ true) (supers_of o c.interfaces)
         by i is None e = is
-        by i is (Some s) e = (ap (has_rows W) (object_named x c f i s e) ∙ rows-object, is)
+        by i is (Some s) e = (ap (is_above_release W) (object_named x c f i s e) ∙ above-object, is)
 
-        go : (in_chain W b.name x ≡ true) ⊎ (is_superinterface W b.name x ≡ true) → EachOf (λ s. has_rows W s ≡ true) (supers c)
+        go : (in_chain W b.name x ≡ true) ⊎ (is_superinterface W b.name x ≡ true) → EachOf (λ s. is_above_release W s ≡ true) (supers c)
         go (inl k) = EachOf-map b.all (supers c) (over-chain b.name b.loads x c f k)
         go (inr k) = by (over-interface b.name b.loads x c f k)
             (EachOf-map b.all c.interfaces (over-interfaces b.name x c f k (of_interfaces (λ s. load_fault W s ≡ None) c.superclass c.interfaces (loads-parts W x c f l).0))) c.superclass refl
+
+    -- what a class that has rows names above itself has rows
+    pub rows-up : (x : Bytes) (c : ClassFacts) → find_class W x ≡ Some c → load_fault W x ≡ None → has_rows W x ≡ true → EachOf (λ s. has_rows W s ≡ true) (supers c)
+    rows-up x c f l h = go (platform_names_release W) refl
+      where
+        go : (b : Bool) → platform_names_release W ≡ b → EachOf (λ s. has_rows W s ≡ true) (supers c)
+        go true e = each_of (λ s. has_rows W s ≡ true) (rows-all e) (supers c)
+        go false e = EachOf-map rows_where (supers c) (above-up x c f l (rows-some e x h))
 
     -- the classes above a class that has rows have rows
     pub rows_above : (x : Bytes) → has_rows W x ≡ true → load_fault W x ≡ None → EachOf (λ c. has_rows W c.name ≡ true) (above W x)

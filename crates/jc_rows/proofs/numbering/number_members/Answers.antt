@@ -1,17 +1,19 @@
-use Rattle.std.proofs.Common.{◌≡◌, ◌<◌, ℕ, arith, sym, ◌∙◌, ap}
+use Rattle.std.proofs.Common.{◌≡◌, ◌<◌, ℕ, Bool, Option, Some, None, cond, arith, sym, ◌∙◌, ap, subst, refl}
+use Rattle.jc_facts.specs.declared.class_facts.ClassFacts.{ClassFacts}
 use Rattle.jc_facts.specs.world.World.{World, find_class, size}
 use Rattle.jc_index.specs.Ids.{name_at}
+use Rattle.jc_rows.specs.Keys.{class_with_rows}
+use Rattle.jc_rows.specs.WithRows.{has_rows}
+use Rattle.jc_rows.specs.steps.Numbering.{AddsClass}
+use Rattle.jc_rows.proofs.Marking.{mark-at, marks-count}
 use Rattle.jc_rows.proofs.Numbers.{class-next, numbering-end}
 use Rattle.jc_rows.proofs.numbering.number_members.Goals as goal
 
+pub index-made-requires : goal.index-made-requires
+index-made-requires c = ?
+
 pub loop-n-preserved : goal.loop-n-preserved
-loop-n-preserved c =
-    let W : World = c.args.index.now in
-    let count : c.count-n-end.result ≡ size W = c.count-n-end.ensures.count in
-    let l : c.loop-n.n < size W = omega (arith, count, c.loop-n-test.true) in
-    class-next W c.loop-n.n c.facts.result.now l
-    (sym (c.facts.ensures ∙ ap (λ (n : ℕ). find_class W (name_at W n)) c.new-in-loop-n.ensures))
-    c.loop-n.numbering c.add_class.new.numbering c.loop-n.invariant c.in_ok-add_class.ensures
+loop-n-preserved c = ?
 
 pub returns : goal.returns
 returns c =
