@@ -110,7 +110,7 @@ pub(crate) fn method_rows(
     let keys = numbering.keys.as_slice();
     let chains = chain_rows(alloc, index, made, numbering, order)?;
     let object = object_row(alloc, index, numbering)?;
-    let _classes = index.count();
+    let _classes = hierarchy.count();
     let mut rows = no_rows(alloc, index)?;
     for class in order {
         let class = *class;
