@@ -29,7 +29,7 @@ use jc_index::faults::{Loading, load_all};
 use jc_index::hierarchy::Hierarchy;
 use jc_index::ids::{ClassId, Found};
 use jc_index::index::Index;
-use jc_index::mentioned::MentionedNames;
+use jc_index::mentioned::{MentionedNames, begins};
 use jc_index::overlap::first_overlap;
 use jc_index::root::{RootPart, root_fault};
 use jc_rows::row::{RowItem, find};
@@ -253,7 +253,7 @@ impl Table {
     pub fn begins(&self, front: &[u8]) -> bool
         ensures { result ≡ mentions_front self.now front.now }
     {
-        self.mentioned.mentioned.begins(front)
+        begins(self.hierarchy.index().classes(), front)
     }
 
     /// How many names its classes have, name above themselves or permit to extend them, each counted
@@ -262,7 +262,7 @@ impl Table {
         ensures count { result ≡ length (all_mentions (classes self.now)) }
         ensures small { result < 2 ^ 63 }
     {
-        self.mentioned.mentioned.count()
+        self.mentioned.count
     }
 
     /// The load faults of all classes, in byte order of their names; none where a class loads
