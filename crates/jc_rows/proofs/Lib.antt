@@ -12,4 +12,5 @@ pub mod Fronts
 pub mod Settling
 pub mod Unfound
 pub mod Sources
+pub mod Agreed
 pub mod Filling
