@@ -1,5 +1,5 @@
 -- Which method of the superinterfaces is picked, by numbers of classes.
-use Rattle.std.proofs.Common.{◌≡◌, ◌<◌, ℕ, Bool, true, false, cond, not, ◌||◌, List, [], ◌∷◌, refl, sym, ◌∙◌, ap, subst, Option, Some, None}
+use Rattle.std.proofs.Common.{◌≡◌, ℕ, Bool, true, false, cond, not, ◌||◌, List, [], ◌∷◌, refl, sym, ◌∙◌, ap, subst, Option, Some, None}
 use Rattle.std.specs.List.{list_any, Contains}
 use Rattle.jc_facts.specs.declared.key.Key.{Key}
 use Rattle.jc_facts.specs.Names.{Bytes}
@@ -10,7 +10,7 @@ use Rattle.jc_facts.specs.world.Lookup.{is_maximal, only_or, superinterface_choi
 use Rattle.jc_lemmas.proofs.Bools.{contradicts, not_true}
 use Rattle.jc_lemmas.proofs.Listed.{EachOf, each_from, here}
 use Rattle.jc_index.specs.Ids.{name_at}
-use Rattle.jc_index.specs.Lookups.{IsFound, IsChoice}
+use Rattle.jc_index.specs.Lookups.{IsChoice}
 use Rattle.jc_index.specs.Picks.{methods_above, IsPick, Picks}
 use Rattle.jc_index.specs.Sides.{IsSide}
 use Rattle.jc_index.specs.declared.ids.Found.{Found}

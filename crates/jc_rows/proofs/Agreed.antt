@@ -1,7 +1,7 @@
 -- What all rows above a class agree on is picked for it.
 use Rattle.std.proofs.Common.{◌≡◌, ◌<◌, ℕ, Bool, true, false, cond, not, ◌||◌, ◌&&◌, ◌==◌, List, [], ◌∷◌, ◌++◌, refl, sym, ◌∙◌, ap, subst, Option, Some, None, ◌⊎◌, inl, inr}
 use Rattle.std.specs.Prelude.{slice_get}
-use Rattle.std.specs.List.{list_any, list_all, Contains}
+use Rattle.std.specs.List.{list_any, Contains}
 use Rattle.std.proofs.lemmas.Bool.{and_parts, and_from, eqb-true}
 use Rattle.std.proofs.lemmas.List.Elements.{Contains-append_left, Contains-append_right, Contains-append_cases}
 use Rattle.jc_facts.specs.declared.class_facts.ClassFacts.{ClassFacts}
@@ -15,7 +15,7 @@ use Rattle.jc_facts.specs.world.Assignment.{is_interface_of}
 use Rattle.jc_facts.specs.world.Search.{supers, supers_of}
 use Rattle.jc_facts.specs.world.World.{World, size, find_class, own_method_of, declared_method, DeclaredMember, found_in}
 use Rattle.jc_facts.specs.world.Hierarchy.{chain, of_super, each, with_interfaces, interfaces_of, superinterfaces, is_superinterface}
-use Rattle.jc_facts.specs.world.Loading.{load_fault, fault_of_itself, fault_of_superclass, error_of_superclass, fault_where, is_sealed_against}
+use Rattle.jc_facts.specs.world.Loading.{load_fault, fault_of_itself, fault_of_superclass, error_of_superclass, is_sealed_against}
 use Rattle.jc_facts.specs.world.Lookup.{declared_by, if_inheritable, if_public_instance, is_maximal, first_declared, superinterface_choices, public_method_of_object, or_choices}
 use Rattle.jc_facts.proofs.Options.{or_else-none, or_else-cases}
 use Rattle.jc_facts.proofs.Same.{same_is, same_itself}
@@ -38,7 +38,7 @@ use Rattle.jc_index.proofs.Strictly.{IsGood, named_good, is_under, transitive, n
 use Rattle.jc_rows.specs.declared.row.RowItem.{RowItem}
 use Rattle.jc_rows.specs.Keys.{numbered_keys}
 use Rattle.jc_rows.specs.Rows.{entry, IsMethodRow, lookup_choices}
-use Rattle.jc_rows.specs.steps.Agreeing.{agrees, all_agree, IsAgreed}
+use Rattle.jc_rows.specs.steps.Agreeing.{agrees, IsAgreed}
 use Rattle.jc_rows.specs.steps.Fronts.{front_by, front_method}
 use Rattle.jc_rows.specs.steps.Gathering.{row_named, first_entry, super_entry}
 use Rattle.jc_rows.proofs.Settling.{by_front}

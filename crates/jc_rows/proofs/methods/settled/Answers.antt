@@ -1,4 +1,4 @@
-use Rattle.std.proofs.Common.{◌∙◌, ap, sym, subst, List, Option, None}
+use Rattle.std.proofs.Common.{◌∙◌, ap, sym, subst, List, Option}
 use Rattle.std.specs.Prelude.{slice_get}
 use Rattle.jc_facts.specs.declared.key.Key.{Key}
 use Rattle.jc_facts.specs.Names.{Bytes}
