@@ -12,5 +12,6 @@ pub mod Fronts
 pub mod Settling
 pub mod Unfound
 pub mod Sources
+pub mod MethodsAbove
 pub mod Agreed
 pub mod Filling
