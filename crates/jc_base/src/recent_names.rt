@@ -47,6 +47,10 @@ fn shared(alloc: Global, names: &mut [Name], text: &[u8]) -> Result<Name, AllocE
 
 impl RecentNames {
     /// No name was made yet. Takes all the memory for the list of them.
+    ///
+    /// # Errors
+    ///
+    /// `AllocError` where memory runs out.
     pub fn new(alloc: Global) -> Result<RecentNames, AllocError> {
         let mut names = Vec::with_capacity(alloc, KEPT)?;
         for _ in 0..KEPT {

@@ -6,22 +6,23 @@ ghost use Rattle.jc_facts.specs.world.Lookup.{field_found};
 ghost use Rattle.jc_table.specs.Ids.{name_at};
 ghost use Rattle.jc_table.specs.Lookups.{IsAnswer};
 
+use crate::walk::walk_field;
 use jc_facts::key::Key;
 use jc_table::ids::{ClassId, Found};
-use jc_table::row::find;
 use jc_table::table::Table;
 
 /// The field of the key that a reference to the class finds; none where there is none: the class's
 /// own, else what its superinterfaces give, in order, else what its superclass gives
-/// (JVMS 5.4.3.2). The class has to load. It is looked up in the class's row.
+/// (JVMS 5.4.3.2). The class has to load. It is looked up in the class's row; where none is made, by
+/// a walk.
 pub fn find_field(table: &Table, class: ClassId, key: &Key) -> Option<Found>
     requires class { class < size table.now }
     requires loads { load_fault table.now (name_at table.now class) ≡ None }
     ensures { IsAnswer table.now result (field_found table.now (name_at table.now class) key.now) }
 {
     let _classes = table.count();
-    match table.key_number(key) {
-        Some(number) => find(table.field_row(class), number),
-        None => None,
+    match table.field_row(class) {
+        Some(row) => table.find_in(row, key),
+        None => walk_field(table, class, key),
     }
 }

@@ -27,7 +27,8 @@ pub fn field_keys(alloc: Global, table: &Table, class: ClassId) -> Result<Vec<Ke
 }
 
 /// The keys of the fields that a reference to the class finds, each once, in any order
-/// (JVMS 5.4.3.2). The class has to load. They share their bytes.
+/// (JVMS 5.4.3.2); where no row is made of it, those of all that are declared above it. The class
+/// has to load. A row's keys share their bytes.
 ///
 /// # Errors
 ///
@@ -42,7 +43,8 @@ pub fn found_field_keys(
     ensures { IfOk result (λ keys. HaveFound table.now (name_at table.now class) keys.items) }
 {
     let _classes = table.count();
-    let _keys = table.key_count();
-    let keys = keys_in(alloc, table, table.field_row(class))?;
-    Ok(keys)
+    match table.field_row(class) {
+        Some(row) => keys_in(alloc, table, row),
+        None => field_keys(alloc, table, class),
+    }
 }

@@ -11,8 +11,7 @@ use Rattle.jc_index.specs.Ids.{names_of, names, name_at, place_of, id_of}
 use Rattle.jc_index.specs.steps.Order.{name_or, name_in, IsIndex}
 use Rattle.jc_index.specs.declared.index.Index.TheInside.{Inside}
 use Rattle.jc_index.proofs.Numbers.{names_of-length}
-use Rattle.jc_index.proofs.Places.{found_there, in_front}
-use Rattle.jc_index.proofs.Halves.{order_length}
+use Rattle.jc_index.proofs.Places.{order_length, found_there, in_front}
 
 -- the classes of a list that is cut in two
 pub cut : (cs : List ClassFacts) (p : ℕ) → classes (side (take p cs) (drop p cs)) ≡ cs

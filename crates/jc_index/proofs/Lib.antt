@@ -5,7 +5,6 @@ pub mod Turns
 pub mod Slashes
 pub mod Walking
 pub mod Places
-pub mod Halves
 pub mod Indexed
 pub mod Upwards
 pub mod Overlaps

@@ -1,35 +1,88 @@
--- Tests of names that were collected, and of the classes that they come from.
-use Rattle.std.proofs.Common.{◌≡◌, Bool, ◌||◌, List, [], ◌∷◌, ◌++◌, map, length, refl, sym, ◌∙◌, ap}
-use Rattle.std.specs.Prelude.{nat_eq}
-use Rattle.std.specs.List.{list_any, flat_map, starts_with}
-use Rattle.std.specs.List.Sorted.{IsPermutation}
+-- Names that are collected from classes, and counted.
+use Rattle.std.proofs.Common.{◌≡◌, ◌<◌, ◌≤◌, ◌+◌, ℕ, Bool, true, false, cond, ◌||◌, List, [], ◌∷◌, ◌++◌, length, map, take, get_or, refl, sym, ◌∙◌, ap, subst, arith}
+use Rattle.std.specs.Prelude.{nat_eq, Some, is_some}
+use Rattle.std.specs.List.{list_any}
+use Rattle.std.specs.Cmp.Lexicographic.{pointwise}
+use Rattle.std.proofs.lemmas.List.{take_more, take_all, map-append, length-append}
 use Rattle.std.proofs.lemmas.List.Folds.{list_any-append}
-use Rattle.std.proofs.lemmas.List.Sorted.{list_any-IsPermutation, length_permutation}
+use Rattle.jc_lemmas.proofs.Bools.{or_false, or_assoc}
 use Rattle.jc_facts.specs.declared.class_facts.ClassFacts.{ClassFacts}
-use Rattle.jc_facts.specs.Names.{Bytes, same, package_name}
-use Rattle.jc_facts.specs.world.Search.{supers}
+use Rattle.jc_facts.specs.Names.{Bytes, same, is_name_among}
 use Rattle.jc_facts.specs.world.Mentioned.{mentions, all_mentions}
-use Rattle.jc_index.specs.MentionedNames.{AreMentionedNames}
+use Rattle.jc_facts.specs.world.World.{class_named}
+use Rattle.jc_facts.proofs.Same.{same_is}
+use Rattle.jc_index.proofs.NumberedNames.{any-among}
+use Rattle.jc_index.specs.steps.Adding.{Adds}
 
-module _ {A B : Type 0} (p : B → Bool) where
-  any_mapped : (f : A → B) (xs : List A) → list_any p (map f xs) ≡ list_any (λ x. p (f x)) xs
-  any_mapped f [] = refl
-  any_mapped f (x ∷ xs) = ap (λ r. p (f x) || r) (any_mapped f xs)
+-- ---- names that are added
 
-  any_flat : (f : A → List B) (xs : List A) → list_any p (flat_map f xs) ≡ list_any (λ x. list_any p (f x)) xs
-  any_flat f [] = refl
-  any_flat f (x ∷ xs) = list_any-append p (f x) (flat_map f xs) ∙ ap (λ r. list_any p (f x) || r) (any_flat f xs)
+-- one that is there
+pub adds_known : (names : List Bytes) (x : Bytes) → is_name_among names x ≡ true → Adds names names (x ∷ [])
+adds_known names x h = λ y. go y (same x y) refl
+  where
+    go : (y : Bytes) (b : Bool) → same x y ≡ b → is_name_among names y ≡ (is_name_among names y || (b || false))
+    go y true e = let there : is_name_among names y ≡ true = ap (is_name_among names) (sym (same_is x y e)) ∙ h in rw there refl
+    go y false e = sym (or_false (is_name_among names y))
 
-all_flat : (cs : List ClassFacts) → flat_map mentions cs ≡ all_mentions cs
-all_flat [] = refl
-all_flat (c ∷ cs) = ap (λ xs. mentions c ++ xs) (all_flat cs)
+-- one at the end
+pub adds_last : (names now : List Bytes) (x : Bytes) → now ≡ names ++ x ∷ [] → Adds names now (x ∷ [])
+adds_last names now x e = λ y. ap (λ (ns : List Bytes). is_name_among ns y) e ∙ list_any-append (λ z. same z y) names (x ∷ [])
 
-module _ (cs : List ClassFacts) (ps ss ms : List Bytes) where
-  pub are_mentioned : IsPermutation (map (λ c. package_name c.name) cs) ps → IsPermutation (flat_map supers cs) ss → IsPermutation (flat_map mentions cs) ms
-      → AreMentionedNames cs (record { packages = ps; supers = ss; mentioned = ms })
-  are_mentioned h k l = record {
-    packages = λ x. sym (list_any-IsPermutation (λ y. same y x) _ ps h) ∙ any_mapped (λ y. same y x) (λ c. package_name c.name) cs;
-    supers = λ x. sym (list_any-IsPermutation (λ y. same y x) _ ss k) ∙ any_flat (λ y. same y x) supers cs;
-    mentioned = λ front. sym (list_any-IsPermutation (λ y. starts_with nat_eq y front) _ ms l) ∙ any_flat (λ y. starts_with nat_eq y front) mentions cs;
-    count = length_permutation _ ms l ∙ ap length (all_flat cs);
-  }
+-- one that is put into a set, whose keys have these names
+pub adds_key : {A : Type 0} (f : A → Bytes) (v : A) (vs now : List A) → now ≡ cond (list_any (λ a. pointwise nat_eq (f v) (f a)) vs) vs (vs ++ v ∷ []) → Adds (map f vs) (map f now) (f v ∷ [])
+adds_key {A = A} f v vs now h = go (list_any (λ a. pointwise nat_eq (f v) (f a)) vs) refl h
+  where
+    go : (b : Bool) → list_any (λ a. pointwise nat_eq (f v) (f a)) vs ≡ b → now ≡ cond b vs (vs ++ v ∷ []) → Adds (map f vs) (map f now) (f v ∷ [])
+    go true e g = subst (λ (xs : List A). Adds (map f vs) (map f xs) (f v ∷ [])) (sym g) (adds_known (map f vs) (f v) (sym (any-among f (f v) vs) ∙ e))
+    go false e g = adds_last (map f vs) (map f now) (f v) (ap (map f) g ∙ map-append f vs (v ∷ []))
+
+-- some names, and then others
+pub adds_both : (a b c xs ys : List Bytes) → Adds a b xs → Adds b c ys → Adds a c (xs ++ ys)
+adds_both a b c xs ys h k = λ y.
+    k y ∙ ap (λ (t : Bool). t || is_name_among ys y) (h y) ∙ or_assoc (is_name_among a y) (is_name_among xs y) (is_name_among ys y)
+    ∙ ap (λ (t : Bool). is_name_among a y || t) (sym (list_any-append (λ z. same z y) xs ys))
+
+pub adds_next : (a b c names : List Bytes) (n : ℕ) (x : Bytes) → n < length names → x ≡ get_or names n x → Adds a b (take n names) → Adds b c (x ∷ []) → Adds a c (take (n + 1) names)
+adds_next a b c names n x l e h k =
+    subst (λ (ns : List Bytes). Adds a c ns) (ap (λ (y : Bytes). take n names ++ y ∷ []) e ∙ sym (take_more names n x l)) (adds_both a b c (take n names) (x ∷ []) h k)
+
+pub adds_all : (a b names : List Bytes) (n : ℕ) → length names ≤ n → Adds a b (take n names) → Adds a b names
+adds_all a b names n l h = subst (λ (ns : List Bytes). Adds a b ns) (take_all n names l) h
+
+-- ---- the names of classes
+
+-- `has` tells whether a name is one of the class's
+module _ (has : ClassFacts → Bytes → Bool) where
+  -- those of these classes
+  abbrev pub AreOf : List ClassFacts → List Bytes → Type 0
+  AreOf cs names = (x : Bytes) → is_name_among names x ≡ list_any (λ c. has c x) cs
+
+  pub are_of_next : (cs : List ClassFacts) (n : ℕ) (c : ClassFacts) (before now own : List Bytes) → n < length cs → c ≡ get_or cs n c → ((x : Bytes) → is_name_among own x ≡ has c x) → Adds before now own → AreOf (take n cs) before → AreOf (take (n + 1) cs) now
+  are_of_next cs n c before now own l e f a h = λ x.
+      a x ∙ ap (λ (b : Bool). b || is_name_among own x) (h x) ∙ ap (λ (b : Bool). list_any (λ d. has d x) (take n cs) || b) (f x ∙ sym (or_false (has c x)))
+      ∙ sym (list_any-append (λ d. has d x) (take n cs) (c ∷ [])) ∙ ap (list_any (λ d. has d x)) (ap (λ (d : ClassFacts). take n cs ++ d ∷ []) e ∙ sym (take_more cs n c l))
+
+  pub are_of_all : (cs : List ClassFacts) (n : ℕ) (names : List Bytes) → length cs ≤ n → AreOf (take n cs) names → AreOf cs names
+  are_of_all cs n names l h = subst (λ (ds : List ClassFacts). AreOf ds names) (take_all n cs l) h
+
+-- ---- how many they are
+
+one_more_counted : (cs : List ClassFacts) (c : ClassFacts) → length (all_mentions (cs ++ c ∷ [])) ≡ length (all_mentions cs) + length (mentions c)
+one_more_counted [] c = omega (arith, length-append (mentions c) [])
+one_more_counted (d ∷ cs) c = omega (arith, length-append (mentions d) (all_mentions (cs ++ c ∷ [])), length-append (mentions d) (all_mentions cs), one_more_counted cs c)
+
+pub count_next : (cs : List ClassFacts) (n : ℕ) (c : ClassFacts) (count more : ℕ) → n < length cs → c ≡ get_or cs n c → more ≡ count + length (mentions c) → count ≡ length (all_mentions (take n cs)) → more ≡ length (all_mentions (take (n + 1) cs))
+count_next cs n c count more l e f h =
+    f ∙ ap (λ (k : ℕ). k + length (mentions c)) h ∙ sym (one_more_counted (take n cs) c)
+    ∙ ap (λ (ds : List ClassFacts). length (all_mentions ds)) (ap (λ (d : ClassFacts). take n cs ++ d ∷ []) e ∙ sym (take_more cs n c l))
+
+-- ---- whether a class is named so
+
+pub any_named : (cs : List ClassFacts) (x : Bytes) → list_any (λ c. same c.name x) cs ≡ is_some (class_named cs x)
+unfolding class_named
+any_named [] x = refl
+any_named (c ∷ cs) x = go (same c.name x) (any_named cs x)
+  where
+    go : (b : Bool) → list_any (λ d. same d.name x) cs ≡ is_some (class_named cs x) → (b || list_any (λ d. same d.name x) cs) ≡ is_some (cond b (Some c) (class_named cs x))
+    go true h = refl
+    go false h = h

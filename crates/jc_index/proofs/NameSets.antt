@@ -1,9 +1,8 @@
 -- Searches in names that are sorted.
-use Rattle.std.proofs.Common.{◌≡◌, ◌<◌, ◌≤◌, ℕ, Bool, true, false, List, [], ◌∷◌, length, get_or, refl, sym, ◌∙◌, ap, subst, ◌⊎◌, inl, inr, arith, Ordering}
-use Rattle.std.specs.Prelude.{nat_eq}
-use Rattle.std.specs.Ordering.{is_lt, is_eq, nat_cmp, ordering_reverse}
+use Rattle.std.proofs.Common.{◌≡◌, ◌<◌, ◌≤◌, ℕ, Bool, true, false, List, [], length, get_or, refl, sym, ◌∙◌, ap, subst, ◌⊎◌, inl, inr, arith, Ordering}
+use Rattle.std.specs.Ordering.{is_lt, is_eq, ordering_reverse}
 use Rattle.std.specs.declared.cmp.Ordering.TheVariants.{Less, Equal, Greater}
-use Rattle.std.specs.List.{list_any, starts_with, Any}
+use Rattle.std.specs.List.{list_any, Any}
 use Rattle.std.specs.List.Sorted.{IsSorted, IsPartitionPoint, IsPartitionedBy}
 use Rattle.std.proofs.lemmas.List.Sorted.{sorted_far, ranks_by}
 use Rattle.std.proofs.lemmas.List.Folds.{Any-from_list_any, list_any_at}
@@ -14,7 +13,7 @@ use Rattle.jc_facts.specs.Names.{Bytes, same}
 use Rattle.jc_facts.specs.Exactly.{name_order}
 use Rattle.jc_facts.proofs.Same.{same_is, same_itself}
 use Rattle.std.proofs.lemmas.Bool.{cases_lt}
-use Rattle.jc_lemmas.proofs.Bools.{both_last, tests_agree, both_first}
+use Rattle.jc_lemmas.proofs.Bools.{tests_agree}
 
 -- x is less than y
 abbrev pub less : Bytes → Bytes → Bool
@@ -102,45 +101,3 @@ module _ (b : Bytes) (xs : List Bytes) (i : ℕ) (s : IsSorted name_order xs) (p
 
   pub has_past : length xs ≤ i → list_any (λ y. same y b) xs ≡ false
   has_past = any_past b (λ y. same y b) (same_low b) (same_down b) xs i s p
-
--- ---- names that begin with it
-
-abbrev begins : Bytes → Bytes → Bool
-begins x front = starts_with nat_eq x front
-
-begins_low : (b y : Bytes) → less y b ≡ true → begins y b ≡ false
-begins_low [] [] h = absurd (cc)
-begins_low [] (y ∷ ys) h = absurd (cc)
-begins_low (b ∷ bs) [] h = refl
-begins_low (b ∷ bs) (y ∷ ys) h = go (nat_cmp y b) refl (begins_low bs ys)
-  where
-    go : (r : Ordering) → nat_cmp y b ≡ r → (less ys bs ≡ true → begins ys bs ≡ false) → begins (y ∷ ys) (b ∷ bs) ≡ false
-    go Less e k = let n : nat_eq b y ≡ false = grind arith in rw n refl
-    go Equal e k = rw (k (rw e at h)) (grind arith)
-    go Greater e k = absurd (let c : false ≡ true = rw e at h in cc)
-
-begins_down : (b x y : Bytes) → less x b ≡ false → less y x ≡ false → begins y b ≡ true → begins x b ≡ true
-begins_down [] x y h k e = refl
-begins_down (b ∷ bs) x [] h k e = absurd (cc)
-begins_down (b ∷ bs) [] (y ∷ ys) h k e = absurd (cc)
-begins_down (b ∷ bs) (x ∷ xs) (y ∷ ys) h k e = go (nat_cmp x b) refl (nat_cmp y x) refl (begins_down bs xs ys)
-  where
-    go : (r : Ordering) → nat_cmp x b ≡ r → (s : Ordering) → nat_cmp y x ≡ s → (less xs bs ≡ false → less ys xs ≡ false → begins ys bs ≡ true → begins xs bs ≡ true)
-        → begins (x ∷ xs) (b ∷ bs) ≡ true
-    go Less p s q more = absurd (let c : true ≡ false = rw p at h in cc)
-    go Equal p Less q more = absurd (let c : true ≡ false = rw q at k in cc)
-    go Equal p Equal q more =
-        let first : nat_eq b y ≡ true = both_first (nat_eq b y) (begins ys bs) e in
-        let rest : begins xs bs ≡ true = more (rw p at h) (rw q at k) (both_last (nat_eq b y) (begins ys bs) e) in
-        rw rest (grind arith)
-    go Equal p Greater q more = absurd (let first : nat_eq b y ≡ true = both_first (nat_eq b y) (begins ys bs) e in grind arith)
-    go Greater p Less q more = absurd (let c : true ≡ false = rw q at k in cc)
-    go Greater p Equal q more = absurd (let first : nat_eq b y ≡ true = both_first (nat_eq b y) (begins ys bs) e in grind arith)
-    go Greater p Greater q more = absurd (let first : nat_eq b y ≡ true = both_first (nat_eq b y) (begins ys bs) e in grind arith)
-
-module _ (b : Bytes) (xs : List Bytes) (i : ℕ) (s : IsSorted name_order xs) (p : IsPartitionPoint (λ x. less x b ≡ true) (λ x. less x b ≡ false) xs i) where
-  pub begins_there : i < length xs → (x : Bytes) → get_or xs i x ≡ x → list_any (λ y. starts_with nat_eq y b) xs ≡ starts_with nat_eq x b
-  begins_there = any_there b (λ y. begins y b) (begins_low b) (begins_down b) xs i s p
-
-  pub begins_past : length xs ≤ i → list_any (λ y. starts_with nat_eq y b) xs ≡ false
-  begins_past = any_past b (λ y. begins y b) (begins_low b) (begins_down b) xs i s p

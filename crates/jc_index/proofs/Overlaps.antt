@@ -1,24 +1,22 @@
 -- The least name of a list that passes is the first that passes in byte order.
-use Rattle.std.proofs.Common.{◌≡◌, ℕ, ◌+◌, ◌<◌, Bool, true, false, cond, List, [], ◌∷◌, length, drop, get_or, refl, sym, ◌∙◌, ap, Option, Some, Ordering}
-use Rattle.std.specs.Prelude.{is_some, IsTrue}
+use Rattle.std.proofs.Common.{◌≡◌, ℕ, ◌+◌, ◌<◌, ◌≤◌, Bool, true, false, cond, List, [], ◌∷◌, length, drop, get_or, refl, sym, ◌∙◌, ap, Option, Some, None, Ordering}
+use Rattle.std.specs.Prelude.{IsTrue}
 use Rattle.std.specs.List.{find as first_where}
 use Rattle.std.specs.Ordering.{is_lt, is_eq, ordering_reverse}
 use Rattle.std.specs.Cmp.Lexicographic.{nat_list_cmp_total}
 use Rattle.std.specs.declared.cmp.Ordering.TheVariants.{Less, Equal, Greater}
-use Rattle.std.proofs.lemmas.List.{at_drop_more}
+use Rattle.std.proofs.lemmas.List.{at_drop_more, drop_all}
 use Rattle.std.proofs.lemmas.Map.Text.{is_eq-slice_cmp}
 use Rattle.jc_facts.specs.declared.class_facts.ClassFacts.{ClassFacts}
 use Rattle.jc_facts.specs.Names.{Bytes}
 use Rattle.jc_facts.specs.Exactly.{name_order, Rises}
 use Rattle.jc_facts.specs.Exactly.{Before, NamesRise}
-use Rattle.jc_facts.specs.world.World.{class_named}
 use Rattle.jc_facts.specs.client.Clients.{differ_by_name}
 use Rattle.jc_facts.specs.rule.OpenActs.{least, lower}
 use Rattle.jc_lemmas.proofs.Listed.{EachOf, EachOf-map}
 use Rattle.jc_facts.proofs.Same.{same_is}
-use Rattle.jc_index.specs.Ids.{insert, names_of, place_of}
-use Rattle.jc_index.specs.Sides.{overlap_of}
-use Rattle.jc_index.proofs.Numbers.{names_of-rise, names_of-rest, place-class}
+use Rattle.jc_index.specs.Ids.{insert, names_of}
+use Rattle.jc_index.proofs.Numbers.{names_of-rise, names_of-rest}
 
 lower-before : (x z : Bytes) → Before x z → cond (is_lt (name_order z x)) z x ≡ x
 lower-before x z h = let e : name_order z x ≡ Greater = nat_list_cmp_total.antisymm z x ∙ ap ordering_reverse h in ap (λ o. cond (is_lt o) z x) e
@@ -69,25 +67,17 @@ module _ (test : Bytes → Bool) where
       let k = names_of-rest c cs d in
       insert-first c.name (names_of cs) (names_of-rise cs k) ∙ ap (λ (o : Option Bytes). cond (test c.name) (Some (lower c.name o)) o) (least_is cs k)
 
--- ---- along the release's names
+-- ---- from the last class on
 
--- the platform declares the name
-abbrev pub is_known : List ClassFacts → Bytes → Bool
-is_known P x = is_some (class_named P x)
+-- one more class
+pub least_next : (test : Bytes → Bool) (cs : List ClassFacts) (n m : ℕ) (c : ClassFacts) (found now : Option Bytes) → n < length cs → n + 1 ≡ m → c ≡ get_or cs n c → found ≡ least test (drop m cs)
+    → now ≡ cond (test c.name) (Some (lower c.name found)) found → now ≡ least test (drop n cs)
+unfolding least
+least_next test cs n m c found now l e f h g =
+    let rest : found ≡ least test (drop (n + 1) cs) = h ∙ ap (λ (k : ℕ). least test (drop k cs)) (sym e) in
+    g ∙ ap (λ (o : Option Bytes). cond (test c.name) (Some (lower c.name o)) o) rest
+    ∙ ap (λ (d : ClassFacts). least test (d ∷ drop (n + 1) cs)) f ∙ sym (at_drop_more (least test) cs n c l)
 
-pub known_is : (P : List ClassFacts) (x : Bytes) (o : Option ℕ) → o ≡ place_of (names_of P) x → is_some o ≡ is_known P x
-known_is P x o e = ap is_some e ∙ place-class P x
-
-pub overlap_is : (P R : List ClassFacts) → IsTrue (differ_by_name R) → first_where (is_known P) (names_of R) ≡ overlap_of P R
-overlap_is P R d = least_is (is_known P) R d
-
-step : (test : Bytes → Bool) (y : Bytes) (ys : List Bytes) (b : Bool) → test y ≡ b → first_where test (y ∷ ys) ≡ cond b (Some y) (first_where test ys)
-step test y ys b e = ap (λ (t : Bool). cond t (Some y) (first_where test ys)) e
-
-pub found_next : (test : Bytes → Bool) (ns : List Bytes) (n : ℕ) (x : Bytes) → n < length ns → x ≡ get_or ns n [] → test x ≡ true → first_where test (drop n ns) ≡ Some x
-found_next test ns n x l e t =
-    at_drop_more (first_where test) ns n [] l ∙ ap (λ (y : Bytes). first_where test (y ∷ drop (n + 1) ns)) (sym e) ∙ step test x (drop (n + 1) ns) true t
-
-pub not_next : (test : Bytes → Bool) (ns : List Bytes) (n : ℕ) (x : Bytes) → n < length ns → x ≡ get_or ns n [] → test x ≡ false → first_where test (drop n ns) ≡ first_where test (drop (n + 1) ns)
-not_next test ns n x l e t =
-    at_drop_more (first_where test) ns n [] l ∙ ap (λ (y : Bytes). first_where test (y ∷ drop (n + 1) ns)) (sym e) ∙ step test x (drop (n + 1) ns) false t
+pub least_of_none : (test : Bytes → Bool) (cs : List ClassFacts) (n : ℕ) → length cs ≤ n → None ≡ least test (drop n cs)
+unfolding least
+least_of_none test cs n l = ap (least test) (sym (drop_all n cs l))

@@ -5,7 +5,7 @@ use Rattle.std.specs.List.{Contains, All}
 use Rattle.std.specs.List.Sorted.{IsPermutation, IsSortedBy}
 use Rattle.std.specs.Ordering.{is_lt}
 use Rattle.std.proofs.lemmas.Bool.Decides.{nat_tests}
-use Rattle.std.proofs.lemmas.List.{map_push, map_more}
+use Rattle.std.proofs.lemmas.List.{length-map, map_push, map_more}
 use Rattle.std.proofs.lemmas.Option.{slice_get_read}
 use Rattle.std.proofs.lemmas.List.Elements.{All-push, All-map, All-weaker, recursion_from_All}
 use Rattle.std.proofs.lemmas.List.Sorted.{All-permutation, Contains-permutation, IsPermutation-map, IsPermutation-sym}
@@ -22,6 +22,9 @@ use Rattle.jc_facts.proofs.Same.{same_is, same_itself}
 use Rattle.jc_index.specs.Ids.{names_of}
 use Rattle.jc_index.specs.steps.Order.{name_or, name_in, names_at, IsPlace, IsOrder}
 use Rattle.jc_index.proofs.Numbers.{is_none-None, and_true, named-in, in-named, names_of-rise}
+
+pub order_length : (cs : List ClassFacts) (order : List ℕ) → IsOrder cs order → length order ≡ length (names_of cs)
+order_length cs order o = sym (length-map order (name_in cs)) ∙ ap length o.named
 
 -- ---- the names as they stand
 

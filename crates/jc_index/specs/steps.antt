@@ -8,3 +8,4 @@ pub mod Choosing
 pub mod Passing
 pub mod Parts
 pub mod HashedKeys
+pub mod Adding

@@ -19,7 +19,7 @@ use std::alloc::{AllocError, Global};
 pub fn superclasses(alloc: Global, index: &Index) -> Result<Vec<Option<ClassId>>, AllocError>
     ensures { IfOk result (λ supers. supers.items ≡ map (superclass_of index.now) (names index.now)) }
 {
-    let mut supers = Vec::new(alloc);
+    let mut supers = Vec::with_capacity(alloc, index.count() as usize)?;
     for n in 0..index.count() {
         supers.push(index.superclass(ClassId::new(n)))?;
     }
@@ -30,7 +30,7 @@ pub fn superclasses(alloc: Global, index: &Index) -> Result<Vec<Option<ClassId>>
 fn ids_of(alloc: Global, index: &Index, names: &[Name]) -> Result<Vec<u32>, AllocError>
     ensures { IfOk result (λ ids. ids.items ≡ filter_map (id_of index.now) names.now) }
 {
-    let mut ids = Vec::new(alloc);
+    let mut ids = Vec::with_capacity(alloc, names.len())?;
     for name in names {
         if let Some(id) = index.get(name.as_bytes()) {
             ids.push(id.number())?;
@@ -45,7 +45,7 @@ fn edges(alloc: Global, index: &Index) -> Result<Vec<Items<u32>>, AllocError>
     ensures few { size index.now < 4294967296 }
     ensures differ { IsTrue (differ_by_name (classes index.now)) }
 {
-    let mut edges = Vec::new(alloc);
+    let mut edges = Vec::with_capacity(alloc, index.count() as usize)?;
     for n in 0..index.count() {
         let class = index.facts(ClassId::new(n));
         let ids = ids_of(alloc, index, class.interfaces.as_slice())?;

@@ -377,7 +377,7 @@ pub fn load_all(alloc: Global, index: &Index) -> Result<Loading, AllocError>
 {
     let finals = final_keys(alloc, index)?;
     let mut states = no_states(alloc, index)?;
-    let mut order = Vec::new(alloc);
+    let mut order = Vec::with_capacity(alloc, index.count() as usize)?;
     let faults = all_faults(alloc, index, &finals, &mut states, &mut order)?;
     Ok(Loading { faults, order })
 }

@@ -60,7 +60,8 @@ fn joined(
 ) -> Result<Vec<ClassFacts>, AllocError>
     ensures { IfOk result (λ classes. classes.items ≡ platform.now ++ release.items) }
 {
-    let mut classes = Vec::new(alloc);
+    let count = platform.len().saturating_add(release.len());
+    let mut classes = Vec::with_capacity(alloc, count)?;
     for class in platform {
         classes.push(class.copy(alloc)?)?;
     }

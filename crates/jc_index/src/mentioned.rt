@@ -1,23 +1,27 @@
 //! The names that the classes of a side mention.
-ghost use Rattle.std.specs.Prelude.{◌≡◌, ◌++◌, IfOk, OnOk, map};
-ghost use Rattle.std.specs.List.{flat_map};
-ghost use Rattle.jc_facts.specs.Names.{package_name};
+ghost use Rattle.std.specs.Prelude.{◌≡◌, ◌+◌, ◌<◌, ◌^◌, nat_eq, length, IfOk, IfSome, OnOk};
+ghost use Rattle.std.specs.List.{list_any, starts_with};
+ghost use Rattle.jc_facts.specs.Names.{Bytes, same, is_name_among, package_name};
 ghost use Rattle.jc_facts.specs.world.Search.{supers};
-ghost use Rattle.jc_facts.specs.world.Mentioned.{permitted, mentions};
+ghost use Rattle.jc_facts.specs.world.Mentioned.{permitted, mentions, all_mentions};
+ghost use Rattle.jc_index.specs.steps.Adding.{Adds};
 ghost use Rattle.jc_index.specs.MentionedNames.{AreMentionedNames};
 
-use crate::name_set::NameSet;
+use crate::faults::super_count;
+use crate::names::NumberedNames;
 use crate::packages::package_of;
 use jc_base::name::Name;
 use jc_facts::class_facts::ClassFacts;
 use std::alloc::{AllocError, Global};
 
-/// The packages of classes, the names that they name above themselves, and all names that they
+// ---- what is kept of them
+
+/// The packages of classes, the names that they name above themselves, and how many names they
 /// mention: their own, those, and those that they permit to extend them.
 pub struct MentionedNames {
-    pub packages: NameSet,
-    pub supers: NameSet,
-    pub mentioned: NameSet,
+    pub packages: NumberedNames,
+    pub supers: NumberedNames,
+    pub count: usize,
 }
 
 // One call at each exit of a function that owns it, where a derived drop is written out.
@@ -26,88 +30,163 @@ impl Drop for MentionedNames {
         let MentionedNames {
             packages: _,
             supers: _,
-            mentioned: _,
+            count: _,
         } = self;
     }
 }
 
-// Copies the names to the end of the list.
-fn push_names(alloc: Global, list: &mut Vec<Name>, names: &[Name]) -> Result<(), AllocError>
-    ensures { OnOk result (list.new.items ≡ list.old.items ++ names.now) }
+// Adds the names.
+fn put_names(alloc: Global, set: &mut NumberedNames, names: &[Name]) -> Result<(), AllocError>
+    ensures { OnOk result (Adds set.old set.new names.now) }
 {
     for name in names {
-        list.push(name.copy(alloc)?)?;
+        set.put(alloc, name.as_bytes())?;
     }
     Ok(())
 }
 
-// The names that the class names above itself, at the end of the list.
-fn push_supers(alloc: Global, list: &mut Vec<Name>, class: &ClassFacts) -> Result<(), AllocError>
-    ensures { OnOk result (list.new.items ≡ list.old.items ++ supers class.now) }
+// Adds the names that the class names above itself.
+fn put_supers(alloc: Global, set: &mut NumberedNames, class: &ClassFacts) -> Result<(), AllocError>
+    ensures { OnOk result (Adds set.old set.new (supers class.now)) }
 {
-    if let Some(name) = &class.superclass {
-        list.push(name.copy(alloc)?)?;
+    let interfaces = class.interfaces.as_slice();
+    match &class.superclass {
+        Some(name) => {
+            set.put(alloc, name.as_bytes())?;
+            put_names(alloc, set, interfaces)?;
+            Ok(())
+        }
+        None => {
+            put_names(alloc, set, interfaces)?;
+            Ok(())
+        }
     }
-    push_names(alloc, list, class.interfaces.as_slice())
-}
-
-// All names that the class mentions, at the end of the list.
-fn push_mentions(alloc: Global, list: &mut Vec<Name>, class: &ClassFacts) -> Result<(), AllocError>
-    ensures { OnOk result (list.new.items ≡ list.old.items ++ mentions class.now) }
-{
-    list.push(class.name.copy(alloc)?)?;
-    push_supers(alloc, list, class)?;
-    if let Some(names) = &class.permits {
-        push_names(alloc, list, names.as_slice())?;
-    }
-    Ok(())
 }
 
 // The packages of the classes.
-fn packages(alloc: Global, classes: &[ClassFacts]) -> Result<Vec<Name>, AllocError>
-    ensures { IfOk result (λ list. list.items ≡ map (λ c. package_name c.name) classes.now) }
+fn packages(alloc: Global, classes: &[ClassFacts]) -> Result<NumberedNames, AllocError>
+    ensures { IfOk result (λ set. (x : Bytes) → is_name_among set x ≡ list_any (λ c. same (package_name c.name) x) classes.now) }
 {
-    let mut list = Vec::new(alloc);
+    let mut set = NumberedNames::new(alloc);
     for class in classes {
-        list.push(Name::from_bytes(alloc, package_of(class.name.as_bytes()))?)?;
+        set.put(alloc, package_of(class.name.as_bytes()))?;
     }
-    Ok(list)
+    Ok(set)
 }
 
 // The names that the classes name above themselves.
-fn all_supers(alloc: Global, classes: &[ClassFacts]) -> Result<Vec<Name>, AllocError>
-    ensures { IfOk result (λ list. list.items ≡ flat_map supers classes.now) }
+fn all_supers(alloc: Global, classes: &[ClassFacts]) -> Result<NumberedNames, AllocError>
+    ensures { IfOk result (λ set. (x : Bytes) → is_name_among set x ≡ list_any (λ c. is_name_among (supers c) x) classes.now) }
 {
-    let mut list = Vec::new(alloc);
+    let mut set = NumberedNames::new(alloc);
     for class in classes {
-        push_supers(alloc, &mut list, class)?;
+        put_supers(alloc, &mut set, class)?;
     }
-    Ok(list)
+    Ok(set)
 }
 
-// All names that the classes mention.
-fn all_mentions(alloc: Global, classes: &[ClassFacts]) -> Result<Vec<Name>, AllocError>
-    ensures { IfOk result (λ list. list.items ≡ flat_map mentions classes.now) }
+// How many names the class permits to extend it.
+fn permit_count(class: &ClassFacts) -> usize
+    ensures { result ≡ length (permitted class.now.permits) }
 {
-    let mut list = Vec::new(alloc);
-    for class in classes {
-        push_mentions(alloc, &mut list, class)?;
+    match &class.permits {
+        Some(names) => names.as_slice().len(),
+        None => 0,
     }
-    Ok(list)
+}
+
+// So many names, and those that the class mentions; none where that are 2^63 or more.
+fn counted(count: usize, class: &ClassFacts) -> Option<usize>
+    ensures value { IfSome result (λ n. n ≡ count + length (mentions class.now)) }
+    ensures small { IfSome result (λ n. n < 2 ^ 63) }
+{
+    let with_own = count.checked_add(1)?;
+    let with_supers = with_own.checked_add(super_count(class))?;
+    let with_all = with_supers.checked_add(permit_count(class))?;
+    if with_all < 1 << 63 {
+        Some(with_all)
+    } else {
+        None
+    }
+}
+
+// How many names the classes mention.
+fn mention_count(classes: &[ClassFacts]) -> Result<usize, AllocError>
+    ensures value { IfOk result (λ n. n ≡ length (all_mentions classes.now)) }
+    ensures small { IfOk result (λ n. n < 2 ^ 63) }
+{
+    let mut count = 0;
+    for class in classes {
+        count = match counted(count, class) {
+            Some(more) => more,
+            None => return Err(AllocError),
+        };
+    }
+    Ok(count)
 }
 
 impl MentionedNames {
     /// Those of these classes.
+    ///
+    /// # Errors
+    ///
+    /// `AllocError` where memory runs out, also for 2^63 names or more, which no memory holds.
     pub fn new(alloc: Global, classes: &[ClassFacts]) -> Result<MentionedNames, AllocError>
         ensures { IfOk result (λ names. AreMentionedNames classes.now names) }
     {
-        let packages = NameSet::new(packages(alloc, classes)?)?;
-        let supers = NameSet::new(all_supers(alloc, classes)?)?;
-        let mentioned = NameSet::new(all_mentions(alloc, classes)?)?;
+        let packages = packages(alloc, classes)?;
+        let supers = all_supers(alloc, classes)?;
+        let count = mention_count(classes)?;
         Ok(MentionedNames {
             packages,
             supers,
-            mentioned,
+            count,
         })
     }
+}
+
+// ---- how they begin
+
+// Whether one of the names begins with these bytes.
+fn one_begins(names: &[Name], front: &[u8]) -> bool
+    ensures { result ≡ list_any (λ x. starts_with nat_eq x front.now) names.now }
+{
+    names.iter().any(|name| name.as_bytes().starts_with(front))
+}
+
+// Whether a name that the class names above itself does.
+fn super_begins(class: &ClassFacts, front: &[u8]) -> bool
+    ensures { result ≡ list_any (λ x. starts_with nat_eq x front.now) (supers class.now) }
+{
+    let interface = one_begins(class.interfaces.as_slice(), front);
+    match &class.superclass {
+        Some(name) => name.as_bytes().starts_with(front) || interface,
+        None => interface,
+    }
+}
+
+// Whether a name that the class permits to extend it does.
+fn permitted_begins(class: &ClassFacts, front: &[u8]) -> bool
+    ensures { result ≡ list_any (λ x. starts_with nat_eq x front.now) (permitted class.now.permits) }
+{
+    match &class.permits {
+        Some(names) => one_begins(names.as_slice(), front),
+        None => false,
+    }
+}
+
+// Whether a name that the class mentions does.
+fn mention_begins(class: &ClassFacts, front: &[u8]) -> bool
+    ensures { result ≡ list_any (λ x. starts_with nat_eq x front.now) (mentions class.now) }
+{
+    class.name.as_bytes().starts_with(front)
+        || super_begins(class, front)
+        || permitted_begins(class, front)
+}
+
+/// Whether a name that one of the classes mentions begins with these bytes.
+pub fn begins(classes: &[ClassFacts], front: &[u8]) -> bool
+    ensures { result ≡ list_any (λ c. list_any (λ x. starts_with nat_eq x front.now) (mentions c)) classes.now }
+{
+    classes.iter().any(|class| mention_begins(class, front))
 }

@@ -1,6 +1,5 @@
 //! Names that are looked for without memory.
-ghost use Rattle.std.specs.Prelude.{◌≡◌, ◌≤◌, ◌<◌, ◌^◌, ℕ, List, true, false, nat_eq, IfOk, length};
-ghost use Rattle.std.specs.List.{list_any, starts_with};
+ghost use Rattle.std.specs.Prelude.{◌≡◌, ◌≤◌, ℕ, List, true, false, IfOk, length};
 ghost use Rattle.std.specs.List.Sorted.{IsPermutation, IsPartitionPoint, IsSorted};
 ghost use Rattle.std.specs.Ordering.{is_lt};
 ghost use Rattle.jc_facts.specs.Exactly.{name_order};
@@ -38,14 +37,6 @@ impl NameSet {
         Ok(NameSet { names })
     }
 
-    /// How many names there are, those that stand twice counted twice.
-    pub fn count(&self) -> usize
-        ensures count { result ≡ length self.now }
-        ensures small { result < 2 ^ 63 }
-    {
-        self.names.len()
-    }
-
     // How many names stand before these bytes.
     fn rank(&self, bytes: &[u8]) -> usize
         ensures bound { result ≤ length self.now }
@@ -64,16 +55,6 @@ impl NameSet {
     {
         match self.names.as_slice().get(self.rank(name)) {
             Some(first) => first.as_bytes() == name,
-            None => false,
-        }
-    }
-
-    /// Whether one of the names begins with these bytes.
-    pub fn begins(&self, front: &[u8]) -> bool
-        ensures { result ≡ list_any (λ x. starts_with nat_eq x front.now) self.now }
-    {
-        match self.names.as_slice().get(self.rank(front)) {
-            Some(first) => first.as_bytes().starts_with(front),
             None => false,
         }
     }

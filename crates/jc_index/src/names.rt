@@ -3,6 +3,7 @@ ghost use Rattle.std.specs.Prelude.{◌≡◌, ◌++◌, ◌∷◌, [], false, I
 ghost use Rattle.jc_facts.specs.Names.{is_name_among};
 ghost use Rattle.jc_facts.specs.client.Clients.{differ_by_name};
 ghost use Rattle.jc_index.specs.Ids.{names_of, place_of};
+ghost use Rattle.jc_index.specs.steps.Adding.{Adds};
 ghost use Rattle.jc_index.specs.steps.Order.{IsOrder};
 
 use crate::order::name_there;
@@ -28,8 +29,8 @@ impl Model for NumberedNames {
 }
 
 impl NumberedNames {
-    // No names.
-    fn new(alloc: Global) -> NumberedNames
+    /// No names.
+    pub(crate) fn new(alloc: Global) -> NumberedNames
         ensures { result ≡ [] }
     {
         NumberedNames {
@@ -37,11 +38,26 @@ impl NumberedNames {
         }
     }
 
+    // No names, with room for so many.
+    fn with_capacity(alloc: Global, count: usize) -> Result<NumberedNames, AllocError>
+        ensures { IfOk result (λ names. names ≡ []) }
+    {
+        let set = IndexSet::with_capacity(alloc, count)?;
+        Ok(NumberedNames { set })
+    }
+
     /// The number of the name; none where it isn't one of them. It takes no memory.
     pub fn number(&self, name: &[u8]) -> Option<usize>
         ensures { result ≡ place_of self.now name.now }
     {
         self.set.get_index_of(name)
+    }
+
+    /// Whether the name is one of them. It takes no memory.
+    pub fn has(&self, name: &[u8]) -> bool
+        ensures { result ≡ is_name_among self.now name.now }
+    {
+        self.set.contains(name)
     }
 
     // Adds a name that isn't one of them.
@@ -55,6 +71,17 @@ impl NumberedNames {
             Err(_) => Err(AllocError),
         }
     }
+
+    /// Adds the name, where it isn't one of them.
+    pub(crate) fn put(&mut self, alloc: Global, name: &[u8]) -> Result<(), AllocError>
+        ensures { OnOk result (Adds self.old self.new (name.now ∷ [])) }
+    {
+        if self.has(name) {
+            return Ok(());
+        }
+        self.push(alloc, name)?;
+        Ok(())
+    }
 }
 
 /// The names of the classes, numbered in byte order.
@@ -67,7 +94,7 @@ pub fn numbered(
     requires order { IsOrder classes.now order.now }
     ensures { IfOk result (λ names. names ≡ names_of classes.now) }
 {
-    let mut names = NumberedNames::new(alloc);
+    let mut names = NumberedNames::with_capacity(alloc, order.len())?;
     for at in 0..order.len() {
         names.push(alloc, name_there(classes, order, at))?;
     }

@@ -1,11 +1,11 @@
 //! Where classes stand in byte order of their names.
-ghost use Rattle.std.specs.Prelude.{◌≡◌, ◌≤◌, ◌<◌, IfOk, OnOk, IsTrue, length, map, [], slice_index_or};
+ghost use Rattle.std.specs.Prelude.{◌≡◌, ◌<◌, IfOk, OnOk, IsTrue, length, map, [], slice_index_or};
 ghost use Rattle.std.specs.List.{All};
 ghost use Rattle.std.specs.List.Sorted.{IsPermutation, IsSortedBy};
 ghost use Rattle.std.specs.Ordering.{is_lt};
 ghost use Rattle.jc_facts.specs.client.Clients.{differ_by_name};
 ghost use Rattle.jc_facts.specs.Exactly.{name_order};
-ghost use Rattle.jc_index.specs.Ids.{names_of, place_of};
+ghost use Rattle.jc_index.specs.Ids.{names_of};
 ghost use Rattle.jc_index.specs.steps.Order.{IsOrder, IsPlace, names_at};
 
 use jc_facts::class_facts::ClassFacts;
@@ -33,7 +33,7 @@ fn places(alloc: Global, classes: &[ClassFacts]) -> Result<Vec<Place<'_>>, Alloc
     ensures names { IfOk result (λ places. map (λ p. p.0) places.items ≡ names_at classes.now) }
     ensures at { IfOk result (λ places. All (IsPlace classes.now) places.items) }
 {
-    let mut places = Vec::new(alloc);
+    let mut places = Vec::with_capacity(alloc, classes.len())?;
     for (at, class) in classes.iter().enumerate() {
         places.push(Place {
             name: class.name.as_bytes(),
@@ -59,7 +59,7 @@ pub fn ordered(alloc: Global, classes: &[ClassFacts]) -> Result<Vec<usize>, Allo
 {
     let mut places = places(alloc, classes)?;
     sort_by_name(&mut places)?;
-    let mut order = Vec::new(alloc);
+    let mut order = Vec::with_capacity(alloc, classes.len())?;
     for place in places.as_slice() {
         order.push(place.at)?;
     }
@@ -73,23 +73,4 @@ pub fn name_there<'a>(classes: &'a [ClassFacts], order: &[usize], at: usize) -> 
     ensures { result.now ≡ slice_index_or (names_of classes.now) at [] }
 {
     classes[order[at]].name.as_bytes()
-}
-
-/// How many classes stand before the one of this name; none where there is none.
-pub fn search(classes: &[ClassFacts], order: &[usize], name: &[u8]) -> Option<usize>
-    requires differ { IsTrue (differ_by_name classes.now) }
-    requires order { IsOrder classes.now order.now }
-    ensures { result ≡ place_of (names_of classes.now) name.now }
-{
-    let mut low = 0;
-    let mut high = order.len();
-    while low < high {
-        let middle = low + (high - low) / 2;
-        match name_there(classes, order, middle).cmp(name) {
-            Ordering::Less => low = middle + 1,
-            Ordering::Equal => return Some(middle),
-            Ordering::Greater => high = middle,
-        }
-    }
-    None
 }

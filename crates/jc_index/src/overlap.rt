@@ -1,35 +1,51 @@
 //! Names that a platform and a release both declare.
-ghost use Rattle.std.specs.Prelude.{◌≡◌, IfOk, IsTrue};
+ghost use Rattle.std.specs.Prelude.{◌≡◌, cond, Some, IfOk, IsTrue};
 ghost use Rattle.std.specs.Option.{option_copied};
+ghost use Rattle.jc_facts.specs.Names.{is_name_among};
 ghost use Rattle.jc_facts.specs.client.Clients.{differ_by_name};
-ghost use Rattle.jc_index.specs.steps.Order.{IsOrder};
+ghost use Rattle.jc_facts.specs.rule.OpenActs.{least, lower};
 ghost use Rattle.jc_index.specs.Sides.{overlap_of};
 
-use crate::order::{name_there, ordered, search};
+use crate::lent_names::{LentNames, lent_names};
 use jc_base::name::Name;
 use jc_facts::class_facts::ClassFacts;
 use std::alloc::{AllocError, Global};
 
-// The first name of the release in byte order that the platform declares too.
-fn first_known<'a>(
-    platform: &[ClassFacts],
-    known: &[usize],
-    release: &'a [ClassFacts],
-    order: &[usize],
-) -> Option<&'a [u8]>
-    requires platform_differs { IsTrue (differ_by_name platform.now) }
-    requires release_differs { IsTrue (differ_by_name release.now) }
-    requires known { IsOrder platform.now known.now }
-    requires order { IsOrder release.now order.now }
-    ensures { option_copied result ≡ overlap_of platform.now release.now }
+// The name, or the other one where it is there and less.
+fn lower<'a>(name: &'a Name, other: Option<&'a Name>) -> &'a Name
+    ensures { result.now ≡ lower name.now (option_copied other.entry) }
 {
-    for at in 0..order.len() {
-        let name = name_there(release, order, at);
-        if search(platform, known, name).is_some() {
-            return Some(name);
-        }
+    match other {
+        None => name,
+        Some(other) => { if other < name { other } else { name } }
     }
-    None
+}
+
+// The lower one of the name and the other, where the name is known, and else the other.
+fn lower_known<'a>(
+    known: &LentNames<'_>,
+    name: &'a Name,
+    other: Option<&'a Name>,
+) -> Option<&'a Name>
+    ensures { option_copied result ≡ cond (is_name_among known.now name.now) (Some (lower name.now (option_copied other.entry))) (option_copied other.entry) }
+{
+    if known.has(name.as_bytes()) {
+        Some(lower(name, other))
+    } else {
+        other
+    }
+}
+
+// The least known name of the release.
+fn least_known<'a>(known: &LentNames<'_>, release: &'a [ClassFacts]) -> Option<&'a Name>
+    ensures { option_copied result ≡ least (is_name_among known.now) release.now }
+{
+    let mut least = None;
+    for done in 0..release.len() {
+        let class = &release[release.len() - 1 - done];
+        least = lower_known(known, &class.name, least);
+    }
+    least
 }
 
 /// The first name in byte order that both the platform and the release declare; none where there
@@ -43,10 +59,9 @@ pub fn first_overlap(
     requires release_differs { IsTrue (differ_by_name release.now) }
     ensures { IfOk result (λ overlap. overlap ≡ overlap_of platform.now release.now) }
 {
-    let known = ordered(alloc, platform)?;
-    let order = ordered(alloc, release)?;
-    match first_known(platform, known.as_slice(), release, order.as_slice()) {
-        Some(name) => Ok(Some(Name::from_bytes(alloc, name)?)),
+    let known = lent_names(alloc, platform)?;
+    match least_known(&known, release) {
+        Some(name) => Ok(Some(name.copy(alloc)?)),
         None => Ok(None),
     }
 }

@@ -9,13 +9,12 @@ ghost use Rattle.jc_method.specs.Inheriting.{inherits_from};
 ghost use Rattle.jc_table.specs.Ids.{name_at};
 ghost use Rattle.jc_table.specs.Lookups.{IsAnswer, IsChoice};
 ghost use Rattle.jc_index.specs.steps.Choosing.{candidate_at};
-ghost use Rattle.jc_rows.specs.Rows.{lookup_choices};
 
 use crate::own::{any_candidate, candidate, declared};
+use crate::walk::{walk_interface_method, walk_method};
 use jc_facts::flags::is_interface;
 use jc_facts::key::Key;
 use jc_table::ids::{ClassId, Found};
-use jc_table::row::find;
 use jc_table::table::Table;
 
 /// The method of the key that the first class of the chain to declare it declares, whatever its
@@ -38,39 +37,36 @@ pub fn find_in_chain(table: &Table, class: ClassId, key: &Key) -> Option<Found>
     None
 }
 
-// What the class's row has for the key.
-fn in_row(table: &Table, class: ClassId, key: &Key) -> Option<Found>
-    requires class { class < size table.now }
-    requires loads { load_fault table.now (name_at table.now class) ≡ None }
-    ensures { IsChoice table.now result (lookup_choices table.now (name_at table.now class) key.now) }
-{
-    let _classes = table.count();
-    match table.key_number(key) {
-        Some(number) => find(table.method_row(class), number),
-        None => None,
-    }
-}
-
 /// A method of the key that a reference to the class may find (JVMS 5.4.3.3); none where there is
-/// none. The class has to load, and is no interface. It is looked up in the class's row.
+/// none. The class has to load, and is no interface. It is looked up in the class's row; where none
+/// is made, by a walk.
 pub fn find_method(table: &Table, class: ClassId, key: &Key) -> Option<Found>
     requires class { class < size table.now }
     requires loads { load_fault table.now (name_at table.now class) ≡ None }
     requires kind { IsFalse (is_interface_of table.now (name_at table.now class)) }
     ensures { IsChoice table.now result (method_choices table.now (name_at table.now class) key.now) }
 {
-    in_row(table, class, key)
+    let _classes = table.count();
+    match table.method_row(class) {
+        Some(row) => table.find_in(row, key),
+        None => walk_method(table, class, key),
+    }
 }
 
 /// A method of the key that a reference to the interface may find (JVMS 5.4.3.4); none where there
-/// is none. The interface has to load. It is looked up in the interface's row.
+/// is none. The interface has to load. It is looked up in the interface's row; where none is made, by
+/// a walk.
 pub fn find_interface_method(table: &Table, class: ClassId, key: &Key) -> Option<Found>
     requires class { class < size table.now }
     requires loads { load_fault table.now (name_at table.now class) ≡ None }
     requires kind { IsTrue (is_interface_of table.now (name_at table.now class)) }
     ensures { IsChoice table.now result (interface_choices table.now (name_at table.now class) key.now) }
 {
-    in_row(table, class, key)
+    let _classes = table.count();
+    match table.method_row(class) {
+        Some(row) => table.find_in(row, key),
+        None => walk_interface_method(table, class, key),
+    }
 }
 
 // Whether the class, where it is an interface, declares the key as an instance method that isn't

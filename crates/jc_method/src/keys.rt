@@ -27,7 +27,8 @@ pub fn method_keys(alloc: Global, table: &Table, class: ClassId) -> Result<Vec<K
 }
 
 /// The keys of the methods that a reference to the class or the interface may find, each once, in
-/// any order (JVMS 5.4.3.3, 5.4.3.4). The class has to load. They share their bytes.
+/// any order (JVMS 5.4.3.3, 5.4.3.4); where no row is made of it, those of all that are declared
+/// above it. The class has to load. A row's keys share their bytes.
 ///
 /// # Errors
 ///
@@ -42,7 +43,8 @@ pub fn found_method_keys(
     ensures { IfOk result (λ keys. HaveFound table.now (name_at table.now class) keys.items) }
 {
     let _classes = table.count();
-    let _keys = table.key_count();
-    let keys = keys_in(alloc, table, table.method_row(class))?;
-    Ok(keys)
+    match table.method_row(class) {
+        Some(row) => keys_in(alloc, table, row),
+        None => method_keys(alloc, table, class),
+    }
 }

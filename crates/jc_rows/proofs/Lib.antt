@@ -4,6 +4,7 @@ pub mod Searching
 pub mod Numbered
 pub mod KeyLists
 pub mod Numbers
+pub mod WithRows
 pub mod DeclaredKeys
 pub mod OwnMembers
 pub mod RowsAbove
@@ -15,3 +16,4 @@ pub mod Sources
 pub mod MethodsAbove
 pub mod Agreed
 pub mod Filling
+pub mod Marking

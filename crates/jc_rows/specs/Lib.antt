@@ -1,3 +1,4 @@
+pub mod WithRows
 pub mod Keys
 pub mod Rows
 pub mod AllRows

@@ -5,3 +5,4 @@ pub mod Fronts
 pub mod Settling
 pub mod Columns
 pub mod Agreeing
+pub mod Marking

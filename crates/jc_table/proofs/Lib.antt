@@ -1,6 +1,7 @@
 pub mod MemberKeys
 pub mod Rows
 pub mod RowKeys
+pub mod InRows
 pub use Rattle.jc_index.proofs.Numbers
 pub use Rattle.jc_index.proofs.Sides
 pub use Rattle.jc_index.proofs.Walking

@@ -1,6 +1,6 @@
 //! The classes of a side, found by their names.
 ghost use Rattle.std.specs.Prelude.{◌≡◌, ◌≤◌, ◌<◌, ◌+◌, ◌^◌, ◌||◌, length, map, option_map, slice_get, is_some, nat_lt, Some, None, IfOk, IfErr, IfSome, IsTrue};
-ghost use Rattle.std.specs.List.{All};
+ghost use Rattle.std.specs.List.{All, list_any};
 ghost use Rattle.jc_facts.specs.Options.{some_where};
 ghost use Rattle.jc_facts.specs.file.Valid.{IsValidClass, has_key};
 ghost use Rattle.jc_facts.specs.declared.key.Key.{Key};
@@ -15,9 +15,10 @@ ghost use Rattle.jc_index.specs.Ids.{name_at, names, id_of, superclass_of};
 ghost use Rattle.jc_index.specs.Mentioned.{is_package, mentions_front};
 ghost use Rattle.jc_index.specs.Root.{fault_of_root};
 ghost use Rattle.jc_index.specs.Sides.{IsSide, overlap_of};
-ghost use Rattle.jc_index.specs.Lookups.{declare_field, declare_method};
-ghost use Rattle.jc_rows.specs.Keys.{numbered_keys, IsNumber, AreDistinct};
-ghost use Rattle.jc_rows.specs.Rows.{IsFieldRow, IsMethodRow};
+ghost use Rattle.jc_rows.specs.Keys.{numbered_keys, declares_with_rows, IsNumber, AreDistinct};
+ghost use Rattle.jc_rows.specs.Rows.{IsFieldRow, IsMethodRow, Rises};
+ghost use Rattle.jc_rows.specs.WithRows.{has_rows};
+ghost use Rattle.jc_table.specs.RowKeys.{HasForKey};
 ghost use Rattle.jc_table.specs.Tables.{HasCause};
 
 use jc_base::name::Name;
@@ -26,12 +27,12 @@ use jc_facts::key::Key;
 use jc_facts::link_error::LinkError;
 use jc_index::faults::{Loading, load_all};
 use jc_index::hierarchy::Hierarchy;
-use jc_index::ids::ClassId;
+use jc_index::ids::{ClassId, Found};
 use jc_index::index::Index;
-use jc_index::mentioned::MentionedNames;
+use jc_index::mentioned::{MentionedNames, begins};
 use jc_index::overlap::first_overlap;
 use jc_index::root::{RootPart, root_fault};
-use jc_rows::row::RowItem;
+use jc_rows::row::{RowItem, find};
 use jc_rows::rows::Rows;
 use std::alloc::{AllocError, Global};
 use std::marker::Model;
@@ -59,7 +60,7 @@ pub struct Table {
     mentioned: MentionedNames,
     // For each class its load fault.
     faults: Vec<Option<LinkError>>,
-    // For each class that loads what the lookups from it find.
+    // For each class that has rows what the lookups from it find.
     rows: Rows,
 }
 
@@ -252,7 +253,7 @@ impl Table {
     pub fn begins(&self, front: &[u8]) -> bool
         ensures { result ≡ mentions_front self.now front.now }
     {
-        self.mentioned.mentioned.begins(front)
+        begins(self.hierarchy.index().classes(), front)
     }
 
     /// How many names its classes have, name above themselves or permit to extend them, each counted
@@ -261,7 +262,7 @@ impl Table {
         ensures count { result ≡ length (all_mentions (classes self.now)) }
         ensures small { result < 2 ^ 63 }
     {
-        self.mentioned.mentioned.count()
+        self.mentioned.count
     }
 
     /// The load faults of all classes, in byte order of their names; none where a class loads
@@ -280,21 +281,21 @@ impl Table {
         self.faults[id.number() as usize]
     }
 
-    /// How many different keys the fields and methods of its classes have.
+    /// How many different keys the fields and methods of its classes that have rows have.
     pub fn key_count(&self) -> usize
         ensures count { result ≡ length (numbered_keys self.now) }
         ensures distinct { AreDistinct (numbered_keys self.now) }
-        ensures known { (k : Key) → has_key k (numbered_keys self.now) ≡ (declare_field (classes self.now) k || declare_method (classes self.now) k) }
+        ensures known { (k : Key) → has_key k (numbered_keys self.now) ≡ list_any (declares_with_rows self.now k) (classes self.now) }
     {
         self.rows.keys.count()
     }
 
-    /// The number of the key, which is less than their count; none exactly where no class declares a
-    /// field or a method of the key. It takes no memory.
+    /// The number of the key, which is less than their count; none exactly where no class that has
+    /// rows declares a field or a method of the key. It takes no memory.
     pub fn key_number(&self, key: &Key) -> Option<usize>
         ensures value { IsNumber (numbered_keys self.now) key.now result }
         ensures below { IfSome result (λ n. n < length (numbered_keys self.now)) }
-        ensures known { is_some result ≡ (declare_field (classes self.now) key.now || declare_method (classes self.now) key.now) }
+        ensures known { is_some result ≡ list_any (declares_with_rows self.now key.now) (classes self.now) }
     {
         self.rows.keys.number(key)
     }
@@ -306,24 +307,57 @@ impl Table {
         self.rows.keys.at(number)
     }
 
+    // Whether the class has rows.
+    fn is_made(&self, id: ClassId) -> bool
+        requires { id < size self.now }
+        ensures { result ≡ has_rows self.now (name_at self.now id) }
+    {
+        self.rows.made[id.number() as usize]
+    }
+
     /// The fields that a reference to the class finds (JVMS 5.4.3.2): one entry for each key of which
     /// it finds one, and no other, in rising order of the keys' numbers. The class has to load.
-    pub fn field_row(&self, id: ClassId) -> &[RowItem]
+    ///
+    /// Rows are made of `java/lang/Object`, of the classes of the release that load, and of what
+    /// stands above these; of all classes, where one of the platform names one of the release above
+    /// itself. Of any other class there is none.
+    pub fn field_row(&self, id: ClassId) -> Option<&[RowItem]>
         requires class { id < size self.now }
         requires loads { load_fault self.now (name_at self.now id) ≡ None }
-        ensures { IsFieldRow self.now (name_at self.now id) result.now }
+        ensures row { IfSome result (λ row. IsFieldRow self.now (name_at self.now id) row.now) }
+        ensures made { is_some result ≡ has_rows self.now (name_at self.now id) }
     {
-        self.rows.fields[id.number() as usize].as_slice()
+        if self.is_made(id) {
+            Some(self.rows.fields[id.number() as usize].as_slice())
+        } else {
+            None
+        }
     }
 
     /// The methods that a reference to the class or the interface may find (JVMS 5.4.3.3, 5.4.3.4):
     /// one entry for each key of which it may find one, and no other, in rising order of the keys'
-    /// numbers. The class has to load.
-    pub fn method_row(&self, id: ClassId) -> &[RowItem]
+    /// numbers. The class has to load. There is one where there is one of fields.
+    pub fn method_row(&self, id: ClassId) -> Option<&[RowItem]>
         requires class { id < size self.now }
         requires loads { load_fault self.now (name_at self.now id) ≡ None }
-        ensures { IsMethodRow self.now (name_at self.now id) result.now }
+        ensures row { IfSome result (λ row. IsMethodRow self.now (name_at self.now id) row.now) }
+        ensures made { is_some result ≡ has_rows self.now (name_at self.now id) }
     {
-        self.rows.methods[id.number() as usize].as_slice()
+        if self.is_made(id) {
+            Some(self.rows.methods[id.number() as usize].as_slice())
+        } else {
+            None
+        }
+    }
+
+    /// What the row, one of its own, has for the key; none where the key has no number either.
+    pub fn find_in(&self, row: &[RowItem], key: &Key) -> Option<Found>
+        requires { Rises row.now }
+        ensures { HasForKey self.now row.now key.now result }
+    {
+        match self.key_number(key) {
+            Some(number) => find(row, number),
+            None => None,
+        }
     }
 }

@@ -9,5 +9,5 @@ all_faults-requires-clause-settled c = subst (IsSettled c.args.index.now) (sym c
 
 pub all_faults-requires-clause-orders : goal.all_faults-requires-clause-orders
 all_faults-requires-clause-orders c =
-    subst (λ (ss : List State). Orders c.args.index.now ss c.new-order.result.items) (sym c.deref_mut.ensures.value)
-    (subst (Orders c.args.index.now c.in_ok-states.states.items) (sym c.new-order.ensures.items) c.in_ok-states.ensures.orders)
+    subst (λ (ss : List State). Orders c.args.index.now ss c.in_ok-order.order.items) (sym c.deref_mut.ensures.value)
+    (subst (Orders c.args.index.now c.in_ok-states.states.items) (sym c.in_ok-order.ensures.items) c.in_ok-states.ensures.orders)

@@ -1,7 +1,7 @@
 use Rattle.std.proofs.Common.{◌<◌, ◌≡◌, [], get_or, length, false, List, sym, subst, arith}
 use Rattle.jc_facts.specs.Names.{Bytes, is_name_among}
 use Rattle.jc_index.specs.Ids.{names_of}
-use Rattle.jc_index.proofs.Halves.{order_length}
+use Rattle.jc_index.proofs.Places.{order_length}
 use Rattle.jc_index.proofs.NumberedNames.{new_name}
 use Rattle.jc_index.proofs.names.numbered.Goals as goal
 

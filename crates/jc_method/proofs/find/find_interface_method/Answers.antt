@@ -1,6 +1,12 @@
+use Rattle.std.proofs.Common.{sym}
 use Rattle.jc_index.specs.Ids.{name_at}
-use Rattle.jc_method.proofs.Rows.{of_interface}
+use Rattle.jc_method.proofs.Rows.{in_row, of_interface}
 use Rattle.jc_method.proofs.find.find_interface_method.Goals as goal
 
-pub returns : goal.returns
-returns c = of_interface c.args.table.now (name_at c.args.table.now c.args.class) c.args.key.now c.in_row.result c.requires.kind c.in_row.ensures
+pub find_in-requires : goal.find_in-requires
+find_in-requires c = c.in-Some.ensures.row.rises
+
+pub returns-in-Some : goal.returns-in-Some
+returns-in-Some c =
+    of_interface c.args.table.now (name_at c.args.table.now c.args.class) c.args.key.now c.find_in.result c.requires.kind
+    (in_row c.args.table.now c.count-classes.ensures.side (name_at c.args.table.now c.args.class) c.requires.loads (sym c.in-Some.ensures.made) c.in-Some.row.now c.in-Some.ensures.row c.args.key.now c.find_in.result c.find_in.ensures)

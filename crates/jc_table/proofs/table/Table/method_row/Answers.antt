@@ -1,4 +1,4 @@
-use Rattle.std.proofs.Common.{◌<◌, sym, subst, arith}
+use Rattle.std.proofs.Common.{◌<◌, sym, ◌∙◌, subst, arith}
 use Rattle.jc_facts.specs.world.World.{World, size}
 use Rattle.jc_rows.specs.Rows.{IsMethodRow}
 use Rattle.jc_table.proofs.Rows.{row_at}
@@ -11,7 +11,13 @@ index-requires c =
     let n = c.self.invariant.rows.methods.count in
     omega (arith, n, c.number.ensures)
 
-pub returns : goal.returns
-returns c =
-    row_at IsMethodRow c.self.inside.hierarchy c.args.self.now c.self.view_is c.self.inside.rows.methods.items c.self.invariant.rows.methods c.args.id c.number.result c.number.ensures c.requires.class c.requires.loads c.index.result.now
-    c.as_slice.result.now c.index.ensures c.as_slice.ensures
+pub returns-then-is_made-clause-row : goal.returns-then-is_made-clause-row
+returns-then-is_made-clause-row c =
+    row_at IsMethodRow c.self.inside.hierarchy c.args.self.now c.self.view_is c.self.inside.rows.methods.items c.self.invariant.rows.methods c.args.id c.number.result c.number.ensures c.requires.class c.requires.loads
+    (sym c.is_made.ensures ∙ c.if-is_made.true) c.index.result.now c.as_slice.result.now c.index.ensures c.as_slice.ensures
+
+pub returns-then-is_made-clause-made : goal.returns-then-is_made-clause-made
+returns-then-is_made-clause-made c = sym c.if-is_made.true ∙ c.is_made.ensures
+
+pub returns-else-is_made-clause-made : goal.returns-else-is_made-clause-made
+returns-else-is_made-clause-made c = sym c.if-is_made.false ∙ c.is_made.ensures

@@ -1,7 +1,0 @@
-use Rattle.std.proofs.Common.{◌≡◌, take}
-use Rattle.std.specs.List.{flat_map}
-use Rattle.jc_facts.specs.world.Mentioned.{mentions}
-use Rattle.jc_index.proofs.mentioned.all_mentions.Given as goal
-
-abbrev pub invariant-loop-class : goal.invariant-loop-class
-invariant-loop-class l = l.list.items ≡ flat_map mentions (take l.class-index l.classes)

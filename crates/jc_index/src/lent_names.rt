@@ -1,0 +1,63 @@
+//! Names of classes that are looked for by their hashes.
+ghost use Rattle.std.specs.Prelude.{◌≡◌, ◌∷◌, [], is_some, IfOk, OnOk};
+ghost use Rattle.jc_facts.specs.Names.{Bytes, is_name_among};
+ghost use Rattle.jc_facts.specs.world.World.{class_named};
+ghost use Rattle.jc_index.specs.steps.Adding.{Adds};
+
+use indexmap::IndexSet;
+use jc_facts::class_facts::ClassFacts;
+use std::alloc::{AllocError, Global};
+use std::marker::Model;
+
+/// Names that differ from each other, which their classes lend. A contract sees them as a list.
+#[derive(Drop)]
+pub(crate) struct LentNames<'a> {
+    set: IndexSet<&'a [u8]>,
+}
+
+impl<'a> Model for LentNames<'a> {
+    ghost use Rattle.std.specs.Prelude.{List, map};
+    ghost use Rattle.jc_facts.specs.Names.{Bytes};
+
+    ghost Value = { List Bytes };
+
+    ghost view = { λ n. map (λ x. x.now) n.set.keys };
+}
+
+impl<'a> LentNames<'a> {
+    // No names, with room for so many.
+    fn with_capacity(alloc: Global, count: usize) -> Result<LentNames<'a>, AllocError>
+        ensures { IfOk result (λ names. names ≡ []) }
+    {
+        let set = IndexSet::with_capacity(alloc, count)?;
+        Ok(LentNames { set })
+    }
+
+    // Adds the name, where it isn't one of them.
+    fn put(&mut self, name: &'a [u8]) -> Result<(), AllocError>
+        ensures { OnOk result (Adds self.old self.new (name.now ∷ [])) }
+    {
+        match self.set.insert(name) {
+            Ok(_) => Ok(()),
+            Err(_) => Err(AllocError),
+        }
+    }
+
+    /// Whether the name is one of them. It takes no memory.
+    pub fn has(&self, name: &[u8]) -> bool
+        ensures { result ≡ is_name_among self.now name.now }
+    {
+        self.set.contains(name)
+    }
+}
+
+/// The names of the classes.
+pub(crate) fn lent_names(alloc: Global, classes: &[ClassFacts]) -> Result<LentNames<'_>, AllocError>
+    ensures { IfOk result (λ names. (x : Bytes) → is_name_among names x ≡ is_some (class_named classes.now x)) }
+{
+    let mut names = LentNames::with_capacity(alloc, classes.len())?;
+    for class in classes {
+        names.put(class.name.as_bytes())?;
+    }
+    Ok(names)
+}
