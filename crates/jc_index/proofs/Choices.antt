@@ -161,7 +161,7 @@ module _ (W : World) (x : Bytes) (loads : load_fault W x ≡ None) where
       pub above : is_superinterface W x (name_at W number) ≡ true
       pub candidate : candidate_at W k number ≡ Some (record { owner = number; flags = m.member.flags })
 
-    one_of : (m : DeclaredMember) → Contains (declared_by k (superinterfaces W x)) m → IsOne m
+    pub one_of : (m : DeclaredMember) → Contains (declared_by k (superinterfaces W x)) m → IsOne m
     one_of m h =
         let d : IsDeclaredIn k (superinterfaces W x) m = in_declared k (superinterfaces W x) m h in
         let n : IsNumbered W x d.class = numbered d.class d.is_in in
@@ -175,7 +175,7 @@ module _ (W : World) (x : Bytes) (loads : load_fault W x ≡ None) where
       pub flags : r.flags ≡ method.member.flags
       pub number : r.owner ≡ n
 
-    listed : (n : ℕ) (r : Found) → is_superinterface W x (name_at W n) ≡ true → candidate_at W k n ≡ Some r → IsListed n r
+    pub listed : (n : ℕ) (r : Found) → is_superinterface W x (name_at W n) ≡ true → candidate_at W k n ≡ Some r → IsListed n r
     listed n r h e =
         let c : IsCandidate W k n r = candidate_is W k n r e in
         let m : DeclaredMember = record { owner = c.class.name; member = c.member } in
@@ -187,11 +187,11 @@ module _ (W : World) (x : Bytes) (loads : load_fault W x ≡ None) where
           number = ap (λ (f : Found). f.owner) (sym c.is);
         }
 
-    listed_found : (n : ℕ) (r : Found) → n < size W → (l : IsListed n r) → IsFound W r l.method
+    pub listed_found : (n : ℕ) (r : Found) → n < size W → (l : IsListed n r) → IsFound W r l.method
     listed_found n r b l = record { below = subst (λ j. j < size W) (sym l.number) b; owner = ap (name_at W) l.number ∙ l.owner; flags = l.flags }
 
     -- two methods of the list whose owners are one are one
-    only_one : (m n : DeclaredMember) → Contains (declared_by k (superinterfaces W x)) m → Contains (declared_by k (superinterfaces W x)) n → m.owner ≡ n.owner → m ≡ n
+    pub only_one : (m n : DeclaredMember) → Contains (declared_by k (superinterfaces W x)) m → Contains (declared_by k (superinterfaces W x)) n → m.owner ≡ n.owner → m ≡ n
     only_one m n hm hn e = sym c.is ∙ whole ∙ d.is
       where
         c : IsDeclaredIn k (superinterfaces W x) m
@@ -250,11 +250,11 @@ module _ (W : World) (x : Bytes) (loads : load_fault W x ≡ None) where
 
     -- ---- those that are chosen before others
 
-    abbrev best : List DeclaredMember
+    abbrev pub best : List DeclaredMember
     best = filter is_concrete (filter (is_maximal W (declared_by k (superinterfaces W x))) (declared_by k (superinterfaces W x)))
 
     -- a method of the list that is chosen before others
-    best_one : (m : DeclaredMember) → Contains best m → (Contains (declared_by k (superinterfaces W x)) m) × (abstract_flag m.member.flags ≡ false) × (has_rival_below W x k m.owner ≡ false)
+    pub best_one : (m : DeclaredMember) → Contains best m → (Contains (declared_by k (superinterfaces W x)) m) × (abstract_flag m.member.flags ≡ false) × (has_rival_below W x k m.owner ≡ false)
     best_one m h =
         let a = in_filter is_concrete (filter (is_maximal W (declared_by k (superinterfaces W x))) (declared_by k (superinterfaces W x))) m h in
         let b = in_filter (is_maximal W (declared_by k (superinterfaces W x))) (declared_by k (superinterfaces W x)) m a.0 in
@@ -264,7 +264,7 @@ module _ (W : World) (x : Bytes) (loads : load_fault W x ≡ None) where
         not_true true e = absurd (let clash : false ≡ true = e in cc)
         not_true false e = refl
 
-    one_best : (m : DeclaredMember) → Contains (declared_by k (superinterfaces W x)) m → abstract_flag m.member.flags ≡ false → has_rival_below W x k m.owner ≡ false → Contains best m
+    pub one_best : (m : DeclaredMember) → Contains (declared_by k (superinterfaces W x)) m → abstract_flag m.member.flags ≡ false → has_rival_below W x k m.owner ≡ false → Contains best m
     one_best m h a r = filter_in is_concrete (filter (is_maximal W (declared_by k (superinterfaces W x))) (declared_by k (superinterfaces W x))) m
         (filter_in (is_maximal W (declared_by k (superinterfaces W x))) (declared_by k (superinterfaces W x)) m h (ap not r)) (ap not a)
 
@@ -277,7 +277,7 @@ module _ (W : World) (x : Bytes) (loads : load_fault W x ≡ None) where
         let z : None ≡ Some (record { owner = i.number; flags = m.member.flags }) = sym (h i.number i.below i.above) ∙ q ∙ ap (λ v. cond v None (Some (record { owner = i.number; flags = m.member.flags }))) s in cc)
 
     -- the number of one that is chosen before others
-    best_is : (n : ℕ) (r : Found) → best_at W x k n ≡ Some r → (candidate_at W k n ≡ Some r) × (abstract_flag r.flags ≡ false) × (has_rival_below W x k (name_at W r.owner) ≡ false)
+    pub best_is : (n : ℕ) (r : Found) → best_at W x k n ≡ Some r → (candidate_at W k n ≡ Some r) × (abstract_flag r.flags ≡ false) × (has_rival_below W x k (name_at W r.owner) ≡ false)
     best_is n r e = go (candidate_at W k n) refl e
       where
         at : (f : Found) (b : Bool) → candidate_at W k n ≡ Some f → (abstract_flag f.flags || has_rival_below W x k (name_at W f.owner)) ≡ b → cond b None (Some f) ≡ Some r
@@ -293,7 +293,7 @@ module _ (W : World) (x : Bytes) (loads : load_fault W x ≡ None) where
         go (Some f) q e = at f (abstract_flag f.flags || has_rival_below W x k (name_at W f.owner)) q refl e
 
     -- one of a list is a choice of it or of all
-    only_choice : (r : Found) (m : DeclaredMember) (ms : List DeclaredMember) → Contains ms m → ((n : DeclaredMember) → Contains ms n → Contains (declared_by k (superinterfaces W x)) n) → IsFound W r m
+    pub only_choice : (r : Found) (m : DeclaredMember) (ms : List DeclaredMember) → Contains ms m → ((n : DeclaredMember) → Contains ms n → Contains (declared_by k (superinterfaces W x)) n) → IsFound W r m
         → IsChoice W (Some r) (only_or ms (declared_by k (superinterfaces W x)))
     unfolding only_or
     only_choice r m [] h sub f = absurd (none m h)

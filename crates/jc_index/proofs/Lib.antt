@@ -22,6 +22,8 @@ pub mod Reached
 pub mod FinalKeys
 pub mod Walks
 pub mod Choices
+pub mod Strictly
+pub mod Picked
 pub mod Ordering
 pub mod Undeclared
 pub mod NumberedNames

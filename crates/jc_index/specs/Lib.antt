@@ -5,6 +5,7 @@ pub mod Mentioned
 pub mod HierarchyFields
 pub mod Above
 pub mod Lookups
+pub mod Picks
 pub mod Kinds
 pub mod steps
 pub mod MentionedNames

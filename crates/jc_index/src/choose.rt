@@ -7,7 +7,8 @@ ghost use Rattle.jc_facts.specs.world.Lookup.{superinterface_choices};
 ghost use Rattle.jc_facts.specs.world.Loading.{load_fault};
 ghost use Rattle.jc_index.specs.Ids.{name_at};
 ghost use Rattle.jc_index.specs.Lookups.{IsChoice};
-ghost use Rattle.jc_index.specs.steps.Choosing.{candidate_at, rival_at, best_at, has_rival_below, first_at, FindsAbove};
+ghost use Rattle.jc_index.specs.Picks.{Picks};
+ghost use Rattle.jc_index.specs.steps.Choosing.{candidate_at, rival_at, best_at, maximal_at, has_rival_below, first_at, FindsAbove};
 
 use crate::hierarchy::Hierarchy;
 use crate::ids::{ClassId, Found};
@@ -60,13 +61,16 @@ fn rival(hierarchy: &Hierarchy, class: ClassId, key: &Key, of: ClassId) -> Optio
     requires above { of < size hierarchy.now }
     ensures { result ≡ rival_at hierarchy.now key.now of class }
 {
+    let Some(found) = candidate(hierarchy, class, key) else {
+        return None;
+    };
     if class == of {
         return None;
     }
     if !hierarchy.is_below(class, of) {
         return None;
     }
-    candidate(hierarchy, class, key)
+    Some(found)
 }
 
 // The first of these.
@@ -173,16 +177,73 @@ fn any_best(hierarchy: &Hierarchy, class: ClassId, key: &Key) -> Option<Found>
     None
 }
 
-/// What the superinterfaces give: a maximally specific method that isn't abstract, else any that is
-/// neither private nor static (JVMS 5.4.3.3). Where there are several of the first kind, each is one
-/// of the second. The class has to load.
+// ---- those that are maximally specific
+
+// The candidate of the class, where it is maximally specific among those of the superinterfaces of
+// `class`.
+fn maximal(hierarchy: &Hierarchy, class: ClassId, of: ClassId, key: &Key) -> Option<Found>
+    requires class { class < size hierarchy.now }
+    requires above { of < size hierarchy.now }
+    requires loads { load_fault hierarchy.now (name_at hierarchy.now class) ≡ None }
+    ensures { result ≡ maximal_at hierarchy.now (name_at hierarchy.now class) key.now of }
+{
+    let Some(found) = candidate(hierarchy, of, key) else {
+        return None;
+    };
+    if has_rival(hierarchy, class, key, of) {
+        return None;
+    }
+    Some(found)
+}
+
+// The first of these.
+fn maximal_among(hierarchy: &Hierarchy, class: ClassId, ids: &[ClassId], key: &Key) -> Option<Found>
+    requires class { class < size hierarchy.now }
+    requires within { All (λ id. id < size hierarchy.now) ids.now }
+    requires loads { load_fault hierarchy.now (name_at hierarchy.now class) ≡ None }
+    ensures { result ≡ first_at (maximal_at hierarchy.now (name_at hierarchy.now class) key.now) ids.now }
+{
+    for id in ids {
+        match maximal(hierarchy, class, *id, key) {
+            Some(found) => return Some(found),
+            None => {}
+        }
+    }
+    None
+}
+
+// A maximally specific method of the key among those of the superinterfaces.
+fn any_maximal(hierarchy: &Hierarchy, class: ClassId, key: &Key) -> Option<Found>
+    requires class { class < size hierarchy.now }
+    requires loads { load_fault hierarchy.now (name_at hierarchy.now class) ≡ None }
+    ensures { FindsAbove hierarchy.now (name_at hierarchy.now class) (maximal_at hierarchy.now (name_at hierarchy.now class) key.now) result }
+{
+    let mut at = class;
+    for _ in 0..hierarchy.count() {
+        match maximal_among(hierarchy, class, hierarchy.interfaces(at), key) {
+            Some(found) => return Some(found),
+            None => {}
+        }
+        at = match hierarchy.superclass(at) {
+            Some(above) => above,
+            None => return None,
+        };
+    }
+    None
+}
+
+/// What the superinterfaces give: a maximally specific method that isn't abstract, else one that is,
+/// of those that are neither private nor static (JVMS 5.4.3.3). Where there are several of the first
+/// kind, each is one of the second. The class has to load.
 pub fn find_above(hierarchy: &Hierarchy, class: ClassId, key: &Key) -> Option<Found>
     requires class { class < size hierarchy.now }
     requires loads { load_fault hierarchy.now (name_at hierarchy.now class) ≡ None }
-    ensures { IsChoice hierarchy.now result (superinterface_choices hierarchy.now (name_at hierarchy.now class) key.now) }
+    ensures choice { IsChoice hierarchy.now result (superinterface_choices hierarchy.now (name_at hierarchy.now class) key.now) }
+    ensures pick { Picks hierarchy.now (name_at hierarchy.now class) key.now result }
 {
+    let _classes = hierarchy.count();
     match any_best(hierarchy, class, key) {
         Some(found) => Some(found),
-        None => any_candidate(hierarchy, class, key),
+        None => any_maximal(hierarchy, class, key),
     }
 }

@@ -13,5 +13,7 @@ pub mod Fronts
 pub mod Settling
 pub mod Unfound
 pub mod Sources
+pub mod MethodsAbove
+pub mod Agreed
 pub mod Filling
 pub mod Marking

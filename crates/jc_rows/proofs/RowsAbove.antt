@@ -7,7 +7,7 @@ use Rattle.jc_facts.specs.Names.{Bytes}
 use Rattle.jc_facts.specs.Options.{or_else, first_some, and_then}
 use Rattle.jc_facts.specs.world.Search.{supers, supers_of}
 use Rattle.jc_facts.specs.world.World.{World}
-use Rattle.jc_facts.proofs.Options.{or_else-both, or_else-assoc, or_else-last}
+use Rattle.jc_facts.proofs.Options.{or_else-both, or_else-assoc, or_else-last, none_or_else, some_or_else}
 use Rattle.jc_lemmas.proofs.Listed.{EachOf}
 use Rattle.jc_worlds.proofs.Locality.{of_interfaces}
 use Rattle.jc_index.specs.Ids.{id_of}
@@ -85,3 +85,16 @@ module _ (W : World) (rows : List (List RowItem)) (n : ℕ) where
   none_above c h =
       or_else-both (first_entry W rows c.interfaces n) (super_entry W rows c.superclass n)
       (no_first c.interfaces (of_interfaces (λ s. entry (row_named W rows s) n ≡ None) c.superclass c.interfaces h)) (no_super c.superclass c.interfaces h)
+
+-- ---- which row is the first that has an entry
+
+module _ (W : World) (rows : List (List RowItem)) (n : ℕ) (xs : List Bytes) (at : ℕ) (x : Bytes) (l : at < length xs) (e : x ≡ get_or xs at x) where
+  first-step : first_entry W rows (drop at xs) n ≡ or_else (entry (row_named W rows x) n) (first_entry W rows (drop (at + 1) xs) n)
+  unfolding first_some
+  first-step = ap (λ (ys : List Bytes). first_entry W rows ys n) (drop_more xs at x l ∙ ap (λ (z : Bytes). z ∷ drop (at + 1) xs) (sym e))
+
+  pub first-here : (f : Found) → Some f ≡ entry (row_named W rows x) n → first_entry W rows (drop at xs) n ≡ first_entry W rows xs n → Some f ≡ first_entry W rows xs n
+  first-here f h i = sym (first-step ∙ ap (λ (o : Option Found). or_else o (first_entry W rows (drop (at + 1) xs) n)) (sym h) ∙ some_or_else f (first_entry W rows (drop (at + 1) xs) n)) ∙ i
+
+  pub first-further : None ≡ entry (row_named W rows x) n → first_entry W rows (drop at xs) n ≡ first_entry W rows xs n → first_entry W rows (drop (at + 1) xs) n ≡ first_entry W rows xs n
+  first-further h i = sym (first-step ∙ ap (λ (o : Option Found). or_else o (first_entry W rows (drop (at + 1) xs) n)) (sym h) ∙ none_or_else (first_entry W rows (drop (at + 1) xs) n)) ∙ i

@@ -9,14 +9,17 @@ use Rattle.jc_facts.specs.Names.{Bytes}
 use Rattle.jc_facts.specs.Options.{or_else}
 use Rattle.jc_facts.proofs.Options.{or_else-none, or_else-both, or_else-last, none_or_else}
 use Rattle.jc_facts.specs.world.Assignment.{is_interface_of}
+use Rattle.jc_facts.specs.world.Loading.{load_fault}
 use Rattle.jc_facts.specs.world.World.{World, DeclaredMember}
 use Rattle.jc_facts.specs.world.Lookup.{superinterface_choices, or_choices, method_choices, interface_choices}
 use Rattle.jc_index.specs.Lookups.{IsAnswer, IsChoice}
+use Rattle.jc_index.specs.Picks.{Picks}
 use Rattle.jc_index.specs.declared.ids.Found.{Found}
-use Rattle.jc_index.proofs.Lookups.{choice_here, choice_next}
+use Rattle.jc_index.proofs.Lookups.{choice_here}
+use Rattle.jc_index.proofs.Picked.{pick_choice}
 use Rattle.jc_rows.specs.declared.row.RowItem.{RowItem}
 use Rattle.jc_rows.specs.Keys.{numbered_keys}
-use Rattle.jc_rows.specs.Rows.{Rises, RisesFrom, entry, IsRow, IsMethodRow, choices_by, lookup_choices}
+use Rattle.jc_rows.specs.Rows.{Rises, RisesFrom, entry, IsRow, IsMethodEntry, IsMethodRow, choices_by, lookup_choices}
 use Rattle.jc_rows.specs.steps.Fronts.{front_by, front_method, item_list}
 use Rattle.jc_rows.specs.steps.Settling.{Settles, IsSource, IsSettling}
 use Rattle.jc_rows.proofs.Entries.{entry-append, rises-without, list_entry, list_here}
@@ -38,17 +41,25 @@ by_front W x k = go (is_interface_of W x)
     go true = of_interface W x k
     go false = of_class W x k
 
--- where nothing can be found
-pub nothing : (W : World) (x : Bytes) (k : Key) → front_method W x k ≡ None → superinterface_choices W x k ≡ [] → IsChoice W None (lookup_choices W x k)
+-- what is picked where the front finds nothing
+picked : (W : World) (x : Bytes) (k : Key) (o : Option Found) → load_fault W x ≡ None → front_method W x k ≡ None → Picks W x k o → IsMethodEntry W x k o
 unfolding or_choices
-nothing W x k f s = by_front W x k ∙ ap (λ (o : Option DeclaredMember). or_choices o (superinterface_choices W x k)) f ∙ s
+picked W x k o l f p = record {
+  choice = subst (IsChoice W o) (sym (by_front W x k ∙ ap (λ (p : Option DeclaredMember). or_choices p (superinterface_choices W x k)) f)) (pick_choice W x l k o p);
+  pick = λ q. p;
+}
 
-pub chosen : (W : World) (x : Bytes) (front : List RowItem) (n : ℕ) (k : Key) (result : Option Found) → IsRow W (front_method W x) front → slice_get (numbered_keys W) n ≡ Some k → Settles W x k (entry front n) result → IsChoice W result (lookup_choices W x k)
-chosen W x front n k result r e s = subst (IsChoice W result) (sym (by_front W x k)) (go (entry front n) (r.found n k e) s)
+pub chosen : (W : World) (x : Bytes) → load_fault W x ≡ None → (front : List RowItem) (n : ℕ) (k : Key) (result : Option Found) → IsRow W (front_method W x) front → slice_get (numbered_keys W) n ≡ Some k → Settles W x k (entry front n) result → IsMethodEntry W x k result
+chosen W x l front n k result r e s = go (entry front n) (front_method W x k) refl (r.found n k e) s
   where
-    go : (o : Option Found) → IsAnswer W o (front_method W x k) → Settles W x k o result → IsChoice W result (or_choices (front_method W x k) (superinterface_choices W x k))
-    go None a s = choice_next W result (front_method W x k) (superinterface_choices W x k) a s
-    go (Some f) a s = subst (λ (o : Option Found). IsChoice W o (or_choices (front_method W x k) (superinterface_choices W x k))) (sym s) (choice_here W f (front_method W x k) (superinterface_choices W x k) a)
+    go : (o : Option Found) (p : Option DeclaredMember) → front_method W x k ≡ p → IsAnswer W o p → Settles W x k o result → IsMethodEntry W x k result
+    go None None q a s = picked W x k result l q s
+    go None (Some m) q a s = absurd a
+    go (Some f) None q a s = absurd a
+    go (Some f) (Some m) q a s = subst (IsMethodEntry W x k) (sym s) (record {
+      choice = subst (IsChoice W (Some f)) (sym (by_front W x k)) (choice_here W f (front_method W x k) (superinterface_choices W x k) (subst (IsAnswer W (Some f)) (sym q) a));
+      pick = λ z. absurd (let clash : None ≡ Some m = sym z ∙ q in cc);
+    })
 
 -- ---- lists
 
@@ -71,12 +82,12 @@ not_here false f o e = (refl, e)
 
 -- ---- settling
 
-module _ (W : World) (x : Bytes) where
+module _ (W : World) (x : Bytes) (loads : load_fault W x ≡ None) where
   pub starts : (all done : List RowItem) → done ≡ [] → IsSource W x all → IsSettling W x all done
   starts all done e s = subst (IsSettling W x all) (sym e) (record {
     rises = s.rises;
     within = s.within;
-    right = λ n k q h. let p = s.complete n k q h in nothing W x k p.0 p.1;
+    right = λ n k q h. let p = s.complete n k q h in picked W x k None loads p.0 p.1;
   })
 
   module _ (i : RowItem) (is done : List RowItem) (w : IsSettling W x (i ∷ is) done) where
@@ -106,19 +117,19 @@ module _ (W : World) (x : Bytes) where
           entry-append (done ++ item_list i.key o) is n
           ∙ or_else-both (entry (done ++ item_list i.key o) n) (entry is n) (entry-append done (item_list i.key o) n ∙ or_else-both (entry done n) (entry (item_list i.key o) n) ((or_else-none (entry done n) (entry (i ∷ is) n) a).0) (list_entry i.key n o b.0)) b.1
 
-      right_on : (n : ℕ) (k : Key) → slice_get (numbered_keys W) n ≡ Some k → entry is n ≡ None → IsChoice W (entry (done ++ item_list i.key o) n) (lookup_choices W x k)
-      right_on n k e h = subst (λ (p : Option Found). IsChoice W p (lookup_choices W x k)) (sym (entry-append done (item_list i.key o) n)) (go (nat_eq i.key n) refl)
+      right_on : (n : ℕ) (k : Key) → slice_get (numbered_keys W) n ≡ Some k → entry is n ≡ None → IsMethodEntry W x k (entry (done ++ item_list i.key o) n)
+      right_on n k e h = subst (IsMethodEntry W x k) (sym (entry-append done (item_list i.key o) n)) (go (nat_eq i.key n) refl)
         where
-          go : (b : Bool) → nat_eq i.key n ≡ b → IsChoice W (or_else (entry done n) (entry (item_list i.key o) n)) (lookup_choices W x k)
+          go : (b : Bool) → nat_eq i.key n ≡ b → IsMethodEntry W x k (or_else (entry done n) (entry (item_list i.key o) n))
           go true q =
               let z : i.key ≡ n = eqb-true i.key n q in
               let none : entry done n ≡ None = ap (entry done) (sym z) ∙ (before 0 done i is w.rises).1 in
               let there : slice_get (numbered_keys W) i.key ≡ Some k = ap (slice_get (numbered_keys W)) z ∙ e in
-              subst (λ (p : Option Found). IsChoice W p (lookup_choices W x k))
+              subst (IsMethodEntry W x k)
               (sym (ap (λ (p : Option Found). or_else p (entry (item_list i.key o) n)) none ∙ none_or_else (entry (item_list i.key o) n) ∙ list_here i.key n o q))
-              (chosen W x front i.key k o r there (s k there))
+              (chosen W x loads front i.key k o r there (s k there))
           go false q =
-              subst (λ (p : Option Found). IsChoice W p (lookup_choices W x k)) (sym (ap (or_else (entry done n)) (list_entry i.key n o q) ∙ or_else-last (entry done n)))
+              subst (IsMethodEntry W x k) (sym (ap (or_else (entry done n)) (list_entry i.key n o q) ∙ or_else-last (entry done n)))
               (w.right n k e (ap (λ (b : Bool). cond b (Some i.found) (entry is n)) q ∙ h))
 
       pub goes : IsSettling W x is (done ++ item_list i.key o)
@@ -127,6 +138,7 @@ module _ (W : World) (x : Bytes) where
   pub ends : (done : List RowItem) → IsSettling W x [] done → IsMethodRow W x done
   ends done w = record {
     rises = subst Rises (append-nil done) w.rises;
-    found = λ n k e. w.right n k e refl;
+    found = λ n k e. (w.right n k e refl).choice;
+    picked = λ n k e. (w.right n k e refl).pick;
     within = λ n e. ap (λ (r : List RowItem). entry r n) (sym (append-nil done)) ∙ w.within n e;
   }

@@ -21,7 +21,7 @@ use Rattle.jc_rows.specs.steps.Fronts.{front_method}
 use Rattle.jc_rows.specs.steps.Gathering.{row_named, first_entry, super_entry, HasAbove, Gathers}
 use Rattle.jc_rows.specs.steps.Settling.{IsSource}
 use Rattle.jc_rows.proofs.RowsAbove.{none_above}
-use Rattle.jc_rows.proofs.Unfound.{none_given}
+use Rattle.jc_rows.proofs.Unfound.{none_declared, none_given}
 
 module _ (W : World) (rows : List (List RowItem)) where
   abbrev pub IsThere : Bytes → Type 0
@@ -52,6 +52,6 @@ module _ (W : World) (rows : List (List RowItem)) where
             let p = or_else-none (entry front n) (or_else (first_entry W rows c.interfaces n) (super_entry W rows c.superclass n)) (sym (g.entries n) ∙ q) in
             let b = or_else-none (first_entry W rows c.interfaces n) (super_entry W rows c.superclass n) p.1 in (
               answer_none W (front_method W x k) (subst (λ (o : Option Found). IsAnswer W o (front_method W x k)) p.0 (r.found n k e)),
-              none_given W k x c f h (all n k e c.superclass c.interfaces there b.0 b.1),
+              none_declared W k x (none_given W k x c f h (all n k e c.superclass c.interfaces there b.0 b.1)),
             );
       }

@@ -6,19 +6,18 @@ use Rattle.std.proofs.lemmas.List.{append_assoc}
 use Rattle.jc_facts.specs.declared.class_facts.ClassFacts.{ClassFacts}
 use Rattle.jc_facts.specs.declared.key.Key.{Key}
 use Rattle.jc_facts.specs.Names.{Bytes, same}
-use Rattle.jc_facts.specs.Flags.{interface_flag}
-use Rattle.jc_facts.specs.Options.{or_else, and_then, some_and}
+use Rattle.jc_facts.specs.Options.{or_else, and_then}
 use Rattle.jc_facts.specs.world.Assignment.{is_interface_of}
 use Rattle.jc_facts.specs.world.Search.{supers, supers_of}
 use Rattle.jc_facts.specs.world.World.{World, find_class, own_method_of, declared_method, DeclaredMember, found_in}
 use Rattle.jc_facts.specs.world.Hierarchy.{chain, of_super, each, with_interfaces, interfaces_of, superinterfaces}
-use Rattle.jc_facts.specs.world.Loading.{load_fault, fault_of_interface}
+use Rattle.jc_facts.specs.world.Loading.{load_fault}
 use Rattle.jc_facts.specs.world.Lookup.{declared_by, if_inheritable, is_maximal, is_concrete, only_or, superinterface_choices, public_method_of_object, or_choices}
-use Rattle.jc_lemmas.proofs.Listed.{EachOf, EachOf-both}
-use Rattle.jc_worlds.proofs.Above.{named_interface, named_interfaces}
-use Rattle.jc_worlds.proofs.Loaded.{loads-parts, loads-found}
+use Rattle.jc_lemmas.proofs.Listed.{EachOf}
+use Rattle.jc_worlds.proofs.Loaded.{loads-found}
 use Rattle.jc_worlds.proofs.Locality.{of_interfaces}
 use Rattle.jc_worlds.proofs.Unrolled.{with_interfaces-unroll, superinterfaces-unroll}
+use Rattle.jc_index.proofs.Strictly.{named_good}
 use Rattle.jc_rows.specs.Rows.{lookup_choices}
 use Rattle.jc_rows.specs.steps.Fronts.{front_by, front_method}
 use Rattle.jc_rows.proofs.Settling.{by_front}
@@ -32,7 +31,7 @@ both_empty (x ∷ xs) ys e = absurd (let c : x ∷ (xs ++ ys) ≡ [] = e in cc)
 join_empty : {A : Type 0} (xs ys : List A) → xs ≡ [] → ys ≡ [] → xs ++ ys ≡ []
 join_empty xs ys e f = rw (e, f) refl
 
-declared-append : (k : Key) (xs ys : List ClassFacts) → declared_by k (xs ++ ys) ≡ declared_by k xs ++ declared_by k ys
+pub declared-append : (k : Key) (xs ys : List ClassFacts) → declared_by k (xs ++ ys) ≡ declared_by k xs ++ declared_by k ys
 unfolding declared_by
 declared-append k [] ys = refl
 declared-append k (x ∷ xs) ys = ap (λ (ms : List DeclaredMember). if_inheritable (found_in x (own_method_of x k)) ++ ms) (declared-append k xs ys) ∙ sym (append_assoc (if_inheritable (found_in x (own_method_of x k))) (declared_by k xs) (declared_by k ys))
@@ -91,15 +90,8 @@ module _ (W : World) (k : Key) where
       go None f h = (f, first (front_method W y k) (superinterface_choices W y k) f h)
       go (Some m) f h = absurd (second (front_method W y k) (superinterface_choices W y k) m f h)
 
-  -- the interfaces that a class names
-  kinds : (y : Bytes) (c : ClassFacts) → find_class W y ≡ Some c → load_fault W y ≡ None → EachOf (λ z. (load_fault W z ≡ None) × (is_interface_of W z ≡ true)) c.interfaces
-  kinds y c f h = EachOf-both kind c.interfaces (named_interfaces W c (loads-parts W y c f h).1) (of_interfaces (λ s. load_fault W s ≡ None) c.superclass c.interfaces (loads-parts W y c f h).0)
-    where
-      kind : (z : Bytes) → fault_of_interface W c z ≡ None → load_fault W z ≡ None → (load_fault W z ≡ None) × (is_interface_of W z ≡ true)
-      kind z g l = let t = loads-found W z l in (l, ap (some_and (λ d. interface_flag d.flags)) t.1 ∙ named_interface W c t.0 z g t.1)
-
   -- an interface from which nothing is found leads to no method
-  none_below : (i : Bytes) → load_fault W i ≡ None → is_interface_of W i ≡ true → lookup_choices W i k ≡ [] → declared_by k (with_interfaces W i) ≡ []
+  pub none_below : (i : Bytes) → load_fault W i ≡ None → is_interface_of W i ≡ true → lookup_choices W i k ≡ [] → declared_by k (with_interfaces W i) ≡ []
   unfolding declared_by
   none_below i l q e =
       let t = loads-found W i l in
@@ -132,4 +124,4 @@ module _ (W : World) (k : Key) where
       ap (declared_by k) (superinterfaces-unroll W y c f h)
       ∙ declared-append k (each (with_interfaces W) c.interfaces) (interfaces_of W (of_super (chain W) c.superclass))
       ∙ join_empty (declared_by k (each (with_interfaces W) c.interfaces)) (declared_by k (interfaces_of W (of_super (chain W) c.superclass)))
-      (none_each c.interfaces (kinds y c f h) (of_interfaces (λ z. lookup_choices W z k ≡ []) c.superclass c.interfaces e)) (none_above c.superclass c.interfaces e))
+      (none_each c.interfaces (named_good W y c f h) (of_interfaces (λ z. lookup_choices W z k ≡ []) c.superclass c.interfaces e)) (none_above c.superclass c.interfaces e))

@@ -9,9 +9,11 @@ use Rattle.jc_facts.specs.world.World.{World, DeclaredMember}
 use Rattle.jc_facts.specs.world.Assignment.{is_interface_of}
 use Rattle.jc_facts.specs.world.Lookup.{field_found, method_choices, interface_choices}
 use Rattle.jc_index.specs.Lookups.{IsAnswer, IsChoice}
+use Rattle.jc_index.specs.Picks.{Picks}
 use Rattle.jc_index.specs.declared.ids.Found.{Found}
 use Rattle.jc_rows.specs.Keys.{numbered_keys}
 use Rattle.jc_rows.specs.declared.row.RowItem.{RowItem}
+use Rattle.jc_rows.specs.steps.Fronts.{front_method}
 
 -- the key numbers rise, and none is less than n
 abbrev pub RisesFrom : ℕ → List RowItem → Type 0
@@ -35,12 +37,6 @@ pub record IsRow (W : World) (f : Key → Option DeclaredMember) (row : List Row
   pub found : (n : ℕ) (k : Key) → slice_get (numbered_keys W) n ≡ Some k → IsAnswer W (entry row n) (f k)
   pub within : (n : ℕ) → slice_get (numbered_keys W) n ≡ None → entry row n ≡ None
 
--- the row has, for each key, one of those that `f` may find of it, and nothing where it finds none; the key numbers rise
-pub record IsChoiceRow (W : World) (f : Key → List DeclaredMember) (row : List RowItem) : Type 0 where
-  pub rises : Rises row
-  pub found : (n : ℕ) (k : Key) → slice_get (numbered_keys W) n ≡ Some k → IsChoice W (entry row n) (f k)
-  pub within : (n : ℕ) → slice_get (numbered_keys W) n ≡ None → entry row n ≡ None
-
 -- ---- the two rows of a class
 
 -- the row has, for each key, the field that a reference to the class x finds, and nothing else (JVMS 5.4.3.2)
@@ -56,6 +52,16 @@ choices_by false W x k = method_choices W x k
 abbrev pub lookup_choices : World → Bytes → Key → List DeclaredMember
 lookup_choices W x k = choices_by (is_interface_of W x) W x k
 
--- the row has, for each key, a method that a reference to x may find, and nothing else (JVMS 5.4.3.3, 5.4.3.4)
-abbrev pub IsMethodRow : World → Bytes → List RowItem → Type 0
-IsMethodRow W x row = IsChoiceRow W (lookup_choices W x) row
+-- what the row has for the key is a method that a reference to x may find, nothing where it finds none; where only superinterfaces
+-- give one, it is one that is picked of theirs
+pub record IsMethodEntry (W : World) (x : Bytes) (k : Key) (found : Option Found) : Type 0 where
+  pub choice : IsChoice W found (lookup_choices W x k)
+  pub pick : front_method W x k ≡ None → Picks W x k found
+
+-- the row has, for each key, a method that a reference to x may find, and nothing else; the key numbers rise (JVMS 5.4.3.3, 5.4.3.4).
+-- What it has of superinterfaces is one that is picked of theirs
+pub record IsMethodRow (W : World) (x : Bytes) (row : List RowItem) : Type 0 where
+  pub rises : Rises row
+  pub found : (n : ℕ) (k : Key) → slice_get (numbered_keys W) n ≡ Some k → IsChoice W (entry row n) (lookup_choices W x k)
+  pub picked : (n : ℕ) (k : Key) → slice_get (numbered_keys W) n ≡ Some k → front_method W x k ≡ None → Picks W x k (entry row n)
+  pub within : (n : ℕ) → slice_get (numbered_keys W) n ≡ None → entry row n ≡ None

@@ -4,4 +4,5 @@ pub mod Numbering
 pub mod Fronts
 pub mod Settling
 pub mod Columns
+pub mod Agreeing
 pub mod Marking

@@ -2,6 +2,7 @@
 //! find, by the numbers of their keys (JVMS 5.4.3.2 to 5.4.3.4).
 #![tactic(auto)]
 
+mod agreeing;
 mod columns;
 mod fields;
 mod front;

@@ -4,12 +4,14 @@ ghost use Rattle.jc_facts.specs.declared.key.Key.{Key as KeyOf};
 ghost use Rattle.jc_facts.specs.world.World.{size};
 ghost use Rattle.jc_facts.specs.world.Loading.{load_fault};
 ghost use Rattle.jc_index.specs.Ids.{name_at};
+ghost use Rattle.jc_index.specs.Picks.{Picks};
 ghost use Rattle.jc_rows.specs.Keys.{numbered_keys};
-ghost use Rattle.jc_rows.specs.Rows.{Rises, entry, IsRow, IsMethodRow};
+ghost use Rattle.jc_rows.specs.Rows.{entry, IsRow, IsMethodRow};
 ghost use Rattle.jc_rows.specs.steps.Fronts.{front_method};
 ghost use Rattle.jc_rows.specs.steps.Gathering.{AreRising, HasAbove};
 ghost use Rattle.jc_rows.specs.steps.Settling.{Settles, IsSource};
 
+use crate::agreeing::{agreed, is_inherited};
 use crate::front::push_found;
 use crate::gathering::gathered;
 use crate::row::{RowItem, find};
@@ -20,24 +22,52 @@ use jc_index::hierarchy::Hierarchy;
 use jc_index::ids::{ClassId, Found};
 use std::alloc::{AllocError, Global};
 
+// What is picked of what superinterfaces of the class declare for the key of this number: what all
+// rows above the class agree on, where they do.
+fn from_above(
+    hierarchy: &Hierarchy,
+    keys: &[Key],
+    rows: &[Items<RowItem>],
+    class: ClassId,
+    number: usize,
+) -> Option<Found>
+    requires class { class < size hierarchy.now }
+    requires loads { load_fault hierarchy.now (name_at hierarchy.now class) ≡ None }
+    requires keys { keys.now ≡ numbered_keys hierarchy.now }
+    requires rising { AreRising hierarchy.now rows.now }
+    requires above { HasAbove (IsMethodRow hierarchy.now) hierarchy.now rows.now (name_at hierarchy.now class) }
+    requires number { number < length keys.now }
+    ensures { (k : KeyOf) → slice_get keys.now number ≡ Some k → front_method hierarchy.now (name_at hierarchy.now class) k ≡ None → Picks hierarchy.now (name_at hierarchy.now class) k result }
+{
+    let _classes = hierarchy.count();
+    match agreed(hierarchy.index(), rows, hierarchy.facts(class), number) {
+        Some(found) if is_inherited(hierarchy, &found) => Some(found),
+        _ => find_above(hierarchy, class, &keys[number]),
+    }
+}
+
 // What the lookup from the class finds for the key of this number: what the front has, else what the
 // superinterfaces give.
 fn settled(
     hierarchy: &Hierarchy,
     keys: &[Key],
+    rows: &[Items<RowItem>],
     front: &[RowItem],
     class: ClassId,
     number: usize,
 ) -> Option<Found>
     requires class { class < size hierarchy.now }
     requires loads { load_fault hierarchy.now (name_at hierarchy.now class) ≡ None }
-    requires rises { Rises front.now }
+    requires keys { keys.now ≡ numbered_keys hierarchy.now }
+    requires front { IsRow hierarchy.now (front_method hierarchy.now (name_at hierarchy.now class)) front.now }
+    requires rising { AreRising hierarchy.now rows.now }
+    requires above { HasAbove (IsMethodRow hierarchy.now) hierarchy.now rows.now (name_at hierarchy.now class) }
     requires number { number < length keys.now }
     ensures { (k : KeyOf) → slice_get keys.now number ≡ Some k → Settles hierarchy.now (name_at hierarchy.now class) k (entry front.now number) result }
 {
     match find(front, number) {
         Some(found) => Some(found),
-        None => find_above(hierarchy, class, &keys[number]),
+        None => from_above(hierarchy, keys, rows, class, number),
     }
 }
 
@@ -46,6 +76,7 @@ fn settle(
     alloc: Global,
     hierarchy: &Hierarchy,
     keys: &[Key],
+    rows: &[Items<RowItem>],
     front: &[RowItem],
     all: &[RowItem],
     class: ClassId,
@@ -53,13 +84,15 @@ fn settle(
     requires class { class < size hierarchy.now }
     requires loads { load_fault hierarchy.now (name_at hierarchy.now class) ≡ None }
     requires keys { keys.now ≡ numbered_keys hierarchy.now }
+    requires rising { AreRising hierarchy.now rows.now }
+    requires above { HasAbove (IsMethodRow hierarchy.now) hierarchy.now rows.now (name_at hierarchy.now class) }
     requires front { IsRow hierarchy.now (front_method hierarchy.now (name_at hierarchy.now class)) front.now }
     requires all { IsSource hierarchy.now (name_at hierarchy.now class) all.now }
     ensures { IfOk result (λ row. IsMethodRow hierarchy.now (name_at hierarchy.now class) row.items) }
 {
     let mut row = Vec::with_capacity(alloc, all.len())?;
     for item in all {
-        let found = settled(hierarchy, keys, front, class, item.key);
+        let found = settled(hierarchy, keys, rows, front, class, item.key);
         push_found(&mut row, item.key, found)?;
     }
     Ok(row)
@@ -92,6 +125,6 @@ pub(crate) fn method_row(
         hierarchy.facts(class),
         first,
     )?;
-    let row = settle(alloc, hierarchy, keys, front, all.as_slice(), class)?;
+    let row = settle(alloc, hierarchy, keys, rows, front, all.as_slice(), class)?;
     Ok(row)
 }

@@ -46,6 +46,13 @@ const ROWS: &[Row] = &[
         interfaces: &[b"p/Right", b"p/Left"],
         ..PLAIN
     },
+    // A class and an interface whose rows agree on one method, and not on another.
+    Row {
+        name: b"p/Below",
+        superclass: b"p/Bottom",
+        interfaces: &[b"p/Right"],
+        ..PLAIN
+    },
     // Two interfaces with one default method.
     Row {
         name: b"p/One",
@@ -112,6 +119,7 @@ const LENGTHS: &[(&[u8], usize, usize)] = &[
     (b"p/Top", 1, 3),
     (b"p/Left", 1, 3),
     (b"p/Bottom", 1, 3),
+    (b"p/Below", 1, 3),
     (b"p/Joined", 0, 2),
     (b"p/Hidden", 0, 3),
     (b"p/Under", 0, 1),

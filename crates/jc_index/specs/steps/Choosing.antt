@@ -1,6 +1,7 @@
 -- What the lookup of methods looks at, by numbers of classes.
 --     own_at W k n      the method of the key that the class of number n itself declares
 --     candidate_at W k n      the same, where the steps on superinterfaces count it
+--     maximal_at W x k n      the same, where it is maximally specific
 --     best_at W x k n      the same, where they choose it before others
 --     FindsAbove W x f found      found is what f gives of a superinterface of x
 use Rattle.std.specs.Prelude.{ℕ, ◌<◌, ◌≡◌, Bool, true, cond, not, List, [], ◌∷◌, Option, None, Some, ◌||◌, ◌&&◌}
@@ -54,6 +55,15 @@ if_best W x k (Some f) = cond (abstract_flag f.flags || has_rival_below W x k (n
 -- the candidate of the class of number n, where it isn't abstract and is maximally specific (JVMS 5.4.3.3)
 abbrev pub best_at : World → Bytes → Key → ℕ → Option Found
 best_at W x k n = if_best W x k (candidate_at W k n)
+
+-- the method, where no candidate among the superinterfaces of x is of a class below its own
+abbrev pub if_maximal : World → Bytes → Key → Option Found → Option Found
+if_maximal W x k None = None
+if_maximal W x k (Some f) = cond (has_rival_below W x k (name_at W f.owner)) None (Some f)
+
+-- the candidate of the class of number n, where it is maximally specific (JVMS 5.4.3.3)
+abbrev pub maximal_at : World → Bytes → Key → ℕ → Option Found
+maximal_at W x k n = if_maximal W x k (candidate_at W k n)
 
 -- the first of two that is there
 abbrev pub found_or : Option Found → Option Found → Option Found

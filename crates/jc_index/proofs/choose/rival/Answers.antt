@@ -7,4 +7,4 @@ pub returns : goal.returns
 returns c =
     let s : is_strictly_below c.args.hierarchy.now c.args.class c.args.of ≡ true =
     strictly c.args.hierarchy.now c.requires.differ c.args.class c.args.of c.is_below.result c.requires.class c.requires.above (sym c.if-eq.ensures) c.is_below.ensures c.if-not-is_below.false in
-    c.candidate.ensures ∙ strictly_chosen c.args.hierarchy.now c.args.key.now c.args.class c.args.of s
+    c.in-Some.ensures ∙ strictly_chosen c.args.hierarchy.now c.args.key.now c.args.class c.args.of s
