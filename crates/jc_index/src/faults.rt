@@ -4,7 +4,7 @@ ghost use Rattle.std.specs.Prelude.{◌≡◌, ℕ, ◌+◌, ◌<◌, List, [], 
 ghost use Rattle.std.specs.List.{All, Contains};
 ghost use Rattle.jc_facts.specs.world.Loading.{load_fault, fault_of_itself};
 ghost use Rattle.jc_facts.specs.world.Search.{supers};
-ghost use Rattle.jc_facts.specs.world.World.{World, size};
+ghost use Rattle.jc_facts.specs.world.World.{World, size, find_class};
 ghost use Rattle.jc_index.specs.Ids.{name_at, names};
 ghost use Rattle.jc_index.specs.steps.Walking.{HaveAllFinal};
 ghost use Rattle.jc_index.specs.steps.Entering.{state_of, is_on, is_known, is_entered, is_fresh, work, bottom, Says, Goes, Leads, IsSettled, IsUnderWay, AreRight, AllHave, Turns, LoadsBefore};
@@ -183,7 +183,8 @@ fn own_fault<'a>(
     finals: &HashedKeys,
     class: &'a ClassFacts,
 ) -> Result<Option<LinkError>, AllocError>
-    requires { HaveAllFinal index.now finals.now }
+    requires finals { HaveAllFinal index.now finals.now }
+    requires class { find_class index.now «class».now.name ≡ Some «class».now }
     ensures { IfOk result (λ fault. fault ≡ fault_of_itself index.now class.now) }
 {
     let superclass = own_superclass_fault(index, class);

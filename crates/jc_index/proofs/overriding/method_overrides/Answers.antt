@@ -27,7 +27,7 @@ returns-then-not-has c =
     let a : Bool = not (is_init_name c.args.member.now.name || is_clinit_name c.args.member.now.name) in
     let h : has_key c.in_ok-key.key c.args.finals.now ≡ false = sym c.has.ensures ∙ c.if-not-has.true in
     let k : has_key (key_of c.args.member.now) c.args.finals.now ≡ false = rw c.in_ok-key.ensures at h in
-    sym (plain-unfixed c.args.index.now c.args.finals.now a (key_of c.args.member.now) m c.args.class.now.superclass c.requires k)
+    sym (plain-unfixed c.args.index.now c.args.finals.now a (key_of c.args.member.now) m c.args.class.now.name c.args.class.now c.requires.finals c.requires.class k)
 
 pub meets_final-requires : goal.meets_final-requires
 meets_final-requires c = subst (λ (o : Option ℕ). IfSome o (λ id. id < size c.args.index.now)) (sym c.number_above.ensures) (number-inside c.args.index.now c.args.class.now.superclass)
