@@ -11,7 +11,7 @@ ghost use Rattle.jc_index.specs.steps.Entering.{state_of, is_on, is_known, is_en
 ghost use Rattle.jc_index.specs.LoadOrder.{IsLoadOrder};
 ghost use Rattle.jc_index.specs.steps.Passing.{Passes, ArePassed, AllPassed, GoesPast, ArePassedOnWay, Orders, Grows, Orderly};
 
-use crate::hashed_keys::HashedKeys;
+use crate::final_keys::FinalKeys;
 use crate::ids::ClassId;
 use crate::index::Index;
 use crate::overriding::{final_keys, overrides_final};
@@ -180,7 +180,7 @@ fn go_up(
 fn own_fault<'a>(
     alloc: Global,
     index: &'a Index,
-    finals: &HashedKeys,
+    finals: &FinalKeys,
     class: &'a ClassFacts,
 ) -> Result<Option<LinkError>, AllocError>
     requires finals { HaveAllFinal index.now finals.now }
@@ -210,7 +210,7 @@ fn own_fault<'a>(
 fn leave<'a>(
     alloc: Global,
     index: &'a Index,
-    finals: &HashedKeys,
+    finals: &FinalKeys,
     states: &mut [State],
     path: &mut Vec<Frame>,
     order: &mut Vec<ClassId>,
@@ -242,7 +242,7 @@ fn leave<'a>(
 fn go_on<'a>(
     alloc: Global,
     index: &'a Index,
-    finals: &HashedKeys,
+    finals: &FinalKeys,
     states: &mut [State],
     path: &mut Vec<Frame>,
     order: &mut Vec<ClassId>,
@@ -276,7 +276,7 @@ fn go_on<'a>(
 fn enter<'a>(
     alloc: Global,
     index: &'a Index,
-    finals: &HashedKeys,
+    finals: &FinalKeys,
     states: &mut [State],
     order: &mut Vec<ClassId>,
     class: ClassId,
@@ -304,7 +304,7 @@ fn enter<'a>(
 fn fault_of<'a>(
     alloc: Global,
     index: &'a Index,
-    finals: &HashedKeys,
+    finals: &FinalKeys,
     states: &mut [State],
     order: &mut Vec<ClassId>,
     class: ClassId,
@@ -330,7 +330,7 @@ fn fault_of<'a>(
 fn all_faults<'a>(
     alloc: Global,
     index: &'a Index,
-    finals: &HashedKeys,
+    finals: &FinalKeys,
     states: &mut [State],
     order: &mut Vec<ClassId>,
 ) -> Result<Vec<Option<LinkError>>, AllocError>

@@ -12,7 +12,7 @@ ghost use Rattle.jc_facts.specs.world.Overriding.{directly_overrides, is_overrid
 ghost use Rattle.jc_index.specs.Ids.{id_of, name_at};
 ghost use Rattle.jc_index.specs.steps.Walking.{chain_from, linked_last, HaveAllFinal, is_final_instance, final_keys_in};
 
-use crate::hashed_keys::{HashedKeys, hashed};
+use crate::final_keys::FinalKeys;
 use crate::ids::ClassId;
 use crate::index::Index;
 use crate::lent_names::{LentNames, lent_superclasses};
@@ -183,13 +183,13 @@ fn finals_in(alloc: Global, index: &Index, names: &LentNames<'_>) -> Result<Vec<
 }
 
 // The keys of all final instance methods of superclasses: no method overrides another one.
-pub(crate) fn final_keys(alloc: Global, index: &Index) -> Result<HashedKeys, AllocError>
+pub(crate) fn final_keys(alloc: Global, index: &Index) -> Result<FinalKeys, AllocError>
     ensures { IfOk result (λ keys. HaveAllFinal index.now keys) }
 {
     let names = lent_superclasses(alloc, index.classes())?;
     let keys = finals_in(alloc, index, &names)?;
-    let set = hashed(alloc, keys)?;
-    Ok(set)
+    let finals = FinalKeys::new(alloc, keys)?;
+    Ok(finals)
 }
 
 // The number of the class that the class names as its superclass; none where there is none of
@@ -209,7 +209,7 @@ pub(crate) fn number_above(index: &Index, class: &ClassFacts) -> Option<ClassId>
 fn method_overrides<'a>(
     alloc: Global,
     index: &'a Index,
-    finals: &HashedKeys,
+    finals: &FinalKeys,
     class: &'a ClassFacts,
     member: &'a Member,
 ) -> Result<bool, AllocError>
@@ -224,6 +224,9 @@ fn method_overrides<'a>(
         return Ok(false);
     }
     if is_static(member.flags) {
+        return Ok(false);
+    }
+    if !finals.has_name(member.name.as_bytes()) {
         return Ok(false);
     }
     let key = key_of_member(alloc, member)?;
@@ -249,7 +252,7 @@ fn method_overrides<'a>(
 pub(crate) fn overrides_final<'a>(
     alloc: Global,
     index: &'a Index,
-    finals: &HashedKeys,
+    finals: &FinalKeys,
     class: &'a ClassFacts,
 ) -> Result<bool, AllocError>
     requires finals { HaveAllFinal index.now finals.now }

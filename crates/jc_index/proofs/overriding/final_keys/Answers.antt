@@ -10,4 +10,4 @@ pub finals_in-requires : goal.finals_in-requires
 finals_in-requires c = λ x. c.in_ok-names.ensures x ∙ ap (λ (cs : List ClassFacts). list_any (λ d. is_name_among (supers_of d.superclass []) x) cs) c.classes.ensures
 
 pub returns : goal.returns
-returns c = all-kept c.args.index.now c.in_ok-keys.keys.items c.in_ok-set.set c.in_ok-set.ensures c.in_ok-keys.ensures
+returns c = all-kept c.args.index.now c.in_ok-keys.keys.items c.in_ok-finals.finals c.in_ok-finals.ensures c.in_ok-keys.ensures
