@@ -1,17 +1,20 @@
 -- The keys of final instance methods: without its key no method overrides a final one.
 use Rattle.std.proofs.Common.{◌≡◌, ◌≢◌, ℕ, zero, suc, ◌<◌, ◌+◌, Bool, true, false, not, cond, ◌||◌, ◌&&◌, List, [], ◌∷◌, ◌++◌, map, refl, sym, ◌∙◌, ap, subst, Option, Some, None, ◌⊎◌, inl, inr, arith, eqb, ◌≤◌, length, drop, get_or}
 use Rattle.std.specs.Prelude.{is_some}
-use Rattle.std.specs.List.{filter, find as first_where}
+use Rattle.std.specs.List.{filter, list_any, find as first_where}
 use Rattle.std.proofs.lemmas.Bool.Decides.{eqb_tells}
 use Rattle.jc_facts.specs.declared.class_facts.ClassFacts.{ClassFacts}
 use Rattle.jc_facts.specs.declared.class_facts.Member.{Member}
 use Rattle.jc_facts.specs.declared.key.Key.{Key}
-use Rattle.jc_facts.specs.Names.{Bytes, key_of, is_key, same_key}
+use Rattle.jc_facts.specs.Names.{Bytes, same, key_of, is_key, same_key, is_name_among}
 use Rattle.jc_facts.specs.Flags.{final_flag, no_static_flag, private_flag, static_flag}
 use Rattle.jc_facts.specs.Options.{some_and, and_then}
 use Rattle.jc_facts.specs.file.Valid.{has_key}
-use Rattle.jc_facts.specs.world.World.{World, DeclaredMember, find_class, size, declared_method, own_method_of, found_in}
-use Rattle.jc_facts.specs.world.Search.{descend}
+use Rattle.jc_facts.specs.world.World.{World, DeclaredMember, classes, find_class, size, declared_method, own_method_of, found_in}
+use Rattle.jc_facts.specs.world.Search.{descend, supers_of}
+use Rattle.jc_facts.proofs.Same.{same_itself}
+use Rattle.jc_facts.proofs.World.{find-name}
+use Rattle.jc_worlds.proofs.Allowed.{any_found}
 use Rattle.jc_facts.specs.world.Hierarchy.{chain, chain_step, of_super}
 use Rattle.jc_index.proofs.Walking.{chain-super}
 use Rattle.jc_facts.specs.world.Overriding.{directly_overrides, is_overridden_by_any, linked, overrides_this_final, reaches_final, overrides_some_final}
@@ -22,9 +25,9 @@ use Rattle.jc_lemmas.proofs.Listed.{EachOf}
 use Rattle.std.proofs.lemmas.List.Folds.{list_any-append}
 use Rattle.jc_worlds.proofs.Descent.{descend-absent, descend-none_left, descend-found}
 use Rattle.jc_index.specs.Ids.{id_of, name_at}
-use Rattle.jc_index.specs.steps.Walking.{chain_from, is_final_instance, declares_final_instance, HaveAllFinal}
+use Rattle.jc_index.specs.steps.Walking.{chain_from, is_final_instance, declares_final_instance, final_keys_in, HaveAllFinal}
 use Rattle.jc_index.proofs.Numbers.{id_of-Some, id-find}
-use Rattle.std.proofs.lemmas.Bool.{or_parts, and_right}
+use Rattle.std.proofs.lemmas.Bool.{or_parts, or_left, and_right}
 
 -- ---- a private or static method
 
@@ -82,31 +85,37 @@ unfolding reaches_final
 unfixed-all k [] h below = refl
 unfixed-all k (c ∷ cs) h below = rw (unfixed-class k below c h.0) (unfixed-all k cs h.1 (linked below (declared_method k c)))
 
--- the classes of a walk are classes of the world
-walked : (W : World) (P : ClassFacts → Type 0) → ((x : Bytes) (c : ClassFacts) → find_class W x ≡ Some c → P c) → (n : ℕ) (x : Bytes) → EachOf P (descend W [] [] chain_step n x)
+-- what stands above a class has others as its subclasses
+walked : (W : World) (P : ClassFacts → Type 0) → ((x : Bytes) (b : ClassFacts) → find_class W x ≡ Some b → (s : Bytes) → b.superclass ≡ Some s → (c : ClassFacts) → find_class W s ≡ Some c → P c)
+    → (n : ℕ) (x : Bytes) (b : ClassFacts) → find_class W x ≡ Some b → EachOf P (of_super (descend W [] [] chain_step n) b.superclass)
 unfolding chain_step
-walked W P h n x = go n x
+walked W P h n x b f = go n x b f b.superclass refl
   where
-    start : (y : Bytes) (o : Option ClassFacts) → find_class W y ≡ o → EachOf P (descend W [] [] chain_step zero y)
-    start y None e = subst (EachOf P) (sym (descend-absent W [] [] chain_step zero y e)) tt
-    start y (Some c) e = subst (EachOf P) (sym (descend-none_left W [] [] chain_step y c e)) tt
+    Above : ℕ → Type 0
+    Above n = (y : Bytes) (d : ClassFacts) → find_class W y ≡ Some d → (o : Option Bytes) → d.superclass ≡ o → EachOf P (of_super (descend W [] [] chain_step n) o)
 
-    above : (n : ℕ) → ((y : Bytes) → EachOf P (descend W [] [] chain_step n y)) → (s : Option Bytes) → EachOf P (of_super (descend W [] [] chain_step n) s)
-    above n r None = tt
-    above n r (Some s) = r s
+    first : (s : Bytes) (o : Option ClassFacts) → find_class W s ≡ o → EachOf P (descend W [] [] chain_step zero s)
+    first s None e = subst (EachOf P) (sym (descend-absent W [] [] chain_step zero s e)) tt
+    first s (Some c) e = subst (EachOf P) (sym (descend-none_left W [] [] chain_step s c e)) tt
 
-    more : (n : ℕ) → ((y : Bytes) → EachOf P (descend W [] [] chain_step n y)) → (y : Bytes) (o : Option ClassFacts) → find_class W y ≡ o → EachOf P (descend W [] [] chain_step (suc n) y)
-    more n r y None e = subst (EachOf P) (sym (descend-absent W [] [] chain_step (suc n) y e)) tt
-    more n r y (Some c) e = subst (EachOf P) (sym (descend-found W [] [] chain_step n y c e)) (h y c e, above n r c.superclass)
+    more : (n : ℕ) → Above n → (s : Bytes) → ((c : ClassFacts) → find_class W s ≡ Some c → P c) → (o : Option ClassFacts) → find_class W s ≡ o → EachOf P (descend W [] [] chain_step (suc n) s)
+    more n r s p None e = subst (EachOf P) (sym (descend-absent W [] [] chain_step (suc n) s e)) tt
+    more n r s p (Some c) e = subst (EachOf P) (sym (descend-found W [] [] chain_step n s c e)) (p c e, r s c e c.superclass refl)
 
-    go : (n : ℕ) (y : Bytes) → EachOf P (descend W [] [] chain_step n y)
-    go zero y = start y (find_class W y) refl
-    go (suc n) y = more n (go n) y (find_class W y) refl
+    go : (n : ℕ) → Above n
+    go n y d e None q = tt
+    go zero y d e (Some s) q = first s (find_class W s) refl
+    go (suc n) y d e (Some s) q = more n (go n) s (h y d e s q) (find_class W s) refl
 
-pub unfixed : (W : World) (ks : List Key) (k : Key) (below : List DeclaredMember) (n : ℕ) (next : Option ℕ) → HaveAllFinal W ks → has_key k ks ≡ false → reaches_final k below (chain_from W n next) ≡ false
-unfolding chain_from
-unfixed W ks k below n None h e = unfixed-all k [] tt below
-unfixed W ks k below n (Some id) h e = unfixed-all k (descend W [] [] chain_step n (name_at W id)) (walked W (λ c. declares_final_instance k c ≡ false) (λ x c f. h k e x c f) n (name_at W id)) below
+over-chain : (W : World) (s : Option Bytes) → of_super (chain W) s ≡ of_super (descend W [] [] chain_step (size W)) s
+unfolding chain
+over-chain W None = refl
+over-chain W (Some s) = refl
+
+unfixed : (W : World) (ks : List Key) (k : Key) (below : List DeclaredMember) (x : Bytes) (c : ClassFacts) → HaveAllFinal W ks → find_class W x ≡ Some c → has_key k ks ≡ false → reaches_final k below (of_super (chain W) c.superclass) ≡ false
+unfixed W ks k below x c h f e =
+    ap (reaches_final k below) (over-chain W c.superclass)
+    ∙ unfixed-all k (of_super (descend W [] [] chain_step (size W)) c.superclass) (walked W (λ d. declares_final_instance k d ≡ false) (λ y b g s q d p. h k e y b g s q d p) (size W) x c f) below
 
 -- ---- the keys are all
 
@@ -125,34 +134,49 @@ unfixed-methods k (m ∷ ms) h = go (is_key k m) (is_final_instance m) refl refl
     go false true p q r s = s (or_parts (same_key k (key_of m)) (has_key k (map key_of (filter is_final_instance ms))) r).1
     go false false p q r s = s r
 
--- one class more is done
-pub finals-more : (W : World) (ks : List Key) (n : ℕ) (c : ClassFacts) → ((m : ℕ) → m < n → (d : ClassFacts) → find_class W (name_at W m) ≡ Some d → (k : Key) → has_key k ks ≡ false → declares_final_instance k d ≡ false) → Some c ≡ find_class W (name_at W n)
-    → (m : ℕ) → m < n + 1 → (d : ClassFacts) → find_class W (name_at W m) ≡ Some d → (k : Key) → has_key k (ks ++ map key_of (filter is_final_instance c.methods)) ≡ false → declares_final_instance k d ≡ false
-finals-more W ks n c h f m l d e k a = go (eqb_tells m n)
-  where
-    parts : (has_key k ks ≡ false) × (has_key k (map key_of (filter is_final_instance c.methods)) ≡ false)
-    parts = or_parts (has_key k ks) (has_key k (map key_of (filter is_final_instance c.methods))) (sym (list_any-append (same_key k) ks (map key_of (filter is_final_instance c.methods))) ∙ a)
+-- the keys of the first n classes, of those whose names are these
+module _ (W : World) (names : List Bytes) where
+  abbrev pub AreOfFirst : ℕ → List Key → Type 0
+  AreOfFirst n ks = (m : ℕ) → m < n → (c : ClassFacts) → find_class W (name_at W m) ≡ Some c → is_name_among names c.name ≡ true → (k : Key) → has_key k ks ≡ false → declares_final_instance k c ≡ false
 
-    go : ((eqb m n ≡ true) × (m ≡ n)) ⊎ ((eqb m n ≡ false) × (m ≢ n)) → declares_final_instance k d ≡ false
-    go (inl q) =
-        let same : Some d ≡ Some c = sym e ∙ ap (λ j. find_class W (name_at W j)) q.1 ∙ sym f in
-        let is : d ≡ c = cc in
-        ap (declares_final_instance k) is ∙ unfixed-methods k c.methods parts.1
-    go (inr q) = let ne : m ≢ n = q.1 in h m (omega arith) d e k parts.0
+  -- one class more is done
+  pub finals-more : (ks : List Key) (n : ℕ) (c : ClassFacts) → AreOfFirst n ks → Some c ≡ find_class W (name_at W n) → AreOfFirst (n + 1) (ks ++ final_keys_in names c)
+  finals-more ks n c h f m l d e t k a = go (eqb_tells m n)
+    where
+      own : List Key
+      own = map key_of (filter is_final_instance c.methods)
 
--- all classes are done
-pub finals-all : (W : World) (ks : List Key) (n : ℕ) → size W ≤ n → ((m : ℕ) → m < n → (d : ClassFacts) → find_class W (name_at W m) ≡ Some d → (k : Key) → has_key k ks ≡ false → declares_final_instance k d ≡ false) → HaveAllFinal W ks
-finals-all W ks n l h k a x c e = go (id_of W x) refl
-  where
-    go : (o : Option ℕ) → id_of W x ≡ o → declares_final_instance k c ≡ false
-    go None q = absurd (let s : is_some (id_of W x) ≡ is_some (find_class W x) = id-find W x in let t : false ≡ true = sym (ap is_some q) ∙ s ∙ ap is_some e in cc)
-    go (Some id) q =
-        let p = id_of-Some W x id q in
-        h id (let i = p.0 in omega arith) c (ap (find_class W) p.1 ∙ e) k a
+      parts : (has_key k ks ≡ false) × (has_key k (final_keys_in names c) ≡ false)
+      parts = or_parts (has_key k ks) (has_key k (final_keys_in names c)) (sym (list_any-append (same_key k) ks (final_keys_in names c)) ∙ a)
+
+      go : ((eqb m n ≡ true) × (m ≡ n)) ⊎ ((eqb m n ≡ false) × (m ≢ n)) → declares_final_instance k d ≡ false
+      go (inl q) =
+          let same : Some d ≡ Some c = sym e ∙ ap (λ j. find_class W (name_at W j)) q.1 ∙ sym f in
+          let is : d ≡ c = cc in
+          let named : is_name_among names c.name ≡ true = ap (λ (b : ClassFacts). is_name_among names b.name) (sym is) ∙ t in
+          ap (declares_final_instance k) is ∙ unfixed-methods k c.methods (ap (λ (b : Bool). has_key k (cond b own [])) (sym named) ∙ parts.1)
+      go (inr q) = let ne : m ≢ n = q.1 in h m (omega arith) d e t k parts.0
+
+  -- all classes are done, and the names are those of superclasses
+  pub finals-all : (ks : List Key) (n : ℕ) → size W ≤ n → ((x : Bytes) → is_name_among names x ≡ list_any (λ c. is_name_among (supers_of c.superclass []) x) (classes W)) → AreOfFirst n ks → HaveAllFinal W ks
+  unfolding find_class
+  finals-all ks n l tells h k a x b f s g c e = go (id_of W s) refl
+    where
+      own : is_name_among (supers_of b.superclass []) c.name ≡ true
+      own = ap (λ (o : Option Bytes). is_name_among (supers_of o []) c.name) g ∙ or_left (same s c.name) false (ap (same s) (find-name W s c e) ∙ same_itself s)
+
+      named : is_name_among names c.name ≡ true
+      named = tells c.name ∙ any_found (λ d. is_name_among (supers_of d.superclass []) c.name) (classes W) x b f own
+
+      go : (o : Option ℕ) → id_of W s ≡ o → declares_final_instance k c ≡ false
+      go None q = absurd (let t : is_some (id_of W s) ≡ is_some (find_class W s) = id-find W s in let u : false ≡ true = sym (ap is_some q) ∙ t ∙ ap is_some e in cc)
+      go (Some id) q =
+          let p = id_of-Some W s id q in
+          h id (let i = p.0 in omega arith) c (ap (find_class W) p.1 ∙ e) named k a
 
 -- and in other keys that are the same ones
 pub all-kept : (W : World) (ks js : List Key) → ((q : Key) → has_key q js ≡ has_key q ks) → HaveAllFinal W ks → HaveAllFinal W js
-all-kept W ks js e h k a x c f = h k (sym (e k) ∙ a) x c f
+all-kept W ks js e h k a = h k (sym (e k) ∙ a)
 
 -- ---- a method of a class
 
@@ -162,8 +186,8 @@ plain-private a k m cs p = and_right a (reaches_final k (m ∷ []) cs) (private-
 pub plain-static : (a : Bool) (k : Key) (m : DeclaredMember) (cs : List ClassFacts) → static_flag m.member.flags ≡ true → (a && reaches_final k (m ∷ []) cs) ≡ false
 plain-static a k m cs p = and_right a (reaches_final k (m ∷ []) cs) (static-quiet k m p cs)
 
-pub plain-unfixed : (W : World) (ks : List Key) (a : Bool) (k : Key) (m : DeclaredMember) (s : Option Bytes) → HaveAllFinal W ks → has_key k ks ≡ false → (a && reaches_final k (m ∷ []) (of_super (chain W) s)) ≡ false
-plain-unfixed W ks a k m s h e = and_right a (reaches_final k (m ∷ []) (of_super (chain W) s)) (ap (reaches_final k (m ∷ [])) (chain-super W s) ∙ unfixed W ks k (m ∷ []) (size W) (and_then (id_of W) s) h e)
+pub plain-unfixed : (W : World) (ks : List Key) (a : Bool) (k : Key) (m : DeclaredMember) (x : Bytes) (c : ClassFacts) → HaveAllFinal W ks → find_class W x ≡ Some c → has_key k ks ≡ false → (a && reaches_final k (m ∷ []) (of_super (chain W) c.superclass)) ≡ false
+plain-unfixed W ks a k m x c h f e = and_right a (reaches_final k (m ∷ []) (of_super (chain W) c.superclass)) (unfixed W ks k (m ∷ []) x c h f e)
 
 pub plain-met : (W : World) (j k : Key) (m : DeclaredMember) (s : Option Bytes) (up : Option ℕ) (i : Bool) → j ≡ k → up ≡ and_then (id_of W) s → i ≡ false
     → reaches_final j (m ∷ []) (chain_from W (size W) up) ≡ (not i && reaches_final k (m ∷ []) (of_super (chain W) s))

@@ -4,14 +4,14 @@ ghost use Rattle.std.specs.Prelude.{◌≡◌, ℕ, ◌+◌, ◌<◌, List, [], 
 ghost use Rattle.std.specs.List.{All, Contains};
 ghost use Rattle.jc_facts.specs.world.Loading.{load_fault, fault_of_itself};
 ghost use Rattle.jc_facts.specs.world.Search.{supers};
-ghost use Rattle.jc_facts.specs.world.World.{World, size};
+ghost use Rattle.jc_facts.specs.world.World.{World, size, find_class};
 ghost use Rattle.jc_index.specs.Ids.{name_at, names};
 ghost use Rattle.jc_index.specs.steps.Walking.{HaveAllFinal};
 ghost use Rattle.jc_index.specs.steps.Entering.{state_of, is_on, is_known, is_entered, is_fresh, work, bottom, Says, Goes, Leads, IsSettled, IsUnderWay, AreRight, AllHave, Turns, LoadsBefore};
 ghost use Rattle.jc_index.specs.LoadOrder.{IsLoadOrder};
 ghost use Rattle.jc_index.specs.steps.Passing.{Passes, ArePassed, AllPassed, GoesPast, ArePassedOnWay, Orders, Grows, Orderly};
 
-use crate::hashed_keys::HashedKeys;
+use crate::final_keys::FinalKeys;
 use crate::ids::ClassId;
 use crate::index::Index;
 use crate::overriding::{final_keys, overrides_final};
@@ -180,10 +180,11 @@ fn go_up(
 fn own_fault<'a>(
     alloc: Global,
     index: &'a Index,
-    finals: &HashedKeys,
+    finals: &FinalKeys,
     class: &'a ClassFacts,
 ) -> Result<Option<LinkError>, AllocError>
-    requires { HaveAllFinal index.now finals.now }
+    requires finals { HaveAllFinal index.now finals.now }
+    requires class { find_class index.now «class».now.name ≡ Some «class».now }
     ensures { IfOk result (λ fault. fault ≡ fault_of_itself index.now class.now) }
 {
     let superclass = own_superclass_fault(index, class);
@@ -209,7 +210,7 @@ fn own_fault<'a>(
 fn leave<'a>(
     alloc: Global,
     index: &'a Index,
-    finals: &HashedKeys,
+    finals: &FinalKeys,
     states: &mut [State],
     path: &mut Vec<Frame>,
     order: &mut Vec<ClassId>,
@@ -241,7 +242,7 @@ fn leave<'a>(
 fn go_on<'a>(
     alloc: Global,
     index: &'a Index,
-    finals: &HashedKeys,
+    finals: &FinalKeys,
     states: &mut [State],
     path: &mut Vec<Frame>,
     order: &mut Vec<ClassId>,
@@ -275,7 +276,7 @@ fn go_on<'a>(
 fn enter<'a>(
     alloc: Global,
     index: &'a Index,
-    finals: &HashedKeys,
+    finals: &FinalKeys,
     states: &mut [State],
     order: &mut Vec<ClassId>,
     class: ClassId,
@@ -303,7 +304,7 @@ fn enter<'a>(
 fn fault_of<'a>(
     alloc: Global,
     index: &'a Index,
-    finals: &HashedKeys,
+    finals: &FinalKeys,
     states: &mut [State],
     order: &mut Vec<ClassId>,
     class: ClassId,
@@ -329,7 +330,7 @@ fn fault_of<'a>(
 fn all_faults<'a>(
     alloc: Global,
     index: &'a Index,
-    finals: &HashedKeys,
+    finals: &FinalKeys,
     states: &mut [State],
     order: &mut Vec<ClassId>,
 ) -> Result<Vec<Option<LinkError>>, AllocError>

@@ -1,6 +1,8 @@
 //! Names of classes that are looked for by their hashes.
 ghost use Rattle.std.specs.Prelude.{◌≡◌, ◌∷◌, [], is_some, IfOk, OnOk};
+ghost use Rattle.std.specs.List.{list_any};
 ghost use Rattle.jc_facts.specs.Names.{Bytes, is_name_among};
+ghost use Rattle.jc_facts.specs.world.Search.{supers_of};
 ghost use Rattle.jc_facts.specs.world.World.{class_named};
 ghost use Rattle.jc_index.specs.steps.Adding.{Adds};
 
@@ -25,6 +27,15 @@ impl<'a> Model for LentNames<'a> {
 }
 
 impl<'a> LentNames<'a> {
+    // No names.
+    fn new(alloc: Global) -> LentNames<'a>
+        ensures { result ≡ [] }
+    {
+        LentNames {
+            set: IndexSet::new(alloc),
+        }
+    }
+
     // No names, with room for so many.
     fn with_capacity(alloc: Global, count: usize) -> Result<LentNames<'a>, AllocError>
         ensures { IfOk result (λ names. names ≡ []) }
@@ -58,6 +69,33 @@ pub(crate) fn lent_names(alloc: Global, classes: &[ClassFacts]) -> Result<LentNa
     let mut names = LentNames::with_capacity(alloc, classes.len())?;
     for class in classes {
         names.put(class.name.as_bytes())?;
+    }
+    Ok(names)
+}
+
+// Adds the name that the class has as its superclass's, where it has one.
+fn put_superclass<'a>(names: &mut LentNames<'a>, class: &'a ClassFacts) -> Result<(), AllocError>
+    ensures { OnOk result (Adds names.old names.new (supers_of class.now.superclass [])) }
+{
+    match &class.superclass {
+        Some(name) => {
+            names.put(name.as_bytes())?;
+            Ok(())
+        }
+        None => Ok(()),
+    }
+}
+
+/// The names that the classes have as their superclasses'.
+pub(crate) fn lent_superclasses<'a>(
+    alloc: Global,
+    classes: &'a [ClassFacts],
+) -> Result<LentNames<'a>, AllocError>
+    ensures { IfOk result (λ names. (x : Bytes) → is_name_among names x ≡ list_any (λ c. is_name_among (supers_of c.superclass []) x) classes.now) }
+{
+    let mut names = LentNames::new(alloc);
+    for class in classes {
+        put_superclass(&mut names, class)?;
     }
     Ok(names)
 }

@@ -5,6 +5,7 @@
 mod above;
 pub mod choose;
 pub mod faults;
+mod final_keys;
 mod hashed_keys;
 pub mod hierarchy;
 pub mod ids;

@@ -1,19 +1,21 @@
 //! Methods that override final ones (JVMS 5.4.5).
 ghost use Rattle.jc_desc.specs.Names.{is_init_name, is_clinit_name};
 ghost use Rattle.std.specs.Prelude.{◌≡◌, ◌<◌, ◌++◌, ◌∷◌, ◌&&◌, ◌||◌, not, [], IfOk, Some, None, IfSome, map};
-ghost use Rattle.std.specs.List.{filter};
-ghost use Rattle.jc_facts.specs.Names.{key_of};
+ghost use Rattle.std.specs.List.{filter, list_any};
+ghost use Rattle.jc_facts.specs.Names.{Bytes, is_name_among, key_of};
 ghost use Rattle.jc_facts.specs.Flags.{package_private, final_flag};
 ghost use Rattle.jc_facts.specs.Options.{and_then};
-ghost use Rattle.jc_facts.specs.world.World.{size, declared_method};
+ghost use Rattle.jc_facts.specs.world.World.{size, classes, find_class, declared_method};
+ghost use Rattle.jc_facts.specs.world.Search.{supers_of};
 ghost use Rattle.jc_facts.specs.world.Hierarchy.{chain, of_super};
 ghost use Rattle.jc_facts.specs.world.Overriding.{directly_overrides, is_overridden_by_any, overrides_this_final, reaches_final, overrides_some_final};
 ghost use Rattle.jc_index.specs.Ids.{id_of, name_at};
-ghost use Rattle.jc_index.specs.steps.Walking.{chain_from, linked_last, HaveAllFinal, is_final_instance};
+ghost use Rattle.jc_index.specs.steps.Walking.{chain_from, linked_last, HaveAllFinal, is_final_instance, final_keys_in};
 
-use crate::hashed_keys::{HashedKeys, hashed};
+use crate::final_keys::FinalKeys;
 use crate::ids::ClassId;
 use crate::index::Index;
+use crate::lent_names::{LentNames, lent_superclasses};
 use crate::members::{key_of_member, own_method};
 use crate::packages::same_package;
 use jc_base::name::Name;
@@ -152,16 +154,42 @@ fn push_finals(alloc: Global, keys: &mut Vec<Key>, class: &ClassFacts) -> Result
     Ok(())
 }
 
-// The keys of all final instance methods.
-pub(crate) fn final_keys(alloc: Global, index: &Index) -> Result<HashedKeys, AllocError>
-    ensures { IfOk result (λ keys. HaveAllFinal index.now keys) }
+// The same, where the class's name is one of these.
+fn push_finals_in(
+    alloc: Global,
+    keys: &mut Vec<Key>,
+    names: &LentNames<'_>,
+    class: &ClassFacts,
+) -> Result<(), AllocError>
+    ensures { IfOk result (λ _. keys.new.items ≡ keys.old.items ++ final_keys_in names.now class.now) }
+{
+    if !names.has(class.name.as_bytes()) {
+        return Ok(());
+    }
+    push_finals(alloc, keys, class)?;
+    Ok(())
+}
+
+// Those of all classes whose names are these, which are those of superclasses.
+fn finals_in(alloc: Global, index: &Index, names: &LentNames<'_>) -> Result<Vec<Key>, AllocError>
+    requires { (x : Bytes) → is_name_among names.now x ≡ list_any (λ c. is_name_among (supers_of c.superclass []) x) (classes index.now) }
+    ensures { IfOk result (λ keys. HaveAllFinal index.now keys.items) }
 {
     let mut keys = Vec::new(alloc);
     for n in 0..index.count() {
-        push_finals(alloc, &mut keys, index.facts(ClassId::new(n)))?;
+        push_finals_in(alloc, &mut keys, names, index.facts(ClassId::new(n)))?;
     }
-    let set = hashed(alloc, keys)?;
-    Ok(set)
+    Ok(keys)
+}
+
+// The keys of all final instance methods of superclasses: no method overrides another one.
+pub(crate) fn final_keys(alloc: Global, index: &Index) -> Result<FinalKeys, AllocError>
+    ensures { IfOk result (λ keys. HaveAllFinal index.now keys) }
+{
+    let names = lent_superclasses(alloc, index.classes())?;
+    let keys = finals_in(alloc, index, &names)?;
+    let finals = FinalKeys::new(alloc, keys)?;
+    Ok(finals)
 }
 
 // The number of the class that the class names as its superclass; none where there is none of
@@ -177,15 +205,16 @@ pub(crate) fn number_above(index: &Index, class: &ClassFacts) -> Option<ClassId>
 }
 
 // Whether a method of the class overrides a final one of the classes above it. `finals` are the keys
-// of all final instance methods: without its key there is nothing to look for.
+// of all final instance methods of superclasses: without its key there is nothing to look for.
 fn method_overrides<'a>(
     alloc: Global,
     index: &'a Index,
-    finals: &HashedKeys,
+    finals: &FinalKeys,
     class: &'a ClassFacts,
     member: &'a Member,
 ) -> Result<bool, AllocError>
-    requires { HaveAllFinal index.now finals.now }
+    requires finals { HaveAllFinal index.now finals.now }
+    requires class { find_class index.now «class».now.name ≡ Some «class».now }
     ensures { IfOk result (λ met. met ≡ (not (is_init_name member.now.name || is_clinit_name member.now.name) && reaches_final (key_of member.now) (record { owner = class.now.name; member = member.now } ∷ []) (of_super (chain index.now) class.now.superclass))) }
 {
     if is_initializer(member.name.as_bytes()) {
@@ -195,6 +224,9 @@ fn method_overrides<'a>(
         return Ok(false);
     }
     if is_static(member.flags) {
+        return Ok(false);
+    }
+    if !finals.has_name(member.name.as_bytes()) {
         return Ok(false);
     }
     let key = key_of_member(alloc, member)?;
@@ -220,10 +252,11 @@ fn method_overrides<'a>(
 pub(crate) fn overrides_final<'a>(
     alloc: Global,
     index: &'a Index,
-    finals: &HashedKeys,
+    finals: &FinalKeys,
     class: &'a ClassFacts,
 ) -> Result<bool, AllocError>
-    requires { HaveAllFinal index.now finals.now }
+    requires finals { HaveAllFinal index.now finals.now }
+    requires class { find_class index.now «class».now.name ≡ Some «class».now }
     ensures { IfOk result (λ met. met ≡ overrides_some_final class.now.name class.now.methods (of_super (chain index.now) class.now.superclass)) }
 {
     for member in class.methods.as_slice() {

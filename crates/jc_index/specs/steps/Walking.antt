@@ -1,9 +1,9 @@
 -- Walks up the superclasses of a class, by numbers.
-use Rattle.std.specs.Prelude.{ℕ, ◌≡◌, Bool, false, cond, List, [], ◌∷◌, ◌++◌, Option, None, Some, ◌&&◌}
+use Rattle.std.specs.Prelude.{ℕ, ◌≡◌, Bool, false, cond, List, [], ◌∷◌, ◌++◌, map, filter, Option, None, Some, ◌&&◌}
 use Rattle.jc_facts.specs.declared.class_facts.ClassFacts.{ClassFacts}
 use Rattle.jc_facts.specs.declared.class_facts.Member.{Member}
 use Rattle.jc_facts.specs.declared.key.Key.{Key}
-use Rattle.jc_facts.specs.Names.{Bytes}
+use Rattle.jc_facts.specs.Names.{Bytes, is_name_among, key_of}
 use Rattle.jc_facts.specs.Flags.{final_flag, no_static_flag}
 use Rattle.jc_facts.specs.Options.{some_and}
 use Rattle.jc_facts.specs.file.Valid.{has_key}
@@ -31,6 +31,10 @@ is_final_instance m = final_flag m.flags && no_static_flag m.flags
 abbrev pub declares_final_instance : Key → ClassFacts → Bool
 declares_final_instance k c = some_and is_final_instance (own_method_of c k)
 
--- these are the keys of all final instance methods, or more
+-- the keys of such methods of the class, where its name is one of these
+abbrev pub final_keys_in : List Bytes → ClassFacts → List Key
+final_keys_in names c = cond (is_name_among names c.name) (map key_of (filter is_final_instance c.methods)) []
+
+-- these are the keys of all such methods of the classes that others have as their superclass, or more
 abbrev pub HaveAllFinal : World → List Key → Type 0
-HaveAllFinal W ks = (k : Key) → has_key k ks ≡ false → (x : Bytes) (c : ClassFacts) → find_class W x ≡ Some c → declares_final_instance k c ≡ false
+HaveAllFinal W ks = (k : Key) → has_key k ks ≡ false → (x : Bytes) (b : ClassFacts) → find_class W x ≡ Some b → (s : Bytes) → b.superclass ≡ Some s → (c : ClassFacts) → find_class W s ≡ Some c → declares_final_instance k c ≡ false

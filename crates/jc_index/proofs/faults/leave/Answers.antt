@@ -1,4 +1,6 @@
-use Rattle.std.proofs.Common.{◌≡◌, ◌<◌, List, Some, None, length, sym, subst, arith}
+use Rattle.std.proofs.Common.{◌≡◌, ◌<◌, ◌∙◌, List, Some, None, length, sym, ap, subst, arith}
+use Rattle.jc_facts.specs.world.World.{find_class}
+use Rattle.jc_facts.proofs.World.{find-name}
 use Rattle.std.specs.List.{Contains}
 use Rattle.jc_index.specs.Ids.{name_at}
 use Rattle.jc_index.specs.declared.faults.Frame.{Frame}
@@ -6,6 +8,12 @@ use Rattle.jc_index.specs.steps.Entering.{bottom}
 use Rattle.jc_index.proofs.Turns.{top-fault, no-frames, leave-path, leave-end, fail-path, lent-inside}
 use Rattle.jc_index.proofs.Ordering.{orders-noted, orders-left, way-left, grows-pushed, grown-pushed}
 use Rattle.jc_index.proofs.faults.leave.Goals as goal
+
+pub own_fault-requires-clause-class : goal.own_fault-requires-clause-class
+own_fault-requires-clause-class c =
+    let W = c.args.index.now in
+    let f : find_class W (name_at W c.args.top.class) ≡ Some c.facts.result.now = sym c.facts.ensures in
+    ap (find_class W) (find-name W (name_at W c.args.top.class) c.facts.result.now f) ∙ f
 
 pub note-requires-clause-path : goal.note-requires-clause-path
 note-requires-clause-path c = lent-inside c.args.index.now c.args.states.now c.args.path.now.items c.as_slice.result.now c.args.top c.as_slice.ensures.value c.requires.way

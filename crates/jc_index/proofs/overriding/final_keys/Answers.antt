@@ -1,16 +1,13 @@
-use Rattle.std.proofs.Common.{◌≤◌, ◌≡◌, arith, ap, ◌∙◌, Some}
-use Rattle.jc_facts.specs.world.World.{size, find_class}
-use Rattle.jc_index.specs.Ids.{name_at}
-use Rattle.jc_index.proofs.FinalKeys.{finals-more, finals-all, all-kept}
+use Rattle.std.proofs.Common.{List, [], ap, ◌∙◌}
+use Rattle.std.specs.List.{list_any}
+use Rattle.jc_facts.specs.declared.class_facts.ClassFacts.{ClassFacts}
+use Rattle.jc_facts.specs.Names.{is_name_among}
+use Rattle.jc_facts.specs.world.Search.{supers_of}
+use Rattle.jc_index.proofs.FinalKeys.{all-kept}
 use Rattle.jc_index.proofs.overriding.final_keys.Goals as goal
 
-pub loop-n-preserved : goal.loop-n-preserved
-loop-n-preserved c =
-    let W = c.args.index.now in
-    let f : Some c.facts.result.now ≡ find_class W (name_at W c.loop-n.n) = c.facts.ensures ∙ ap (λ n. find_class W (name_at W n)) c.new.ensures in
-    rw c.in_ok-push_finals.ensures (finals-more W c.loop-n.keys.items c.loop-n.n c.facts.result.now c.loop-n.invariant f)
+pub finals_in-requires : goal.finals_in-requires
+finals_in-requires c = λ x. c.in_ok-names.ensures x ∙ ap (λ (cs : List ClassFacts). list_any (λ d. is_name_among (supers_of d.superclass []) x) cs) c.classes.ensures
 
 pub returns : goal.returns
-returns c =
-    let l : size c.args.index.now ≤ c.loop-n.n = omega (arith, c.count-n-end.ensures.count) in
-    all-kept c.args.index.now c.loop-n.keys.items c.in_ok-set.set c.in_ok-set.ensures (finals-all c.args.index.now c.loop-n.keys.items c.loop-n.n l c.loop-n.invariant)
+returns c = all-kept c.args.index.now c.in_ok-keys.keys.items c.in_ok-finals.finals c.in_ok-finals.ensures c.in_ok-keys.ensures

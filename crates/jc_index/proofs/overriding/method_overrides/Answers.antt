@@ -21,13 +21,20 @@ returns-then-is_static c =
     let a : Bool = not (is_init_name c.args.member.now.name || is_clinit_name c.args.member.now.name) in
     sym (plain-static a (key_of c.args.member.now) m (of_super (chain c.args.index.now) c.args.class.now.superclass) (sym c.is_static.ensures ∙ c.if-is_static.true))
 
+pub returns-then-not-has_name : goal.returns-then-not-has_name
+returns-then-not-has_name c =
+    let m : DeclaredMember = record { owner = c.args.class.now.name; member = c.args.member.now } in
+    let a : Bool = not (is_init_name c.args.member.now.name || is_clinit_name c.args.member.now.name) in
+    let k : has_key (key_of c.args.member.now) c.args.finals.now ≡ false = c.has_name.ensures (key_of c.args.member.now) (sym c.as_bytes-2.ensures) c.if-not-has_name.true in
+    sym (plain-unfixed c.args.index.now c.args.finals.now a (key_of c.args.member.now) m c.args.class.now.name c.args.class.now c.requires.finals c.requires.class k)
+
 pub returns-then-not-has : goal.returns-then-not-has
 returns-then-not-has c =
     let m : DeclaredMember = record { owner = c.args.class.now.name; member = c.args.member.now } in
     let a : Bool = not (is_init_name c.args.member.now.name || is_clinit_name c.args.member.now.name) in
     let h : has_key c.in_ok-key.key c.args.finals.now ≡ false = sym c.has.ensures ∙ c.if-not-has.true in
     let k : has_key (key_of c.args.member.now) c.args.finals.now ≡ false = rw c.in_ok-key.ensures at h in
-    sym (plain-unfixed c.args.index.now c.args.finals.now a (key_of c.args.member.now) m c.args.class.now.superclass c.requires k)
+    sym (plain-unfixed c.args.index.now c.args.finals.now a (key_of c.args.member.now) m c.args.class.now.name c.args.class.now c.requires.finals c.requires.class k)
 
 pub meets_final-requires : goal.meets_final-requires
 meets_final-requires c = subst (λ (o : Option ℕ). IfSome o (λ id. id < size c.args.index.now)) (sym c.number_above.ensures) (number-inside c.args.index.now c.args.class.now.superclass)
