@@ -6,16 +6,6 @@ use Rattle.std.proofs.lemmas.Grind.{get_or-set_at}
 use Rattle.jc_desc.specs.Pool.{Slot, slot_of_index}
 use Rattle.jc_pool.specs.steps.Forms.{AreOf}
 
-at_more : {F : Type 0} (known : List (Option F)) (i : ℕ) → get_or (known ++ None ∷ []) i None ≡ get_or known i None
-at_more [] zero = refl
-at_more [] (suc i) = refl
-at_more (k ∷ ks) zero = refl
-at_more (k ∷ ks) (suc i) = at_more ks i
-
--- of nothing more
-pub none_more : {F : Type 0} (form_in : List ℕ → F) (slots : List Slot) (known : List (Option F)) → AreOf form_in slots known → AreOf form_in slots (known ++ None ∷ [])
-none_more form_in slots known h = λ i form e. h i form (sym (at_more known i) ∙ e)
-
 some_is : {F : Type 0} (a b : F) → Some a ≡ Some b → a ≡ b
 some_is a b e = cc
 

@@ -163,10 +163,7 @@ fn look_for(slots: &[Slot<'_>], known: &mut Forms, slot: Slot<'_>)
 fn nothing_known<F: Form>(alloc: Global, slots: &[Slot<'_>]) -> Result<Vec<Option<F>>, AllocError>
     ensures { IfOk result (λ known. AreOf F.form_in (slots_of slots.now) known.items) }
 {
-    let mut known = Vec::with_capacity(alloc, slots.len())?;
-    for _ in slots {
-        known.push(None)?;
-    }
+    let known = vec![in alloc; None; slots.len()]?;
     Ok(known)
 }
 

@@ -1,5 +1,5 @@
 //! The names that are made of a file's texts.
-ghost use Rattle.std.specs.Prelude.{◌≡◌, IfOk};
+ghost use Rattle.std.specs.Prelude.{◌≡◌, IfOk, IfSome};
 
 use jc_base::name::Name;
 use jc_base::recent_names::RecentNames;
@@ -37,12 +37,25 @@ impl<'a> Names<'a> {
         }
     }
 
+    // The name of these bytes, where the files before have it.
+    fn known(&self, alloc: Global, text: &[u8]) -> Result<Option<Name>, AllocError>
+        ensures { IfOk result (λ known. IfSome known (λ name. name ≡ text.now)) }
+    {
+        match self.recent {
+            Some(recent) => recent.known(alloc, text),
+            None => Ok(None),
+        }
+    }
+
     /// The name of these bytes.
     pub(crate) fn name(&mut self, alloc: Global, text: &'a [u8]) -> Result<Name, AllocError>
         ensures { IfOk result (λ name. name ≡ text.now) }
     {
         if text.len() <= SHORT {
             return self.first(alloc, text);
+        }
+        if let Some(name) = self.known(alloc, text)? {
+            return Ok(name);
         }
         if let Some(name) = self.made.get(text) {
             if name.as_bytes() == text {
