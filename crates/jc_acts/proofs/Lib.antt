@@ -1,4 +1,5 @@
 pub mod SeatChains
+mod SameRecords
 mod UsedAt
 mod Firsts
 mod LookedUp

@@ -11,5 +11,6 @@ pub mod members;
 mod open;
 pub mod plain;
 mod platform;
+mod records;
 mod root;
 pub mod seats;
