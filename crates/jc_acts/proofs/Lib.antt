@@ -1,5 +1,8 @@
 pub mod SeatChains
 mod SameRecords
+mod Changed
+mod SetFlags
+mod SetAbove
 mod UsedAt
 mod Firsts
 mod LookedUp

@@ -165,7 +165,7 @@ attributes c d h =
       signatures = (lists same_signed signed c.signatures d.signatures).0 p.1;
     }
 
-pub same_facts_is : (c d : ClassFacts) → same_facts c d ≡ true → c ≡ d
+same_facts_is : (c d : ClassFacts) → same_facts c d ≡ true → c ≡ d
 same_facts_is c d h =
     let p = and_parts (same_head c d) (same_attributes c d) h in
     let a = head c d p.0 in
@@ -201,3 +201,6 @@ same_facts_itself c = and_from (same_head c c) (same_attributes c c) in_head in_
           (options (pointwise same) (lists same names) c.permits c.permits).1 refl, (options same names c.nest_host c.nest_host).1 refl, (lists same names c.nest_members c.nest_members).1 refl,
           (lists same_fixed fixed c.constants c.constants).1 refl, (lists same_signed signed c.signatures c.signatures).1 refl,
         ) refl
+
+pub same_classes : (o p : Option ClassFacts) → option_eq same_facts o p ≡ true → o ≡ p
+same_classes o p h = (options same_facts (tells same_facts same_facts_is same_facts_itself) o p).0 h

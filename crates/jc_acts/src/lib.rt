@@ -14,3 +14,4 @@ mod platform;
 mod records;
 mod root;
 pub mod seats;
+mod touched;
