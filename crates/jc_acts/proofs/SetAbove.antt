@@ -8,12 +8,13 @@ use Rattle.jc_facts.specs.Names.{Bytes}
 use Rattle.jc_facts.specs.Options.{some_and}
 use Rattle.jc_facts.specs.world.World.{World, find_class, size}
 use Rattle.jc_facts.specs.world.Hierarchy.{chain, each, interfaces_of, superinterfaces, with_interfaces}
+use Rattle.jc_facts.proofs.World.{find-name}
 use Rattle.jc_lemmas.proofs.Listed.{EachOf, EachOf-map, list_any-same}
 use Rattle.jc_worlds.specs.Hierarchy.{above}
 use Rattle.jc_table.specs.Above.{AreAbove}
 use Rattle.jc_table.specs.Ids.{name_at, names, superclass_of}
 use Rattle.jc_table.specs.steps.Walking.{chain_from}
-use Rattle.jc_table.proofs.Numbers.{names-length, names-find, at-in, is_class}
+use Rattle.jc_table.proofs.Numbers.{IsClass, names-length, names-find, at-in, is_class}
 use Rattle.jc_table.proofs.Reached.{any_reached}
 use Rattle.jc_table.proofs.Walking.{from-step, from-none, from-nothing}
 use Rattle.jc_acts.specs.Touched.{flag_at, AreFlags}
@@ -59,6 +60,12 @@ module _ (W : World) (q : ClassFacts → Bool) where
     pub above-on : (up : Option ℕ) → (q c || list_any q (each (with_interfaces W) c.interfaces)) ≡ false → up ≡ superclass_of W (name_at W id) → above_from W q m next ≡ above_from W q n up
     above-on up h u = above-step ∙ ap (λ b. b || above_from W q n (superclass_of W (name_at W id))) h ∙ ap (above_from W q n) (sym u)
 
+pub at_number : (W : World) (n : ℕ) → n < size W → IsClass W (name_at W n)
+at_number W n l = is_class W (name_at W n) (names-find W (name_at W n) (at-in (names W) n (subst (λ m. n < m) (sym (names-length W)) l)))
+
+pub flag_of : (W : World) (p : Bytes → Bool) (flags : List Bool) → AreFlags W p flags → (n : ℕ) → n < size W → (c : ClassFacts) → Some c ≡ find_class W (name_at W n) → flag_at flags n ≡ p c.name
+flag_of W p flags are n l c f = are.each n l ∙ ap p (sym (find-name W (name_at W n) c (sym f)))
+
 -- the flags of the interfaces that a class leads to
 pub led_flags : (W : World) (p : Bytes → Bool) (flags : List Bool) → AreFlags W p flags → (x : Bytes) (c : ClassFacts) → find_class W x ≡ Some c → (ids : List ℕ) → AreAbove W x ids → list_any (flag_at flags) ids ≡ list_any (λ d. p d.name) (each (with_interfaces W) c.interfaces)
 led_flags W p flags are x c f ids a =
@@ -67,5 +74,5 @@ led_flags W p flags are x c f ids a =
   where
     one : (n : ℕ) → n < size W → flag_at flags n ≡ some_and (λ d. p d.name) (find_class W (name_at W n))
     one n l =
-        let t = is_class W (name_at W n) (names-find W (name_at W n) (at-in (names W) n (subst (λ m. n < m) (sym (names-length W)) l))) in
+        let t = at_number W n l in
         are.each n l ∙ ap p (sym t.name) ∙ sym (ap (some_and (λ d. p d.name)) t.found)
