@@ -12,8 +12,6 @@ mod Narrowed
 mod BothLooked
 mod Roots
 mod Losses
-mod LeftSteps
-mod Platforms
 pub mod Untouched
 mod Beside
 mod Wider

@@ -1,5 +1,4 @@
 pub mod ClosedActs
-pub mod Platforms
 pub mod Records
 pub mod Seats
 pub mod Touched

@@ -10,7 +10,6 @@ mod lookup;
 pub mod members;
 mod open;
 pub mod plain;
-mod platform;
 mod records;
 mod root;
 pub mod seats;
