@@ -191,15 +191,23 @@ same_facts_itself c = and_from (same_head c c) (same_attributes c c) in_head in_
     in_head : same_head c c ≡ true
     in_head =
         rw (
-          (names c.name c.name).1 refl, eq-eqb c.major c.major refl, eq-eqb c.flags c.flags refl, (options same names c.superclass c.superclass).1 refl, (lists same names c.interfaces c.interfaces).1 refl,
-          (lists same_member members c.fields c.fields).1 refl, (lists same_member members c.methods c.methods).1 refl,
+          (names c.name c.name).1 refl,
+          eq-eqb c.major c.major refl,
+          eq-eqb c.flags c.flags refl,
+          (options same names c.superclass c.superclass).1 refl,
+          (lists same names c.interfaces c.interfaces).1 refl,
+          (lists same_member members c.fields c.fields).1 refl,
+          (lists same_member members c.methods c.methods).1 refl,
         ) refl
 
     in_attributes : same_attributes c c ≡ true
     in_attributes =
         rw (
-          (options (pointwise same) (lists same names) c.permits c.permits).1 refl, (options same names c.nest_host c.nest_host).1 refl, (lists same names c.nest_members c.nest_members).1 refl,
-          (lists same_fixed fixed c.constants c.constants).1 refl, (lists same_signed signed c.signatures c.signatures).1 refl,
+          (options (pointwise same) (lists same names) c.permits c.permits).1 refl,
+          (options same names c.nest_host c.nest_host).1 refl,
+          (lists same names c.nest_members c.nest_members).1 refl,
+          (lists same_fixed fixed c.constants c.constants).1 refl,
+          (lists same_signed signed c.signatures c.signatures).1 refl,
         ) refl
 
 pub same_classes : (o p : Option ClassFacts) → option_eq same_facts o p ≡ true → o ≡ p

@@ -1,6 +1,6 @@
 -- A test on a class and those above it, along a walk up the superclasses.
 use Rattle.std.proofs.Common.{◌≡◌, ◌<◌, ℕ, suc, Bool, true, false, ◌||◌, List, [], refl, sym, ◌∙◌, ap, subst, Option, Some, None}
-use Rattle.std.specs.List.{list_any, All}
+use Rattle.std.specs.List.{list_any}
 use Rattle.std.proofs.lemmas.List.Folds.{list_any-append}
 use Rattle.std.proofs.lemmas.List.Elements.{recursion_from_All}
 use Rattle.jc_facts.specs.declared.class_facts.ClassFacts.{ClassFacts}
@@ -9,7 +9,7 @@ use Rattle.jc_facts.specs.Options.{some_and}
 use Rattle.jc_facts.specs.world.World.{World, find_class, size}
 use Rattle.jc_facts.specs.world.Hierarchy.{chain, each, interfaces_of, superinterfaces, with_interfaces}
 use Rattle.jc_facts.proofs.World.{find-name}
-use Rattle.jc_lemmas.proofs.Listed.{EachOf, EachOf-map, list_any-same}
+use Rattle.jc_lemmas.proofs.Listed.{EachOf-map, list_any-same}
 use Rattle.jc_worlds.specs.Hierarchy.{above}
 use Rattle.jc_table.specs.Above.{AreAbove}
 use Rattle.jc_table.specs.Ids.{name_at, names, superclass_of}

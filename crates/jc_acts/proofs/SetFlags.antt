@@ -13,7 +13,6 @@ use Rattle.jc_facts.proofs.Same.{same_is, same_itself}
 use Rattle.jc_facts.proofs.World.{find-name}
 use Rattle.jc_lemmas.proofs.Bools.{or_assoc, or_false}
 use Rattle.jc_table.specs.Ids.{id_of, name_at, names, superclass_of}
-use Rattle.jc_table.specs.steps.Walking.{chain_from}
 use Rattle.jc_table.proofs.Numbers.{names-length, id_of-name_at}
 use Rattle.jc_acts.specs.Touched.{flag_at, AreFlags, AreSet}
 use Rattle.jc_acts.proofs.Covering.{put}
