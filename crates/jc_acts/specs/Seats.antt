@@ -25,11 +25,11 @@ loses_class s a = list_any (λ c. not (in_chain s.new a c.name)) (chain s.old a)
 abbrev pub may_be_closed : SidesOf → Bytes → Bool
 may_be_closed s x = list_any (λ c. is_touched s (all_seats s) c.name) (above s.old x)
 
--- the seats are all seats. It is kept which classes of the old side changed or left the chain of a seat, and for each one of the
--- new below which the seats stand that stood below the first
+-- the seats are all seats. It is kept for each class of the old side whether an act on a member of it may be closed now, and one
+-- of the new side below which the seats stand that stood below the first
 pub record AreSeats (s : SidesOf) (t : Seats) : Type 0 where
   pub sides : AreSides s
   pub all : map name_of t.all.items ≡ all_seats s
   pub shared : All (IsShared s) t.all.items
-  pub touched : AreFlags s.old (is_touched s (all_seats s)) t.touched.items
+  pub closing : AreFlags s.old (may_be_closed s) t.closing.items
   pub commons : AreCommon s.old s.new (all_seats s) t.commons.items

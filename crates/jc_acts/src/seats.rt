@@ -5,7 +5,7 @@ ghost use Rattle.jc_sides.specs.SharedOf.{IsShared, name_of};
 
 use crate::commons::commons;
 use crate::root::root_of;
-use crate::touched::{is_set_above, touched};
+use crate::touched::{touched, with_those_below};
 use jc_sides::shared::Shared;
 use jc_sides::sides::Sides;
 use jc_table::ids::ClassId;
@@ -15,9 +15,9 @@ use std::alloc::{AllocError, Global};
 pub struct Seats<'a> {
     // java/lang/Object, and then the base classes.
     pub(crate) all: Vec<Shared<'a>>,
-    // For each class of the old side, whether it isn't the same on the new one or left one of their
-    // chains.
-    touched: Vec<bool>,
+    // For each class of the old side, whether it or one above it isn't the same on the new side, or
+    // left one of their chains.
+    closing: Vec<bool>,
     // For each class of the old side one of the new side below which all seats stand that stood
     // below the first; none where no seat did.
     pub(crate) commons: Vec<Option<ClassId>>,
@@ -28,7 +28,7 @@ impl Drop for Seats<'_> {
     fn drop(self) {
         let Seats {
             all: _,
-            touched: _,
+            closing: _,
             commons: _,
         } = self;
     }
@@ -69,10 +69,11 @@ impl<'a> Seats<'a> {
         all.push(root(sides))?;
         all.append(&mut bases)?;
         let touched = touched(alloc, sides, all.as_slice())?;
+        let closing = with_those_below(alloc, sides.old, touched.as_slice())?;
         let commons = commons(alloc, sides.old, sides.new, all.as_slice())?;
         Ok(Seats {
             all,
-            touched,
+            closing,
             commons,
         })
     }
@@ -89,11 +90,11 @@ impl<'a> Seats<'a> {
 
     /// Whether an act on a member of the class may be closed now to a seat that could do it. Where
     /// neither the class nor any above it changed or left the chain of a seat none is, whatever the key.
-    pub fn may_close(&self, sides: &Sides<'_>, class: &Shared<'_>) -> bool
-        requires seats { AreSeats sides.now self.now }
-        requires class { IsShared sides.now «class».now }
-        ensures { result ≡ may_be_closed sides.now (name_of «class».now) }
+    pub fn may_close(&self, _sides: &Sides<'_>, class: &Shared<'_>) -> bool
+        requires seats { AreSeats _sides.now self.now }
+        requires class { IsShared _sides.now «class».now }
+        ensures { result ≡ may_be_closed _sides.now (name_of «class».now) }
     {
-        is_set_above(sides.old, self.touched.as_slice(), class.old)
+        self.closing[class.old.number() as usize]
     }
 }

@@ -134,9 +134,8 @@ fn is_set_at(table: &Table, flags: &[bool], id: ClassId) -> bool
     flags[id.number() as usize] || is_any_set(flags, table.interfaces(id))
 }
 
-/// Whether the class or one above it has its flag set. It takes time in proportion to the classes
-/// above it.
-pub fn is_set_above(table: &Table, flags: &[bool], class: ClassId) -> bool
+// Whether the class or one above it has its flag set.
+fn is_set_above(table: &Table, flags: &[bool], class: ClassId) -> bool
     requires flags { length flags.now ≡ size table.now }
     requires class { class < size table.now }
     ensures { (p : Bytes → Bool) → AreFlags table.now p flags.now → result ≡ list_any (λ c. p c.name) (above table.now (name_at table.now class)) }
@@ -152,4 +151,22 @@ pub fn is_set_above(table: &Table, flags: &[bool], class: ClassId) -> bool
         next = table.superclass(id);
     }
     false
+}
+
+/// For each class, whether it or one above it has its flag set. It takes time in proportion to the
+/// classes above each.
+pub fn with_those_below(
+    alloc: Global,
+    table: &Table,
+    flags: &[bool],
+) -> Result<Vec<bool>, AllocError>
+    requires { length flags.now ≡ size table.now }
+    ensures { IfOk result (λ below. (p : Bytes → Bool) → AreFlags table.now p flags.now → AreFlags table.now (λ x. list_any (λ c. p c.name) (above table.now x)) below.items) }
+{
+    let mut below = Vec::new(alloc);
+    for n in 0..table.count() {
+        let id = table.id(n).unwrap();
+        below.push(is_set_above(table, flags, id))?;
+    }
+    Ok(below)
 }
