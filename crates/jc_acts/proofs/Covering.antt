@@ -59,12 +59,12 @@ module _ (W : World) (y : Bytes) where
 
 -- ---- places
 
-pub put : (os : List (Option ℕ)) (n k : ℕ) (o : Option ℕ) → n < length os → kept_of (set os n o) k ≡ cond (eqb n k) o (kept_of os k)
-put os n k o l = go (eqb_tells n k)
+pub put : {A : Type 0} (xs : List A) (n k : ℕ) (x d : A) → n < length xs → get_or (set xs n x) k d ≡ cond (eqb n k) x (get_or xs k d)
+put xs n k x d l = go (eqb_tells n k)
   where
-    go : ((eqb n k ≡ true) × (n ≡ k)) ⊎ ((eqb n k ≡ false) × (n ≢ k)) → get_or (set os n o) k None ≡ cond (eqb n k) o (get_or os k None)
-    go (inl e) = rw e.0 (get_or-set_at os n k o None (sym e.1) l)
-    go (inr e) = rw e.0 (get_or-set_other os n k o None (λ q. e.1 (sym q)))
+    go : ((eqb n k ≡ true) × (n ≡ k)) ⊎ ((eqb n k ≡ false) × (n ≢ k)) → get_or (set xs n x) k d ≡ cond (eqb n k) x (get_or xs k d)
+    go (inl e) = rw e.0 (get_or-set_at xs n k x d (sym e.1) l)
+    go (inr e) = rw e.0 (get_or-set_other xs n k x d (λ q. e.1 (sym q)))
 
 -- ---- the walk
 
@@ -97,9 +97,9 @@ module _ (O N : World) (a : Bytes) (loads : load_fault N a ≡ None) (before : L
     there = there;
     below = l;
     reached = here;
-    inside = record { count = length-set after id (Some w) ∙ on.inside.count; within = λ k. within k (eqb id k) (put after id k (Some w) inner) };
-    wider = λ b f k h. wider b f k (eqb_tells id k) (put after id k (Some w) inner) (on.wider b f k h);
-    ahead = λ k i h. ahead k i (eqb_tells id k) (put after id k (Some w) inner) (or_cases (covers N (kept_of after k) a) (names_in (chain_from O n (Some id)) (name_at O k)) (on.ahead k i h));
+    inside = record { count = length-set after id (Some w) ∙ on.inside.count; within = λ k. within k (eqb id k) (put after id k (Some w) None inner) };
+    wider = λ b f k h. wider b f k (eqb_tells id k) (put after id k (Some w) None inner) (on.wider b f k h);
+    ahead = λ k i h. ahead k i (eqb_tells id k) (put after id k (Some w) None inner) (or_cases (covers N (kept_of after k) a) (names_in (chain_from O n (Some id)) (name_at O k)) (on.ahead k i h));
   }
     where
       here : in_chain N a (name_at N w) ≡ true

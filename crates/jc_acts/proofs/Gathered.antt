@@ -57,10 +57,10 @@ module _ (O N : World) where
     seen = subst (EachOf (IsSeen O N after)) (sym (take_more seats n b l)) (EachOf-append (IsSeen O N after) (take n seats) (get_or seats n b ∷ []) (EachOf-map (λ c i. (still before after (name_of c) i.1 w.wider i.0, i.1)) (take n seats) done.seen) (subst (IsSeen O N after) is (w.covered, loads), tt));
     others = record {
       count = length-set added b.old (Some b.new) ∙ done.others.count;
-      within = λ k. within k (eqb b.old k) (put added b.old k (Some b.new) inner);
-      named = λ k c h. named k c (eqb_tells b.old k) (put added b.old k (Some b.new) inner) h;
-      covered = λ k c h. covered k c (eqb_tells b.old k) (put added b.old k (Some b.new) inner) h;
-      loads = λ k c h. loaded k c (eqb_tells b.old k) (put added b.old k (Some b.new) inner) h;
+      within = λ k. within k (eqb b.old k) (put added b.old k (Some b.new) None inner);
+      named = λ k c h. named k c (eqb_tells b.old k) (put added b.old k (Some b.new) None inner) h;
+      covered = λ k c h. covered k c (eqb_tells b.old k) (put added b.old k (Some b.new) None inner) h;
+      loads = λ k c h. loaded k c (eqb_tells b.old k) (put added b.old k (Some b.new) None inner) h;
     };
   }
     where

@@ -1,4 +1,8 @@
 pub mod SeatChains
+mod SameRecords
+mod Changed
+mod SetFlags
+mod SetAbove
 mod UsedAt
 mod Firsts
 mod LookedUp
@@ -8,8 +12,6 @@ mod Narrowed
 mod BothLooked
 mod Roots
 mod Losses
-mod LeftSteps
-mod Platforms
 pub mod Untouched
 mod Beside
 mod Wider

@@ -16,7 +16,7 @@ use Rattle.jc_facts.specs.client.Acts.{is_put_act}
 use Rattle.jc_facts.specs.client.Outcome.{kind_fault}
 use Rattle.jc_facts.specs.rule.OpenActs.{is_member_open, where_open}
 use Rattle.jc_facts.specs.rule.Bases.{is_base_class}
-use Rattle.jc_lemmas.proofs.Listed.{EachOf, filter-each}
+use Rattle.jc_lemmas.proofs.Listed.{EachOf}
 use Rattle.jc_worlds.proofs.Above.{fault_where-none}
 use Rattle.jc_facts.proofs.Options.{or_else-none, or_else-both}
 use Rattle.jc_worlds.proofs.Bare.{has_root}
@@ -106,14 +106,6 @@ each_base P p (x ∷ xs) h = go (p x) refl (each_base P p xs h)
     go true e r = (h x e, r)
     go false e r = r
 
-pub map_filter : (q : Bytes → Bool) (bs : List SharedOf) → map name_of (filter (λ b. q (name_of b)) bs) ≡ filter q (map name_of bs)
-map_filter q [] = refl
-map_filter q (b ∷ bs) = go (q (name_of b)) (map_filter q bs)
-  where
-    go : (t : Bool) → map name_of (filter (λ b. q (name_of b)) bs) ≡ filter q (map name_of bs) → map name_of (cond t (b ∷ filter (λ b. q (name_of b)) bs) (filter (λ b. q (name_of b)) bs)) ≡ cond t (name_of b ∷ filter q (map name_of bs)) (filter q (map name_of bs))
-    go true r = ap (λ ys. name_of b ∷ ys) r
-    go false r = r
-
 module _ (sides : SidesOf) (so : IsSide sides.old) (sn : IsSide sides.new) (x : Bytes) (u : Looked) (what : Act) where
   -- the root alone
   pub root_enough : (not (public_flag u.before.flags) && protected_flag u.before.flags) ≡ false → first_at (closed_use sides x u what) (object_name ∷ []) ≡ first_at (closed_use sides x u what) (all_seats sides)
@@ -142,7 +134,3 @@ module _ (sides : SidesOf) (root : SharedOf) (bases all : List SharedOf) where
 
   pub all_shared : IsShared sides root → AreThose (is_base_class sides.old sides.new) sides bases → all ≡ root ∷ bases → All (IsShared sides) all
   all_shared shared those is = subst (All (IsShared sides)) (sym is) (All-from_recursion (IsShared sides) (root ∷ bases) (shared, recursion_from_All (IsShared sides) bases those.shared))
-
--- the lists of them are of classes of both sides
-pub shared_filtered : (sides : SidesOf) (q : SharedOf → Bool) (all shrunk : List SharedOf) → All (IsShared sides) all → shrunk ≡ filter q all → All (IsShared sides) shrunk
-shared_filtered sides q all shrunk h e = subst (All (IsShared sides)) (sym e) (All-from_recursion (IsShared sides) (filter q all) (filter-each (IsShared sides) q all (recursion_from_All (IsShared sides) all h)))

@@ -16,7 +16,7 @@ pub any-from : (W : World) (p : ClassFacts → Bool) (id m : ℕ) → m ≡ size
 unfolding chain chain_from
 any-from W p id m e = rw e refl
 
-any-step : (W : World) (p : ClassFacts → Bool) (m n id : ℕ) (next : Option ℕ) (c : ClassFacts) → m ≡ suc n → next ≡ Some id → Some c ≡ find_class W (name_at W id)
+pub any-step : (W : World) (p : ClassFacts → Bool) (m n id : ℕ) (next : Option ℕ) (c : ClassFacts) → m ≡ suc n → next ≡ Some id → Some c ≡ find_class W (name_at W id)
     → any_from W p m next ≡ (p c || any_from W p n (superclass_of W (name_at W id)))
 any-step W p m n id next c q e f = ap (any_from W p m) e ∙ ap (list_any p) (from-step W m n id c q (sym f))
 

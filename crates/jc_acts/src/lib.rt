@@ -10,6 +10,7 @@ mod lookup;
 pub mod members;
 mod open;
 pub mod plain;
-mod platform;
+mod records;
 mod root;
 pub mod seats;
+mod touched;

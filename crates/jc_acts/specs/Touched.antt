@@ -1,0 +1,36 @@
+-- Classes that changed between the two sides, or left the chain of a seat.
+use Rattle.std.specs.Prelude.{◌≡◌, ◌<◌, ◌||◌, ◌&&◌, ℕ, Bool, false, not, List, length, slice_index_or}
+use Rattle.std.specs.List.{list_any}
+use Rattle.std.specs.Option.{option_eq}
+use Rattle.jc_facts.specs.Names.{Bytes}
+use Rattle.jc_facts.specs.world.World.{World, find_class, size}
+use Rattle.jc_facts.specs.world.Hierarchy.{in_chain}
+use Rattle.jc_table.specs.Ids.{name_at}
+use Rattle.jc_sides.specs.SidesOf.{SidesOf}
+use Rattle.jc_acts.specs.Records.{same_facts}
+
+-- the two sides don't have the same class of this name
+abbrev pub is_changed : SidesOf → Bytes → Bool
+is_changed s y = not (option_eq same_facts (find_class s.old y) (find_class s.new y))
+
+-- the class y stood in the chain of the class a, and doesn't any more
+abbrev pub left_chain_of : SidesOf → Bytes → Bytes → Bool
+left_chain_of s y a = in_chain s.old a y && not (in_chain s.new a y)
+
+-- the class changed, or left the chain of one of these
+abbrev pub is_touched : SidesOf → List Bytes → Bytes → Bool
+is_touched s seats y = is_changed s y || list_any (left_chain_of s y) seats
+
+-- the flag of the class of number n
+abbrev pub flag_at : List Bool → ℕ → Bool
+flag_at flags n = slice_index_or flags n false
+
+-- there is a flag for each class, which tells whether its name passes the test
+pub record AreFlags (W : World) (p : Bytes → Bool) (flags : List Bool) : Type 0 where
+  pub count : length flags ≡ size W
+  pub each : (n : ℕ) → n < size W → flag_at flags n ≡ p (name_at W n)
+
+-- the flags after are as before, and set for the classes that pass the test too
+pub record AreSet (W : World) (p : Bytes → Bool) (before after : List Bool) : Type 0 where
+  pub count : length after ≡ size W
+  pub each : (n : ℕ) → n < size W → flag_at after n ≡ (flag_at before n || p (name_at W n))

@@ -1,0 +1,172 @@
+//! Classes that changed between the two sides, or left the chain of a seat. Where neither a class nor
+//! any above it did, lookups from it find the same on both sides, and stay open to the seats.
+ghost use Rattle.std.specs.Prelude.{◌≡◌, ◌<◌, ◌&&◌, ◌||◌, Bool, cond, length, map, not, set, Some, true, IfOk};
+ghost use Rattle.std.specs.List.{All, list_any};
+ghost use Rattle.jc_facts.specs.Names.{Bytes};
+ghost use Rattle.jc_facts.specs.declared.class_facts.ClassFacts.{ClassFacts as FactsOf};
+ghost use Rattle.jc_facts.specs.world.Hierarchy.{each, in_chain, with_interfaces};
+ghost use Rattle.jc_facts.specs.world.World.{find_class, size};
+ghost use Rattle.jc_worlds.specs.Hierarchy.{above};
+ghost use Rattle.jc_table.specs.Ids.{name_at};
+ghost use Rattle.jc_sides.specs.SharedOf.{IsShared, name_of};
+ghost use Rattle.jc_acts.specs.Touched.{AreFlags, AreSet, flag_at, is_changed, is_touched, left_chain_of};
+
+use crate::chains::{has_above, has_lost};
+use crate::records::are_same;
+use jc_sides::shared::Shared;
+use jc_sides::sides::Sides;
+use jc_table::ids::ClassId;
+use jc_table::table::Table;
+use std::alloc::{AllocError, Global};
+
+// Whether the sides don't have the same class of this name. The classes of the platform are those of
+// both sides, so they aren't compared.
+fn has_changed(sides: &Sides<'_>, id: ClassId) -> bool
+    requires { id < size sides.now.old }
+    ensures { result ≡ is_changed sides.now (name_at sides.now.old id) }
+{
+    if sides.old.in_platform(id) {
+        return false;
+    }
+    let before = sides.old.facts(id);
+    match sides.new.get(before.name.as_bytes()) {
+        Some(now) => !are_same(before, sides.new.facts(now)),
+        None => true,
+    }
+}
+
+// For each class of the old side, whether it changed.
+fn changed(alloc: Global, sides: &Sides<'_>) -> Result<Vec<bool>, AllocError>
+    ensures { IfOk result (λ flags. AreFlags sides.now.old (is_changed sides.now) flags.items) }
+{
+    let mut flags = Vec::new(alloc);
+    for n in 0..sides.old.count() {
+        let id = sides.old.id(n).unwrap();
+        flags.push(has_changed(sides, id))?;
+    }
+    Ok(flags)
+}
+
+// Sets the flag, where the test passed.
+fn set_where(flags: &mut Vec<bool>, n: usize, passes: bool)
+    requires { n < length flags.old.items }
+    ensures { flags.new.items ≡ cond passes (set flags.old.items n true) flags.old.items }
+{
+    if passes {
+        flags[n] = true;
+    }
+}
+
+// Sets the flags of the classes of the one chain that aren't in the other, by name.
+fn set_left(old: &Table, new: &Table, flags: &mut Vec<bool>, class: ClassId, other: ClassId)
+    requires class { class < size old.now }
+    requires other { other < size new.now }
+    requires flags { length flags.old.items ≡ size old.now }
+    ensures { AreSet old.now (λ y. in_chain old.now (name_at old.now class) y && not (in_chain new.now (name_at new.now other) y)) flags.old.items flags.new.items }
+{
+    let mut next = Some(class);
+    for _ in 0..old.count() {
+        let Some(above) = next else {
+            return;
+        };
+        let n = above.number() as usize;
+        let left = !has_above(new, other, &old.facts(above).name);
+        set_where(flags, n, left);
+        next = old.superclass(above);
+    }
+}
+
+// Sets the flags of those that left the seat's chain.
+fn set_left_by(sides: &Sides<'_>, flags: &mut Vec<bool>, seat: &Shared<'_>)
+    requires seat { IsShared sides.now seat.now }
+    requires flags { length flags.old.items ≡ size sides.now.old }
+    ensures { AreSet sides.now.old (λ y. left_chain_of sides.now y (name_of seat.now)) flags.old.items flags.new.items }
+{
+    if has_lost(sides, seat) {
+        set_left(sides.old, sides.new, flags, seat.old, seat.new);
+    }
+}
+
+// Sets the flags of those that left the chain of one of the seats.
+fn set_left_by_any(sides: &Sides<'_>, flags: &mut Vec<bool>, seats: &[Shared<'_>])
+    requires seats { All (IsShared sides.now) seats.now }
+    requires flags { length flags.old.items ≡ size sides.now.old }
+    ensures { AreSet sides.now.old (λ y. list_any (left_chain_of sides.now y) (map name_of seats.now)) flags.old.items flags.new.items }
+{
+    for seat in seats {
+        set_left_by(sides, flags, seat);
+    }
+}
+
+/// For each class of the old side, whether it changed or left the chain of one of the seats.
+pub fn touched(
+    alloc: Global,
+    sides: &Sides<'_>,
+    seats: &[Shared<'_>],
+) -> Result<Vec<bool>, AllocError>
+    requires { All (IsShared sides.now) seats.now }
+    ensures { IfOk result (λ flags. AreFlags sides.now.old (is_touched sides.now (map name_of seats.now)) flags.items) }
+{
+    let mut flags = changed(alloc, sides)?;
+    set_left_by_any(sides, &mut flags, seats);
+    Ok(flags)
+}
+
+// Whether one of these classes has its flag set.
+fn is_any_set(flags: &[bool], ids: &[ClassId]) -> bool
+    requires { All (λ n. n < length flags.now) ids.now }
+    ensures { result ≡ list_any (flag_at flags.now) ids.now }
+{
+    for id in ids {
+        if flags[id.number() as usize] {
+            return true;
+        }
+    }
+    false
+}
+
+// Whether the class has its flag set, or an interface that it names or that leads to.
+fn is_set_at(table: &Table, flags: &[bool], id: ClassId) -> bool
+    requires flags { length flags.now ≡ size table.now }
+    requires class { id < size table.now }
+    ensures { (p : Bytes → Bool) → AreFlags table.now p flags.now → (c : FactsOf) → Some c ≡ find_class table.now (name_at table.now id) → result ≡ (p c.name || list_any (λ d. p d.name) (each (with_interfaces table.now) c.interfaces)) }
+{
+    flags[id.number() as usize] || is_any_set(flags, table.interfaces(id))
+}
+
+// Whether the class or one above it has its flag set.
+fn is_set_above(table: &Table, flags: &[bool], class: ClassId) -> bool
+    requires flags { length flags.now ≡ size table.now }
+    requires class { class < size table.now }
+    ensures { (p : Bytes → Bool) → AreFlags table.now p flags.now → result ≡ list_any (λ c. p c.name) (above table.now (name_at table.now class)) }
+{
+    let mut next = Some(class);
+    for _ in 0..table.count() {
+        let Some(id) = next else {
+            return false;
+        };
+        if is_set_at(table, flags, id) {
+            return true;
+        }
+        next = table.superclass(id);
+    }
+    false
+}
+
+/// For each class, whether it or one above it has its flag set. It takes time in proportion to the
+/// classes above each.
+pub fn with_those_below(
+    alloc: Global,
+    table: &Table,
+    flags: &[bool],
+) -> Result<Vec<bool>, AllocError>
+    requires { length flags.now ≡ size table.now }
+    ensures { IfOk result (λ below. (p : Bytes → Bool) → AreFlags table.now p flags.now → AreFlags table.now (λ x. list_any (λ c. p c.name) (above table.now x)) below.items) }
+{
+    let mut below = Vec::new(alloc);
+    for n in 0..table.count() {
+        let id = table.id(n).unwrap();
+        below.push(is_set_above(table, flags, id))?;
+    }
+    Ok(below)
+}
