@@ -1,6 +1,6 @@
--- The numbered keys are those that some class declares.
+-- The numbered keys are those that some class with rows declares.
 use Rattle.std.proofs.Common.{◌≡◌, Bool, true, false, List, [], ◌∷◌, ◌++◌, refl, sym, ◌∙◌, ap, subst, Option, Some, None, ◌||◌}
-use Rattle.std.specs.Prelude.{cond, is_some, is_none}
+use Rattle.std.specs.Prelude.{cond, is_some, is_none, ◌&&◌}
 use Rattle.std.specs.List.{list_any, Contains}
 use Rattle.std.proofs.lemmas.Bool.{and_parts}
 use Rattle.std.proofs.lemmas.List.Folds.{list_any-append}
@@ -13,14 +13,14 @@ use Rattle.jc_facts.specs.file.Valid.{has_key}
 use Rattle.jc_facts.specs.world.World.{World, classes, class_named, find_class, own_field_of, own_method_of}
 use Rattle.jc_facts.proofs.Keys.{flip}
 use Rattle.jc_facts.proofs.Same.{same_is, same_itself}
-use Rattle.jc_facts.proofs.World.{class_named-each}
+use Rattle.jc_facts.proofs.World.{class_named-each, find-name}
 use Rattle.jc_lemmas.proofs.Bools.{or_assoc, or_false, or_true, tests_agree}
 use Rattle.jc_lemmas.proofs.Listed.{EachOf, EachOf-both, each_in, each_from, each_of, any_passes, any_has}
 use Rattle.jc_lemmas.proofs.Lists.{found_any}
 use Rattle.jc_index.specs.Ids.{names}
-use Rattle.jc_index.specs.Lookups.{declare_field, declare_method}
 use Rattle.jc_index.proofs.Numbers.{names-in}
-use Rattle.jc_rows.specs.Keys.{with_key, with_keys, with_keys_of, with_all_keys, numbered_keys}
+use Rattle.jc_rows.specs.Keys.{with_key, with_keys, with_keys_of, with_all_keys, class_with_rows, numbered_keys, declares_with_rows}
+use Rattle.jc_rows.specs.WithRows.{has_rows}
 use Rattle.jc_index.proofs.HashedKeys.{key_is}
 
 -- ---- keys that are added
@@ -61,17 +61,17 @@ module _ (q : Key) where
       ∙ ap (λ (b : Bool). has_key q keys || (b || list_any (is_key q) c.methods)) (found_any (is_key q) c.fields)
       ∙ ap (λ (b : Bool). has_key q keys || (is_some (own_field_of c q) || b)) (found_any (is_key q) c.methods)
 
-  has-all : (W : World) (keys : List Key) (xs : List Bytes) → has_key q (with_all_keys W keys xs) ≡ (has_key q keys || list_any (λ x. some_declares (find_class W x)) xs)
+  has-all : (W : World) (keys : List Key) (xs : List Bytes) → has_key q (with_all_keys W keys xs) ≡ (has_key q keys || list_any (λ x. some_declares (class_with_rows W x)) xs)
   has-all W keys [] = sym (or_false (has_key q keys))
   has-all W keys (x ∷ xs) =
-      has-all W (with_keys_of keys (find_class W x)) xs
-      ∙ ap (λ (b : Bool). b || list_any (λ y. some_declares (find_class W y)) xs) (has-class keys (find_class W x))
-      ∙ or_assoc (has_key q keys) (some_declares (find_class W x)) (list_any (λ y. some_declares (find_class W y)) xs)
+      has-all W (with_keys_of keys (class_with_rows W x)) xs
+      ∙ ap (λ (b : Bool). b || list_any (λ y. some_declares (class_with_rows W y)) xs) (has-class keys (class_with_rows W x))
+      ∙ or_assoc (has_key q keys) (some_declares (class_with_rows W x)) (list_any (λ y. some_declares (class_with_rows W y)) xs)
 
 -- ---- classes by their names
 
 -- where no two classes have one name, each is the class of its name
-each_named : (cs : List ClassFacts) → differ_by_name cs ≡ true → EachOf (λ c. class_named cs c.name ≡ Some c) cs
+pub each_named : (cs : List ClassFacts) → differ_by_name cs ≡ true → EachOf (λ c. class_named cs c.name ≡ Some c) cs
 unfolding differ_by_name class_named
 each_named [] h = tt
 each_named (c ∷ cs) h = (
@@ -90,40 +90,46 @@ each_named (c ∷ cs) h = (
         go false s = e
 
 module _ (W : World) (differ : differ_by_name (classes W) ≡ true) (k : Key) where
-  found_in_classes : (x : Bytes) (o : Option ClassFacts) → find_class W x ≡ o → some_declares k o ≡ true → list_any (declares k) (classes W) ≡ true
-  unfolding find_class
-  found_in_classes x None e h = absurd (let c : false ≡ true = h in cc)
-  found_in_classes x (Some c) e h = any_has (declares k) (classes W) c (class_named-each (Contains (classes W)) (classes W) x c (each_from (Contains (classes W)) (classes W) (λ d i. i)) e) h
-
+  -- a class is met under its own name
   by_name : (c : ClassFacts) → Contains (classes W) c → find_class W c.name ≡ Some c
   unfolding find_class
   by_name c i = each_in (λ d. class_named (classes W) d.name ≡ Some d) (classes W) c (each_named (classes W) differ) i
 
-  by_names : list_any (λ x. some_declares k (find_class W x)) (names W) ≡ list_any (declares k) (classes W)
-  by_names = tests_agree (list_any (λ x. some_declares k (find_class W x)) (names W)) (list_any (declares k) (classes W)) down up
-    where
-      down : list_any (λ x. some_declares k (find_class W x)) (names W) ≡ true → list_any (declares k) (classes W) ≡ true
-      down h = let p = any_passes (λ x. some_declares k (find_class W x)) (names W) h in found_in_classes p.one (find_class W p.one) refl p.passes
+  found_in : (x : Bytes) (c : ClassFacts) → find_class W x ≡ Some c → Contains (classes W) c
+  unfolding find_class
+  found_in x c e = class_named-each (Contains (classes W)) (classes W) x c (each_from (Contains (classes W)) (classes W) (λ d i. i)) e
 
-      up : list_any (declares k) (classes W) ≡ true → list_any (λ x. some_declares k (find_class W x)) (names W) ≡ true
+  -- the test of a class is that of what is found under its name, where it has rows
+  declared_at : (b : Bool) (o : Option ClassFacts) (c : ClassFacts) → o ≡ Some c → some_declares k (cond b o None) ≡ (b && declares k c)
+  declared_at true o c e = ap (some_declares k) e
+  declared_at false o c e = refl
+
+  found_in_classes : (x : Bytes) → some_declares k (class_with_rows W x) ≡ true → list_any (declares_with_rows W k) (classes W) ≡ true
+  found_in_classes x h = go (find_class W x) refl
+    where
+      none : (b : Bool) (o : Option ClassFacts) → o ≡ None → some_declares k (cond b o None) ≡ false
+      none true o e = ap (some_declares k) e
+      none false o e = refl
+
+      go : (o : Option ClassFacts) → find_class W x ≡ o → list_any (declares_with_rows W k) (classes W) ≡ true
+      go None e = absurd (let z : true ≡ false = sym h ∙ none (has_rows W x) (find_class W x) e in cc)
+      go (Some c) e =
+          any_has (declares_with_rows W k) (classes W) c (found_in x c e)
+          (ap (λ (y : Bytes). has_rows W y && declares k c) (find-name W x c e) ∙ sym (declared_at (has_rows W x) (find_class W x) c e) ∙ h)
+
+  by_names : list_any (λ x. some_declares k (class_with_rows W x)) (names W) ≡ list_any (declares_with_rows W k) (classes W)
+  by_names = tests_agree (list_any (λ x. some_declares k (class_with_rows W x)) (names W)) (list_any (declares_with_rows W k) (classes W)) down up
+    where
+      down : list_any (λ x. some_declares k (class_with_rows W x)) (names W) ≡ true → list_any (declares_with_rows W k) (classes W) ≡ true
+      down h = let p = any_passes (λ x. some_declares k (class_with_rows W x)) (names W) h in found_in_classes p.one p.passes
+
+      up : list_any (declares_with_rows W k) (classes W) ≡ true → list_any (λ x. some_declares k (class_with_rows W x)) (names W) ≡ true
       up h =
-          let p = any_passes (declares k) (classes W) h in
+          let p = any_passes (declares_with_rows W k) (classes W) h in
           let e : find_class W p.one.name ≡ Some p.one = by_name p.one p.is_in in
-          any_has (λ x. some_declares k (find_class W x)) (names W) p.one.name (names-in W p.one.name (ap is_some e)) (ap (some_declares k) e ∙ p.passes)
+          any_has (λ x. some_declares k (class_with_rows W x)) (names W) p.one.name (names-in W p.one.name (ap is_some e)) (declared_at (has_rows W p.one.name) (find_class W p.one.name) p.one e ∙ p.passes)
 
-  -- one declares a field of the key, or one a method
-  each_kind : (cs : List ClassFacts) → list_any (declares k) cs ≡ (declare_field cs k || declare_method cs k)
-  each_kind [] = refl
-  each_kind (c ∷ cs) = ap (λ (b : Bool). declares k c || b) (each_kind cs) ∙ regroup (is_some (own_field_of c k)) (is_some (own_method_of c k)) (declare_field cs k) (declare_method cs k)
-    where
-      regroup : (a b f g : Bool) → ((a || b) || (f || g)) ≡ ((a || f) || (b || g))
-      regroup true b f g = refl
-      regroup false true true g = refl
-      regroup false true false g = refl
-      regroup false false true g = refl
-      regroup false false false g = refl
-
-  -- a key is numbered exactly where a class declares a field or a method of it
-  pub numbered_keys-declared : has_key k (numbered_keys W) ≡ (declare_field (classes W) k || declare_method (classes W) k)
+  -- a key is numbered exactly where a class that has rows declares a field or a method of it
+  pub numbered_keys-declared : has_key k (numbered_keys W) ≡ list_any (declares_with_rows W k) (classes W)
   unfolding numbered_keys
-  numbered_keys-declared = has-all k W [] (names W) ∙ by_names ∙ each_kind (classes W)
+  numbered_keys-declared = has-all k W [] (names W) ∙ by_names

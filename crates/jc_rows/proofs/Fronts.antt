@@ -21,15 +21,18 @@ use Rattle.jc_lemmas.proofs.Listed.{EachOf}
 use Rattle.jc_worlds.proofs.Unrolled.{chain-unroll}
 use Rattle.jc_index.specs.Ids.{id_of, name_at}
 use Rattle.jc_index.specs.Lookups.{IsAnswer}
+use Rattle.jc_index.specs.Sides.{IsSide}
 use Rattle.jc_index.proofs.Numbers.{id_of-Some, find-None}
 use Rattle.jc_index.specs.declared.ids.Found.{Found}
 use Rattle.jc_rows.specs.declared.row.RowItem.{RowItem}
 use Rattle.jc_rows.specs.Rows.{RisesFrom, entry, IsRow}
+use Rattle.jc_rows.specs.WithRows.{has_rows}
 use Rattle.jc_rows.specs.steps.Merging.{IsMerged}
 use Rattle.jc_rows.specs.steps.Gathering.{row_named, HasAbove}
 use Rattle.jc_rows.specs.steps.Fronts.{front_by, front_method, own_method, chain_method, if_open, item_list, open_items}
 use Rattle.jc_rows.proofs.Entries.{entry-append, entry-below, rises-more}
 use Rattle.jc_rows.proofs.FieldLaw.{both}
+use Rattle.jc_rows.proofs.WithRows.{rows-object}
 
 -- ---- items that stay
 
@@ -130,6 +133,9 @@ module _ (W : World) where
     found = λ n k q. subst (λ (o : Option ClassFacts). IsAnswer W None (and_then if_public_instance (and_then (declared_method k) o))) (sym (find-None W object_name e)) tt;
     within = λ n q. refl;
   })
+
+  pub object_rows : IsSide W → (n : ℕ) → id_of W object_name ≡ Some n → has_rows W (name_at W n) ≡ true
+  object_rows side n e = ap (has_rows W) (id_of-Some W object_name n e).1 ∙ rows-object W side
 
   pub own_object : (n : ℕ) → id_of W object_name ≡ Some n → (row : List RowItem) → IsRow W (own_method W (name_at W n)) row → IsRow W (own_method W object_name) row
   own_object n e row r = subst (λ (x : Bytes). IsRow W (own_method W x) row) (id_of-Some W object_name n e).1 r

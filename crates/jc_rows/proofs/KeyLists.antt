@@ -6,9 +6,9 @@ use Rattle.jc_facts.specs.declared.class_facts.ClassFacts.{ClassFacts}
 use Rattle.jc_facts.specs.declared.class_facts.Member.{Member}
 use Rattle.jc_facts.specs.declared.key.Key.{Key}
 use Rattle.jc_facts.specs.Names.{Bytes, same_key, key_of}
-use Rattle.jc_facts.specs.world.World.{World, find_class}
+use Rattle.jc_facts.specs.world.World.{World}
 use Rattle.jc_index.specs.Ids.{names}
-use Rattle.jc_rows.specs.Keys.{AreDistinct, with_key, with_keys, with_keys_of, with_all_keys, numbered_keys}
+use Rattle.jc_rows.specs.Keys.{AreDistinct, with_key, with_keys, with_keys_of, with_all_keys, class_with_rows, numbered_keys}
 use Rattle.jc_rows.specs.steps.Numbering.{AreNumbers}
 use Rattle.jc_facts.proofs.Same.{key_itself}
 
@@ -40,7 +40,7 @@ stay_class keys (Some c) n k e = stay_keys (with_keys keys c.fields) c.methods n
 
 pub stay_all : (W : World) (keys : List Key) (xs : List Bytes) → Stay keys (with_all_keys W keys xs)
 stay_all W keys [] n k e = e
-stay_all W keys (x ∷ xs) n k e = stay_all W (with_keys_of keys (find_class W x)) xs n k (stay_class keys (find_class W x) n k e)
+stay_all W keys (x ∷ xs) n k e = stay_all W (with_keys_of keys (class_with_rows W x)) xs n k (stay_class keys (class_with_rows W x) n k e)
 
 -- so their numbers do
 pub numbers_stay : (before now : List Key) → Stay before now → (ms : List Member) (ns : List ℕ) → AreNumbers before ms ns → AreNumbers now ms ns
@@ -99,7 +99,7 @@ distinct_class keys (Some c) d = distinct_keys (with_keys keys c.fields) c.metho
 
 distinct_all : (W : World) (keys : List Key) (xs : List Bytes) → AreDistinct keys → AreDistinct (with_all_keys W keys xs)
 distinct_all W keys [] d = d
-distinct_all W keys (x ∷ xs) d = distinct_all W (with_keys_of keys (find_class W x)) xs (distinct_class keys (find_class W x) d)
+distinct_all W keys (x ∷ xs) d = distinct_all W (with_keys_of keys (class_with_rows W x)) xs (distinct_class keys (class_with_rows W x) d)
 
 pub numbered_keys-distinct : (W : World) → AreDistinct (numbered_keys W)
 unfolding numbered_keys

@@ -4,6 +4,7 @@ pub mod Searching
 pub mod Numbered
 pub mod KeyLists
 pub mod Numbers
+pub mod WithRows
 pub mod DeclaredKeys
 pub mod OwnMembers
 pub mod RowsAbove
@@ -13,3 +14,4 @@ pub mod Settling
 pub mod Unfound
 pub mod Sources
 pub mod Filling
+pub mod Marking

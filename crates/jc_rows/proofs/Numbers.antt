@@ -1,5 +1,5 @@
 -- The members of all classes are numbered, one class after the other.
-use Rattle.std.proofs.Common.{◌≡◌, ℕ, ◌≤◌, ◌<◌, ◌+◌, List, [], ◌∷◌, ◌++◌, length, map, take, drop, get_or, refl, sym, ◌∙◌, ap, subst, Option, Some, arith, ◌⊎◌, inl, inr, length-append}
+use Rattle.std.proofs.Common.{◌≡◌, ℕ, ◌≤◌, ◌<◌, ◌+◌, List, [], ◌∷◌, ◌++◌, length, map, take, drop, get_or, refl, sym, ◌∙◌, ap, subst, Option, Some, None, arith, ◌⊎◌, inl, inr, length-append}
 use Rattle.std.specs.Prelude.{slice_get}
 use Rattle.std.proofs.lemmas.Bool.{cases_lt}
 use Rattle.std.proofs.lemmas.List.{drop_more, take_more, take_all, map-append}
@@ -9,13 +9,13 @@ use Rattle.jc_facts.specs.declared.class_facts.ClassFacts.{ClassFacts}
 use Rattle.jc_facts.specs.declared.class_facts.Member.{Member}
 use Rattle.jc_facts.specs.declared.key.Key.{Key}
 use Rattle.jc_facts.specs.Names.{key_of}
-use Rattle.jc_facts.specs.world.World.{World, find_class, size}
+use Rattle.jc_facts.specs.world.World.{World, size}
 use Rattle.jc_index.specs.Ids.{name_at, names}
 use Rattle.jc_index.proofs.Numbers.{names-length}
 use Rattle.jc_rows.specs.declared.numbering.Numbering.{Numbering}
-use Rattle.jc_rows.specs.Keys.{with_key, with_keys, with_keys_of, with_all_keys, numbered_keys}
-use Rattle.jc_rows.specs.steps.Numbering.{AreNumbers, IsNumbering, AddsNumbers, AddsClass, HasNumbersBefore, IsNumberingBefore}
-use Rattle.jc_rows.proofs.KeyLists.{Stay, stay_key, stay_keys, numbers_stay}
+use Rattle.jc_rows.specs.Keys.{with_key, with_keys, with_keys_of, with_all_keys, class_with_rows, numbered_keys}
+use Rattle.jc_rows.specs.steps.Numbering.{AreNumbers, IsNumbering, AddsNumbers, members_in, AddsClass, HasNumbersBefore, IsNumberingBefore}
+use Rattle.jc_rows.proofs.KeyLists.{Stay, stay_key, stay_keys, stay_class, numbers_stay}
 
 -- ---- the members of a class
 
@@ -51,11 +51,18 @@ members-end before ms at keys ns l a = (
 
 pub adds_class : (before after : Numbering) (c : ClassFacts) (middle : List Key) (fields methods : List ℕ)
     → middle ≡ with_keys before.keys c.fields → AreNumbers middle c.fields fields → after.keys ≡ with_keys middle c.methods → AreNumbers after.keys c.methods methods
-    → after.fields.items ≡ before.fields.items ++ (fields ∷ []) → after.methods.items ≡ before.methods.items ++ (methods ∷ []) → AddsClass before c after
+    → after.fields.items ≡ before.fields.items ++ (fields ∷ []) → after.methods.items ≡ before.methods.items ++ (methods ∷ []) → AddsClass before (Some c) after
 adds_class before after c middle fields methods m f k g a b = record {
   keys = k ∙ ap (λ (ks : List Key). with_keys ks c.methods) m;
   fields = record { numbers = fields; added = a; right = numbers_stay middle after.keys (subst (Stay middle) (sym k) (stay_keys middle c.methods)) c.fields fields f };
   methods = record { numbers = methods; added = b; right = g };
+}
+
+pub adds_nothing : (before after : Numbering) → after.keys ≡ before.keys → after.fields.items ≡ before.fields.items ++ ([] ∷ []) → after.methods.items ≡ before.methods.items ++ ([] ∷ []) → AddsClass before None after
+adds_nothing before after k a b = record {
+  keys = k;
+  fields = record { numbers = []; added = a; right = refl };
+  methods = record { numbers = []; added = b; right = refl };
 }
 
 -- ---- all classes
@@ -67,12 +74,12 @@ numbering-start W numbering at e k f g = subst (λ (i : ℕ). IsNumberingBefore 
   methods = record { count = ap length g; right = λ n c l h. absurd (omega arith) };
 })
 
-module _ (W : World) (at : ℕ) (c : ClassFacts) (l : at < size W) (f : find_class W (name_at W at) ≡ Some c) where
+module _ (W : World) (at : ℕ) (o : Option ClassFacts) (l : at < size W) (f : class_with_rows W (name_at W at) ≡ o) where
   -- the names from here on
   from_here : drop at (names W) ≡ name_at W at ∷ drop (at + 1) (names W)
   from_here = drop_more (names W) at [] (let e = names-length W in omega (arith, e, l))
 
-  more : (keys now : List Key) (members : ClassFacts → List Member) (before after : List (List ℕ)) → Stay keys now → HasNumbersBefore W keys members at before → AddsNumbers now (members c) before after → HasNumbersBefore W now members (at + 1) after
+  more : (keys now : List Key) (members : ClassFacts → List Member) (before after : List (List ℕ)) → Stay keys now → HasNumbersBefore W keys members at before → AddsNumbers now (members_in members o) before after → HasNumbersBefore W now members (at + 1) after
   more keys now members before after s h a = subst (HasNumbersBefore W now members (at + 1)) (sym a.added) (record {
     count = length-append before (a.numbers ∷ []) ∙ (let e = h.count in omega (arith, e));
     right = λ n d k g. go n d g (cases_lt n at) k;
@@ -81,16 +88,15 @@ module _ (W : World) (at : ℕ) (c : ClassFacts) (l : at < size W) (f : find_cla
       last : get_or (before ++ (a.numbers ∷ [])) at [] ≡ a.numbers
       last = ap (λ (i : ℕ). get_or (before ++ (a.numbers ∷ [])) i []) (sym h.count) ∙ get_or-append_seam before a.numbers [] []
 
-      go : (n : ℕ) (d : ClassFacts) → find_class W (name_at W n) ≡ Some d → (n < at) ⊎ (at ≤ n) → n < at + 1 → AreNumbers now (members d) (get_or (before ++ (a.numbers ∷ [])) n [])
+      go : (n : ℕ) (d : ClassFacts) → class_with_rows W (name_at W n) ≡ Some d → (n < at) ⊎ (at ≤ n) → n < at + 1 → AreNumbers now (members d) (get_or (before ++ (a.numbers ∷ [])) n [])
       go n d g (inl k) j = subst (AreNumbers now (members d)) (sym (get_or-append before (a.numbers ∷ []) [] n (let e = h.count in omega (arith, e, k)))) (numbers_stay keys now s (members d) (get_or before n []) (h.right n d k g))
       go n d g (inr k) j =
           let e : n ≡ at = omega (arith, k, j) in
-          let p : Some d ≡ Some c = sym g ∙ ap (λ (i : ℕ). find_class W (name_at W i)) e ∙ f in
-          let q : d ≡ c = cc in
+          let p : o ≡ Some d = sym f ∙ ap (λ (i : ℕ). class_with_rows W (name_at W i)) (sym e) ∙ g in
           subst (λ (i : ℕ). AreNumbers now (members d) (get_or (before ++ (a.numbers ∷ [])) i [])) (sym e)
-          (subst (AreNumbers now (members d)) (sym last) (subst (λ (z : ClassFacts). AreNumbers now (members z) a.numbers) (sym q) a.right))
+          (subst (AreNumbers now (members d)) (sym last) (subst (λ (z : Option ClassFacts). AreNumbers now (members_in members z) a.numbers) p a.right))
 
-  pub class-next : (before after : Numbering) → IsNumberingBefore W at before → AddsClass before c after → IsNumberingBefore W (at + 1) after
+  pub class-next : (before after : Numbering) → IsNumberingBefore W at before → AddsClass before o after → IsNumberingBefore W (at + 1) after
   class-next before after b a = record {
     keys =
         ap (λ (ks : List Key). with_all_keys W ks (drop (at + 1) (names W))) (a.keys ∙ ap (with_keys_of before.keys) (sym f))
@@ -100,7 +106,7 @@ module _ (W : World) (at : ℕ) (c : ClassFacts) (l : at < size W) (f : find_cla
   }
     where
       stay : Stay before.keys after.keys
-      stay n k e = subst (λ (ks : List Key). slice_get ks n ≡ Some k) (sym a.keys) (stay_keys (with_keys before.keys c.fields) c.methods n k (stay_keys before.keys c.fields n k e))
+      stay n k e = subst (λ (ks : List Key). slice_get ks n ≡ Some k) (sym a.keys) (stay_class before.keys o n k e)
 
 pub numbering-end : (W : World) (at : ℕ) (numbering : Numbering) → at ≡ size W → IsNumberingBefore W at numbering → IsNumbering W numbering
 unfolding numbered_keys

@@ -18,6 +18,7 @@ use Rattle.jc_index.specs.declared.ids.Found.{Found}
 use Rattle.jc_rows.specs.declared.row.RowItem.{RowItem}
 use Rattle.jc_rows.specs.Keys.{AreDistinct, numbered_keys}
 use Rattle.jc_rows.specs.Rows.{entry, IsRow}
+use Rattle.jc_rows.specs.WithRows.{has_rows}
 use Rattle.jc_rows.specs.steps.Merging.{IsRowOf}
 use Rattle.jc_rows.specs.steps.Numbering.{AreNumbers, HasNumbers, items_of}
 use Rattle.jc_rows.specs.steps.Fronts.{own_field, own_method}
@@ -137,8 +138,8 @@ module _ (W : World) (x : Bytes) (c : ClassFacts) (f : find_class W x ≡ Some c
   }
 
 -- the numbers that a class has
-pub numbers_at : (W : World) (members : ClassFacts → List Member) (numbers : List (List ℕ)) → HasNumbers W (numbered_keys W) members numbers → (class i : ℕ) → i ≡ class → class < size W → (c : ClassFacts) → find_class W (name_at W class) ≡ Some c
+pub numbers_at : (W : World) (members : ClassFacts → List Member) (numbers : List (List ℕ)) → HasNumbers W (numbered_keys W) members numbers → (class i : ℕ) → i ≡ class → class < size W → has_rows W (name_at W class) ≡ true → (c : ClassFacts) → find_class W (name_at W class) ≡ Some c
     → (ns : List ℕ) → ns ≡ get_or numbers i ns → AreNumbers (numbered_keys W) (members c) ns
-numbers_at W members numbers h class i e l c f ns g =
+numbers_at W members numbers h class i e l r c f ns g =
     subst (AreNumbers (numbered_keys W) (members c))
-    (sym (g ∙ ap (λ (j : ℕ). get_or numbers j ns) e ∙ get_or_default numbers class ns [] (let k = h.count in omega (arith, k, l)))) (h.right class c l f)
+    (sym (g ∙ ap (λ (j : ℕ). get_or numbers j ns) e ∙ get_or_default numbers class ns [] (let k = h.count in omega (arith, k, l)))) (h.right class c l (ap (λ (b : Bool). cond b (find_class W (name_at W class)) None) r ∙ f))

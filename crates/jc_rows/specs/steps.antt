@@ -4,3 +4,4 @@ pub mod Numbering
 pub mod Fronts
 pub mod Settling
 pub mod Columns
+pub mod Marking

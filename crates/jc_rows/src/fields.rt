@@ -1,9 +1,10 @@
 //! The row of the fields that the lookup from a class finds (JVMS 5.4.3.2).
-ghost use Rattle.std.specs.Prelude.{◌≡◌, ◌<◌, None, IfOk};
+ghost use Rattle.std.specs.Prelude.{◌≡◌, ◌<◌, None, true, IfOk};
 ghost use Rattle.jc_facts.specs.world.World.{size};
 ghost use Rattle.jc_facts.specs.world.Loading.{load_fault};
 ghost use Rattle.jc_index.specs.Ids.{name_at};
 ghost use Rattle.jc_rows.specs.Rows.{IsFieldRow};
+ghost use Rattle.jc_rows.specs.WithRows.{has_rows};
 ghost use Rattle.jc_rows.specs.steps.Gathering.{AreRising, HasAbove};
 ghost use Rattle.jc_rows.specs.steps.Numbering.{IsNumbering};
 
@@ -18,8 +19,8 @@ use std::alloc::{AllocError, Global};
 
 /// The row of the fields that the lookup from the class finds: its own fields, those that the rows
 /// of the interfaces have that it names, in order, and those of its superclass's row
-/// (JVMS 5.4.3.2). The class has to load, and the rows of what it names above itself have to be
-/// there.
+/// (JVMS 5.4.3.2). The class has to load and to be one that has rows, and the rows of what it names
+/// above itself have to be there.
 pub(crate) fn field_row(
     alloc: Global,
     index: &Index,
@@ -28,6 +29,7 @@ pub(crate) fn field_row(
     class: ClassId,
 ) -> Result<Vec<RowItem>, AllocError>
     requires class { class < size index.now }
+    requires rows { has_rows index.now (name_at index.now class) ≡ true }
     requires loads { load_fault index.now (name_at index.now class) ≡ None }
     requires numbering { IsNumbering index.now numbering.now }
     requires rising { AreRising index.now rows.now }

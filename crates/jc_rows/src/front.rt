@@ -1,10 +1,11 @@
 //! What a lookup of methods finds before it looks at superinterfaces (JVMS 5.4.3.3, 5.4.3.4).
-ghost use Rattle.std.specs.Prelude.{◌≡◌, ◌<◌, ◌++◌, None, IfOk, OnOk};
+ghost use Rattle.std.specs.Prelude.{◌≡◌, ◌<◌, ◌++◌, None, true, IfOk, OnOk};
 ghost use Rattle.jc_facts.specs.world.World.{size};
 ghost use Rattle.jc_facts.specs.world.Loading.{load_fault};
 ghost use Rattle.jc_facts.specs.world.Lookup.{public_method_of_object};
 ghost use Rattle.jc_index.specs.Ids.{name_at};
 ghost use Rattle.jc_rows.specs.Rows.{IsRow};
+ghost use Rattle.jc_rows.specs.WithRows.{has_rows};
 ghost use Rattle.jc_rows.specs.steps.Gathering.{AreRising, HasAbove};
 ghost use Rattle.jc_rows.specs.steps.Numbering.{IsNumbering};
 ghost use Rattle.jc_rows.specs.steps.Fronts.{chain_method, front_method, if_open, item_list, open_items};
@@ -23,8 +24,8 @@ use std::alloc::{AllocError, Global};
 const OBJECT: &[u8] = b"java/lang/Object";
 
 /// The row of the methods of the class's chain: for each key that of the first class of the chain
-/// that declares it (JVMS 5.4.3.3). The class has to load, and the rows of what it names above itself
-/// have to be there.
+/// that declares it (JVMS 5.4.3.3). The class has to load and to be one that has rows, and the rows
+/// of what it names above itself have to be there.
 pub(crate) fn chain_row(
     alloc: Global,
     index: &Index,
@@ -33,6 +34,7 @@ pub(crate) fn chain_row(
     class: ClassId,
 ) -> Result<Vec<RowItem>, AllocError>
     requires class { class < size index.now }
+    requires rows { has_rows index.now (name_at index.now class) ≡ true }
     requires loads { load_fault index.now (name_at index.now class) ≡ None }
     requires numbering { IsNumbering index.now numbering.now }
     requires rising { AreRising index.now rows.now }
@@ -100,6 +102,7 @@ pub(crate) fn object_row(
     requires { IsNumbering index.now numbering.now }
     ensures { IfOk result (λ row. IsRow index.now (public_method_of_object index.now) row.items) }
 {
+    let _classes = index.count();
     let Some(object) = index.get(OBJECT) else {
         return Ok(Vec::new(alloc));
     };
@@ -109,7 +112,7 @@ pub(crate) fn object_row(
 }
 
 /// What a lookup finds before it looks at superinterfaces: of an interface its own, else those of
-/// `java/lang/Object`; of another class what its chain has.
+/// `java/lang/Object`; of another class what its chain has. The class has to be one that has rows.
 pub(crate) fn front_row(
     alloc: Global,
     index: &Index,
@@ -119,6 +122,7 @@ pub(crate) fn front_row(
     class: ClassId,
 ) -> Result<Vec<RowItem>, AllocError>
     requires class { class < size index.now }
+    requires rows { has_rows index.now (name_at index.now class) ≡ true }
     requires numbering { IsNumbering index.now numbering.now }
     requires chain { IsRow index.now (chain_method index.now (name_at index.now class)) chain.now }
     requires object { IsRow index.now (public_method_of_object index.now) object.now }

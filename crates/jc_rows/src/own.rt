@@ -1,8 +1,9 @@
 //! The rows of what a class itself declares (JVMS 4.5, 4.6).
-ghost use Rattle.std.specs.Prelude.{◌≡◌, ◌<◌, length, IfOk};
+ghost use Rattle.std.specs.Prelude.{◌≡◌, ◌<◌, length, true, IfOk};
 ghost use Rattle.jc_facts.specs.world.World.{size};
 ghost use Rattle.jc_index.specs.Ids.{name_at};
 ghost use Rattle.jc_rows.specs.Rows.{IsRow};
+ghost use Rattle.jc_rows.specs.WithRows.{has_rows};
 ghost use Rattle.jc_rows.specs.steps.Merging.{IsRowOf};
 ghost use Rattle.jc_rows.specs.steps.Numbering.{IsNumbering, items_of};
 ghost use Rattle.jc_rows.specs.steps.Fronts.{own_field, own_method};
@@ -52,7 +53,7 @@ fn member_row(
     Ok(row)
 }
 
-/// The row of the fields that the class itself declares (JVMS 4.5).
+/// The row of the fields that the class itself declares (JVMS 4.5). It has to be one that has rows.
 pub(crate) fn own_fields(
     alloc: Global,
     index: &Index,
@@ -60,6 +61,7 @@ pub(crate) fn own_fields(
     class: ClassId,
 ) -> Result<Vec<RowItem>, AllocError>
     requires class { class < size index.now }
+    requires rows { has_rows index.now (name_at index.now class) ≡ true }
     requires numbering { IsNumbering index.now numbering.now }
     ensures { IfOk result (λ row. IsRow index.now (own_field index.now (name_at index.now class)) row.items) }
 {
@@ -69,7 +71,7 @@ pub(crate) fn own_fields(
     Ok(row)
 }
 
-/// The row of the methods that the class itself declares (JVMS 4.6).
+/// The row of the methods that the class itself declares (JVMS 4.6). It has to be one that has rows.
 pub(crate) fn own_methods(
     alloc: Global,
     index: &Index,
@@ -77,6 +79,7 @@ pub(crate) fn own_methods(
     class: ClassId,
 ) -> Result<Vec<RowItem>, AllocError>
     requires class { class < size index.now }
+    requires rows { has_rows index.now (name_at index.now class) ≡ true }
     requires numbering { IsNumbering index.now numbering.now }
     ensures { IfOk result (λ row. IsRow index.now (own_method index.now (name_at index.now class)) row.items) }
 {

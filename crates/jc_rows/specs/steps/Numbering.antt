@@ -1,5 +1,5 @@
 -- The members of the classes that have rows, by the numbers of their keys.
-use Rattle.std.specs.Prelude.{ℕ, ◌≡◌, ◌<◌, ◌++◌, List, [], ◌∷◌, length, map, drop, Some, slice_get, slice_index_or}
+use Rattle.std.specs.Prelude.{ℕ, ◌≡◌, ◌<◌, ◌++◌, List, [], ◌∷◌, length, map, drop, Option, None, Some, slice_get, slice_index_or}
 use Rattle.jc_facts.specs.declared.class_facts.ClassFacts.{ClassFacts}
 use Rattle.jc_facts.specs.declared.class_facts.Member.{Member}
 use Rattle.jc_facts.specs.declared.key.Key.{Key}
@@ -8,7 +8,7 @@ use Rattle.jc_facts.specs.world.World.{World, size}
 use Rattle.jc_index.specs.Ids.{name_at, names}
 use Rattle.jc_rows.specs.declared.row.RowItem.{RowItem}
 use Rattle.jc_rows.specs.declared.numbering.Numbering.{Numbering}
-use Rattle.jc_rows.specs.Keys.{with_keys, with_all_keys, numbered_keys, class_with_rows}
+use Rattle.jc_rows.specs.Keys.{with_keys_of, with_all_keys, numbered_keys, class_with_rows}
 
 -- the numbers of the members' keys, in the order of the members
 abbrev pub AreNumbers : List Key → List Member → List ℕ → Type 0
@@ -39,11 +39,16 @@ pub record AddsNumbers (keys : List Key) (members : List Member) (before after :
   pub added : after ≡ before ++ numbers ∷ []
   pub right : AreNumbers keys members numbers
 
--- the class is numbered too
-pub record AddsClass (before : Numbering) (c : ClassFacts) (after : Numbering) : Type 0 where
-  pub keys : after.keys ≡ with_keys (with_keys before.keys c.fields) c.methods
-  pub fields : AddsNumbers after.keys c.fields before.fields.items after.fields.items
-  pub methods : AddsNumbers after.keys c.methods before.methods.items after.methods.items
+-- the members of the class, where there is one
+abbrev pub members_in : (ClassFacts → List Member) → Option ClassFacts → List Member
+members_in members None = []
+members_in members (Some c) = members c
+
+-- the class is numbered too; where there is none, an empty list of numbers stands for it
+pub record AddsClass (before : Numbering) (o : Option ClassFacts) (after : Numbering) : Type 0 where
+  pub keys : after.keys ≡ with_keys_of before.keys o
+  pub fields : AddsNumbers after.keys (members_in (λ c. c.fields) o) before.fields.items after.fields.items
+  pub methods : AddsNumbers after.keys (members_in (λ c. c.methods) o) before.methods.items after.methods.items
 
 -- of the first n classes those that have rows have the numbers of the keys of their members
 pub record HasNumbersBefore (W : World) (keys : List Key) (members : ClassFacts → List Member) (done : ℕ) (numbers : List (List ℕ)) : Type 0 where

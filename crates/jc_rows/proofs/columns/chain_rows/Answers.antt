@@ -1,4 +1,4 @@
-use Rattle.std.proofs.Common.{sym, ◌∙◌, ◌+◌, subst, List, ℕ, set, take}
+use Rattle.std.proofs.Common.{sym, ◌∙◌, ◌+◌, subst, List, ℕ, set, take, true, false}
 use Rattle.jc_facts.specs.world.World.{World}
 use Rattle.jc_index.specs.Ids.{name_at}
 use Rattle.jc_rows.specs.declared.row.RowItem.{RowItem}
@@ -6,7 +6,8 @@ use Rattle.jc_rows.specs.Rows.{IsRow}
 use Rattle.jc_rows.specs.steps.Columns.{AreMade}
 use Rattle.jc_rows.specs.steps.Fronts.{chain_method}
 use Rattle.jc_rows.specs.steps.Gathering.{AreRising, HasAbove}
-use Rattle.jc_rows.proofs.Filling.{next_at, none_made, above_made, goes, all_made}
+use Rattle.jc_rows.proofs.Filling.{next_at, none_made, above_made, goes, passes, all_made}
+use Rattle.jc_rows.proofs.Marking.{mark-below, mark-read}
 use Rattle.jc_rows.proofs.columns.chain_rows.Goals as goal
 
 pub loop-class-init : goal.loop-class-init
@@ -25,16 +26,29 @@ pub chain_row-requires-clause-above : goal.chain_row-requires-clause-above
 chain_row-requires-clause-above c =
     let W : World = c.args.index.now in
     subst (λ (rows : List (List RowItem)). HasAbove (λ x. IsRow W (chain_method W x)) W rows (name_at W c.class-item.result)) (sym c.as_slice.ensures.value)
-    (above_made (λ x. IsRow W (chain_method W x)) W (take c.loop-class.class-index c.args.order.now) c.loop-class.rows.items c.loop-class.invariant c.class-item.result
-    (next_at W c.args.order.now c.requires.order.each c.loop-class.class-index c.class-item.result c.loop-class-test.true c.class-item.is))
+    (above_made (λ x. IsRow W (chain_method W x)) W (take c.loop-class.class-index c.args.order.now) c.loop-class.rows.items c.loop-class.invariant c.count-classes.ensures.side c.class-item.result
+    (next_at W c.args.order.now c.requires.order.each c.loop-class.class-index c.class-item.result c.loop-class-test.true c.class-item.is)
+    (mark-read W c.args.made.now c.requires.made c.args.order.now c.requires.order.each c.loop-class.class-index c.class-item.result c.number-n.result c.loop-class-test.true c.class-item.is c.number-n.ensures true c.if-not-made-n.false))
 
 pub loop-class-preserved : goal.loop-class-preserved
 loop-class-preserved c =
     let W : World = c.args.index.now in
     let made = subst (IsRow W (chain_method W (name_at W c.class-item.result))) (sym (c.in_ok-rows-2.ensures ∙ c.as_slice-in-loop-class.ensures.value)) c.in_ok-row.ensures in
-    subst (λ (n : ℕ). AreMade (λ x. IsRow W (chain_method W x)) W (take (c.loop-class.class-index + 1) c.args.order.now) (set c.loop-class.rows.items n c.in_ok-rows-2.field-0)) (sym c.number.ensures)
+    subst (λ (n : ℕ). AreMade (λ x. IsRow W (chain_method W x)) W (take (c.loop-class.class-index + 1) c.args.order.now) (set c.loop-class.rows.items n c.in_ok-rows-2.field-0)) (sym c.number-n.ensures)
     (goes (λ x. IsRow W (chain_method W x)) W c.args.order.now c.loop-class.class-index c.class-item.result c.loop-class-test.true c.class-item.is c.requires.order.each c.loop-class.rows.items c.loop-class.invariant
-    c.in_ok-rows-2.field-0 made.rises made)
+    c.in_ok-rows-2.field-0 (mark-read W c.args.made.now c.requires.made c.args.order.now c.requires.order.each c.loop-class.class-index c.class-item.result c.number-n.result c.loop-class-test.true c.class-item.is c.number-n.ensures true c.if-not-made-n.false) made.rises made)
 
 pub returns : goal.returns
 returns c = all_made (λ x. IsRow c.args.index.now (chain_method c.args.index.now x)) c.args.index.now c.args.order.now c.requires.order c.loop-class.class-index c.loop-class-test.false c.loop-class.rows.items c.loop-class.invariant
+
+pub bounds-made-n : goal.bounds-made-n
+bounds-made-n c = mark-below c.args.index.now c.args.made.now c.requires.made c.args.order.now c.requires.order.each c.loop-class.class-index c.class-item.result c.number-n.result c.loop-class-test.true c.class-item.is c.number-n.ensures
+
+pub loop-class-preserved-then-not-made-n : goal.loop-class-preserved-then-not-made-n
+loop-class-preserved-then-not-made-n c =
+    let W : World = c.args.index.now in
+    passes (λ x. IsRow W (chain_method W x)) W c.args.order.now c.loop-class.class-index c.class-item.result c.loop-class-test.true c.class-item.is c.loop-class.rows.items c.loop-class.invariant
+    (mark-read W c.args.made.now c.requires.made c.args.order.now c.requires.order.each c.loop-class.class-index c.class-item.result c.number-n.result c.loop-class-test.true c.class-item.is c.number-n.ensures false c.if-not-made-n.true)
+
+pub chain_row-requires-clause-rows : goal.chain_row-requires-clause-rows
+chain_row-requires-clause-rows c = mark-read c.args.index.now c.args.made.now c.requires.made c.args.order.now c.requires.order.each c.loop-class.class-index c.class-item.result c.number-n.result c.loop-class-test.true c.class-item.is c.number-n.ensures true c.if-not-made-n.false

@@ -16,7 +16,7 @@ member_row-requires c =
     let W : World = c.args.index.now in
     let d : ClassFacts = c.facts.result.now in
     let f : find_class W (name_at W c.args.class) ≡ Some d = sym c.facts.ensures in
-    let a = numbers_at W (λ (e : ClassFacts). e.methods) c.args.numbering.now.methods.items c.requires.numbering.methods c.args.class c.number.result c.number.ensures c.requires.class d f c.index.result.now c.index.ensures in
+    let a = numbers_at W (λ (e : ClassFacts). e.methods) c.args.numbering.now.methods.items c.requires.numbering.methods c.args.class c.number.result c.number.ensures c.requires.class c.requires.rows d f c.index.result.now c.index.ensures in
     ap (λ (ns : List ℕ). length ns) c.as_slice-numbers.ensures ∙ numbers-length (numbered_keys W) d.methods c.index.result.now a ∙ sym (ap (λ (ms : List Member). length ms) c.as_slice-members.ensures)
 
 pub returns : goal.returns
@@ -25,7 +25,7 @@ returns c =
     let d : ClassFacts = c.facts.result.now in
     let x : Bytes = name_at W c.args.class in
     let f : find_class W x ≡ Some d = sym c.facts.ensures in
-    let a = numbers_at W (λ (e : ClassFacts). e.methods) c.args.numbering.now.methods.items c.requires.numbering.methods c.args.class c.number.result c.number.ensures c.requires.class d f c.index.result.now c.index.ensures in
+    let a = numbers_at W (λ (e : ClassFacts). e.methods) c.args.numbering.now.methods.items c.requires.numbering.methods c.args.class c.number.result c.number.ensures c.requires.class c.requires.rows d f c.index.result.now c.index.ensures in
     methods_row W x d f (find-name W x d f) c.args.class c.requires.class refl c.as_slice-numbers.result.now c.in_ok-row.row.items
     (subst (AreNumbers (numbered_keys W) d.methods) (sym c.as_slice-numbers.ensures) a)
     (subst (λ (ms : List Member). IsRowOf (items_of c.args.class c.as_slice-numbers.result.now ms) c.in_ok-row.row.items) c.as_slice-members.ensures c.in_ok-row.ensures)
