@@ -1,5 +1,5 @@
-//! What a class itself declares, looked up in its rows (JVMS 4.5, 4.6). A class's own lists are long
-//! where its file is, and the rules ask once for each of their keys.
+//! What a class itself declares, looked up in its rows, where it has any (JVMS 4.5, 4.6). A class's
+//! own lists are long where its file is, and the rules ask once for each of their keys.
 ghost use Rattle.std.specs.Prelude.{◌≡◌, ◌<◌, None};
 ghost use Rattle.jc_facts.specs.world.World.{size};
 ghost use Rattle.jc_facts.specs.world.Loading.{load_fault};
@@ -7,9 +7,10 @@ ghost use Rattle.jc_rules.specs.steps.Own.{flags_by, field_flags_of, method_flag
 ghost use Rattle.jc_table.specs.Ids.{name_at};
 
 use jc_facts::key::Key;
+use jc_facts::key_set::KeyRef;
 use jc_field::find::find_field;
 use jc_table::ids::{ClassId, Found};
-use jc_table::row::find;
+use jc_table::members::own_method;
 use jc_table::table::Table;
 
 // The flags of what a lookup finds, if the class itself declares it.
@@ -37,6 +38,17 @@ pub fn field_flags(table: &Table, class: ClassId, key: &Key) -> Option<u16>
     flags_in(class, find_field(table, class, key))
 }
 
+// The flags of the class's own method of the key, looked up in its list.
+fn listed_flags(table: &Table, class: ClassId, key: &Key) -> Option<u16>
+    requires { class < size table.now }
+    ensures { result ≡ method_flags_of table.now (name_at table.now class) key.now }
+{
+    match own_method(table.facts(class), &KeyRef::of_key(key)) {
+        Some(method) => Some(method.flags),
+        None => None,
+    }
+}
+
 /// The flags of the class's own method of the key, an initializer too; none where it declares none.
 /// The class has to load.
 pub fn method_flags(table: &Table, class: ClassId, key: &Key) -> Option<u16>
@@ -45,8 +57,8 @@ pub fn method_flags(table: &Table, class: ClassId, key: &Key) -> Option<u16>
     ensures { result ≡ method_flags_of table.now (name_at table.now class) key.now }
 {
     let _classes = table.count();
-    match table.key_number(key) {
-        Some(number) => flags_in(class, find(table.method_row(class), number)),
-        None => None,
+    match table.method_row(class) {
+        Some(row) => flags_in(class, table.find_in(row, key)),
+        None => listed_flags(table, class, key),
     }
 }

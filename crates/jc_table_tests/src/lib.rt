@@ -20,3 +20,5 @@ pub mod rows;
 mod sides;
 #[cfg(test)]
 mod tables;
+#[cfg(test)]
+mod without_rows;

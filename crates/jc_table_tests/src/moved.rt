@@ -85,8 +85,10 @@ fn has_methods(table: &Table, init: &Key, moved: &Key, owner: &[u8]) -> bool {
     let None = table.fault_at(class) else {
         return false;
     };
-    let row = table.method_row(class);
-    table.field_row(class).is_empty()
+    let (Some(fields), Some(row)) = (table.field_row(class), table.method_row(class)) else {
+        return false;
+    };
+    fields.is_empty()
         && row.len() == 2
         && has(table, row, init, b"p/A")
         && has(table, row, moved, owner)

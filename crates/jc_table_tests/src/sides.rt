@@ -34,7 +34,8 @@ pub(crate) fn build(
     Ok(Table::build(alloc, platform, release))
 }
 
-fn table_over(
+/// The table of a release over a platform.
+pub(crate) fn table_over(
     rt: &impl Abort,
     alloc: Global,
     platform: &[ClassFacts],
