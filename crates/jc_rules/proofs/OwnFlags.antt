@@ -126,3 +126,8 @@ module _ (W : World) (s : IsSide W) (id : ℕ) (below : id < size W) where
     own_method r h =
         let t = class_at W id s.differ below in
         method_is t.facts t.found (own_method_of t.facts k) refl (is_interface_of W (name_at W id)) r h ∙ ap (λ (o : Option ClassFacts). flags_of (and_then (λ c. own_method_of c k) o)) (sym t.found)
+
+-- the flags of what the class lists
+pub listed : (W : World) (x : Bytes) (c : ClassFacts) → Some c ≡ find_class W x → (k j : Key) → j ≡ k → (o : Option Member) → o ≡ own_method_of c j → flags_of o ≡ method_flags_of W x k
+unfolding and_then
+listed W x c e k j q o p = ap flags_of (p ∙ ap (own_method_of c) q) ∙ ap (λ (f : Option ClassFacts). flags_of (and_then (λ d. own_method_of d k) f)) e

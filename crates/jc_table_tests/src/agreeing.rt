@@ -188,7 +188,10 @@ fn see_lengths(rt: &impl Abort, table: &Table) {
     for (name, fields, methods) in LENGTHS {
         let class = loaded(rt, table, name);
         assert_eq!(rt; table.field_row(class).map(|row| row.len()), Some(*fields));
-        assert_eq!(rt; table.method_row(class).map(|row| row.len()), Some(*methods));
+        assert_eq!(rt;
+            table.method_row(class).map(|row| row.len()),
+            Some(*methods)
+        );
     }
 }
 

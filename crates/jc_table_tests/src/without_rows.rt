@@ -144,7 +144,10 @@ fn see_keys(rt: &impl Abort, alloc: Global, table: &Table) -> Result<(), Fail> {
     let constant = key(alloc, b"c", NUMBER)?;
     assert_eq!(rt; table.key_count(), 3);
     assert_eq!(rt; table.key_number(&constant), None);
-    assert_eq!(rt; find_field(table, class, &constant).map(|found| found.owner), table.get(b"q/Face"));
+    assert_eq!(rt;
+        find_field(table, class, &constant).map(|found| found.owner),
+        table.get(b"q/Face")
+    );
     let fields = found_field_keys(alloc, table, class)?;
     assert!(rt; fields.len() == 2 && fields.as_slice().contains(&constant));
     let methods = found_method_keys(alloc, table, class)?;
