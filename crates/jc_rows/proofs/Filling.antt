@@ -1,9 +1,9 @@
 -- The rows of all classes, made one after the other in the order in which they load.
 use Rattle.std.proofs.Common.{◌≡◌, ℕ, true, false, ◌≤◌, ◌<◌, ◌+◌, List, [], ◌∷◌, ◌++◌, length, take, set, get_or, sym, ◌∙◌, ap, subst, Option, Some, None, arith, ◌⊎◌, inl, inr}
 use Rattle.std.specs.List.{Contains}
-use Rattle.std.proofs.lemmas.Bool.{cases_eq}
-use Rattle.std.proofs.lemmas.List.{length-set, get_or-set_same, get_or-set_other, get_or_default, take_more, take_all}
-use Rattle.std.proofs.lemmas.List.Elements.{All-set, All-weaker, All-from_recursion, Contains-push_cases}
+use Rattle.std.proofs.lemmas.Bool.{cases_eq, cases_lt}
+use Rattle.std.proofs.lemmas.List.{length-set, get_or-set_same, get_or-set_other, get_or_default, get_or_past, take_more, take_all}
+use Rattle.std.proofs.lemmas.List.Elements.{All-set, All-weaker, All-from_recursion, Contains-push, Contains-push_cases, Contains-append_left}
 use Rattle.jc_facts.specs.Names.{Bytes}
 use Rattle.jc_facts.specs.world.Search.{supers}
 use Rattle.jc_facts.specs.world.World.{World, size}
@@ -27,6 +27,10 @@ module _ (W : World) (order : List ℕ) (o : AreInLoadOrder W order) where
   pub next_at : (i n : ℕ) → i < length order → n ≡ get_or order i n → IsNext W (take i order) n
   next_at i n l e = subst (IsNext W (take i order)) (sym e) (o i n l)
 
+  -- each class of the order loads
+  order_loads : (n : ℕ) → Contains order n → load_fault W (name_at W n) ≡ None
+  order_loads n k = subst (λ (m : ℕ). load_fault W (name_at W m) ≡ None) k.2 (o k.0 n k.1).loads
+
 -- ---- rows
 
 module _ (P : Bytes → List RowItem → Type 0) (W : World) where
@@ -35,7 +39,12 @@ module _ (P : Bytes → List RowItem → Type 0) (W : World) where
   none_made rows a = record {
     rising = record { count = a.count; rise = All-weaker (λ r. r ≡ []) Rises (λ r e. subst Rises (sym e) tt) rows a.empty };
     made = λ m k r. absurd (none m k);
+    others = λ m k. go m (cases_lt m (length rows));
   }
+    where
+      go : (m : ℕ) → (m < length rows) ⊎ (length rows ≤ m) → get_or rows m [] ≡ []
+      go m (inl l) = a.empty m [] l
+      go m (inr l) = get_or_past rows m [] l
 
   module _ (done : List ℕ) (rows : List (List RowItem)) (m : AreMade P W done rows) where
     -- the rows that the next class needs are there
@@ -49,10 +58,11 @@ module _ (P : Bytes → List RowItem → Type 0) (W : World) where
             (subst (λ (y : Bytes). P y (get_or rows q.0 [])) name (m.made q.0 q.2 (ap (has_rows W) name ∙ h)))
 
     -- and so is its own then
-    next_made : (n : ℕ) (row : List RowItem) → n < size W → Rises row → P (name_at W n) row → AreMade P W (done ++ (n ∷ [])) (set rows n row)
-    next_made n row l r p = record {
+    next_made : (n : ℕ) (row : List RowItem) → n < size W → has_rows W (name_at W n) ≡ true → Rises row → P (name_at W n) row → AreMade P W (done ++ (n ∷ [])) (set rows n row)
+    next_made n row l w r p = record {
       rising = record { count = length-set rows n row ∙ m.rising.count; rise = All-set Rises rows n row r m.rising.rise };
       made = λ j k h. go j (cases_eq j n) (Contains-push_cases done n j k) h;
+      others = λ j k. away j (cases_eq j n) k;
     }
       where
         one : (j : ℕ) → j ≡ n → P (name_at W j) (get_or (set rows n row) j [])
@@ -65,9 +75,17 @@ module _ (P : Bytes → List RowItem → Type 0) (W : World) where
         go j (inr d) (inl k) h = subst (P (name_at W j)) (sym (get_or-set_other rows n j row [] d)) (m.made j k h)
         go j (inr d) (inr e) h = one j (sym e)
 
+        away : (j : ℕ) → (j ≡ n) ⊎ (j ≡ n → ⊥) → (Contains (done ++ (n ∷ [])) j → has_rows W (name_at W j) ≡ true → ⊥) → get_or (set rows n row) j [] ≡ []
+        away j (inl e) k = absurd (k (subst (Contains (done ++ (n ∷ []))) (sym e) (Contains-push done n)) (ap (λ (i : ℕ). has_rows W (name_at W i)) e ∙ w))
+        away j (inr d) k = get_or-set_other rows n j row [] d ∙ m.others j (λ c h. k (Contains-append_left done (n ∷ []) j c) h)
+
     -- a class without rows is passed by
     next_passed : (n : ℕ) → has_rows W (name_at W n) ≡ false → AreMade P W (done ++ (n ∷ [])) rows
-    next_passed n r = record { rising = m.rising; made = λ j k h. go j (Contains-push_cases done n j k) h }
+    next_passed n r = record {
+      rising = m.rising;
+      made = λ j k h. go j (Contains-push_cases done n j k) h;
+      others = λ j k. m.others j (λ c h. k (Contains-append_left done (n ∷ []) j c) h);
+    }
       where
         go : (j : ℕ) → Contains done j ⊎ (n ≡ j) → has_rows W (name_at W j) ≡ true → P (name_at W j) (get_or rows j [])
         go j (inl k) h = m.made j k h
@@ -76,10 +94,10 @@ module _ (P : Bytes → List RowItem → Type 0) (W : World) where
   -- ---- in the loop
 
   pub goes : (order : List ℕ) (i n : ℕ) → i < length order → n ≡ get_or order i n → AreInLoadOrder W order → (rows : List (List RowItem)) → AreMade P W (take i order) rows
-      → (row : List RowItem) → Rises row → P (name_at W n) row → AreMade P W (take (i + 1) order) (set rows n row)
-  goes order i n l e o rows m row r p =
+      → (row : List RowItem) → has_rows W (name_at W n) ≡ true → Rises row → P (name_at W n) row → AreMade P W (take (i + 1) order) (set rows n row)
+  goes order i n l e o rows m row w r p =
       subst (λ (done : List ℕ). AreMade P W done (set rows n row)) (sym (take_more order i n l ∙ ap (λ (j : ℕ). take i order ++ (j ∷ [])) (sym e)))
-      (next_made (take i order) rows m n row (next_at W order o i n l e).within r p)
+      (next_made (take i order) rows m n row (next_at W order o i n l e).within w r p)
 
   pub passes : (order : List ℕ) (i n : ℕ) → i < length order → n ≡ get_or order i n → (rows : List (List RowItem)) → AreMade P W (take i order) rows → has_rows W (name_at W n) ≡ false → AreMade P W (take (i + 1) order) rows
   passes order i n l e rows m r =
@@ -92,6 +110,7 @@ module _ (P : Bytes → List RowItem → Type 0) (W : World) where
       record {
         count = w.rising.count;
         right = λ n k h r. w.made n (o.all n k h) r;
+        others = λ n k h. w.others n (λ c r. h (order_loads W order o.each n c) r);
       }
 
   -- the row of a class that loads and has rows

@@ -10,10 +10,12 @@ use Rattle.jc_rows.specs.Keys.{numbered_keys}
 use Rattle.jc_rows.specs.Rows.{IsFieldRow, IsMethodRow}
 use Rattle.jc_rows.specs.WithRows.{has_rows}
 
--- there is a row for each class, by its number: that of each class that loads and has rows is right
+-- there is a row for each class, by its number: that of each class that loads and has rows is right, and of any other class it is
+-- empty
 pub record HasRows (P : Bytes → List RowItem → Type 0) (W : World) (rows : List (List RowItem)) : Type 0 where
   pub count : length rows ≡ size W
   pub right : (n : ℕ) → n < size W → load_fault W (name_at W n) ≡ None → has_rows W (name_at W n) ≡ true → P (name_at W n) (slice_index_or rows n [])
+  pub others : (n : ℕ) → n < size W → (load_fault W (name_at W n) ≡ None → has_rows W (name_at W n) ≡ true → ⊥) → slice_index_or rows n [] ≡ []
 
 -- the keys are numbered, and each class that loads and has rows has both
 pub record AreRows (W : World) (rows : Rows) : Type 0 where

@@ -120,7 +120,7 @@ pub(crate) fn method_rows(
         }
         let chain = chains[n].as_slice();
         let front = front_row(alloc, index, numbering, chain, object.as_slice(), class)?;
-        let row = method_row(
+        let methods = method_row(
             alloc,
             hierarchy,
             keys,
@@ -128,7 +128,7 @@ pub(crate) fn method_rows(
             front.as_slice(),
             class,
         )?;
-        rows[n] = kept(alloc, row.as_slice())?;
+        rows[n] = kept(alloc, methods.as_slice())?;
     }
     Ok(rows)
 }

@@ -13,7 +13,8 @@ pub record AreEmpty (W : World) (rows : List (List RowItem)) : Type 0 where
   pub count : length rows ≡ size W
   pub empty : All (λ r. r ≡ []) rows
 
--- there is a row for each class: those of these classes that have rows are right
+-- there is a row for each class: those of these classes that have rows are right, and the others are empty
 pub record AreMade (P : Bytes → List RowItem → Type 0) (W : World) (done : List ℕ) (rows : List (List RowItem)) : Type 0 where
   pub rising : AreRising W rows
   pub made : (m : ℕ) → Contains done m → has_rows W (name_at W m) ≡ true → P (name_at W m) (slice_index_or rows m [])
+  pub others : (m : ℕ) → (Contains done m → has_rows W (name_at W m) ≡ true → ⊥) → slice_index_or rows m [] ≡ []

@@ -35,7 +35,7 @@ loop-class-preserved c =
     let made = subst (IsFieldRow W (name_at W c.class-item.result)) (sym (c.in_ok-rows-2.ensures ∙ c.as_slice-in-loop-class.ensures.value)) c.in_ok-row.ensures in
     subst (λ (n : ℕ). AreMade (IsFieldRow W) W (take (c.loop-class.class-index + 1) c.args.order.now) (set c.loop-class.rows.items n c.in_ok-rows-2.field-0)) (sym c.number-n.ensures)
     (goes (IsFieldRow W) W c.args.order.now c.loop-class.class-index c.class-item.result c.loop-class-test.true c.class-item.is c.requires.order.each c.loop-class.rows.items c.loop-class.invariant
-    c.in_ok-rows-2.field-0 made.rises made)
+    c.in_ok-rows-2.field-0 (mark-read W c.args.made.now c.requires.made c.args.order.now c.requires.order.each c.loop-class.class-index c.class-item.result c.number-n.result c.loop-class-test.true c.class-item.is c.number-n.ensures true c.if-not-made-n.false) made.rises made)
 
 pub returns : goal.returns
 returns c = all_made (IsFieldRow c.args.index.now) c.args.index.now c.args.order.now c.requires.order c.loop-class.class-index c.loop-class-test.false c.loop-class.rows.items c.loop-class.invariant

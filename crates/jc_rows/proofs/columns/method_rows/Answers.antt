@@ -80,10 +80,10 @@ method_row-requires-clause-above c =
 pub loop-class-preserved : goal.loop-class-preserved
 loop-class-preserved c =
     let W : World = c.args.hierarchy.now in
-    let made = subst (IsMethodRow W (name_at W c.class-item.result)) (sym (c.in_ok-rows-2.ensures ∙ c.as_slice-in-loop-class-3.ensures.value)) c.in_ok-row.ensures in
+    let made = subst (IsMethodRow W (name_at W c.class-item.result)) (sym (c.in_ok-rows-2.ensures ∙ c.as_slice-in-loop-class-3.ensures.value)) c.in_ok-methods.ensures in
     subst (λ (n : ℕ). AreMade (IsMethodRow W) W (take (c.loop-class.class-index + 1) c.args.order.now) (set c.loop-class.rows.items n c.in_ok-rows-2.field-0)) (sym c.number-n.ensures)
     (goes (IsMethodRow W) W c.args.order.now c.loop-class.class-index c.class-item.result c.loop-class-test.true c.class-item.is c.requires.order.each c.loop-class.rows.items c.loop-class.invariant
-    c.in_ok-rows-2.field-0 made.rises made)
+    c.in_ok-rows-2.field-0 (mark-read W c.args.made.now c.requires.made c.args.order.now c.requires.order.each c.loop-class.class-index c.class-item.result c.number-n.result c.loop-class-test.true c.class-item.is c.number-n.ensures true c.if-not-made-n.false) made.rises made)
 
 pub returns : goal.returns
 returns c = all_made (IsMethodRow c.args.hierarchy.now) c.args.hierarchy.now c.args.order.now c.requires.order c.loop-class.class-index c.loop-class-test.false c.loop-class.rows.items c.loop-class.invariant

@@ -1,6 +1,6 @@
-use Rattle.std.proofs.Common.{◌≡◌, Some, None, not, is_some, sym, ◌∙◌, ap}
+use Rattle.std.proofs.Common.{not, ◌∙◌, ap}
 use Rattle.jc_facts.specs.Names.{Bytes}
-use Rattle.jc_facts.specs.world.World.{World, class_named}
+use Rattle.jc_facts.specs.world.World.{World}
 use Rattle.jc_index.specs.Ids.{id_of}
 use Rattle.jc_rows.proofs.Marking.{released-some, released-none}
 use Rattle.jc_rows.proofs.with_rows.is_released.Goals as goal

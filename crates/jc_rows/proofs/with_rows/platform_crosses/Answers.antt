@@ -1,4 +1,4 @@
-use Rattle.std.proofs.Common.{◌≡◌, ◌<◌, arith}
+use Rattle.std.proofs.Common.{◌<◌, arith}
 use Rattle.jc_facts.specs.world.World.{World, size}
 use Rattle.jc_rows.proofs.Marking.{crosses-on, crosses-here, crosses-nowhere}
 use Rattle.jc_rows.proofs.with_rows.platform_crosses.Goals as goal
