@@ -271,14 +271,17 @@ module _ (s : SidesOf) (are : AreSides s) (x : Bytes) (free : may_be_closed s x 
   abbrev touched : Bytes → Bool
   touched = is_touched s (all_seats s)
 
+  none_touched : list_any (λ (c : ClassFacts). touched c.name) (above s.old x) ≡ false
+  none_touched = neither_last (is_some (load_fault s.old x)) (list_any (λ (c : ClassFacts). touched c.name) (above s.old x)) free
+
   root : touched object_name ≡ false
-  root = root_free s.old so touched x loaded free
+  root = root_free s.old so touched x loaded none_touched
 
   abbrev test : Bytes → Bool
   test = none_above s.old so touched root
 
   it_is : test x ≡ true
-  it_is = clear_from s.old so touched root x loaded free
+  it_is = clear_from s.old so touched root x loaded none_touched
 
   untouched : (y : Bytes) → test y ≡ true → touched y ≡ false
   untouched y h = own_clear s.old so touched root y (clear_parts s.old so touched root y h)

@@ -15,8 +15,8 @@ use std::alloc::{AllocError, Global};
 pub struct Seats<'a> {
     // java/lang/Object, and then the base classes.
     pub(crate) all: Vec<Shared<'a>>,
-    // For each class of the old side, whether it or one above it isn't the same on the new side, or
-    // left one of their chains.
+    // For each class of the old side, whether it doesn't load, or it or one above it isn't the same on
+    // the new side or left one of their chains.
     closing: Vec<bool>,
     // For each class of the old side one of the new side below which all seats stand that stood
     // below the first; none where no seat did.

@@ -9,7 +9,7 @@ ghost use Rattle.jc_facts.specs.world.World.{find_class, size};
 ghost use Rattle.jc_worlds.specs.Hierarchy.{above};
 ghost use Rattle.jc_table.specs.Ids.{name_at};
 ghost use Rattle.jc_sides.specs.SharedOf.{IsShared, name_of};
-ghost use Rattle.jc_acts.specs.Touched.{AreFlags, AreSet, flag_at, is_changed, is_touched, left_chain_of};
+ghost use Rattle.jc_acts.specs.Touched.{AreFlags, AreSet, flag_at, is_changed, is_touched, left_chain_of, passes_above};
 
 use crate::chains::{has_above, has_lost};
 use crate::records::are_same;
@@ -153,20 +153,29 @@ fn is_set_above(table: &Table, flags: &[bool], class: ClassId) -> bool
     false
 }
 
-/// For each class, whether it or one above it has its flag set. It takes time in proportion to the
-/// classes above each.
+// Whether the class doesn't load, or it or one above it has its flag set.
+fn fails_or_set_above(table: &Table, flags: &[bool], id: ClassId) -> bool
+    requires flags { length flags.now ≡ size table.now }
+    requires class { id < size table.now }
+    ensures { (p : Bytes → Bool) → AreFlags table.now p flags.now → result ≡ passes_above table.now p (name_at table.now id) }
+{
+    table.fault_at(id).is_some() || is_set_above(table, flags, id)
+}
+
+/// For each class, whether it doesn't load, or it or one above it has its flag set. It takes time in
+/// proportion to the classes above each that loads.
 pub fn with_those_below(
     alloc: Global,
     table: &Table,
     flags: &[bool],
 ) -> Result<Vec<bool>, AllocError>
     requires { length flags.now ≡ size table.now }
-    ensures { IfOk result (λ below. (p : Bytes → Bool) → AreFlags table.now p flags.now → AreFlags table.now (λ x. list_any (λ c. p c.name) (above table.now x)) below.items) }
+    ensures { IfOk result (λ below. (p : Bytes → Bool) → AreFlags table.now p flags.now → AreFlags table.now (passes_above table.now p) below.items) }
 {
     let mut below = Vec::new(alloc);
     for n in 0..table.count() {
         let id = table.id(n).unwrap();
-        below.push(is_set_above(table, flags, id))?;
+        below.push(fails_or_set_above(table, flags, id))?;
     }
     Ok(below)
 }

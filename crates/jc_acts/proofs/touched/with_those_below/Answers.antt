@@ -1,8 +1,7 @@
 use Rattle.std.proofs.Common.{◌≡◌, ◌<◌, ◌≤◌, sym, ◌∙◌, nat_lt, arith}
-use Rattle.std.specs.List.{list_any}
 use Rattle.jc_facts.specs.world.World.{size}
 use Rattle.jc_facts.proofs.Options.{some_where-is}
-use Rattle.jc_worlds.specs.Hierarchy.{above}
+use Rattle.jc_acts.specs.Touched.{passes_above}
 use Rattle.jc_acts.proofs.SetFlags.{one_more, all_flags}
 use Rattle.jc_acts.proofs.touched.with_those_below.Goals as goal
 
@@ -10,9 +9,9 @@ pub loop-n-preserved : goal.loop-n-preserved
 loop-n-preserved c = λ p are.
     let l : c.loop-n.n < size c.args.table.now = omega (arith, c.count-n-end.ensures.count) in
     let k : c.unwrap-id.result ≡ c.loop-n.n = some_where-is (nat_lt c.loop-n.n (size c.args.table.now)) c.loop-n.n c.unwrap-id.result (sym c.id.ensures.value ∙ c.unwrap-id.ensures) in
-    one_more c.args.table.now (λ x. list_any (λ d. p d.name) (above c.args.table.now x)) c.loop-n.below.items c.push.new.self.items c.loop-n.n c.unwrap-id.result c.is_set_above.result l k (c.is_set_above.ensures p are) c.in_ok-push.ensures.items (c.loop-n.invariant p are)
+    one_more c.args.table.now (passes_above c.args.table.now p) c.loop-n.below.items c.push.new.self.items c.loop-n.n c.unwrap-id.result c.fails_or_set_above.result l k (c.fails_or_set_above.ensures p are) c.in_ok-push.ensures.items (c.loop-n.invariant p are)
 
 pub returns : goal.returns
 returns c = λ p are.
     let l : size c.args.table.now ≤ c.loop-n.n = omega (arith, c.count-n-end.ensures.count) in
-    all_flags c.args.table.now (λ x. list_any (λ d. p d.name) (above c.args.table.now x)) c.loop-n.below.items c.loop-n.n l (c.loop-n.invariant p are)
+    all_flags c.args.table.now (passes_above c.args.table.now p) c.loop-n.below.items c.loop-n.n l (c.loop-n.invariant p are)

@@ -1,13 +1,12 @@
 use Rattle.std.proofs.Common.{◌≡◌, ◌∷◌, ◌++◌, [], Bool, length, map, None, sym, ap, subst, ◌∙◌}
-use Rattle.std.specs.List.{All, list_any}
+use Rattle.std.specs.List.{All}
 use Rattle.jc_facts.specs.Names.{Bytes}
 use Rattle.jc_facts.specs.world.Loading.{load_fault}
 use Rattle.jc_facts.specs.world.World.{size}
-use Rattle.jc_worlds.specs.Hierarchy.{above}
 use Rattle.jc_sides.specs.SharedOf.{IsShared, name_of}
 use Rattle.jc_sides.specs.SidesOf.{SidesOf}
 use Rattle.jc_acts.specs.Seats.{all_seats}
-use Rattle.jc_acts.specs.Touched.{is_touched, AreFlags}
+use Rattle.jc_acts.specs.Touched.{is_touched, passes_above, AreFlags}
 use Rattle.jc_acts.specs.steps.Commons.{AreCommon}
 use Rattle.jc_acts.proofs.Narrowed.{all_named, all_shared}
 use Rattle.jc_acts.proofs.OpenToAll.{all_load}
@@ -47,7 +46,7 @@ returns c =
       all = named;
       shared = all_shared c.args.sides.now c.root.result c.args.bases.items c.append.new.self.items c.root.ensures.shared c.requires is;
       closing =
-          subst (λ (t : SidesOf). AreFlags t.old (λ x. list_any (λ d. touched d.name) (above t.old x)) c.in_ok-closing.closing.items) c.sides.view_is
+          subst (λ (t : SidesOf). AreFlags t.old (passes_above t.old touched) c.in_ok-closing.closing.items) c.sides.view_is
           (c.in_ok-closing.ensures touched (subst (λ (t : SidesOf). AreFlags t.old touched c.as_slice-2.result.now) (sym c.sides.view_is) (subst (AreFlags c.args.sides.now.old touched) (sym c.as_slice-2.ensures.value) flags)));
       commons = subst (λ (t : SidesOf). AreCommon t.old t.new (all_seats c.args.sides.now) c.in_ok-commons.commons.items) c.sides.view_is (subst (λ xs. AreCommon c.sides.inside.old.now c.sides.inside.new.now xs c.in_ok-commons.commons.items) (ap (map name_of) c.as_slice-3.ensures.value ∙ named) c.in_ok-commons.ensures);
     }
