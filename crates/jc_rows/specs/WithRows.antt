@@ -1,5 +1,5 @@
--- Of which classes rows are made: of java/lang/Object, of those that a release declares, and of those above them; no comparison
--- looks at the rows of the platform's other classes. Where the platform's classes stand on the release's, comparisons look at all.
+-- Of which classes rows are made: of java/lang/Object, of those that a release declares, and of those above them; a comparison
+-- hardly looks from the platform's other classes. Where the platform's classes stand on the release's, it looks from all.
 use Rattle.std.specs.Prelude.{Bool, ◌&&◌, ◌||◌, is_none, is_some}
 use Rattle.std.specs.List.{list_any}
 use Rattle.jc_facts.specs.Names.{Bytes, object_name}

@@ -1,4 +1,4 @@
-//! The rows of the classes of which comparisons look at rows.
+//! The rows of the classes of a release, and of those above them.
 ghost use Rattle.std.specs.Prelude.{IfOk};
 ghost use Rattle.jc_index.specs.LoadOrder.{IsLoadOrder};
 ghost use Rattle.jc_rows.specs.AllRows.{AreRows};
