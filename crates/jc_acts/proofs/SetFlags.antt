@@ -1,9 +1,9 @@
 -- Flags of the classes of a side, and how more of them are set.
-use Rattle.std.proofs.Common.{◌≡◌, ℕ, suc, ◌+◌, ◌<◌, ◌≤◌, ◌≢◌, Bool, true, false, cond, ◌||◌, ◌&&◌, List, [], ◌∷◌, ◌++◌, length, map, take, drop, get_or, set, eqb, refl, sym, ◌∙◌, ap, subst, Option, Some, None, ◌⊎◌, inl, inr}
+use Rattle.std.proofs.Common.{◌≡◌, ℕ, suc, ◌+◌, ◌<◌, ◌≤◌, ◌≢◌, Bool, true, false, cond, not, ◌||◌, ◌&&◌, List, [], ◌∷◌, ◌++◌, length, map, take, drop, get_or, set, eqb, refl, sym, ◌∙◌, ap, subst, Option, Some, None, ◌⊎◌, inl, inr}
 use Rattle.std.specs.Prelude.{IfSome, IsTrue}
 use Rattle.std.specs.List.{list_any}
 use Rattle.std.proofs.lemmas.Bool.Decides.{eqb_tells}
-use Rattle.std.proofs.lemmas.List.{length-set, length-map, get_or-map, map-append, take_more, take_all, at_drop_more, at_drop_all}
+use Rattle.std.proofs.lemmas.List.{length-set, set-get_or, length-map, get_or-map, map-append, take_more, take_all, at_drop_more, at_drop_all}
 use Rattle.jc_facts.specs.declared.class_facts.ClassFacts.{ClassFacts}
 use Rattle.jc_facts.specs.Names.{Bytes, same}
 use Rattle.jc_facts.specs.world.World.{World, find_class, size, classes}
@@ -31,6 +31,12 @@ cond_or true true = refl
 cond_or true false = refl
 cond_or false true = refl
 cond_or false false = refl
+
+-- a flag that is set already may be left as it is
+pub set_already : (flags : List Bool) (n : ℕ) (now there : Bool) → now ≡ get_or flags n now → cond (not (now || there)) (set flags n true) flags ≡ cond (not there) (set flags n true) flags
+set_already flags n false there e = refl
+set_already flags n true true e = refl
+set_already flags n true false e = sym (ap (λ b. set flags n b) e ∙ set-get_or flags n true)
 
 module _ (W : World) where
   -- ---- flags of all

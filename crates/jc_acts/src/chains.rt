@@ -1,13 +1,12 @@
 //! What the chain of superclasses of a class lost.
-ghost use Rattle.std.specs.Prelude.{◌≡◌, ◌<◌, true, not, IfSome};
+ghost use Rattle.std.specs.Prelude.{◌≡◌, ◌<◌, true, not, is_some, IfSome};
 ghost use Rattle.std.specs.List.{list_any};
-ghost use Rattle.jc_facts.specs.Names.{Bytes};
 ghost use Rattle.jc_facts.specs.world.World.{size};
 ghost use Rattle.jc_facts.specs.world.Hierarchy.{chain, in_chain};
 ghost use Rattle.jc_table.specs.Ids.{name_at};
 ghost use Rattle.jc_sides.specs.SharedOf.{IsShared, name_of};
 ghost use Rattle.jc_acts.specs.Seats.{loses_class};
-ghost use Rattle.jc_acts.specs.steps.Chains.{has_name, superclass_of_any};
+ghost use Rattle.jc_acts.specs.steps.Chains.{met_beside, beside_after};
 
 use jc_base::name::Name;
 use jc_sides::shared::Shared;
@@ -26,30 +25,46 @@ pub(crate) fn has_above(table: &Table, class: ClassId, name: &Name) -> bool
     }
 }
 
-// Whether a class of this name is in the chain of the class, in which the one beside is looked at
-// first, if there is one; and the superclass of the one beside.
-fn look_beside(
+// ---- two chains, one beside the other
+
+/// Whether the class beside has this name, if there is one, or else its superclass; and the class
+/// beside the next one: the superclass of the one that has the name, or the same as before.
+pub(crate) fn look_beside(
     table: &Table,
-    class: ClassId,
     beside: Option<ClassId>,
     name: &Name,
 ) -> (bool, Option<ClassId>)
-    requires class { class < size table.now }
-    requires beside { IfSome beside (λ id. id < size table.now) }
-    requires above { (y : Bytes) → has_name table.now beside y ≡ true → in_chain table.now (name_at table.now class) y ≡ true }
-    ensures found { result.0 ≡ in_chain table.now (name_at table.now class) name.now }
-    ensures up { result.1 ≡ superclass_of_any table.now beside }
+    requires { IfSome beside (λ id. id < size table.now) }
+    ensures met { result.0 ≡ is_some (met_beside table.now beside name.now) }
+    ensures next { result.1 ≡ beside_after table.now beside (met_beside table.now beside name.now) }
     ensures of_table { IfSome result.1 (λ id. id < size table.now) }
 {
     let Some(id) = beside else {
-        return (has_above(table, class, name), None);
+        return (false, None);
     };
-    let found = table.facts(id).name == *name || has_above(table, class, name);
-    (found, table.superclass(id))
+    if table.facts(id).name == *name {
+        return (true, table.superclass(id));
+    }
+    let Some(above) = table.superclass(id) else {
+        return (false, Some(id));
+    };
+    if table.facts(above).name == *name {
+        return (true, table.superclass(above));
+    }
+    (false, Some(id))
+}
+
+/// Whether a class of this name is in the chain of the class, as one is that was met there.
+pub(crate) fn is_met_or_above(table: &Table, class: ClassId, met: bool, name: &Name) -> bool
+    requires class { class < size table.now }
+    requires met { met ≡ true → in_chain table.now (name_at table.now class) name.now ≡ true }
+    ensures { result ≡ in_chain table.now (name_at table.now class) name.now }
+{
+    met || has_above(table, class, name)
 }
 
 // Whether a class of the chain of the one class isn't in that of the other, by name. Mostly each
-// class stands as far up in the other chain, so that it is looked for there first.
+// class stands as far up in the other chain, or one further, so that it is looked for there first.
 fn lacks_any(old: &Table, new: &Table, class: ClassId, other: ClassId) -> bool
     requires class { class < size old.now }
     requires other { other < size new.now }
@@ -61,8 +76,9 @@ fn lacks_any(old: &Table, new: &Table, class: ClassId, other: ClassId) -> bool
         let Some(above) = next else {
             return false;
         };
-        let (found, up) = look_beside(new, other, beside, &old.facts(above).name);
-        if !found {
+        let name = &old.facts(above).name;
+        let (met, up) = look_beside(new, beside, name);
+        if !is_met_or_above(new, other, met, name) {
             return true;
         }
         next = old.superclass(above);

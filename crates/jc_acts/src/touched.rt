@@ -11,8 +11,9 @@ ghost use Rattle.jc_table.specs.Ids.{name_at};
 ghost use Rattle.jc_sides.specs.SharedOf.{IsShared, name_of};
 ghost use Rattle.jc_acts.specs.Touched.{AreFlags, AreSet, flag_at, is_changed, is_touched, left_chain_of, passes_above};
 
-use crate::chains::{has_above, has_lost};
+use crate::chains::{has_lost, is_met_or_above, look_beside};
 use crate::records::are_same;
+use jc_base::name::Name;
 use jc_sides::shared::Shared;
 use jc_sides::sides::Sides;
 use jc_table::ids::ClassId;
@@ -57,7 +58,18 @@ fn set_where(flags: &mut Vec<bool>, n: usize, passes: bool)
     }
 }
 
-// Sets the flags of the classes of the one chain that aren't in the other, by name.
+// Whether the flag of the class of this name is set, or the class is in the chain of the other one, as
+// one is that was met there.
+fn is_set_or_above(table: &Table, other: ClassId, set: bool, met: bool, name: &Name) -> bool
+    requires other { other < size table.now }
+    requires met { met ≡ true → in_chain table.now (name_at table.now other) name.now ≡ true }
+    ensures { result ≡ (set || in_chain table.now (name_at table.now other) name.now) }
+{
+    set || is_met_or_above(table, other, met, name)
+}
+
+// Sets the flags of the classes of the one chain that aren't in the other, by name. A class whose flag
+// is set isn't looked for; others mostly stand as far up in the other chain, or one further.
 fn set_left(old: &Table, new: &Table, flags: &mut Vec<bool>, class: ClassId, other: ClassId)
     requires class { class < size old.now }
     requires other { other < size new.now }
@@ -65,14 +77,18 @@ fn set_left(old: &Table, new: &Table, flags: &mut Vec<bool>, class: ClassId, oth
     ensures { AreSet old.now (λ y. in_chain old.now (name_at old.now class) y && not (in_chain new.now (name_at new.now other) y)) flags.old.items flags.new.items }
 {
     let mut next = Some(class);
+    let mut beside = Some(other);
     for _ in 0..old.count() {
         let Some(above) = next else {
             return;
         };
         let n = above.number() as usize;
-        let left = !has_above(new, other, &old.facts(above).name);
-        set_where(flags, n, left);
+        let name = &old.facts(above).name;
+        let (met, up) = look_beside(new, beside, name);
+        let stays = is_set_or_above(new, other, flags[n], met, name);
+        set_where(flags, n, !stays);
         next = old.superclass(above);
+        beside = up;
     }
 }
 

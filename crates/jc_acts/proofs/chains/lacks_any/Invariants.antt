@@ -1,4 +1,4 @@
-use Rattle.std.proofs.Common.{◌≡◌, ◌<◌, ◌+◌, ◌-◌, not}
+use Rattle.std.proofs.Common.{◌≡◌, ◌<◌, ◌-◌, not}
 use Rattle.std.specs.Prelude.{IfSome}
 use Rattle.jc_facts.specs.world.World.{size}
 use Rattle.jc_table.specs.Ids.{name_at}
@@ -13,4 +13,4 @@ invariant-loop l =
     IfSome l.next (λ id. id < size l.old)
     × IfSome l.beside (λ id. id < size l.new)
     × (list_any (λ c. not (in_chain l.new (name_at l.new l.other) c.name)) (chain l.old (name_at l.old l.fn.class)) ≡ any_from l.old (λ c. not (in_chain l.new (name_at l.new l.other) c.name)) (size l.old - l.counter) l.next)
-    × IsBeside l.new (name_at l.new l.other) (size l.old + size l.new - l.counter) l.beside
+    × IsBeside l.new (name_at l.new l.other) l.beside
