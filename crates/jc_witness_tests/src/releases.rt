@@ -1,5 +1,6 @@
 //! Tables of small releases over a platform of `java/lang/Object` alone.
-ghost use Rattle.std.specs.Prelude.{◌≡◌, IfOk};
+ghost use Rattle.std.specs.Prelude.{◌≡◌, IfOk, IsTrue};
+ghost use Rattle.jc_facts.specs.world.World.{side};
 ghost use Rattle.jc_witness.specs.Ground.{HasShortSide};
 
 use jc_facts::class_facts::ClassFacts;
@@ -16,6 +17,13 @@ pub(crate) fn platform(alloc: Global) -> Result<Vec<ClassFacts>, AllocError> {
     classes(alloc, &[ROOT])
 }
 
+// Whether the names of both are short.
+fn are_short(platform: &[ClassFacts], release: &[ClassFacts]) -> bool
+    ensures { IsTrue result → HasShortSide (side platform.now release.now) }
+{
+    have_short_names(platform) && have_short_names(release)
+}
+
 /// The table of a release, whose conditions are seen to first.
 pub(crate) fn table(
     rt: &impl Abort,
@@ -30,8 +38,7 @@ pub(crate) fn table(
     let valid = are_valid(alloc, platform)? && are_valid(alloc, release.as_slice())?;
     assert!(rt; valid);
     assert!(rt; names_differ(platform) && names_differ(release.as_slice()));
-    assert!(rt; have_short_names(platform));
-    assert!(rt; have_short_names(release.as_slice()));
+    assert!(rt; are_short(platform, release.as_slice()));
     assert!(rt; platform.len() <= 1000 && release.len() <= 1000);
     Ok(Table::build(alloc, platform, release)?)
 }
