@@ -1,15 +1,14 @@
 //! What the texts of a pool are. A text is looked through only for what an entry asks of it, and then
 //! once, however many entries ask, so that a pool is read in a time that grows as its bytes do.
-ghost use Rattle.std.specs.Prelude.{◌≡◌, ℕ, List, IfOk};
+ghost use Rattle.std.specs.Prelude.{◌≡◌, ℕ, List, get_or, None, IfOk};
 ghost use Rattle.jc_desc.specs.Pool.{slot_of_index};
 ghost use Rattle.jc_pool.specs.steps.Forms.{class_form_in, name_forms_in, descriptor_forms_in, result_form_in, AreForms, AreOf};
 ghost use Rattle.jc_pool.specs.Slots.{slots_of};
 
-use crate::entry::{Slot, at, first, second};
+use crate::entry::{Slot, at};
 use jc_desc::method::returns_void;
 use jc_desc::names::{is_clinit, is_init, is_member_name};
 use jc_desc::pool_texts::{is_class_text, is_field, is_method};
-use jc_desc::tags;
 use std::alloc::{AllocError, Global};
 
 /// What entries ask of a text in one role.
@@ -120,46 +119,7 @@ impl Drop for Forms {
     }
 }
 
-/// Keeps what the text at this index is.
-fn look<F: Form>(slots: &[Slot<'_>], known: &mut Vec<Option<F>>, index: u16)
-    requires { AreOf F.form_in (slots_of slots.now) known.old.items }
-    ensures { AreOf F.form_in (slots_of slots.now) known.new.items }
-{
-    let i = index as usize;
-    if i < known.len() && known[i].is_none() {
-        known[i] = Some(F::of(at(slots, index).body));
-    }
-}
-
-/// Keeps what the descriptor of a NameAndType is where its name is `<init>`.
-fn look_for_result(slots: &[Slot<'_>], known: &mut Forms, slot: Slot<'_>)
-    requires { AreForms (slots_of slots.now) known.old }
-    ensures { AreForms (slots_of slots.now) known.new }
-{
-    if is_init(at(slots, first(slot)).body) {
-        look(slots, &mut known.results, second(slot));
-    }
-}
-
-/// Keeps what the texts are that an entry asks about by an index of its own. What a reference to a
-/// member asks about is asked about by its NameAndType too.
-fn look_for(slots: &[Slot<'_>], known: &mut Forms, slot: Slot<'_>)
-    requires { AreForms (slots_of slots.now) known.old }
-    ensures { AreForms (slots_of slots.now) known.new }
-{
-    match slot.tag {
-        tags::CLASS => look(slots, &mut known.classes, first(slot)),
-        tags::NAME_AND_TYPE => {
-            look(slots, &mut known.names, first(slot));
-            look(slots, &mut known.descriptors, second(slot));
-            look_for_result(slots, known, slot);
-        }
-        tags::METHOD_TYPE => look(slots, &mut known.descriptors, first(slot)),
-        _ => {}
-    }
-}
-
-/// Nothing known of the texts. Takes memory for the list.
+/// Nothing known of the texts in one role. Takes memory for the list.
 fn nothing_known<F: Form>(alloc: Global, slots: &[Slot<'_>]) -> Result<Vec<Option<F>>, AllocError>
     ensures { IfOk result (λ known. AreOf F.form_in (slots_of slots.now) known.items) }
 {
@@ -167,66 +127,78 @@ fn nothing_known<F: Form>(alloc: Global, slots: &[Slot<'_>]) -> Result<Vec<Optio
     Ok(known)
 }
 
-/// What the texts are that entries ask about. Takes memory for the lists.
-pub(crate) fn asked_forms(alloc: Global, slots: &[Slot<'_>]) -> Result<Forms, AllocError>
-    ensures { IfOk result (λ known. AreForms (slots_of slots.now) known) }
-{
-    let mut known = Forms {
-        classes: nothing_known(alloc, slots)?,
-        names: nothing_known(alloc, slots)?,
-        descriptors: nothing_known(alloc, slots)?,
-        results: nothing_known(alloc, slots)?,
-    };
-    for slot in slots {
-        look_for(slots, &mut known, *slot);
-    }
-    Ok(known)
-}
-
-/// What the text at this index is, which is looked through only where that isn't known.
-fn form_at<F: Form>(slots: &[Slot<'_>], known: &[Option<F>], index: u16) -> F
-    requires { AreOf F.form_in (slots_of slots.now) known.now }
-    ensures { result ≡ F.form_in (slot_of_index (slots_of slots.now) index).body }
+/// What is known of the text at this index.
+fn known_at<F: Form>(known: &[Option<F>], index: u16) -> Option<F>
+    ensures { result ≡ get_or known.now index None }
 {
     let i = index as usize;
-    if i < known.len() {
-        if let Some(form) = known[i] {
-            return form;
-        }
+    if i < known.len() { known[i] } else { None }
+}
+
+/// What the text at this index is, which is looked through only where that isn't known yet.
+fn form_at<F: Form>(slots: &[Slot<'_>], known: &mut Vec<Option<F>>, index: u16) -> F
+    requires { AreOf F.form_in (slots_of slots.now) known.old.items }
+    ensures form { result ≡ F.form_in (slot_of_index (slots_of slots.now) index).body }
+    ensures known { AreOf F.form_in (slots_of slots.now) known.new.items }
+{
+    if let Some(form) = known_at(known.as_slice(), index) {
+        return form;
     }
-    F::of(at(slots, index).body)
+    let form = F::of(at(slots, index).body);
+    let i = index as usize;
+    if i >= known.len() {
+        return form;
+    }
+    known[i] = Some(form);
+    form
 }
 
 impl Forms {
-    /// What the text of a Class is, at this index.
-    pub(crate) fn class(&self, slots: &[Slot<'_>], index: u16) -> ClassForm
-        requires { AreForms (slots_of slots.now) self.now }
-        ensures { result ≡ class_form_in (slot_of_index (slots_of slots.now) index).body }
+    /// Nothing known of the texts. Takes memory for the lists.
+    pub(crate) fn new(alloc: Global, slots: &[Slot<'_>]) -> Result<Forms, AllocError>
+        ensures { IfOk result (λ known. AreForms (slots_of slots.now) known) }
     {
-        form_at(slots, self.classes.as_slice(), index)
+        Ok(Forms {
+            classes: nothing_known(alloc, slots)?,
+            names: nothing_known(alloc, slots)?,
+            descriptors: nothing_known(alloc, slots)?,
+            results: nothing_known(alloc, slots)?,
+        })
+    }
+
+    /// What the text of a Class is, at this index.
+    pub(crate) fn class(&mut self, slots: &[Slot<'_>], index: u16) -> ClassForm
+        requires { AreForms (slots_of slots.now) self.old }
+        ensures form { result ≡ class_form_in (slot_of_index (slots_of slots.now) index).body }
+        ensures known { AreForms (slots_of slots.now) self.new }
+    {
+        form_at(slots, &mut self.classes, index)
     }
 
     /// What the name at this index is.
-    pub(crate) fn name(&self, slots: &[Slot<'_>], index: u16) -> NameForms
-        requires { AreForms (slots_of slots.now) self.now }
-        ensures { result ≡ name_forms_in (slot_of_index (slots_of slots.now) index).body }
+    pub(crate) fn name(&mut self, slots: &[Slot<'_>], index: u16) -> NameForms
+        requires { AreForms (slots_of slots.now) self.old }
+        ensures form { result ≡ name_forms_in (slot_of_index (slots_of slots.now) index).body }
+        ensures known { AreForms (slots_of slots.now) self.new }
     {
-        form_at(slots, self.names.as_slice(), index)
+        form_at(slots, &mut self.names, index)
     }
 
     /// What the descriptor at this index is.
-    pub(crate) fn descriptor(&self, slots: &[Slot<'_>], index: u16) -> DescriptorForms
-        requires { AreForms (slots_of slots.now) self.now }
-        ensures { result ≡ descriptor_forms_in (slot_of_index (slots_of slots.now) index).body }
+    pub(crate) fn descriptor(&mut self, slots: &[Slot<'_>], index: u16) -> DescriptorForms
+        requires { AreForms (slots_of slots.now) self.old }
+        ensures form { result ≡ descriptor_forms_in (slot_of_index (slots_of slots.now) index).body }
+        ensures known { AreForms (slots_of slots.now) self.new }
     {
-        form_at(slots, self.descriptors.as_slice(), index)
+        form_at(slots, &mut self.descriptors, index)
     }
 
     /// What the result is of the descriptor at this index.
-    pub(crate) fn result(&self, slots: &[Slot<'_>], index: u16) -> ResultForm
-        requires { AreForms (slots_of slots.now) self.now }
-        ensures { result ≡ result_form_in (slot_of_index (slots_of slots.now) index).body }
+    pub(crate) fn result(&mut self, slots: &[Slot<'_>], index: u16) -> ResultForm
+        requires { AreForms (slots_of slots.now) self.old }
+        ensures form { result ≡ result_form_in (slot_of_index (slots_of slots.now) index).body }
+        ensures known { AreForms (slots_of slots.now) self.new }
     {
-        form_at(slots, self.results.as_slice(), index)
+        form_at(slots, &mut self.results, index)
     }
 }

@@ -1,14 +1,14 @@
 //! What the entries of a pool name, and the first fault in it (JVMS 4.4).
 ghost use Rattle.std.specs.Prelude.{◌≡◌, ◌≤◌, ◌&&◌, ◌||◌, not, List, ℕ, IfOk};
-ghost use Rattle.jc_desc.specs.Faults.{first_fault};
-ghost use Rattle.jc_desc.specs.Pool.{short_from, first_of, second_of, slot_of_index, holds_tag, text_in, name_in, descriptor_in, pair_in, refers_rightly, fits_handle, names_for_handle, handle_kind, handle_target, names_one_utf8, is_member_reference, no_result};
+ghost use Rattle.jc_desc.specs.Faults.{or_fault};
+ghost use Rattle.jc_desc.specs.Pool.{short_from, first_of, second_of, slot_of_index, holds_tag, text_in, name_in, descriptor_in, pair_in, refers_rightly, fits_handle, names_for_handle, handle_kind, handle_target, is_member_reference, no_result};
 ghost use Rattle.jc_desc.specs.Reading.{method_of};
-ghost use Rattle.jc_desc.specs.PoolSteps.{want, meaning_fault, fault_of_handle, reference_fault, sense_fault, fault_of_links};
+ghost use Rattle.jc_desc.specs.PoolSteps.{want, meaning_fault, fault_of_handle, sense_fault, fault_of_links};
 ghost use Rattle.jc_pool.specs.steps.Forms.{name_forms_in, AreForms};
 ghost use Rattle.jc_pool.specs.Slots.{slot_of, slots_of};
 
 use crate::entry::{Slot, at, first, second, short_in};
-use crate::forms::{ClassForm, DescriptorForms, Forms, NameForms, asked_forms};
+use crate::forms::{ClassForm, DescriptorForms, Forms, NameForms};
 use jc_desc::fault::{Fault, Reason};
 use jc_desc::tags;
 use std::alloc::{AllocError, Global};
@@ -58,16 +58,6 @@ pub(crate) fn pair<'a>(slots: &[Slot<'a>], slot: Slot<'a>) -> Slot<'a>
     at(slots, second(slot))
 }
 
-fn names_one_text(tag: u8) -> bool
-    ensures { result ≡ names_one_utf8 tag }
-{
-    tag == tags::CLASS
-        || tag == tags::STRING
-        || tag == tags::METHOD_TYPE
-        || tag == tags::MODULE
-        || tag == tags::PACKAGE
-}
-
 /// Whether an entry refers to a member.
 pub(crate) fn is_member_ref(tag: u8) -> bool
     ensures { result ≡ is_member_reference tag }
@@ -80,20 +70,20 @@ pub(crate) fn is_member_ref(tag: u8) -> bool
 fn refers(slots: &[Slot<'_>], slot: Slot<'_>) -> bool
     ensures { result ≡ refers_rightly (slots_of slots.now) (slot_of slot.entry) }
 {
-    if names_one_text(slot.tag) {
-        return holds(slots, tags::UTF8, first(slot));
+    match slot.tag {
+        tags::CLASS | tags::STRING | tags::METHOD_TYPE | tags::MODULE | tags::PACKAGE => {
+            holds(slots, tags::UTF8, first(slot))
+        }
+        tags::FIELD_REF | tags::METHOD_REF | tags::INTERFACE_METHOD_REF => {
+            holds(slots, tags::CLASS, first(slot))
+                && holds(slots, tags::NAME_AND_TYPE, second(slot))
+        }
+        tags::NAME_AND_TYPE => {
+            holds(slots, tags::UTF8, first(slot)) && holds(slots, tags::UTF8, second(slot))
+        }
+        tags::DYNAMIC | tags::INVOKE_DYNAMIC => { holds(slots, tags::NAME_AND_TYPE, second(slot)) }
+        _ => true,
     }
-    if is_member_ref(slot.tag) {
-        return holds(slots, tags::CLASS, first(slot))
-            && holds(slots, tags::NAME_AND_TYPE, second(slot));
-    }
-    if slot.tag == tags::NAME_AND_TYPE {
-        return holds(slots, tags::UTF8, first(slot)) && holds(slots, tags::UTF8, second(slot));
-    }
-    if slot.tag == tags::DYNAMIC || slot.tag == tags::INVOKE_DYNAMIC {
-        return holds(slots, tags::NAME_AND_TYPE, second(slot));
-    }
-    true
 }
 
 fn class_fault(text: ClassForm) -> Option<Reason>
@@ -119,9 +109,10 @@ fn pair_fault(name: NameForms, descriptor: DescriptorForms) -> Option<Reason>
 }
 
 /// Whether what a NameAndType of this name says is no constructor, or one without a result.
-fn constructs(slots: &[Slot<'_>], known: &Forms, name: NameForms, named: Slot<'_>) -> bool
-    requires { AreForms (slots_of slots.now) known.now }
-    ensures { result ≡ not name.init || no_result (method_of (descriptor_in (slots_of slots.now) (slot_of named.entry))) }
+fn constructs(slots: &[Slot<'_>], known: &mut Forms, name: NameForms, named: Slot<'_>) -> bool
+    requires { AreForms (slots_of slots.now) known.old }
+    ensures known { AreForms (slots_of slots.now) known.new }
+    ensures fits { result ≡ not name.init || no_result (method_of (descriptor_in (slots_of slots.now) (slot_of named.entry))) }
 {
     !name.init || known.result(slots, second(named)).void
 }
@@ -202,9 +193,10 @@ fn shape_fault(descriptor: DescriptorForms) -> Option<Reason>
 
 /// The first reason against what an entry names.
 #[tactic(auto, unfolding(jc_desc::specs::PoolSteps::meaning_fault))]
-fn meaning(slots: &[Slot<'_>], known: &Forms, slot: Slot<'_>) -> Option<Reason>
-    requires { AreForms (slots_of slots.now) known.now }
-    ensures { result ≡ meaning_fault (slots_of slots.now) (slot_of slot.entry) }
+fn meaning(slots: &[Slot<'_>], known: &mut Forms, slot: Slot<'_>) -> Option<Reason>
+    requires { AreForms (slots_of slots.now) known.old }
+    ensures known { AreForms (slots_of slots.now) known.new }
+    ensures reason { result ≡ meaning_fault (slots_of slots.now) (slot_of slot.entry) }
 {
     match slot.tag {
         tags::CLASS => class_fault(known.class(slots, first(slot))),
@@ -237,9 +229,36 @@ fn meaning(slots: &[Slot<'_>], known: &Forms, slot: Slot<'_>) -> Option<Reason>
     }
 }
 
-fn first_reference_fault(slots: &[Slot<'_>]) -> Option<Fault>
-    ensures { result ≡ first_fault (reference_fault (slots_of slots.now)) (slots_of slots.now) }
+/// The fault that was found before, or else the one in what an entry names.
+fn sense_after(
+    slots: &[Slot<'_>],
+    known: &mut Forms,
+    before: Option<Fault>,
+    slot: Slot<'_>,
+) -> Option<Fault>
+    requires { AreForms (slots_of slots.now) known.old }
+    ensures known { AreForms (slots_of slots.now) known.new }
+    ensures fault { result ≡ or_fault before (sense_fault (slots_of slots.now) (slot_of slot.entry)) }
 {
+    if before.is_some() {
+        return before;
+    }
+    match meaning(slots, known, slot) {
+        Some(reason) => Some(Fault {
+            left: slot.left,
+            reason,
+        }),
+        None => None,
+    }
+}
+
+/// The first fault in a reference, or where there is none the first in what entries name. Both are
+/// looked for in one pass.
+fn first_link_fault(slots: &[Slot<'_>], known: &mut Forms) -> Option<Fault>
+    requires { AreForms (slots_of slots.now) known.old }
+    ensures { result ≡ fault_of_links (slots_of slots.now) }
+{
+    let mut sense = None;
     for slot in slots {
         if !refers(slots, *slot) {
             return Some(Fault {
@@ -247,23 +266,9 @@ fn first_reference_fault(slots: &[Slot<'_>]) -> Option<Fault>
                 reason: Reason::BadIndex,
             });
         }
+        sense = sense_after(slots, known, sense, *slot);
     }
-    None
-}
-
-fn first_sense_fault(slots: &[Slot<'_>], known: &Forms) -> Option<Fault>
-    requires { AreForms (slots_of slots.now) known.now }
-    ensures { result ≡ first_fault (sense_fault (slots_of slots.now)) (slots_of slots.now) }
-{
-    for slot in slots {
-        if let Some(reason) = meaning(slots, known, *slot) {
-            return Some(Fault {
-                left: slot.left,
-                reason,
-            });
-        }
-    }
-    None
+    sense
 }
 
 /// The first fault in what the entries name: references over all entries first, and only then
@@ -271,9 +276,6 @@ fn first_sense_fault(slots: &[Slot<'_>], known: &Forms) -> Option<Fault>
 pub(crate) fn links_fault(alloc: Global, slots: &[Slot<'_>]) -> Result<Option<Fault>, AllocError>
     ensures { IfOk result (λ fault. fault ≡ fault_of_links (slots_of slots.now)) }
 {
-    if let Some(fault) = first_reference_fault(slots) {
-        return Ok(Some(fault));
-    }
-    let known = asked_forms(alloc, slots)?;
-    Ok(first_sense_fault(slots, &known))
+    let mut known = Forms::new(alloc, slots)?;
+    Ok(first_link_fault(slots, &mut known))
 }
