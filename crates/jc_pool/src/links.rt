@@ -1,9 +1,9 @@
 //! What the entries of a pool name, and the first fault in it (JVMS 4.4).
-ghost use Rattle.std.specs.Prelude.{◌≡◌, ◌≤◌, ◌&&◌, ◌||◌, not, List, ℕ, IfOk};
-ghost use Rattle.jc_desc.specs.Faults.{or_fault};
+ghost use Rattle.std.specs.Prelude.{◌≡◌, ◌≤◌, ◌&&◌, ◌||◌, not, List, ℕ, Some, IfOk};
+ghost use Rattle.jc_desc.specs.Faults.{first_fault, or_fault};
 ghost use Rattle.jc_desc.specs.Pool.{short_from, first_of, second_of, slot_of_index, holds_tag, text_in, name_in, descriptor_in, pair_in, refers_rightly, fits_handle, names_for_handle, handle_kind, handle_target, is_member_reference, no_result};
 ghost use Rattle.jc_desc.specs.Reading.{method_of};
-ghost use Rattle.jc_desc.specs.PoolSteps.{want, meaning_fault, fault_of_handle, sense_fault, fault_of_links};
+ghost use Rattle.jc_desc.specs.PoolSteps.{want, meaning_fault, fault_of_handle, reference_fault, fault_of_links};
 ghost use Rattle.jc_pool.specs.steps.Forms.{name_forms_in, AreForms};
 ghost use Rattle.jc_pool.specs.Slots.{slot_of, slots_of};
 
@@ -66,6 +66,8 @@ pub(crate) fn is_member_ref(tag: u8) -> bool
 }
 
 /// Whether each index of an entry holds an entry of its kind.
+// Inlined where each entry is asked, as a call would copy the entry.
+#[inline(always)]
 #[tactic(auto, unfolding(jc_desc::specs::Pool::refers_rightly))]
 fn refers(slots: &[Slot<'_>], slot: Slot<'_>) -> bool
     ensures { result ≡ refers_rightly (slots_of slots.now) (slot_of slot.entry) }
@@ -229,36 +231,9 @@ fn meaning(slots: &[Slot<'_>], known: &mut Forms, slot: Slot<'_>) -> Option<Reas
     }
 }
 
-/// The fault that was found before, or else the one in what an entry names.
-fn sense_after(
-    slots: &[Slot<'_>],
-    known: &mut Forms,
-    before: Option<Fault>,
-    slot: Slot<'_>,
-) -> Option<Fault>
-    requires { AreForms (slots_of slots.now) known.old }
-    ensures known { AreForms (slots_of slots.now) known.new }
-    ensures fault { result ≡ or_fault before (sense_fault (slots_of slots.now) (slot_of slot.entry)) }
+fn first_reference_fault(slots: &[Slot<'_>]) -> Option<Fault>
+    ensures { result ≡ first_fault (reference_fault (slots_of slots.now)) (slots_of slots.now) }
 {
-    if before.is_some() {
-        return before;
-    }
-    match meaning(slots, known, slot) {
-        Some(reason) => Some(Fault {
-            left: slot.left,
-            reason,
-        }),
-        None => None,
-    }
-}
-
-/// The first fault in a reference, or where there is none the first in what entries name. Both are
-/// looked for in one pass.
-fn first_link_fault(slots: &[Slot<'_>], known: &mut Forms) -> Option<Fault>
-    requires { AreForms (slots_of slots.now) known.old }
-    ensures { result ≡ fault_of_links (slots_of slots.now) }
-{
-    let mut sense = None;
     for slot in slots {
         if !refers(slots, *slot) {
             return Some(Fault {
@@ -266,9 +241,49 @@ fn first_link_fault(slots: &[Slot<'_>], known: &mut Forms) -> Option<Fault>
                 reason: Reason::BadIndex,
             });
         }
-        sense = sense_after(slots, known, sense, *slot);
     }
-    sense
+    None
+}
+
+/// The first fault in a reference, wherever it stands, or else this one in what an entry names.
+#[cold]
+fn reference_fault_or(slots: &[Slot<'_>], sense: Fault) -> Option<Fault>
+    ensures { result ≡ or_fault (first_fault (reference_fault (slots_of slots.now)) (slots_of slots.now)) (Some sense) }
+{
+    match first_reference_fault(slots) {
+        Some(fault) => Some(fault),
+        None => Some(sense),
+    }
+}
+
+/// The first fault in a reference, or where there is none the first in what entries name. One pass
+/// looks for both, and only where an entry names what it may not are the references behind it looked
+/// at for themselves.
+fn first_link_fault(slots: &[Slot<'_>], known: &mut Forms) -> Option<Fault>
+    requires { AreForms (slots_of slots.now) known.old }
+    ensures { result ≡ fault_of_links (slots_of slots.now) }
+{
+    for slot in slots {
+        if slot.tag == tags::UTF8 {
+            continue;
+        }
+        if !refers(slots, *slot) {
+            return Some(Fault {
+                left: slot.left,
+                reason: Reason::BadIndex,
+            });
+        }
+        if let Some(reason) = meaning(slots, known, *slot) {
+            return reference_fault_or(
+                slots,
+                Fault {
+                    left: slot.left,
+                    reason,
+                },
+            );
+        }
+    }
+    None
 }
 
 /// The first fault in what the entries name: references over all entries first, and only then
