@@ -40,9 +40,11 @@ pub struct DiskTrees<R: Files + AllocGlobal + Clone + Drop> {
     failed: RootFaults,
 }
 
-// A path below a folder, or the name itself where the folder is "".
+// A path below a folder, or the name itself where the folder is "". It is made in room of its length.
 fn joined(alloc: Global, folder: &str, name: &str) -> Result<String, AllocError> {
-    let mut path = String::from_str(alloc, folder)?;
+    let room = folder.len().saturating_add(name.len()).saturating_add(1);
+    let mut path = String::with_capacity(alloc, room)?;
+    path.push_str(folder)?;
     if !folder.is_empty() {
         path.push('/')?;
     }
