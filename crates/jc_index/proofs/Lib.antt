@@ -5,6 +5,7 @@ pub mod Turns
 pub mod Slashes
 pub mod Walking
 pub mod Places
+pub mod InSide
 pub mod Indexed
 pub mod Upwards
 pub mod Overlaps

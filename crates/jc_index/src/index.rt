@@ -12,16 +12,15 @@ ghost use Rattle.jc_index.specs.Sides.{IsSide};
 use crate::ids::ClassId;
 use crate::names::{NumberedNames, numbered};
 use crate::order::ordered;
+use crate::side::Side;
 use jc_facts::class_facts::ClassFacts;
 use std::alloc::{AllocError, Global};
 use std::marker::Model;
 
 /// The classes of a side, and their order by name. A contract sees it as the side.
 pub struct Index {
-    // Those of the platform, and then those of the release.
-    classes: Vec<ClassFacts>,
-    platform: usize,
-    // Places in `classes`, in byte order of names.
+    side: Side,
+    // Places of its classes, in byte order of names.
     order: Vec<usize>,
     // The names in this order, numbered.
     names: NumberedNames,
@@ -31,8 +30,7 @@ pub struct Index {
 impl Drop for Index {
     fn drop(self) {
         let Index {
-            classes: _,
-            platform: _,
+            side: _,
             order: _,
             names: _,
         } = self;
@@ -40,65 +38,38 @@ impl Drop for Index {
 }
 
 impl Model for Index {
-    ghost use Rattle.std.specs.Prelude.{take, drop};
-    ghost use Rattle.jc_facts.specs.world.World.{World, side};
+    ghost use Rattle.jc_facts.specs.world.World.{World};
 
     ghost Value = { World };
 
     ghost use Rattle.jc_index.specs.steps.Order.{IsIndex};
 
-    ghost view = { λ i. side (take i.platform i.classes.items) (drop i.platform i.classes.items) };
+    ghost view = { λ i. i.side };
 
     ghost invariant = { IsIndex };
 }
 
-// The classes of the platform, and then those of the release.
-fn joined(
-    alloc: Global,
-    platform: &[ClassFacts],
-    release: Vec<ClassFacts>,
-) -> Result<Vec<ClassFacts>, AllocError>
-    ensures { IfOk result (λ classes. classes.items ≡ platform.now ++ release.items) }
-{
-    let count = platform.len().saturating_add(release.len());
-    let mut classes = Vec::with_capacity(alloc, count)?;
-    for class in platform {
-        classes.push(class.copy(alloc)?)?;
-    }
-    for class in release {
-        classes.push(class)?;
-    }
-    Ok(classes)
-}
-
 impl Index {
-    /// The index of a platform and a release.
-    pub fn new(
-        alloc: Global,
-        platform: &[ClassFacts],
-        release: Vec<ClassFacts>,
-    ) -> Result<Index, AllocError>
-        requires side { IsSide (side platform.now release.items) }
-        requires few { length platform.now + length release.items ≤ 120000 }
-        ensures { IfOk result (λ index. index ≡ side platform.now release.items) }
+    /// The index of a side.
+    ///
+    /// # Errors
+    ///
+    /// `AllocError` where memory runs out.
+    pub fn new(alloc: Global, side: Side) -> Result<Index, AllocError>
+        requires { IsSide side }
+        ensures { IfOk result (λ index. index ≡ side) }
     {
-        let count = platform.len();
-        let classes = joined(alloc, platform, release)?;
-        let order = ordered(alloc, classes.as_slice())?;
-        let names = numbered(alloc, classes.as_slice(), order.as_slice())?;
-        Ok(Index {
-            classes,
-            platform: count,
-            order,
-            names,
-        })
+        let _few = side.count();
+        let order = ordered(alloc, &side)?;
+        let names = numbered(alloc, &side, order.as_slice())?;
+        Ok(Index { side, order, names })
     }
 
-    /// All classes: those of the platform, and then those of the release.
-    pub fn classes(&self) -> &[ClassFacts]
-        ensures { result.now ≡ classes self.now }
+    /// The side.
+    pub fn side(&self) -> &Side
+        ensures { result.now ≡ self.now }
     {
-        self.classes.as_slice()
+        &self.side
     }
 
     /// How many classes there are.
@@ -137,7 +108,7 @@ impl Index {
         requires { id < size self.now }
         ensures { Some result.now ≡ find_class self.now (name_at self.now id) }
     {
-        &self.classes[self.order[id.number() as usize]]
+        self.side.at(self.order[id.number() as usize])
     }
 
     /// The class that the class names as its superclass; none where there is none of this name.
@@ -157,6 +128,6 @@ impl Index {
         requires { id < size self.now }
         ensures { result ≡ is_some (class_named self.now.platform (name_at self.now id)) }
     {
-        self.order[id.number() as usize] < self.platform
+        self.side.in_platform(self.order[id.number() as usize])
     }
 }

@@ -3,9 +3,10 @@ ghost use Rattle.std.specs.Prelude.{◌≡◌, ◌∷◌, [], is_some, IfOk, OnO
 ghost use Rattle.std.specs.List.{list_any};
 ghost use Rattle.jc_facts.specs.Names.{Bytes, is_name_among};
 ghost use Rattle.jc_facts.specs.world.Search.{supers_of};
-ghost use Rattle.jc_facts.specs.world.World.{class_named};
+ghost use Rattle.jc_facts.specs.world.World.{class_named, classes};
 ghost use Rattle.jc_index.specs.steps.Adding.{Adds};
 
+use crate::side::Side;
 use indexmap::IndexSet;
 use jc_facts::class_facts::ClassFacts;
 use std::alloc::{AllocError, Global};
@@ -87,15 +88,12 @@ fn put_superclass<'a>(names: &mut LentNames<'a>, class: &'a ClassFacts) -> Resul
 }
 
 /// The names that the classes have as their superclasses'.
-pub(crate) fn lent_superclasses<'a>(
-    alloc: Global,
-    classes: &'a [ClassFacts],
-) -> Result<LentNames<'a>, AllocError>
-    ensures { IfOk result (λ names. (x : Bytes) → is_name_among names x ≡ list_any (λ c. is_name_among (supers_of c.superclass []) x) classes.now) }
+pub(crate) fn lent_superclasses(alloc: Global, side: &Side) -> Result<LentNames<'_>, AllocError>
+    ensures { IfOk result (λ names. (x : Bytes) → is_name_among names x ≡ list_any (λ c. is_name_among (supers_of c.superclass []) x) (classes side.now)) }
 {
     let mut names = LentNames::new(alloc);
-    for class in classes {
-        put_superclass(&mut names, class)?;
+    for place in 0..side.count() {
+        put_superclass(&mut names, side.at(place))?;
     }
     Ok(names)
 }

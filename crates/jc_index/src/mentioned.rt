@@ -3,13 +3,16 @@ ghost use Rattle.std.specs.Prelude.{◌≡◌, ◌+◌, ◌<◌, ◌^◌, nat_eq
 ghost use Rattle.std.specs.List.{list_any, starts_with};
 ghost use Rattle.jc_facts.specs.Names.{Bytes, same, is_name_among, package_name};
 ghost use Rattle.jc_facts.specs.world.Search.{supers};
+ghost use Rattle.jc_facts.specs.world.World.{classes};
 ghost use Rattle.jc_facts.specs.world.Mentioned.{permitted, mentions, all_mentions};
+ghost use Rattle.jc_index.specs.Mentioned.{mentions_front};
 ghost use Rattle.jc_index.specs.steps.Adding.{Adds};
 ghost use Rattle.jc_index.specs.MentionedNames.{AreMentionedNames};
 
 use crate::faults::super_count;
 use crate::names::NumberedNames;
 use crate::packages::package_of;
+use crate::side::Side;
 use jc_base::name::Name;
 use jc_facts::class_facts::ClassFacts;
 use std::alloc::{AllocError, Global};
@@ -64,23 +67,23 @@ fn put_supers(alloc: Global, set: &mut NumberedNames, class: &ClassFacts) -> Res
 }
 
 // The packages of the classes.
-fn packages(alloc: Global, classes: &[ClassFacts]) -> Result<NumberedNames, AllocError>
-    ensures { IfOk result (λ set. (x : Bytes) → is_name_among set x ≡ list_any (λ c. same (package_name c.name) x) classes.now) }
+fn packages(alloc: Global, side: &Side) -> Result<NumberedNames, AllocError>
+    ensures { IfOk result (λ set. (x : Bytes) → is_name_among set x ≡ list_any (λ c. same (package_name c.name) x) (classes side.now)) }
 {
     let mut set = NumberedNames::new(alloc);
-    for class in classes {
-        set.put(alloc, package_of(class.name.as_bytes()))?;
+    for place in 0..side.count() {
+        set.put(alloc, package_of(side.at(place).name.as_bytes()))?;
     }
     Ok(set)
 }
 
 // The names that the classes name above themselves.
-fn all_supers(alloc: Global, classes: &[ClassFacts]) -> Result<NumberedNames, AllocError>
-    ensures { IfOk result (λ set. (x : Bytes) → is_name_among set x ≡ list_any (λ c. is_name_among (supers c) x) classes.now) }
+fn all_supers(alloc: Global, side: &Side) -> Result<NumberedNames, AllocError>
+    ensures { IfOk result (λ set. (x : Bytes) → is_name_among set x ≡ list_any (λ c. is_name_among (supers c) x) (classes side.now)) }
 {
     let mut set = NumberedNames::new(alloc);
-    for class in classes {
-        put_supers(alloc, &mut set, class)?;
+    for place in 0..side.count() {
+        put_supers(alloc, &mut set, side.at(place))?;
     }
     Ok(set)
 }
@@ -111,13 +114,13 @@ fn counted(count: usize, class: &ClassFacts) -> Option<usize>
 }
 
 // How many names the classes mention.
-fn mention_count(classes: &[ClassFacts]) -> Result<usize, AllocError>
-    ensures value { IfOk result (λ n. n ≡ length (all_mentions classes.now)) }
+fn mention_count(side: &Side) -> Result<usize, AllocError>
+    ensures value { IfOk result (λ n. n ≡ length (all_mentions (classes side.now))) }
     ensures small { IfOk result (λ n. n < 2 ^ 63) }
 {
     let mut count = 0;
-    for class in classes {
-        count = match counted(count, class) {
+    for place in 0..side.count() {
+        count = match counted(count, side.at(place)) {
             Some(more) => more,
             None => return Err(AllocError),
         };
@@ -126,17 +129,17 @@ fn mention_count(classes: &[ClassFacts]) -> Result<usize, AllocError>
 }
 
 impl MentionedNames {
-    /// Those of these classes.
+    /// Those of the classes of a side.
     ///
     /// # Errors
     ///
     /// `AllocError` where memory runs out, also for 2^63 names or more, which no memory holds.
-    pub fn new(alloc: Global, classes: &[ClassFacts]) -> Result<MentionedNames, AllocError>
-        ensures { IfOk result (λ names. AreMentionedNames classes.now names) }
+    pub fn new(alloc: Global, side: &Side) -> Result<MentionedNames, AllocError>
+        ensures { IfOk result (λ names. AreMentionedNames (classes side.now) names) }
     {
-        let packages = packages(alloc, classes)?;
-        let supers = all_supers(alloc, classes)?;
-        let count = mention_count(classes)?;
+        let packages = packages(alloc, side)?;
+        let supers = all_supers(alloc, side)?;
+        let count = mention_count(side)?;
         Ok(MentionedNames {
             packages,
             supers,
@@ -185,8 +188,13 @@ fn mention_begins(class: &ClassFacts, front: &[u8]) -> bool
 }
 
 /// Whether a name that one of the classes mentions begins with these bytes.
-pub fn begins(classes: &[ClassFacts], front: &[u8]) -> bool
-    ensures { result ≡ list_any (λ c. list_any (λ x. starts_with nat_eq x front.now) (mentions c)) classes.now }
+pub fn begins(side: &Side, front: &[u8]) -> bool
+    ensures { result ≡ mentions_front side.now front.now }
 {
-    classes.iter().any(|class| mention_begins(class, front))
+    for place in 0..side.count() {
+        if mention_begins(side.at(place), front) {
+            return true;
+        }
+    }
+    false
 }

@@ -4,11 +4,12 @@ ghost use Rattle.std.specs.List.{All};
 ghost use Rattle.std.specs.List.Sorted.{IsPermutation, IsSortedBy};
 ghost use Rattle.std.specs.Ordering.{is_lt};
 ghost use Rattle.jc_facts.specs.client.Clients.{differ_by_name};
+ghost use Rattle.jc_facts.specs.world.World.{classes};
 ghost use Rattle.jc_facts.specs.Exactly.{name_order};
 ghost use Rattle.jc_index.specs.Ids.{names_of};
 ghost use Rattle.jc_index.specs.steps.Order.{IsOrder, IsPlace, names_at};
 
-use jc_facts::class_facts::ClassFacts;
+use crate::side::Side;
 use std::alloc::{AllocError, Global};
 use std::cmp::Ordering;
 use std::marker::Model;
@@ -29,15 +30,15 @@ impl<'a> Model for Place<'a> {
 }
 
 // The places of the classes, as they stand.
-fn places(alloc: Global, classes: &[ClassFacts]) -> Result<Vec<Place<'_>>, AllocError>
-    ensures names { IfOk result (λ places. map (λ p. p.0) places.items ≡ names_at classes.now) }
-    ensures at { IfOk result (λ places. All (IsPlace classes.now) places.items) }
+fn places(alloc: Global, side: &Side) -> Result<Vec<Place<'_>>, AllocError>
+    ensures names { IfOk result (λ places. map (λ p. p.0) places.items ≡ names_at (classes side.now)) }
+    ensures at { IfOk result (λ places. All (IsPlace (classes side.now)) places.items) }
 {
-    let mut places = Vec::with_capacity(alloc, classes.len())?;
-    for (at, class) in classes.iter().enumerate() {
+    let mut places = Vec::with_capacity(alloc, side.count())?;
+    for place in 0..side.count() {
         places.push(Place {
-            name: class.name.as_bytes(),
-            at,
+            name: side.at(place).name.as_bytes(),
+            at: place,
         })?;
     }
     Ok(places)
@@ -53,13 +54,13 @@ fn sort_by_name(places: &mut Vec<Place<'_>>) -> Result<(), AllocError>
 }
 
 /// The places of the classes, in byte order of their names.
-pub fn ordered(alloc: Global, classes: &[ClassFacts]) -> Result<Vec<usize>, AllocError>
-    requires { IsTrue (differ_by_name classes.now) }
-    ensures { IfOk result (λ order. IsOrder classes.now order.items) }
+pub fn ordered(alloc: Global, side: &Side) -> Result<Vec<usize>, AllocError>
+    requires { IsTrue (differ_by_name (classes side.now)) }
+    ensures { IfOk result (λ order. IsOrder (classes side.now) order.items) }
 {
-    let mut places = places(alloc, classes)?;
+    let mut places = places(alloc, side)?;
     sort_by_name(&mut places)?;
-    let mut order = Vec::with_capacity(alloc, classes.len())?;
+    let mut order = Vec::with_capacity(alloc, places.len())?;
     for place in places.as_slice() {
         order.push(place.at)?;
     }
@@ -67,10 +68,10 @@ pub fn ordered(alloc: Global, classes: &[ClassFacts]) -> Result<Vec<usize>, Allo
 }
 
 /// The name that stands there in byte order.
-pub fn name_there<'a>(classes: &'a [ClassFacts], order: &[usize], at: usize) -> &'a [u8]
-    requires order { IsOrder classes.now order.now }
+pub fn name_there<'a>(side: &'a Side, order: &[usize], at: usize) -> &'a [u8]
+    requires order { IsOrder (classes side.now) order.now }
     requires within { at < length order.now }
-    ensures { result.now ≡ slice_index_or (names_of classes.now) at [] }
+    ensures { result.now ≡ slice_index_or (names_of (classes side.now)) at [] }
 {
-    classes[order[at]].name.as_bytes()
+    side.at(order[at]).name.as_bytes()
 }

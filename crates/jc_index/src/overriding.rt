@@ -186,7 +186,7 @@ fn finals_in(alloc: Global, index: &Index, names: &LentNames<'_>) -> Result<Vec<
 pub(crate) fn final_keys(alloc: Global, index: &Index) -> Result<FinalKeys, AllocError>
     ensures { IfOk result (λ keys. HaveAllFinal index.now keys) }
 {
-    let names = lent_superclasses(alloc, index.classes())?;
+    let names = lent_superclasses(alloc, index.side())?;
     let keys = finals_in(alloc, index, &names)?;
     let finals = FinalKeys::new(alloc, keys)?;
     Ok(finals)

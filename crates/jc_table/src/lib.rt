@@ -4,5 +4,5 @@
 pub mod keys;
 pub mod table;
 
-pub use jc_index::{ids, members, name_set, packages, plain, root, search, supertypes};
+pub use jc_index::{ids, members, name_set, packages, plain, platform, root, search, supertypes};
 pub use jc_rows::row;

@@ -31,7 +31,9 @@ use jc_index::ids::{ClassId, Found};
 use jc_index::index::Index;
 use jc_index::mentioned::{MentionedNames, begins};
 use jc_index::overlap::first_overlap;
+use jc_index::platform::Platform;
 use jc_index::root::{RootPart, root_fault};
+use jc_index::side::Side;
 use jc_rows::row::{RowItem, find};
 use jc_rows::rows::Rows;
 use std::alloc::{AllocError, Global};
@@ -88,11 +90,13 @@ impl Model for Table {
     ghost invariant = { IsTable };
 }
 
-// The table of an index.
-fn of_index(alloc: Global, index: Index) -> Result<Table, AllocError>
-    ensures { IfOk result (λ table. table ≡ index) }
+// The table of a side.
+fn of_side(alloc: Global, side: Side) -> Result<Table, AllocError>
+    requires { IsSide side }
+    ensures { IfOk result (λ table. table ≡ side) }
 {
-    let mentioned = MentionedNames::new(alloc, index.classes())?;
+    let mentioned = MentionedNames::new(alloc, &side)?;
+    let index = Index::new(alloc, side)?;
     let Loading { faults, order } = load_all(alloc, &index)?;
     let hierarchy = Hierarchy::new(alloc, index)?;
     let rows = Rows::new(alloc, &hierarchy, order.as_slice())?;
@@ -108,7 +112,7 @@ impl Table {
     /// The table of a platform and a release: valid records, with names that differ in each of the
     /// two, and no more than 120,000 together. The platform's `java/lang/Object` has to be as
     /// `RootPart` says, and no name may be in both; the first cause is the answer, and `Memory` may
-    /// come in place of any but a bad root.
+    /// come in place of any but a bad root. The platform is copied; `over` takes it as it is.
     pub fn build(
         alloc: Global,
         platform: &[ClassFacts],
@@ -126,16 +130,39 @@ impl Table {
         if let Some(part) = root_fault(platform) {
             return Err(TableError::BadRoot(part));
         }
-        match first_overlap(alloc, platform, release.as_slice()) {
+        let Ok(platform) = Platform::of_copies(alloc, platform) else {
+            return Err(TableError::Memory);
+        };
+        Table::over(alloc, &platform, release)
+    }
+
+    /// The same table, of a platform that it shares with others.
+    pub fn over(
+        alloc: Global,
+        platform: &Platform,
+        release: Vec<ClassFacts>,
+    ) -> Result<Table, TableError>
+        requires valid_platform { All IsValidClass platform.now }
+        requires valid_release { All IsValidClass release.items }
+        requires platform_differs { IsTrue (differ_by_name platform.now) }
+        requires release_differs { IsTrue (differ_by_name release.items) }
+        requires few { length platform.now + length release.items ≤ 120000 }
+        ensures built { IfOk result (λ table. table ≡ side platform.now release.items) }
+        ensures sound { IfOk result (λ _. (fault_of_root platform.now ≡ None) × (overlap_of platform.now release.items ≡ None)) }
+        ensures refused { IfErr result (HasCause platform.now release.items) }
+    {
+        if let Some(part) = root_fault(platform.classes()) {
+            return Err(TableError::BadRoot(part));
+        }
+        match first_overlap(alloc, platform.classes(), release.as_slice()) {
             Ok(None) => {}
             Ok(Some(name)) => return Err(TableError::Overlap(name)),
             Err(_) => return Err(TableError::Memory),
         }
-        let index = match Index::new(alloc, platform, release) {
-            Ok(index) => index,
-            Err(_) => return Err(TableError::Memory),
+        let Ok(platform) = platform.share() else {
+            return Err(TableError::Memory);
         };
-        match of_index(alloc, index) {
+        match of_side(alloc, Side::new(platform, release)) {
             Ok(table) => Ok(table),
             Err(_) => Err(TableError::Memory),
         }
@@ -253,7 +280,7 @@ impl Table {
     pub fn begins(&self, front: &[u8]) -> bool
         ensures { result ≡ mentions_front self.now front.now }
     {
-        begins(self.hierarchy.index().classes(), front)
+        begins(self.hierarchy.index().side(), front)
     }
 
     /// How many names its classes have, name above themselves or permit to extend them, each counted

@@ -42,7 +42,7 @@ fn compared(
     let Ok(new) = records_of(alloc, new) else {
         return Err(Stop::Memory);
     };
-    match Comparison::of_records(alloc, platform.as_slice(), old, new) {
+    match Comparison::of_records(alloc, platform, old, new) {
         Ok(comparison) => Ok(comparison),
         Err(stop) => Err(stop),
     }

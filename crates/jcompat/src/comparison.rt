@@ -18,6 +18,7 @@ use crate::tree::TreeName;
 use jc_facts::class_facts::ClassFacts;
 use jc_facts::verdict::Verdict;
 use jc_rules::compare::compare_within;
+use jc_table::platform::Platform;
 use jc_table::table::{Table, TableError};
 use std::alloc::Global;
 
@@ -66,10 +67,10 @@ impl Sides {
     }
 }
 
-/// The tables of the two sides, or why there are none.
-pub fn both_sides(
+// The tables of the two sides of this platform, or why there are none.
+fn sides_over(
     alloc: Global,
-    platform: &[ClassFacts],
+    platform: &Platform,
     old: Vec<ClassFacts>,
     new: Vec<ClassFacts>,
 ) -> Result<Sides, Stop>
@@ -82,13 +83,38 @@ pub fn both_sides(
     ensures can { IfOk result (λ s. CanWrite platform.now old.items new.items) }
     ensures stopped { IfErr result (StopsMatching platform.now old.items new.items) }
 {
-    let old = match Table::build(alloc, platform, old) {
+    let old = match Table::over(alloc, platform, old) {
         Ok(table) => table,
         Err(error) => return Err(unfit(TreeName::Old, error)),
     };
-    match Table::build(alloc, platform, new) {
+    match Table::over(alloc, platform, new) {
         Ok(new) => Ok(Sides::of_tables(old, new)),
         Err(error) => Err(unfit(TreeName::New, error)),
+    }
+}
+
+/// The tables of the two sides, or why there are none.
+pub fn both_sides(
+    alloc: Global,
+    platform: Vec<ClassFacts>,
+    old: Vec<ClassFacts>,
+    new: Vec<ClassFacts>,
+) -> Result<Sides, Stop>
+    requires platform { IsRecordList platform.items }
+    requires old { IsRecordList old.items }
+    requires new { IsRecordList new.items }
+    ensures old { IfOk result (λ s. s.old ≡ side platform.items old.items) }
+    ensures new { IfOk result (λ s. s.new ≡ side platform.items new.items) }
+    ensures fits { IfOk result (λ s. mismatch_of platform.items old.items new.items ≡ None) }
+    ensures can { IfOk result (λ s. CanWrite platform.items old.items new.items) }
+    ensures stopped { IfErr result (StopsMatching platform.items old.items new.items) }
+{
+    let Ok(platform) = Platform::new(alloc, platform) else {
+        return Err(Stop::Memory);
+    };
+    match sides_over(alloc, &platform, old, new) {
+        Ok(sides) => Ok(sides),
+        Err(stop) => Err(stop),
     }
 }
 
@@ -112,15 +138,15 @@ impl Comparison {
     /// The comparison of these records, or why there is none.
     pub fn of_records(
         alloc: Global,
-        platform: &[ClassFacts],
+        platform: Vec<ClassFacts>,
         old: Vec<ClassFacts>,
         new: Vec<ClassFacts>,
     ) -> Result<Comparison, Stop>
-        requires platform { IsRecordList platform.now }
+        requires platform { IsRecordList platform.items }
         requires old { IsRecordList old.items }
         requires new { IsRecordList new.items }
-        ensures compared { IfOk result (IsComparison platform.now old.items new.items) }
-        ensures stopped { IfErr result (StopsComparing platform.now old.items new.items) }
+        ensures compared { IfOk result (IsComparison platform.items old.items new.items) }
+        ensures stopped { IfErr result (StopsComparing platform.items old.items new.items) }
     {
         let Sides { old, new } = match both_sides(alloc, platform, old, new) {
             Ok(sides) => sides,

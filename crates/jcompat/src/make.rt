@@ -28,7 +28,7 @@ fn verdict_on(alloc: Global, made: Made) -> Result<Verdict, Stop>
     ensures stopped { IfErr result (StopsMatching made.platform made.old made.new) }
 {
     let Made { platform, old, new } = made;
-    let sides = match both_sides(alloc, platform.as_slice(), old.into_vec(), new.into_vec()) {
+    let sides = match both_sides(alloc, platform.into_vec(), old.into_vec(), new.into_vec()) {
         Ok(sides) => sides,
         Err(stop) => return Err(stop),
     };

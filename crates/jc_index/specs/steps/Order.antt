@@ -1,9 +1,9 @@
 -- Where the classes of a list stand, in byte order of their names.
-use Rattle.std.specs.Prelude.{ℕ, ◌<◌, ◌≤◌, ◌≡◌, List, [], map, length, Option, None, Some, slice_get, take, drop}
+use Rattle.std.specs.Prelude.{ℕ, ◌<◌, ◌≤◌, ◌≡◌, List, [], map, length, Option, None, Some, slice_get}
 use Rattle.std.specs.List.{All}
 use Rattle.jc_facts.specs.declared.class_facts.ClassFacts.{ClassFacts}
 use Rattle.jc_facts.specs.Names.{Bytes}
-use Rattle.jc_facts.specs.world.World.{side}
+use Rattle.jc_facts.specs.world.World.{classes}
 use Rattle.jc_index.specs.Ids.{names_of}
 use Rattle.jc_index.specs.Sides.{IsSide}
 use Rattle.jc_index.specs.declared.index.Index.TheInside.{Inside}
@@ -30,10 +30,9 @@ pub record IsOrder (cs : List ClassFacts) (order : List ℕ) : Type 0 where
   pub within : All (λ at. at < length cs) order
   pub named : map (name_in cs) order ≡ names_of cs
 
--- an index keeps a side's classes, those of the platform first, their order, and their names in this order
+-- an index keeps a side of few classes, their order, and their names in this order
 pub record IsIndex (i : Inside) : Type 0 where
-  pub front : i.platform ≤ length i.classes.items
-  pub few : length i.classes.items ≤ 120000
-  pub order : IsOrder i.classes.items i.order.items
-  pub names : i.names ≡ names_of i.classes.items
-  pub side : IsSide (side (take i.platform i.classes.items) (drop i.platform i.classes.items))
+  pub few : length (classes i.side) ≤ 120000
+  pub order : IsOrder (classes i.side) i.order.items
+  pub names : i.names ≡ names_of (classes i.side)
+  pub side : IsSide i.side

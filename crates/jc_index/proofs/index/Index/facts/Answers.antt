@@ -5,10 +5,8 @@ use Rattle.jc_index.proofs.index.Index.facts.Goals as goal
 pub index-requires : goal.index-requires
 index-requires c = let many = count_is c.self.inside c.self.invariant c.args.self.now c.self.view_is in omega arith
 
-pub index-requires-2 : goal.index-requires-2
-index-requires-2 c =
-    let inside = within c.self.inside c.self.invariant c.args.self.now c.self.view_is c.number.result c.index.result.now (omega arith) c.index.ensures in
-    omega arith
+pub at-requires : goal.at-requires
+at-requires c = within c.self.inside c.self.invariant c.args.self.now c.self.view_is c.number.result c.index.result.now (omega arith) c.index.ensures
 
 pub returns : goal.returns
-returns c = class_is c.self.inside c.self.invariant c.args.self.now c.self.view_is c.args.id c.index.result.now c.index-2.result.now c.requires (c.index.ensures ∙ ap (λ (k : ℕ). get_or c.self.inside.order.items k c.index.result.now) c.number.ensures) c.index-2.ensures
+returns c = class_is c.self.inside c.self.invariant c.args.self.now c.self.view_is c.args.id c.index.result.now c.at.result.now c.requires (c.index.ensures ∙ ap (λ (k : ℕ). get_or c.self.inside.order.items k c.index.result.now) c.number.ensures) c.at.ensures

@@ -6,4 +6,4 @@ pub index-requires : goal.index-requires
 index-requires c = let many = count_is c.self.inside c.self.invariant c.args.self.now c.self.view_is in omega arith
 
 pub returns : goal.returns
-returns c = front_is c.self.inside c.self.invariant c.args.self.now c.self.view_is c.args.id c.index.result.now c.requires (c.index.ensures ∙ ap (λ (k : ℕ). get_or c.self.inside.order.items k c.index.result.now) c.number.ensures)
+returns c = c.in_platform.ensures ∙ front_is c.self.inside c.self.invariant c.args.self.now c.self.view_is c.args.id c.index.result.now c.requires (c.index.ensures ∙ ap (λ (k : ℕ). get_or c.self.inside.order.items k c.index.result.now) c.number.ensures)

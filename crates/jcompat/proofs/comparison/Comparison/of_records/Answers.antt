@@ -12,9 +12,9 @@ returns-in-Ok-counted-clause-compared c = record {
 }
 
 pub returns-in-Err-clause-stopped : goal.returns-in-Err-clause-stopped
-returns-in-Err-clause-stopped c = unmatched c.args.platform.now c.args.old.items c.args.new.items c.in-Err.stop c.in-Err.ensures.stopped
+returns-in-Err-clause-stopped c = unmatched c.args.platform.items c.args.old.items c.args.new.items c.in-Err.stop c.in-Err.ensures.stopped
 
 pub returns-in-Err-counted-clause-stopped : goal.returns-in-Err-counted-clause-stopped
 returns-in-Err-counted-clause-stopped c =
-    unfit_counting c.args.platform.now c.args.old.items c.args.new.items c.in-Err-counted.stop c.requires.platform c.requires.old c.requires.new c.in-Ok.ensures.fits
+    unfit_counting c.args.platform.items c.args.old.items c.args.new.items c.in-Err-counted.stop c.requires.platform c.requires.old c.requires.new c.in-Ok.ensures.fits
     (rw (c.in-Ok.ensures.old, c.in-Ok.ensures.new) at c.in-Err-counted.ensures.stopped)
