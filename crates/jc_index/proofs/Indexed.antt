@@ -1,11 +1,11 @@
 -- An index and the side that it keeps.
-use Rattle.std.proofs.Common.{◌≡◌, ℕ, ◌<◌, ◌≤◌, List, [], ◌++◌, length, take, drop, get_or, refl, sym, ◌∙◌, ap, subst, Some, None, arith, ◌⊎◌, inl, inr}
+use Rattle.std.proofs.Common.{◌≡◌, ℕ, ◌<◌, ◌≤◌, List, [], length, get_or, sym, ◌∙◌, ap, subst, Some, None, arith, ◌⊎◌, inl, inr}
 use Rattle.std.specs.Prelude.{is_some, IsTrue, nat_lt, slice_get}
 use Rattle.std.proofs.lemmas.List.{get_or-map}
 use Rattle.std.proofs.lemmas.Option.{slice_get_cases}
 use Rattle.jc_facts.specs.declared.class_facts.ClassFacts.{ClassFacts}
 use Rattle.jc_facts.specs.Names.{Bytes}
-use Rattle.jc_facts.specs.world.World.{World, side, classes, size, find_class, class_named}
+use Rattle.jc_facts.specs.world.World.{World, classes, size, find_class, class_named}
 use Rattle.jc_facts.specs.client.Clients.{differ_by_name}
 use Rattle.jc_index.specs.Ids.{names_of, names, name_at, place_of, id_of}
 use Rattle.jc_index.specs.steps.Order.{name_or, name_in, IsIndex}

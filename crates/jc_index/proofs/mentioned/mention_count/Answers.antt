@@ -1,4 +1,4 @@
-use Rattle.std.proofs.Common.{ℕ, ◌<◌, ◌≤◌, subst}
+use Rattle.std.proofs.Common.{ℕ, ◌<◌, subst}
 use Rattle.jc_facts.specs.world.World.{classes}
 use Rattle.jc_index.proofs.InSide.{is_there}
 use Rattle.jc_index.proofs.Mentions.{count_next}

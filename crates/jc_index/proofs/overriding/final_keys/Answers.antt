@@ -1,4 +1,4 @@
-use Rattle.std.proofs.Common.{List, [], ap, ◌∙◌}
+use Rattle.std.proofs.Common.{[], ap, ◌∙◌}
 use Rattle.std.specs.List.{list_any}
 use Rattle.jc_facts.specs.Names.{is_name_among}
 use Rattle.jc_facts.specs.world.Search.{supers_of}
