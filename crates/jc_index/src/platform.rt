@@ -53,7 +53,7 @@ impl Platform {
     ///
     /// # Errors
     ///
-    /// `AllocError` for 2^63 of them or more.
+    /// `AllocError` where it is shared as often as can be counted.
     pub fn share(&self) -> Result<Platform, AllocError>
         ensures { IfOk result (λ platform. platform ≡ self.now) }
     {
