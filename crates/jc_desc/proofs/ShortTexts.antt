@@ -1,11 +1,10 @@
 -- A text of an entry has at most 65,535 bytes, as the two bytes of its length say (JVMS 4.4.7).
-use Rattle.std.proofs.Common.{◌≡◌, ℕ, ◌≤◌, ◌<◌, Bool, true, false, List, [], ◌∷◌, ◌++◌, length, zero, suc, Some, refl, sym, subst, ap, inl, inr, arith}
+use Rattle.std.proofs.Common.{◌≡◌, ℕ, ◌≤◌, ◌<◌, Bool, true, false, List, [], ◌∷◌, ◌++◌, length, zero, suc, Some, refl, sym, subst, inl, inr, arith}
 use Rattle.std.proofs.lemmas.Bool.{eqb-true}
 use Rattle.std.specs.List.{AllByRecursion}
-use Rattle.byteorder.specs.Endian.{big_number}
-use Rattle.jc_desc.specs.Pool.{Slot, PoolOf, nothing, holds_tag, is_wide_tag, slot_of_index}
+use Rattle.jc_desc.specs.Pool.{Slot, PoolOf, holds_tag, is_wide_tag, slot_of_index}
 use Rattle.jc_desc.specs.PoolAnswers.{utf8_in, some_if}
-use Rattle.jc_desc.specs.PoolGrammar.{IsBody, IsEntry, IsNumber, AreSlots, IsPool}
+use Rattle.jc_desc.specs.PoolGrammar.{IsBody, IsNumber, AreSlots, IsPool}
 use Rattle.jc_desc.specs.Tags as tags
 
 -- each is a byte
