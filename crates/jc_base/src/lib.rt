@@ -18,7 +18,5 @@ pub mod sink;
 pub mod sure_folder;
 pub mod sure_sink;
 pub mod sure_trees;
-#[cfg(test)]
-mod tests;
 pub mod text;
 pub mod trees;

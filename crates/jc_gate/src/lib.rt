@@ -6,5 +6,3 @@ pub mod at_most;
 pub mod collisions;
 pub mod gate;
 pub mod links;
-#[cfg(test)]
-mod tests;

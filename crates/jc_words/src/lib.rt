@@ -8,6 +8,4 @@ pub mod laws;
 pub mod link;
 pub mod make;
 mod number;
-#[cfg(test)]
-mod tests;
 pub mod usage;
