@@ -1,9 +1,9 @@
 -- Superinterfaces by numbers.
-use Rattle.std.proofs.Common.{◌≡◌, ◌<◌, ◌≤◌, ◌+◌, ℕ, zero, suc, Bool, true, false, ◌||◌, ◌==◌, List, [], ◌∷◌, ◌++◌, length, get_or, map, take, refl, sym, ◌∙◌, ap, subst, ◌⊎◌, inl, inr, arith, eqb, Option, Some, None}
+use Rattle.std.proofs.Common.{◌≡◌, ◌<◌, ◌≤◌, ℕ, zero, suc, Bool, true, false, ◌||◌, ◌==◌, List, [], ◌∷◌, length, get_or, map, refl, sym, ◌∙◌, ap, subst, ◌⊎◌, inl, inr, arith, eqb, Option, Some, None}
 use Rattle.std.specs.Prelude.{IsTrue, is_some, nat_lt}
 use Rattle.std.specs.List.{All, Any, Contains, list_any, filter_map, cons_option}
 use Rattle.std.proofs.lemmas.Bool.{eqb-true, eq-eqb, ltb-true, lt-ltb, cases_lt}
-use Rattle.std.proofs.lemmas.List.{map-append, get_or-map, length-map, take_more, get_or_past}
+use Rattle.std.proofs.lemmas.List.{get_or-map, length-map, get_or_past}
 use Rattle.std.proofs.lemmas.List.Folds.{list_any-append, Any-from_list_any}
 use Rattle.std.proofs.lemmas.List.Elements.{All-contains, All-from_recursion, All-weaker, All-contains_itself}
 use Rattle.jc_facts.specs.declared.class_facts.ClassFacts.{ClassFacts}
@@ -168,14 +168,6 @@ module _ (W : World) where
   pub edges-within : All (λ ids. All (λ id. id < length (edges_of W)) ids) (edges_of W)
   edges-within = all_mapped (λ (ids : List ℕ). All (λ id. id < length (edges_of W)) ids) (λ x. named_by W (find_class W x))
       (λ x. subst (λ m. All (λ id. id < m) (named_by W (find_class W x))) (sym edges-length) (named_within (find_class W x))) (names W)
-
-  pub edge_step : (n : ℕ) (done : List (List ℕ)) (c : ClassFacts) (ids : List ℕ) → n < size W → done ≡ map (λ x. named_by W (find_class W x)) (take n (names W)) → Some c ≡ find_class W (name_at W n)
-      → ids ≡ filter_map (id_of W) c.interfaces → done ++ ids ∷ [] ≡ map (λ x. named_by W (find_class W x)) (take (n + 1) (names W))
-  edge_step n done c ids l e f i =
-      let g : ids ≡ named_by W (find_class W (name_at W n)) = i ∙ ap (named_by W) f in
-      let k : n < length (names W) = subst (λ m. n < m) (sym (names-length W)) l in
-      ap (λ (xs : List (List ℕ)). xs ++ ids ∷ []) e ∙ ap (λ (x : List ℕ). map (λ x. named_by W (find_class W x)) (take n (names W)) ++ x ∷ []) g
-      ∙ sym (map-append (λ x. named_by W (find_class W x)) (take n (names W)) (name_at W n ∷ [])) ∙ ap (map (λ x. named_by W (find_class W x))) (sym (take_more (names W) n [] k))
 
   -- ---- rows
 

@@ -1,4 +1,4 @@
--- An index and the side that it keeps.
+-- The classes that are found by their names, and the side that is kept of them.
 use Rattle.std.proofs.Common.{◌≡◌, ℕ, ◌<◌, ◌≤◌, List, [], length, get_or, sym, ◌∙◌, ap, subst, Some, None, arith, ◌⊎◌, inl, inr}
 use Rattle.std.specs.Prelude.{is_some, IsTrue, nat_lt, slice_get}
 use Rattle.std.proofs.lemmas.List.{get_or-map}
@@ -8,13 +8,13 @@ use Rattle.jc_facts.specs.Names.{Bytes}
 use Rattle.jc_facts.specs.world.World.{World, classes, size, find_class, class_named}
 use Rattle.jc_facts.specs.client.Clients.{differ_by_name}
 use Rattle.jc_index.specs.Ids.{names_of, names, name_at, place_of, id_of}
-use Rattle.jc_index.specs.steps.Order.{name_or, name_in, IsIndex}
-use Rattle.jc_index.specs.declared.index.Index.TheInside.{Inside}
+use Rattle.jc_index.specs.steps.Order.{name_or, name_in, AreNamedClasses}
+use Rattle.jc_index.specs.declared.named_classes.NamedClasses.TheInside.{Inside}
 use Rattle.jc_index.proofs.Numbers.{names_of-length}
 use Rattle.jc_index.proofs.InSide.{front}
 use Rattle.jc_index.proofs.Places.{order_length, found_there, in_front}
 
-module _ (i : Inside) (h : IsIndex i) (W : World) (v : i.side ≡ W) where
+module _ (i : Inside) (h : AreNamedClasses i) (W : World) (v : i.side ≡ W) where
   classes_are : classes W ≡ classes i.side
   classes_are = ap classes (sym v)
 

@@ -17,6 +17,7 @@ pub mod Queues
 pub mod Shares
 pub mod Aboves
 pub mod Keeps
+pub mod NamedAbove
 pub mod Sides
 pub mod Lookups
 pub mod Reached

@@ -10,3 +10,5 @@ pub mod Kinds
 pub mod steps
 pub mod MentionedNames
 pub mod LoadOrder
+pub mod Interfaces
+pub mod IndexFields

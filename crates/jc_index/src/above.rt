@@ -1,9 +1,8 @@
-//! The superclass of each class, and the interfaces above it.
-ghost use Rattle.std.specs.Prelude.{◌≡◌, ◌<◌, map, IfOk, IsTrue};
+//! The interfaces above each class.
+ghost use Rattle.std.specs.Prelude.{◌≡◌, ◌<◌, IfOk, IsTrue};
 ghost use Rattle.std.specs.List.{filter_map};
 ghost use Rattle.jc_facts.specs.world.World.{size, classes};
 ghost use Rattle.jc_facts.specs.client.Clients.{differ_by_name};
-ghost use Rattle.jc_index.specs.Ids.{names, id_of, superclass_of};
 ghost use Rattle.jc_index.specs.Above.{AreRows};
 ghost use Rattle.jc_index.specs.steps.Named.{edges_of};
 
@@ -12,31 +11,19 @@ use crate::index::Index;
 use crate::parts::all_led_to;
 use crate::rows::Rows;
 use jc_base::items::Items;
-use jc_base::name::Name;
 use std::alloc::{AllocError, Global};
 
-/// For each class of an index the class that it names as its superclass.
-pub fn superclasses(alloc: Global, index: &Index) -> Result<Vec<Option<ClassId>>, AllocError>
-    ensures { IfOk result (λ supers. supers.items ≡ map (superclass_of index.now) (names index.now)) }
+// The numbers of these classes, where there are such classes.
+fn numbers_of(alloc: Global, classes: &[Option<ClassId>]) -> Result<Vec<u32>, AllocError>
+    ensures { IfOk result (λ numbers. numbers.items ≡ filter_map (λ id. id) classes.now) }
 {
-    let mut supers = Vec::with_capacity(alloc, index.count() as usize)?;
-    for n in 0..index.count() {
-        supers.push(index.superclass(ClassId::new(n)))?;
-    }
-    Ok(supers)
-}
-
-// The numbers of the classes of these names, where there are such classes.
-fn ids_of(alloc: Global, index: &Index, names: &[Name]) -> Result<Vec<u32>, AllocError>
-    ensures { IfOk result (λ ids. ids.items ≡ filter_map (id_of index.now) names.now) }
-{
-    let mut ids = Vec::with_capacity(alloc, names.len())?;
-    for name in names {
-        if let Some(id) = index.get(name.as_bytes()) {
-            ids.push(id.number())?;
+    let mut numbers = Vec::with_capacity(alloc, classes.len())?;
+    for class in classes {
+        if let Some(id) = *class {
+            numbers.push(id.number())?;
         }
     }
-    Ok(ids)
+    Ok(numbers)
 }
 
 // For each class the numbers of the interfaces that it names.
@@ -47,9 +34,8 @@ fn edges(alloc: Global, index: &Index) -> Result<Vec<Items<u32>>, AllocError>
 {
     let mut edges = Vec::with_capacity(alloc, index.count() as usize)?;
     for n in 0..index.count() {
-        let class = index.facts(ClassId::new(n));
-        let ids = ids_of(alloc, index, class.interfaces.as_slice())?;
-        edges.push(Items::from_vec(ids))?;
+        let numbers = numbers_of(alloc, index.interfaces(ClassId::new(n)))?;
+        edges.push(Items::from_vec(numbers))?;
     }
     Ok(edges)
 }

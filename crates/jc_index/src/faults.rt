@@ -1,11 +1,13 @@
 //! The load faults of all classes, and an order in which those that load can be loaded, in one pass
 //! (JVMS 5.3.5).
-ghost use Rattle.std.specs.Prelude.{◌≡◌, ℕ, ◌+◌, ◌<◌, List, [], cond, length, map, slice_get, vec_len, false, IfOk, Some, None};
+ghost use Rattle.std.specs.Prelude.{◌≡◌, ℕ, ◌+◌, ◌<◌, List, [], cond, length, map, slice_get, vec_len, false, IfOk, IfSome, Some, None};
 ghost use Rattle.std.specs.List.{All, Contains};
+ghost use Rattle.jc_facts.specs.Names.{Bytes};
+ghost use Rattle.jc_facts.specs.Options.{and_then};
 ghost use Rattle.jc_facts.specs.world.Loading.{load_fault, fault_of_itself};
 ghost use Rattle.jc_facts.specs.world.Search.{supers};
 ghost use Rattle.jc_facts.specs.world.World.{World, size, find_class};
-ghost use Rattle.jc_index.specs.Ids.{name_at, names};
+ghost use Rattle.jc_index.specs.Ids.{name_at, names, id_of};
 ghost use Rattle.jc_index.specs.steps.Walking.{HaveAllFinal};
 ghost use Rattle.jc_index.specs.steps.Entering.{state_of, is_on, is_known, is_entered, is_fresh, work, bottom, Says, Goes, Leads, IsSettled, IsUnderWay, AreRight, AllHave, Turns, LoadsBefore};
 ghost use Rattle.jc_index.specs.LoadOrder.{IsLoadOrder};
@@ -65,13 +67,14 @@ enum Turn {
     On(Frame),
 }
 
-// What is known of the class of this name.
-fn known_of(index: &Index, states: &[State], name: &Name) -> Named
-    requires { AreRight index.now states.now }
-    ensures says { Says index.now states.now name.now result }
-    ensures past { Passes index.now states.now name.now result }
+// What is known of the class of a name, where there is one.
+fn known_of(index: &Index, states: &[State], class: Option<ClassId>) -> Named
+    requires right { AreRight index.now states.now }
+    requires inside { IfSome class (λ id. id < size index.now) }
+    ensures says { (x : Bytes) → class ≡ id_of index.now x → Says index.now states.now x result }
+    ensures past { (x : Bytes) → class ≡ id_of index.now x → Passes index.now states.now x result }
 {
-    match index.get(name.as_bytes()) {
+    match class {
         None => Named::Known(Some(LinkError::NoClassDefFoundError)),
         Some(id) => match states[id.number() as usize] {
             State::Known(fault) => Named::Known(fault),
@@ -103,6 +106,37 @@ pub(crate) fn super_at(class: &ClassFacts, at: usize) -> &Name
     }
 }
 
+// The class at this place; none where none stands there.
+#[tactic(auto, unfolding(jc_facts::specs::Options::and_then))]
+fn class_at(classes: &[Option<ClassId>], at: usize) -> Option<ClassId>
+    ensures { result ≡ and_then (λ class. class) (slice_get classes.now at) }
+{
+    match classes.get(at) {
+        Some(class) => *class,
+        None => None,
+    }
+}
+
+// The class of one of these names; none where there is none.
+fn class_above(index: &Index, id: ClassId, class: &ClassFacts, at: usize) -> Option<ClassId>
+    requires inside { id < size index.now }
+    requires found { Some class.now ≡ find_class index.now (name_at index.now id) }
+    ensures value { result ≡ and_then (id_of index.now) (slice_get (supers class.now) at) }
+    ensures of_table { IfSome result (λ id. id < size index.now) }
+{
+    let interfaces = index.interfaces(id);
+    match &class.superclass {
+        Some(_) => {
+            if at == 0 {
+                index.superclass(id)
+            } else {
+                class_at(interfaces, at - 1)
+            }
+        }
+        None => class_at(interfaces, at),
+    }
+}
+
 // Where the way leads from the class, of those above which the first so many load.
 fn way_from(index: &Index, states: &[State], class: ClassId, loaded: usize) -> Way
     requires inside { class < size index.now }
@@ -114,7 +148,7 @@ fn way_from(index: &Index, states: &[State], class: ClassId, loaded: usize) -> W
 {
     let facts = index.facts(class);
     for above in loaded..super_count(facts) {
-        match known_of(index, states, super_at(facts, above)) {
+        match known_of(index, states, class_above(index, class, facts, above)) {
             Named::Unknown(class) => return Way::Up(above, class),
             Named::Known(fault) => {
                 if let Some(fault) = fault {
@@ -181,17 +215,20 @@ fn own_fault<'a>(
     alloc: Global,
     index: &'a Index,
     finals: &FinalKeys,
+    id: ClassId,
     class: &'a ClassFacts,
 ) -> Result<Option<LinkError>, AllocError>
     requires finals { HaveAllFinal index.now finals.now }
+    requires inside { id < size index.now }
+    requires at { Some «class».now ≡ find_class index.now (name_at index.now id) }
     requires class { find_class index.now «class».now.name ≡ Some «class».now }
     ensures { IfOk result (λ fault. fault ≡ fault_of_itself index.now class.now) }
 {
-    let superclass = own_superclass_fault(index, class);
+    let superclass = own_superclass_fault(index, id, class);
     if superclass.is_some() {
         return Ok(superclass);
     }
-    let interface = own_interfaces_fault(index, class);
+    let interface = own_interfaces_fault(index, id, class);
     if interface.is_some() {
         return Ok(interface);
     }
@@ -226,7 +263,7 @@ fn leave<'a>(
     ensures ordered { IfOk result (λ turn. Orderly index.now (bottom path.old.items top.class) states.new path.new.items order.new.items turn) }
     ensures grows { IfOk result (λ _. Grows order.old.items order.new.items) }
 {
-    if let Some(fault) = own_fault(alloc, index, finals, index.facts(top.class))? {
+    if let Some(fault) = own_fault(alloc, index, finals, top.class, index.facts(top.class))? {
         note(states, path.as_slice(), top.class, fault);
         return Ok(Turn::Over(Some(fault)));
     }
@@ -367,7 +404,7 @@ pub struct Loading {
 }
 
 /// The load faults of all classes of the side, and an order in which those that load can be loaded
-/// (JVMS 5.3.5). Each class is entered once, and each name above it is looked up twice at most.
+/// (JVMS 5.3.5). Each class is entered once, and each class above it is looked at twice at most.
 ///
 /// # Errors
 ///

@@ -7,7 +7,7 @@ ghost use Rattle.jc_index.specs.Above.{leads_by, AreAbove};
 ghost use Rattle.jc_index.specs.Ids.{name_at, id_of, superclass_of};
 ghost use Rattle.jc_index.specs.Sides.{IsSide};
 
-use crate::above::{interfaces_above, superclasses};
+use crate::above::interfaces_above;
 use crate::ids::ClassId;
 use crate::index::Index;
 use crate::rows::Rows;
@@ -18,8 +18,6 @@ use std::marker::Model;
 /// The classes of a side with what stands above each of them. A contract sees it as the side.
 pub struct Hierarchy {
     index: Index,
-    // For each class the one that it names as its superclass.
-    supers: Vec<Option<ClassId>>,
     // For each class the interfaces that it names, and those that they lead to.
     interfaces: Rows,
 }
@@ -29,7 +27,6 @@ impl Drop for Hierarchy {
     fn drop(self) {
         let Hierarchy {
             index: _,
-            supers: _,
             interfaces: _,
         } = self;
     }
@@ -56,13 +53,8 @@ impl Hierarchy {
     pub fn new(alloc: Global, index: Index) -> Result<Hierarchy, AllocError>
         ensures { IfOk result (λ hierarchy. hierarchy ≡ index) }
     {
-        let supers = superclasses(alloc, &index)?;
         let interfaces = interfaces_above(alloc, &index)?;
-        Ok(Hierarchy {
-            index,
-            supers,
-            interfaces,
-        })
+        Ok(Hierarchy { index, interfaces })
     }
 
     /// Its classes and their order.
@@ -103,7 +95,7 @@ impl Hierarchy {
         ensures value { result ≡ superclass_of self.now (name_at self.now id) }
         ensures of_table { IfSome result (λ id. id < size self.now) }
     {
-        self.supers[id.number() as usize]
+        self.index.superclass(id)
     }
 
     /// Whether the other class stands in the class's chain: it is the class, or one further up its

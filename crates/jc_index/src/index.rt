@@ -1,38 +1,38 @@
-//! Classes in byte order of their names.
-ghost use Rattle.std.specs.Prelude.{◌≡◌, ◌≤◌, ◌<◌, ◌+◌, ◌++◌, List, ℕ, Some, None, is_some, take, drop, length, nat_lt, IfOk, IfSome, IsTrue};
+//! Classes in byte order of their names, and what each names above itself.
+ghost use Rattle.std.specs.Prelude.{◌≡◌, ◌<◌, Some, is_some, nat_lt, IfOk, IfSome};
 ghost use Rattle.std.specs.List.{All};
-ghost use Rattle.jc_facts.specs.Names.{Bytes};
 ghost use Rattle.jc_facts.specs.Options.{some_where};
-ghost use Rattle.jc_facts.specs.file.Valid.{IsValidClass};
-ghost use Rattle.jc_facts.specs.client.Clients.{differ_by_name, HasRoot};
-ghost use Rattle.jc_facts.specs.world.World.{World, side, classes, size, find_class, class_named};
-ghost use Rattle.jc_index.specs.Ids.{names, names_of, name_at, id_of, superclass_of};
+ghost use Rattle.jc_facts.specs.world.World.{size, find_class, class_named};
+ghost use Rattle.jc_index.specs.Ids.{name_at, id_of, superclass_of};
+ghost use Rattle.jc_index.specs.Interfaces.{interfaces_of};
 ghost use Rattle.jc_index.specs.Sides.{IsSide};
 
 use crate::ids::ClassId;
-use crate::names::{NumberedNames, numbered};
-use crate::order::ordered;
+use crate::named_above::{interfaces, superclasses};
+use crate::named_classes::NamedClasses;
 use crate::side::Side;
+use jc_base::items::Items;
 use jc_facts::class_facts::ClassFacts;
 use std::alloc::{AllocError, Global};
 use std::marker::Model;
 
-/// The classes of a side, and their order by name. A contract sees it as the side.
+/// The classes of a side, their order by name, and the classes that each names above itself. A
+/// contract sees it as the side.
 pub struct Index {
-    side: Side,
-    // Places of its classes, in byte order of names.
-    order: Vec<usize>,
-    // The names in this order, numbered.
-    names: NumberedNames,
+    classes: NamedClasses,
+    // For each class the one that it names as its superclass.
+    superclasses: Vec<Option<ClassId>>,
+    // For each class those that it names as its interfaces.
+    interfaces: Vec<Items<Option<ClassId>>>,
 }
 
 // One call at each exit of a function that owns it, where a derived drop is written out.
 impl Drop for Index {
     fn drop(self) {
         let Index {
-            side: _,
-            order: _,
-            names: _,
+            classes: _,
+            superclasses: _,
+            interfaces: _,
         } = self;
     }
 }
@@ -42,9 +42,9 @@ impl Model for Index {
 
     ghost Value = { World };
 
-    ghost use Rattle.jc_index.specs.steps.Order.{IsIndex};
+    ghost use Rattle.jc_index.specs.IndexFields.{IsIndex};
 
-    ghost view = { λ i. i.side };
+    ghost view = { λ i. i.classes };
 
     ghost invariant = { IsIndex };
 }
@@ -59,17 +59,21 @@ impl Index {
         requires { IsSide side }
         ensures { IfOk result (λ index. index ≡ side) }
     {
-        let _few = side.count();
-        let order = ordered(alloc, &side)?;
-        let names = numbered(alloc, &side, order.as_slice())?;
-        Ok(Index { side, order, names })
+        let classes = NamedClasses::new(alloc, side)?;
+        let superclasses = superclasses(alloc, &classes)?;
+        let interfaces = interfaces(alloc, &classes)?;
+        Ok(Index {
+            classes,
+            superclasses,
+            interfaces,
+        })
     }
 
     /// The side.
     pub fn side(&self) -> &Side
         ensures { result.now ≡ self.now }
     {
-        &self.side
+        self.classes.side()
     }
 
     /// How many classes there are.
@@ -77,7 +81,7 @@ impl Index {
         ensures count { result ≡ size self.now }
         ensures side { IsSide self.now }
     {
-        self.order.len() as u32
+        self.classes.count()
     }
 
     /// The class of this number; none where there are no more than so many classes.
@@ -97,10 +101,7 @@ impl Index {
         ensures value { result ≡ id_of self.now name.now }
         ensures of_table { IfSome result (λ id. id < size self.now) }
     {
-        match self.names.number(name) {
-            Some(place) => Some(ClassId::new(place as u32)),
-            None => None,
-        }
+        self.classes.get(name)
     }
 
     /// The record of the class.
@@ -108,7 +109,7 @@ impl Index {
         requires { id < size self.now }
         ensures { Some result.now ≡ find_class self.now (name_at self.now id) }
     {
-        self.side.at(self.order[id.number() as usize])
+        self.classes.facts(id)
     }
 
     /// The class that the class names as its superclass; none where there is none of this name.
@@ -117,10 +118,17 @@ impl Index {
         ensures value { result ≡ superclass_of self.now (name_at self.now id) }
         ensures of_table { IfSome result (λ id. id < size self.now) }
     {
-        match &self.facts(id).superclass {
-            Some(name) => self.get(name.as_bytes()),
-            None => None,
-        }
+        self.superclasses[id.number() as usize]
+    }
+
+    /// The classes that the class names as its interfaces, in the order of its file; none at a name
+    /// that no class has.
+    pub fn interfaces(&self, id: ClassId) -> &[Option<ClassId>]
+        requires { id < size self.now }
+        ensures value { result.now ≡ interfaces_of self.now (name_at self.now id) }
+        ensures of_table { All (λ above. IfSome above (λ id. id < size self.now)) result.now }
+    {
+        self.interfaces[id.number() as usize].as_slice()
     }
 
     /// Whether the class is one of the platform's.
@@ -128,6 +136,6 @@ impl Index {
         requires { id < size self.now }
         ensures { result ≡ is_some (class_named self.now.platform (name_at self.now id)) }
     {
-        self.side.in_platform(self.order[id.number() as usize])
+        self.classes.in_platform(id)
     }
 }

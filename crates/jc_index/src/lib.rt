@@ -14,6 +14,8 @@ mod lent_names;
 pub mod members;
 pub mod mentioned;
 pub mod name_set;
+mod named_above;
+mod named_classes;
 pub mod names;
 mod order;
 pub mod overlap;

@@ -1,14 +1,17 @@
 //! The load fault of a class by the definition: a search to a depth of so many levels (JVMS 5.3.5).
 //!
 //! It looks at a class again for each way that leads to it, so it is for small sides alone.
-ghost use Rattle.std.specs.Prelude.{◌≡◌, ◌∷◌, ◌&&◌, ◌||◌, [], not, IfOk};
+ghost use Rattle.std.specs.Prelude.{◌≡◌, ◌<◌, ◌∷◌, ◌&&◌, ◌||◌, [], not, Some, IfOk};
 ghost use Rattle.jc_desc.specs.Names.{is_init_name, is_clinit_name};
 ghost use Rattle.jc_facts.specs.Names.{key_of};
+ghost use Rattle.jc_facts.specs.world.World.{size, find_class};
 ghost use Rattle.jc_facts.specs.world.Hierarchy.{chain, of_super};
 ghost use Rattle.jc_facts.specs.world.Overriding.{reaches_final, overrides_some_final};
 ghost use Rattle.jc_facts.specs.world.Loading.{fault_at, fault_of_itself};
+ghost use Rattle.jc_index.specs.Ids.{name_at};
 
 use crate::faults::{super_at, super_count};
+use crate::ids::ClassId;
 use crate::index::Index;
 use crate::overriding::{Method, meets_final, number_above};
 use crate::supertypes::{own_interfaces_fault, own_superclass_fault};
@@ -63,15 +66,18 @@ fn overrides_final<'a>(
 fn own_fault<'a>(
     alloc: Global,
     index: &'a Index,
+    id: ClassId,
     class: &'a ClassFacts,
 ) -> Result<Option<LinkError>, AllocError>
+    requires inside { id < size index.now }
+    requires at { Some class.now ≡ find_class index.now (name_at index.now id) }
     ensures { IfOk result (λ fault. fault ≡ fault_of_itself index.now class.now) }
 {
-    let superclass = own_superclass_fault(index, class);
+    let superclass = own_superclass_fault(index, id, class);
     if superclass.is_some() {
         return Ok(superclass);
     }
-    let interface = own_interfaces_fault(index, class);
+    let interface = own_interfaces_fault(index, id, class);
     if interface.is_some() {
         return Ok(interface);
     }
@@ -111,6 +117,6 @@ pub fn search_fault(
             return Ok(Some(fault));
         }
     }
-    let fault = own_fault(alloc, index, class)?;
+    let fault = own_fault(alloc, index, id, class)?;
     Ok(fault)
 }

@@ -1,12 +1,14 @@
 //! Why a class may not have another one as its superclass or interface (JVMS 5.3.5).
-ghost use Rattle.std.specs.Prelude.{◌≡◌, ◌||◌, not, option_map};
+ghost use Rattle.std.specs.Prelude.{◌≡◌, ◌<◌, ◌||◌, not, Some, IfSome};
 ghost use Rattle.jc_facts.specs.Flags.{interface_flag, final_flag};
-ghost use Rattle.jc_facts.specs.Names.{is_name_among};
-ghost use Rattle.jc_facts.specs.world.World.{find_class};
+ghost use Rattle.jc_facts.specs.Names.{Bytes, is_name_among};
+ghost use Rattle.jc_facts.specs.world.World.{size, find_class};
 ghost use Rattle.jc_facts.specs.world.Access.{is_class_accessible};
 ghost use Rattle.jc_facts.specs.world.Loading.{fault_where, is_sealed_against, error_of_superclass, error_of_interface, fault_of_superclass, fault_of_interface};
 ghost use Rattle.jc_facts.specs.Options.{and_then, first_some, or_else};
+ghost use Rattle.jc_index.specs.Ids.{name_at, id_of};
 
+use crate::ids::ClassId;
 use crate::index::Index;
 use crate::packages::same_package;
 use jc_base::name::Name;
@@ -95,55 +97,46 @@ pub(crate) fn interface_error(class: &ClassFacts, above: &ClassFacts) -> Option<
     )
 }
 
-// The class of this name; none where there is none.
-fn class_of<'a>(index: &'a Index, name: &Name) -> Option<&'a ClassFacts>
-    ensures { option_map (λ c. c.now) result ≡ find_class index.now name.now }
-{
-    match index.get(name.as_bytes()) {
-        None => None,
-        Some(id) => Some(index.facts(id)),
-    }
-}
-
-// Why the class may not have the class of this name as its superclass.
-#[tactic(auto, unfolding(jc_facts::specs::world::Loading::fault_of_superclass, jc_facts::specs::Options::and_then))]
-fn superclass_fault(index: &Index, class: &ClassFacts, name: &Name) -> Option<LinkError>
-    ensures { result ≡ fault_of_superclass index.now class.now name.now }
-{
-    match class_of(index, name) {
-        None => None,
-        Some(above) => superclass_error(class, above),
-    }
-}
-
-// Why the class may not have the interface of this name.
+// Why the class may not have this one as one of its interfaces; nothing where there is none.
 #[tactic(auto, unfolding(jc_facts::specs::world::Loading::fault_of_interface, jc_facts::specs::Options::and_then))]
-fn interface_fault(index: &Index, class: &ClassFacts, name: &Name) -> Option<LinkError>
-    ensures { result ≡ fault_of_interface index.now class.now name.now }
+fn interface_fault(index: &Index, class: &ClassFacts, above: Option<ClassId>) -> Option<LinkError>
+    requires { IfSome above (λ id. id < size index.now) }
+    ensures { (x : Bytes) → above ≡ id_of index.now x → result ≡ fault_of_interface index.now class.now x }
 {
-    match class_of(index, name) {
+    match above {
         None => None,
-        Some(above) => interface_error(class, above),
+        Some(id) => interface_error(class, index.facts(id)),
     }
 }
 
-// Why the class may not have the superclass that it names.
-#[tactic(auto, unfolding(jc_facts::specs::Options::and_then))]
-pub(crate) fn own_superclass_fault(index: &Index, class: &ClassFacts) -> Option<LinkError>
+// Why the class of this number may not have the superclass that it names.
+pub(crate) fn own_superclass_fault(
+    index: &Index,
+    id: ClassId,
+    class: &ClassFacts,
+) -> Option<LinkError>
+    requires inside { id < size index.now }
+    requires at { Some class.now ≡ find_class index.now (name_at index.now id) }
     ensures { result ≡ and_then (fault_of_superclass index.now class.now) class.now.superclass }
 {
-    match &class.superclass {
+    match index.superclass(id) {
         None => None,
-        Some(name) => superclass_fault(index, class, name),
+        Some(above) => superclass_error(class, index.facts(above)),
     }
 }
 
-// The first of its interfaces that the class may not have, and why.
-pub(crate) fn own_interfaces_fault(index: &Index, class: &ClassFacts) -> Option<LinkError>
+// The first of its interfaces that the class of this number may not have, and why.
+pub(crate) fn own_interfaces_fault(
+    index: &Index,
+    id: ClassId,
+    class: &ClassFacts,
+) -> Option<LinkError>
+    requires inside { id < size index.now }
+    requires at { Some class.now ≡ find_class index.now (name_at index.now id) }
     ensures { result ≡ first_some (fault_of_interface index.now class.now) class.now.interfaces }
 {
-    for name in class.interfaces.as_slice() {
-        if let Some(fault) = interface_fault(index, class, name) {
+    for above in index.interfaces(id) {
+        if let Some(fault) = interface_fault(index, class, *above) {
             return Some(fault);
         }
     }

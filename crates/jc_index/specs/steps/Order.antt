@@ -6,7 +6,7 @@ use Rattle.jc_facts.specs.Names.{Bytes}
 use Rattle.jc_facts.specs.world.World.{classes}
 use Rattle.jc_index.specs.Ids.{names_of}
 use Rattle.jc_index.specs.Sides.{IsSide}
-use Rattle.jc_index.specs.declared.index.Index.TheInside.{Inside}
+use Rattle.jc_index.specs.declared.named_classes.NamedClasses.TheInside.{Inside}
 
 -- the name of the class, nothing where there is none
 abbrev pub name_or : Option ClassFacts → Bytes
@@ -30,8 +30,8 @@ pub record IsOrder (cs : List ClassFacts) (order : List ℕ) : Type 0 where
   pub within : All (λ at. at < length cs) order
   pub named : map (name_in cs) order ≡ names_of cs
 
--- an index keeps a side of few classes, their order, and their names in this order
-pub record IsIndex (i : Inside) : Type 0 where
+-- kept are a side of few classes, their order, and their names in this order
+pub record AreNamedClasses (i : Inside) : Type 0 where
   pub few : length (classes i.side) ≤ 120000
   pub order : IsOrder (classes i.side) i.order.items
   pub names : i.names ≡ names_of (classes i.side)

@@ -1,21 +1,19 @@
-use Rattle.std.proofs.Common.{◌∙◌, ◌<◌, ◌≤◌, ◌++◌, [], ◌∷◌, ap, map, subst, sym}
+use Rattle.std.proofs.Common.{◌≤◌, ◌∙◌, ◌++◌, [], ◌∷◌, ap, arith}
 use Rattle.std.specs.List.{filter_map}
-use Rattle.std.proofs.lemmas.List.{take_all}
-use Rattle.jc_facts.specs.world.World.{find_class}
-use Rattle.jc_index.specs.Ids.{names, name_at, id_of}
+use Rattle.jc_facts.specs.world.World.{size, find_class}
+use Rattle.jc_index.specs.Ids.{name_at}
 use Rattle.jc_index.specs.steps.Named.{named_by}
-use Rattle.jc_index.proofs.Numbers.{names-length}
-use Rattle.jc_index.proofs.Aboves.{edge_step}
+use Rattle.jc_index.proofs.Keeps.{column-more, column-all, named-there}
 use Rattle.jc_index.proofs.above.edges.Goals as goal
 
 pub loop-n-preserved : goal.loop-n-preserved
 loop-n-preserved c =
+    let W = c.args.index.now in
     c.in_ok-push.ensures.items ∙ ap (λ ids. c.loop-n.edges.items ++ ids ∷ []) c.from_vec.ensures
-    ∙ edge_step c.args.index.now c.loop-n.n c.loop-n.edges.items c.facts-class.result.now c.in_ok-ids.ids.items (subst (λ m. c.loop-n.n < m) c.count-n-end.ensures.count c.loop-n-test.true) c.loop-n.invariant
-    (c.facts-class.ensures ∙ ap (λ k. find_class c.args.index.now (name_at c.args.index.now k)) c.new.ensures) (c.in_ok-ids.ensures ∙ ap (filter_map (id_of c.args.index.now)) c.as_slice.ensures)
+    ∙ column-more W (λ x. named_by W (find_class W x)) c.loop-n.edges.items c.loop-n.n c.new.result c.in_ok-numbers.numbers.items (omega (arith, c.count-n-end.ensures.count)) c.new.ensures c.loop-n.invariant
+    (c.in_ok-numbers.ensures ∙ ap (filter_map (λ id. id)) c.interfaces.ensures.value ∙ named-there W (name_at W c.new.result))
 
 pub returns-clause-exact : goal.returns-clause-exact
 returns-clause-exact c =
-    c.loop-n.invariant
-    ∙ ap (map (λ x. named_by c.args.index.now (find_class c.args.index.now x)))
-    (take_all c.loop-n.n (names c.args.index.now) (subst (λ m. m ≤ c.loop-n.n) (c.count-n-end.ensures.count ∙ sym (names-length c.args.index.now)) c.loop-n-test.false))
+    let l : size c.args.index.now ≤ c.loop-n.n = omega (arith, c.count-n-end.ensures.count) in
+    column-all c.args.index.now (λ x. named_by c.args.index.now (find_class c.args.index.now x)) c.loop-n.edges.items c.loop-n.n l c.loop-n.invariant

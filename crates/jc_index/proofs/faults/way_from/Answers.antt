@@ -1,9 +1,10 @@
-use Rattle.std.proofs.Common.{◌≡◌, ◌≤◌, length, sym, ◌∙◌, arith, take, None}
+use Rattle.std.proofs.Common.{◌≡◌, ◌≤◌, length, sym, ◌∙◌, ap, arith, take, Some, None}
 use Rattle.jc_facts.specs.world.Search.{supers}
 use Rattle.jc_facts.specs.world.Loading.{load_fault}
 use Rattle.jc_index.specs.Ids.{name_at}
 use Rattle.jc_index.specs.steps.Passing.{IsPassed}
 use Rattle.jc_index.proofs.Entering.{leads-fault, loads-more, loads-all, all-load}
+use Rattle.jc_index.proofs.NamedAbove.{name-above}
 use Rattle.jc_index.proofs.Ordering.{passed-more, passed-all, of_class}
 use Rattle.jc_index.proofs.faults.way_from.Goals as goal
 
@@ -12,16 +13,24 @@ loop-above-init c = (c.requires.before c.facts-facts.result.now (sym c.facts-fac
 
 pub returns-in-Some-clause-goes : goal.returns-in-Some-clause-goes
 returns-in-Some-clause-goes c =
-    leads-fault c.args.index.now (name_at c.args.index.now c.args.class) c.loop-above.above c.super_at.result.now c.in-Some.fault
-    (record { class = c.facts-facts.result.now; found = sym c.facts-facts.ensures; before = c.loop-above.invariant.0; next = c.super_at.ensures })
-    (c.in-Known.ensures.says ∙ c.in-Some.is)
+    let s = name-above c.args.index.now (supers c.facts-facts.result.now) c.loop-above.above c.class_above.result (omega (arith, c.super_count-above-end.ensures, c.loop-above-test.true)) c.class_above.ensures.value in
+    leads-fault c.args.index.now (name_at c.args.index.now c.args.class) c.loop-above.above s.name c.in-Some.fault
+    (record { class = c.facts-facts.result.now; found = sym c.facts-facts.ensures; before = c.loop-above.invariant.0; next = s.there })
+    (c.in-Known.ensures.says s.name s.numbered ∙ c.in-Some.is)
 
 pub loop-above-preserved : goal.loop-above-preserved
 loop-above-preserved c =
+    let s = name-above c.args.index.now (supers c.facts-facts.result.now) c.loop-above.above c.class_above.result (omega (arith, c.super_count-above-end.ensures, c.loop-above-test.true)) c.class_above.ensures.value in
     let e : c.in-Known.fault ≡ None = cc in (
-      loads-more (load_fault c.args.index.now) (supers c.facts-facts.result.now) c.loop-above.above c.super_at.result.now c.loop-above.invariant.0 c.super_at.ensures (c.in-Known.ensures.says ∙ e),
-      passed-more (IsPassed c.args.index.now c.args.states.now) (supers c.facts-facts.result.now) c.loop-above.above c.super_at.result.now c.loop-above.invariant.1 c.super_at.ensures (c.in-Known.ensures.past e),
+      loads-more (load_fault c.args.index.now) (supers c.facts-facts.result.now) c.loop-above.above s.name c.loop-above.invariant.0 s.there (c.in-Known.ensures.says s.name s.numbered ∙ e),
+      passed-more (IsPassed c.args.index.now c.args.states.now) (supers c.facts-facts.result.now) c.loop-above.above s.name c.loop-above.invariant.1 s.there (c.in-Known.ensures.past s.name s.numbered e),
     )
+
+pub returns-in-Unknown-clause-goes : goal.returns-in-Unknown-clause-goes
+returns-in-Unknown-clause-goes c =
+    let s = name-above c.args.index.now (supers c.facts-facts.result.now) c.loop-above.above c.class_above.result (omega (arith, c.super_count-above-end.ensures, c.loop-above-test.true)) c.class_above.ensures.value in
+    let h = c.in-Unknown.ensures.says s.name s.numbered in
+    (h.0, record { class = c.facts-facts.result.now; found = sym c.facts-facts.ensures; before = c.loop-above.invariant.0; next = s.there ∙ ap Some h.1 }, h.2)
 
 pub returns-in-Unknown-clause-past : goal.returns-in-Unknown-clause-past
 returns-in-Unknown-clause-past c =

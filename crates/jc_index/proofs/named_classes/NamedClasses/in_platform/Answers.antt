@@ -1,6 +1,6 @@
 use Rattle.std.proofs.Common.{ℕ, get_or, arith, ◌∙◌, ap}
 use Rattle.jc_index.proofs.Indexed.{count_is, front_is}
-use Rattle.jc_index.proofs.index.Index.in_platform.Goals as goal
+use Rattle.jc_index.proofs.named_classes.NamedClasses.in_platform.Goals as goal
 
 pub index-requires : goal.index-requires
 index-requires c = let many = count_is c.self.inside c.self.invariant c.args.self.now c.self.view_is in omega arith

@@ -4,7 +4,7 @@ use Rattle.jc_facts.specs.world.World.{size}
 use Rattle.jc_index.specs.Ids.{place_of, id_of}
 use Rattle.jc_index.proofs.Indexed.{id_is, size_is}
 use Rattle.jc_index.proofs.Numbers.{id_of-Some}
-use Rattle.jc_index.proofs.index.Index.get.Goals as goal
+use Rattle.jc_index.proofs.named_classes.NamedClasses.get.Goals as goal
 
 pub overflow_cast-place : goal.overflow_cast-place
 overflow_cast-place c =

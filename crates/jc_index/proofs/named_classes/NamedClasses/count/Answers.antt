@@ -1,6 +1,6 @@
 use Rattle.std.proofs.Common.{arith}
 use Rattle.jc_index.proofs.Indexed.{count_is, size_is}
-use Rattle.jc_index.proofs.index.Index.count.Goals as goal
+use Rattle.jc_index.proofs.named_classes.NamedClasses.count.Goals as goal
 
 pub overflow_cast-result : goal.overflow_cast-result
 overflow_cast-result c =

@@ -1,0 +1,121 @@
+//! Classes in byte order of their names.
+ghost use Rattle.std.specs.Prelude.{◌≡◌, ◌≤◌, ◌<◌, ◌+◌, ◌++◌, List, ℕ, Some, None, is_some, take, drop, length, IfOk, IfSome, IsTrue};
+ghost use Rattle.std.specs.List.{All};
+ghost use Rattle.jc_facts.specs.Names.{Bytes};
+ghost use Rattle.jc_facts.specs.file.Valid.{IsValidClass};
+ghost use Rattle.jc_facts.specs.client.Clients.{differ_by_name, HasRoot};
+ghost use Rattle.jc_facts.specs.world.World.{World, side, classes, size, find_class, class_named};
+ghost use Rattle.jc_index.specs.Ids.{names, names_of, name_at, id_of, superclass_of};
+ghost use Rattle.jc_index.specs.Sides.{IsSide};
+
+use crate::ids::ClassId;
+use crate::names::{NumberedNames, numbered};
+use crate::order::ordered;
+use crate::side::Side;
+use jc_facts::class_facts::ClassFacts;
+use std::alloc::{AllocError, Global};
+use std::marker::Model;
+
+/// The classes of a side, found by their names, and their order by name. A contract sees them as
+/// the side.
+pub(crate) struct NamedClasses {
+    side: Side,
+    // Places of its classes, in byte order of names.
+    order: Vec<usize>,
+    // The names in this order, numbered.
+    names: NumberedNames,
+}
+
+// One call at each exit of a function that owns it, where a derived drop is written out.
+impl Drop for NamedClasses {
+    fn drop(self) {
+        let NamedClasses {
+            side: _,
+            order: _,
+            names: _,
+        } = self;
+    }
+}
+
+impl Model for NamedClasses {
+    ghost use Rattle.jc_facts.specs.world.World.{World};
+
+    ghost Value = { World };
+
+    ghost use Rattle.jc_index.specs.steps.Order.{AreNamedClasses};
+
+    ghost view = { λ i. i.side };
+
+    ghost invariant = { AreNamedClasses };
+}
+
+impl NamedClasses {
+    /// The classes of a side.
+    ///
+    /// # Errors
+    ///
+    /// `AllocError` where memory runs out.
+    pub fn new(alloc: Global, side: Side) -> Result<NamedClasses, AllocError>
+        requires { IsSide side }
+        ensures { IfOk result (λ classes. classes ≡ side) }
+    {
+        let _few = side.count();
+        let order = ordered(alloc, &side)?;
+        let names = numbered(alloc, &side, order.as_slice())?;
+        Ok(NamedClasses { side, order, names })
+    }
+
+    /// The side.
+    pub fn side(&self) -> &Side
+        ensures { result.now ≡ self.now }
+    {
+        &self.side
+    }
+
+    /// How many classes there are.
+    pub fn count(&self) -> u32
+        ensures count { result ≡ size self.now }
+        ensures side { IsSide self.now }
+    {
+        self.order.len() as u32
+    }
+
+    /// The class of this name; none where there is none.
+    pub fn get(&self, name: &[u8]) -> Option<ClassId>
+        ensures value { result ≡ id_of self.now name.now }
+        ensures of_table { IfSome result (λ id. id < size self.now) }
+    {
+        match self.names.number(name) {
+            Some(place) => Some(ClassId::new(place as u32)),
+            None => None,
+        }
+    }
+
+    /// The record of the class.
+    pub fn facts(&self, id: ClassId) -> &ClassFacts
+        requires { id < size self.now }
+        ensures { Some result.now ≡ find_class self.now (name_at self.now id) }
+    {
+        self.side.at(self.order[id.number() as usize])
+    }
+
+    /// The class that the class names as its superclass; none where there is none of this name.
+    pub fn superclass(&self, id: ClassId) -> Option<ClassId>
+        requires { id < size self.now }
+        ensures value { result ≡ superclass_of self.now (name_at self.now id) }
+        ensures of_table { IfSome result (λ id. id < size self.now) }
+    {
+        match &self.facts(id).superclass {
+            Some(name) => self.get(name.as_bytes()),
+            None => None,
+        }
+    }
+
+    /// Whether the class is one of the platform's.
+    pub fn in_platform(&self, id: ClassId) -> bool
+        requires { id < size self.now }
+        ensures { result ≡ is_some (class_named self.now.platform (name_at self.now id)) }
+    {
+        self.side.in_platform(self.order[id.number() as usize])
+    }
+}
