@@ -150,19 +150,19 @@ impl ClassFacts {
     pub fn copy(&self, alloc: Global) -> Result<ClassFacts, AllocError>
         ensures { IfOk result (λ copy. copy ≡ self.now) }
     {
-        Ok(ClassFacts {
-            name: self.name.copy(alloc)?,
-            major: self.major,
-            flags: self.flags,
-            superclass: copy_name(alloc, &self.superclass)?,
-            interfaces: copy_names(alloc, &self.interfaces)?,
-            fields: copy_members(alloc, &self.fields)?,
-            methods: copy_members(alloc, &self.methods)?,
-            permits: copy_permits(alloc, &self.permits)?,
-            nest_host: copy_name(alloc, &self.nest_host)?,
-            nest_members: copy_names(alloc, &self.nest_members)?,
-            constants: copy_constants(alloc, &self.constants)?,
-            signatures: copy_signatures(alloc, &self.signatures)?,
-        })
+        let name = self.name.copy(alloc)?;
+        let superclass = copy_name(alloc, &self.superclass)?;
+        let mut copy = ClassFacts::plain(alloc, name, superclass, Vec::new(alloc), Vec::new(alloc));
+        copy.major = self.major;
+        copy.flags = self.flags;
+        copy.interfaces = copy_names(alloc, &self.interfaces)?;
+        copy.fields = copy_members(alloc, &self.fields)?;
+        copy.methods = copy_members(alloc, &self.methods)?;
+        copy.permits = copy_permits(alloc, &self.permits)?;
+        copy.nest_host = copy_name(alloc, &self.nest_host)?;
+        copy.nest_members = copy_names(alloc, &self.nest_members)?;
+        copy.constants = copy_constants(alloc, &self.constants)?;
+        copy.signatures = copy_signatures(alloc, &self.signatures)?;
+        Ok(copy)
     }
 }
