@@ -10,7 +10,7 @@ use Rattle.std.proofs.lemmas.List.Folds.{list_any-append}
 use Rattle.jc_facts.specs.declared.class_facts.ClassFacts.{ClassFacts}
 use Rattle.jc_facts.specs.client.Clients.{differ_by_name}
 use Rattle.jc_facts.specs.Names.{Bytes, same, object_name}
-use Rattle.jc_facts.specs.Options.{some_and}
+use Rattle.jc_facts.specs.Options.{some_and, and_then}
 use Rattle.jc_facts.specs.world.Loading.{load_fault}
 use Rattle.jc_facts.specs.world.Search.{supers, supers_of}
 use Rattle.jc_facts.specs.world.World.{World, classes, size, find_class, class_named}
@@ -19,13 +19,14 @@ use Rattle.jc_facts.proofs.World.{find-name, class_named-each, class_named-first
 use Rattle.jc_lemmas.proofs.Bools.{or_false, tests_agree}
 use Rattle.jc_lemmas.proofs.Listed.{EachOf, EachOf-map, each_from, each_in, none, cases, any_has, any_passes}
 use Rattle.jc_worlds.proofs.Clients.{class_named-back, class_named-absent}
-use Rattle.jc_index.specs.Ids.{id_of, name_at, names}
+use Rattle.jc_index.specs.Ids.{id_of, name_at, names, superclass_of}
+use Rattle.jc_index.specs.Interfaces.{interfaces_by, interfaces_of}
 use Rattle.jc_index.specs.LoadOrder.{IsNext, AreInLoadOrder, IsLoadOrder}
 use Rattle.jc_index.specs.Sides.{IsSide}
 use Rattle.jc_index.proofs.Numbers.{at-in, class_at, id_of-Some, id_of-name_at, id-find, names-length, names-in, number_of, is_none-None}
 use Rattle.jc_index.proofs.Sides.{root_at}
 use Rattle.jc_rows.specs.WithRows.{platform_names_release, has_rows}
-use Rattle.jc_rows.specs.steps.Marking.{names_release_at, AreAll, marked_at, with_mark, with_marks, with_marks_of, is_due, marks_from, is_marked, IsClosed, IsMarking}
+use Rattle.jc_rows.specs.steps.Marking.{is_of_release, names_release_at, AreAll, marked_at, with_mark, with_marks, with_marks_of, is_due, marks_from, is_marked, IsClosed, IsMarking}
 use Rattle.jc_rows.proofs.DeclaredKeys.{each_named}
 use Rattle.jc_rows.proofs.Filling.{next_at}
 use Rattle.jc_rows.proofs.WithRows.{release_least, rows-all, rows-object, rows-release, rows-some, rows-up}
@@ -94,7 +95,7 @@ module _ (W : World) (side : IsSide W) where
 
   -- ---- whether the release declares a name
 
-  pub released-none : (x : Bytes) → None ≡ id_of W x → false ≡ is_some (class_named W.release x)
+  released-none : (x : Bytes) → None ≡ id_of W x → false ≡ is_some (class_named W.release x)
   released-none x e = go (class_named W.release x) refl
     where
       go : (o : Option ClassFacts) → class_named W.release x ≡ o → false ≡ is_some o
@@ -104,7 +105,7 @@ module _ (W : World) (side : IsSide W) where
           let n = number_of W x (ap is_some (sym (not_platform x (of_release x s)) ∙ q)) in
           absurd (let z : None ≡ Some n.0 = e ∙ n.1 in cc)
 
-  pub released-some : (x : Bytes) (n : ℕ) → Some n ≡ id_of W x → not (is_some (class_named W.platform (name_at W n))) ≡ is_some (class_named W.release x)
+  released-some : (x : Bytes) (n : ℕ) → Some n ≡ id_of W x → not (is_some (class_named W.platform (name_at W n))) ≡ is_some (class_named W.release x)
   released-some x n e = ap (λ (y : Bytes). not (is_some (class_named W.platform y))) is ∙ go (class_named W.platform x) refl
     where
       is : name_at W n ≡ x
@@ -120,6 +121,34 @@ module _ (W : World) (side : IsSide W) where
           by : (o : Option ClassFacts) → class_named W.release x ≡ o → false ≡ is_some o
           by None q = refl
           by (Some d) q = absurd (let z : None ≡ Some c = sym (of_release x (ap is_some q)) ∙ p in cc)
+
+  released-by : (x : Bytes) → is_of_release W (id_of W x) ≡ is_some (class_named W.release x)
+  released-by x = go (id_of W x) refl
+    where
+      go : (o : Option ℕ) → id_of W x ≡ o → is_of_release W o ≡ is_some (class_named W.release x)
+      go None e = released-none x (sym e)
+      go (Some n) e = released-some x n (sym e)
+
+  released-any : (xs : List Bytes) → list_any (is_of_release W) (map (id_of W) xs) ≡ list_any (λ s. is_some (class_named W.release s)) xs
+  released-any [] = refl
+  released-any (x ∷ xs) =
+      ap (λ b. b || list_any (is_of_release W) (map (id_of W) xs)) (released-by x)
+      ∙ ap (λ b. is_some (class_named W.release x) || b) (released-any xs)
+
+  -- what the class of a name names above itself is of the release, by numbers
+  pub names-released : (x : Bytes) → (is_of_release W (superclass_of W x) || list_any (is_of_release W) (interfaces_of W x)) ≡ some_and (λ c. list_any (λ s. is_some (class_named W.release s)) (supers c)) (find_class W x)
+  unfolding superclass_of interfaces_of and_then
+  names-released x = go (find_class W x)
+    where
+      by : (s : Option Bytes) (is : List Bytes) → (is_of_release W (and_then (id_of W) s) || list_any (is_of_release W) (map (id_of W) is)) ≡ list_any (λ s. is_some (class_named W.release s)) (supers_of s is)
+      by None is = released-any is
+      by (Some y) is =
+          ap (λ b. b || list_any (is_of_release W) (map (id_of W) is)) (released-by y)
+          ∙ ap (λ b. is_some (class_named W.release y) || b) (released-any is)
+
+      go : (o : Option ClassFacts) → (is_of_release W (and_then (λ c. and_then (id_of W) c.superclass) o) || list_any (is_of_release W) (interfaces_by W o)) ≡ some_and (λ c. list_any (λ s. is_some (class_named W.release s)) (supers c)) o
+      go None = refl
+      go (Some c) = by c.superclass c.interfaces
 
   -- the platform names the release where one of the names is that of such a class
   pub platform_by_names : list_any (names_release_at W) (names W) ≡ platform_names_release W

@@ -1,12 +1,13 @@
 //! The classes of which rows are made.
-ghost use Rattle.std.specs.Prelude.{◌≡◌, ◌<◌, ◌&&◌, [], length, map, is_some, false, IfOk};
-ghost use Rattle.std.specs.List.{list_any};
+ghost use Rattle.std.specs.Prelude.{◌≡◌, ◌<◌, ◌&&◌, ◌||◌, [], length, map, is_some, false, IfOk, IfSome};
+ghost use Rattle.std.specs.List.{All, list_any};
+ghost use Rattle.jc_facts.specs.Options.{some_and};
 ghost use Rattle.jc_facts.specs.world.Search.{supers, supers_of};
-ghost use Rattle.jc_facts.specs.world.World.{size, class_named};
+ghost use Rattle.jc_facts.specs.world.World.{size, find_class, class_named};
 ghost use Rattle.jc_index.specs.Ids.{name_at, names};
 ghost use Rattle.jc_index.specs.LoadOrder.{IsLoadOrder};
 ghost use Rattle.jc_rows.specs.WithRows.{platform_names_release, has_rows};
-ghost use Rattle.jc_rows.specs.steps.Marking.{AreAll, with_mark, with_marks, is_due, marks_from, names_release_at};
+ghost use Rattle.jc_rows.specs.steps.Marking.{is_of_release, AreAll, with_mark, with_marks, is_due, marks_from, names_release_at};
 
 use jc_base::name::Name;
 use jc_facts::class_facts::ClassFacts;
@@ -19,33 +20,50 @@ const OBJECT: &[u8] = b"java/lang/Object";
 
 // ---- classes of the platform that stand on the release
 
-// Whether the release declares the name.
-fn is_released(index: &Index, name: &Name) -> bool
-    ensures { result ≡ is_some (class_named index.now.release name.now) }
+// Whether there is a class, and it is one of the release's.
+fn is_released(index: &Index, class: Option<ClassId>) -> bool
+    requires { IfSome class (λ id. id < size index.now) }
+    ensures { result ≡ is_of_release index.now class }
 {
-    let _classes = index.count();
-    match index.get(name.as_bytes()) {
-        Some(class) => !index.in_platform(class),
+    match class {
+        Some(id) => !index.in_platform(id),
         None => false,
     }
 }
 
-// Whether it declares one of the names.
-fn is_one_released(index: &Index, names: &[Name]) -> bool
-    ensures { result ≡ list_any (λ s. is_some (class_named index.now.release s)) names.now }
+// Whether one of these is.
+fn is_one_released(index: &Index, classes: &[Option<ClassId>]) -> bool
+    requires { All (λ class. IfSome class (λ id. id < size index.now)) classes.now }
+    ensures { result ≡ list_any (is_of_release index.now) classes.now }
 {
-    names.iter().any(|name| is_released(index, name))
+    for class in classes {
+        if is_released(index, *class) {
+            return true;
+        }
+    }
+    false
+}
+
+// Whether the superclass is one of the release's, or one of the interfaces is.
+fn is_released_above(
+    index: &Index,
+    superclass: Option<ClassId>,
+    interfaces: &[Option<ClassId>],
+) -> bool
+    requires one { IfSome superclass (λ id. id < size index.now) }
+    requires each { All (λ class. IfSome class (λ id. id < size index.now)) interfaces.now }
+    ensures { result ≡ (is_of_release index.now superclass || list_any (is_of_release index.now) interfaces.now) }
+{
+    is_released(index, superclass) || is_one_released(index, interfaces)
 }
 
 // Whether the class names one of the release above itself.
-fn names_release(index: &Index, class: &ClassFacts) -> bool
-    ensures { result ≡ list_any (λ s. is_some (class_named index.now.release s)) (supers class.now) }
+fn names_release(index: &Index, class: ClassId) -> bool
+    requires { class < size index.now }
+    ensures { result ≡ some_and (λ c. list_any (λ s. is_some (class_named index.now.release s)) (supers c)) (find_class index.now (name_at index.now class)) }
 {
-    let interfaces = is_one_released(index, class.interfaces.as_slice());
-    match &class.superclass {
-        Some(name) => is_released(index, name) || interfaces,
-        None => interfaces,
-    }
+    let _classes = index.count();
+    is_released_above(index, index.superclass(class), index.interfaces(class))
 }
 
 // Whether the class is of the platform and names one of the release above itself.
@@ -53,7 +71,7 @@ fn crosses(index: &Index, class: ClassId) -> bool
     requires { class < size index.now }
     ensures { result ≡ names_release_at index.now (name_at index.now class) }
 {
-    index.in_platform(class) && names_release(index, index.facts(class))
+    index.in_platform(class) && names_release(index, class)
 }
 
 // Whether a class of the platform does so.

@@ -12,6 +12,11 @@ use Rattle.jc_rows.specs.WithRows.{has_rows}
 
 -- ---- classes of the platform that stand on the release
 
+-- there is a class of this number, and it isn't the platform's
+abbrev pub is_of_release : World → Option ℕ → Bool
+is_of_release W None = false
+is_of_release W (Some n) = not (is_some (class_named W.platform (name_at W n)))
+
 -- the class of this name is the platform's and names one of the release above itself
 abbrev pub names_release_at : World → Bytes → Bool
 names_release_at W x = is_some (class_named W.platform x) && some_and (λ c. list_any (λ s. is_some (class_named W.release s)) (supers c)) (find_class W x)
