@@ -9,7 +9,7 @@ use crate::kinds::Kind;
 use std::alloc::{AllocError, Global};
 
 /// The operand stack, its top last, and the locals.
-#[derive(Debug, Drop)]
+#[derive(Drop)]
 pub(crate) struct Frame<'a> {
     pub stack: Vec<Kind<'a>>,
     pub locals: Vec<Kind<'a>>,

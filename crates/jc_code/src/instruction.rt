@@ -19,7 +19,7 @@ use jc_facts::act::Act;
 use jc_pool::pool::{MemberRef, Pool};
 
 /// An instruction of a straight-line method that is no return.
-#[derive(Clone, Copy, Debug)]
+#[derive(Clone, Copy)]
 pub(crate) enum Instruction<'a> {
     Nothing,
     Pushes(Kind<'a>),
