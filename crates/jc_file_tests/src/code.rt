@@ -222,6 +222,11 @@ const POOL: &[&[u8]] = &[
     b"\x01\0\x08(Lq/C;)V", // 64
 ];
 
+// What a function names is a part of it: the entries are named here alone.
+fn pool() -> &'static [&'static [u8]] {
+    POOL
+}
+
 /// How many indices the pool has, 0 counted.
 const COUNT: u8 = 65;
 
@@ -309,7 +314,7 @@ fn file_head(rt: &impl Abort, alloc: Global, row: &Row) -> Vec<u8> {
     out.push(row.major).expect(rt, "memory");
     out.push(0).expect(rt, "memory");
     out.push(COUNT).expect(rt, "memory");
-    for entry in POOL {
+    for entry in pool() {
         out.extend_from_slice(entry).expect(rt, "memory");
     }
     out.extend_from_slice(b"\0\x21\0\x02\0\x04\0\0\0\0\0\x01")
@@ -432,22 +437,31 @@ fn refuses(rt: &impl Abort, alloc: Global, code: &[u8]) -> bool {
     is_refused(told_of(rt, alloc, &PLAIN, code).as_slice())
 }
 
+// Whether a bad opcode is found behind so many bytes of code.
+fn is_bad_behind(rt: &impl Abort, alloc: Global, code: &[u8], len: u8) -> bool {
+    let want = format!(in alloc; "BadOpcode {}", 14 + len as usize).expect(rt, "memory");
+    tells(rt, alloc, code, want.as_str().as_bytes())
+}
+
+// What is told of code that lacks the last byte of its only instruction, which has so many.
+fn cut_short(len: u8) -> &'static [u8] {
+    if len == 1 {
+        b"BadLayout 0"
+    } else {
+        b"CutShort 14"
+    }
+}
+
 // As it is, with a bad opcode behind it, and without its last byte.
 fn has_length(rt: &impl Abort, alloc: Global, group: &Group, op: u8) -> bool {
-    let len = group.2 as usize;
+    let len = group.2;
     let index = group.3.first().copied().unwrap_or(0);
     let mut code = instruction(rt, alloc, group, op, index);
     let is_whole = !refuses(rt, alloc, code.as_slice());
     code.push(0xff).expect(rt, "memory");
-    let behind = format!(in alloc; "BadOpcode {}", 14 + len).expect(rt, "memory");
-    let is_no_longer = tells(rt, alloc, code.as_slice(), behind.as_str().as_bytes());
-    code.truncate(len.saturating_sub(1));
-    let cut: &[u8] = if len == 1 {
-        b"BadLayout 0"
-    } else {
-        b"CutShort 14"
-    };
-    is_whole && is_no_longer && tells(rt, alloc, code.as_slice(), cut)
+    let is_no_longer = is_bad_behind(rt, alloc, code.as_slice(), len);
+    code.truncate((len as usize).saturating_sub(1));
+    is_whole && is_no_longer && tells(rt, alloc, code.as_slice(), cut_short(len))
 }
 
 // Refused for this index of the pool exactly where the group doesn't have it.
@@ -459,7 +473,11 @@ fn is_judged(rt: &impl Abort, alloc: Global, group: &Group, op: u8, index: u8) -
     tells(rt, alloc, code.as_slice(), b"BadEntry 14")
 }
 
+// Each index of the pool is judged; without a choice of entries there is none.
 fn are_judged(rt: &impl Abort, alloc: Global, group: &Group, op: u8) -> bool {
+    if group.3.is_empty() {
+        return true;
+    }
     for index in 0..COUNT + 1 {
         if !is_judged(rt, alloc, group, op, index) {
             return false;
@@ -468,18 +486,23 @@ fn are_judged(rt: &impl Abort, alloc: Global, group: &Group, op: u8) -> bool {
     true
 }
 
+// Each opcode of the group has its length and names its entries.
+fn check_group(rt: &impl Abort, alloc: Global, group: &Group) {
+    for op in group.0..=group.1 {
+        assert!(rt; has_length(rt, alloc, group, op), "length of {op}");
+        assert!(rt; are_judged(rt, alloc, group, op), "entries of {op}");
+    }
+}
+
+fn check_groups(rt: &impl Abort, alloc: Global, groups: &[Group]) {
+    for group in groups {
+        check_group(rt, alloc, group);
+    }
+}
+
 #[test]
 fn each_opcode_has_its_length_and_names_its_entries(rt: HostRuntime) {
-    let alloc = rt.alloc();
-    for group in GROUPS {
-        for op in group.0..=group.1 {
-            assert!(rt; has_length(&rt, alloc, group, op), "length of {op}");
-            assert!(rt;
-                group.3.is_empty() || are_judged(&rt, alloc, group, op),
-                "entries of {op}"
-            );
-        }
-    }
+    check_groups(&rt, rt.alloc(), GROUPS);
 }
 
 // ---- methods and what they give
@@ -489,6 +512,12 @@ fn gives(rt: &impl Abort, alloc: Global, row: &Row) -> bool {
     let code = repeated(rt, alloc, row.code, row.times);
     let found = told_of(rt, alloc, row, code.as_slice());
     found.as_slice() == row.want
+}
+
+fn check(rt: &impl Abort, alloc: Global, rows: &[Row]) {
+    for row in rows {
+        assert!(rt; gives(rt, alloc, row), "{}", row.what);
+    }
 }
 
 // Items by scan: the last instruction is no return.
@@ -616,10 +645,7 @@ const SCANNED: &[Row] = &[
 
 #[test]
 fn items_by_scan(rt: HostRuntime) {
-    let alloc = rt.alloc();
-    for row in SCANNED {
-        assert!(rt; gives(&rt, alloc, row), "{}", row.what);
-    }
+    check(&rt, rt.alloc(), SCANNED);
 }
 
 // Lengths that vary. Behind the instruction stands `new q/C`.
@@ -778,10 +804,7 @@ const LENGTHS: &[Row] = &[
 
 #[test]
 fn lengths_that_vary(rt: HostRuntime) {
-    let alloc = rt.alloc();
-    for row in LENGTHS {
-        assert!(rt; gives(&rt, alloc, row), "{}", row.what);
-    }
+    check(&rt, rt.alloc(), LENGTHS);
 }
 
 // Refusals.
@@ -945,10 +968,7 @@ const REFUSED: &[Row] = &[
 
 #[test]
 fn refusals_of_one_method(rt: HostRuntime) {
-    let alloc = rt.alloc();
-    for row in REFUSED {
-        assert!(rt; gives(&rt, alloc, row), "{}", row.what);
-    }
+    check(&rt, rt.alloc(), REFUSED);
 }
 
 // Straight methods: receivers are known, and assignments are told.
@@ -1046,10 +1066,7 @@ const STRAIGHT: &[Row] = &[
 
 #[test]
 fn items_of_straight_methods(rt: HostRuntime) {
-    let alloc = rt.alloc();
-    for row in STRAIGHT {
-        assert!(rt; gives(&rt, alloc, row), "{}", row.what);
-    }
+    check(&rt, rt.alloc(), STRAIGHT);
 }
 
 // Methods that aren't straight: no receiver is known.
@@ -1192,17 +1209,21 @@ const NOT_STRAIGHT: &[Row] = &[
 
 #[test]
 fn items_of_other_methods(rt: HostRuntime) {
-    let alloc = rt.alloc();
-    for row in NOT_STRAIGHT {
-        assert!(rt; gives(&rt, alloc, row), "{}", row.what);
+    check(&rt, rt.alloc(), NOT_STRAIGHT);
+}
+
+// The whole file gives what it wants.
+fn is_told(rt: &impl Abort, alloc: Global, file: &File) -> bool {
+    told(rt, alloc, file.bytes, 0).as_slice() == file.want
+}
+
+fn check_files(rt: &impl Abort, alloc: Global, files: &[File]) {
+    for file in files {
+        assert!(rt; is_told(rt, alloc, file), "want {:?}", file.want);
     }
 }
 
 #[test]
 fn whole_class_files(rt: HostRuntime) {
-    let alloc = rt.alloc();
-    for file in FILES {
-        let found = told(&rt, alloc, file.bytes, 0);
-        assert!(rt; found.as_slice() == file.want, "want {:?}", file.want);
-    }
+    check_files(&rt, rt.alloc(), FILES);
 }

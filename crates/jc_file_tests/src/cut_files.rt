@@ -1,6 +1,6 @@
 //! Class files that are cut off, and class files with one byte changed.
 use crate::classes::{Row, class, plain};
-use crate::read::{PLAIN, USER, fault_of};
+use crate::read::{PLAIN, USER, changed, fault_of};
 use crate::write::{name, written};
 use jc_base::items::Items;
 use jc_desc::fault::Reason;
@@ -77,36 +77,39 @@ fn check_prefixes(rt: &impl Abort, alloc: Global, bytes: &[u8]) {
     }
 }
 
-#[test]
-fn each_proper_prefix_is_too_short(rt: HostRuntime) {
-    let alloc = rt.alloc();
-    check_prefixes(&rt, alloc, PLAIN);
-    check_prefixes(&rt, alloc, USER);
-    for plan in [heir(&rt, alloc), canvas(&rt, alloc)] {
-        let bytes = written(&rt, alloc, &plan).expect(&rt, "written");
-        check_prefixes(&rt, alloc, bytes.as_slice());
-    }
+// The same of the class file of a blueprint.
+fn check_written(rt: &impl Abort, alloc: Global, plan: &Blueprint) {
+    let bytes = written(rt, alloc, plan).expect(rt, "written");
+    check_prefixes(rt, alloc, bytes.as_slice());
 }
 
-// Whether a fault of the bytes, if there is one, is no further than so many bytes from their start.
-fn is_within(rt: &impl Abort, alloc: Global, bytes: &[u8], most: usize) -> bool {
-    match fault_of(rt, alloc, bytes) {
-        Some(fault) => fault.offset as usize <= most,
+#[test]
+fn each_proper_prefix_is_too_short(rt: HostRuntime) {
+    check_prefixes(&rt, rt.alloc(), PLAIN);
+    check_prefixes(&rt, rt.alloc(), USER);
+    check_written(&rt, rt.alloc(), &heir(&rt, rt.alloc()));
+    check_written(&rt, rt.alloc(), &canvas(&rt, rt.alloc()));
+}
+
+// Whether the plain class with this byte at a place has no fault behind its end.
+fn is_inside(rt: &impl Abort, alloc: Global, place: usize, byte: &'static [u8]) -> bool {
+    let bytes = changed(rt, alloc, PLAIN, &[(place, 1, byte)]);
+    match fault_of(rt, alloc, bytes.as_slice()) {
+        Some(fault) => fault.offset as usize <= PLAIN.len(),
         None => true,
     }
 }
 
 #[test]
 fn a_fault_of_a_changed_byte_is_in_the_file(rt: HostRuntime) {
-    let alloc = rt.alloc();
     for place in 0..PLAIN.len() {
-        for byte in [0x00, 0xff] {
-            let mut changed = Vec::from_slice(alloc, PLAIN).expect(&rt, "memory");
-            changed[place] = byte;
-            assert!(rt;
-                is_within(&rt, alloc, changed.as_slice(), PLAIN.len()),
-                "{byte} at {place}"
-            );
-        }
+        assert!(rt;
+            is_inside(&rt, rt.alloc(), place, b"\x00"),
+            "0x00 at {place}"
+        );
+        assert!(rt;
+            is_inside(&rt, rt.alloc(), place, b"\xff"),
+            "0xff at {place}"
+        );
     }
 }

@@ -4,7 +4,7 @@ use jc_base::name::Name;
 use jc_facts::act::Act;
 use jc_facts::class_facts::{ClassFacts, Member};
 use jc_facts::finding::Finding;
-use jc_facts::generate::generate;
+use jc_facts::generate::{Made, generate};
 use jc_facts::key::Key;
 use jc_facts::link_error::LinkError;
 use jc_facts::validity::is_valid;
@@ -154,48 +154,63 @@ fn class(rt: &impl Abort, alloc: Global, row: &Row) -> ClassFacts {
     ClassFacts::plain(alloc, name, Some(superclass), fields, methods)
 }
 
+fn are_valid(rt: &impl Abort, alloc: Global, classes: &[ClassFacts]) -> bool {
+    for class in classes {
+        if !is_valid(alloc, class).expect(rt, "memory") {
+            return false;
+        }
+    }
+    true
+}
+
 // Whether the release has so many classes, all valid, and at its place the one of the row.
 fn has(rt: &impl Abort, alloc: Global, release: &Items<ClassFacts>, row: &Row) -> bool {
     let wanted = class(rt, alloc, row);
     let classes = release.as_slice();
-    for made in classes {
-        if !is_valid(alloc, made).expect(rt, "memory") {
-            return false;
-        }
+    are_valid(rt, alloc, classes)
+        && classes.len() == row.0 as usize
+        && classes.get(row.1) == Some(&wanted)
+}
+
+fn generated(rt: &impl Abort, alloc: Global, classes: u32) -> Made {
+    assert!(rt; classes >= 1 && classes <= 4096);
+    generate(alloc, classes).expect(rt, "memory")
+}
+
+fn check_old(rt: &impl Abort, alloc: Global, rows: &[Row]) {
+    for row in rows {
+        let made = generated(rt, alloc, row.0);
+        assert!(rt; has(rt, alloc, &made.old, row), "{} of {}", row.1, row.0);
     }
-    classes.len() == row.0 as usize && classes.get(row.1) == Some(&wanted)
+}
+
+fn check_new(rt: &impl Abort, alloc: Global, rows: &[Row]) {
+    for row in rows {
+        let made = generated(rt, alloc, row.0);
+        assert!(rt; has(rt, alloc, &made.new, row), "{} of {}", row.1, row.0);
+    }
 }
 
 #[test]
 fn classes_of_the_old_release(rt: HostRuntime) {
-    for row in OLD {
-        assert!(rt; row.0 >= 1 && row.0 <= 4096);
-        let made = generate(rt.alloc(), row.0).expect(&rt, "memory");
-        assert!(rt; has(&rt, rt.alloc(), &made.old, row), "{row:?}");
-    }
+    check_old(&rt, rt.alloc(), OLD);
 }
 
 #[test]
 fn classes_of_the_new_release(rt: HostRuntime) {
-    for row in NEW {
-        assert!(rt; row.0 >= 1 && row.0 <= 4096);
-        let made = generate(rt.alloc(), row.0).expect(&rt, "memory");
-        assert!(rt; has(&rt, rt.alloc(), &made.new, row), "{row:?}");
-    }
+    check_new(&rt, rt.alloc(), NEW);
+}
+
+fn root(rt: &impl Abort, alloc: Global) -> ClassFacts {
+    let name = Name::from_bytes(alloc, b"java/lang/Object").expect(rt, "memory");
+    let methods = methods(rt, alloc, &[INIT]);
+    ClassFacts::plain(alloc, name, None, Vec::new(alloc), methods)
 }
 
 #[test]
 fn the_platform_is_its_root(rt: HostRuntime) {
-    let alloc = rt.alloc();
-    let made = generate(alloc, 8).expect(&rt, "memory");
-    let name = Name::from_bytes(alloc, b"java/lang/Object").expect(&rt, "memory");
-    let root = ClassFacts::plain(
-        alloc,
-        name,
-        None,
-        Vec::new(alloc),
-        methods(&rt, alloc, &[INIT]),
-    );
+    let made = generated(&rt, rt.alloc(), 8);
+    let root = root(&rt, rt.alloc());
     let platform = made.platform.as_slice();
     assert!(rt; platform.len() == 1 && platform.get(0) == Some(&root));
 }
@@ -267,32 +282,44 @@ fn note(rt: &impl Abort, alloc: Global) -> Note {
     }
 }
 
-// A verdict of so many findings, collisions and notes.
-fn verdict(rt: &impl Abort, alloc: Global, row: &TextRow) -> Verdict {
+fn findings(rt: &impl Abort, alloc: Global, count: u32) -> Items<Finding> {
     let mut findings = Vec::new(alloc);
-    for _ in 0..row.1 {
+    for _ in 0..count {
         findings.push(finding(rt, alloc)).expect(rt, "memory");
     }
+    Items::from_vec(findings)
+}
+
+fn collisions(rt: &impl Abort, alloc: Global, count: u32) -> Items<Collision> {
     let mut collisions = Vec::new(alloc);
-    for _ in 0..row.2 {
+    for _ in 0..count {
         collisions.push(collision(rt, alloc)).expect(rt, "memory");
     }
+    Items::from_vec(collisions)
+}
+
+fn notes(rt: &impl Abort, alloc: Global, count: u32) -> Items<Note> {
     let mut notes = Vec::new(alloc);
-    for _ in 0..row.3 {
+    for _ in 0..count {
         notes.push(note(rt, alloc)).expect(rt, "memory");
     }
-    Verdict {
-        findings: Items::from_vec(findings),
-        collisions: Items::from_vec(collisions),
-        notes: Items::from_vec(notes),
-    }
+    Items::from_vec(notes)
+}
+
+// Whether the text on so many classes and a verdict of so many findings, collisions and notes is that of the row.
+fn has_text(rt: &impl Abort, alloc: Global, row: &TextRow) -> bool {
+    let verdict = Verdict {
+        findings: findings(rt, alloc, row.1),
+        collisions: collisions(rt, alloc, row.2),
+        notes: notes(rt, alloc, row.3),
+    };
+    let text = made_text(alloc, row.0, &verdict).expect(rt, "memory");
+    text.as_slice() == row.4.as_bytes()
 }
 
 #[test]
 fn texts_of_five_lines(rt: HostRuntime) {
     for row in TEXTS {
-        let verdict = verdict(&rt, rt.alloc(), row);
-        let text = made_text(rt.alloc(), row.0, &verdict).expect(&rt, "memory");
-        assert_eq!(rt; text.as_slice(), row.4.as_bytes(), "{row:?}");
+        assert!(rt; has_text(&rt, rt.alloc(), row), "{row:?}");
     }
 }

@@ -30,14 +30,18 @@ fn fault_of(rt: &impl Abort, alloc: Global, bytes: &[u8]) -> Fault {
 
 const CUTS: &[u32] = &[0, 3, 5, 7, 9, 10, 12, 15, 18, 24, 40];
 
+// Whether the front of the plain class is too short, which is told at its end.
+fn is_short(rt: &impl Abort, alloc: Global, len: u32) -> bool {
+    let (front, _) = PLAIN.split_at((len as usize).min(PLAIN.len()));
+    fault_of(rt, alloc, front) == Some((len, Reason::Short))
+}
+
 #[test]
 fn plain_class_cut_short(rt: HostRuntime) {
     for len in CUTS {
-        let (front, _) = PLAIN.split_at((*len as usize).min(PLAIN.len()));
-        let fault = fault_of(&rt, rt.alloc(), front);
-        assert_eq!(rt; fault, Some((*len, Reason::Short)), "the first {len}");
+        assert!(rt; is_short(&rt, rt.alloc(), *len), "the first {len}");
     }
-    assert_eq!(rt; fault_of(&rt, rt.alloc(), &PLAIN[..41]), None);
+    assert!(rt; fault_of(&rt, rt.alloc(), &PLAIN[..41]).is_none());
 }
 
 /// The plain class with other bytes from a place on.
@@ -54,10 +58,19 @@ fn changed(rt: &impl Abort, alloc: Global, place: usize, new: &[u8]) -> Vec<u8> 
 /// A place, what stands there, and the first fault.
 type Change = (usize, &'static [u8], Fault);
 
+fn has_fault(rt: &impl Abort, alloc: Global, change: &Change) -> bool {
+    let bytes = changed(rt, alloc, change.0, change.1);
+    fault_of(rt, alloc, &bytes) == change.2
+}
+
 fn check(rt: &impl Abort, alloc: Global, changes: &[Change]) {
-    for (place, new, want) in changes {
-        let bytes = changed(rt, alloc, *place, new);
-        assert!(rt; fault_of(rt, alloc, &bytes) == *want, "{new:?} at {place}");
+    for change in changes {
+        assert!(rt;
+            has_fault(rt, alloc, change),
+            "{:?} at {}",
+            change.1,
+            change.0
+        );
     }
 }
 
@@ -107,7 +120,9 @@ fn with_entries(rt: &impl Abort, alloc: Global, count: u8, entries: &[u8]) -> Ve
 }
 
 /// A count, entries from 18 on at offset 102, and the first fault.
-const ENTRY_ROWS: &[(u8, &[u8], Fault)] = &[
+type Entries = (u8, &'static [u8], Fault);
+
+const ENTRY_ROWS: &[Entries] = &[
     (19, b"\x08\x00\x02", Some((102, Reason::BadIndex))),
     (19, b"\x08\x00\x12", Some((102, Reason::BadIndex))),
     (19, b"\x08\x00\x01", None),
@@ -188,30 +203,32 @@ const ENTRY_ROWS: &[(u8, &[u8], Fault)] = &[
     ),
 ];
 
+fn have_fault(rt: &impl Abort, alloc: Global, row: &Entries) -> bool {
+    let bytes = with_entries(rt, alloc, row.0, row.1);
+    fault_of(rt, alloc, &bytes) == row.2
+}
+
+fn check_entries(rt: &impl Abort, alloc: Global, rows: &[Entries]) {
+    for row in rows {
+        assert!(rt; have_fault(rt, alloc, row), "{} {:?}", row.0, row.1);
+    }
+}
+
 #[test]
 fn entry_18_and_what_it_names(rt: HostRuntime) {
-    for (count, entries, want) in ENTRY_ROWS {
-        let bytes = with_entries(&rt, rt.alloc(), *count, entries);
-        assert_eq!(rt;
-            fault_of(&rt, rt.alloc(), &bytes),
-            *want,
-            "{count} {entries:?}"
-        );
-    }
+    check_entries(&rt, rt.alloc(), ENTRY_ROWS);
 }
 
 #[test]
 fn plain_class_answers(rt: HostRuntime) {
     let (pool, offset) = Pool::read(rt.alloc(), &PLAIN).expect(&rt, "memory");
-    assert_eq!(rt; offset, 41);
-    assert_eq!(rt; pool.major(), 52);
-    assert_eq!(rt; pool.class(1), Some(b"p/A".as_slice()));
-    assert_eq!(rt; pool.utf8(1), None);
-    assert_eq!(rt; pool.utf8(2), Some(b"p/A".as_slice()));
-    assert_eq!(rt; pool.class(2), None);
-    assert_eq!(rt; pool.tag(4), Some(1));
-    assert_eq!(rt; pool.tag(0), None);
-    assert_eq!(rt; pool.tag(5), None);
+    assert!(rt; offset == 41 && pool.major() == 52);
+    assert!(rt; pool.class(1) == Some(b"p/A".as_slice()));
+    assert!(rt; pool.utf8(1).is_none());
+    assert!(rt; pool.utf8(2) == Some(b"p/A".as_slice()));
+    assert!(rt; pool.class(2).is_none());
+    assert!(rt; pool.tag(4) == Some(1));
+    assert!(rt; pool.tag(0).is_none() && pool.tag(5).is_none());
 }
 
 /// The entries of `KIND_ENTRIES`: an index, its tag, its bootstrap method and its constant.
@@ -232,43 +249,47 @@ const KINDS: &[Kind] = &[
 const KIND_ENTRIES: &[u8] =
     b"\x05\x00\x00\x00\x01\x00\x00\x00\x02\x0f\x08\x00\x0f\x12\x00\x07\x00\x05\x03\x00\x00\x00\x40\x08\x00\x03\x04\x3f\x80\x00\x00";
 
+fn is_kind(pool: &Pool, kind: &Kind) -> bool {
+    let (index, tag, dynamic, constant) = *kind;
+    pool.tag(index) == tag && pool.dynamic(index) == dynamic && pool.constant(index) == constant
+}
+
+fn check_kinds(rt: &impl Abort, pool: &Pool, kinds: &[Kind]) {
+    for kind in kinds {
+        assert!(rt; is_kind(pool, kind), "entry {}", kind.0);
+    }
+}
+
 #[test]
 fn entries_answer_by_their_kind(rt: HostRuntime) {
     let bytes = with_entries(&rt, rt.alloc(), 25, KIND_ENTRIES);
     assert!(rt; bytes.len() < 200);
     let (pool, _) = Pool::read(rt.alloc(), &bytes).expect(&rt, "memory");
-    for (index, tag, dynamic, constant) in KINDS {
-        assert_eq!(rt; pool.tag(*index), *tag, "tag of {index}");
-        assert_eq!(rt; pool.dynamic(*index), *dynamic, "bootstrap of {index}");
-        assert_eq!(rt; pool.constant(*index), *constant, "constant of {index}");
-    }
+    check_kinds(&rt, &pool, KINDS);
 }
+
+const METHOD: MemberRef<'static> = MemberRef {
+    tag: tags::INTERFACE_METHOD_REF,
+    class: b"A",
+    name: b"m",
+    descriptor: b"()V",
+};
+
+const CONSTRUCTOR: HandleRef<'static> = HandleRef {
+    kind: 8,
+    member: MemberRef {
+        tag: tags::METHOD_REF,
+        class: b"A",
+        name: b"<init>",
+        descriptor: b"()V",
+    },
+};
 
 #[test]
 fn members_and_handles(rt: HostRuntime) {
     let bytes = with_entries(&rt, rt.alloc(), 19, b"\x0f\x08\x00\x0f");
     assert!(rt; bytes.len() < 200);
     let (pool, _) = Pool::read(rt.alloc(), &bytes).expect(&rt, "memory");
-    let method = MemberRef {
-        tag: tags::INTERFACE_METHOD_REF,
-        class: b"A",
-        name: b"m",
-        descriptor: b"()V",
-    };
-    let constructor = MemberRef {
-        tag: tags::METHOD_REF,
-        class: b"A",
-        name: b"<init>",
-        descriptor: b"()V",
-    };
-    assert_eq!(rt; pool.member_ref(16), Some(method));
-    assert_eq!(rt; pool.member_ref(18), None);
-    assert_eq!(rt;
-        pool.handle(18),
-        Some(HandleRef {
-            kind: 8,
-            member: constructor
-        })
-    );
-    assert_eq!(rt; pool.handle(16), None);
+    assert!(rt; pool.member_ref(16) == Some(METHOD) && pool.member_ref(18).is_none());
+    assert!(rt; pool.handle(18) == Some(CONSTRUCTOR) && pool.handle(16).is_none());
 }

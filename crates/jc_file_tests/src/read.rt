@@ -1,4 +1,5 @@
 //! Class files byte by byte: what is read of them, or their first fault and its offset.
+use jc_base::name::Name;
 use jc_desc::fault::{Malformed, Reason};
 use jc_facts::class_facts::Constant;
 use jc_read::read::{ReadError, read_class};
@@ -182,7 +183,8 @@ const HOLDER_ROWS: &[Row] = &[
     ),
 ];
 
-fn changed(rt: &impl Abort, alloc: Global, bytes: &[u8], edits: &[Edit]) -> Vec<u8> {
+// The bytes with these edits, which stand in the order of their places.
+pub(crate) fn changed(rt: &impl Abort, alloc: Global, bytes: &[u8], edits: &[Edit]) -> Vec<u8> {
     let mut made = Vec::new(alloc);
     let mut rest = bytes;
     let mut place = 0;
@@ -217,36 +219,50 @@ fn is_fault(fault: Option<Malformed>, want: Option<(u32, Reason)>) -> bool {
     }
 }
 
+// Whether the bytes with the row's edits have its first fault.
+fn has_fault(rt: &impl Abort, alloc: Global, bytes: &[u8], row: &Row) -> bool {
+    let changed = changed(rt, alloc, bytes, row.1);
+    is_fault(fault_of(rt, alloc, changed.as_slice()), row.2)
+}
+
 fn check(rt: &impl Abort, alloc: Global, bytes: &[u8], rows: &[Row]) {
-    for (what, edits, want) in rows {
-        let changed = changed(rt, alloc, bytes, edits);
-        let fault = fault_of(rt, alloc, changed.as_slice());
-        assert!(rt; is_fault(fault, *want), "{what}");
+    for row in rows {
+        assert!(rt; has_fault(rt, alloc, bytes, row), "{}", row.0);
     }
 }
 
 #[test]
-fn first_faults_of_changed_files(rt: HostRuntime) {
+fn first_faults_of_a_plain_class(rt: HostRuntime) {
     check(&rt, rt.alloc(), PLAIN, PLAIN_ROWS);
+}
+
+#[test]
+fn first_faults_of_a_class_with_a_method(rt: HostRuntime) {
     check(&rt, rt.alloc(), USER, USER_ROWS);
+}
+
+#[test]
+fn first_faults_of_a_class_with_a_field(rt: HostRuntime) {
     check(&rt, rt.alloc(), HOLDER, HOLDER_ROWS);
+}
+
+fn is_named(name: &Option<Name>, wanted: &[u8]) -> bool {
+    match name {
+        Some(name) => name.as_bytes() == wanted,
+        None => false,
+    }
 }
 
 #[test]
 fn the_record_of_a_plain_class(rt: HostRuntime) {
     let facts = read_class(rt.alloc(), PLAIN).expect(&rt, "memory");
     assert!(rt; facts.name.as_bytes() == b"p/A".as_slice());
-    assert_eq!(rt; facts.major, 52);
-    assert_eq!(rt; facts.flags, 33);
-    match &facts.superclass {
-        Some(name) => assert!(rt; name.as_bytes() == b"java/lang/Object".as_slice()),
-        None => assert!(rt; false, "no superclass"),
-    }
+    assert!(rt; facts.major == 52 && facts.flags == 33);
+    assert!(rt; is_named(&facts.superclass, b"java/lang/Object"));
     assert!(rt; facts.interfaces.as_slice().is_empty());
     assert!(rt; facts.fields.as_slice().is_empty());
     assert!(rt; facts.methods.as_slice().is_empty());
-    assert!(rt; facts.permits.is_none());
-    assert!(rt; facts.nest_host.is_none());
+    assert!(rt; facts.permits.is_none() && facts.nest_host.is_none());
 }
 
 // How many constants the holder has with these flags of its field, each of which is the number 64.

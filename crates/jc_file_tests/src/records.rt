@@ -90,7 +90,7 @@ const METHODS: &[MemberRow] = &[
 /// `g` of type `int`, of which only `g` isn't static.
 type ListRow = (&'static [u8], &'static [u8], &'static [u8], bool);
 
-const TWO_FIELDS: &[ListRow] = &[(b"f", b"g", b"", true), (b"f", b"f", b"", false)];
+const TWO_MEMBERS: &[ListRow] = &[(b"f", b"g", b"", true), (b"f", b"f", b"", false)];
 
 const CONSTANTS: &[ListRow] = &[
     (b"f", b"e", b"x", true),
@@ -132,99 +132,150 @@ fn valid(rt: &impl Abort, alloc: Global, row: &Row) -> bool {
     is_valid(alloc, &class(rt, alloc, row)).expect(rt, "memory")
 }
 
+fn is_class(rt: &impl Abort, alloc: Global, row: &ClassRow) -> bool {
+    let made = Row {
+        name: row.2,
+        superclass: row.3,
+        interfaces: &[row.4],
+        ..plain(row.0, row.1)
+    };
+    valid(rt, alloc, &made) == row.5
+}
+
+fn check_classes(rt: &impl Abort, alloc: Global, rows: &[ClassRow]) {
+    for row in rows {
+        assert!(rt; is_class(rt, alloc, row), "{row:?}");
+    }
+}
+
 #[test]
 fn rules_on_the_class(rt: HostRuntime) {
-    for row in CLASSES {
-        let made = Row {
-            name: row.2,
-            superclass: row.3,
-            interfaces: &[row.4],
-            ..plain(row.0, row.1)
-        };
-        assert_eq!(rt; valid(&rt, rt.alloc(), &made), row.5, "{row:?}");
+    check_classes(&rt, rt.alloc(), CLASSES);
+}
+
+fn is_field(rt: &impl Abort, alloc: Global, row: &MemberRow) -> bool {
+    let made = Row {
+        fields: &[(row.2, row.3, row.4)],
+        ..plain(row.0, row.1)
+    };
+    valid(rt, alloc, &made) == row.5
+}
+
+fn check_fields(rt: &impl Abort, alloc: Global, rows: &[MemberRow]) {
+    for row in rows {
+        assert!(rt; is_field(rt, alloc, row), "{row:?}");
     }
 }
 
 #[test]
 fn rules_on_a_field(rt: HostRuntime) {
-    for row in FIELDS {
-        let made = Row {
-            fields: &[(row.2, row.3, row.4)],
-            ..plain(row.0, row.1)
-        };
-        assert_eq!(rt; valid(&rt, rt.alloc(), &made), row.5, "{row:?}");
+    check_fields(&rt, rt.alloc(), FIELDS);
+}
+
+fn is_method(rt: &impl Abort, alloc: Global, row: &MemberRow) -> bool {
+    let made = Row {
+        methods: &[(row.2, row.3, row.4)],
+        ..plain(row.0, row.1)
+    };
+    valid(rt, alloc, &made) == row.5
+}
+
+fn check_methods(rt: &impl Abort, alloc: Global, rows: &[MemberRow]) {
+    for row in rows {
+        assert!(rt; is_method(rt, alloc, row), "{row:?}");
     }
 }
 
 #[test]
 fn rules_on_a_method(rt: HostRuntime) {
-    for row in METHODS {
-        let made = Row {
-            methods: &[(row.2, row.3, row.4)],
-            ..plain(row.0, row.1)
-        };
-        assert_eq!(rt; valid(&rt, rt.alloc(), &made), row.5, "{row:?}");
-    }
+    check_methods(&rt, rt.alloc(), METHODS);
+}
+
+fn are_fields(rt: &impl Abort, alloc: Global, row: &ListRow) -> bool {
+    let made = Row {
+        fields: &[(row.0, b"I", 0), (row.1, b"I", 1)],
+        ..plain(61, 0x0021)
+    };
+    valid(rt, alloc, &made) == row.3
+}
+
+fn are_methods(rt: &impl Abort, alloc: Global, row: &ListRow) -> bool {
+    let made = Row {
+        methods: &[(row.0, b"()V", 0), (row.1, b"()V", 1)],
+        ..plain(61, 0x0021)
+    };
+    valid(rt, alloc, &made) == row.3
 }
 
 #[test]
 fn keys_that_stand_twice(rt: HostRuntime) {
-    for row in TWO_FIELDS {
-        let fields = Row {
-            fields: &[(row.0, b"I", 0), (row.1, b"I", 1)],
-            ..plain(61, 0x0021)
-        };
-        assert_eq!(rt; valid(&rt, rt.alloc(), &fields), row.3, "fields {row:?}");
-        let methods = Row {
-            methods: &[(row.0, b"()V", 0), (row.1, b"()V", 1)],
-            ..plain(61, 0x0021)
-        };
-        assert_eq!(rt; valid(&rt, rt.alloc(), &methods), row.3, "methods {row:?}");
+    for row in TWO_MEMBERS {
+        assert!(rt; are_fields(&rt, rt.alloc(), row), "fields {row:?}");
+        assert!(rt; are_methods(&rt, rt.alloc(), row), "methods {row:?}");
     }
 }
 
+fn are_constants(rt: &impl Abort, alloc: Global, row: &ListRow) -> bool {
+    let made = Row {
+        fields: INT_FIELDS,
+        constants: &[(row.0, b""), (row.1, row.2)],
+        ..plain(61, 0x0021)
+    };
+    valid(rt, alloc, &made) == row.3
+}
+
 #[test]
-fn constants_and_signatures(rt: HostRuntime) {
+fn constants_of_fields(rt: HostRuntime) {
     for row in CONSTANTS {
-        let made = Row {
-            fields: INT_FIELDS,
-            constants: &[(row.0, b""), (row.1, row.2)],
-            ..plain(61, 0x0021)
-        };
-        assert_eq!(rt; valid(&rt, rt.alloc(), &made), row.3, "constants {row:?}");
+        assert!(rt; are_constants(&rt, rt.alloc(), row), "{row:?}");
     }
+}
+
+fn are_signatures(rt: &impl Abort, alloc: Global, row: &ListRow) -> bool {
+    let made = Row {
+        fields: INT_FIELDS,
+        signatures: &[(row.0, row.2), (row.1, b"TT;")],
+        ..plain(61, 0x0021)
+    };
+    valid(rt, alloc, &made) == row.3
+}
+
+#[test]
+fn signatures_of_fields_and_the_class(rt: HostRuntime) {
     for row in SIGNATURES {
-        let made = Row {
-            fields: INT_FIELDS,
-            signatures: &[(row.0, row.2), (row.1, b"TT;")],
-            ..plain(61, 0x0021)
-        };
-        assert_eq!(rt; valid(&rt, rt.alloc(), &made), row.3, "signatures {row:?}");
+        assert!(rt; are_signatures(&rt, rt.alloc(), row), "{row:?}");
     }
+}
+
+fn permits(rt: &impl Abort, alloc: Global, row: &NestRow) -> bool {
+    let made = Row {
+        permits: &[row.1],
+        ..plain(row.0, 0x0021)
+    };
+    valid(rt, alloc, &made) == row.2
+}
+
+fn has_host(rt: &impl Abort, alloc: Global, row: &NestRow) -> bool {
+    let made = Row {
+        nest_host: row.1,
+        ..plain(row.0, 0x0021)
+    };
+    valid(rt, alloc, &made) == row.3
+}
+
+fn has_member(rt: &impl Abort, alloc: Global, row: &NestRow) -> bool {
+    let made = Row {
+        nest_members: &[row.1],
+        ..plain(row.0, 0x0021)
+    };
+    valid(rt, alloc, &made) == row.3
 }
 
 #[test]
 fn nests_and_permitted_subclasses(rt: HostRuntime) {
     for row in NESTS {
-        let plain = plain(row.0, 0x0021);
-        let permits = Row {
-            permits: &[row.1],
-            ..plain
-        };
-        let host = Row {
-            nest_host: row.1,
-            ..plain
-        };
-        let members = Row {
-            nest_members: &[row.1],
-            ..plain
-        };
-        assert_eq!(rt; valid(&rt, rt.alloc(), &permits), row.2, "permits {row:?}");
-        assert_eq!(rt; valid(&rt, rt.alloc(), &host), row.3, "nest host {row:?}");
-        assert_eq!(rt;
-            valid(&rt, rt.alloc(), &members),
-            row.3,
-            "nest members {row:?}"
-        );
+        assert!(rt; permits(&rt, rt.alloc(), row), "permits {row:?}");
+        assert!(rt; has_host(&rt, rt.alloc(), row), "nest host {row:?}");
+        assert!(rt; has_member(&rt, rt.alloc(), row), "nest members {row:?}");
     }
 }

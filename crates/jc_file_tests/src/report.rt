@@ -207,58 +207,77 @@ fn collision(rt: &impl Abort, alloc: Global, row: &CollisionRow) -> Collision {
     }
 }
 
-fn notes(rt: &impl Abort, alloc: Global) -> Vec<Note> {
-    let mut notes = Vec::new(alloc);
-    for (old, class, error) in [
-        (true, b"p/X", LinkError::ClassCircularityError),
-        (false, b"p/Y", LinkError::NoClassDefFoundError),
-    ] {
-        let class = Name::from_bytes(alloc, class).expect(rt, "memory");
-        notes
-            .push(Note::Unloadable { old, class, error })
-            .expect(rt, "memory");
-    }
-    let class = Name::from_bytes(alloc, b"p/A").expect(rt, "memory");
-    let key = key(rt, alloc, (b"f", b"I"));
-    notes.push(Note::Fixed { class, key }).expect(rt, "memory");
-    notes
+fn unloadable(rt: &impl Abort, alloc: Global, old: bool, class: &[u8], error: LinkError) -> Note {
+    let class = Name::from_bytes(alloc, class).expect(rt, "memory");
+    Note::Unloadable { old, class, error }
 }
 
-// The verdict of all rows.
-fn verdict(rt: &impl Abort, alloc: Global) -> Verdict {
+fn fixed(rt: &impl Abort, alloc: Global) -> Note {
+    let class = Name::from_bytes(alloc, b"p/A").expect(rt, "memory");
+    let key = key(rt, alloc, (b"f", b"I"));
+    Note::Fixed { class, key }
+}
+
+fn notes(rt: &impl Abort, alloc: Global) -> Items<Note> {
+    let mut notes = Vec::new(alloc);
+    let old = unloadable(rt, alloc, true, b"p/X", LinkError::ClassCircularityError);
+    notes.push(old).expect(rt, "memory");
+    let new = unloadable(rt, alloc, false, b"p/Y", LinkError::NoClassDefFoundError);
+    notes.push(new).expect(rt, "memory");
+    notes.push(fixed(rt, alloc)).expect(rt, "memory");
+    Items::from_vec(notes)
+}
+
+fn findings(rt: &impl Abort, alloc: Global, rows: &[FindingRow]) -> Items<Finding> {
     let mut findings = Vec::new(alloc);
-    for row in FINDINGS {
+    for row in rows {
         findings.push(finding(rt, alloc, row)).expect(rt, "memory");
     }
+    Items::from_vec(findings)
+}
+
+fn collisions(rt: &impl Abort, alloc: Global, rows: &[CollisionRow]) -> Items<Collision> {
     let mut collisions = Vec::new(alloc);
-    for row in COLLISIONS {
+    for row in rows {
         collisions
             .push(collision(rt, alloc, row))
             .expect(rt, "memory");
     }
+    Items::from_vec(collisions)
+}
+
+// The verdict of all rows.
+fn verdict(rt: &impl Abort, alloc: Global) -> Verdict {
     Verdict {
-        findings: Items::from_vec(findings),
-        collisions: Items::from_vec(collisions),
-        notes: Items::from_vec(notes(rt, alloc)),
+        findings: findings(rt, alloc, FINDINGS),
+        collisions: collisions(rt, alloc, COLLISIONS),
+        notes: notes(rt, alloc),
     }
+}
+
+// The text of a verdict is this.
+fn has_text(rt: &impl Abort, alloc: Global, verdict: &Verdict, want: &str) -> bool {
+    text(alloc, verdict).expect(rt, "memory").as_slice() == want.as_bytes()
+}
+
+fn has_json(rt: &impl Abort, alloc: Global, verdict: &Verdict, want: &str) -> bool {
+    json(alloc, verdict).expect(rt, "memory").as_slice() == want.as_bytes()
 }
 
 #[test]
 fn prints_each_rule_and_note(rt: HostRuntime) {
-    let alloc = rt.alloc();
-    let verdict = verdict(&rt, alloc);
-    assert!(rt; text(alloc, &verdict).expect(&rt, "memory").as_slice() == TEXT.as_bytes());
-    assert!(rt; json(alloc, &verdict).expect(&rt, "memory").as_slice() == JSON.as_bytes());
+    let verdict = verdict(&rt, rt.alloc());
+    assert!(rt; has_text(&rt, rt.alloc(), &verdict, TEXT));
+    assert!(rt; has_json(&rt, rt.alloc(), &verdict, JSON));
 }
 
 #[test]
 fn prints_the_last_line_alone(rt: HostRuntime) {
-    let alloc = rt.alloc();
     let verdict = Verdict {
-        findings: Items::from_vec(Vec::new(alloc)),
-        collisions: Items::from_vec(Vec::new(alloc)),
-        notes: Items::from_vec(Vec::new(alloc)),
+        findings: Items::from_vec(Vec::new(rt.alloc())),
+        collisions: Items::from_vec(Vec::new(rt.alloc())),
+        notes: Items::from_vec(Vec::new(rt.alloc())),
     };
-    let line = b"compatible: 0 findings, 0 collisions, 0 notes\n";
-    assert!(rt; text(alloc, &verdict).expect(&rt, "memory").as_slice() == line.as_slice());
+    let line = "compatible: 0 findings, 0 collisions, 0 notes\n";
+    assert!(rt; has_text(&rt, rt.alloc(), &verdict, line));
 }

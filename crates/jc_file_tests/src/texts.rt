@@ -20,7 +20,7 @@ const CLASS_NAMES: &[(&str, bool)] = &[
 #[test]
 fn class_names_have_parts(rt: HostRuntime) {
     for (text, want) in CLASS_NAMES {
-        assert_eq!(rt; is_class_name(text.as_bytes()), *want, "at {text}");
+        assert!(rt; is_class_name(text.as_bytes()) == *want, "at {text}");
     }
 }
 
@@ -40,14 +40,12 @@ const MEMBER_NAMES: &[(&str, bool, bool)] = &[
 #[test]
 fn member_names_of_fields_and_methods(rt: HostRuntime) {
     for (text, field, method) in MEMBER_NAMES {
-        assert_eq!(rt;
-            is_member_name(text.as_bytes(), false),
-            *field,
+        assert!(rt;
+            is_member_name(text.as_bytes(), false) == *field,
             "field {text}"
         );
-        assert_eq!(rt;
-            is_member_name(text.as_bytes(), true),
-            *method,
+        assert!(rt;
+            is_member_name(text.as_bytes(), true) == *method,
             "method {text}"
         );
     }
@@ -70,8 +68,8 @@ const DESCRIPTORS: &[(&str, Option<u32>, bool)] = &[
 #[test]
 fn slots_of_method_descriptors(rt: HostRuntime) {
     for (text, want, void) in DESCRIPTORS {
-        assert_eq!(rt; slots(text.as_bytes()), *want, "at {text}");
-        assert_eq!(rt; returns_void(text.as_bytes()), *void, "at {text}");
+        assert!(rt; slots(text.as_bytes()) == *want, "slots of {text}");
+        assert!(rt; returns_void(text.as_bytes()) == *void, "result of {text}");
     }
 }
 
@@ -81,16 +79,17 @@ fn types_are_read(rt: HostRuntime) {
         .expect(&rt, "memory")
         .expect(&rt, "a method");
     let params = method.params.as_slice();
-    assert_eq!(rt; params.len(), 3);
-    assert_eq!(rt; params[1].base, Base::Long);
-    assert_eq!(rt; params[2].dims, 1);
-    assert_eq!(rt; params[2].base, Base::Class(b"java/lang/String"));
+    assert!(rt; params.len() == 3);
+    assert!(rt; params[1].base == Base::Long);
+    assert!(rt; params[2].dims == 1);
+    assert!(rt; params[2].base == Base::Class(b"java/lang/String"));
     assert!(rt; method.result.is_none());
-    assert!(rt;
-        method_type(rt.alloc(), b"(I")
-            .expect(&rt, "memory")
-            .is_none()
-    );
+}
+
+#[test]
+fn other_texts_are_no_types(rt: HostRuntime) {
+    let method = method_type(rt.alloc(), b"(I").expect(&rt, "memory");
+    assert!(rt; method.is_none());
     for text in ["V", "Lp/A", "Lp//A;", "L;", "[", "II", "", "p/A"] {
         assert!(rt; field_type(text.as_bytes()).is_none(), "at {text}");
     }
@@ -104,7 +103,7 @@ fn arrays_have_at_most_255_dimensions(rt: HostRuntime) {
     }
     text.push(b'I').expect(&rt, "memory");
     let most = field_type(&text[1..]).expect(&rt, "255 dimensions");
-    assert_eq!(rt; most.dims, 255);
+    assert!(rt; most.dims == 255);
     assert!(rt; field_type(&text).is_none());
 }
 
@@ -124,6 +123,6 @@ const UTF8: &[([u8; 3], bool)] = &[
 #[test]
 fn modified_utf8_by_its_shapes(rt: HostRuntime) {
     for (bytes, want) in UTF8 {
-        assert_eq!(rt; is_text(bytes), *want, "at {bytes:?}");
+        assert!(rt; is_text(bytes) == *want, "at {bytes:?}");
     }
 }
