@@ -17,10 +17,9 @@ use jc_table_tests::rows::{INTERFACE, PLAIN, Row};
 use jc_witness::planner::Planner;
 use jc_witness::witness::{WitnessFile, witness};
 use jc_witness::witnessed::Witnessed;
-use std::alloc::{AllocError, Global};
+use std::alloc::Global;
 use std::mem::replace;
 use std::process::Abort;
-use std::test::Fail;
 
 /// A class file: its name, and where it fails with the new release.
 type File = (&'static [u8], Option<Spot>);
@@ -277,36 +276,36 @@ fn are_files(files: &[WitnessFile], wanted: &[File]) -> bool {
 
 // The class files that show the cause of this number.
 fn files_of<C: Witnessed>(
+    rt: &impl Abort,
     alloc: Global,
     planner: &Planner<'_>,
     causes: &[C],
     number: usize,
-) -> Result<Vec<WitnessFile>, AllocError>
+) -> Vec<WitnessFile>
     requires stand { All (λ c. StandsInVerdict planner.now.old planner.now.new (C.cause c)) causes.now }
     requires number { number < length causes.now }
     requires old_names { HasShortSide planner.now.old }
     requires new_names { HasShortSide planner.now.new }
 {
-    causes[number].show(alloc, planner)
+    causes[number].show(alloc, planner).expect(rt, "memory")
 }
 
-fn are_shown<C: Witnessed>(
+fn see_shown<C: Witnessed>(
     rt: &impl Abort,
     alloc: Global,
     planner: &Planner<'_>,
     causes: &[C],
     wanted: &[Shown],
-) -> Result<(), Fail>
+)
     requires stand { All (λ c. StandsInVerdict planner.now.old planner.now.new (C.cause c)) causes.now }
     requires old_names { HasShortSide planner.now.old }
     requires new_names { HasShortSide planner.now.new }
 {
     assert_eq!(rt; causes.len(), wanted.len());
     for n in 0..causes.len() {
-        let made = files_of(alloc, planner, causes, n)?;
+        let made = files_of(rt, alloc, planner, causes, n);
         assert!(rt; are_files(made.as_slice(), wanted[n].1));
     }
-    Ok(())
 }
 
 // Whether the findings are of these rules.
@@ -325,13 +324,13 @@ fn are_collisions_of(collisions: &[Collision], wanted: &[Shown]) -> bool {
         .eq(wanted.iter().map(|s| s.0))
 }
 
-fn is_verdict_shown(
+fn see_verdict(
     rt: &impl Abort,
     alloc: Global,
     planner: &Planner<'_>,
     verdict: &Verdict,
     change: &Change,
-) -> Result<(), Fail>
+)
     requires verdict { IsVerdict planner.now.old planner.now.new verdict.now }
     requires old_names { HasShortSide planner.now.old }
     requires new_names { HasShortSide planner.now.new }
@@ -340,81 +339,46 @@ fn is_verdict_shown(
     let collisions = verdict.collisions.as_slice();
     assert!(rt; are_findings_of(findings, change.findings));
     assert!(rt; are_collisions_of(collisions, change.collisions));
-    are_shown(rt, alloc, planner, findings, change.findings)?;
-    are_shown(rt, alloc, planner, collisions, change.collisions)
+    see_shown(rt, alloc, planner, findings, change.findings);
+    see_shown(rt, alloc, planner, collisions, change.collisions);
 }
 
-fn is_comparison_shown(
-    rt: &impl Abort,
-    alloc: Global,
-    old: &Table,
-    new: &Table,
-    change: &Change,
-) -> Result<(), Fail>
+fn see_comparison(rt: &impl Abort, alloc: Global, old: &Table, new: &Table, change: &Change)
     requires platform { old.now.platform ≡ new.now.platform }
     requires old_names { HasShortSide old.now }
     requires new_names { HasShortSide new.now }
 {
-    let planner = Planner::new(alloc, old, new)?;
-    let verdict = compare(alloc, old, new)?;
-    is_verdict_shown(rt, alloc, &planner, &verdict, change)
+    let planner = Planner::new(alloc, old, new).expect(rt, "memory");
+    let verdict = compare(alloc, old, new).expect(rt, "memory");
+    see_verdict(rt, alloc, &planner, &verdict, change);
 }
 
-fn is_new_shown(
-    rt: &impl Abort,
-    alloc: Global,
-    platform: &[ClassFacts],
-    old: &Table,
-    change: &Change,
-) -> Result<(), Fail>
-    requires platform { old.now.platform ≡ platform.now }
-    requires old_names { HasShortSide old.now }
-{
-    let new = table(rt, alloc, platform, change.new)?;
-    is_comparison_shown(rt, alloc, old, &new, change)
+fn see_change(rt: &impl Abort, alloc: Global, platform: &[ClassFacts], change: &Change) {
+    let old = table(rt, alloc, platform, change.old);
+    let new = table(rt, alloc, platform, change.new);
+    see_comparison(rt, alloc, &old, &new, change);
 }
 
-fn is_change_shown(
-    rt: &impl Abort,
-    alloc: Global,
-    platform: &[ClassFacts],
-    change: &Change,
-) -> Result<(), Fail> {
-    let old = table(rt, alloc, platform, change.old)?;
-    is_new_shown(rt, alloc, platform, &old, change)
-}
-
-fn are_all_shown(
-    rt: &impl Abort,
-    alloc: Global,
-    platform: &[ClassFacts],
-    changes: &[Change],
-) -> Result<(), Fail> {
+fn see_changes(rt: &impl Abort, alloc: Global, changes: &[Change]) {
+    let platform = platform(rt, alloc);
     for change in changes {
-        is_change_shown(rt, alloc, platform, change)?;
+        see_change(rt, alloc, platform.as_slice(), change);
     }
-    Ok(())
 }
 
 #[test]
-fn files_and_spots_of_findings_on_classes(rt: HostRuntime) -> Result<(), Fail> {
-    let alloc = rt.alloc();
-    let platform = platform(alloc)?;
-    are_all_shown(&rt, alloc, platform.as_slice(), ON_CLASSES)
+fn files_and_spots_of_findings_on_classes(rt: HostRuntime) {
+    see_changes(&rt, rt.alloc(), ON_CLASSES);
 }
 
 #[test]
-fn files_and_spots_of_findings_on_members(rt: HostRuntime) -> Result<(), Fail> {
-    let alloc = rt.alloc();
-    let platform = platform(alloc)?;
-    are_all_shown(&rt, alloc, platform.as_slice(), ON_MEMBERS)
+fn files_and_spots_of_findings_on_members(rt: HostRuntime) {
+    see_changes(&rt, rt.alloc(), ON_MEMBERS);
 }
 
 #[test]
-fn files_and_spots_of_collisions(rt: HostRuntime) -> Result<(), Fail> {
-    let alloc = rt.alloc();
-    let platform = platform(alloc)?;
-    are_all_shown(&rt, alloc, platform.as_slice(), COLLISIONS)
+fn files_and_spots_of_collisions(rt: HostRuntime) {
+    see_changes(&rt, rt.alloc(), COLLISIONS);
 }
 
 // The last finding of the verdict, as a cause.
@@ -427,46 +391,23 @@ fn last_finding(alloc: Global, mut verdict: Verdict) -> Option<Cause>
     Some(Cause::Finding(finding))
 }
 
-fn is_last_shown(
-    rt: &impl Abort,
-    alloc: Global,
-    old: &Table,
-    new: &Table,
-    wanted: &[File],
-) -> Result<(), Fail>
+fn see_last(rt: &impl Abort, alloc: Global, old: &Table, new: &Table, wanted: &[File])
     requires platform { old.now.platform ≡ new.now.platform }
     requires old_names { HasShortSide old.now }
     requires new_names { HasShortSide new.now }
 {
-    let verdict = compare(alloc, old, new)?;
+    let verdict = compare(alloc, old, new).expect(rt, "memory");
     let cause = last_finding(alloc, verdict).expect(rt, "a finding");
-    let files = witness(alloc, old, new, &cause)?;
+    let files = witness(alloc, old, new, &cause).expect(rt, "memory");
     assert!(rt; are_files(files.as_slice(), wanted));
-    Ok(())
 }
 
 // The class is gone in the new release.
-fn is_gone_shown(
-    rt: &impl Abort,
-    alloc: Global,
-    platform: &[ClassFacts],
-    old: &Table,
-) -> Result<(), Fail>
-    requires platform { old.now.platform ≡ platform.now }
-    requires old_names { HasShortSide old.now }
-{
-    let new = table(rt, alloc, platform, &[])?;
-    is_last_shown(rt, alloc, old, &new, &[(b"w0/U", SECOND)])
-}
-
-fn is_one_shown(rt: &impl Abort, alloc: Global, platform: &[ClassFacts]) -> Result<(), Fail> {
-    let old = table(rt, alloc, platform, &[A])?;
-    is_gone_shown(rt, alloc, platform, &old)
-}
-
 #[test]
-fn a_witness_of_one_cause(rt: HostRuntime) -> Result<(), Fail> {
+fn a_witness_of_one_cause(rt: HostRuntime) {
     let alloc = rt.alloc();
-    let platform = platform(alloc)?;
-    is_one_shown(&rt, alloc, platform.as_slice())
+    let platform = platform(&rt, alloc);
+    let old = table(&rt, alloc, platform.as_slice(), &[A]);
+    let new = table(&rt, alloc, platform.as_slice(), &[]);
+    see_last(&rt, alloc, &old, &new, &[(b"w0/U", SECOND)]);
 }

@@ -10,7 +10,6 @@ use jc_acts::seats::Seats;
 use jc_acts::{members, plain};
 use jc_base::name::Name;
 use jc_desc::names::is_initializer;
-use jc_facts::class_facts::ClassFacts;
 use jc_facts::key::Key;
 use jc_sides::classes::base_classes;
 use jc_sides::clients::is_steady;
@@ -21,7 +20,6 @@ use jc_table::table::Table;
 use jc_table_tests::rows::{Declared, INTERFACE, PLAIN, Row};
 use std::alloc::{AllocError, Global};
 use std::process::Abort;
-use std::test::Fail;
 
 const INIT: Declared = (b"<init>", b"()V", 0x0001);
 
@@ -217,46 +215,30 @@ fn seats_of<'a>(alloc: Global, sides: &Sides<'a>) -> Result<Seats<'a>, AllocErro
     Seats::new(alloc, sides, base_classes(alloc, sides)?)
 }
 
-fn key(alloc: Global, descriptor: &[u8]) -> Result<Key, AllocError> {
-    Ok(Key {
-        name: Name::from_bytes(alloc, b"f")?,
-        descriptor: Name::from_bytes(alloc, descriptor)?,
-    })
+fn key(rt: &impl Abort, alloc: Global, descriptor: &[u8]) -> Key {
+    Key {
+        name: Name::from_bytes(alloc, b"f").expect(rt, "memory"),
+        descriptor: Name::from_bytes(alloc, descriptor).expect(rt, "memory"),
+    }
 }
 
-fn are_told(rt: &impl Abort, alloc: Global, old: &Table, new: &Table) -> Result<(), Fail>
+fn see_told(rt: &impl Abort, alloc: Global, old: &Table, new: &Table)
     requires { old.now.platform ≡ new.now.platform }
 {
     let sides = Sides::new(old, new);
-    let field = key(alloc, b"I")?;
-    let method = key(alloc, b"()V")?;
-    let seats = seats_of(alloc, &sides)?;
+    let field = key(rt, alloc, b"I");
+    let method = key(rt, alloc, b"()V");
+    let seats = seats_of(alloc, &sides).expect(rt, "memory");
     assert!(rt; !is_initializer(method.name.as_bytes()));
     assert!(rt; are_fields_told(&sides, &seats, &field));
     assert!(rt; are_methods_told(&sides, &seats, &method));
-    Ok(())
-}
-
-fn are_told_over(
-    rt: &impl Abort,
-    alloc: Global,
-    platform: &[ClassFacts],
-    old: &Table,
-) -> Result<(), Fail>
-    requires { old.now.platform ≡ platform.now }
-{
-    let new = table(rt, alloc, platform, NEW)?;
-    are_told(rt, alloc, old, &new)
-}
-
-fn are_all_told(rt: &impl Abort, alloc: Global, platform: &[ClassFacts]) -> Result<(), Fail> {
-    let old = table(rt, alloc, platform, OLD)?;
-    are_told_over(rt, alloc, platform, &old)
 }
 
 #[test]
-fn asking_few_seats_gives_what_asking_all_gives(rt: HostRuntime) -> Result<(), Fail> {
+fn asking_few_seats_gives_what_asking_all_gives(rt: HostRuntime) {
     let alloc = rt.alloc();
-    let platform = platform(alloc)?;
-    are_all_told(&rt, alloc, platform.as_slice())
+    let platform = platform(&rt, alloc);
+    let old = table(&rt, alloc, platform.as_slice(), OLD);
+    let new = table(&rt, alloc, platform.as_slice(), NEW);
+    see_told(&rt, alloc, &old, &new);
 }
