@@ -1,14 +1,12 @@
 //! Access, assignment and the check on protected members on a small side.
-use crate::sides::{INTERFACE, OBJECT, PLAIN, Row, class_of, table};
+use crate::sides::{INTERFACE, OBJECT, PLAIN, Row, class_of, name, table};
 use jc_access::access::{Seat, accessible, class_access};
 use jc_access::assigning::assignable;
 use jc_access::protection::protected_ok;
-use jc_base::name::Name;
 use jc_table::ids::Found;
 use jc_table::table::Table;
-use std::alloc::{AllocError, Global};
+use std::alloc::Global;
 use std::process::Abort;
-use std::test::Fail;
 
 const PUBLIC: u16 = 0x0001;
 
@@ -61,7 +59,7 @@ const ROWS: &[Row] = &[
     },
 ];
 
-fn side(rt: &impl Abort, alloc: Global) -> Result<Table, Fail> {
+fn side(rt: &impl Abort, alloc: Global) -> Table {
     table(rt, alloc, ROWS)
 }
 
@@ -123,10 +121,8 @@ fn see_members(rt: &impl Abort, table: &Table) {
 }
 
 #[test]
-fn members_by_seat(rt: HostRuntime) -> Result<(), Fail> {
-    let table = side(&rt, rt.alloc())?;
-    see_members(&rt, &table);
-    Ok(())
+fn members_by_seat(rt: HostRuntime) {
+    see_members(&rt, &side(&rt, rt.alloc()));
 }
 
 fn see_classes(rt: &impl Abort, table: &Table) {
@@ -140,10 +136,8 @@ fn see_classes(rt: &impl Abort, table: &Table) {
 }
 
 #[test]
-fn classes_by_seat(rt: HostRuntime) -> Result<(), Fail> {
-    let table = side(&rt, rt.alloc())?;
-    see_classes(&rt, &table);
-    Ok(())
+fn classes_by_seat(rt: HostRuntime) {
+    see_classes(&rt, &side(&rt, rt.alloc()));
 }
 
 const TYPES: &[(&[u8], &[u8], bool)] = &[
@@ -166,24 +160,19 @@ const TYPES: &[(&[u8], &[u8], bool)] = &[
 ];
 
 // Whether a value of the one type may be used as one of the other.
-fn is_assignable(alloc: Global, table: &Table, from: &[u8], to: &[u8]) -> Result<bool, AllocError> {
-    let one = Name::from_bytes(alloc, from)?;
-    let other = Name::from_bytes(alloc, to)?;
-    Ok(assignable(table, &one, &other))
+fn is_assignable(rt: &impl Abort, alloc: Global, table: &Table, from: &[u8], to: &[u8]) -> bool {
+    assignable(table, &name(rt, alloc, from), &name(rt, alloc, to))
 }
 
-fn see_types(rt: &impl Abort, alloc: Global, table: &Table) -> Result<(), Fail> {
+fn see_types(rt: &impl Abort, alloc: Global, table: &Table) {
     for (from, to, expected) in TYPES {
-        let answer = is_assignable(alloc, table, from, to)?;
-        assert_eq!(rt; answer, *expected);
+        assert_eq!(rt; is_assignable(rt, alloc, table, from, to), *expected);
     }
-    Ok(())
 }
 
 #[test]
-fn assignment_of_types(rt: HostRuntime) -> Result<(), Fail> {
-    let table = side(&rt, rt.alloc())?;
-    see_types(&rt, rt.alloc(), &table)
+fn assignment_of_types(rt: HostRuntime) {
+    see_types(&rt, rt.alloc(), &side(&rt, rt.alloc()));
 }
 
 // Whether the class of this name may have the receiver, where it uses a protected member of
@@ -194,27 +183,23 @@ fn is_receiver(
     table: &Table,
     class: &[u8],
     receiver: &[u8],
-) -> Result<bool, AllocError> {
+) -> bool {
     let class = class_of(rt, table, class);
     let owner = class_of(rt, table, b"p/Base");
-    let receiver = Name::from_bytes(alloc, receiver)?;
     let found = Found {
         owner,
         flags: PROTECTED,
     };
-    Ok(protected_ok(table, class, owner, found, &receiver))
+    protected_ok(table, class, owner, found, &name(rt, alloc, receiver))
 }
 
-fn see_receivers(rt: &impl Abort, alloc: Global, table: &Table) -> Result<(), Fail> {
-    let own = is_receiver(rt, alloc, table, b"q/Child", b"q/Child")?;
-    let above = is_receiver(rt, alloc, table, b"q/Child", b"p/Base")?;
-    let inside = is_receiver(rt, alloc, table, b"p/Base", b"p/Base")?;
-    assert!(rt; own && !above && inside);
-    Ok(())
+fn see_receivers(rt: &impl Abort, alloc: Global, table: &Table) {
+    assert!(rt; is_receiver(rt, alloc, table, b"q/Child", b"q/Child"));
+    assert!(rt; !is_receiver(rt, alloc, table, b"q/Child", b"p/Base"));
+    assert!(rt; is_receiver(rt, alloc, table, b"p/Base", b"p/Base"));
 }
 
 #[test]
-fn receivers_of_protected_members(rt: HostRuntime) -> Result<(), Fail> {
-    let table = side(&rt, rt.alloc())?;
-    see_receivers(&rt, rt.alloc(), &table)
+fn receivers_of_protected_members(rt: HostRuntime) {
+    see_receivers(&rt, rt.alloc(), &side(&rt, rt.alloc()));
 }

@@ -4,8 +4,7 @@ ghost use Rattle.jc_facts.specs.world.World.{size};
 ghost use Rattle.jc_facts.specs.world.Loading.{load_fault};
 ghost use Rattle.jc_table.specs.Ids.{name_at};
 
-use crate::sides::{INTERFACE, PLAIN, Row, loaded, table};
-use jc_base::name::Name;
+use crate::sides::{INTERFACE, PLAIN, Row, key, loaded, table};
 use jc_facts::flags::is_interface;
 use jc_facts::key::Key;
 use jc_field::find::find_field;
@@ -15,9 +14,8 @@ use jc_method::find::{find_interface_method, find_method};
 use jc_method::walk::{walk_interface_method, walk_method};
 use jc_table::ids::ClassId;
 use jc_table::table::Table;
-use std::alloc::{AllocError, Global};
+use std::alloc::Global;
 use std::process::Abort;
-use std::test::Fail;
 
 const ROWS: &[Row] = &[
     // A diamond with a field and a default method at its top, which one side of it overrides.
@@ -127,7 +125,7 @@ const LENGTHS: &[(&[u8], usize, usize)] = &[
     (b"p/Child", 2, 3),
 ];
 
-fn side(rt: &impl Abort, alloc: Global) -> Result<Table, Fail> {
+fn side(rt: &impl Abort, alloc: Global) -> Table {
     table(rt, alloc, ROWS)
 }
 
@@ -152,23 +150,28 @@ pub(crate) fn same_method(table: &Table, class: ClassId, key: &Key) -> bool
     }
 }
 
-// Whether the lookups in the rows and the walks find the same of each key.
+// Whether this is the number of a key, of which the lookups in the rows and the walks find the same.
+fn agrees_on(table: &Table, class: ClassId, number: usize) -> bool
+    requires class { class < size table.now }
+    requires loads { load_fault table.now (name_at table.now class) ≡ None }
+{
+    match table.key_at(number) {
+        Some(key) => {
+            table.key_number(key) == Some(number)
+                && same_field(table, class, key)
+                && same_method(table, class, key)
+        }
+        None => false,
+    }
+}
+
+// The same of each key.
 fn agrees(table: &Table, class: ClassId) -> bool
     requires class { class < size table.now }
     requires loads { load_fault table.now (name_at table.now class) ≡ None }
 {
     for number in 0..table.key_count() {
-        let Some(key) = table.key_at(number) else {
-            return false;
-        };
-        let known = table.key_number(key) == Some(number);
-        if !known {
-            return false;
-        }
-        if !same_field(table, class, key) {
-            return false;
-        }
-        if !same_method(table, class, key) {
+        if !agrees_on(table, class, number) {
             return false;
         }
     }
@@ -196,33 +199,23 @@ fn see_lengths(rt: &impl Abort, table: &Table) {
 }
 
 #[test]
-fn lookups_in_rows_find_what_walks_find(rt: HostRuntime) -> Result<(), Fail> {
-    let table = side(&rt, rt.alloc())?;
+fn lookups_in_rows_find_what_walks_find(rt: HostRuntime) {
+    let table = side(&rt, rt.alloc());
     see_rows(&rt, &table);
     see_lengths(&rt, &table);
-    Ok(())
 }
 
-fn unknown(alloc: Global) -> Result<Key, AllocError> {
-    Ok(Key {
-        name: Name::from_bytes(alloc, b"f")?,
-        descriptor: Name::from_bytes(alloc, b"J")?,
-    })
-}
-
-fn see_unknown(rt: &impl Abort, alloc: Global, table: &Table) -> Result<(), Fail> {
-    let unknown = unknown(alloc)?;
+fn see_unknown(rt: &impl Abort, table: &Table, unknown: &Key) {
     // f, g, m, a, d, h, s and the initializer of `java/lang/Object`.
     assert_eq!(rt; table.key_count(), 8);
-    assert_eq!(rt; table.key_number(&unknown), None);
+    assert_eq!(rt; table.key_number(unknown), None);
     assert!(rt; table.key_at(8).is_none());
     let class = loaded(rt, table, b"p/Child");
-    assert_eq!(rt; find_field(table, class, &unknown), None);
-    Ok(())
+    assert_eq!(rt; find_field(table, class, unknown), None);
 }
 
 #[test]
-fn what_no_class_declares_has_no_number(rt: HostRuntime) -> Result<(), Fail> {
-    let table = side(&rt, rt.alloc())?;
-    see_unknown(&rt, rt.alloc(), &table)
+fn what_no_class_declares_has_no_number(rt: HostRuntime) {
+    let table = side(&rt, rt.alloc());
+    see_unknown(&rt, &table, &key(&rt, rt.alloc(), b"f", b"J"));
 }

@@ -1,15 +1,13 @@
 //! Fields of a small side, by the walk and by the plain search.
-use crate::sides::{Declared, INTERFACE, PLAIN, Row, loaded, table};
-use jc_base::name::Name;
+use crate::sides::{Declared, INTERFACE, PLAIN, Row, key, loaded, table};
 use jc_facts::key::Key;
 use jc_field::find::find_field;
 use jc_field::keys::field_keys;
 use jc_field::plain::search_field;
 use jc_table::ids::ClassId;
 use jc_table::table::Table;
-use std::alloc::{AllocError, Global};
+use std::alloc::Global;
 use std::process::Abort;
-use std::test::Fail;
 
 // A field of a class, public, and static and final in an interface.
 const FIELD: &[Declared] = &[(b"f", b"I", 0x0001)];
@@ -72,15 +70,8 @@ const ROWS: &[Row] = &[
     },
 ];
 
-fn side(rt: &impl Abort, alloc: Global) -> Result<Table, Fail> {
+fn side(rt: &impl Abort, alloc: Global) -> Table {
     table(rt, alloc, ROWS)
-}
-
-fn key(alloc: Global, descriptor: &[u8]) -> Result<Key, AllocError> {
-    Ok(Key {
-        name: Name::from_bytes(alloc, b"f")?,
-        descriptor: Name::from_bytes(alloc, descriptor)?,
-    })
 }
 
 // A class, and the owner of the field that is found from it.
@@ -94,59 +85,43 @@ const OWNERS: &[(&[u8], &[u8])] = &[
     (b"p/None", b""),
 ];
 
-// Whether the walk and the plain search find the field of the owner, and nothing of the other key.
-fn finds(
-    rt: &impl Abort,
-    table: &Table,
-    name: &[u8],
-    keys: (&Key, &Key),
-    owner: Option<ClassId>,
-) -> bool {
+// The owner of the field that the lookup and the plain search find, where they find the same.
+fn owner(rt: &impl Abort, table: &Table, name: &[u8], key: &Key) -> Option<ClassId> {
     let class = loaded(rt, table, name);
-    let found = find_field(table, class, keys.0);
-    found.map(|f| f.owner) == owner
-        && search_field(table, class, keys.0) == found
-        && find_field(table, class, keys.1).is_none()
+    let found = find_field(table, class, key);
+    assert!(rt; search_field(table, class, key) == found);
+    found.map(|f| f.owner)
 }
 
-fn see_owners(rt: &impl Abort, alloc: Global, table: &Table) -> Result<(), Fail> {
-    let number = key(alloc, b"I")?;
-    let wide = key(alloc, b"J")?;
-    for (name, owner) in OWNERS {
-        assert!(rt; finds(rt, table, name, (&number, &wide), table.get(owner)));
+fn see_owners(rt: &impl Abort, table: &Table, key: &Key, other: &Key) {
+    for (name, wanted) in OWNERS {
+        assert_eq!(rt; owner(rt, table, name, key), table.get(wanted));
+        assert_eq!(rt; owner(rt, table, name, other), None);
     }
-    Ok(())
 }
 
 #[test]
-fn interfaces_come_before_the_superclass(rt: HostRuntime) -> Result<(), Fail> {
-    let table = side(&rt, rt.alloc())?;
-    see_owners(&rt, rt.alloc(), &table)
+fn interfaces_come_before_the_superclass(rt: HostRuntime) {
+    let alloc = rt.alloc();
+    let table = side(&rt, alloc);
+    see_owners(
+        &rt,
+        &table,
+        &key(&rt, alloc, b"f", b"I"),
+        &key(&rt, alloc, b"f", b"J"),
+    );
 }
 
-fn see_keys(rt: &impl Abort, alloc: Global, table: &Table) -> Result<(), Fail> {
-    let number = key(alloc, b"I")?;
-    let class = loaded(rt, table, b"p/Child");
-    let keys = field_keys(alloc, table, class)?;
+fn keys_of(rt: &impl Abort, alloc: Global, table: &Table, name: &[u8]) -> Vec<Key> {
+    field_keys(alloc, table, loaded(rt, table, name)).expect(rt, "memory")
+}
+
+#[test]
+fn keys_of_fields_above_a_class(rt: HostRuntime) {
+    let alloc = rt.alloc();
+    let table = side(&rt, alloc);
+    let keys = keys_of(&rt, alloc, &table, b"p/Child");
     assert_eq!(rt; keys.len(), 1);
-    assert!(rt; keys.as_slice().contains(&number));
-    Ok(())
-}
-
-fn see_no_keys(rt: &impl Abort, alloc: Global, table: &Table) -> Result<(), Fail> {
-    let class = loaded(rt, table, b"p/None");
-    let keys = field_keys(alloc, table, class)?;
-    assert!(rt; keys.is_empty());
-    Ok(())
-}
-
-fn see_all_keys(rt: &impl Abort, alloc: Global, table: &Table) -> Result<(), Fail> {
-    see_keys(rt, alloc, table)?;
-    see_no_keys(rt, alloc, table)
-}
-
-#[test]
-fn keys_of_fields_above_a_class(rt: HostRuntime) -> Result<(), Fail> {
-    let table = side(&rt, rt.alloc())?;
-    see_all_keys(&rt, rt.alloc(), &table)
+    assert!(rt; keys.as_slice().contains(&key(&rt, alloc, b"f", b"I")));
+    assert!(rt; keys_of(&rt, alloc, &table, b"p/None").is_empty());
 }

@@ -1,21 +1,18 @@
 //! What linking small clients gives, step by step and error by error.
-use crate::sides::{INTERFACE, PLAIN, ROOT, Row, class, classes, platform};
+use crate::sides::{INTERFACE, PLAIN, ROOT, Row, class, key, made, name};
 use jc_base::items::Items;
 use jc_base::name::Name;
 use jc_facts::act::Act;
-use jc_facts::class_facts::ClassFacts;
 use jc_facts::client::{ClientClass, Item, Place};
 use jc_facts::client_validity::is_valid_client;
-use jc_facts::key::Key;
 use jc_facts::link_error::LinkError;
 use jc_facts::outcome::Outcome;
 use jc_link::link::link;
 use jc_link::plain;
 use jc_link::refusal::{ClientPart, LinkRefusal};
 use jc_table::plain::{are_valid, names_differ};
-use std::alloc::{AllocError, Global};
+use std::alloc::Global;
 use std::process::Abort;
-use std::test::Fail;
 
 /// A text of the rows: a name, a descriptor, or the name of a type.
 type Word = &'static [u8];
@@ -33,93 +30,99 @@ enum Use {
     Assign(Word, Word),
 }
 
-fn name(alloc: Global, word: &[u8]) -> Result<Name, AllocError> {
-    Name::from_bytes(alloc, word)
-}
+/// An item of the client, and the error that the steps give it.
+type Step = (Use, Option<LinkError>);
 
-fn receiver(alloc: Global, word: &[u8]) -> Result<Option<Name>, AllocError> {
+const NO_CLASS: Option<LinkError> = Some(LinkError::NoClassDefFoundError);
+
+const CIRCLE: Option<LinkError> = Some(LinkError::ClassCircularityError);
+
+const CHANGED: Option<LinkError> = Some(LinkError::IncompatibleClassChangeError);
+
+const NO_ACCESS: Option<LinkError> = Some(LinkError::IllegalAccessError);
+
+const NOT_MADE: Option<LinkError> = Some(LinkError::InstantiationError);
+
+const NO_FIELD: Option<LinkError> = Some(LinkError::NoSuchFieldError);
+
+const NO_METHOD: Option<LinkError> = Some(LinkError::NoSuchMethodError);
+
+const UNVERIFIED: Option<LinkError> = Some(LinkError::VerifyError);
+
+fn receiver(rt: &impl Abort, alloc: Global, word: &[u8]) -> Option<Name> {
     if word.is_empty() {
-        return Ok(None);
+        None
+    } else {
+        Some(name(rt, alloc, word))
     }
-    Ok(Some(name(alloc, word)?))
 }
 
-fn access(
-    alloc: Global,
-    act: Act,
-    class: &[u8],
-    key: (&[u8], &[u8]),
-    from: &[u8],
-    place: Place,
-) -> Result<Item, AllocError> {
-    Ok(Item::Access {
-        act,
-        class: name(alloc, class)?,
-        key: Key {
-            name: name(alloc, key.0)?,
-            descriptor: name(alloc, key.1)?,
-        },
-        receiver: receiver(alloc, from)?,
-        place,
-    })
-}
-
-fn item(alloc: Global, of: &Use) -> Result<Item, AllocError> {
+fn item(rt: &impl Abort, alloc: Global, of: &Use) -> Item {
     match *of {
-        Use::Class(class) => Ok(Item::Class {
-            class: name(alloc, class)?,
-        }),
-        Use::New(class, descriptor) => Ok(Item::New {
-            class: name(alloc, class)?,
-            descriptor: name(alloc, descriptor)?,
-        }),
-        Use::Init(class, descriptor) => Ok(Item::Init {
-            class: name(alloc, class)?,
-            descriptor: name(alloc, descriptor)?,
-        }),
-        Use::Access(act, class, key, descriptor, from) => {
-            access(alloc, act, class, (key, descriptor), from, Place::Other)
-        }
-        Use::Put(act, class, key, descriptor, place) => {
-            access(alloc, act, class, (key, descriptor), b"", place)
-        }
-        Use::Assign(from, to) => Ok(Item::Assign {
-            from: name(alloc, from)?,
-            to: name(alloc, to)?,
-        }),
+        Use::Class(class) => Item::Class {
+            class: name(rt, alloc, class),
+        },
+        Use::New(class, descriptor) => Item::New {
+            class: name(rt, alloc, class),
+            descriptor: name(rt, alloc, descriptor),
+        },
+        Use::Init(class, descriptor) => Item::Init {
+            class: name(rt, alloc, class),
+            descriptor: name(rt, alloc, descriptor),
+        },
+        Use::Access(act, class, member, descriptor, from) => Item::Access {
+            act,
+            class: name(rt, alloc, class),
+            key: key(rt, alloc, member, descriptor),
+            receiver: receiver(rt, alloc, from),
+            place: Place::Other,
+        },
+        Use::Put(act, class, member, descriptor, place) => Item::Access {
+            act,
+            class: name(rt, alloc, class),
+            key: key(rt, alloc, member, descriptor),
+            receiver: None,
+            place,
+        },
+        Use::Assign(from, to) => Item::Assign {
+            from: name(rt, alloc, from),
+            to: name(rt, alloc, to),
+        },
     }
 }
 
-fn items(alloc: Global, uses: &[Use]) -> Result<Items<Item>, AllocError> {
+fn items(rt: &impl Abort, alloc: Global, steps: &[Step]) -> Items<Item> {
     let mut items = Vec::new(alloc);
-    for of in uses {
-        items.push(item(alloc, of)?)?;
+    for step in steps {
+        items.push(item(rt, alloc, &step.0)).expect(rt, "memory");
     }
-    Ok(Items::from_vec(items))
+    Items::from_vec(items)
 }
 
-fn client(alloc: Global, row: &Row, uses: &[Use]) -> Result<ClientClass, AllocError> {
-    Ok(ClientClass {
-        facts: class(alloc, row)?,
-        items: items(alloc, uses)?,
-    })
+fn client(rt: &impl Abort, alloc: Global, row: &Row, steps: &[Step]) -> ClientClass {
+    ClientClass {
+        facts: class(alloc, row).expect(rt, "memory"),
+        items: items(rt, alloc, steps),
+    }
 }
 
 /// What `link` answers, whose conditions are seen to first.
 fn linked(
     rt: &impl Abort,
     alloc: Global,
-    platform: &[ClassFacts],
-    release: Vec<ClassFacts>,
+    platform: &[Row],
+    release: &[Row],
     clients: Vec<ClientClass>,
-) -> Result<Result<Vec<Outcome>, LinkRefusal>, AllocError> {
-    let valid = are_valid(alloc, platform)? && are_valid(alloc, release.as_slice())?;
-    let valid_clients = plain::are_valid(alloc, clients.as_slice())?;
-    let differ = plain::names_differ(alloc, clients.as_slice())?;
-    assert!(rt; valid && valid_clients && differ);
-    assert!(rt; names_differ(platform) && names_differ(release.as_slice()));
+) -> Result<Vec<Outcome>, LinkRefusal> {
+    let platform = made(rt, alloc, platform);
+    let release = made(rt, alloc, release);
+    assert!(rt; are_valid(alloc, platform.as_slice()).expect(rt, "memory"));
+    assert!(rt; are_valid(alloc, release.as_slice()).expect(rt, "memory"));
+    assert!(rt; plain::are_valid(alloc, clients.as_slice()).expect(rt, "memory"));
+    assert!(rt; plain::names_differ(alloc, clients.as_slice()).expect(rt, "memory"));
+    assert!(rt; names_differ(platform.as_slice()) && names_differ(release.as_slice()));
     assert!(rt; platform.len() <= 40_000 && release.len() <= 40_000 && clients.len() <= 40_000);
-    Ok(link(alloc, platform, release, clients))
+    link(alloc, platform.as_slice(), release, clients)
 }
 
 const INIT: (Word, Word, u16) = (b"<init>", b"()V", 0x0001);
@@ -213,56 +216,32 @@ const CLIENT: Row = Row {
     ..PLAIN
 };
 
-/// An item of the client, and the error that the steps give it.
-type Step = (Use, Option<LinkError>);
-
 const CLASS_STEP: &[Step] = &[
     (Use::Class(b"p/Base"), None),
     (Use::Class(b"[I"), None),
-    (Use::Class(b"p/Gone"), Some(LinkError::NoClassDefFoundError)),
-    (
-        Use::Class(b"p/Orphan"),
-        Some(LinkError::NoClassDefFoundError),
-    ),
-    (
-        Use::Class(b"p/Cycle"),
-        Some(LinkError::ClassCircularityError),
-    ),
-    (
-        Use::Class(b"p/BelowFinal"),
-        Some(LinkError::IncompatibleClassChangeError),
-    ),
-    (Use::Class(b"p/Hidden"), Some(LinkError::IllegalAccessError)),
-    (
-        Use::Class(b"[Lp/Hidden;"),
-        Some(LinkError::IllegalAccessError),
-    ),
-    (
-        Use::New(b"p/Gone", b"()V"),
-        Some(LinkError::NoClassDefFoundError),
-    ),
-    (
-        Use::New(b"p/Abstract", b"()V"),
-        Some(LinkError::InstantiationError),
-    ),
-    (
-        Use::New(b"p/Face", b"()V"),
-        Some(LinkError::InstantiationError),
-    ),
+    (Use::Class(b"p/Gone"), NO_CLASS),
+    (Use::Class(b"p/Orphan"), NO_CLASS),
+    (Use::Class(b"p/Cycle"), CIRCLE),
+    (Use::Class(b"p/BelowFinal"), CHANGED),
+    (Use::Class(b"p/Hidden"), NO_ACCESS),
+    (Use::Class(b"[Lp/Hidden;"), NO_ACCESS),
+    (Use::New(b"p/Gone", b"()V"), NO_CLASS),
+    (Use::New(b"p/Abstract", b"()V"), NOT_MADE),
+    (Use::New(b"p/Face", b"()V"), NOT_MADE),
 ];
 
 const LOOKUP_STEP: &[Step] = &[
     (
         Use::Access(Act::GetField, b"p/Base", b"none", b"I", b""),
-        Some(LinkError::NoSuchFieldError),
+        NO_FIELD,
     ),
     (
         Use::Access(Act::InvokeVirtual, b"p/Base", b"none", b"()V", b""),
-        Some(LinkError::NoSuchMethodError),
+        NO_METHOD,
     ),
     (
         Use::Access(Act::InvokeVirtual, b"p/Face", b"k", b"()V", b""),
-        Some(LinkError::IncompatibleClassChangeError),
+        CHANGED,
     ),
     (
         Use::Access(Act::InvokeInterface, b"p/Face", b"k", b"()V", b""),
@@ -270,34 +249,28 @@ const LOOKUP_STEP: &[Step] = &[
     ),
     (
         Use::Access(Act::InvokeInterface, b"p/Face", b"none", b"()V", b""),
-        Some(LinkError::NoSuchMethodError),
+        NO_METHOD,
     ),
     (
         Use::Access(Act::InvokeInterface, b"p/Base", b"m", b"()V", b""),
-        Some(LinkError::IncompatibleClassChangeError),
+        CHANGED,
     ),
     (
         Use::Access(Act::GetField, b"[I", b"length", b"I", b""),
-        Some(LinkError::NoSuchFieldError),
+        NO_FIELD,
     ),
     (
         Use::Access(Act::InvokeVirtual, b"[I", b"m", b"()V", b""),
-        Some(LinkError::NoSuchMethodError),
+        NO_METHOD,
     ),
     (
         Use::Access(Act::InvokeInterface, b"[I", b"m", b"()V", b""),
-        Some(LinkError::IncompatibleClassChangeError),
+        CHANGED,
     ),
-    (
-        Use::New(b"p/Other", b"()V"),
-        Some(LinkError::NoSuchMethodError),
-    ),
-    (Use::New(b"[I", b"()V"), Some(LinkError::NoSuchMethodError)),
+    (Use::New(b"p/Other", b"()V"), NO_METHOD),
+    (Use::New(b"[I", b"()V"), NO_METHOD),
     (Use::Init(b"q/Mid", b"()V"), None),
-    (
-        Use::Init(b"q/Mid", b"(I)V"),
-        Some(LinkError::NoSuchMethodError),
-    ),
+    (Use::Init(b"q/Mid", b"(I)V"), NO_METHOD),
 ];
 
 const ACCESS_AND_KIND: &[Step] = &[
@@ -307,35 +280,29 @@ const ACCESS_AND_KIND: &[Step] = &[
     ),
     (
         Use::Access(Act::GetField, b"p/Base", b"secret", b"I", b""),
-        Some(LinkError::IllegalAccessError),
+        NO_ACCESS,
     ),
     (
         Use::Access(Act::GetStatic, b"p/Base", b"secret", b"I", b""),
-        Some(LinkError::IllegalAccessError),
+        NO_ACCESS,
     ),
     (
         Use::Access(Act::InvokeVirtual, b"p/Base", b"near", b"()V", b""),
-        Some(LinkError::IllegalAccessError),
+        NO_ACCESS,
     ),
-    (
-        Use::New(b"p/Alone", b"()V"),
-        Some(LinkError::IllegalAccessError),
-    ),
-    (
-        Use::Init(b"q/Mid", b"(J)V"),
-        Some(LinkError::IllegalAccessError),
-    ),
+    (Use::New(b"p/Alone", b"()V"), NO_ACCESS),
+    (Use::Init(b"q/Mid", b"(J)V"), NO_ACCESS),
     (
         Use::Access(Act::GetStatic, b"p/Base", b"open", b"I", b""),
-        Some(LinkError::IncompatibleClassChangeError),
+        CHANGED,
     ),
     (
         Use::Access(Act::InvokeStatic, b"p/Base", b"m", b"()V", b""),
-        Some(LinkError::IncompatibleClassChangeError),
+        CHANGED,
     ),
     (
         Use::Access(Act::InvokeVirtual, b"p/Base", b"s", b"()V", b""),
-        Some(LinkError::IncompatibleClassChangeError),
+        CHANGED,
     ),
     (
         Use::Access(Act::InvokeStatic, b"p/Base", b"s", b"()V", b""),
@@ -350,7 +317,7 @@ const FINAL_STEP: &[Step] = &[
     ),
     (
         Use::Put(Act::PutField, b"q/C", b"own", b"I", Place::Other),
-        Some(LinkError::IllegalAccessError),
+        NO_ACCESS,
     ),
     (
         Use::Put(Act::PutStatic, b"q/C", b"shared", b"I", Place::Clinit),
@@ -358,15 +325,15 @@ const FINAL_STEP: &[Step] = &[
     ),
     (
         Use::Put(Act::PutStatic, b"q/C", b"shared", b"I", Place::Init),
-        Some(LinkError::IllegalAccessError),
+        NO_ACCESS,
     ),
     (
         Use::Put(Act::PutField, b"p/Base", b"last", b"I", Place::Init),
-        Some(LinkError::IllegalAccessError),
+        NO_ACCESS,
     ),
     (
         Use::Put(Act::PutStatic, b"p/Base", b"last", b"I", Place::Init),
-        Some(LinkError::IncompatibleClassChangeError),
+        CHANGED,
     ),
 ];
 
@@ -377,7 +344,7 @@ const ASSIGNMENT_STEP: &[Step] = &[
     ),
     (
         Use::Access(Act::InvokeVirtual, b"p/Base", b"m", b"()V", b"p/Alone"),
-        Some(LinkError::VerifyError),
+        UNVERIFIED,
     ),
     // Protected, of another package: the receiver has to be the client, whatever class is named.
     (
@@ -390,93 +357,53 @@ const ASSIGNMENT_STEP: &[Step] = &[
     ),
     (
         Use::Access(Act::InvokeVirtual, b"p/Base", b"kept", b"()V", b"p/Base"),
-        Some(LinkError::VerifyError),
+        UNVERIFIED,
     ),
     (
         Use::Access(Act::InvokeVirtual, b"q/Mid", b"kept", b"()V", b"q/Mid"),
-        Some(LinkError::VerifyError),
+        UNVERIFIED,
     ),
-    (Use::New(b"p/Base", b"(I)V"), Some(LinkError::VerifyError)),
+    (Use::New(b"p/Base", b"(I)V"), UNVERIFIED),
     (
         Use::Access(Act::InvokeSpecial, b"p/Base", b"m", b"()V", b"q/C"),
         None,
     ),
     (
         Use::Access(Act::InvokeSpecial, b"p/Base", b"m", b"()V", b"p/Base"),
-        Some(LinkError::VerifyError),
+        UNVERIFIED,
     ),
     (
         Use::Access(Act::InvokeSpecial, b"p/Alone", b"m", b"()V", b""),
-        Some(LinkError::VerifyError),
+        UNVERIFIED,
     ),
     (Use::Assign(b"p/Other", b"p/Base"), None),
     (Use::Assign(b"p/Alone", b"p/Face"), None),
     (Use::Assign(b"[Lp/Other;", b"[Lp/Base;"), None),
-    (
-        Use::Assign(b"p/Alone", b"p/Base"),
-        Some(LinkError::VerifyError),
-    ),
-    (Use::Assign(b"[I", b"[J"), Some(LinkError::VerifyError)),
+    (Use::Assign(b"p/Alone", b"p/Base"), UNVERIFIED),
+    (Use::Assign(b"[I", b"[J"), UNVERIFIED),
 ];
 
-fn items_of_steps(alloc: Global, steps: &[Step]) -> Result<Items<Item>, AllocError> {
-    let mut items = Vec::new(alloc);
-    for step in steps {
-        items.push(item(alloc, &step.0)?)?;
-    }
-    Ok(Items::from_vec(items))
-}
-
-fn client_of_steps(alloc: Global, steps: &[Step]) -> Result<ClientClass, AllocError> {
-    let items = items_of_steps(alloc, steps)?;
-    Ok(ClientClass {
-        facts: class(alloc, &CLIENT)?,
-        items,
-    })
-}
-
-/// The client with these items, and its superclass.
-fn clients_of_steps(alloc: Global, steps: &[Step]) -> Result<Vec<ClientClass>, AllocError> {
+/// A client with some items, and its superclass with others.
+fn clients(
+    rt: &impl Abort,
+    alloc: Global,
+    row: &Row,
+    steps: &[Step],
+    above: &[Step],
+) -> Vec<ClientClass> {
     let mut clients = Vec::new(alloc);
-    clients.push(client(alloc, &MID, &[])?)?;
-    clients.push(client_of_steps(alloc, steps)?)?;
-    Ok(clients)
-}
-
-fn release(alloc: Global) -> Result<Vec<ClassFacts>, AllocError> {
-    classes(alloc, RELEASE)
-}
-
-fn linked_over(
-    rt: &impl Abort,
-    alloc: Global,
-    platform: &[ClassFacts],
-    clients: Vec<ClientClass>,
-) -> Result<Result<Vec<Outcome>, LinkRefusal>, AllocError> {
-    let release = release(alloc)?;
-    linked(rt, alloc, platform, release, clients)
-}
-
-fn outcomes_over(
-    rt: &impl Abort,
-    alloc: Global,
-    platform: &[ClassFacts],
-    clients: Vec<ClientClass>,
-) -> Result<Vec<Outcome>, Fail> {
-    match linked_over(rt, alloc, platform, clients)? {
-        Ok(outcomes) => Ok(outcomes),
-        Err(_) => Err(Fail::new("refused")),
-    }
+    clients
+        .push(client(rt, alloc, &MID, above))
+        .expect(rt, "memory");
+    clients
+        .push(client(rt, alloc, row, steps))
+        .expect(rt, "memory");
+    clients
 }
 
 /// The outcomes of the clients with the release.
-fn outcomes(
-    rt: &impl Abort,
-    alloc: Global,
-    clients: Vec<ClientClass>,
-) -> Result<Vec<Outcome>, Fail> {
-    let platform = platform(alloc)?;
-    outcomes_over(rt, alloc, platform.as_slice(), clients)
+fn outcomes(rt: &impl Abort, alloc: Global, clients: Vec<ClientClass>) -> Vec<Outcome> {
+    linked(rt, alloc, &[ROOT], RELEASE, clients).expect(rt, "outcomes")
 }
 
 /// Whether the outcomes are those of the client's own loading, of the steps, and of the loading of its superclass, which stands after
@@ -488,36 +415,34 @@ fn see_errors(rt: &impl Abort, outcomes: &[Outcome], steps: &[Step]) {
     }
 }
 
-fn check(rt: &impl Abort, alloc: Global, steps: &[Step]) -> Result<(), Fail> {
-    let clients = clients_of_steps(alloc, steps)?;
-    let outcomes = outcomes(rt, alloc, clients)?;
-    see_errors(rt, outcomes.as_slice(), steps);
-    Ok(())
+fn check(rt: &impl Abort, alloc: Global, steps: &[Step]) {
+    let clients = clients(rt, alloc, &CLIENT, steps, &[]);
+    see_errors(rt, outcomes(rt, alloc, clients).as_slice(), steps);
 }
 
 #[test]
-fn errors_of_the_class_step(rt: HostRuntime) -> Result<(), Fail> {
-    check(&rt, rt.alloc(), CLASS_STEP)
+fn errors_of_the_class_step(rt: HostRuntime) {
+    check(&rt, rt.alloc(), CLASS_STEP);
 }
 
 #[test]
-fn errors_of_lookup(rt: HostRuntime) -> Result<(), Fail> {
-    check(&rt, rt.alloc(), LOOKUP_STEP)
+fn errors_of_lookup(rt: HostRuntime) {
+    check(&rt, rt.alloc(), LOOKUP_STEP);
 }
 
 #[test]
-fn errors_of_access_and_kind(rt: HostRuntime) -> Result<(), Fail> {
-    check(&rt, rt.alloc(), ACCESS_AND_KIND)
+fn errors_of_access_and_kind(rt: HostRuntime) {
+    check(&rt, rt.alloc(), ACCESS_AND_KIND);
 }
 
 #[test]
-fn errors_of_final_fields(rt: HostRuntime) -> Result<(), Fail> {
-    check(&rt, rt.alloc(), FINAL_STEP)
+fn errors_of_final_fields(rt: HostRuntime) {
+    check(&rt, rt.alloc(), FINAL_STEP);
 }
 
 #[test]
-fn errors_of_assignment(rt: HostRuntime) -> Result<(), Fail> {
-    check(&rt, rt.alloc(), ASSIGNMENT_STEP)
+fn errors_of_assignment(rt: HostRuntime) {
+    check(&rt, rt.alloc(), ASSIGNMENT_STEP);
 }
 
 const ORPHAN: Row = Row {
@@ -525,22 +450,12 @@ const ORPHAN: Row = Row {
     ..CLIENT
 };
 
-/// A client that loads and one that doesn't, each with an item.
-fn client_and_orphan(alloc: Global) -> Result<Vec<ClientClass>, AllocError> {
-    let mut clients = Vec::new(alloc);
-    clients.push(client(alloc, &MID, &[Use::Class(b"[I")])?)?;
-    clients.push(client(alloc, &ORPHAN, &[Use::Class(b"[I")])?)?;
-    Ok(clients)
-}
+const ARRAY: &[Step] = &[(Use::Class(b"[I"), None)];
 
 /// A class and its error.
 type Told = (Word, Option<LinkError>);
 
-const BY_NAME: &[Told] = &[
-    (b"q/C", Some(LinkError::NoClassDefFoundError)),
-    (b"q/Mid", None),
-    (b"q/Mid", None),
-];
+const BY_NAME: &[Told] = &[(b"q/C", NO_CLASS), (b"q/Mid", None), (b"q/Mid", None)];
 
 fn see_told(rt: &impl Abort, outcomes: &[Outcome], wanted: &[Told]) {
     assert_eq!(rt; outcomes.len(), wanted.len());
@@ -551,11 +466,9 @@ fn see_told(rt: &impl Abort, outcomes: &[Outcome], wanted: &[Told]) {
 }
 
 #[test]
-fn clients_by_name_and_items_where_they_load(rt: HostRuntime) -> Result<(), Fail> {
-    let clients = client_and_orphan(rt.alloc())?;
-    let outcomes = outcomes(&rt, rt.alloc(), clients)?;
-    see_told(&rt, outcomes.as_slice(), BY_NAME);
-    Ok(())
+fn clients_by_name_and_items_where_they_load(rt: HostRuntime) {
+    let clients = clients(&rt, rt.alloc(), &ORPHAN, ARRAY, ARRAY);
+    see_told(&rt, outcomes(&rt, rt.alloc(), clients).as_slice(), BY_NAME);
 }
 
 // ---- refusals
@@ -567,53 +480,15 @@ const BELOW: Row = Row {
     ..PLAIN
 };
 
-fn renamed(mut facts: ClassFacts, name: Name) -> ClassFacts {
-    facts.name = name;
-    facts
-}
-
-/// A plain client of this name.
-fn client_called(alloc: Global, called: &[u8]) -> Result<ClientClass, AllocError> {
-    let name = name(alloc, called)?;
-    let facts = class(alloc, &PLAIN)?;
-    Ok(ClientClass {
-        facts: renamed(facts, name),
-        items: Items::from_vec(Vec::new(alloc)),
-    })
-}
-
-fn clients_called(alloc: Global, called: &[u8]) -> Result<Vec<ClientClass>, AllocError> {
+/// The refusal of a plain client of this name over a release with the class `p/A` below `q/Above`.
+fn refusal(rt: &impl Abort, alloc: Global, platform: &[Row], called: &[u8]) -> LinkRefusal {
+    let mut client = client(rt, alloc, &PLAIN, &[]);
+    client.facts.name = name(rt, alloc, called);
     let mut clients = Vec::new(alloc);
-    clients.push(client_called(alloc, called)?)?;
-    Ok(clients)
-}
-
-fn release_below(alloc: Global) -> Result<Vec<ClassFacts>, AllocError> {
-    classes(alloc, &[BELOW])
-}
-
-fn linked_below(
-    rt: &impl Abort,
-    alloc: Global,
-    platform: &[ClassFacts],
-    clients: Vec<ClientClass>,
-) -> Result<Result<Vec<Outcome>, LinkRefusal>, AllocError> {
-    let release = release_below(alloc)?;
-    linked(rt, alloc, platform, release, clients)
-}
-
-/// The refusal of a client of this name over a release with the class `p/A` below `q/Above`.
-fn refusal(
-    rt: &impl Abort,
-    alloc: Global,
-    platform: &[ClassFacts],
-    called: &[u8],
-) -> Result<LinkRefusal, Fail> {
-    let clients = clients_called(alloc, called)?;
-    match linked_below(rt, alloc, platform, clients)? {
-        Ok(_) => Err(Fail::new("linked")),
-        Err(refusal) => Ok(refusal),
-    }
+    clients.push(client).expect(rt, "memory");
+    linked(rt, alloc, platform, &[BELOW], clients)
+        .err()
+        .expect(rt, "a refusal")
 }
 
 fn is_of_name(refusal: &LinkRefusal, called: &[u8], wanted: ClientPart) -> bool {
@@ -623,24 +498,9 @@ fn is_of_name(refusal: &LinkRefusal, called: &[u8], wanted: ClientPart) -> bool 
     }
 }
 
-fn refuses(
-    rt: &impl Abort,
-    alloc: Global,
-    platform: &[ClassFacts],
-    called: &[u8],
-    wanted: ClientPart,
-) -> Result<(), Fail> {
-    let refusal = refusal(rt, alloc, platform, called)?;
+fn see_refusal(rt: &impl Abort, alloc: Global, called: &[u8], wanted: ClientPart) {
+    let refusal = refusal(rt, alloc, &[ROOT], called);
     assert!(rt; is_of_name(&refusal, called, wanted));
-    Ok(())
-}
-
-fn long_name(alloc: Global) -> Result<Vec<u8>, AllocError> {
-    let mut long = Vec::new(alloc);
-    for _ in 0..4091 {
-        long.push(b'n')?;
-    }
-    Ok(long)
 }
 
 /// A name, and the part of it for which no client may have it.
@@ -652,41 +512,27 @@ const REFUSED: &[(Word, ClientPart)] = &[
     (b"r/\xed\xa0\x80", ClientPart::Encoding),
 ];
 
-fn see_refused(rt: &impl Abort, alloc: Global, platform: &[ClassFacts]) -> Result<(), Fail> {
+#[test]
+fn names_that_no_client_may_have(rt: HostRuntime) {
+    let alloc = rt.alloc();
     for (called, part) in REFUSED {
-        refuses(rt, alloc, platform, called, *part)?;
+        see_refusal(&rt, alloc, called, *part);
     }
-    Ok(())
-}
-
-fn see_long(rt: &impl Abort, alloc: Global, platform: &[ClassFacts]) -> Result<(), Fail> {
-    let long = long_name(alloc)?;
-    refuses(rt, alloc, platform, long.as_slice(), ClientPart::Length)
+    let long = vec![in alloc; b'n'; 4091].expect(&rt, "memory");
+    see_refusal(&rt, alloc, long.as_slice(), ClientPart::Length);
 }
 
 #[test]
-fn names_that_no_client_may_have(rt: HostRuntime) -> Result<(), Fail> {
-    let platform = platform(rt.alloc())?;
-    see_refused(&rt, rt.alloc(), platform.as_slice())?;
-    see_long(&rt, rt.alloc(), platform.as_slice())
+fn the_root_comes_before_names(rt: HostRuntime) {
+    let refusal = refusal(&rt, rt.alloc(), &[], b"p/X");
+    assert!(rt; matches!(refusal, LinkRefusal::BadRoot(_)));
 }
 
 /// A platform that also has a class of the release.
-fn platform_with_it(alloc: Global) -> Result<Vec<ClassFacts>, AllocError> {
-    classes(alloc, &[ROOT, BELOW])
-}
+const BOTH: &[Row] = &[ROOT, BELOW];
 
 #[test]
-fn the_root_comes_before_names(rt: HostRuntime) -> Result<(), Fail> {
-    let refusal = refusal(&rt, rt.alloc(), &[], b"p/X")?;
-    assert!(rt; matches!(refusal, LinkRefusal::BadRoot(_)));
-    Ok(())
-}
-
-#[test]
-fn overlap_comes_before_names(rt: HostRuntime) -> Result<(), Fail> {
-    let platform = platform_with_it(rt.alloc())?;
-    let refusal = refusal(&rt, rt.alloc(), platform.as_slice(), b"p/X")?;
+fn overlap_comes_before_names(rt: HostRuntime) {
+    let refusal = refusal(&rt, rt.alloc(), BOTH, b"p/X");
     assert!(rt; matches!(refusal, LinkRefusal::Overlap(_)));
-    Ok(())
 }

@@ -1,17 +1,23 @@
 //! Load faults of small sides, by the pass over all classes and by the plain search.
-use crate::sides::{INTERFACE, PLAIN, Row, class_of, table};
-use jc_base::name::Name;
+use crate::sides::{INTERFACE, PLAIN, Row, class_of, key, name, table};
 use jc_facts::key::Key;
 use jc_facts::link_error::LinkError;
 use jc_load::extending::extendable;
 use jc_load::finals::finals;
 use jc_load::loading::{load_error, search_fault};
 use jc_table::table::Table;
-use std::alloc::{AllocError, Global};
+use std::alloc::Global;
 use std::process::Abort;
-use std::test::Fail;
 
 const FINAL: u16 = 0x0031;
+
+const NO_CLASS: Option<LinkError> = Some(LinkError::NoClassDefFoundError);
+
+const CIRCLE: Option<LinkError> = Some(LinkError::ClassCircularityError);
+
+const CHANGED: Option<LinkError> = Some(LinkError::IncompatibleClassChangeError);
+
+const NO_ACCESS: Option<LinkError> = Some(LinkError::IllegalAccessError);
 
 // A class and its load fault.
 const ROWS: &[(Row, Option<LinkError>)] = &[
@@ -23,7 +29,7 @@ const ROWS: &[(Row, Option<LinkError>)] = &[
             superclass: b"q/None",
             ..PLAIN
         },
-        Some(LinkError::NoClassDefFoundError),
+        NO_CLASS,
     ),
     (
         Row {
@@ -31,7 +37,7 @@ const ROWS: &[(Row, Option<LinkError>)] = &[
             superclass: b"p/Orphan",
             ..PLAIN
         },
-        Some(LinkError::NoClassDefFoundError),
+        NO_CLASS,
     ),
     // Cycles; the superclass comes before the interfaces.
     (
@@ -41,7 +47,7 @@ const ROWS: &[(Row, Option<LinkError>)] = &[
             interfaces: &[b"q/None"],
             ..PLAIN
         },
-        Some(LinkError::ClassCircularityError),
+        CIRCLE,
     ),
     (
         Row {
@@ -49,7 +55,7 @@ const ROWS: &[(Row, Option<LinkError>)] = &[
             superclass: b"p/Left",
             ..PLAIN
         },
-        Some(LinkError::ClassCircularityError),
+        CIRCLE,
     ),
     (
         Row {
@@ -57,7 +63,7 @@ const ROWS: &[(Row, Option<LinkError>)] = &[
             superclass: b"p/Self",
             ..PLAIN
         },
-        Some(LinkError::ClassCircularityError),
+        CIRCLE,
     ),
     (
         Row {
@@ -65,7 +71,7 @@ const ROWS: &[(Row, Option<LinkError>)] = &[
             superclass: b"p/Left",
             ..PLAIN
         },
-        Some(LinkError::ClassCircularityError),
+        CIRCLE,
     ),
     // Kinds, and access before kinds.
     (
@@ -82,7 +88,7 @@ const ROWS: &[(Row, Option<LinkError>)] = &[
             superclass: b"p/Final",
             ..PLAIN
         },
-        Some(LinkError::IncompatibleClassChangeError),
+        CHANGED,
     ),
     (
         Row {
@@ -98,7 +104,7 @@ const ROWS: &[(Row, Option<LinkError>)] = &[
             superclass: b"q/Hidden",
             ..PLAIN
         },
-        Some(LinkError::IllegalAccessError),
+        NO_ACCESS,
     ),
     (
         Row {
@@ -122,7 +128,7 @@ const ROWS: &[(Row, Option<LinkError>)] = &[
             superclass: b"p/Interface",
             ..PLAIN
         },
-        Some(LinkError::IncompatibleClassChangeError),
+        CHANGED,
     ),
     (
         Row {
@@ -130,7 +136,7 @@ const ROWS: &[(Row, Option<LinkError>)] = &[
             interfaces: &[b"p/Plain"],
             ..PLAIN
         },
-        Some(LinkError::IncompatibleClassChangeError),
+        CHANGED,
     ),
     // Seals.
     (
@@ -155,7 +161,7 @@ const ROWS: &[(Row, Option<LinkError>)] = &[
             superclass: b"p/Sealed",
             ..PLAIN
         },
-        Some(LinkError::IncompatibleClassChangeError),
+        CHANGED,
     ),
     (
         Row {
@@ -164,7 +170,7 @@ const ROWS: &[(Row, Option<LinkError>)] = &[
             superclass: b"p/Sealed",
             ..PLAIN
         },
-        Some(LinkError::IncompatibleClassChangeError),
+        CHANGED,
     ),
     // Final methods: a package-private one is overridden in its package alone.
     (
@@ -182,7 +188,7 @@ const ROWS: &[(Row, Option<LinkError>)] = &[
             methods: &[(b"m", b"()V", 0x0001)],
             ..PLAIN
         },
-        Some(LinkError::IncompatibleClassChangeError),
+        CHANGED,
     ),
     (
         Row {
@@ -217,7 +223,7 @@ const ROWS: &[(Row, Option<LinkError>)] = &[
             methods: &[(b"m", b"()V", 0x0001)],
             ..PLAIN
         },
-        Some(LinkError::IncompatibleClassChangeError),
+        CHANGED,
     ),
 ];
 
@@ -226,44 +232,28 @@ fn rows() -> &'static [(Row, Option<LinkError>)] {
     ROWS
 }
 
-fn side_rows(alloc: Global) -> Result<Vec<Row>, AllocError> {
+fn side(rt: &impl Abort, alloc: Global) -> Table {
     let mut side = Vec::new(alloc);
     for (row, _) in rows() {
-        side.push(*row)?;
+        side.push(*row).expect(rt, "memory");
     }
-    Ok(side)
-}
-
-fn side(rt: &impl Abort, alloc: Global) -> Result<Table, Fail> {
-    let side = side_rows(alloc)?;
     table(rt, alloc, side.as_slice())
 }
 
-// Whether the pass over all classes and the plain search find this load fault.
-fn has_fault(
-    rt: &impl Abort,
-    alloc: Global,
-    table: &Table,
-    name: &[u8],
-    fault: Option<LinkError>,
-) -> Result<bool, AllocError> {
+// The load fault of the class, which the plain search finds too.
+fn fault(rt: &impl Abort, alloc: Global, table: &Table, name: &[u8]) -> Option<LinkError> {
     let class = class_of(rt, table, name);
-    let searched = search_fault(alloc, table, class)?;
-    Ok(load_error(table, class) == fault && searched == fault)
-}
-
-fn see_faults(rt: &impl Abort, alloc: Global, table: &Table) -> Result<(), Fail> {
-    for (row, fault) in rows() {
-        let is_fault = has_fault(rt, alloc, table, row.name, *fault)?;
-        assert!(rt; is_fault);
-    }
-    Ok(())
+    let searched = search_fault(alloc, table, class).expect(rt, "memory");
+    assert_eq!(rt; load_error(table, class), searched);
+    searched
 }
 
 #[test]
-fn load_faults_of_small_sides(rt: HostRuntime) -> Result<(), Fail> {
-    let table = side(&rt, rt.alloc())?;
-    see_faults(&rt, rt.alloc(), &table)
+fn load_faults_of_small_sides(rt: HostRuntime) {
+    let table = side(&rt, rt.alloc());
+    for (row, wanted) in rows() {
+        assert_eq!(rt; fault(&rt, rt.alloc(), &table, row.name), *wanted);
+    }
 }
 
 // A class, whether `p/Let` may extend it, and whether `m()V` is final in it.
@@ -276,53 +266,29 @@ const OPEN: &[(&[u8], bool, bool)] = &[
     (b"q/Far", true, false),
 ];
 
-fn key(alloc: Global) -> Result<Key, AllocError> {
-    Ok(Key {
-        name: Name::from_bytes(alloc, b"m")?,
-        descriptor: Name::from_bytes(alloc, b"()V")?,
-    })
-}
-
 // Whether a class of this name may extend the class.
-fn may_extend(
-    rt: &impl Abort,
-    alloc: Global,
-    table: &Table,
-    class: &[u8],
-    name: &[u8],
-) -> Result<bool, AllocError> {
-    let class = class_of(rt, table, class);
-    let name = Name::from_bytes(alloc, name)?;
-    Ok(extendable(table, class, &name))
+fn may_extend(rt: &impl Abort, alloc: Global, table: &Table, class: &[u8], text: &[u8]) -> bool {
+    extendable(table, class_of(rt, table, class), &name(rt, alloc, text))
 }
 
-fn see_extending(rt: &impl Abort, alloc: Global, table: &Table) -> Result<(), Fail> {
+#[test]
+fn who_may_extend(rt: HostRuntime) {
+    let alloc = rt.alloc();
+    let table = side(&rt, alloc);
     for (name, extends, _) in OPEN {
-        let may = may_extend(rt, alloc, table, name, b"p/Let")?;
-        assert_eq!(rt; may, *extends);
+        assert_eq!(rt; may_extend(&rt, alloc, &table, name, b"p/Let"), *extends);
     }
-    let other = may_extend(rt, alloc, table, b"p/Sealed", b"p/Other")?;
-    assert!(rt; !other);
-    Ok(())
+    assert!(rt; !may_extend(&rt, alloc, &table, b"p/Sealed", b"p/Other"));
 }
 
-fn see_finals(rt: &impl Abort, alloc: Global, table: &Table) -> Result<(), Fail> {
-    let key = key(alloc)?;
+fn see_finals(rt: &impl Abort, table: &Table, key: &Key) {
     for (name, _, is_final) in OPEN {
-        let class = class_of(rt, table, name);
-        assert_eq!(rt; finals(table, class, &key), *is_final);
+        assert_eq!(rt; finals(table, class_of(rt, table, name), key), *is_final);
     }
-    Ok(())
 }
 
 #[test]
-fn who_may_extend(rt: HostRuntime) -> Result<(), Fail> {
-    let table = side(&rt, rt.alloc())?;
-    see_extending(&rt, rt.alloc(), &table)
-}
-
-#[test]
-fn who_may_override(rt: HostRuntime) -> Result<(), Fail> {
-    let table = side(&rt, rt.alloc())?;
-    see_finals(&rt, rt.alloc(), &table)
+fn who_may_override(rt: HostRuntime) {
+    let table = side(&rt, rt.alloc());
+    see_finals(&rt, &table, &key(&rt, rt.alloc(), b"m", b"()V"));
 }

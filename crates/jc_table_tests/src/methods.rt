@@ -4,17 +4,15 @@ ghost use Rattle.jc_facts.specs.world.World.{size};
 ghost use Rattle.jc_facts.specs.world.Loading.{load_fault};
 ghost use Rattle.jc_table.specs.Ids.{name_at};
 
-use crate::sides::{self, INTERFACE, PLAIN, loaded, table};
-use jc_base::name::Name;
+use crate::sides::{self, INTERFACE, PLAIN, key, loaded, table};
 use jc_facts::flags::is_interface;
 use jc_facts::key::Key;
 use jc_method::find::{find_in_chain, find_interface_method, find_method, inherits_instance};
 use jc_method::keys::method_keys;
 use jc_table::ids::{ClassId, Found};
 use jc_table::table::Table;
-use std::alloc::{AllocError, Global};
+use std::alloc::Global;
 use std::process::Abort;
-use std::test::Fail;
 
 // A class; which class's method `m()V` the chain has, and which one a reference to the class finds;
 // whether it inherits the method; and how many keys it has.
@@ -149,24 +147,17 @@ const ROWS: &[Row] = &[
     },
 ];
 
-fn rows(alloc: Global) -> Result<Vec<sides::Row>, AllocError> {
-    let mut rows = Vec::new(alloc);
-    for row in ROWS {
-        rows.push(row.class)?;
+// The rows are named here alone: each function that names a table holds all of it.
+fn rows() -> &'static [Row] {
+    ROWS
+}
+
+fn side(rt: &impl Abort, alloc: Global) -> Table {
+    let mut side = Vec::new(alloc);
+    for row in rows() {
+        side.push(row.class).expect(rt, "memory");
     }
-    Ok(rows)
-}
-
-fn side(rt: &impl Abort, alloc: Global) -> Result<Table, Fail> {
-    let rows = rows(alloc)?;
-    table(rt, alloc, rows.as_slice())
-}
-
-fn key(alloc: Global, name: &[u8]) -> Result<Key, AllocError> {
-    Ok(Key {
-        name: Name::from_bytes(alloc, name)?,
-        descriptor: Name::from_bytes(alloc, b"()V")?,
-    })
+    table(rt, alloc, side.as_slice())
 }
 
 // The number of the class whose method is found.
@@ -197,43 +188,32 @@ fn found(table: &Table, class: ClassId, key: &Key) -> Option<Found>
     }
 }
 
-fn key_count(alloc: Global, table: &Table, class: ClassId) -> Result<usize, AllocError>
+// Whether all calls answer for the class of the row as it says.
+fn agrees(table: &Table, class: ClassId, key: &Key, row: &Row) -> bool
     requires class { class < size table.now }
     requires loads { load_fault table.now (name_at table.now class) ≡ None }
 {
-    let keys = method_keys(alloc, table, class)?;
-    Ok(keys.len())
+    owner(find_in_chain(table, class, key)) == number(table, row.chain)
+        && owner(found(table, class, key)) == number(table, row.found)
+        && inherits_instance(table, class, key) == row.inherits
 }
 
-// Whether all calls answer for the class of the row as it says.
-fn agrees(
-    rt: &impl Abort,
-    alloc: Global,
-    table: &Table,
-    row: &Row,
-    key: &Key,
-) -> Result<bool, AllocError> {
+fn see_row(rt: &impl Abort, alloc: Global, table: &Table, key: &Key, row: &Row) {
     let class = loaded(rt, table, row.class.name);
-    let keys = key_count(alloc, table, class)?;
-    Ok(
-        owner(find_in_chain(table, class, key)) == number(table, row.chain)
-            && owner(found(table, class, key)) == number(table, row.found)
-            && inherits_instance(table, class, key) == row.inherits
-            && keys == row.keys,
-    )
+    assert!(rt; agrees(table, class, key, row));
+    let keys = method_keys(alloc, table, class).expect(rt, "memory");
+    assert_eq!(rt; keys.len(), row.keys);
 }
 
-fn see_rows(rt: &impl Abort, alloc: Global, table: &Table) -> Result<(), Fail> {
-    let key = key(alloc, b"m")?;
-    for row in ROWS {
-        let agrees = agrees(rt, alloc, table, row, &key)?;
-        assert!(rt; agrees);
+fn see_rows(rt: &impl Abort, alloc: Global, table: &Table, key: &Key) {
+    for row in rows() {
+        see_row(rt, alloc, table, key, row);
     }
-    Ok(())
 }
 
 #[test]
-fn lookups_of_a_method(rt: HostRuntime) -> Result<(), Fail> {
-    let table = side(&rt, rt.alloc())?;
-    see_rows(&rt, rt.alloc(), &table)
+fn lookups_of_a_method(rt: HostRuntime) {
+    let alloc = rt.alloc();
+    let table = side(&rt, alloc);
+    see_rows(&rt, alloc, &table, &key(&rt, alloc, b"m", b"()V"));
 }

@@ -1,13 +1,11 @@
 //! The rows of a class one of whose methods moved to its superclass, as the table of each release lends them.
-use crate::sides::{Declared, PLAIN, Row, table};
-use jc_base::name::Name;
+use crate::sides::{Declared, PLAIN, Row, key, table};
 use jc_facts::key::Key;
 use jc_table::ids::Found;
 use jc_table::row::RowItem;
 use jc_table::table::Table;
-use std::alloc::{AllocError, Global};
+use std::alloc::Global;
 use std::process::Abort;
-use std::test::Fail;
 
 const INIT: Declared = (b"<init>", b"()V", 0x0001);
 
@@ -41,13 +39,6 @@ const NEW: &[Row] = &[
     },
     BELOW,
 ];
-
-fn key(alloc: Global, name: &[u8]) -> Result<Key, AllocError> {
-    Ok(Key {
-        name: Name::from_bytes(alloc, name)?,
-        descriptor: Name::from_bytes(alloc, b"()V")?,
-    })
-}
 
 // Whether the number of the key is that of no other.
 fn is_numbered(table: &Table, key: &Key) -> bool {
@@ -113,21 +104,18 @@ fn is_told(table: &Table, init: &Key, moved: &Key, owner: &[u8]) -> bool {
     all_load(table) && has_keys(table, init, moved) && has_methods(table, init, moved, owner)
 }
 
-fn see_owner(rt: &impl Abort, alloc: Global, table: &Table, owner: &[u8]) -> Result<(), Fail> {
-    let init = key(alloc, b"<init>")?;
-    let moved = key(alloc, b"m")?;
+fn see_owner(rt: &impl Abort, alloc: Global, table: &Table, owner: &[u8]) {
+    let init = key(rt, alloc, b"<init>", b"()V");
+    let moved = key(rt, alloc, b"m", b"()V");
     assert!(rt; is_told(table, &init, &moved, owner));
-    Ok(())
 }
 
 #[test]
-fn a_method_of_its_own(rt: HostRuntime) -> Result<(), Fail> {
-    let table = table(&rt, rt.alloc(), OLD)?;
-    see_owner(&rt, rt.alloc(), &table, b"p/A")
+fn a_method_of_its_own(rt: HostRuntime) {
+    see_owner(&rt, rt.alloc(), &table(&rt, rt.alloc(), OLD), b"p/A");
 }
 
 #[test]
-fn the_method_moved_to_the_superclass(rt: HostRuntime) -> Result<(), Fail> {
-    let table = table(&rt, rt.alloc(), NEW)?;
-    see_owner(&rt, rt.alloc(), &table, b"p/B")
+fn the_method_moved_to_the_superclass(rt: HostRuntime) {
+    see_owner(&rt, rt.alloc(), &table(&rt, rt.alloc(), NEW), b"p/B");
 }

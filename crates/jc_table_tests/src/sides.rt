@@ -1,58 +1,53 @@
-//! Tables of sides of classes made from rows.
+//! Tables of sides of classes made from rows, and the names and keys that they are asked for.
 ghost use Rattle.std.specs.Prelude.{◌≡◌, ◌<◌, None};
 ghost use Rattle.jc_facts.specs.world.World.{size};
 ghost use Rattle.jc_facts.specs.world.Loading.{load_fault};
 ghost use Rattle.jc_table.specs.Ids.{name_at};
 
-pub use crate::rows::{
-    Declared, INTERFACE, Names, OBJECT, PLAIN, PUBLIC, ROOT, Row, class, classes,
-};
+pub use crate::rows::{Declared, INTERFACE, OBJECT, PLAIN, ROOT, Row, class, classes};
+use jc_base::name::Name;
 use jc_facts::class_facts::ClassFacts;
+use jc_facts::key::Key;
 use jc_table::ids::ClassId;
 use jc_table::plain::{are_valid, names_differ};
 use jc_table::table::{Table, TableError};
-use std::alloc::{AllocError, Global};
+use std::alloc::Global;
 use std::process::Abort;
-use std::test::Fail;
 
-/// A platform of `java/lang/Object` alone.
-pub(crate) fn platform(alloc: Global) -> Result<Vec<ClassFacts>, AllocError> {
-    classes(alloc, &[ROOT])
+/// The records of rows.
+pub(crate) fn made(rt: &impl Abort, alloc: Global, rows: &[Row]) -> Vec<ClassFacts> {
+    classes(alloc, rows).expect(rt, "memory")
 }
 
 /// The answer of `Table::build`, whose conditions are seen to first.
 pub(crate) fn build(
     rt: &impl Abort,
     alloc: Global,
-    platform: &[ClassFacts],
-    release: Vec<ClassFacts>,
-) -> Result<Result<Table, TableError>, AllocError> {
-    let valid = are_valid(alloc, platform)? && are_valid(alloc, release.as_slice())?;
-    assert!(rt; valid);
-    assert!(rt; names_differ(platform) && names_differ(release.as_slice()));
+    platform: &[Row],
+    release: &[Row],
+) -> Result<Table, TableError> {
+    let platform = made(rt, alloc, platform);
+    let release = made(rt, alloc, release);
+    assert!(rt; are_valid(alloc, platform.as_slice()).expect(rt, "memory"));
+    assert!(rt; are_valid(alloc, release.as_slice()).expect(rt, "memory"));
+    assert!(rt; names_differ(platform.as_slice()) && names_differ(release.as_slice()));
     assert!(rt; platform.len() <= 60_000 && release.len() <= 60_000);
-    Ok(Table::build(alloc, platform, release))
+    Table::build(alloc, platform.as_slice(), release)
 }
 
 /// The table of a release over a platform.
 pub(crate) fn table_over(
     rt: &impl Abort,
     alloc: Global,
-    platform: &[ClassFacts],
-    release: Vec<ClassFacts>,
-) -> Result<Table, Fail> {
-    match build(rt, alloc, platform, release)? {
-        Ok(table) => Ok(table),
-        Err(_) => Err(Fail::new("no table")),
-    }
+    platform: &[Row],
+    release: &[Row],
+) -> Table {
+    build(rt, alloc, platform, release).expect(rt, "a table")
 }
 
-/// The table of a release over a platform of `java/lang/Object` alone. A test hands it to another
-/// function at once: what owns a table and does more takes long to prove.
-pub(crate) fn table(rt: &impl Abort, alloc: Global, rows: &[Row]) -> Result<Table, Fail> {
-    let platform = platform(alloc)?;
-    let release = classes(alloc, rows)?;
-    table_over(rt, alloc, platform.as_slice(), release)
+/// The table of a release over a platform of `java/lang/Object` alone.
+pub(crate) fn table(rt: &impl Abort, alloc: Global, release: &[Row]) -> Table {
+    table_over(rt, alloc, &[ROOT], release)
 }
 
 /// The class of this name, which the table has.
@@ -70,4 +65,15 @@ pub(crate) fn loaded(rt: &impl Abort, table: &Table, name: &[u8]) -> ClassId
     let class = class_of(rt, table, name);
     assert!(rt; table.fault_at(class).is_none());
     class
+}
+
+pub(crate) fn name(rt: &impl Abort, alloc: Global, text: &[u8]) -> Name {
+    Name::from_bytes(alloc, text).expect(rt, "memory")
+}
+
+pub(crate) fn key(rt: &impl Abort, alloc: Global, text: &[u8], descriptor: &[u8]) -> Key {
+    Key {
+        name: name(rt, alloc, text),
+        descriptor: name(rt, alloc, descriptor),
+    }
 }

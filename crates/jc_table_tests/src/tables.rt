@@ -1,15 +1,13 @@
 //! Tables of small sides: a plain `p/A` over a platform of `java/lang/Object` alone, roots that aren't as they have to be, and classes on a cycle.
-use crate::sides::{INTERFACE, PLAIN, ROOT, Row, build, class, class_of, classes, platform, table};
-use jc_base::name::Name;
+use crate::sides::{INTERFACE, PLAIN, ROOT, Row, build, class_of, made, name, table};
 use jc_facts::class_facts::ClassFacts;
 use jc_facts::key_set::KeyRef;
 use jc_table::members::own_field;
 use jc_table::plain::find;
 use jc_table::root::{RootPart, root_fault};
 use jc_table::table::{Table, TableError};
-use std::alloc::{AllocError, Global};
+use std::alloc::Global;
 use std::process::Abort;
-use std::test::Fail;
 
 const A: Row = Row {
     name: b"p/A",
@@ -33,10 +31,8 @@ fn see_plain_class(rt: &impl Abort, table: &Table) {
 }
 
 #[test]
-fn plain_class_over_a_platform(rt: HostRuntime) -> Result<(), Fail> {
-    let table = table(&rt, rt.alloc(), &[A])?;
-    see_plain_class(&rt, &table);
-    Ok(())
+fn plain_class_over_a_platform(rt: HostRuntime) {
+    see_plain_class(&rt, &table(&rt, rt.alloc(), &[A]));
 }
 
 // Whether the name is declared twice.
@@ -54,29 +50,16 @@ fn is_without_root(built: &Result<Table, TableError>) -> bool {
     }
 }
 
-// What is built of a root as the release over this platform.
-fn build_root(
-    rt: &impl Abort,
-    alloc: Global,
-    over: &[ClassFacts],
-) -> Result<Result<Table, TableError>, AllocError> {
-    let release = platform(alloc)?;
-    build(rt, alloc, over, release)
-}
-
 #[test]
-fn a_release_with_a_class_of_the_platform(rt: HostRuntime) -> Result<(), Fail> {
-    let root = platform(rt.alloc())?;
-    let built = build_root(&rt, rt.alloc(), root.as_slice())?;
+fn a_release_with_a_class_of_the_platform(rt: HostRuntime) {
+    let built = build(&rt, rt.alloc(), &[ROOT], &[ROOT]);
     assert!(rt; is_overlap(&built, b"java/lang/Object"));
-    Ok(())
 }
 
 #[test]
-fn a_platform_without_a_root(rt: HostRuntime) -> Result<(), Fail> {
-    let built = build_root(&rt, rt.alloc(), &[])?;
+fn a_platform_without_a_root(rt: HostRuntime) {
+    let built = build(&rt, rt.alloc(), &[], &[ROOT]);
     assert!(rt; is_without_root(&built));
-    Ok(())
 }
 
 // A `java/lang/Object`, and the part of it that isn't as it has to be.
@@ -152,19 +135,13 @@ const ROOTS: &[(Row, Option<RootPart>)] = &[
     ),
 ];
 
-fn root_part(alloc: Global, row: &Row) -> Result<Option<RootPart>, AllocError> {
-    let root = class(alloc, row)?;
-    Ok(root_fault(&[root]))
-}
-
 #[test]
-fn each_part_of_a_root(rt: HostRuntime) -> Result<(), Fail> {
+fn each_part_of_a_root(rt: HostRuntime) {
     assert_eq!(rt; root_fault(&[]), Some(RootPart::Missing));
     for (row, part) in ROOTS {
-        let found = root_part(rt.alloc(), row)?;
-        assert_eq!(rt; found, *part);
+        let root = made(&rt, rt.alloc(), &[*row]);
+        assert_eq!(rt; root_fault(root.as_slice()), *part);
     }
-    Ok(())
 }
 
 // `p/A` and `p/B` extend each other, `p/C` itself, and `p/E` what isn't there.
@@ -244,33 +221,20 @@ fn see_cycles(rt: &impl Abort, table: &Table) {
     }
 }
 
-fn see_same(
-    rt: &impl Abort,
-    alloc: Global,
-    table: &Table,
-    platform: &[ClassFacts],
-) -> Result<(), Fail> {
-    let release = classes(alloc, CYCLES)?;
+fn see_same(rt: &impl Abort, table: &Table, platform: &[ClassFacts], release: &[ClassFacts]) {
     for name in SOUGHT {
-        assert!(rt; finds_the_same(table, platform, release.as_slice(), name));
+        assert!(rt; finds_the_same(table, platform, release, name));
     }
-    Ok(())
-}
-
-fn see_sought(rt: &impl Abort, alloc: Global, table: &Table) -> Result<(), Fail> {
-    let platform = platform(alloc)?;
-    see_same(rt, alloc, table, platform.as_slice())
-}
-
-fn cycles(rt: &impl Abort, alloc: Global) -> Result<Table, Fail> {
-    table(rt, alloc, CYCLES)
 }
 
 #[test]
-fn classes_on_a_cycle(rt: HostRuntime) -> Result<(), Fail> {
-    let table = cycles(&rt, rt.alloc())?;
+fn classes_on_a_cycle(rt: HostRuntime) {
+    let alloc = rt.alloc();
+    let table = table(&rt, alloc, CYCLES);
     see_cycles(&rt, &table);
-    see_sought(&rt, rt.alloc(), &table)
+    let platform = made(&rt, alloc, &[ROOT]);
+    let release = made(&rt, alloc, CYCLES);
+    see_same(&rt, &table, platform.as_slice(), release.as_slice());
 }
 
 // `p/J` extends the interface `p/I`, which declares the field `f`, the class `p/S` implements `p/J` and permits `q/T` to extend
@@ -317,37 +281,34 @@ fn see_own_fields(rt: &impl Abort, table: &Table) {
     assert!(rt; own_field(table.facts(lower), &key).is_none());
 }
 
-fn names_super(alloc: Global, table: &Table, name: &[u8]) -> Result<bool, AllocError> {
-    let name = Name::from_bytes(alloc, name)?;
-    Ok(table.names_super(&name))
+fn names_super(rt: &impl Abort, alloc: Global, table: &Table, text: &[u8]) -> bool {
+    table.names_super(&name(rt, alloc, text))
 }
 
-fn see_names(rt: &impl Abort, alloc: Global, table: &Table) -> Result<(), Fail> {
+fn see_names(rt: &impl Abort, table: &Table) {
     assert!(rt; table.has_package(b"p") && table.has_package(b"java/lang"));
     assert!(rt; !table.has_package(b"q"));
     assert!(rt; table.begins(b"q/") && table.begins(b"p/J"));
     assert!(rt; !table.begins(b"p/K") && !table.begins(b"q/TT"));
     assert_eq!(rt; table.mention_count(), 10);
-    let above = names_super(alloc, table, b"p/J")?;
-    let permitted = names_super(alloc, table, b"q/T")?;
-    assert!(rt; above && !permitted);
-    Ok(())
 }
 
-fn sealed(rt: &impl Abort, alloc: Global) -> Result<Table, Fail> {
+fn sealed(rt: &impl Abort, alloc: Global) -> Table {
     table(rt, alloc, SEALED)
 }
 
 #[test]
-fn interfaces_and_fields_of_a_side(rt: HostRuntime) -> Result<(), Fail> {
-    let table = sealed(&rt, rt.alloc())?;
+fn interfaces_and_fields_of_a_side(rt: HostRuntime) {
+    let table = sealed(&rt, rt.alloc());
     see_interfaces(&rt, &table);
     see_own_fields(&rt, &table);
-    Ok(())
 }
 
 #[test]
-fn names_of_a_side(rt: HostRuntime) -> Result<(), Fail> {
-    let table = sealed(&rt, rt.alloc())?;
-    see_names(&rt, rt.alloc(), &table)
+fn names_of_a_side(rt: HostRuntime) {
+    let alloc = rt.alloc();
+    let table = sealed(&rt, alloc);
+    see_names(&rt, &table);
+    assert!(rt; names_super(&rt, alloc, &table, b"p/J"));
+    assert!(rt; !names_super(&rt, alloc, &table, b"q/T"));
 }

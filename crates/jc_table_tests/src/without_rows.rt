@@ -1,15 +1,13 @@
 //! Classes of the platform that stand above no class of a release: no rows are made of them, and lookups from them walk.
 use crate::agreeing::{same_field, same_method};
-use crate::sides::{Declared, INTERFACE, PLAIN, ROOT, Row, classes, loaded, table_over};
-use jc_base::name::Name;
+use crate::sides::{Declared, INTERFACE, PLAIN, ROOT, Row, key, loaded, table_over};
 use jc_facts::key::Key;
 use jc_field::find::find_field;
 use jc_field::keys::found_field_keys;
 use jc_method::keys::found_method_keys;
 use jc_table::table::Table;
-use std::alloc::{AllocError, Global};
+use std::alloc::Global;
 use std::process::Abort;
-use std::test::Fail;
 
 const NUMBER: &[u8] = b"I";
 
@@ -70,17 +68,12 @@ const RELEASE: &[Row] = &[Row {
     ..PLAIN
 }];
 
-fn side(rt: &impl Abort, alloc: Global, platform: &[Row]) -> Result<Table, Fail> {
-    let platform = classes(alloc, platform)?;
-    let release = classes(alloc, RELEASE)?;
-    table_over(rt, alloc, platform.as_slice(), release)
+fn side(rt: &impl Abort, alloc: Global, platform: &[Row]) -> Table {
+    table_over(rt, alloc, platform, RELEASE)
 }
 
-fn key(alloc: Global, name: &[u8], descriptor: &[u8]) -> Result<Key, AllocError> {
-    Ok(Key {
-        name: Name::from_bytes(alloc, name)?,
-        descriptor: Name::from_bytes(alloc, descriptor)?,
-    })
+fn with_platform(rt: &impl Abort, alloc: Global) -> Table {
+    side(rt, alloc, PLATFORM)
 }
 
 // A class, and how many entries its rows of fields and of methods have.
@@ -116,68 +109,58 @@ const FIELDS: &[&[u8]] = &[b"c", b"f"];
 
 const METHODS: &[&[u8]] = &[b"<init>", b"d", b"m"];
 
-fn see_fields(rt: &impl Abort, alloc: Global, table: &Table) -> Result<(), Fail> {
-    for name in FIELDS {
-        let key = key(alloc, name, NUMBER)?;
-        for (name, _, _) in LENGTHS {
-            let class = loaded(rt, table, name);
-            assert!(rt; same_field(table, class, &key));
-        }
+fn see_field(rt: &impl Abort, table: &Table, key: &Key) {
+    for (name, _, _) in LENGTHS {
+        assert!(rt; same_field(table, loaded(rt, table, name), key));
     }
-    Ok(())
 }
 
-fn see_methods(rt: &impl Abort, alloc: Global, table: &Table) -> Result<(), Fail> {
-    for name in METHODS {
-        let key = key(alloc, name, ACTION)?;
-        for (name, _, _) in LENGTHS {
-            let class = loaded(rt, table, name);
-            assert!(rt; same_method(table, class, &key));
-        }
+fn see_method(rt: &impl Abort, table: &Table, key: &Key) {
+    for (name, _, _) in LENGTHS {
+        assert!(rt; same_method(table, loaded(rt, table, name), key));
     }
-    Ok(())
 }
 
 // The keys that `q/Other` has, its own and those above it; the constant has no number.
-fn see_keys(rt: &impl Abort, alloc: Global, table: &Table) -> Result<(), Fail> {
+fn see_keys(rt: &impl Abort, alloc: Global, table: &Table, constant: &Key) {
     let class = loaded(rt, table, b"q/Other");
-    let constant = key(alloc, b"c", NUMBER)?;
     assert_eq!(rt; table.key_count(), 3);
-    assert_eq!(rt; table.key_number(&constant), None);
+    assert_eq!(rt; table.key_number(constant), None);
     assert_eq!(rt;
-        find_field(table, class, &constant).map(|found| found.owner),
+        find_field(table, class, constant).map(|found| found.owner),
         table.get(b"q/Face")
     );
-    let fields = found_field_keys(alloc, table, class)?;
-    assert!(rt; fields.len() == 2 && fields.as_slice().contains(&constant));
-    let methods = found_method_keys(alloc, table, class)?;
+    let fields = found_field_keys(alloc, table, class).expect(rt, "memory");
+    assert!(rt; fields.len() == 2 && fields.as_slice().contains(constant));
+    let methods = found_method_keys(alloc, table, class).expect(rt, "memory");
     assert_eq!(rt; methods.len(), 3);
-    Ok(())
 }
 
 #[test]
-fn rows_of_the_classes_above_a_release(rt: HostRuntime) -> Result<(), Fail> {
-    let table = side(&rt, rt.alloc(), PLATFORM)?;
-    see_lengths(&rt, &table, LENGTHS);
-    Ok(())
+fn rows_of_the_classes_above_a_release(rt: HostRuntime) {
+    see_lengths(&rt, &with_platform(&rt, rt.alloc()), LENGTHS);
 }
 
 #[test]
-fn rows_of_all_where_the_platform_names_the_release(rt: HostRuntime) -> Result<(), Fail> {
-    let table = side(&rt, rt.alloc(), NAMING)?;
-    see_lengths(&rt, &table, NAMED);
-    Ok(())
+fn rows_of_all_where_the_platform_names_the_release(rt: HostRuntime) {
+    see_lengths(&rt, &side(&rt, rt.alloc(), NAMING), NAMED);
 }
 
 #[test]
-fn lookups_without_rows_find_what_walks_find(rt: HostRuntime) -> Result<(), Fail> {
-    let table = side(&rt, rt.alloc(), PLATFORM)?;
-    see_fields(&rt, rt.alloc(), &table)?;
-    see_methods(&rt, rt.alloc(), &table)
+fn lookups_without_rows_find_what_walks_find(rt: HostRuntime) {
+    let alloc = rt.alloc();
+    let table = with_platform(&rt, alloc);
+    for name in FIELDS {
+        see_field(&rt, &table, &key(&rt, alloc, name, NUMBER));
+    }
+    for name in METHODS {
+        see_method(&rt, &table, &key(&rt, alloc, name, ACTION));
+    }
 }
 
 #[test]
-fn keys_of_a_class_without_rows(rt: HostRuntime) -> Result<(), Fail> {
-    let table = side(&rt, rt.alloc(), PLATFORM)?;
-    see_keys(&rt, rt.alloc(), &table)
+fn keys_of_a_class_without_rows(rt: HostRuntime) {
+    let alloc = rt.alloc();
+    let table = with_platform(&rt, alloc);
+    see_keys(&rt, alloc, &table, &key(&rt, alloc, b"c", NUMBER));
 }
