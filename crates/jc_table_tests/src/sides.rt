@@ -1,5 +1,8 @@
 //! Tables of sides of classes made from rows, and the names and keys that they are asked for.
-ghost use Rattle.std.specs.Prelude.{◌≡◌, ◌<◌, None};
+ghost use Rattle.std.specs.Prelude.{◌≡◌, ◌≤◌, ◌<◌, length, None, IsTrue};
+ghost use Rattle.std.specs.List.{All};
+ghost use Rattle.jc_facts.specs.client.Clients.{differ_by_name};
+ghost use Rattle.jc_facts.specs.file.Valid.{IsValidClass};
 ghost use Rattle.jc_facts.specs.world.World.{size};
 ghost use Rattle.jc_facts.specs.world.Loading.{load_fault};
 ghost use Rattle.jc_table.specs.Ids.{name_at};
@@ -19,19 +22,27 @@ pub(crate) fn made(rt: &impl Abort, alloc: Global, rows: &[Row]) -> Vec<ClassFac
     classes(alloc, rows).expect(rt, "memory")
 }
 
-/// The answer of `Table::build`, whose conditions are seen to first.
+/// The same of rows whose records are valid, with names that differ.
+pub(crate) fn valid(rt: &impl Abort, alloc: Global, rows: &[Row]) -> Vec<ClassFacts>
+    ensures valid { All IsValidClass result.items }
+    ensures differ { IsTrue (differ_by_name result.items) }
+    ensures few { length result.items ≤ 40000 }
+{
+    let records = made(rt, alloc, rows);
+    assert!(rt; are_valid(alloc, records.as_slice()).expect(rt, "memory"));
+    assert!(rt; names_differ(records.as_slice()) && records.len() <= 40_000);
+    records
+}
+
+/// The answer of `Table::build`.
 pub(crate) fn build(
     rt: &impl Abort,
     alloc: Global,
     platform: &[Row],
     release: &[Row],
 ) -> Result<Table, TableError> {
-    let platform = made(rt, alloc, platform);
-    let release = made(rt, alloc, release);
-    assert!(rt; are_valid(alloc, platform.as_slice()).expect(rt, "memory"));
-    assert!(rt; are_valid(alloc, release.as_slice()).expect(rt, "memory"));
-    assert!(rt; names_differ(platform.as_slice()) && names_differ(release.as_slice()));
-    assert!(rt; platform.len() <= 60_000 && release.len() <= 60_000);
+    let platform = valid(rt, alloc, platform);
+    let release = valid(rt, alloc, release);
     Table::build(alloc, platform.as_slice(), release)
 }
 
