@@ -49,16 +49,20 @@ fn texts(rt: &impl Abort, alloc: Global, words: &[&str]) -> Vec<Text> {
 // Trees of these files, of which the given calls fail.
 fn trees_over(rt: &impl Abort, alloc: Global, files: Vec<MemFile>, failing: &[u64]) -> MemTrees {
     assert!(rt; is_file_list(files.as_slice()));
-    MemTrees::new(
-        alloc,
-        files,
-        Vec::from_slice(alloc, failing).expect(rt, "memory"),
-    )
+    let failing = Vec::from_slice(alloc, failing).expect(rt, "memory");
+    MemTrees::new(alloc, files, failing)
 }
 
-// Trees of the files of these lines, of which the given calls fail.
-fn trees_of(rt: &impl Abort, alloc: Global, lines: &[&str], failing: &[u64]) -> MemTrees {
-    trees_over(rt, alloc, files_of(rt, alloc, lines), failing)
+// Trees of the files of these lines.
+fn trees_of(rt: &impl Abort, alloc: Global, lines: &[&str]) -> MemTrees {
+    trees_over(rt, alloc, files_of(rt, alloc, lines), &[])
+}
+
+// The same that don't fail.
+fn sure_trees_of(rt: &impl Abort, alloc: Global, lines: &[&str]) -> SureTrees {
+    let files = files_of(rt, alloc, lines);
+    assert!(rt; is_file_list(files.as_slice()));
+    SureTrees::new(files)
 }
 
 fn sink(rt: &impl Abort, alloc: Global, failing: &[u64]) -> MemSink {
@@ -89,13 +93,16 @@ impl Drop for Ended {
     }
 }
 
+// Whether a run that put these bytes said just this.
+fn is_just(status: u8, out: &[u8], err: &[u8], said: &Said<'_>) -> bool {
+    let (wanted, output, line) = *said;
+    status == wanted && out == output.as_bytes() && err == line.as_bytes()
+}
+
 impl Ended {
     // Whether it said just this.
     fn says(&self, said: &Said<'_>) -> bool {
-        let (status, output, line) = *said;
-        self.status == status
-            && self.out.bytes() == output.as_bytes()
-            && self.err.bytes() == line.as_bytes()
+        is_just(self.status, self.out.bytes(), self.err.bytes(), said)
     }
 }
 
@@ -104,23 +111,16 @@ impl Ended {
 fn run_over<T: Trees>(
     rt: &impl Abort,
     alloc: Global,
-    words: &[&str],
+    words: &[Text],
     trees: &mut T,
     failing: [&[u64]; 3],
 ) -> Ended {
-    let words = texts(rt, alloc, words);
     let mut folder = folder(rt, alloc, failing[0]);
     let mut out = sink(rt, alloc, failing[1]);
     let mut err = sink(rt, alloc, failing[2]);
-    let status = run_with_gates(
-        alloc,
-        words.as_slice(),
-        trees,
-        &mut out,
-        &mut err,
-        &mut folder,
-    )
-    .expect(rt, "memory");
+    let status = run_with_gates(alloc, words, trees, &mut out, &mut err, &mut folder).expect(
+        rt, "memory",
+    );
     Ended {
         status,
         out,
@@ -129,17 +129,15 @@ fn run_over<T: Trees>(
     }
 }
 
-// Whether a run of these words over these trees says just this, where the given calls on the output
-// and on the error stream fail.
+// Whether a run of these words over these trees says just this.
 fn says<T: Trees>(
     rt: &impl Abort,
     alloc: Global,
-    words: &[&str],
+    words: &[Text],
     trees: &mut T,
-    failing: [&[u64]; 2],
     said: &Said<'_>,
 ) -> bool {
-    run_over(rt, alloc, words, trees, [&[], failing[0], failing[1]]).says(said)
+    run_over(rt, alloc, words, trees, [&[], &[], &[]]).says(said)
 }
 
 // The gates of the program.
@@ -157,43 +155,35 @@ fn gates_of_program(rt: &impl Abort, alloc: Global) -> Vec<Box<dyn Gate>> {
     gates
 }
 
-// The same over trees, sinks and a folder that don't fail.
+// The same with sinks and a folder that don't fail.
 fn says_surely(
     rt: &impl Abort,
     alloc: Global,
-    words: &[&str],
-    lines: &[&str],
+    words: &[Text],
+    trees: &mut SureTrees,
     said: &Said<'_>,
 ) -> bool {
-    let words = texts(rt, alloc, words);
-    let files = files_of(rt, alloc, lines);
-    assert!(rt; is_file_list(files.as_slice()));
-    let mut trees = SureTrees::new(files);
+    let gates = gates_of_program(rt, alloc);
     let mut out = SureSink::new(alloc);
     let mut err = SureSink::new(alloc);
     let mut folder = SureFolder::new(alloc);
-    let status = run_surely(
-        alloc,
-        words.as_slice(),
-        &mut trees,
-        &mut out,
-        &mut err,
-        &mut folder,
-        gates_of_program(rt, alloc),
-    );
-    let (wanted, output, line) = *said;
-    status == wanted && out.bytes() == output.as_bytes() && err.bytes() == line.as_bytes()
+    let status = run_surely(alloc, words, trees, &mut out, &mut err, &mut folder, gates);
+    is_just(status, out.bytes(), err.bytes(), said)
 }
 
-// Whether a run of these words over the files of these lines says just this, over either trees.
-fn is_said(
+// Sees that a run of these words over the files of these lines says just this, over either trees.
+fn see(
     rt: &impl Abort,
     alloc: Global,
+    shown: &str,
     words: &[&str],
     lines: &[&str],
     said: &Said<'_>,
-) -> bool {
-    let mut trees = trees_of(rt, alloc, lines, &[]);
-    says(rt, alloc, words, &mut trees, [&[], &[]], said)
-        && says_surely(rt, alloc, words, lines, said)
+) {
+    let words = texts(rt, alloc, words);
+    let words = words.as_slice();
+    let is_said = says(rt, alloc, words, &mut trees_of(rt, alloc, lines), said);
+    assert!(rt; is_said, "{shown}");
+    let is_sure = says_surely(rt, alloc, words, &mut sure_trees_of(rt, alloc, lines), said);
+    assert!(rt; is_sure, "{shown}");
 }

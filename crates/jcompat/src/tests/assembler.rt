@@ -6,50 +6,14 @@ use std::process::Abort;
 
 const OBJECT: &str = "java/lang/Object";
 
-/// A field or a method, and the number that is a field's constant value.
-#[derive(Clone, Copy)]
-struct Member<'a> {
-    flags: u16,
-    name: &'a str,
-    descriptor: &'a str,
-    value: Option<u16>,
-}
-
-/// A class. It has no nest host where the name is empty, and permits all where no names are given.
-pub(crate) struct Class<'a> {
-    major: u16,
-    flags: u16,
-    name: &'a str,
-    superclass: &'a str,
-    interfaces: Vec<&'a str>,
-    fields: Vec<Member<'a>>,
-    methods: Vec<Member<'a>>,
-    permits: Vec<&'a str>,
-    nest_host: &'a str,
-    nest_members: Vec<&'a str>,
-}
-
-// One call at each exit of a function that owns it, where a derived drop is written out.
-impl Drop for Class<'_> {
-    fn drop(self) {
-        let Class {
-            major: _,
-            flags: _,
-            name: _,
-            superclass: _,
-            interfaces: _,
-            fields: _,
-            methods: _,
-            permits: _,
-            nest_host: _,
-            nest_members: _,
-        } = self;
-    }
-}
-
 /// The text before the mark, and the text behind it, or the text and nothing.
 pub(crate) fn cut(text: &str, mark: char) -> (&str, &str) {
     text.split_once(mark).unwrap_or((text, ""))
+}
+
+/// Puts the item behind the others.
+pub(crate) fn put_last<T: Drop>(rt: &impl Abort, items: &mut Vec<T>, item: T) {
+    items.push(item).expect(rt, "memory")
 }
 
 // A number of hexadecimal digits.
@@ -57,110 +21,244 @@ fn hex(digits: &str) -> u16 {
     u16::from_str_radix(digits, 16).unwrap_or(0)
 }
 
-// `FLAGS:NAME:DESCRIPTOR` or, with a constant value, `FLAGS:NAME:DESCRIPTOR:VALUE`.
-fn member_of(text: &str) -> Member<'_> {
-    let (flags, rest) = cut(text, ':');
-    let (name, typed) = cut(rest, ':');
-    let (descriptor, value) = cut(typed, ':');
-    Member {
-        flags: hex(flags),
-        name,
-        descriptor,
-        value: value.parse().ok(),
+// The value of a word `KEY=VALUE` of this key. `init` is a method, a public constructor without
+// parameters.
+fn value_of<'a>(word: &'a str, key: &str) -> Option<&'a str> {
+    let (found, value) = cut(word, '=');
+    if found == key {
+        Some(value)
+    } else if found == "init" && key == "method" {
+        Some("1:<init>:()V")
+    } else {
+        None
     }
 }
 
-impl<'a> Class<'a> {
-    /// `public class NAME`, without a constructor.
-    pub(crate) fn new(alloc: Global, name: &'a str) -> Class<'a> {
-        Class {
-            major: 52,
-            flags: 0x21,
-            name,
-            superclass: if name == OBJECT { "" } else { OBJECT },
-            interfaces: Vec::new(alloc),
-            fields: Vec::new(alloc),
-            methods: Vec::new(alloc),
-            permits: Vec::new(alloc),
-            nest_host: "",
-            nest_members: Vec::new(alloc),
+// The values of the words of this key.
+fn values<'a>(rt: &impl Abort, alloc: Global, words: &'a str, key: &str) -> Vec<&'a str> {
+    let mut values = Vec::new(alloc);
+    for word in words.split_whitespace() {
+        if let Some(value) = value_of(word, key) {
+            put_last(rt, &mut values, value);
         }
     }
+    values
+}
 
-    /// A class of this name, and what the words say of it: `init` is a public constructor without
-    /// parameters, `flags=21` its flags, `method=1:m:()V` a method, and so on.
-    pub(crate) fn from_words(
-        rt: &impl Abort,
-        alloc: Global,
-        name: &'a str,
-        words: &'a str,
-    ) -> Class<'a> {
-        let mut class = Class::new(alloc, name);
-        for word in words.split_whitespace() {
-            class.take(rt, word);
-        }
-        class
-    }
-
-    // Takes a word. One that says nothing spoils the class file.
-    fn take(&mut self, rt: &impl Abort, word: &'a str) {
-        let (key, value) = cut(word, '=');
-        match key {
-            "init" => put_last(rt, &mut self.methods, member_of("1:<init>:()V")),
-            "method" => put_last(rt, &mut self.methods, member_of(value)),
-            "field" => put_last(rt, &mut self.fields, member_of(value)),
-            "implements" => put_last(rt, &mut self.interfaces, value),
-            "permits" => put_last(rt, &mut self.permits, value),
-            "nest_member" => put_last(rt, &mut self.nest_members, value),
-            _ => self.set(key, value),
+// The first of them, or what stands for it where there is none.
+fn value_or<'a>(words: &'a str, key: &str, other: &'a str) -> &'a str {
+    for word in words.split_whitespace() {
+        if let Some(value) = value_of(word, key) {
+            return value;
         }
     }
+    other
+}
 
-    fn set(&mut self, key: &str, value: &'a str) {
-        match key {
-            "flags" => self.flags = hex(value),
-            "extends" => self.superclass = value,
-            "nest_host" => self.nest_host = value,
-            "sealed" => self.major = 61,
-            _ => self.major = 0,
-        }
+// Whether the word says something of a class.
+fn is_known(word: &str) -> bool {
+    matches!(
+        cut(word, '=').0,
+        "init"
+            | "method"
+            | "field"
+            | "implements"
+            | "permits"
+            | "nest_member"
+            | "nest_host"
+            | "flags"
+            | "extends"
+            | "sealed"
+    )
+}
+
+fn push(rt: &impl Abort, bytes: &mut Vec<u8>, more: &[u8]) {
+    bytes.extend_from_slice(more).expect(rt, "memory")
+}
+
+fn push_number(rt: &impl Abort, bytes: &mut Vec<u8>, number: u16) {
+    push(rt, bytes, &number.to_be_bytes())
+}
+
+// How many there are.
+fn count<T>(items: &[T]) -> u16 {
+    items.len().min(65_535) as u16
+}
+
+/// A class file that is made: its constant pool (JVMS 4.4), and what stands behind it.
+struct ClassFile {
+    pool: Vec<u8>,
+    // The index of the pool's next entry.
+    next: u16,
+    body: Vec<u8>,
+}
+
+// One call at each exit of a function that owns it, where a derived drop is written out.
+impl Drop for ClassFile {
+    fn drop(self) {
+        let ClassFile {
+            pool: _,
+            next: _,
+            body: _,
+        } = self;
     }
+}
 
-    /// Gives it this superclass.
-    pub(crate) fn extend(&mut self, superclass: &'a str) {
-        self.superclass = superclass;
-    }
-
-    /// Its file, at its place below a root.
-    pub(crate) fn file(&self, rt: &impl Abort, alloc: Global, root: &str) -> MemFile {
-        let path = format!(in alloc; "{}.class", self.name).expect(rt, "memory");
-        file(rt, alloc, root, path.as_str(), self.bytes(rt, alloc))
-    }
-
-    /// Its class file (JVMS 4.1).
-    pub(crate) fn bytes(&self, rt: &impl Abort, alloc: Global) -> Vec<u8> {
-        let mut pool = Pool {
-            bytes: Vec::new(alloc),
+impl ClassFile {
+    fn new(alloc: Global) -> ClassFile {
+        ClassFile {
+            pool: Vec::new(alloc),
             next: 1,
-        };
-        let mut body = Vec::new(alloc);
-        push_number(rt, &mut body, self.flags);
-        let name = pool.class(rt, self.name);
-        push_number(rt, &mut body, name);
-        let superclass = pool.class(rt, self.superclass);
-        push_number(rt, &mut body, superclass);
-        pool.push_classes(rt, &mut body, self.interfaces.as_slice());
-        pool.push_members(rt, &mut body, self.fields.as_slice());
-        pool.push_members(rt, &mut body, self.methods.as_slice());
-        pool.push_attributes(rt, &mut body, self);
-        let mut file = Vec::new(alloc);
-        push(rt, &mut file, b"\xca\xfe\xba\xbe\0\0");
-        push_number(rt, &mut file, self.major);
-        push_number(rt, &mut file, pool.next);
-        push(rt, &mut file, pool.bytes.as_slice());
-        push(rt, &mut file, body.as_slice());
-        file
+            body: Vec::new(alloc),
+        }
     }
+
+    fn put(&mut self, rt: &impl Abort, number: u16) {
+        push_number(rt, &mut self.body, number)
+    }
+
+    // The index of the entry that was begun.
+    fn end(&mut self) -> u16 {
+        let index = self.next;
+        self.next = index.saturating_add(1);
+        index
+    }
+
+    // Adds a text, and gives its index.
+    fn text(&mut self, rt: &impl Abort, text: &str) -> u16 {
+        push(rt, &mut self.pool, &[1]);
+        push_number(rt, &mut self.pool, count(text.as_bytes()));
+        push(rt, &mut self.pool, text.as_bytes());
+        self.end()
+    }
+
+    fn put_text(&mut self, rt: &impl Abort, text: &str) {
+        let index = self.text(rt, text);
+        self.put(rt, index)
+    }
+
+    // Puts the index of a class, 0 for no name.
+    fn put_class(&mut self, rt: &impl Abort, name: &str) {
+        if name.is_empty() {
+            return self.put(rt, 0);
+        }
+        let text = self.text(rt, name);
+        push(rt, &mut self.pool, &[7]);
+        push_number(rt, &mut self.pool, text);
+        let index = self.end();
+        self.put(rt, index)
+    }
+
+    // Puts the count and the indices of classes.
+    fn put_classes(&mut self, rt: &impl Abort, names: &[&str]) {
+        self.put(rt, count(names));
+        for name in names {
+            self.put_class(rt, name);
+        }
+    }
+
+    // Begins an attribute of so many bytes (JVMS 4.7).
+    fn put_attribute(&mut self, rt: &impl Abort, name: &str, len: u16) {
+        self.put_text(rt, name);
+        self.put(rt, 0);
+        self.put(rt, len)
+    }
+
+    // Puts the attributes of a member: its constant value, where it has one.
+    fn put_value(&mut self, rt: &impl Abort, value: &str) {
+        let Ok(number) = value.parse() else {
+            return self.put(rt, 0);
+        };
+        self.put(rt, 1);
+        self.put_attribute(rt, "ConstantValue", 2);
+        push(rt, &mut self.pool, b"\x03\0\0");
+        push_number(rt, &mut self.pool, number);
+        let index = self.end();
+        self.put(rt, index)
+    }
+
+    // Puts the member `FLAGS:NAME:DESCRIPTOR` or, with a constant value, `FLAGS:NAME:DESCRIPTOR:VALUE`.
+    fn put_member(&mut self, rt: &impl Abort, member: &str) {
+        let (flags, rest) = cut(member, ':');
+        let (name, typed) = cut(rest, ':');
+        let (descriptor, value) = cut(typed, ':');
+        self.put(rt, hex(flags));
+        self.put_text(rt, name);
+        self.put_text(rt, descriptor);
+        self.put_value(rt, value)
+    }
+
+    // Puts the count of members, and each.
+    fn put_members(&mut self, rt: &impl Abort, members: &[&str]) {
+        self.put(rt, count(members));
+        for member in members {
+            self.put_member(rt, member);
+        }
+    }
+
+    // Puts an attribute that lists classes, where there are any.
+    fn put_list(&mut self, rt: &impl Abort, name: &str, names: &[&str]) {
+        if !names.is_empty() {
+            let len = count(names).saturating_mul(2).saturating_add(2);
+            self.put_attribute(rt, name, len);
+            self.put_classes(rt, names);
+        }
+    }
+
+    fn put_host(&mut self, rt: &impl Abort, host: &str) {
+        if !host.is_empty() {
+            self.put_attribute(rt, "NestHost", 2);
+            self.put_class(rt, host);
+        }
+    }
+
+    // Puts the attributes of a class: its nest host, its nest members, and the names that it permits.
+    fn put_attributes(&mut self, rt: &impl Abort, host: &str, members: &[&str], permits: &[&str]) {
+        let nest = u16::from(!host.is_empty()).saturating_add(u16::from(!members.is_empty()));
+        self.put(rt, nest.saturating_add(u16::from(!permits.is_empty())));
+        self.put_host(rt, host);
+        self.put_list(rt, "NestMembers", members);
+        self.put_list(rt, "PermittedSubclasses", permits)
+    }
+
+    // Its bytes.
+    fn bytes(&self, rt: &impl Abort, alloc: Global, major: u16) -> Vec<u8> {
+        let mut bytes = Vec::new(alloc);
+        push(rt, &mut bytes, b"\xca\xfe\xba\xbe\0\0");
+        push_number(rt, &mut bytes, major);
+        push_number(rt, &mut bytes, self.next);
+        push(rt, &mut bytes, self.pool.as_slice());
+        push(rt, &mut bytes, self.body.as_slice());
+        bytes
+    }
+}
+
+// The superclass of a class of which nothing is said of one.
+fn plain_superclass(name: &str) -> &str {
+    if name == OBJECT { "" } else { OBJECT }
+}
+
+// The class file of a text `NAME WORDS..`: a public class of this name, without a constructor, and
+// what the words say of it, as `init`, `flags=21`, `method=1:m:()V`, `sealed` for the version that has
+// seals, and so on.
+fn class_bytes(rt: &impl Abort, alloc: Global, text: &str) -> Vec<u8> {
+    let (name, words) = cut(text, ' ');
+    assert!(rt; words.split_whitespace().all(is_known));
+    let mut file = ClassFile::new(alloc);
+    file.put(rt, hex(value_or(words, "flags", "21")));
+    file.put_class(rt, name);
+    file.put_class(rt, value_or(words, "extends", plain_superclass(name)));
+    file.put_classes(rt, values(rt, alloc, words, "implements").as_slice());
+    file.put_members(rt, values(rt, alloc, words, "field").as_slice());
+    file.put_members(rt, values(rt, alloc, words, "method").as_slice());
+    file.put_attributes(
+        rt,
+        value_or(words, "nest_host", ""),
+        values(rt, alloc, words, "nest_member").as_slice(),
+        values(rt, alloc, words, "permits").as_slice(),
+    );
+    let is_sealed = value_or(words, "sealed", "no").is_empty();
+    file.bytes(rt, alloc, if is_sealed { 61 } else { 52 })
 }
 
 /// A file of a tree.
@@ -187,6 +285,11 @@ fn bytes_of(rt: &impl Abort, alloc: Global, words: &str) -> Vec<u8> {
     bytes
 }
 
+// The path of the class file of a class of this name.
+fn path_of(rt: &impl Abort, alloc: Global, name: &str) -> String {
+    format!(in alloc; "{name}.class").expect(rt, "memory")
+}
+
 /// The file of a line: `ROOT NAME WORDS..` of a class at its place, `ROOT at PATH NAME WORDS..` of one
 /// at another, or `ROOT bytes PATH HEX..`.
 pub(crate) fn file_of(rt: &impl Abort, alloc: Global, line: &str) -> MemFile {
@@ -195,17 +298,11 @@ pub(crate) fn file_of(rt: &impl Abort, alloc: Global, line: &str) -> MemFile {
     let (path, content) = cut(words, ' ');
     match name {
         "bytes" => file(rt, alloc, root, path, bytes_of(rt, alloc, content)),
-        "at" => {
-            let (name, words) = cut(content, ' ');
-            file(
-                rt,
-                alloc,
-                root,
-                path,
-                Class::from_words(rt, alloc, name, words).bytes(rt, alloc),
-            )
+        "at" => file(rt, alloc, root, path, class_bytes(rt, alloc, content)),
+        _ => {
+            let path = path_of(rt, alloc, name);
+            file(rt, alloc, root, path.as_str(), class_bytes(rt, alloc, rest))
         }
-        _ => Class::from_words(rt, alloc, name, words).file(rt, alloc, root),
     }
 }
 
@@ -216,141 +313,4 @@ pub(crate) fn files_of(rt: &impl Abort, alloc: Global, lines: &[&str]) -> Vec<Me
         put_last(rt, &mut files, file_of(rt, alloc, line));
     }
     files
-}
-
-/// Puts the item behind the others.
-pub(crate) fn put_last<T: Drop>(rt: &impl Abort, items: &mut Vec<T>, item: T) {
-    items.push(item).expect(rt, "memory")
-}
-
-/// A constant pool that is made (JVMS 4.4).
-#[derive(Drop)]
-struct Pool {
-    bytes: Vec<u8>,
-    // The index of the next entry.
-    next: u16,
-}
-
-fn push(rt: &impl Abort, bytes: &mut Vec<u8>, more: &[u8]) {
-    bytes.extend_from_slice(more).expect(rt, "memory")
-}
-
-fn push_number(rt: &impl Abort, bytes: &mut Vec<u8>, number: u16) {
-    push(rt, bytes, &number.to_be_bytes())
-}
-
-// How many there are.
-fn count<T>(items: &[T]) -> u16 {
-    items.len().min(65_535) as u16
-}
-
-impl Pool {
-    // The index of the entry that was begun.
-    fn end(&mut self) -> u16 {
-        let index = self.next;
-        self.next = index.saturating_add(1);
-        index
-    }
-
-    // Adds a text.
-    fn text(&mut self, rt: &impl Abort, text: &str) -> u16 {
-        push(rt, &mut self.bytes, &[1]);
-        push_number(rt, &mut self.bytes, count(text.as_bytes()));
-        push(rt, &mut self.bytes, text.as_bytes());
-        self.end()
-    }
-
-    // Adds a class, or gives 0 for no name.
-    fn class(&mut self, rt: &impl Abort, name: &str) -> u16 {
-        if name.is_empty() {
-            return 0;
-        }
-        let text = self.text(rt, name);
-        push(rt, &mut self.bytes, &[7]);
-        push_number(rt, &mut self.bytes, text);
-        self.end()
-    }
-
-    // The count and the indices of classes.
-    fn push_classes(&mut self, rt: &impl Abort, to: &mut Vec<u8>, names: &[&str]) {
-        push_number(rt, to, count(names));
-        for name in names {
-            let index = self.class(rt, name);
-            push_number(rt, to, index);
-        }
-    }
-
-    // Begins an attribute of so many bytes (JVMS 4.7).
-    fn push_attribute(&mut self, rt: &impl Abort, to: &mut Vec<u8>, name: &str, len: u16) {
-        let name = self.text(rt, name);
-        push_number(rt, to, name);
-        push_number(rt, to, 0);
-        push_number(rt, to, len)
-    }
-
-    // The attributes of a member: its constant value, where it has one.
-    fn push_value(&mut self, rt: &impl Abort, to: &mut Vec<u8>, value: Option<u16>) {
-        let Some(value) = value else {
-            return push_number(rt, to, 0);
-        };
-        push_number(rt, to, 1);
-        self.push_attribute(rt, to, "ConstantValue", 2);
-        push(rt, &mut self.bytes, b"\x03\0\0");
-        push_number(rt, &mut self.bytes, value);
-        push_number(rt, to, self.end())
-    }
-
-    // The count of members, and each without attributes but for a constant value.
-    fn push_members(&mut self, rt: &impl Abort, to: &mut Vec<u8>, members: &[Member<'_>]) {
-        push_number(rt, to, count(members));
-        for member in members {
-            push_number(rt, to, member.flags);
-            let index = self.text(rt, member.name);
-            push_number(rt, to, index);
-            let descriptor = self.text(rt, member.descriptor);
-            push_number(rt, to, descriptor);
-            self.push_value(rt, to, member.value);
-        }
-    }
-
-    // An attribute that lists classes.
-    fn push_list(&mut self, rt: &impl Abort, to: &mut Vec<u8>, name: &str, names: &[&str]) {
-        self.push_attribute(
-            rt,
-            to,
-            name,
-            count(names).saturating_mul(2).saturating_add(2),
-        );
-        self.push_classes(rt, to, names)
-    }
-
-    // The attributes of a class: its nest host or its nest members, and the names that it permits.
-    fn push_attributes(&mut self, rt: &impl Abort, to: &mut Vec<u8>, class: &Class<'_>) {
-        push_number(rt, to, attributes_of(class));
-        if !class.nest_host.is_empty() {
-            self.push_attribute(rt, to, "NestHost", 2);
-            let host = self.class(rt, class.nest_host);
-            push_number(rt, to, host);
-        }
-        if !class.nest_members.is_empty() {
-            self.push_list(rt, to, "NestMembers", class.nest_members.as_slice());
-        }
-        if !class.permits.is_empty() {
-            self.push_list(rt, to, "PermittedSubclasses", class.permits.as_slice());
-        }
-    }
-}
-
-// How many attributes the class has.
-fn attributes_of(class: &Class<'_>) -> u16 {
-    let nest: u16 = if class.nest_host.is_empty() && class.nest_members.is_empty() {
-        0
-    } else {
-        1
-    };
-    if class.permits.is_empty() {
-        nest
-    } else {
-        nest.saturating_add(1)
-    }
 }

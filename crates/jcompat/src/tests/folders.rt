@@ -1,67 +1,92 @@
 //! Real folders that take files.
+use super::outside::{
+    Reading, below, new_folder, put_file, put_link, remove, see_readings, see_text,
+};
 use crate::disk_folder::DiskFolder;
 use crate::disk_trees::DiskTrees;
-use crate::tests::outside::new_folder;
-use jc_base::file_buf::FileBuf;
 use jc_base::folder::{Folder, FolderError};
-use jc_base::trees::Trees;
-use std::fs;
-use std::os::unix::fs::symlink;
+use std::process::Abort;
+use std::rt::Files;
 use std::test::Fail;
+
+/// Puts at paths below a root, one after the other, and what is read of them then.
+const PUTS: &[(&str, &str)] = &[
+    ("apart.class", "apart"),
+    ("000001/w0/A.class", "a longer file"),
+    ("000001/w0/A.class", "whole"),
+];
+
+const READINGS: &[Reading] = &[
+    ("000001/w0/A.class", Some("whole")),
+    ("000001/w0/B.class", Some("")),
+    ("apart.class", Some("apart")),
+];
+
+fn put(
+    rt: &(impl Abort + Files + AllocGlobal),
+    folder: &mut DiskFolder<HostRuntime>,
+    root: &str,
+    path: &str,
+    text: &str,
+) {
+    let place = below(rt, root, path);
+    folder
+        .put(place.as_str(), text.as_bytes())
+        .expect(rt, "put");
+}
+
+fn make_puts(
+    rt: &(impl Abort + Files + AllocGlobal),
+    folder: &mut DiskFolder<HostRuntime>,
+    root: &str,
+) {
+    for (path, text) in PUTS {
+        put(rt, folder, root, path, text);
+    }
+    put_link(rt, root, "000001/w0/B.class", "../../apart.class");
+    put(rt, folder, root, "000001/w0/B.class", "");
+}
 
 #[test]
 fn real_folders_take_files(rt: HostRuntime) -> Result<(), Fail> {
-    let alloc = rt.alloc();
     let root = new_folder(&rt, "puts")?;
-    let apart = format!(in alloc; "{root}/apart.class").expect(&rt, "memory");
-    let place = format!(in alloc; "{root}/000001/w0/A.class").expect(&rt, "memory");
-    let linked = format!(in alloc; "{root}/000001/w0/B.class").expect(&rt, "memory");
     let mut folder = DiskFolder::new(rt.clone().expect(&rt, "memory"));
-    for (path, bytes) in [
-        (&apart, "apart"),
-        (&place, "a longer file"),
-        (&place, "whole"),
-    ] {
-        folder
-            .put(path.as_str(), bytes.as_bytes())
-            .expect(&rt, "put");
-    }
-    symlink(&rt, "../../apart.class", linked.as_str()).expect(&rt, "linked");
-    folder.put(linked.as_str(), b"").expect(&rt, "put");
-
+    make_puts(&rt, &mut folder, root.as_str());
     let mut trees = DiskTrees::new(rt.clone().expect(&rt, "memory"));
-    let mut buffer = FileBuf::new(alloc).expect(&rt, "memory");
-    for (path, bytes) in [
-        ("000001/w0/A.class", "whole"),
-        ("000001/w0/B.class", ""),
-        ("apart.class", "apart"),
-    ] {
-        let read = trees.read_into(alloc, root.as_str(), path, 4_194_304, &mut buffer);
-        assert!(rt;
-            read.is_ok() && buffer.as_bytes() == bytes.as_bytes(),
-            "{path}"
-        );
-    }
-    fs::remove_dir_all(&rt, root.as_str())?;
+    see_readings(&rt, &mut trees, root.as_str(), READINGS);
+    remove(&rt, root.as_str());
     Ok(())
+}
+
+fn see_fault(
+    rt: &(impl Abort + Files + AllocGlobal),
+    folder: &mut DiskFolder<HostRuntime>,
+    path: &str,
+) {
+    let put = folder.put(path, b"file");
+    assert!(rt; matches!(put, Err(FolderError::Fault)), "{path}");
+}
+
+fn see_faults(
+    rt: &(impl Abort + Files + AllocGlobal),
+    folder: &mut DiskFolder<HostRuntime>,
+    root: &str,
+) {
+    let name = "a".repeat(rt.alloc(), 300).expect(rt, "memory");
+    see_fault(rt, folder, below(rt, root, "file/A.class").as_str());
+    see_fault(rt, folder, below(rt, root, name.as_str()).as_str());
+    see_fault(rt, folder, root);
+    see_fault(rt, folder, "");
+    see_fault(rt, folder, "/");
 }
 
 #[test]
 fn a_bad_folder_is_a_fault(rt: HostRuntime) -> Result<(), Fail> {
-    let alloc = rt.alloc();
     let root = new_folder(&rt, "bad_folder")?;
-    let file = format!(in alloc; "{root}/file").expect(&rt, "memory");
-    fs::write(&rt, file.as_str(), "here").expect(&rt, "written");
-    let below = format!(in alloc; "{file}/A.class").expect(&rt, "memory");
-    let name = "a".repeat(alloc, 300).expect(&rt, "memory");
-    let long = format!(in alloc; "{root}/{name}").expect(&rt, "memory");
+    put_file(&rt, root.as_str(), "file", b"here");
     let mut folder = DiskFolder::new(rt.clone().expect(&rt, "memory"));
-    for path in [below.as_str(), long.as_str(), root.as_str(), "", "/"] {
-        let put = folder.put(path, b"file");
-        assert!(rt; matches!(put, Err(FolderError::Fault)), "{path}");
-    }
-    let kept = fs::read_to_string(&rt, file.as_str()).expect(&rt, "read");
-    assert!(rt; kept.as_str() == "here");
-    fs::remove_dir_all(&rt, root.as_str())?;
+    see_faults(&rt, &mut folder, root.as_str());
+    see_text(&rt, below(&rt, root.as_str(), "file").as_str(), "here");
+    remove(&rt, root.as_str());
     Ok(())
 }

@@ -2,7 +2,7 @@
 ghost use Rattle.std.specs.Prelude.{refl, codes, nat_eq, if◌then◌else◌};
 
 use super::verdicts::FINALS;
-use super::words::{CAPTURE, CAPTURE_JSON, CAPTURE_TEXT, are_said, typed};
+use super::words::{CAPTURE, CAPTURE_JSON, CAPTURE_TEXT, see_line, typed};
 use super::{Said, folder, sink, texts, trees_of};
 use crate::run::run;
 use jc_gate::gate::Gate;
@@ -98,7 +98,7 @@ const ROWS: &[Row] = &[
 #[test]
 fn gates_are_asked_by_their_names(rt: HostRuntime) {
     for (line, files, said) in ROWS {
-        assert!(rt; are_said(&rt, rt.alloc(), line, files, said), "{line}");
+        see_line(&rt, rt.alloc(), line, files, said);
     }
 }
 
@@ -263,7 +263,7 @@ fn watched_gates(
 fn asking_status(rt: &impl Abort, alloc: Global, asking: &Asking, fate: &Rc<Fate>) -> u8 {
     let words = typed(rt, alloc, asking.line);
     let words = texts(rt, alloc, words.as_slice());
-    let mut trees = trees_of(rt, alloc, FINALS, &[]);
+    let mut trees = trees_of(rt, alloc, FINALS);
     run(
         alloc,
         words.as_slice(),
@@ -275,20 +275,27 @@ fn asking_status(rt: &impl Abort, alloc: Global, asking: &Asking, fate: &Rc<Fate
     )
 }
 
+fn new_fate(rt: &impl Abort, alloc: Global) -> Rc<Fate> {
+    let fate = Fate {
+        seen: Cell::new(0),
+        asked: Cell::new(0),
+        dropped: Cell::new(0),
+    };
+    Rc::new(alloc, fate).expect(rt, "memory")
+}
+
+fn see_asking(rt: &impl Abort, alloc: Global, asking: &Asking) {
+    let fate = new_fate(rt, alloc);
+    let status = asking_status(rt, alloc, asking, &fate);
+    let is_seen = status == asking.status && fate.seen.get() == asking.seen;
+    assert!(rt; is_seen, "{}", asking.shown);
+    let are_counted = fate.asked.get() == asking.asked && fate.dropped.get() == asking.dropped;
+    assert!(rt; are_counted, "{}", asking.shown);
+}
+
 #[test]
 fn gates_see_the_rules_and_are_dropped(rt: HostRuntime) {
-    let alloc = rt.alloc();
     for asking in ASKINGS {
-        let fate = Fate {
-            seen: Cell::new(0),
-            asked: Cell::new(0),
-            dropped: Cell::new(0),
-        };
-        let fate = Rc::new(alloc, fate).expect(&rt, "memory");
-        let status = asking_status(&rt, alloc, asking, &fate);
-        assert_eq!(rt; status, asking.status, "{}", asking.shown);
-        assert_eq!(rt; fate.seen.get(), asking.seen, "{}", asking.shown);
-        assert_eq!(rt; fate.asked.get(), asking.asked, "{}", asking.shown);
-        assert_eq!(rt; fate.dropped.get(), asking.dropped, "{}", asking.shown);
+        see_asking(&rt, rt.alloc(), asking);
     }
 }

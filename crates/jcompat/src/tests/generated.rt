@@ -1,6 +1,6 @@
 //! Generated releases.
 use super::Said;
-use super::words::are_said;
+use super::words::see_line;
 
 /// Words with single spaces, and what is said.
 type Row = (&'static str, Said<'static>);
@@ -42,6 +42,6 @@ const ROWS: &[Row] = &[
 #[test]
 fn releases_of_a_number_of_classes(rt: HostRuntime) {
     for (line, said) in ROWS {
-        assert!(rt; are_said(&rt, rt.alloc(), line, &[], said), "{line}");
+        see_line(&rt, rt.alloc(), line, &[], said);
     }
 }

@@ -208,74 +208,95 @@ const ROWS: &[Row] = &[
     ),
 ];
 
+fn see_failing(rt: &impl Abort, alloc: Global, row: &Row) {
+    let (words, lines, calls, said, held) = row;
+    let ended = run_on(rt, alloc, words, files_of(rt, alloc, lines), *calls);
+    assert!(rt; ended.says(said), "{words} {calls:?}");
+    let is_of_folder = said.0 == 5 && !calls[1].is_empty();
+    let is_left = holds(&ended.folder, WITNESS.files, *held)
+        && ended.folder.faults() == u64::from(is_of_folder);
+    assert!(rt; is_left, "{words} {calls:?}");
+}
+
 #[test]
 fn a_failing_call_ends_a_run(rt: HostRuntime) {
-    let alloc = rt.alloc();
-    for (words, lines, calls, said, held) in ROWS {
-        let files = files_of(&rt, alloc, lines);
-        let ended = run_on(&rt, alloc, words, files, *calls);
-        assert!(rt; ended.says(said), "{words} {calls:?}");
-        assert!(rt;
-            holds(&ended.folder, WITNESS.files, *held),
-            "{words} {calls:?}"
-        );
-        let is_of_folder = said.0 == 5 && !calls[1].is_empty();
-        assert_eq!(rt;
-            ended.folder.faults(),
-            u64::from(is_of_folder),
-            "{words} {calls:?}"
-        );
+    for row in ROWS {
+        see_failing(&rt, rt.alloc(), row);
     }
+}
+
+fn see_check(rt: &impl Abort, alloc: Global, files: Vec<MemFile>, said: &Said<'_>) {
+    let ended = run_on(rt, alloc, CHECK, files, [&[], &[], &[], &[]]);
+    assert!(rt; ended.says(said));
 }
 
 // The file of an interface of this level under the root, which extends both of the level below.
 fn interface(rt: &impl Abort, alloc: Global, root: &str, side: &str, level: u32) -> MemFile {
-    let line = match level.checked_sub(1) {
-        Some(below) => format!(in alloc;
-            "{root} p/{side}{level:02} flags=601 implements=p/A{below:02} implements=p/B{below:02}"
-        ),
-        None => format!(in alloc; "{root} p/{side}00 flags=601"),
-    };
+    let below = level.saturating_sub(1);
+    let line = format!(in alloc;
+        "{root} p/{side}{level} flags=601 implements=p/A{below} implements=p/B{below}"
+    );
     file_of(rt, alloc, line.expect(rt, "memory").as_str())
+}
+
+/// `java/lang/Object`, and the lowest level of a lattice.
+const LOWEST: &[&str] = &[
+    "P java/lang/Object init",
+    "O p/A0 flags=601",
+    "O p/B0 flags=601",
+    "N p/A0 flags=601",
+    "N p/B0 flags=601",
+];
+
+fn put_level(rt: &impl Abort, alloc: Global, files: &mut Vec<MemFile>, level: u32) {
+    put_last(rt, files, interface(rt, alloc, "O", "A", level));
+    put_last(rt, files, interface(rt, alloc, "O", "B", level));
+    put_last(rt, files, interface(rt, alloc, "N", "A", level));
+    put_last(rt, files, interface(rt, alloc, "N", "B", level));
 }
 
 #[test]
 fn a_wide_lattice_of_interfaces(rt: HostRuntime) {
     let alloc = rt.alloc();
-    let mut files = files_of(&rt, alloc, PLATFORM);
-    for level in 0..40 {
-        for (root, side) in [("O", "A"), ("O", "B"), ("N", "A"), ("N", "B")] {
-            put_last(&rt, &mut files, interface(&rt, alloc, root, side, level));
-        }
+    let mut files = files_of(&rt, alloc, LOWEST);
+    for level in 1..40 {
+        put_level(&rt, alloc, &mut files, level);
     }
-    let ended = run_on(&rt, alloc, CHECK, files, [&[], &[], &[], &[]]);
-    assert!(rt; ended.says(&(0, SAME, "")));
+    see_check(&rt, alloc, files, &(0, SAME, ""));
 }
 
-// The file of a class of this number under the root, which extends the one before it where it is to.
-fn heir(rt: &impl Abort, alloc: Global, root: &str, number: u32, extends: bool) -> MemFile {
-    let line = match number.checked_sub(1) {
-        Some(above) if extends => format!(in alloc;
-            "{root} p/C{number:04} extends=p/C{above:04} init"
-        ),
-        _ => format!(in alloc; "{root} p/C{number:04} init"),
-    };
+// The file of a class of this number under the root, which extends the one of the other number.
+fn heir(rt: &impl Abort, alloc: Global, root: &str, number: u32, above: u32) -> MemFile {
+    let line = format!(in alloc; "{root} p/C{number:04} extends=p/C{above:04} init");
     file_of(rt, alloc, line.expect(rt, "memory").as_str())
+}
+
+/// `java/lang/Object`, and the highest class of a chain.
+const HIGHEST: &[&str] = &[
+    "P java/lang/Object init",
+    "O p/C0000 init",
+    "N p/C0000 init",
+];
+
+// Chains of so many classes. In the new release each class extends the one before it, or all the highest one.
+fn chains(rt: &impl Abort, alloc: Global, count: u32, is_long: bool) -> Vec<MemFile> {
+    let mut files = files_of(rt, alloc, HIGHEST);
+    for number in 1..count {
+        let above = number - 1;
+        put_last(rt, &mut files, heir(rt, alloc, "O", number, above));
+        put_last(
+            rt,
+            &mut files,
+            heir(rt, alloc, "N", number, if is_long { above } else { 0 }),
+        );
+    }
+    files
 }
 
 #[test]
 fn a_long_chain_of_classes(rt: HostRuntime) {
     let alloc = rt.alloc();
-    for (count, new_too, said) in [
-        (1_500, false, (7, "", "jcompat: limit findings\n")),
-        (2_000, true, (0, SAME, "")),
-    ] {
-        let mut files = files_of(&rt, alloc, PLATFORM);
-        for number in 0..count {
-            put_last(&rt, &mut files, heir(&rt, alloc, "O", number, true));
-            put_last(&rt, &mut files, heir(&rt, alloc, "N", number, new_too));
-        }
-        let ended = run_on(&rt, alloc, CHECK, files, [&[], &[], &[], &[]]);
-        assert!(rt; ended.says(&said), "{count}");
-    }
+    let too_many = (7, "", "jcompat: limit findings\n");
+    see_check(&rt, alloc, chains(&rt, alloc, 1_500, false), &too_many);
+    see_check(&rt, alloc, chains(&rt, alloc, 2_000, true), &(0, SAME, ""));
 }

@@ -5,12 +5,13 @@ ghost use Rattle.jc_base.specs.States.{TreesState};
 
 use super::assembler::file_of;
 use super::verdicts::SAME;
-use super::{WORDS, is_said, says};
+use super::{Said, WORDS, says, see, texts};
 use crate::disk_trees::is_ascending;
 use jc_base::file_buf::FileBuf;
 use jc_base::text::Text;
 use jc_base::trees::{TreeError, Trees};
 use std::alloc::{AllocError, Global};
+use std::process::Abort;
 
 /// Trees of class files of `java/lang/Object`: of the one at its place, and under the root `O` of so
 /// many more at other places.
@@ -63,54 +64,78 @@ impl Trees for Numbered {
 
 const LINK: &[&str] = &["link", "--platform", "P", "--release", "O", "--client", "C"];
 
+/// Words, how many more files the root `O` has, and what is said.
+type Row = (&'static [&'static str], u32, Said<'static>);
+
+const ROWS: &[Row] = &[
+    (WORDS, 40_000, (7, "", "jcompat: old: limit files\n")),
+    (
+        WORDS,
+        39_999,
+        (
+            3,
+            "",
+            "jcompat: old: java/lang/Object000000.class: misplaced java/lang/Object\n",
+        ),
+    ),
+    (LINK, 40_000, (7, "", "jcompat: release: limit files\n")),
+];
+
+fn of_objects(rt: &impl Abort, alloc: Global, more: u32) -> Numbered {
+    Numbered {
+        more,
+        bytes: file_of(rt, alloc, "P java/lang/Object init").bytes,
+    }
+}
+
+fn see_numbered(rt: &impl Abort, alloc: Global, row: &Row) {
+    let (words, more, said) = row;
+    let words = texts(rt, alloc, words);
+    let mut trees = of_objects(rt, alloc, *more);
+    let is_said = says(rt, alloc, words.as_slice(), &mut trees, said);
+    assert!(rt; is_said, "{more}");
+}
+
 #[test]
 fn at_most_so_many_class_files(rt: HostRuntime) {
-    let alloc = rt.alloc();
-    let misplaced = "jcompat: old: java/lang/Object000000.class: misplaced java/lang/Object\n";
-    for (words, more, said) in [
-        (WORDS, 40_000, (7, "", "jcompat: old: limit files\n")),
-        (WORDS, 39_999, (3, "", misplaced)),
-        (LINK, 40_000, (7, "", "jcompat: release: limit files\n")),
-    ] {
-        let object = file_of(&rt, alloc, "P java/lang/Object init");
-        let mut trees = Numbered {
-            more,
-            bytes: object.bytes,
-        };
-        assert!(rt;
-            says(&rt, alloc, words, &mut trees, [&[], &[]], &said),
-            "{more}"
-        );
+    for row in ROWS {
+        see_numbered(&rt, rt.alloc(), row);
     }
+}
+
+fn see_path(rt: &impl Abort, alloc: Global, len: usize, said: &Said<'_>) {
+    let name = "a".repeat(alloc, len).expect(rt, "memory");
+    let line = format!(in alloc; "O {name} flags=20 init").expect(rt, "memory");
+    let lines = ["P java/lang/Object init", line.as_str()];
+    see(rt, alloc, "a long path", WORDS, &lines, said);
 }
 
 #[test]
 fn paths_of_at_most_so_many_bytes(rt: HostRuntime) {
-    let alloc = rt.alloc();
-    for (len, said) in [
-        (4_091, (7, "", "jcompat: old: limit path\n")),
-        (4_090, (0, SAME, "")),
-    ] {
-        let name = "a".repeat(alloc, len).expect(&rt, "memory");
-        let line = format!(in alloc; "O {name} flags=20 init").expect(&rt, "memory");
-        let lines = ["P java/lang/Object init", line.as_str()];
-        assert!(rt; is_said(&rt, alloc, WORDS, &lines, &said), "{len}");
-    }
+    let long = (7, "", "jcompat: old: limit path\n");
+    see_path(&rt, rt.alloc(), 4_091, &long);
+    see_path(&rt, rt.alloc(), 4_090, &(0, SAME, ""));
+}
+
+fn see_capture(rt: &impl Abort, alloc: Global, parameters: &str, output: &str) {
+    let line = format!(in alloc; "N p/A init method=9:s:({parameters})V").expect(rt, "memory");
+    let lines = ["P java/lang/Object init", "O p/A init", line.as_str()];
+    see(rt, alloc, output, WORDS, &lines, &(0, output, ""));
+}
+
+// The output of a check that finds a capture of a method with these parameters.
+fn captured(rt: &impl Abort, alloc: Global, parameters: &str) -> String {
+    format!(in alloc;
+        "1 Capture p/A s({parameters})V invokevirtual - IncompatibleClassChangeError\ncompatible: 0 findings, 1 collisions, 0 notes\n"
+    ).expect(rt, "memory")
 }
 
 #[test]
 fn captures_have_at_most_255_slots(rt: HostRuntime) {
     let alloc = rt.alloc();
     let most = "I".repeat(alloc, 254).expect(&rt, "memory");
-    let captured = format!(in alloc;
-        "1 Capture p/A s({most})V invokevirtual - IncompatibleClassChangeError\ncompatible: 0 findings, 1 collisions, 0 notes\n"
-    ).expect(&rt, "memory");
-    for (more, output) in [("", captured.as_str()), ("I", SAME)] {
-        let line = format!(in alloc; "N p/A init method=9:s:({most}{more})V").expect(&rt, "memory");
-        let lines = ["P java/lang/Object init", "O p/A init", line.as_str()];
-        assert!(rt;
-            is_said(&rt, alloc, WORDS, &lines, &(0, output, "")),
-            "{output}"
-        );
-    }
+    let more = "I".repeat(alloc, 255).expect(&rt, "memory");
+    let output = captured(&rt, alloc, most.as_str());
+    see_capture(&rt, alloc, most.as_str(), output.as_str());
+    see_capture(&rt, alloc, more.as_str(), SAME);
 }

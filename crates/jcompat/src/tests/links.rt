@@ -1,5 +1,5 @@
 //! Clients that are linked with a release.
-use super::{Said, is_said};
+use super::{Said, see};
 
 const LINK: &[&str] = &["link", "--platform", "P", "--release", "R", "--client", "C"];
 
@@ -102,6 +102,6 @@ const ROWS: &[Row] = &[
 #[test]
 fn clients_are_linked(rt: HostRuntime) {
     for (shown, lines, said) in ROWS {
-        assert!(rt; is_said(&rt, rt.alloc(), LINK, lines, said), "{shown}");
+        see(&rt, rt.alloc(), shown, LINK, lines, said);
     }
 }

@@ -6,6 +6,7 @@ use jc_base::sink::{Sink, SinkError};
 use jc_base::sure_folder::SureFolder;
 use jc_base::sure_sink::SureSink;
 use jc_base::sure_trees::SureTrees;
+use jc_base::text::Text;
 use jc_base::trees::{TreeError, Trees};
 use std::alloc::Global;
 use std::env::{Env, FillError};
@@ -17,7 +18,7 @@ use std::rt::Files;
 use std::test::Fail;
 use std::{env, fs, io, process};
 
-// A new folder of this test's own.
+/// A new folder of a test's own.
 pub(crate) fn new_folder(rt: &HostRuntime, name: &str) -> Result<String, Fail> {
     let id = process::id(rt.process());
     let place = env::temp_dir(rt)?;
@@ -29,6 +30,16 @@ pub(crate) fn new_folder(rt: &HostRuntime, name: &str) -> Result<String, Fail> {
     Ok(folder)
 }
 
+/// Removes a folder and what stands in it.
+pub(crate) fn remove(rt: &(impl Abort + Files + AllocGlobal), folder: &str) {
+    fs::remove_dir_all(rt, folder).expect(rt, "removed");
+}
+
+/// The path of what stands below the root.
+pub(crate) fn below(rt: &(impl Abort + Files + AllocGlobal), root: &str, path: &str) -> String {
+    format!(in rt.alloc(); "{root}/{path}").expect(rt, "memory")
+}
+
 /// Writes a file below the root, and the folders that lead to it.
 pub(crate) fn put_file(
     rt: &(impl Abort + Files + AllocGlobal),
@@ -36,50 +47,87 @@ pub(crate) fn put_file(
     path: &str,
     bytes: &[u8],
 ) {
-    let place = format!(in rt.alloc(); "{root}/{path}").expect(rt, "memory");
+    let place = below(rt, root, path);
     if let Some(folder) = Path::new(place.as_str()).parent() {
         fs::create_dir_all(rt, folder).expect(rt, "made");
     }
     fs::write(rt, place.as_str(), bytes).expect(rt, "written");
 }
 
-// Makes a link below the root.
-fn put_link(rt: &(impl Abort + Files + AllocGlobal), root: &str, path: &str, original: &str) {
-    let place = format!(in rt.alloc(); "{root}/{path}").expect(rt, "memory");
-    symlink(rt, original, place.as_str()).expect(rt, "linked");
+/// Makes a link below the root.
+pub(crate) fn put_link(
+    rt: &(impl Abort + Files + AllocGlobal),
+    root: &str,
+    path: &str,
+    original: &str,
+) {
+    symlink(rt, original, below(rt, root, path).as_str()).expect(rt, "linked");
 }
 
-// A folder with nested folders, a file that is no class file, and links to a folder, to a file, to a device and to nothing.
+const FILES: &[&str] = &["A.class", "notes.txt", "p/B.class", "p/q/C.class"];
+
+/// Links, and where they lead to: to a folder, to a file, to a device and to nothing.
+const LINKS: &[(&str, &str)] = &[
+    ("D.class", "A.class"),
+    ("r", "p"),
+    ("gone.class", "nowhere"),
+    ("null.class", "/dev/null"),
+];
+
+// A folder with nested folders, a file that is no class file, and links.
 fn make_tree(rt: &(impl Abort + Files + AllocGlobal), root: &str) {
-    for file in ["A.class", "notes.txt", "p/B.class", "p/q/C.class"] {
+    for file in FILES {
         put_file(rt, root, file, file.as_bytes());
     }
-    for (link, original) in [
-        ("D.class", "A.class"),
-        ("r", "p"),
-        ("gone.class", "nowhere"),
-        ("null.class", "/dev/null"),
-    ] {
+    for (link, original) in LINKS {
         put_link(rt, root, link, original);
     }
+}
+
+/// What is listed below the root, and below the link to a folder.
+const LISTED: &[&str] = &[
+    "A.class",
+    "D.class",
+    "gone.class",
+    "notes.txt",
+    "null.class",
+    "p/B.class",
+    "p/q/C.class",
+];
+
+const LISTED_BELOW: &[&str] = &["B.class", "q/C.class"];
+
+// Whether the paths are these, in order.
+fn are_paths(paths: &[Text], wanted: &[&str]) -> bool {
+    paths.len() == wanted.len()
+        && paths
+            .iter()
+            .zip(wanted.iter())
+            .all(|(path, want)| path.as_str() == *want)
 }
 
 // Whether the root's files are these, in order.
 fn lists(alloc: Global, trees: &mut DiskTrees<HostRuntime>, root: &str, wanted: &[&str]) -> bool {
     match trees.list(alloc, root) {
-        Ok(paths) => {
-            paths.len() == wanted.len()
-                && paths
-                    .iter()
-                    .zip(wanted.iter())
-                    .all(|(path, want)| path.as_str() == *want)
-        }
+        Ok(paths) => are_paths(paths.as_slice(), wanted),
         Err(_) => false,
     }
 }
 
+fn see_listings(
+    rt: &(impl Abort + Files + AllocGlobal),
+    trees: &mut DiskTrees<HostRuntime>,
+    root: &str,
+) {
+    let alloc = rt.alloc();
+    assert!(rt; lists(alloc, trees, root, LISTED));
+    assert!(rt; lists(alloc, trees, below(rt, root, "r").as_str(), LISTED_BELOW));
+    let no_folder = below(rt, root, "notes.txt");
+    assert!(rt; trees.list(alloc, no_folder.as_str()).is_err());
+}
+
 /// A path, and the bytes that are read, or none where the call fails.
-type Reading = (&'static str, Option<&'static str>);
+pub(crate) type Reading = (&'static str, Option<&'static str>);
 
 const READINGS: &[Reading] = &[
     ("p/q/C.class", Some("p/q/C.class")),
@@ -88,7 +136,7 @@ const READINGS: &[Reading] = &[
     ("null.class", None),
 ];
 
-// Whether it is read so.
+// Whether it is read so, where at most so many bytes are wanted.
 fn is_read(
     alloc: Global,
     trees: &mut DiskTrees<HostRuntime>,
@@ -104,41 +152,29 @@ fn is_read(
     }
 }
 
+/// Sees that files below the root are read so, one after the other.
+pub(crate) fn see_readings(
+    rt: &(impl Abort + Files + AllocGlobal),
+    trees: &mut DiskTrees<HostRuntime>,
+    root: &str,
+    readings: &[Reading],
+) {
+    let mut buffer = FileBuf::new(rt.alloc()).expect(rt, "memory");
+    for reading in readings {
+        let is_read = is_read(rt.alloc(), trees, root, reading, &mut buffer);
+        assert!(rt; is_read, "{}", reading.0);
+    }
+}
+
 #[test]
 fn real_folders_are_listed_and_read(rt: HostRuntime) -> Result<(), Fail> {
-    let alloc = rt.alloc();
     let root = new_folder(&rt, "trees")?;
-    make_tree(&rt, root.as_str());
+    let root = root.as_str();
     let mut trees = DiskTrees::new(rt.clone().expect(&rt, "memory"));
-    let all = [
-        "A.class",
-        "D.class",
-        "gone.class",
-        "notes.txt",
-        "null.class",
-        "p/B.class",
-        "p/q/C.class",
-    ];
-    assert!(rt; lists(alloc, &mut trees, root.as_str(), &all));
-    let linked = format!(in alloc; "{root}/r").expect(&rt, "memory");
-    assert!(rt;
-        lists(
-            alloc,
-            &mut trees,
-            linked.as_str(),
-            &["B.class", "q/C.class"]
-        )
-    );
-    let no_folder = format!(in alloc; "{root}/notes.txt").expect(&rt, "memory");
-    assert!(rt; trees.list(alloc, no_folder.as_str()).is_err());
-    let mut buffer = FileBuf::new(alloc).expect(&rt, "memory");
-    for reading in READINGS {
-        assert!(rt;
-            is_read(alloc, &mut trees, root.as_str(), reading, &mut buffer),
-            "{reading:?}"
-        );
-    }
-    fs::remove_dir_all(&rt, root.as_str())?;
+    make_tree(&rt, root);
+    see_listings(&rt, &mut trees, root);
+    see_readings(&rt, &mut trees, root, READINGS);
+    remove(&rt, root);
     Ok(())
 }
 
@@ -160,17 +196,28 @@ impl Write for Narrow {
     }
 }
 
+const PIECES: &[&str] = &["p/A\n", "", "p/B\n"];
+
+fn put_pieces(rt: &(impl Abort + Files + AllocGlobal), path: &str) {
+    let mut sink = StdSink::new(fs::create(rt, path).expect(rt, "made"));
+    for piece in PIECES {
+        assert!(rt; sink.put(piece.as_bytes()).is_ok());
+    }
+}
+
+/// Sees that a file has this text.
+pub(crate) fn see_text(rt: &(impl Abort + Files + AllocGlobal), path: &str, wanted: &str) {
+    let text = fs::read_to_string(rt, path).expect(rt, "read");
+    assert!(rt; text.as_str() == wanted);
+}
+
 #[test]
 fn real_files_take_what_is_put(rt: HostRuntime) -> Result<(), Fail> {
-    let folder = new_folder(&rt, "sink")?;
-    let path = format!(in rt.alloc(); "{folder}/out").expect(&rt, "memory");
-    let mut sink = StdSink::new(fs::create(&rt, path.as_str()).expect(&rt, "made"));
-    for piece in ["p/A\n", "", "p/B\n"] {
-        sink.put(piece.as_bytes()).expect(&rt, "put");
-    }
-    let taken = fs::read_to_string(&rt, path.as_str()).expect(&rt, "read");
-    assert!(rt; taken.as_str() == "p/A\np/B\n");
-    fs::remove_dir_all(&rt, folder.as_str())?;
+    let root = new_folder(&rt, "sink")?;
+    let path = below(&rt, root.as_str(), "out");
+    put_pieces(&rt, path.as_str());
+    see_text(&rt, path.as_str(), "p/A\np/B\n");
+    remove(&rt, root.as_str());
     Ok(())
 }
 

@@ -1,12 +1,10 @@
 //! Trees and calls that are refused.
 use super::assembler::file_of;
-use super::outside::{new_folder, put_file};
-use super::{Said, WORDS, is_said, says};
+use super::outside::{below, new_folder, put_file, remove};
+use super::{Said, WORDS, says, see, texts};
 use crate::disk_trees::DiskTrees;
-use jc_base::trees::Trees;
-use std::alloc::Global;
-use std::fs;
 use std::process::Abort;
+use std::rt::Files;
 use std::test::Fail;
 
 /// What is shown, the files and the line on the error stream.
@@ -96,24 +94,23 @@ const ROWS: &[Row] = &[
 #[test]
 fn trees_are_refused(rt: HostRuntime) {
     for (shown, lines, line) in ROWS {
-        assert!(rt;
-            is_said(&rt, rt.alloc(), WORDS, lines, &(3, "", *line)),
-            "{shown}"
-        );
+        see(&rt, rt.alloc(), shown, WORDS, lines, &(3, "", *line));
     }
 }
 
-// Whether a check of the folders below the root says just this.
-fn says_in<T: Trees>(
-    rt: &impl Abort,
-    alloc: Global,
-    trees: &mut T,
+// Sees that a check of the folders below the root says just this, where the old release's `p/A.class`
+// has these bytes.
+fn see_file(
+    rt: &(impl Abort + Files + AllocGlobal),
+    trees: &mut DiskTrees<HostRuntime>,
     root: &str,
+    bytes: &[u8],
     said: &Said<'_>,
-) -> bool {
-    let platform = format!(in alloc; "{root}/platform").expect(rt, "memory");
-    let old = format!(in alloc; "{root}/old").expect(rt, "memory");
-    let new = format!(in alloc; "{root}/new").expect(rt, "memory");
+) {
+    put_file(rt, root, "old/p/A.class", bytes);
+    let platform = below(rt, root, "platform");
+    let old = below(rt, root, "old");
+    let new = below(rt, root, "new");
     let words = [
         "check",
         "--platform",
@@ -123,50 +120,57 @@ fn says_in<T: Trees>(
         "--new",
         new.as_str(),
     ];
-    says(rt, alloc, &words, trees, [&[], &[]], said)
+    let words = texts(rt, rt.alloc(), &words);
+    let is_said = says(rt, rt.alloc(), words.as_slice(), trees, said);
+    assert!(rt; is_said, "{}", said.2);
+}
+
+/// The bytes of a file, and what is said.
+type File = (&'static [u8], Said<'static>);
+
+const FILES: &[File] = &[
+    (
+        b"\xca\xfe\xba\xbe\0\0\0\x34\0\x04\x07\0",
+        (3, "", "jcompat: old: p/A.class: Short at 12\n"),
+    ),
+    (b"", (3, "", "jcompat: old: p/A.class: Short at 0\n")),
+];
+
+const MISPLACED: Said<'static> = (3, "", "jcompat: old: p/A.class: misplaced p/B\n");
+
+const TOO_LONG: Said<'static> = (7, "", "jcompat: old: p/A.class: limit bytes\n");
+
+const BAD_MAGIC: Said<'static> = (3, "", "jcompat: old: p/A.class: BadMagic at 0\n");
+
+fn see_files(
+    rt: &(impl Abort + Files + AllocGlobal),
+    trees: &mut DiskTrees<HostRuntime>,
+    root: &str,
+) {
+    for (bytes, said) in FILES {
+        see_file(rt, trees, root, bytes, said);
+    }
+    let plain = file_of(rt, rt.alloc(), "O p/B init");
+    see_file(rt, trees, root, plain.bytes.as_slice(), &MISPLACED);
+    let zeros = vec![in rt.alloc(); 0u8; 4_194_305].expect(rt, "memory");
+    see_file(rt, trees, root, zeros.as_slice(), &TOO_LONG);
+    see_file(rt, trees, root, &zeros.as_slice()[1..], &BAD_MAGIC);
 }
 
 #[test]
 fn real_folders_are_refused(rt: HostRuntime) -> Result<(), Fail> {
-    let alloc = rt.alloc();
     let root = new_folder(&rt, "check")?;
-    let object = file_of(&rt, alloc, "P java/lang/Object init").bytes;
+    let root = root.as_str();
+    let object = file_of(&rt, rt.alloc(), "P java/lang/Object init");
     put_file(
         &rt,
-        root.as_str(),
+        root,
         "platform/java/lang/Object.class",
-        object.as_slice(),
+        object.bytes.as_slice(),
     );
-    put_file(&rt, root.as_str(), "new/notes.txt", b"");
-    let plain = file_of(&rt, alloc, "O p/B init").bytes;
-    let zeros = vec![in alloc; 0u8; 4_194_305].expect(&rt, "memory");
+    put_file(&rt, root, "new/notes.txt", b"");
     let mut trees = DiskTrees::new(rt.clone().expect(&rt, "memory"));
-    for (bytes, said) in [
-        (
-            b"\xca\xfe\xba\xbe\0\0\0\x34\0\x04\x07\0".as_slice(),
-            (3, "", "jcompat: old: p/A.class: Short at 12\n"),
-        ),
-        (b"", (3, "", "jcompat: old: p/A.class: Short at 0\n")),
-        (
-            plain.as_slice(),
-            (3, "", "jcompat: old: p/A.class: misplaced p/B\n"),
-        ),
-        (
-            zeros.as_slice(),
-            (7, "", "jcompat: old: p/A.class: limit bytes\n"),
-        ),
-        (
-            &zeros.as_slice()[1..],
-            (3, "", "jcompat: old: p/A.class: BadMagic at 0\n"),
-        ),
-    ] {
-        put_file(&rt, root.as_str(), "old/p/A.class", bytes);
-        assert!(rt;
-            says_in(&rt, alloc, &mut trees, root.as_str(), &said),
-            "{}",
-            said.2
-        );
-    }
-    fs::remove_dir_all(&rt, root.as_str())?;
+    see_files(&rt, &mut trees, root);
+    remove(&rt, root);
     Ok(())
 }

@@ -1,7 +1,7 @@
 //! Checks that ask for witnesses: what stands in the folder then, and what comes of linking it.
 use super::assembler::{cut, file, files_of, put_last};
-use super::verdicts::ROWS;
-use super::{Ended, run_over, trees_over, words};
+use super::verdicts::rows;
+use super::{Ended, run_over, texts, trees_over, words};
 use jc_base::mem_file::MemFile;
 use jc_base::mem_folder::MemFolder;
 use std::alloc::Global;
@@ -150,7 +150,7 @@ fn words_of<'a>(rt: &impl Abort, alloc: Global, line: &'a str) -> Vec<&'a str> {
     words
 }
 
-// A run over these files, where the given calls on the trees, on the folder, on the output and on the error stream fail.
+/// A run over these files, where the given calls on the trees, on the folder, on the output and on the error stream fail.
 pub(super) fn run_on(
     rt: &impl Abort,
     alloc: Global,
@@ -159,6 +159,7 @@ pub(super) fn run_on(
     failing: [&[u64]; 4],
 ) -> Ended {
     let words = words_of(rt, alloc, line);
+    let words = texts(rt, alloc, words.as_slice());
     let mut trees = trees_over(rt, alloc, files, failing[0]);
     let others = [failing[1], failing[2], failing[3]];
     run_over(rt, alloc, words.as_slice(), &mut trees, others)
@@ -235,42 +236,62 @@ fn count_files(witnesses: &[Witness]) -> u64 {
     count
 }
 
-#[test]
-fn witnesses_are_put_and_replayed(rt: HostRuntime) {
-    let alloc = rt.alloc();
-    for (shown, witnesses) in WITNESSES {
-        let row = ROWS.iter().find(|row| row.0 == *shown);
-        let (_, lines, status, output) = row.expect(&rt, "a row of the verdicts");
-        // one call more on the folder would fail
-        let next = count_files(witnesses).saturating_add(1);
-        let files = files_of(&rt, alloc, lines);
-        let check = run_on(&rt, alloc, CHECK, files, [&[], &[next], &[], &[]]);
-        assert!(rt; check.says(&(*status, *output, "")), "{shown}");
-        assert_eq!(rt; check.folder.faults(), 0, "{shown}");
-        for witness in witnesses.iter() {
-            assert!(rt;
-                holds(&check.folder, witness.files, witness.files.len()),
-                "{shown}"
-            );
-            assert!(rt;
-                is_replayed(&rt, alloc, lines, &check.folder, witness),
-                "{shown}"
-            );
-        }
+fn see_witness(
+    rt: &impl Abort,
+    alloc: Global,
+    lines: &[&str],
+    folder: &MemFolder,
+    witness: &Witness,
+) {
+    assert!(rt;
+        holds(folder, witness.files, witness.files.len()),
+        "{}",
+        witness.line
+    );
+    assert!(rt;
+        is_replayed(rt, alloc, lines, folder, witness),
+        "{}",
+        witness.line
+    );
+}
+
+// The check of these files, of which the call on the folder after those of these witnesses would fail.
+fn checked(rt: &impl Abort, alloc: Global, lines: &[&str], witnesses: &[Witness]) -> Ended {
+    let next = count_files(witnesses).saturating_add(1);
+    let files = files_of(rt, alloc, lines);
+    run_on(rt, alloc, CHECK, files, [&[], &[next], &[], &[]])
+}
+
+fn see_witnesses(rt: &impl Abort, alloc: Global, shown: &str, witnesses: &[Witness]) {
+    let row = rows().iter().find(|row| row.0 == shown);
+    let (_, lines, status, output) = row.expect(rt, "a row of the verdicts");
+    let check = checked(rt, alloc, lines, witnesses);
+    let is_said = check.says(&(*status, *output, "")) && check.folder.faults() == 0;
+    assert!(rt; is_said, "{shown}");
+    for witness in witnesses {
+        see_witness(rt, alloc, lines, &check.folder, witness);
     }
 }
 
 #[test]
+fn witnesses_are_put_and_replayed(rt: HostRuntime) {
+    for (shown, witnesses) in WITNESSES {
+        see_witnesses(&rt, rt.alloc(), shown, witnesses);
+    }
+}
+
+const WITH_OLD: &str =
+    "class w0/J ok\nclass w0/U ok\nitem w0/U init java/lang/Object <init>()V - ok\nitem w0/U invokevirtual w0/Y run()V w0/Y ok\nclass w0/Y ok\nitem w0/Y init p/A <init>()V - ok\nlinks: 6 outcomes, 0 errors\n";
+
+const WITH_NEW: &str =
+    "class w0/J ok\nclass w0/U ok\nitem w0/U init java/lang/Object <init>()V - ok\nitem w0/U invokevirtual w0/Y run()V w0/Y IllegalAccessError\nclass w0/Y ok\nitem w0/Y init p/A <init>()V - ok\nrefused: 6 outcomes, 1 errors\n";
+
+#[test]
 fn a_captured_call_with_both_releases(rt: HostRuntime) {
     let alloc = rt.alloc();
-    let files = files_of(&rt, alloc, words::CAPTURE);
-    let check = run_on(&rt, alloc, CHECK, files, [&[], &[], &[], &[]]);
-    let old =
-        "class w0/J ok\nclass w0/U ok\nitem w0/U init java/lang/Object <init>()V - ok\nitem w0/U invokevirtual w0/Y run()V w0/Y ok\nclass w0/Y ok\nitem w0/Y init p/A <init>()V - ok\nlinks: 6 outcomes, 0 errors\n";
-    let new =
-        "class w0/J ok\nclass w0/U ok\nitem w0/U init java/lang/Object <init>()V - ok\nitem w0/U invokevirtual w0/Y run()V w0/Y IllegalAccessError\nclass w0/Y ok\nitem w0/Y init p/A <init>()V - ok\nrefused: 6 outcomes, 1 errors\n";
-    for (release, status, output) in [("O", 0, old), ("N", 1, new)] {
-        let link = linked(&rt, alloc, words::CAPTURE, release, &check.folder, &CAPTURE);
-        assert!(rt; link.says(&(status, output, "")), "{release}");
-    }
+    let check = checked(&rt, alloc, words::CAPTURE, &[CAPTURE]);
+    let old = linked(&rt, alloc, words::CAPTURE, "O", &check.folder, &CAPTURE);
+    assert!(rt; old.says(&(0, WITH_OLD, "")));
+    let new = linked(&rt, alloc, words::CAPTURE, "N", &check.folder, &CAPTURE);
+    assert!(rt; new.says(&(1, WITH_NEW, "")));
 }

@@ -1,6 +1,6 @@
 //! What words ask for, and words that ask for nothing.
 use super::assembler::put_last;
-use super::{Said, is_said};
+use super::{Said, see};
 use std::alloc::Global;
 use std::process::Abort;
 
@@ -115,25 +115,25 @@ pub fn typed<'a>(rt: &impl Abort, alloc: Global, line: &'a str) -> Vec<&'a str> 
     words
 }
 
-// Whether the words of the line, over the files of these lines, say just this.
-pub fn are_said(
-    rt: &impl Abort,
-    alloc: Global,
-    line: &str,
-    files: &[&str],
-    said: &Said<'_>,
-) -> bool {
-    let words = typed(rt, alloc, line);
-    is_said(rt, alloc, words.as_slice(), files, said)
+/// Sees that the words of the line, over the files of these lines, say just this.
+pub fn see_line(rt: &impl Abort, alloc: Global, line: &str, files: &[&str], said: &Said<'_>) {
+    see(
+        rt,
+        alloc,
+        line,
+        typed(rt, alloc, line).as_slice(),
+        files,
+        said,
+    );
 }
 
 #[test]
 fn words_are_taken_or_refused(rt: HostRuntime) {
     for (line, files, said) in ROWS {
-        assert!(rt; are_said(&rt, rt.alloc(), line, files, said), "{line}");
+        see_line(&rt, rt.alloc(), line, files, said);
     }
     let no_command = (2, "", "jcompat: usage: no command\n");
-    assert!(rt; is_said(&rt, rt.alloc(), &[], CAPTURE, &no_command));
+    see(&rt, rt.alloc(), "no words", &[], CAPTURE, &no_command);
 }
 
 #[test]
@@ -142,5 +142,5 @@ fn a_long_word_is_refused(rt: HostRuntime) {
     let long = "w".repeat(alloc, 100_000).expect(&rt, "memory");
     let line = format!(in alloc; "jcompat: usage: unknown command {long}\n").expect(&rt, "memory");
     let said = (2, "", line.as_str());
-    assert!(rt; is_said(&rt, alloc, &[long.as_str()], CAPTURE, &said));
+    see(&rt, alloc, "a long word", &[long.as_str()], CAPTURE, &said);
 }
