@@ -234,7 +234,7 @@ fn see_check(rt: &impl Abort, alloc: Global, files: Vec<MemFile>, said: &Said<'_
 fn interface(rt: &impl Abort, alloc: Global, root: &str, side: &str, level: u32) -> MemFile {
     let below = level.saturating_sub(1);
     let line = format!(in alloc;
-        "{root} p/{side}{level} flags=601 implements=p/A{below} implements=p/B{below}"
+        "{root} p/{side}{level:02} flags=601 implements=p/A{below:02} implements=p/B{below:02}"
     );
     file_of(rt, alloc, line.expect(rt, "memory").as_str())
 }
@@ -242,10 +242,10 @@ fn interface(rt: &impl Abort, alloc: Global, root: &str, side: &str, level: u32)
 /// `java/lang/Object`, and the lowest level of a lattice.
 const LOWEST: &[&str] = &[
     "P java/lang/Object init",
-    "O p/A0 flags=601",
-    "O p/B0 flags=601",
-    "N p/A0 flags=601",
-    "N p/B0 flags=601",
+    "O p/A00 flags=601",
+    "O p/B00 flags=601",
+    "N p/A00 flags=601",
+    "N p/B00 flags=601",
 ];
 
 fn put_level(rt: &impl Abort, alloc: Global, files: &mut Vec<MemFile>, level: u32) {
@@ -265,10 +265,25 @@ fn a_wide_lattice_of_interfaces(rt: HostRuntime) {
     see_check(&rt, alloc, files, &(0, SAME, ""));
 }
 
-// The file of a class of this number under the root, which extends the one of the other number.
-fn heir(rt: &impl Abort, alloc: Global, root: &str, number: u32, above: u32) -> MemFile {
+// The file of a class of this number under the root, which extends the one before it.
+fn heir(rt: &impl Abort, alloc: Global, root: &str, number: u32) -> MemFile {
+    let above = number.saturating_sub(1);
     let line = format!(in alloc; "{root} p/C{number:04} extends=p/C{above:04} init");
     file_of(rt, alloc, line.expect(rt, "memory").as_str())
+}
+
+// The same that extends none of them.
+fn lone(rt: &impl Abort, alloc: Global, root: &str, number: u32) -> MemFile {
+    let line = format!(in alloc; "{root} p/C{number:04} init");
+    file_of(rt, alloc, line.expect(rt, "memory").as_str())
+}
+
+fn in_new(rt: &impl Abort, alloc: Global, number: u32, is_chain: bool) -> MemFile {
+    if is_chain {
+        heir(rt, alloc, "N", number)
+    } else {
+        lone(rt, alloc, "N", number)
+    }
 }
 
 /// `java/lang/Object`, and the highest class of a chain.
@@ -278,17 +293,12 @@ const HIGHEST: &[&str] = &[
     "N p/C0000 init",
 ];
 
-// Chains of so many classes. In the new release each class extends the one before it, or all the highest one.
-fn chains(rt: &impl Abort, alloc: Global, count: u32, is_long: bool) -> Vec<MemFile> {
+// A chain of so many classes in the old release, and in the new one the chain, or the same classes each by itself.
+fn chains(rt: &impl Abort, alloc: Global, count: u32, new_too: bool) -> Vec<MemFile> {
     let mut files = files_of(rt, alloc, HIGHEST);
     for number in 1..count {
-        let above = number - 1;
-        put_last(rt, &mut files, heir(rt, alloc, "O", number, above));
-        put_last(
-            rt,
-            &mut files,
-            heir(rt, alloc, "N", number, if is_long { above } else { 0 }),
-        );
+        put_last(rt, &mut files, heir(rt, alloc, "O", number));
+        put_last(rt, &mut files, in_new(rt, alloc, number, new_too));
     }
     files
 }
