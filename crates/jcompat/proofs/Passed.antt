@@ -7,18 +7,19 @@ use Rattle.jc_facts.specs.declared.verdict.Verdict.{Verdict}
 use Rattle.jc_facts.specs.Names.{Bytes}
 use Rattle.jc_facts.specs.print.MadeText.{made_text_of}
 use Rattle.jc_gate.specs.Gates.{GateOf}
-use Rattle.jcompat.specs.Answers.{Ran, Answers, Due, Puts, IsStopped, StopsCommand, HasCause, has_passed, due_bytes}
-use Rattle.jcompat.specs.Command.{CommandOf, CheckCommand, LinkCommand, MakeCommand, with_gates, asked, asked_of}
-use Rattle.jcompat.specs.Make.{IsVerdictOnMade}
-use Rattle.jcompat.specs.Reports.{ToldTo, RecordsOf, ReportOf, IsReportOn, passes, bytes_of, puts_of}
-use Rattle.jcompat.specs.Stop.{status_of}
-use Rattle.jcompat.specs.Witness.{PutFile}
-use Rattle.jcompat.specs.declared.status.TheConstants.{PASSED, WRITE_FAULT, NO_MEMORY, LIMIT}
-use Rattle.jcompat.specs.declared.stop.Stop.{Stop}
-use Rattle.jcompat.specs.declared.stop.Stop.TheVariants as stops
+use Rattle.jc_commands.specs.Causes.{StopsCommand, HasCause}
+use Rattle.jcompat.specs.Answers.{Ran, Answers, Due, Puts, IsStopped, has_passed, due_bytes}
+use Rattle.jc_commands.specs.Command.{CommandOf, CheckCommand, LinkCommand, MakeCommand, with_gates, asked, asked_of}
+use Rattle.jc_commands.specs.Make.{IsVerdictOnMade}
+use Rattle.jc_commands.specs.Reports.{ToldTo, RecordsOf, ReportOf, IsReportOn, passes, bytes_of, puts_of}
+use Rattle.jc_commands.specs.Stop.{status_of}
+use Rattle.jc_commands.specs.Witness.{PutFile}
+use Rattle.jc_commands.specs.declared.status.TheConstants.{PASSED, WRITE_FAULT, NO_MEMORY, LIMIT}
+use Rattle.jc_commands.specs.declared.stop.Stop.{Stop}
+use Rattle.jc_commands.specs.declared.stop.Stop.TheVariants as stops
 use Rattle.jc_lemmas.proofs.Bools.{contradicts}
-use Rattle.jcompat.proofs.Events.{ok_of}
-use Rattle.jcompat.proofs.Results.{same_ok, ok_or_err}
+use Rattle.jc_commands.proofs.Events.{ok_of}
+use Rattle.jc_commands.proofs.Results.{same_ok, ok_or_err}
 
 -- a number up to 7
 by_number : (P : ℕ → Type 0) (n : ℕ) → n ≤ 7 → P 0 → P 1 → P 2 → P 3 → P 4 → P 5 → P 6 → P 7 → P n

@@ -1,69 +1,21 @@
 -- The answers of the top call.
-use Rattle.std.specs.Prelude.{◌≡◌, ◌≢◌, ◌≤◌, ◌⊎◌, ℕ, List, [], ◌∷◌, None, Some, Ok, Err, IfOk, IsOkAnd, Bool, true, false}
-use Rattle.jc_base.specs.Causes.{Rose}
-use Rattle.jc_base.specs.Outside.{FileOf, TakesAll, TakesFront}
+use Rattle.std.specs.Prelude.{◌≡◌, ◌≢◌, ◌≤◌, ◌⊎◌, ℕ, List, [], Some, None, Ok, IfOk, Bool, true, false}
+use Rattle.jc_base.specs.Outside.{FileOf}
 use Rattle.jc_base.specs.States.{TreesState, SinkState, FolderState, Change}
 use Rattle.jc_facts.specs.declared.verdict.Verdict.{Verdict}
 use Rattle.jc_facts.specs.Names.{Bytes}
 use Rattle.jc_gate.specs.Gates.{GateOf}
-use Rattle.jcompat.specs.Check.{IsCompatible, IsIncompatible, IsWitnessed, verdict_bytes}
-use Rattle.jcompat.specs.ClassFiles.{Told, IsClean, IsTreeFault}
-use Rattle.jcompat.specs.Command.{CommandOf, CheckOf, CheckCommand, trees_of, witness_dir, asked, asked_of}
-use Rattle.jcompat.specs.Reports.{ToldTo, RecordsOf, ReportOf, IsReportOn, Refuses, Accepts, passes, bytes_of, puts_of}
-use Rattle.jcompat.specs.Stop.{line_of, status_of}
-use Rattle.jcompat.specs.Tree.{TreeOf}
-use Rattle.jcompat.specs.Witness.{PutFile, PutsFiles, PutsSome}
-use Rattle.jcompat.specs.declared.file_fault.TreeFault.{TreeFault}
-use Rattle.jcompat.specs.declared.status.TheConstants.{PASSED, NOT_PASSED, USAGE, BAD_INPUT, READ_FAULT, WRITE_FAULT, NO_MEMORY, LIMIT}
-use Rattle.jcompat.specs.declared.tree.TreeName.{TreeName}
-use Rattle.jcompat.specs.declared.stop.Stop.{Stop}
-use Rattle.jcompat.specs.declared.stop.Stop.TheVariants as stops
-
--- ---- events, in their order: the words, and the gates that they name; the command's trees in order, each by the number of its class files, their paths, and then file by
--- file; the records of the trees, by what the command says of them: a check of the platform's root, the names of the old release, those of
--- the new, and the number of findings and collisions; the linking of clients of the root, the names of the release, and those of the clients. Generated releases come of the words alone
-
--- of the trees in their order this one has the second property, and each before it has the first
-abbrev pub IsFirst : (TreeOf → Type 0) → (TreeOf → Type 0) → List TreeOf → TreeName → Type 0
-IsFirst Before This [] name = ⊥
-IsFirst Before This (tree ∷ trees) name = ((tree.name ≡ name) × This tree) ⊎ (Before tree × IsFirst Before This trees name)
-
--- this is the first tree that isn't read, and why
-abbrev pub IsFirstUnread : List FileOf → List TreeOf → TreeName → TreeFault → Type 0
-IsFirstUnread files trees name fault = IsFirst (IsClean files) (λ tree. IsTreeFault files tree fault) trees name
-
--- a call on this tree failed, where no earlier tree is refused: the count of its root rose
-abbrev pub HasReadFault : Change TreesState → List TreeOf → TreeName → Type 0
-HasReadFault c = IsFirst (λ tree. Told c.before.content (λ files. IsClean files tree)) (λ tree. Rose (c.before.faults tree.root) (c.after.faults tree.root))
-
--- the files are refused to the command, and this is the first cause
-abbrev pub IsRefusedTo : CommandOf → List FileOf → Stop → Type 0
-IsRefusedTo command files (stops.Unread name fault) = IsFirstUnread files (trees_of command) name fault
-IsRefusedTo command files stop = (r : RecordsOf files command) × Refuses files command r stop
-
--- the words and the files are refused where these gates are there, and this is the first cause
-abbrev pub IsRefused : List GateOf → List Bytes → List FileOf → Stop → Type 0
-IsRefused gates words files (stops.Usage usage) = asked_of gates words ≡ Err usage
-IsRefused gates words files stop = IsOkAnd (asked_of gates words) (λ command. IsRefusedTo command files stop)
-
--- no cause to refuse them stands
-abbrev pub IsAccepted : List GateOf → List Bytes → List FileOf → Type 0
-IsAccepted gates words files = IsOkAnd (asked_of gates words) (λ command. (r : RecordsOf files command) × Accepts files command r)
-
--- why the command has no report: the first refusal, a failed call on a tree, or want of memory
-abbrev pub StopsCommand : CommandOf → Change TreesState → Stop → Type 0
-StopsCommand command c (stops.ReadFault name) = HasReadFault c (trees_of command) name
-StopsCommand command c stops.Memory = Unit {0}
-StopsCommand command c (stops.Usage usage) = ⊥
-StopsCommand command c stop = ToldTo command c.before.content (λ files. IsRefusedTo command files stop)
-
--- why there is no report: the words ask for no command, or it has none, or there was no memory
-abbrev pub HasCause : List GateOf → List Bytes → Change TreesState → Stop → Type 0
-HasCause gates words c (stops.Usage usage) = asked_of gates words ≡ Err usage
-HasCause gates words c stops.Memory = Unit {0}
-HasCause gates words c stop = IsOkAnd (asked_of gates words) (λ command. StopsCommand command c stop)
-
--- ---- a run
+use Rattle.jc_commands.specs.Causes.{HasCause, IsRefused, IsAccepted, HasFailed}
+use Rattle.jc_commands.specs.Check.{IsCompatible, IsIncompatible, IsWitnessed, verdict_bytes}
+use Rattle.jc_commands.specs.ClassFiles.{Told}
+use Rattle.jc_commands.specs.Command.{CommandOf, CheckOf, CheckCommand, witness_dir, asked, asked_of}
+use Rattle.jc_commands.specs.Outputs.{IsQuiet, PutsAll, PutsFront, HasPutFault, IsUntouched, HasFolderFault}
+use Rattle.jc_commands.specs.Reports.{ToldTo, RecordsOf, ReportOf, IsReportOn, passes, bytes_of, puts_of}
+use Rattle.jc_commands.specs.Stop.{line_of, status_of}
+use Rattle.jc_commands.specs.Witness.{PutFile, PutsFiles, PutsSome}
+use Rattle.jc_commands.specs.declared.status.TheConstants.{PASSED, NOT_PASSED, USAGE, BAD_INPUT, READ_FAULT, WRITE_FAULT, NO_MEMORY, LIMIT}
+use Rattle.jc_commands.specs.declared.stop.Stop.{Stop}
+use Rattle.jc_commands.specs.declared.stop.Stop.TheVariants as stops
 
 -- the gates, what was asked for, the trees, both sinks and the folder for witness files before and after, and the exit status
 pub record Ran : Type 0 where
@@ -81,30 +33,6 @@ ran gates words trees out err folder status = record { gates = gates; words = wo
 -- this holds of the files, where they are told
 abbrev pub OfFiles : Ran → (List FileOf → Type 0) → Type 0
 OfFiles r = Told r.trees.before.content
-
--- nothing was put
-abbrev pub IsQuiet : Change SinkState → Type 0
-IsQuiet sink = sink.after.taken ≡ sink.before.taken
-
--- the bytes were put whole
-abbrev pub PutsAll : Change SinkState → Bytes → Type 0
-PutsAll sink = TakesAll sink.before.taken sink.after.taken
-
--- a front of the bytes was put
-abbrev pub PutsFront : Change SinkState → Bytes → Type 0
-PutsFront sink = TakesFront sink.before.taken sink.after.taken
-
--- a put on the sink failed
-abbrev pub HasPutFault : Change SinkState → Type 0
-HasPutFault sink = Rose sink.before.faults sink.after.faults
-
--- the folder and its count are as they were
-abbrev pub IsUntouched : Change FolderState → Type 0
-IsUntouched folder = folder.after ≡ folder.before
-
--- a put into the folder failed
-abbrev pub HasFolderFault : Change FolderState → Type 0
-HasFolderFault folder = Rose folder.before.faults folder.after.faults
 
 -- the report that was due: that of the command that the words ask for, on the records of its trees, with the witness files that are put before it
 pub record Due (r : Ran) : Type 0 where
@@ -170,10 +98,6 @@ pub record CutsRefusal (r : Ran) (stop : Stop) : Type 0 where
 -- a put failed, or there was no memory
 abbrev pub IsCutShort : Ran → Type 0
 IsCutShort r = ((due : Due r) × (CutsWitnesses r due ⊎ CutsReport r due)) ⊎ ((stop : Stop) × CutsRefusal r stop)
-
--- a call on a tree or a put failed, or there was no memory
-abbrev pub HasFailed : ℕ → Type 0
-HasFailed status = (status ≡ READ_FAULT) ⊎ (status ≡ WRITE_FAULT) ⊎ (status ≡ NO_MEMORY)
 
 -- what is promised of a run
 pub record Answers (r : Ran) : Type 0 where

@@ -1,11 +1,2 @@
-pub mod Tree
-pub mod Command
-pub mod Stop
-pub mod Witness
-pub mod ClassFiles
-pub mod Check
-pub mod Link
-pub mod Make
-pub mod Reports
 pub mod Answers
 pub mod steps

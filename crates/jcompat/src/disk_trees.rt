@@ -6,12 +6,12 @@ ghost use Rattle.jc_base.specs.Outside.{are_distinct};
 ghost use Rattle.jc_base.specs.States.{TreesState};
 ghost use Rattle.jcompat.specs.steps.Ascending.{ascends};
 
-use crate::class_file::is_class_path;
-use crate::limits::MAX_PATH;
 use jc_base::file_buf::{FileBuf, MAX_READ};
 use jc_base::root_faults::RootFaults;
 use jc_base::text::Text;
 use jc_base::trees::{TreeError, Trees};
+use jc_commands::class_file::is_class_path;
+use jc_commands::limits::MAX_PATH;
 use std::alloc::{AllocError, Global};
 use std::fs::{DirEntry, Metadata, OpenFile, metadata, open, read_dir};
 use std::io;

@@ -1,44 +1,23 @@
 //! Says whether clients that were compiled against an old release of a library link with a new one.
 #![tactic(auto)]
 
-mod body;
-mod check;
-mod class_file;
-mod command;
-mod comparison;
-mod decide;
 mod disk_folder;
 mod disk_trees;
-mod file_fault;
 mod laws;
-mod limits;
-mod link;
-mod make;
-mod put;
-mod put_witnesses;
-mod read_tree;
-mod read_trees;
-mod report;
 mod run;
-mod shown;
-mod status;
 mod std_sink;
-mod stop;
-mod three_trees;
-mod tree;
-mod witness_path;
 
 use crate::disk_folder::DiskFolder;
 use crate::disk_trees::DiskTrees;
-use crate::put::put_stop;
 use crate::run::run;
-use crate::status::NO_MEMORY;
 use crate::std_sink::StdSink;
-use crate::stop::Stop;
 use jc_base::folder::Folder;
 use jc_base::sink::Sink;
 use jc_base::text::Text;
 use jc_base::trees::Trees;
+use jc_commands::put::put_stop;
+use jc_commands::status::NO_MEMORY;
+use jc_commands::stop::Stop;
 use jc_gate::at_most::AtMost;
 use jc_gate::collisions::Collisions;
 use jc_gate::gate::Gate;

@@ -4,12 +4,12 @@ ghost use Rattle.jc_base.specs.States.{change};
 ghost use Rattle.jc_gate.specs.Gates.{gate_of};
 ghost use Rattle.jcompat.specs.Answers.{Answers, ran};
 
-use crate::decide::decide;
-use crate::put::{put_report, put_stop};
 use jc_base::folder::Folder;
 use jc_base::sink::Sink;
 use jc_base::text::Text;
 use jc_base::trees::Trees;
+use jc_commands::decide::decide;
+use jc_commands::put::{put_report, put_stop};
 use jc_gate::gate::Gate;
 use std::alloc::Global;
 

@@ -1,0 +1,133 @@
+-- What a comparison gives beside its verdict: clients that show it.
+use Rattle.std.proofs.Common.{◌≡◌, ◌≢◌, ◌<◌, ◌^◌, ℕ, List, [], ◌∷◌, map, length, Option, Some, None, refl, sym, ap, subst, ◌∙◌, arith, length-append}
+use Rattle.std.specs.Prelude.{IsTrue}
+use Rattle.std.specs.List.{All}
+use Rattle.std.proofs.lemmas.List.Elements.{All-from_recursion, recursion_from_All}
+use Rattle.jc_facts.specs.declared.class_facts.ClassFacts.{ClassFacts}
+use Rattle.jc_facts.specs.declared.client.ClientClass.{ClientClass}
+use Rattle.jc_facts.specs.declared.finding.Finding.{Finding}
+use Rattle.jc_facts.specs.declared.verdict.Cause.TheVariants as cause
+use Rattle.jc_facts.specs.declared.verdict.Collision.{Collision}
+use Rattle.jc_facts.specs.declared.verdict.Verdict.{Verdict}
+use Rattle.jc_facts.specs.Names.{Bytes}
+use Rattle.jc_facts.specs.plan.Planned.{planned}
+use Rattle.jc_facts.specs.rule.Verdict.{IsVerdict, holds_some}
+use Rattle.jc_facts.specs.world.Mentioned.{all_mentions}
+use Rattle.jc_facts.specs.world.World.{World, side, classes}
+use Rattle.jc_lemmas.proofs.Listed.{EachOf, EachOf-map, EachOf-append}
+use Rattle.jc_sound.proofs.VerdictLaw.{verdict_is_one}
+use Rattle.jc_complete.specs.Completeness.{IsBroken, PlannedMeet}
+use Rattle.jc_complete.proofs.CompletenessWhole.{verdict_is_exact}
+use Rattle.jc_bodies.specs.Files.{HasShortNames, CanWrite, FilesShow}
+use Rattle.jc_bodies.proofs.FilesWhole.{each_has_its_files}
+use Rattle.jc_table.specs.Sides.{IsSide}
+use Rattle.jc_witness.specs.Ground.{HasShortSide}
+use Rattle.jc_witness.specs.Witnesses.{MeetsOnly}
+use Rattle.jc_witness.proofs.Ground.{can_write}
+use Rattle.jc_witness.proofs.Shown.{is_witness}
+use Rattle.jc_commands.specs.Check.{IsShown, puts_below}
+use Rattle.jc_commands.specs.Witness.{causes_of, witness_puts}
+use Rattle.jc_commands.specs.declared.body.Body.{Body}
+use Rattle.jc_commands.specs.declared.body.Body.TheVariants as bodies
+use Rattle.jc_commands.specs.declared.comparison.Comparison.{Comparison}
+use Rattle.jc_commands.specs.declared.shown.Shown.{Shown}
+use Rattle.jc_commands.specs.steps.Check.{IsComparison}
+use Rattle.jc_commands.specs.ReportValue.{HasToShow, CanShowAny, dir_in, puts_in}
+use Rattle.jc_commands.specs.Shown.{CanShow}
+use Rattle.jc_commands.proofs.Bodies.{bare_dir, bare_puts, bare_can}
+
+-- ---- the two sides
+
+pub short_side : (platform release : List ClassFacts) → All HasShortNames platform → All HasShortNames release → HasShortSide (side platform release)
+short_side platform release p r = record { platform = p; release = r }
+
+-- clients of two sides of one platform can be planned, and their class files written
+pub sides_can_write : (O N : World) (m n : ℕ) → IsSide O → IsSide N → O.platform ≡ N.platform → m ≡ length (all_mentions (classes O)) → m < 2 ^ 63 → n ≡ length (all_mentions (classes N)) → n < 2 ^ 63
+    → HasShortSide O → HasShortSide N → CanWrite O.platform O.release N.release
+sides_can_write O N m n old new same old_count old_small new_count new_small old_short new_short =
+    can_write (record { old = O; new = N })
+    (record {
+      sides = record { old_side = old; new_side = new; platform = same };
+      few = omega (arith, length-append (all_mentions (classes O)) (all_mentions (classes N)), old_count, old_small, new_count, new_small);
+    })
+    old_short new_short
+
+-- ---- the verdict
+
+each_mapped : {A B : Type 0} (P : B → Type 0) (f : A → B) (xs : List A) → EachOf (λ x. P (f x)) xs → EachOf P (map f xs)
+each_mapped P f [] h = tt
+each_mapped P f (x ∷ xs) h = (h.0, each_mapped P f xs h.1)
+
+some_holds : {A : Type 0} (xs : List A) → xs ≢ [] → IsTrue (holds_some xs)
+some_holds [] h = absurd (h refl)
+some_holds (x ∷ xs) h = refl
+
+module _ (platform old new : List ClassFacts) (v : Verdict) (can : CanWrite platform old new) (is : IsVerdict (side platform old) (side platform new) v) where
+  abbrev O : World
+  O = side platform old
+
+  abbrev N : World
+  N = side platform new
+
+  -- a client world in scope that meets none of the collisions isn't kept
+  pub some_broken : v.findings ≢ [] → (cs : List ClientClass) × IsBroken O N v cs
+  some_broken some = (verdict_is_exact platform old new v can.plan is).0 (some_holds v.findings some)
+
+  finding_shown : (f : Finding) → FilesShow O N (cause.Finding f) f.error × All (λ c. ¬ (PlannedMeet O N (cause.Finding f) c)) v.collisions → IsShown O N (cause.Finding f)
+  finding_shown f h = record {
+    files = refl;
+    shows = is_witness O N (cause.Finding f) f.error h.0;
+    meets = λ w k. subst (λ (u : Verdict). MeetsOnly O (cause.Finding f) u (planned O N (cause.Finding f))) (verdict_is_one O N v w is k) h.1;
+  }
+
+  collision_shown : (c : Collision) → FilesShow O N (cause.Collision c) c.error × PlannedMeet O N (cause.Collision c) c → IsShown O N (cause.Collision c)
+  collision_shown c h = record { files = refl; shows = is_witness O N (cause.Collision c) c.error h.0; meets = λ w k. h.1 }
+
+  -- the witness files of each finding and each collision show it
+  pub each_shown : All (IsShown O N) (causes_of v)
+  each_shown =
+      let law = each_has_its_files platform old new v can is in
+      All-from_recursion (IsShown O N) (causes_of v) (EachOf-append (IsShown O N) (map cause.Finding v.findings) (map cause.Collision v.collisions)
+      (each_mapped (IsShown O N) cause.Finding v.findings (EachOf-map finding_shown v.findings
+      (recursion_from_All (λ f. FilesShow O N (cause.Finding f) f.error × All (λ c. ¬ (PlannedMeet O N (cause.Finding f) c)) v.collisions) v.findings law.0)))
+      (each_mapped (IsShown O N) cause.Collision v.collisions (EachOf-map collision_shown v.collisions
+      (recursion_from_All (λ c. FilesShow O N (cause.Collision c) c.error × PlannedMeet O N (cause.Collision c) c) v.collisions law.1))))
+
+-- ---- what is to be shown
+
+pub show_dir : (dir : Option Bytes) (O N : World) (v : Verdict) (body : Body) → HasToShow dir O N v body → dir_in body ≡ dir
+show_dir None O N v body h = bare_dir body h
+show_dir (Some d) O N v (bodies.Bytes bytes) h = absurd h
+show_dir (Some d) O N v (bodies.Verdict json w) h = absurd h
+show_dir (Some d) O N v (bodies.Shown json of) h = ap Some h.0
+
+pub show_puts : (dir : Option Bytes) (O N : World) (v : Verdict) (body : Body) → HasToShow dir O N v body → puts_in body ≡ puts_below dir O N v
+show_puts None O N v body h = bare_puts body h
+show_puts (Some d) O N v (bodies.Bytes bytes) h = absurd h
+show_puts (Some d) O N v (bodies.Verdict json w) h = absurd h
+show_puts (Some d) O N v (bodies.Shown json of) h =
+    ap (λ (x : Bytes). witness_puts x of.old of.new of.verdict) h.0 ∙ ap (λ (W : World). witness_puts d W of.new of.verdict) h.1 ∙ ap (λ (W : World). witness_puts d O W of.verdict) h.2
+    ∙ ap (λ (w : Verdict). witness_puts d O N w) h.3
+
+module _ (platform old new : List ClassFacts) (c : Comparison) (is : IsComparison platform old new c) where
+  can_show : (of : Shown) → of.old ≡ c.old → of.new ≡ c.new → of.verdict ≡ c.verdict → CanShow of
+  can_show of o n v = record {
+    platform = ap (λ (W : World). W.platform) (o ∙ is.old_is) ∙ sym (ap (λ (W : World). W.platform) (n ∙ is.new_is));
+    verdict =
+        subst (λ (W : World). IsVerdict W of.new of.verdict) (sym (o ∙ is.old_is))
+        (subst (λ (W : World). IsVerdict (side platform old) W of.verdict) (sym (n ∙ is.new_is))
+        (subst (λ (w : Verdict). IsVerdict (side platform old) (side platform new) w) (sym v) is.verdict.exact));
+    few = rw v is.verdict.few;
+    old_names = subst HasShortSide (sym (o ∙ is.old_is)) (short_side platform old is.can.platform_short is.can.old_short);
+    new_names = subst HasShortSide (sym (n ∙ is.new_is)) (short_side platform new is.can.platform_short is.can.new_short);
+    shown =
+        subst (λ (W : World). All (IsShown W of.new) (causes_of of.verdict)) (sym (o ∙ is.old_is))
+        (subst (λ (W : World). All (IsShown (side platform old) W) (causes_of of.verdict)) (sym (n ∙ is.new_is))
+        (subst (λ (w : Verdict). All (IsShown (side platform old) (side platform new)) (causes_of w)) (sym v) (each_shown platform old new c.verdict is.can is.verdict.exact)));
+  }
+
+  pub can_show_any : (dir : Option Bytes) (body : Body) → HasToShow dir c.old c.new c.verdict body → CanShowAny body
+  can_show_any None body h = bare_can body h
+  can_show_any (Some d) (bodies.Bytes bytes) h = absurd h
+  can_show_any (Some d) (bodies.Verdict json w) h = absurd h
+  can_show_any (Some d) (bodies.Shown json of) h = can_show of h.1 h.2 h.3

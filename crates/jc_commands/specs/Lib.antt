@@ -1,0 +1,15 @@
+pub mod Tree
+pub mod Command
+pub mod Stop
+pub mod Witness
+pub mod ClassFiles
+pub mod Check
+pub mod Link
+pub mod Make
+pub mod Reports
+pub mod Causes
+pub mod Outputs
+pub mod Shown
+pub mod ReportValue
+pub mod Putting
+pub mod steps

@@ -1,0 +1,80 @@
+-- What each command reads, why that is refused, and its report.
+use Rattle.std.specs.Prelude.{◌≡◌, ℕ, Bool, true, List, [], ◌++◌, map, Option, None, Some}
+use Rattle.jc_base.specs.Outside.{FileOf}
+use Rattle.jc_facts.specs.declared.outcome.Outcome.{Outcome}
+use Rattle.jc_facts.specs.declared.verdict.Verdict.{Verdict}
+use Rattle.jc_facts.specs.Names.{Bytes}
+use Rattle.jc_facts.specs.client.Linked.{are_all_ok}
+use Rattle.jc_facts.specs.print.LinkText.{link_text_of}
+use Rattle.jc_facts.specs.print.MadeText.{made_text_of}
+use Rattle.jc_gate.specs.Gates.{GateOf, all_pass}
+use Rattle.jc_commands.specs.Check.{CheckRecords, IsUnfit, IsFit, IsVerdictOn, old_side, new_side, verdict_bytes, puts_below}
+use Rattle.jc_commands.specs.ClassFiles.{Told}
+use Rattle.jc_commands.specs.Command.{CommandOf, CheckCommand, LinkCommand, MakeCommand}
+use Rattle.jc_commands.specs.Link.{LinkRecords, refusal_of, AreOutcomesOf}
+use Rattle.jc_commands.specs.Make.{IsSize, IsVerdictOnMade}
+use Rattle.jc_commands.specs.Witness.{PutFile}
+use Rattle.jc_commands.specs.declared.stop.Stop.{Stop}
+
+-- ---- what is read
+
+-- this holds of the files, where they are told; for generated releases no file is read, and it holds whatever the files are
+abbrev pub ToldTo : CommandOf → Option (List FileOf) → (List FileOf → Type 0) → Type 0
+ToldTo (CheckCommand check) content P = Told content P
+ToldTo (LinkCommand link) content P = Told content P
+ToldTo (MakeCommand n) content P = (files : List FileOf) → P files
+
+-- the records of the command's trees, or the size of the releases that are generated for it
+abbrev pub RecordsOf : List FileOf → CommandOf → Type 0
+RecordsOf files (CheckCommand check) = CheckRecords files check
+RecordsOf files (LinkCommand link) = LinkRecords files link
+RecordsOf files (MakeCommand n) = IsSize n
+
+-- they are refused, and this is the first cause
+abbrev pub Refuses : (files : List FileOf) → (command : CommandOf) → RecordsOf files command → Stop → Type 0
+Refuses files (CheckCommand check) r stop = IsUnfit r.platform r.old r.new stop
+Refuses files (LinkCommand link) r stop = refusal_of r.platform r.release r.clients ≡ Some stop
+Refuses files (MakeCommand n) r stop = ⊥
+
+-- no cause to refuse them stands
+abbrev pub Accepts : (files : List FileOf) → (command : CommandOf) → RecordsOf files command → Type 0
+Accepts files (CheckCommand check) r = IsFit r.platform r.old r.new
+Accepts files (LinkCommand link) r = refusal_of r.platform r.release r.clients ≡ None
+Accepts files (MakeCommand n) r = Unit {0}
+
+-- ---- the report
+
+-- what is reported: of a check its verdict, of the linking of clients its outcomes, of generated releases the verdict on them
+abbrev pub ReportOf : CommandOf → Type 0
+ReportOf (CheckCommand check) = Verdict
+ReportOf (LinkCommand link) = List Outcome
+ReportOf (MakeCommand n) = Verdict
+
+-- the report on these records, where nothing refuses them
+abbrev pub IsReportOn : (files : List FileOf) → (command : CommandOf) → RecordsOf files command → ReportOf command → Type 0
+IsReportOn files (CheckCommand check) r v = IsVerdictOn r.platform r.old r.new v
+IsReportOn files (LinkCommand link) r list = AreOutcomesOf r.platform r.release r.clients list
+IsReportOn files (MakeCommand n) r v = IsVerdictOnMade n v
+
+-- the rules of the findings of a verdict, and then those of its collisions
+abbrev pub rules_of : Verdict → List ℕ
+rules_of v = map (λ f. f.rule) v.findings ++ map (λ c. c.rule) v.collisions
+
+-- whether what was asked is so: of a check, each gate that it names passes, once it has seen those rules; of a link, each outcome is Ok; of generated
+-- releases nothing is asked
+abbrev pub passes : List GateOf → (command : CommandOf) → ReportOf command → Bool
+passes gates (CheckCommand check) v = all_pass gates check.gates (rules_of v)
+passes gates (LinkCommand link) list = are_all_ok list
+passes gates (MakeCommand n) v = true
+
+-- the bytes that are put
+abbrev pub bytes_of : (command : CommandOf) → ReportOf command → Bytes
+bytes_of (CheckCommand check) v = verdict_bytes check.json v
+bytes_of (LinkCommand link) list = link_text_of list
+bytes_of (MakeCommand n) v = made_text_of n v
+
+-- the witness files that are put before them: those of the verdict, where a check asks for them
+abbrev pub puts_of : (files : List FileOf) → (command : CommandOf) → RecordsOf files command → ReportOf command → List PutFile
+puts_of files (CheckCommand check) r v = puts_below check.witness (old_side r) (new_side r) v
+puts_of files (LinkCommand link) r list = []
+puts_of files (MakeCommand n) r v = []

@@ -1,0 +1,151 @@
+//! Putting a report with its witness files, or the line that says why there is none.
+ghost use Rattle.std.specs.Prelude.{◌≡◌, ◌≢◌, ◌≤◌, ◌⊎◌, List, ℕ, None, Some, OnOk, OnErr, IsErrOf, map};
+ghost use Rattle.jc_base.specs.States.{change};
+ghost use Rattle.jc_gate.specs.Gates.{gate_of};
+ghost use Rattle.jc_commands.specs.Check.{verdict_bytes};
+ghost use Rattle.jc_commands.specs.Outputs.{PutsAll, PutsFront, HasPutFault, HasFolderFault, IsUntouched};
+ghost use Rattle.jc_commands.specs.Stop.{line_of, status_of};
+ghost use Rattle.jc_commands.specs.Witness.{PutsFiles, PutsSome};
+ghost use Rattle.jc_commands.specs.ReportValue.{CanShowAny, bytes_in, dir_in, puts_in, passes_by, status_by};
+ghost use Rattle.jc_commands.specs.Putting.{IsPutWith, IsPutAfter, IsCutBefore};
+ghost use Rattle.jc_commands.specs.declared.stop.Stop.{Stop};
+
+use crate::body::Body;
+use crate::put_witnesses::put_witnesses;
+use crate::report::Report;
+use crate::status::{NO_MEMORY, WRITE_FAULT};
+use crate::stop::Stop;
+use jc_base::folder::{Folder, FolderError};
+use jc_base::sink::{Sink, SinkError};
+use jc_facts::verdict::Verdict;
+use jc_gate::gate::Gate;
+use jc_report::json::json;
+use jc_report::put_lines::put_lines;
+use jc_report::put_text::put_text;
+use std::alloc::Global;
+
+// Puts the JSON of a verdict where it is asked for, made whole, and else its text, made line by line.
+fn put_verdict<O: Sink>(
+    alloc: Global,
+    as_json: bool,
+    verdict: &Verdict,
+    out: &mut O,
+) -> Result<(), SinkError>
+    ensures ok { OnOk result (PutsAll (change O.state out.old out.new) (verdict_bytes as_json verdict.now)) }
+    ensures err { OnErr result (PutsFront (change O.state out.old out.new) (verdict_bytes as_json verdict.now)) }
+    ensures never_falls { (O.state out.old).faults ≤ (O.state out.new).faults }
+    ensures cause { IsErrOf result SinkError.Fault → HasPutFault (change O.state out.old out.new) }
+{
+    if !as_json {
+        return match put_text(alloc, verdict, out) {
+            Ok(()) => Ok(()),
+            Err(error) => Err(error),
+        };
+    }
+    let Ok(bytes) = json(alloc, verdict) else {
+        return Err(SinkError::Memory);
+    };
+    match put_lines(bytes.as_slice(), out) {
+        Ok(()) => Ok(()),
+        Err(error) => Err(error),
+    }
+}
+
+// Puts the bytes of a report.
+fn put_body<O: Sink>(alloc: Global, body: &Body<'_>, out: &mut O) -> Result<(), SinkError>
+    ensures ok { OnOk result (PutsAll (change O.state out.old out.new) (bytes_in body.now)) }
+    ensures err { OnErr result (PutsFront (change O.state out.old out.new) (bytes_in body.now)) }
+    ensures never_falls { (O.state out.old).faults ≤ (O.state out.new).faults }
+    ensures cause { IsErrOf result SinkError.Fault → HasPutFault (change O.state out.old out.new) }
+{
+    match body {
+        Body::Bytes(bytes) => match put_lines(bytes.as_slice(), out) {
+            Ok(()) => Ok(()),
+            Err(error) => Err(error),
+        },
+        Body::Verdict { json, verdict } => match put_verdict(alloc, *json, verdict, out) {
+            Ok(()) => Ok(()),
+            Err(error) => Err(error),
+        },
+        Body::Shown { json, of } => match put_verdict(alloc, *json, &of.verdict, out) {
+            Ok(()) => Ok(()),
+            Err(error) => Err(error),
+        },
+    }
+}
+
+// Puts the witness files of what is to be shown.
+fn put_shown<F: Folder>(alloc: Global, body: &Body<'_>, folder: &mut F) -> Result<(), FolderError>
+    requires { CanShowAny body.now }
+    ensures whole { OnOk result (PutsFiles (change F.state folder.old folder.new) (puts_in body.now)) }
+    ensures some { OnErr result (PutsSome (change F.state folder.old folder.new) (puts_in body.now)) }
+    ensures asked_for { OnErr result ((path : List ℕ) × (dir_in body.now ≡ Some path)) }
+    ensures untouched { dir_in body.now ≡ None → IsUntouched (change F.state folder.old folder.new) }
+    ensures cause { IsErrOf result FolderError.Fault → HasFolderFault (change F.state folder.old folder.new) }
+{
+    match body {
+        Body::Bytes(_) => Ok(()),
+        Body::Verdict { .. } => Ok(()),
+        Body::Shown { of, .. } => match put_witnesses(alloc, of, folder) {
+            Ok(()) => Ok(()),
+            Err(error) => Err(error),
+        },
+    }
+}
+
+// Puts the bytes of a report and then asks the gates for its status, which it answers.
+fn put_output<O: Sink>(
+    alloc: Global,
+    report: &Report<'_>,
+    out: &mut O,
+    gates: Vec<Box<dyn Gate>>,
+) -> u8
+    ensures { IsPutWith (bytes_in report.now.body) (status_by (passes_by (map (λ gate. gate_of (⟦<dyn Gate as Gate>⟧ gate.vtable) gate.value) gates.items) report.now.condition)) (change O.state out.old out.new) result }
+{
+    match put_body(alloc, &report.body, out) {
+        Ok(()) => report.status(gates),
+        Err(SinkError::Fault) => WRITE_FAULT,
+        Err(SinkError::Memory) => NO_MEMORY,
+    }
+}
+
+/// Puts a report, first its witness files and then its bytes, line by line, and answers its status by
+/// the gates. Where a put fails or there is no memory, the status says so, nothing more is put, and no
+/// gate is asked. All gates are dropped.
+pub fn put_report<F: Folder, O: Sink>(
+    alloc: Global,
+    report: &Report<'_>,
+    witnesses: &mut F,
+    out: &mut O,
+    gates: Vec<Box<dyn Gate>>,
+) -> u8
+    requires { CanShowAny report.now.body }
+    ensures put { IsPutAfter (puts_in report.now.body) (change F.state witnesses.old witnesses.new) (bytes_in report.now.body) (status_by (passes_by (map (λ gate. gate_of (⟦<dyn Gate as Gate>⟧ gate.vtable) gate.value) gates.items) report.now.condition)) (change O.state out.old out.new) result
+        ⊎ IsCutBefore (dir_in report.now.body) (puts_in report.now.body) (change F.state witnesses.old witnesses.new) (change O.state out.old out.new) result }
+    ensures untouched { dir_in report.now.body ≡ None → IsUntouched (change F.state witnesses.old witnesses.new) }
+{
+    match put_shown(alloc, &report.body, witnesses) {
+        Ok(()) => put_output(alloc, report, out, gates),
+        Err(FolderError::Fault) => WRITE_FAULT,
+        Err(FolderError::Memory) => NO_MEMORY,
+    }
+}
+
+/// Puts the line that says why there is no report, and answers its status. Want of memory has no
+/// line.
+pub fn put_stop<E: Sink>(alloc: Global, stop: &Stop, err: &mut E) -> u8
+    ensures put { IsPutWith (line_of stop.now) (status_of stop.now) (change E.state err.old err.new) result }
+    ensures has_line { result ≡ WRITE_FAULT → stop.now ≢ Stop.Memory }
+{
+    if let Stop::Memory = stop {
+        return NO_MEMORY;
+    }
+    let Ok(line) = stop.line(alloc) else {
+        return NO_MEMORY;
+    };
+    match err.put(line.as_slice()) {
+        Ok(()) => stop.status(),
+        Err(SinkError::Fault) => WRITE_FAULT,
+        Err(SinkError::Memory) => NO_MEMORY,
+    }
+}

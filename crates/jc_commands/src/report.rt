@@ -1,0 +1,156 @@
+//! What a command comes to.
+ghost use Rattle.std.specs.Prelude.{◌≡◌, ◌++◌, IfOk, OnOk, map};
+ghost use Rattle.std.specs.Option.{option_map};
+ghost use Rattle.jc_facts.specs.client.Linked.{are_all_ok};
+ghost use Rattle.jc_words.specs.CommandView.{check_of};
+ghost use Rattle.jc_commands.specs.Check.{verdict_bytes};
+ghost use Rattle.jc_commands.specs.Command.{LinkOf, CheckCommand, LinkCommand, MakeCommand};
+ghost use Rattle.jc_gate.specs.Gates.{gate_of};
+ghost use Rattle.jc_commands.specs.Reports.{rules_of as rules_in};
+ghost use Rattle.jc_commands.specs.ReportValue.{TellsOf, HasToShow, IsBare, bytes_in, passes_by, status_by};
+
+use crate::body::Body;
+use crate::comparison::Comparison;
+use crate::shown::Shown;
+use crate::status::{NOT_PASSED, PASSED};
+use jc_facts::finding::Finding;
+use jc_facts::outcome::Outcome;
+use jc_facts::verdict::{Collision, Verdict};
+use jc_gate::ask::all_pass;
+use jc_gate::gate::Gate;
+use jc_report::link_text::link_text;
+use jc_report::made_text::made_text;
+use jc_words::check::Check;
+use std::alloc::{AllocError, Global};
+
+/// Where a command passes, once its report is put.
+#[derive(Drop)]
+pub enum Condition<'a> {
+    /// Where this is so.
+    Known(bool),
+    /// Where each gate of these names passes, once it has seen these rules in their order.
+    ByGates(Vec<&'a str>, Vec<u8>),
+}
+
+/// What a command comes to: what is to be put, and where it passes.
+#[derive(Drop)]
+pub struct Report<'a> {
+    pub body: Body<'a>,
+    pub condition: Condition<'a>,
+}
+
+// The rules of the findings, and then those of the collisions.
+fn rules_of(alloc: Global, verdict: &Verdict) -> Result<Vec<u8>, AllocError>
+    ensures { IfOk result (λ rules. rules.items ≡ rules_in verdict.now) }
+{
+    let mut rules = rules_of_findings(alloc, verdict.findings.as_slice())?;
+    push_rules(&mut rules, verdict.collisions.as_slice())?;
+    Ok(rules)
+}
+
+fn rules_of_findings(alloc: Global, findings: &[Finding]) -> Result<Vec<u8>, AllocError>
+    ensures { IfOk result (λ rules. rules.items ≡ map (λ f. f.rule) findings.now) }
+{
+    let mut rules = Vec::new(alloc);
+    for finding in findings {
+        rules.push(finding.rule)?;
+    }
+    Ok(rules)
+}
+
+// Adds the rules of the collisions.
+fn push_rules(rules: &mut Vec<u8>, collisions: &[Collision]) -> Result<(), AllocError>
+    ensures { OnOk result (rules.new.items ≡ rules.old.items ++ map (λ c. c.rule) collisions.now) }
+{
+    for collision in collisions {
+        rules.push(collision.rule)?;
+    }
+    Ok(())
+}
+
+// What is put of a comparison: its verdict, which is shown where there is a folder for that. Else the
+// tables are dropped.
+fn body_of(comparison: Comparison, json: bool, dir: Option<&str>) -> Body<'_>
+    ensures bytes { bytes_in result ≡ verdict_bytes json comparison.verdict }
+    ensures shown { HasToShow (option_map (λ d. d.now) dir.entry) comparison.old comparison.new comparison.verdict result }
+{
+    let Comparison { old, new, verdict } = comparison;
+    match dir {
+        Some(dir) => Body::Shown {
+            json,
+            of: Shown {
+                dir,
+                old,
+                new,
+                verdict,
+            },
+        },
+        None => Body::Verdict { json, verdict },
+    }
+}
+
+// Whether each outcome is Ok.
+fn are_ok(outcomes: &[Outcome]) -> bool
+    ensures { result ≡ are_all_ok outcomes.now }
+{
+    outcomes.iter().all(|outcome| outcome.error.is_none())
+}
+
+impl<'a> Report<'a> {
+    /// The text or JSON of a comparison's verdict, as the check asks, which passes by the gates that the
+    /// check names. It is shown by witness files where the check has a folder for them.
+    pub fn of_comparison(
+        alloc: Global,
+        comparison: Comparison,
+        check: &Check<'a>,
+    ) -> Result<Report<'a>, AllocError>
+        ensures tells { IfOk result (TellsOf (CheckCommand (check_of check.now)) comparison.verdict) }
+        ensures shown { IfOk result (λ report. HasToShow (check_of check.now).witness comparison.old comparison.new comparison.verdict report.body) }
+    {
+        let names = check.gate_names(alloc)?;
+        let rules = rules_of(alloc, &comparison.verdict)?;
+        Ok(Report {
+            body: body_of(comparison, check.json, check.witness),
+            condition: Condition::ByGates(names, rules),
+        })
+    }
+
+    /// The text of the outcomes of linking, which passes where each is Ok. Nothing is shown.
+    pub fn of_outcomes(alloc: Global, outcomes: &[Outcome]) -> Result<Report<'a>, AllocError>
+        ensures tells { IfOk result (λ report. (link : LinkOf) → TellsOf (LinkCommand link) outcomes.now report) }
+        ensures shown { IfOk result (λ report. IsBare report.body) }
+    {
+        let text = link_text(alloc, outcomes)?;
+        let passes = are_ok(outcomes);
+        Ok(Report {
+            body: Body::Bytes(text),
+            condition: Condition::Known(passes),
+        })
+    }
+
+    /// The text of the verdict on generated releases of so many classes, which passes whatever it is.
+    /// Nothing is shown.
+    pub fn of_made(alloc: Global, classes: u32, verdict: &Verdict) -> Result<Report<'a>, AllocError>
+        ensures tells { IfOk result (TellsOf (MakeCommand classes) verdict.now) }
+        ensures shown { IfOk result (λ report. IsBare report.body) }
+    {
+        let text = made_text(alloc, classes, verdict)?;
+        Ok(Report {
+            body: Body::Bytes(text),
+            condition: Condition::Known(true),
+        })
+    }
+
+    /// The exit status once it is put, by these gates. They are dropped.
+    pub fn status(&self, gates: Vec<Box<dyn Gate>>) -> u8
+        ensures { result ≡ status_by (passes_by (map (λ gate. gate_of (⟦<dyn Gate as Gate>⟧ gate.vtable) gate.value) gates.items) self.now.condition) }
+    {
+        let passes = match &self.condition {
+            Condition::Known(passes) => *passes,
+            Condition::ByGates(names, rules) => {
+                all_pass(gates, names.as_slice(), rules.as_slice())
+            }
+        };
+        if passes { PASSED } else { NOT_PASSED }
+    }
+}
