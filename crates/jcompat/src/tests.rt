@@ -9,13 +9,16 @@ mod limits;
 mod links;
 mod outside;
 mod refusals;
+mod rows;
 mod verdicts;
 mod witnesses;
 mod words;
 
 use crate::laws::run_surely;
 use crate::run_with_gates;
-use crate::tests::assembler::{files_of, put_last};
+use crate::tests::assembler::{cut, number};
+use crate::tests::rows::{Row, in_lines, words_of};
+use crate::tests::witnesses::{CAPTURED, holds, see_witnesses};
 use jc_base::mem_file::{MemFile, is_file_list};
 use jc_base::mem_folder::MemFolder;
 use jc_base::mem_sink::MemSink;
@@ -29,51 +32,34 @@ use jc_gate::at_most::AtMost;
 use jc_gate::collisions::Collisions;
 use jc_gate::gate::Gate;
 use jc_gate::links::Links;
-use std::alloc::Global;
 use std::process::Abort;
+use std::rt::Files;
 
-const WORDS: &[&str] = &["check", "--platform", "P", "--old", "O", "--new", "N"];
+/// What the helpers take of a test: that it can end, and has files and memory.
+trait Host: Abort + Files + AllocGlobal {}
 
-/// What a run is to say: its status, what it puts to the output, and to the error stream.
-type Said<'a> = (u8, &'a str, &'a str);
+impl<R: Abort + Files + AllocGlobal> Host for R {}
 
-fn texts(rt: &impl Abort, alloc: Global, words: &[&str]) -> Vec<Text> {
-    let mut texts = Vec::new(alloc);
-    for word in words {
-        let text = Text::from_str(alloc, word).expect(rt, "memory");
-        put_last(rt, &mut texts, text);
-    }
-    texts
+// The number of the call on this object that fails, 0 for none.
+fn failing(rt: &impl Host, calls: &str, object: &str) -> Vec<u64> {
+    Vec::from_slice(rt.alloc(), &[number(calls, object)]).expect(rt, "memory")
 }
 
-// Trees of these files, of which the given calls fail.
-fn trees_over(rt: &impl Abort, alloc: Global, files: Vec<MemFile>, failing: &[u64]) -> MemTrees {
+fn trees(rt: &impl Host, files: Vec<MemFile>, calls: &str) -> MemTrees {
     assert!(rt; is_file_list(files.as_slice()));
-    let failing = Vec::from_slice(alloc, failing).expect(rt, "memory");
-    MemTrees::new(alloc, files, failing)
+    MemTrees::new(rt.alloc(), files, failing(rt, calls, "trees"))
 }
 
-// Trees of the files of these lines.
-fn trees_of(rt: &impl Abort, alloc: Global, lines: &[&str]) -> MemTrees {
-    trees_over(rt, alloc, files_of(rt, alloc, lines), &[])
+fn sink(rt: &impl Host, calls: &str, name: &str) -> MemSink {
+    MemSink::new(rt.alloc(), failing(rt, calls, name))
 }
 
-// The same that don't fail.
-fn sure_trees_of(rt: &impl Abort, alloc: Global, lines: &[&str]) -> SureTrees {
-    let files = files_of(rt, alloc, lines);
-    assert!(rt; is_file_list(files.as_slice()));
-    SureTrees::new(files)
-}
-
-fn sink(rt: &impl Abort, alloc: Global, failing: &[u64]) -> MemSink {
-    MemSink::new(alloc, Vec::from_slice(alloc, failing).expect(rt, "memory"))
-}
-
-fn folder(rt: &impl Abort, alloc: Global, failing: &[u64]) -> MemFolder {
-    MemFolder::new(alloc, Vec::from_slice(alloc, failing).expect(rt, "memory"))
+fn folder(rt: &impl Host, calls: &str) -> MemFolder {
+    MemFolder::new(rt.alloc(), failing(rt, calls, "folder"))
 }
 
 /// A run that ended.
+#[derive(Drop)]
 struct Ended {
     status: u8,
     out: MemSink,
@@ -81,46 +67,13 @@ struct Ended {
     folder: MemFolder,
 }
 
-// One call at each exit of a function that owns it, where a derived drop is written out.
-impl Drop for Ended {
-    fn drop(self) {
-        let Ended {
-            status: _,
-            out: _,
-            err: _,
-            folder: _,
-        } = self;
-    }
-}
-
-// Whether a run that put these bytes said just this.
-fn is_just(status: u8, out: &[u8], err: &[u8], said: &Said<'_>) -> bool {
-    let (wanted, output, line) = *said;
-    status == wanted && out == output.as_bytes() && err == line.as_bytes()
-}
-
-impl Ended {
-    // Whether it said just this.
-    fn says(&self, said: &Said<'_>) -> bool {
-        is_just(self.status, self.out.bytes(), self.err.bytes(), said)
-    }
-}
-
-// A run of these words over these trees, where the given calls on the folder, on the output and on
-// the error stream fail.
-fn run_over<T: Trees>(
-    rt: &impl Abort,
-    alloc: Global,
-    words: &[Text],
-    trees: &mut T,
-    failing: [&[u64]; 3],
-) -> Ended {
-    let mut folder = folder(rt, alloc, failing[0]);
-    let mut out = sink(rt, alloc, failing[1]);
-    let mut err = sink(rt, alloc, failing[2]);
-    let status = run_with_gates(alloc, words, trees, &mut out, &mut err, &mut folder).expect(
-        rt, "memory",
-    );
+// A run of these words over these trees, where calls on the folder and on both streams fail.
+fn run_over<T: Trees>(rt: &impl Host, words: &[Text], trees: &mut T, calls: &str) -> Ended {
+    let mut folder = folder(rt, calls);
+    let mut out = sink(rt, calls, "out");
+    let mut err = sink(rt, calls, "err");
+    let run = run_with_gates(rt.alloc(), words, trees, &mut out, &mut err, &mut folder);
+    let status = run.expect(rt, "memory");
     Ended {
         status,
         out,
@@ -129,19 +82,21 @@ fn run_over<T: Trees>(
     }
 }
 
-// Whether a run of these words over these trees says just this.
-fn says<T: Trees>(
-    rt: &impl Abort,
-    alloc: Global,
-    words: &[Text],
-    trees: &mut T,
-    said: &Said<'_>,
-) -> bool {
-    run_over(rt, alloc, words, trees, [&[], &[], &[]]).says(said)
+// A run of the words of this line over these files, where calls fail.
+fn run_on(rt: &impl Host, line: &str, files: Vec<MemFile>, calls: &str) -> Ended {
+    let words = words_of(rt, line);
+    run_over(rt, words.as_slice(), &mut trees(rt, files, calls), calls)
+}
+
+// Sees that the run said what the row says.
+fn see_ended(rt: &impl Host, row: &Row<'_>, ended: &Ended) {
+    let said = (ended.status, ended.out.bytes(), ended.err.bytes());
+    assert!(rt; row.is_said(rt, said), "{}", row.shown());
 }
 
 // The gates of the program.
-fn gates_of_program(rt: &impl Abort, alloc: Global) -> Vec<Box<dyn Gate>> {
+fn gates_of_program(rt: &impl Host) -> Vec<Box<dyn Gate>> {
+    let alloc = rt.alloc();
     let mut gates: Vec<Box<dyn Gate>> = Vec::new(alloc);
     gates
         .push(Box::new(alloc, Links::new()).expect(rt, "memory"))
@@ -155,35 +110,68 @@ fn gates_of_program(rt: &impl Abort, alloc: Global) -> Vec<Box<dyn Gate>> {
     gates
 }
 
-// The same with sinks and a folder that don't fail.
-fn says_surely(
-    rt: &impl Abort,
-    alloc: Global,
-    words: &[Text],
-    trees: &mut SureTrees,
-    said: &Said<'_>,
-) -> bool {
-    let gates = gates_of_program(rt, alloc);
+// Sees that a run in which no call can fail says what the row says.
+fn see_sure(rt: &impl Host, row: &Row<'_>) {
+    let alloc = rt.alloc();
+    let files = row.files(rt);
+    assert!(rt; is_file_list(files.as_slice()));
+    let mut trees = SureTrees::new(files);
+    let words = words_of(rt, row.line());
+    let words = words.as_slice();
     let mut out = SureSink::new(alloc);
     let mut err = SureSink::new(alloc);
     let mut folder = SureFolder::new(alloc);
-    let status = run_surely(alloc, words, trees, &mut out, &mut err, &mut folder, gates);
-    is_just(status, out.bytes(), err.bytes(), said)
+    let gates = gates_of_program(rt);
+    let status = run_surely(
+        alloc,
+        words,
+        &mut trees,
+        &mut out,
+        &mut err,
+        &mut folder,
+        gates,
+    );
+    assert!(rt;
+        row.is_said(rt, (status, out.bytes(), err.bytes())),
+        "{}",
+        row.shown()
+    );
 }
 
-// Sees that a run of these words over the files of these lines says just this, over either trees.
-fn see(
-    rt: &impl Abort,
-    alloc: Global,
-    shown: &str,
-    words: &[&str],
-    lines: &[&str],
-    said: &Said<'_>,
-) {
-    let words = texts(rt, alloc, words);
-    let words = words.as_slice();
-    let is_said = says(rt, alloc, words, &mut trees_of(rt, alloc, lines), said);
-    assert!(rt; is_said, "{shown}");
-    let is_sure = says_surely(rt, alloc, words, &mut sure_trees_of(rt, alloc, lines), said);
-    assert!(rt; is_sure, "{shown}");
+// Whether the folder holds as many files of the witness of a captured call as it should, and counts a
+// put that failed.
+fn is_left(ended: &Ended, calls: &str) -> bool {
+    let has_fault = ended.status == 5 && number(calls, "folder") != 0;
+    ended.folder.faults() == u64::from(has_fault)
+        && holds(&ended.folder, CAPTURED, number(calls, "held"))
+}
+
+fn is_failing(calls: &str) -> bool {
+    number(calls, "trees") != 0
+        || number(calls, "folder") != 0
+        || number(calls, "out") != 0
+        || number(calls, "err") != 0
+}
+
+// Sees that a run says what the row says, over trees and streams that may fail, and, where no call
+// does, over those that can't.
+fn see_run(rt: &impl Host, row: &Row<'_>) {
+    let calls = row.shown();
+    let ended = run_on(rt, row.line(), row.files(rt), calls);
+    see_ended(rt, row, &ended);
+    assert!(rt; is_left(&ended, calls), "{calls}");
+    if !is_failing(calls) {
+        see_sure(rt, row);
+    }
+}
+
+// Sees that each row of the table is right, and its witnesses are.
+fn see_table(rt: &impl Host, table: &str) {
+    let lines = in_lines(rt, table);
+    let (common, rows) = cut(lines.as_str(), "#");
+    for own in rows.split('#') {
+        let row = Row { common, own };
+        see_run(rt, &row);
+        see_witnesses(rt, &row);
+    }
 }

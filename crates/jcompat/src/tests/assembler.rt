@@ -1,18 +1,17 @@
 //! A small assembler of class files without code (JVMS 4.1).
+use super::Host;
 use jc_base::mem_file::MemFile;
 use jc_base::text::Text;
-use std::alloc::Global;
-use std::process::Abort;
 
 const OBJECT: &str = "java/lang/Object";
 
 /// The text before the mark, and the text behind it, or the text and nothing.
-pub(crate) fn cut(text: &str, mark: char) -> (&str, &str) {
+pub(super) fn cut<'a>(text: &'a str, mark: &str) -> (&'a str, &'a str) {
     text.split_once(mark).unwrap_or((text, ""))
 }
 
 /// Puts the item behind the others.
-pub(crate) fn put_last<T: Drop>(rt: &impl Abort, items: &mut Vec<T>, item: T) {
+pub(super) fn put_last<T: Drop>(rt: &impl Host, items: &mut Vec<T>, item: T) {
     items.push(item).expect(rt, "memory")
 }
 
@@ -24,7 +23,7 @@ fn hex(digits: &str) -> u16 {
 // The value of a word `KEY=VALUE` of this key. `init` is a method, a public constructor without
 // parameters.
 fn value_of<'a>(word: &'a str, key: &str) -> Option<&'a str> {
-    let (found, value) = cut(word, '=');
+    let (found, value) = cut(word, "=");
     if found == key {
         Some(value)
     } else if found == "init" && key == "method" {
@@ -34,9 +33,9 @@ fn value_of<'a>(word: &'a str, key: &str) -> Option<&'a str> {
     }
 }
 
-// The values of the words of this key.
-fn values<'a>(rt: &impl Abort, alloc: Global, words: &'a str, key: &str) -> Vec<&'a str> {
-    let mut values = Vec::new(alloc);
+/// The values of the words of this key.
+pub(super) fn values<'a>(rt: &impl Host, words: &'a str, key: &str) -> Vec<&'a str> {
+    let mut values = Vec::new(rt.alloc());
     for word in words.split_whitespace() {
         if let Some(value) = value_of(word, key) {
             put_last(rt, &mut values, value);
@@ -45,8 +44,8 @@ fn values<'a>(rt: &impl Abort, alloc: Global, words: &'a str, key: &str) -> Vec<
     values
 }
 
-// The first of them, or what stands for it where there is none.
-fn value_or<'a>(words: &'a str, key: &str, other: &'a str) -> &'a str {
+/// The first of them, or what stands for it where there is none.
+pub(super) fn value_or<'a>(words: &'a str, key: &str, other: &'a str) -> &'a str {
     for word in words.split_whitespace() {
         if let Some(value) = value_of(word, key) {
             return value;
@@ -55,29 +54,22 @@ fn value_or<'a>(words: &'a str, key: &str, other: &'a str) -> &'a str {
     other
 }
 
+/// The number of this key, 0 where there is none.
+pub(super) fn number(words: &str, key: &str) -> u64 {
+    value_or(words, key, "").parse().unwrap_or(0)
+}
+
+const KNOWN: &str =
+    "init method field implements permits nest_member nest_host flags extends sealed";
+
 // Whether the word says something of a class.
 fn is_known(word: &str) -> bool {
-    matches!(
-        cut(word, '=').0,
-        "init"
-            | "method"
-            | "field"
-            | "implements"
-            | "permits"
-            | "nest_member"
-            | "nest_host"
-            | "flags"
-            | "extends"
-            | "sealed"
-    )
+    let (key, _) = cut(word, "=");
+    KNOWN.split_whitespace().any(|known| known == key)
 }
 
-fn push(rt: &impl Abort, bytes: &mut Vec<u8>, more: &[u8]) {
+fn push(rt: &impl Host, bytes: &mut Vec<u8>, more: &[u8]) {
     bytes.extend_from_slice(more).expect(rt, "memory")
-}
-
-fn push_number(rt: &impl Abort, bytes: &mut Vec<u8>, number: u16) {
-    push(rt, bytes, &number.to_be_bytes())
 }
 
 // How many there are.
@@ -85,72 +77,59 @@ fn count<T>(items: &[T]) -> u16 {
     items.len().min(65_535) as u16
 }
 
-/// A class file that is made: its constant pool (JVMS 4.4), and what stands behind it.
+/// A class file that is made: its constant pool (JVMS 4.4), the index of the pool's next entry, and what
+/// stands behind the pool.
+#[derive(Drop)]
 struct ClassFile {
     pool: Vec<u8>,
-    // The index of the pool's next entry.
     next: u16,
     body: Vec<u8>,
 }
 
-// One call at each exit of a function that owns it, where a derived drop is written out.
-impl Drop for ClassFile {
-    fn drop(self) {
-        let ClassFile {
-            pool: _,
-            next: _,
-            body: _,
-        } = self;
-    }
-}
-
 impl ClassFile {
-    fn new(alloc: Global) -> ClassFile {
+    fn new(rt: &impl Host) -> ClassFile {
         ClassFile {
-            pool: Vec::new(alloc),
+            pool: Vec::new(rt.alloc()),
             next: 1,
-            body: Vec::new(alloc),
+            body: Vec::new(rt.alloc()),
         }
     }
 
-    fn put(&mut self, rt: &impl Abort, number: u16) {
-        push_number(rt, &mut self.body, number)
+    fn put(&mut self, rt: &impl Host, number: u16) {
+        push(rt, &mut self.body, &number.to_be_bytes())
     }
 
-    // The index of the entry that was begun.
-    fn end(&mut self) -> u16 {
+    // Adds an entry of this tag, a number and bytes, and gives its index.
+    fn entry(&mut self, rt: &impl Host, tag: u8, number: u16, bytes: &[u8]) -> u16 {
+        push(rt, &mut self.pool, &[tag]);
+        push(rt, &mut self.pool, &number.to_be_bytes());
+        push(rt, &mut self.pool, bytes);
         let index = self.next;
         self.next = index.saturating_add(1);
         index
     }
 
-    // Adds a text, and gives its index.
-    fn text(&mut self, rt: &impl Abort, text: &str) -> u16 {
-        push(rt, &mut self.pool, &[1]);
-        push_number(rt, &mut self.pool, count(text.as_bytes()));
-        push(rt, &mut self.pool, text.as_bytes());
-        self.end()
+    fn text(&mut self, rt: &impl Host, text: &str) -> u16 {
+        self.entry(rt, 1, count(text.as_bytes()), text.as_bytes())
     }
 
-    fn put_text(&mut self, rt: &impl Abort, text: &str) {
+    fn put_text(&mut self, rt: &impl Host, text: &str) {
         let index = self.text(rt, text);
         self.put(rt, index)
     }
 
     // Puts the index of a class, 0 for no name.
-    fn put_class(&mut self, rt: &impl Abort, name: &str) {
+    fn put_class(&mut self, rt: &impl Host, name: &str) {
         if name.is_empty() {
             return self.put(rt, 0);
         }
         let text = self.text(rt, name);
-        push(rt, &mut self.pool, &[7]);
-        push_number(rt, &mut self.pool, text);
-        let index = self.end();
+        let index = self.entry(rt, 7, text, &[]);
         self.put(rt, index)
     }
 
     // Puts the count and the indices of classes.
-    fn put_classes(&mut self, rt: &impl Abort, names: &[&str]) {
+    fn put_classes(&mut self, rt: &impl Host, names: &[&str]) {
         self.put(rt, count(names));
         for name in names {
             self.put_class(rt, name);
@@ -158,30 +137,28 @@ impl ClassFile {
     }
 
     // Begins an attribute of so many bytes (JVMS 4.7).
-    fn put_attribute(&mut self, rt: &impl Abort, name: &str, len: u16) {
+    fn put_attribute(&mut self, rt: &impl Host, name: &str, len: u16) {
         self.put_text(rt, name);
         self.put(rt, 0);
         self.put(rt, len)
     }
 
     // Puts the attributes of a member: its constant value, where it has one.
-    fn put_value(&mut self, rt: &impl Abort, value: &str) {
-        let Ok(number) = value.parse() else {
+    fn put_value(&mut self, rt: &impl Host, value: &str) {
+        let Ok(number) = value.parse::<u16>() else {
             return self.put(rt, 0);
         };
         self.put(rt, 1);
         self.put_attribute(rt, "ConstantValue", 2);
-        push(rt, &mut self.pool, b"\x03\0\0");
-        push_number(rt, &mut self.pool, number);
-        let index = self.end();
+        let index = self.entry(rt, 3, 0, &number.to_be_bytes());
         self.put(rt, index)
     }
 
     // Puts the member `FLAGS:NAME:DESCRIPTOR` or, with a constant value, `FLAGS:NAME:DESCRIPTOR:VALUE`.
-    fn put_member(&mut self, rt: &impl Abort, member: &str) {
-        let (flags, rest) = cut(member, ':');
-        let (name, typed) = cut(rest, ':');
-        let (descriptor, value) = cut(typed, ':');
+    fn put_member(&mut self, rt: &impl Host, member: &str) {
+        let (flags, rest) = cut(member, ":");
+        let (name, typed) = cut(rest, ":");
+        let (descriptor, value) = cut(typed, ":");
         self.put(rt, hex(flags));
         self.put_text(rt, name);
         self.put_text(rt, descriptor);
@@ -189,7 +166,7 @@ impl ClassFile {
     }
 
     // Puts the count of members, and each.
-    fn put_members(&mut self, rt: &impl Abort, members: &[&str]) {
+    fn put_members(&mut self, rt: &impl Host, members: &[&str]) {
         self.put(rt, count(members));
         for member in members {
             self.put_member(rt, member);
@@ -197,7 +174,7 @@ impl ClassFile {
     }
 
     // Puts an attribute that lists classes, where there are any.
-    fn put_list(&mut self, rt: &impl Abort, name: &str, names: &[&str]) {
+    fn put_list(&mut self, rt: &impl Host, name: &str, names: &[&str]) {
         if !names.is_empty() {
             let len = count(names).saturating_mul(2).saturating_add(2);
             self.put_attribute(rt, name, len);
@@ -205,7 +182,7 @@ impl ClassFile {
         }
     }
 
-    fn put_host(&mut self, rt: &impl Abort, host: &str) {
+    fn put_host(&mut self, rt: &impl Host, host: &str) {
         if !host.is_empty() {
             self.put_attribute(rt, "NestHost", 2);
             self.put_class(rt, host);
@@ -213,7 +190,7 @@ impl ClassFile {
     }
 
     // Puts the attributes of a class: its nest host, its nest members, and the names that it permits.
-    fn put_attributes(&mut self, rt: &impl Abort, host: &str, members: &[&str], permits: &[&str]) {
+    fn put_attributes(&mut self, rt: &impl Host, host: &str, members: &[&str], permits: &[&str]) {
         let nest = u16::from(!host.is_empty()).saturating_add(u16::from(!members.is_empty()));
         self.put(rt, nest.saturating_add(u16::from(!permits.is_empty())));
         self.put_host(rt, host);
@@ -221,12 +198,12 @@ impl ClassFile {
         self.put_list(rt, "PermittedSubclasses", permits)
     }
 
-    // Its bytes.
-    fn bytes(&self, rt: &impl Abort, alloc: Global, major: u16) -> Vec<u8> {
-        let mut bytes = Vec::new(alloc);
+    // Its bytes, of a version.
+    fn bytes(&self, rt: &impl Host, major: u16) -> Vec<u8> {
+        let mut bytes = Vec::new(rt.alloc());
         push(rt, &mut bytes, b"\xca\xfe\xba\xbe\0\0");
-        push_number(rt, &mut bytes, major);
-        push_number(rt, &mut bytes, self.next);
+        push(rt, &mut bytes, &major.to_be_bytes());
+        push(rt, &mut bytes, &self.next.to_be_bytes());
         push(rt, &mut bytes, self.pool.as_slice());
         push(rt, &mut bytes, self.body.as_slice());
         bytes
@@ -241,76 +218,57 @@ fn plain_superclass(name: &str) -> &str {
 // The class file of a text `NAME WORDS..`: a public class of this name, without a constructor, and
 // what the words say of it, as `init`, `flags=21`, `method=1:m:()V`, `sealed` for the version that has
 // seals, and so on.
-fn class_bytes(rt: &impl Abort, alloc: Global, text: &str) -> Vec<u8> {
-    let (name, words) = cut(text, ' ');
+fn class_bytes(rt: &impl Host, text: &str) -> Vec<u8> {
+    let (name, words) = cut(text, " ");
     assert!(rt; words.split_whitespace().all(is_known));
-    let mut file = ClassFile::new(alloc);
+    let mut file = ClassFile::new(rt);
     file.put(rt, hex(value_or(words, "flags", "21")));
     file.put_class(rt, name);
     file.put_class(rt, value_or(words, "extends", plain_superclass(name)));
-    file.put_classes(rt, values(rt, alloc, words, "implements").as_slice());
-    file.put_members(rt, values(rt, alloc, words, "field").as_slice());
-    file.put_members(rt, values(rt, alloc, words, "method").as_slice());
-    file.put_attributes(
-        rt,
-        value_or(words, "nest_host", ""),
-        values(rt, alloc, words, "nest_member").as_slice(),
-        values(rt, alloc, words, "permits").as_slice(),
-    );
+    file.put_classes(rt, values(rt, words, "implements").as_slice());
+    file.put_members(rt, values(rt, words, "field").as_slice());
+    file.put_members(rt, values(rt, words, "method").as_slice());
+    let host = value_or(words, "nest_host", "");
+    let members = values(rt, words, "nest_member");
+    let permits = values(rt, words, "permits");
+    file.put_attributes(rt, host, members.as_slice(), permits.as_slice());
     let is_sealed = value_or(words, "sealed", "no").is_empty();
-    file.bytes(rt, alloc, if is_sealed { 61 } else { 52 })
+    file.bytes(rt, if is_sealed { 61 } else { 52 })
 }
 
 /// A file of a tree.
-pub(crate) fn file(
-    rt: &impl Abort,
-    alloc: Global,
-    root: &str,
-    path: &str,
-    bytes: Vec<u8>,
-) -> MemFile {
+pub(super) fn file(rt: &impl Host, root: &str, path: &str, bytes: Vec<u8>) -> MemFile {
     MemFile {
-        root: Text::from_str(alloc, root).expect(rt, "memory"),
-        path: Text::from_str(alloc, path).expect(rt, "memory"),
+        root: Text::from_str(rt.alloc(), root).expect(rt, "memory"),
+        path: Text::from_str(rt.alloc(), path).expect(rt, "memory"),
         bytes,
     }
 }
 
 // The bytes of these words of hexadecimal digits.
-fn bytes_of(rt: &impl Abort, alloc: Global, words: &str) -> Vec<u8> {
-    let mut bytes = Vec::new(alloc);
+fn bytes_of(rt: &impl Host, words: &str) -> Vec<u8> {
+    let mut bytes = Vec::new(rt.alloc());
     for digits in words.split_whitespace() {
         put_last(rt, &mut bytes, u8::from_str_radix(digits, 16).unwrap_or(0));
     }
     bytes
 }
 
-// The path of the class file of a class of this name.
-fn path_of(rt: &impl Abort, alloc: Global, name: &str) -> String {
-    format!(in alloc; "{name}.class").expect(rt, "memory")
+// So many zeros.
+fn zeros(rt: &impl Host, count: &str) -> Vec<u8> {
+    vec![in rt.alloc(); 0u8; count.parse().unwrap_or(0)].expect(rt, "memory")
 }
 
-/// The file of a line: `ROOT NAME WORDS..` of a class at its place, `ROOT at PATH NAME WORDS..` of one
-/// at another, or `ROOT bytes PATH HEX..`.
-pub(crate) fn file_of(rt: &impl Abort, alloc: Global, line: &str) -> MemFile {
-    let (root, rest) = cut(line, ' ');
-    let (name, words) = cut(rest, ' ');
-    let (path, content) = cut(words, ' ');
+/// The file under a root of a text: `NAME WORDS..` of a class at its place, `at PATH NAME WORDS..` of one
+/// at another, `bytes PATH HEX..`, or `zeros PATH COUNT`.
+pub(super) fn file_of(rt: &impl Host, root: &str, text: &str) -> MemFile {
+    let (name, words) = cut(text, " ");
+    let (path, content) = cut(words, " ");
+    let own_path = format!(in rt.alloc(); "{name}.class").expect(rt, "memory");
     match name {
-        "bytes" => file(rt, alloc, root, path, bytes_of(rt, alloc, content)),
-        "at" => file(rt, alloc, root, path, class_bytes(rt, alloc, content)),
-        _ => {
-            let path = path_of(rt, alloc, name);
-            file(rt, alloc, root, path.as_str(), class_bytes(rt, alloc, rest))
-        }
+        "bytes" => file(rt, root, path, bytes_of(rt, content)),
+        "zeros" => file(rt, root, path, zeros(rt, content)),
+        "at" => file(rt, root, path, class_bytes(rt, content)),
+        _ => file(rt, root, own_path.as_str(), class_bytes(rt, text)),
     }
-}
-
-/// The files of these lines.
-pub(crate) fn files_of(rt: &impl Abort, alloc: Global, lines: &[&str]) -> Vec<MemFile> {
-    let mut files = Vec::new(alloc);
-    for line in lines {
-        put_last(rt, &mut files, file_of(rt, alloc, line));
-    }
-    files
 }

@@ -1,15 +1,11 @@
 //! Files that differ much in size, or change, or fail, read one after the other.
-use super::outside::{new_folder, put_file, remove};
-use super::verdicts::SAME;
-use super::{WORDS, see};
+use super::outside::{Disk, new_folder, put_file, remove};
+use super::{Host, see_table};
 use crate::disk_trees::{DiskTrees, fill};
 use jc_base::file_buf::FileBuf;
 use jc_base::trees::Trees;
-use std::alloc::Global;
 use std::io;
 use std::io::{ErrorKind, Read};
-use std::process::Abort;
-use std::rt::Files;
 use std::test::Fail;
 
 /// The bytes of a file, and those that are read where nine are wanted, and one more shows that there are more.
@@ -20,37 +16,17 @@ const CONTENTS: &[(&str, &str)] = &[
     ("ten bytes!", "ten bytes!"),
 ];
 
-fn see_content(
-    rt: &(impl Abort + Files + AllocGlobal),
-    trees: &mut DiskTrees<HostRuntime>,
-    root: &str,
-    wanted: &str,
-    buffer: &mut FileBuf,
-) {
-    let read = trees.read_into(rt.alloc(), root, "A.class", 9, buffer);
-    assert!(rt;
-        read.is_ok() && buffer.as_bytes() == wanted.as_bytes(),
-        "{wanted}"
-    );
-}
-
-fn see_contents(
-    rt: &(impl Abort + Files + AllocGlobal),
-    trees: &mut DiskTrees<HostRuntime>,
-    root: &str,
-) {
+fn see_contents(rt: &impl Host, trees: &mut Disk, root: &str) {
     let mut buffer = FileBuf::new(rt.alloc()).expect(rt, "memory");
     for (content, wanted) in CONTENTS {
         put_file(rt, root, "A.class", content.as_bytes());
-        see_content(rt, trees, root, wanted, &mut buffer);
+        let read = trees.read_into(rt.alloc(), root, "A.class", 9, &mut buffer);
+        let is_read = read.is_ok() && buffer.as_bytes() == wanted.as_bytes();
+        assert!(rt; is_read, "{wanted}");
     }
 }
 
-fn see_listed(
-    rt: &(impl Abort + Files + AllocGlobal),
-    trees: &mut DiskTrees<HostRuntime>,
-    root: &str,
-) {
+fn see_listed(rt: &impl Host, trees: &mut Disk, root: &str) {
     let paths = trees.list(rt.alloc(), root).expect(rt, "listed");
     assert_eq!(rt; paths.len(), 1);
 }
@@ -93,32 +69,17 @@ fn a_fault_in_the_middle_of_a_file_leaves_nothing(rt: HostRuntime) {
     assert_eq!(rt; buffer.as_bytes().len(), 3);
 }
 
-// The line of a class under the root that has a method of this name.
-fn line(rt: &impl Abort, alloc: Global, root: &str, name: &str) -> String {
-    format!(in alloc; "{root} p/B init method=1:{name}:()V").expect(rt, "memory")
-}
-
 #[test]
 fn files_far_apart_in_size_are_read_one_after_the_other(rt: HostRuntime) {
     let alloc = rt.alloc();
     let name = "m".repeat(alloc, 60_000).expect(&rt, "memory");
-    let old = line(&rt, alloc, "O", name.as_str());
-    let new = line(&rt, alloc, "N", name.as_str());
-    let lines = [
-        "P java/lang/Object init",
-        "O p/A init",
-        "O p/C init",
-        "N p/A init",
-        "N p/C init",
-        old.as_str(),
-        new.as_str(),
-    ];
-    see(
-        &rt,
-        alloc,
-        "a long file between short ones",
-        WORDS,
-        &lines,
-        &(0, SAME, ""),
+    let table = format!(in alloc;
+        "#0 a long file between short ones
+$ check --platform P --old O --new N
+: P java/lang/Object init | O p/A init | O p/C init | N p/A init | N p/C init
+: O p/B init method=1:{name}:()V | N p/B init method=1:{name}:()V
+> compatible: 0 findings, 0 collisions, 0 notes
+"
     );
+    see_table(&rt, table.expect(&rt, "memory").as_str());
 }

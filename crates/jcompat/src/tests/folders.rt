@@ -1,46 +1,30 @@
 //! Real folders that take files.
-use super::outside::{
-    Reading, below, new_folder, put_file, put_link, remove, see_readings, see_text,
-};
+use super::Host;
+use super::assembler::cut;
+use super::outside::{below, new_folder, put_file, put_link, remove, see_readings, see_text};
 use crate::disk_folder::DiskFolder;
 use crate::disk_trees::DiskTrees;
 use jc_base::folder::{Folder, FolderError};
-use std::process::Abort;
-use std::rt::Files;
 use std::test::Fail;
 
+/// A real folder that takes files.
+type Disk = DiskFolder<HostRuntime>;
+
 /// Puts at paths below a root, one after the other, and what is read of them then.
-const PUTS: &[(&str, &str)] = &[
-    ("apart.class", "apart"),
-    ("000001/w0/A.class", "a longer file"),
-    ("000001/w0/A.class", "whole"),
-];
+const PUTS: &str = "apart.class=apart|000001/w0/A.class=a longer file|000001/w0/A.class=whole";
 
-const READINGS: &[Reading] = &[
-    ("000001/w0/A.class", Some("whole")),
-    ("000001/w0/B.class", Some("")),
-    ("apart.class", Some("apart")),
-];
+const READINGS: &str = "000001/w0/A.class=whole 000001/w0/B.class= apart.class=apart";
 
-fn put(
-    rt: &(impl Abort + Files + AllocGlobal),
-    folder: &mut DiskFolder<HostRuntime>,
-    root: &str,
-    path: &str,
-    text: &str,
-) {
+fn put(rt: &impl Host, folder: &mut Disk, root: &str, path: &str, text: &str) {
     let place = below(rt, root, path);
     folder
         .put(place.as_str(), text.as_bytes())
         .expect(rt, "put");
 }
 
-fn make_puts(
-    rt: &(impl Abort + Files + AllocGlobal),
-    folder: &mut DiskFolder<HostRuntime>,
-    root: &str,
-) {
-    for (path, text) in PUTS {
+fn make_puts(rt: &impl Host, folder: &mut Disk, root: &str) {
+    for file in PUTS.split('|') {
+        let (path, text) = cut(file, "=");
         put(rt, folder, root, path, text);
     }
     put_link(rt, root, "000001/w0/B.class", "../../apart.class");
@@ -58,20 +42,12 @@ fn real_folders_take_files(rt: HostRuntime) -> Result<(), Fail> {
     Ok(())
 }
 
-fn see_fault(
-    rt: &(impl Abort + Files + AllocGlobal),
-    folder: &mut DiskFolder<HostRuntime>,
-    path: &str,
-) {
+fn see_fault(rt: &impl Abort, folder: &mut Disk, path: &str) {
     let put = folder.put(path, b"file");
     assert!(rt; matches!(put, Err(FolderError::Fault)), "{path}");
 }
 
-fn see_faults(
-    rt: &(impl Abort + Files + AllocGlobal),
-    folder: &mut DiskFolder<HostRuntime>,
-    root: &str,
-) {
+fn see_faults(rt: &impl Host, folder: &mut Disk, root: &str) {
     let name = "a".repeat(rt.alloc(), 300).expect(rt, "memory");
     see_fault(rt, folder, below(rt, root, "file/A.class").as_str());
     see_fault(rt, folder, below(rt, root, name.as_str()).as_str());

@@ -1,104 +1,49 @@
 //! Which gates are asked, and what comes of it.
 ghost use Rattle.std.specs.Prelude.{refl, codes, nat_eq, if◌then◌else◌};
 
-use super::verdicts::FINALS;
-use super::words::{CAPTURE, CAPTURE_JSON, CAPTURE_TEXT, see_line, typed};
-use super::{Said, folder, sink, texts, trees_of};
+use super::assembler::{cut, number, values};
+use super::rows::{Row, words_of};
+use super::{Host, folder, see_table, sink, trees};
 use crate::run::run;
 use jc_gate::gate::Gate;
-use std::alloc::Global;
 use std::cell::Cell;
-use std::process::Abort;
 use std::rc::Rc;
 
-/// Words with single spaces, the files, and what is said.
-type Row = (&'static str, &'static [&'static str], Said<'static>);
+const FEW_GONE: &str = r##": P java/lang/Object init | O p/A init | N p/A init method=2:run:()V
+#1 check --platform P --old O --new N --gate links,collisions
+> 1 Capture p/A run()V invokevirtual - IllegalAccessError | compatible: 0 findings, 1 collisions, 0 notes
+#1 check --gate collisions --json --platform P --old O --new N
+> {"collisions":[{"class":"p/A","error":"IllegalAccessError","member":"run()V","number":1,"operation":"invokevirtual","rule":"Capture","seat":null}],"findings":[],"notes":[],"verdict":"compatible"}
+#0 check --platform P --old O --new N --gate few
+> 1 Capture p/A run()V invokevirtual - IllegalAccessError | compatible: 0 findings, 1 collisions, 0 notes
+#0 check --platform P --old O --new N --gate links,links
+> 1 Capture p/A run()V invokevirtual - IllegalAccessError | compatible: 0 findings, 1 collisions, 0 notes
+#2 check --platform P --old O --new N --gate links,nope,none ! jcompat: usage: unknown gate nope
+#2 check --platform P --old O --new N --gate few^ ! jcompat: usage: unknown gate few\x0a
+#2 check --platform P --old O --new N --gate links, ! jcompat: usage: unknown gate ~
+#2 check --platform P --old O --new N --gate ~ ! jcompat: usage: unknown gate ~
+#2 check --gate nope --platform P --old O ! jcompat: usage: words
+"##;
 
-const ELEVEN_GONE: &[&str] = &[
-    "P java/lang/Object init",
-    "O p/A init",
-    "O p/B init",
-    "O p/C init",
-    "O p/D init",
-    "O p/E init",
-    "O p/F init",
-    "O p/G init",
-    "O p/H init",
-    "O p/I init",
-    "O p/J init",
-    "O p/K init",
-];
+const MANY_GONE: &str =
+    ": P java/lang/Object init | O p/A init | O p/B init | O p/C init | O p/D init | O p/E init | O p/F init | O p/G init | O p/H init | O p/I init
+: O p/J init | O p/K init
+> 1 H1 p/A - class - NoClassDefFoundError | 2 H1 p/B - class - NoClassDefFoundError | 3 H1 p/C - class - NoClassDefFoundError
+> 4 H1 p/D - class - NoClassDefFoundError | 5 H1 p/E - class - NoClassDefFoundError | 6 H1 p/F - class - NoClassDefFoundError
+> 7 H1 p/G - class - NoClassDefFoundError | 8 H1 p/H - class - NoClassDefFoundError | 9 H1 p/I - class - NoClassDefFoundError
+> 10 H1 p/J - class - NoClassDefFoundError | 11 H1 p/K - class - NoClassDefFoundError | incompatible: 11 findings, 0 collisions, 0 notes
+#0 check --platform P --old O --new N --gate collisions
+#1 check --platform P --old O --new N --gate few
+";
 
-const ELEVEN_TEXT: &str =
-    "1 H1 p/A - class - NoClassDefFoundError\n2 H1 p/B - class - NoClassDefFoundError\n3 H1 p/C - class - NoClassDefFoundError\n4 H1 p/D - class - NoClassDefFoundError\n5 H1 p/E - class - NoClassDefFoundError\n6 H1 p/F - class - NoClassDefFoundError\n7 H1 p/G - class - NoClassDefFoundError\n8 H1 p/H - class - NoClassDefFoundError\n9 H1 p/I - class - NoClassDefFoundError\n10 H1 p/J - class - NoClassDefFoundError\n11 H1 p/K - class - NoClassDefFoundError\nincompatible: 11 findings, 0 collisions, 0 notes\n";
-
-const ROWS: &[Row] = &[
-    (
-        "check --platform P --old O --new N --gate links,collisions",
-        CAPTURE,
-        (1, CAPTURE_TEXT, ""),
-    ),
-    (
-        "check --gate collisions --json --platform P --old O --new N",
-        CAPTURE,
-        (1, CAPTURE_JSON, ""),
-    ),
-    (
-        "check --platform P --old O --new N --gate few",
-        CAPTURE,
-        (0, CAPTURE_TEXT, ""),
-    ),
-    (
-        "check --platform P --old O --new N --gate links,links",
-        CAPTURE,
-        (0, CAPTURE_TEXT, ""),
-    ),
-    (
-        "check --platform P --old O --new N --gate collisions",
-        ELEVEN_GONE,
-        (0, ELEVEN_TEXT, ""),
-    ),
-    (
-        "check --platform P --old O --new N --gate few",
-        ELEVEN_GONE,
-        (1, ELEVEN_TEXT, ""),
-    ),
-    (
-        "check --platform P --old O --new N --gate links,nope,none",
-        CAPTURE,
-        (2, "", "jcompat: usage: unknown gate nope\n"),
-    ),
-    (
-        "check --platform P --old O --new N --gate Links",
-        &[],
-        (2, "", "jcompat: usage: unknown gate Links\n"),
-    ),
-    (
-        "check --platform P --old O --new N --gate few\n",
-        CAPTURE,
-        (2, "", "jcompat: usage: unknown gate few\\x0a\n"),
-    ),
-    (
-        "check --platform P --old O --new N --gate links,",
-        CAPTURE,
-        (2, "", "jcompat: usage: unknown gate \n"),
-    ),
-    (
-        "check --platform P --old O --new N --gate ",
-        CAPTURE,
-        (2, "", "jcompat: usage: unknown gate \n"),
-    ),
-    (
-        "check --gate nope --platform P --old O",
-        CAPTURE,
-        (2, "", "jcompat: usage: words\n"),
-    ),
-];
+const NO_FILES: &str =
+    "#2 check --platform P --old O --new N --gate Links ! jcompat: usage: unknown gate Links
+";
 
 #[test]
 fn gates_are_asked_by_their_names(rt: HostRuntime) {
-    for (line, files, said) in ROWS {
-        see_line(&rt, rt.alloc(), line, files, said);
+    for table in [FEW_GONE, MANY_GONE, NO_FILES] {
+        see_table(&rt, table);
     }
 }
 
@@ -161,141 +106,70 @@ impl Gate for Watched {
     }
 }
 
-/// A run over the releases whose verdict has a finding of rule 6 and a collision of rule 12.
-struct Asking {
-    shown: &'static str,
-    line: &'static str,
-    // Of each gate, whether it is named `links` and not `other`, and whether it passes.
-    gates: &'static [(bool, bool)],
-    // The calls on the output that fail.
-    failing: &'static [u64],
-    status: u8,
-    seen: u64,
-    asked: u64,
-    dropped: u64,
-}
+/// Runs over the releases whose verdict has a finding of rule 6 and a collision of rule 12, with gates,
+/// whether each is open, and their fate.
+const ASKED: &str = "$ check --platform P --old O --new N
+: P java/lang/Object init method=1:toString:()Ljava/lang/String; | O p/A init
+: N p/A init method=11:toString:()Ljava/lang/String; method=11:close:()V
+#0 without names the gate links alone, which is open, gate=links:open gate=other:shut seen=612 asked=1 dropped=2
+#1 each gate that is named, in the order in which they were handed in, gate=links:shut gate=other:open seen=6120612 asked=2 dropped=2
+$ check --platform P --old O --new N --gate other,links
+#1 both gates of one name, gate=links:open gate=links:shut seen=6120612 asked=2 dropped=2
+#2 no gate of the name, gate=other:open seen=0 asked=0 dropped=1
+#5 a last line that isn't put, gate=links:open gate=other:shut out=3 seen=0 asked=0 dropped=2
+#0 a link, which asks no gate, gate=links:shut seen=0 asked=0 dropped=1
+$ link --platform P --release R --client C
+";
 
-const ASKINGS: &[Asking] = &[
-    Asking {
-        shown: "without names the gate links alone, which is open",
-        line: "check --platform P --old O --new N",
-        gates: &[(true, true), (false, false)],
-        failing: &[],
-        status: 0,
-        seen: 6_12,
-        asked: 1,
-        dropped: 2,
-    },
-    Asking {
-        shown: "each gate that is named, in the order in which they were handed in",
-        line: "check --platform P --old O --new N --gate other,links",
-        gates: &[(true, false), (false, true)],
-        failing: &[],
-        status: 1,
-        seen: 6_12_06_12,
-        asked: 2,
-        dropped: 2,
-    },
-    Asking {
-        shown: "both gates of one name",
-        line: "check --platform P --old O --new N",
-        gates: &[(true, true), (true, false)],
-        failing: &[],
-        status: 1,
-        seen: 6_12_06_12,
-        asked: 2,
-        dropped: 2,
-    },
-    Asking {
-        shown: "no gate of the name",
-        line: "check --platform P --old O --new N",
-        gates: &[(false, true)],
-        failing: &[],
-        status: 2,
-        seen: 0,
-        asked: 0,
-        dropped: 1,
-    },
-    Asking {
-        shown: "a last line that isn't put",
-        line: "check --platform P --old O --new N",
-        gates: &[(true, true), (false, false)],
-        failing: &[3],
-        status: 5,
-        seen: 0,
-        asked: 0,
-        dropped: 2,
-    },
-    Asking {
-        shown: "a link, which asks no gate",
-        line: "link --platform P --release R --client C",
-        gates: &[(true, false)],
-        failing: &[],
-        status: 0,
-        seen: 0,
-        asked: 0,
-        dropped: 1,
-    },
-];
-
-// The gates, which tell their fate.
-fn watched_gates(
-    rt: &impl Abort,
-    alloc: Global,
-    gates: &[(bool, bool)],
-    fate: &Rc<Fate>,
-) -> Vec<Box<dyn Gate>> {
-    let mut watched: Vec<Box<dyn Gate>> = Vec::new(alloc);
-    for (is_links, is_open) in gates {
+// The gates of a text, which tell their fate.
+fn watched_gates(rt: &impl Host, told: &str, fate: &Rc<Fate>) -> Vec<Box<dyn Gate>> {
+    let mut watched: Vec<Box<dyn Gate>> = Vec::new(rt.alloc());
+    for gate in values(rt, told, "gate").as_slice() {
+        let (name, state) = cut(gate, ":");
         let gate = Watched {
-            is_links: *is_links,
-            is_open: *is_open,
+            is_links: name == "links",
+            is_open: state == "open",
             fate: fate.clone().expect(rt, "memory"),
         };
         watched
-            .push(Box::new(alloc, gate).expect(rt, "memory"))
+            .push(Box::new(rt.alloc(), gate).expect(rt, "memory"))
             .expect(rt, "memory");
     }
     watched
 }
 
-// The status of the run, whose gates tell their fate.
-fn asking_status(rt: &impl Abort, alloc: Global, asking: &Asking, fate: &Rc<Fate>) -> u8 {
-    let words = typed(rt, alloc, asking.line);
-    let words = texts(rt, alloc, words.as_slice());
-    let mut trees = trees_of(rt, alloc, FINALS);
+// The status of the row's run, whose gates tell their fate.
+fn asked_status(rt: &impl Host, row: &Row<'_>, fate: &Rc<Fate>) -> u8 {
+    let told = row.shown();
     run(
-        alloc,
-        words.as_slice(),
-        &mut trees,
-        &mut sink(rt, alloc, asking.failing),
-        &mut sink(rt, alloc, &[]),
-        &mut folder(rt, alloc, &[]),
-        watched_gates(rt, alloc, asking.gates, fate),
+        rt.alloc(),
+        words_of(rt, row.line()).as_slice(),
+        &mut trees(rt, row.files(rt), told),
+        &mut sink(rt, told, "out"),
+        &mut sink(rt, told, "err"),
+        &mut folder(rt, told),
+        watched_gates(rt, told, fate),
     )
 }
 
-fn new_fate(rt: &impl Abort, alloc: Global) -> Rc<Fate> {
+fn see_asked(rt: &impl Host, row: &Row<'_>) {
     let fate = Fate {
         seen: Cell::new(0),
         asked: Cell::new(0),
         dropped: Cell::new(0),
     };
-    Rc::new(alloc, fate).expect(rt, "memory")
-}
-
-fn see_asking(rt: &impl Abort, alloc: Global, asking: &Asking) {
-    let fate = new_fate(rt, alloc);
-    let status = asking_status(rt, alloc, asking, &fate);
-    let is_seen = status == asking.status && fate.seen.get() == asking.seen;
-    assert!(rt; is_seen, "{}", asking.shown);
-    let are_counted = fate.asked.get() == asking.asked && fate.dropped.get() == asking.dropped;
-    assert!(rt; are_counted, "{}", asking.shown);
+    let fate = Rc::new(rt.alloc(), fate).expect(rt, "memory");
+    let told = row.shown();
+    assert!(rt; asked_status(rt, row, &fate) == row.status(), "{told}");
+    assert!(rt; fate.seen.get() == number(told, "seen"), "{told}");
+    assert!(rt; fate.asked.get() == number(told, "asked"), "{told}");
+    assert!(rt; fate.dropped.get() == number(told, "dropped"), "{told}");
 }
 
 #[test]
 fn gates_see_the_rules_and_are_dropped(rt: HostRuntime) {
-    for asking in ASKINGS {
-        see_asking(&rt, rt.alloc(), asking);
+    let (common, rows) = cut(ASKED, "#");
+    for own in rows.split('#') {
+        see_asked(&rt, &Row { common, own });
     }
 }

@@ -1,47 +1,20 @@
 //! Generated releases.
-use super::Said;
-use super::words::see_line;
+use super::see_table;
 
-/// Words with single spaces, and what is said.
-type Row = (&'static str, Said<'static>);
-
-pub(super) const EIGHT: &str =
-    "classes 8\nfindings 4\ncollisions 1\nnotes 0\nverdict incompatible\n";
-
-const ROWS: &[Row] = &[
-    (
-        "make 1",
-        (
-            0,
-            "classes 1\nfindings 0\ncollisions 0\nnotes 0\nverdict compatible\n",
-            "",
-        ),
-    ),
-    ("make 8", (0, EIGHT, "")),
-    (
-        "make 64",
-        (
-            0,
-            "classes 64\nfindings 86\ncollisions 32\nnotes 0\nverdict incompatible\n",
-            "",
-        ),
-    ),
-    ("make 08", (2, "", "jcompat: usage: number 08\n")),
-    ("make 0", (2, "", "jcompat: usage: number 0\n")),
-    ("make 4097", (2, "", "jcompat: usage: number 4097\n")),
-    ("make 1x", (2, "", "jcompat: usage: number 1x\n")),
-    ("make ", (2, "", "jcompat: usage: number \n")),
-    (
-        "make 18446744073709551617",
-        (2, "", "jcompat: usage: number 18446744073709551617\n"),
-    ),
-    ("make", (2, "", "jcompat: usage: words\n")),
-    ("make 8 --gate links", (2, "", "jcompat: usage: words\n")),
-];
+const MADE: &str = "#0 make 1 > classes 1 | findings 0 | collisions 0 | notes 0 | verdict compatible
+#0 make 8 > classes 8 | findings 4 | collisions 1 | notes 0 | verdict incompatible
+#0 make 64 > classes 64 | findings 86 | collisions 32 | notes 0 | verdict incompatible
+#2 make 08 ! jcompat: usage: number 08
+#2 make 0 ! jcompat: usage: number 0
+#2 make 4097 ! jcompat: usage: number 4097
+#2 make 1x ! jcompat: usage: number 1x
+#2 make ~ ! jcompat: usage: number ~
+#2 make 18446744073709551617 ! jcompat: usage: number 18446744073709551617
+#2 make ! jcompat: usage: words
+#2 make 8 --gate links ! jcompat: usage: words
+";
 
 #[test]
 fn releases_of_a_number_of_classes(rt: HostRuntime) {
-    for (line, said) in ROWS {
-        see_line(&rt, rt.alloc(), line, &[], said);
-    }
+    see_table(&rt, MADE);
 }

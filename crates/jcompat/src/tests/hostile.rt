@@ -1,312 +1,128 @@
 //! Runs of which one call fails, and hierarchies that are wide or deep.
-use super::Said;
-use super::assembler::{file_of, files_of, put_last};
-use super::generated::EIGHT;
-use super::verdicts::SAME;
-use super::witnesses::{CAPTURE as WITNESS, holds, run_on};
-use super::words::{CAPTURE, CAPTURE_JSON};
-use jc_base::mem_file::MemFile;
-use std::alloc::Global;
-use std::process::Abort;
+use super::rows::push;
+use super::{Host, see_table};
 
-/// The words of a run, with single spaces, and its files; the calls that fail on the trees, on the folder, on the output and on
-/// the error stream; what is said, and how many files of the witness of the captured call the folder holds then.
-type Row = (
-    &'static str,
-    &'static [&'static str],
-    [&'static [u64]; 4],
-    Said<'static>,
-    usize,
-);
+const CAPTURE: &str = r##"$ check --platform P --old O --new N --witness d
+: P java/lang/Object init | O p/A init | N p/A init method=2:run:()V
+#4 the platform isn't listed, trees=1 ! jcompat: platform: read fault
+#4 the platform has a file that isn't read, trees=2 ! jcompat: platform: read fault
+#4 the old release isn't listed, trees=3 ! jcompat: old: read fault
+#4 the old release has a file that isn't read, trees=4 ! jcompat: old: read fault
+#4 the new release isn't listed, trees=5 ! jcompat: new: read fault
+#4 the new release has a file that isn't read, trees=6 ! jcompat: new: read fault
+#5 witness file 1 of three is not put, folder=1
+#5 witness file 2 of three is not put, folder=2 held=1
+#5 witness file 3 of three is not put, folder=3 held=2
+#5 line 1 of the output is cut off, out=1 held=3 > 1 Capture p/A run()V invokev\
+#5 line 2 of the output is cut off, out=2 held=3
+> 1 Capture p/A run()V invokevirtual - IllegalAccessError | compatible: 0 findings,\
+#5 the line on the error stream is cut off, err=1
+$ ! jcompat: usag\
+#0 the JSON is one put, so that there is no second one to fail, out=2
+$ check --json --platform P --old O --new N
+> {"collisions":[{"class":"p/A","error":"IllegalAccessError","member":"run()V","number":1,"operation":"invokevirtual","rule":"Capture","seat":null}],"findings":[],"notes":[],"verdict":"compatible"}
+#2 what is refused puts no witness, folder=1
+$ check --platform P --old O --new N --witness ! jcompat: usage: words
+#2 what is refused puts no witness, folder=1
+$ check --witness d --platform P --old O --new N --witness d ! jcompat: usage: words
+#2 what is refused puts no witness, folder=1
+$ link --platform P --release O --client C --witness d ! jcompat: usage: words
+"##;
 
-const CHECK: &str = "check --platform P --old O --new N";
+const CHECKS: &str = r"$ check --platform P --old O --new N
+: P java/lang/Object init
+#4 the platform has a file that isn't read, trees=2 ! jcompat: platform: read fault
+#4 the new release isn't listed, trees=4 ! jcompat: new: read fault
+#5 line 1 of the output is cut off, out=1 > compatible: 0 findings,\
+#5 line 2 of the output is cut off, out=2 : O p/A init > 1 H1 p/A - class - NoClassDefFoundError | incompatible: 1 findings\
+";
 
-const WITNESSED: &str = "check --platform P --old O --new N --witness d";
+const LINKS: &str = "$ link --platform P --release R --client C
+: P java/lang/Object init | C q/A init
+#4 the release isn't listed, trees=3 ! jcompat: release: read fault
+#4 the client isn't listed, trees=4 ! jcompat: client: read fault
+#4 the client has a file that isn't read, trees=5 ! jcompat: client: read fault
+";
 
-const LINK: &str = "link --platform P --release R --client C";
-
-const PLATFORM: &[&str] = &["P java/lang/Object init"];
-
-const ONE_CLIENT: &[&str] = &["P java/lang/Object init", "C q/A init"];
-
-const ROWS: &[Row] = &[
-    (
-        WITNESSED,
-        CAPTURE,
-        [&[1], &[], &[], &[]],
-        (4, "", "jcompat: platform: read fault\n"),
-        0,
-    ),
-    (
-        WITNESSED,
-        CAPTURE,
-        [&[2], &[], &[], &[]],
-        (4, "", "jcompat: platform: read fault\n"),
-        0,
-    ),
-    (
-        WITNESSED,
-        CAPTURE,
-        [&[3], &[], &[], &[]],
-        (4, "", "jcompat: old: read fault\n"),
-        0,
-    ),
-    (
-        WITNESSED,
-        CAPTURE,
-        [&[4], &[], &[], &[]],
-        (4, "", "jcompat: old: read fault\n"),
-        0,
-    ),
-    (
-        WITNESSED,
-        CAPTURE,
-        [&[5], &[], &[], &[]],
-        (4, "", "jcompat: new: read fault\n"),
-        0,
-    ),
-    (
-        WITNESSED,
-        CAPTURE,
-        [&[6], &[], &[], &[]],
-        (4, "", "jcompat: new: read fault\n"),
-        0,
-    ),
-    (WITNESSED, CAPTURE, [&[], &[1], &[], &[]], (5, "", ""), 0),
-    (WITNESSED, CAPTURE, [&[], &[2], &[], &[]], (5, "", ""), 1),
-    (WITNESSED, CAPTURE, [&[], &[3], &[], &[]], (5, "", ""), 2),
-    (
-        WITNESSED,
-        CAPTURE,
-        [&[], &[], &[1], &[]],
-        (5, "1 Capture p/A run()V invokev", ""),
-        3,
-    ),
-    (
-        WITNESSED,
-        CAPTURE,
-        [&[], &[], &[2], &[]],
-        (
-            5,
-            "1 Capture p/A run()V invokevirtual - IllegalAccessError\ncompatible: 0 findings,",
-            "",
-        ),
-        3,
-    ),
-    (
-        "",
-        CAPTURE,
-        [&[], &[], &[], &[1]],
-        (5, "", "jcompat: usag"),
-        0,
-    ),
-    (
-        CHECK,
-        PLATFORM,
-        [&[2], &[], &[], &[]],
-        (4, "", "jcompat: platform: read fault\n"),
-        0,
-    ),
-    (
-        CHECK,
-        PLATFORM,
-        [&[4], &[], &[], &[]],
-        (4, "", "jcompat: new: read fault\n"),
-        0,
-    ),
-    (
-        CHECK,
-        PLATFORM,
-        [&[], &[], &[1], &[]],
-        (5, "compatible: 0 findings,", ""),
-        0,
-    ),
-    (
-        CHECK,
-        &["P java/lang/Object init", "O p/A init"],
-        [&[], &[], &[2], &[]],
-        (
-            5,
-            "1 H1 p/A - class - NoClassDefFoundError\nincompatible: 1 findings",
-            "",
-        ),
-        0,
-    ),
-    (
-        CHECK,
-        &[],
-        [&[], &[], &[], &[1]],
-        (5, "", "jcompat: platform:"),
-        0,
-    ),
-    (
-        LINK,
-        ONE_CLIENT,
-        [&[3], &[], &[], &[]],
-        (4, "", "jcompat: release: read fault\n"),
-        0,
-    ),
-    (
-        LINK,
-        ONE_CLIENT,
-        [&[4], &[], &[], &[]],
-        (4, "", "jcompat: client: read fault\n"),
-        0,
-    ),
-    (
-        LINK,
-        ONE_CLIENT,
-        [&[5], &[], &[], &[]],
-        (4, "", "jcompat: client: read fault\n"),
-        0,
-    ),
-    // the JSON is one put: where the second put fails, none does
-    (
-        "check --json --platform P --old O --new N",
-        CAPTURE,
-        [&[], &[], &[2], &[]],
-        (0, CAPTURE_JSON, ""),
-        0,
-    ),
-    // no tree is read for generated releases, and nothing is put after the put that fails
-    ("make 8", &[], [&[1], &[], &[], &[]], (0, EIGHT, ""), 0),
-    (
-        "make 8",
-        &[],
-        [&[1], &[], &[2], &[]],
-        (5, "classes 8\nfindi", ""),
-        0,
-    ),
-    // what is refused puts no witness
-    (
-        "check --platform P --old O --new N --witness",
-        CAPTURE,
-        [&[], &[1], &[], &[]],
-        (2, "", "jcompat: usage: words\n"),
-        0,
-    ),
-    (
-        "check --witness d --platform P --old O --new N --witness d",
-        CAPTURE,
-        [&[], &[1], &[], &[]],
-        (2, "", "jcompat: usage: words\n"),
-        0,
-    ),
-    (
-        "link --platform P --release O --client C --witness d",
-        CAPTURE,
-        [&[], &[1], &[], &[]],
-        (2, "", "jcompat: usage: words\n"),
-        0,
-    ),
-    (
-        WITNESSED,
-        &["O p/A init"],
-        [&[], &[1], &[], &[]],
-        (3, "", "jcompat: platform: bad root missing\n"),
-        0,
-    ),
-];
-
-fn see_failing(rt: &impl Abort, alloc: Global, row: &Row) {
-    let (words, lines, calls, said, held) = row;
-    let ended = run_on(rt, alloc, words, files_of(rt, alloc, lines), *calls);
-    assert!(rt; ended.says(said), "{words} {calls:?}");
-    let is_of_folder = said.0 == 5 && !calls[1].is_empty();
-    let is_left = holds(&ended.folder, WITNESS.files, *held)
-        && ended.folder.faults() == u64::from(is_of_folder);
-    assert!(rt; is_left, "{words} {calls:?}");
-}
+const OTHERS: &str = r"#5 the line on the error stream is cut off, err=1
+$ check --platform P --old O --new N ! jcompat: platform:\
+#0 generated releases, for which no tree is read, trees=1
+$ make 8 > classes 8 | findings 4 | collisions 1 | notes 0 | verdict incompatible
+#5 nothing is put after the put that fails, trees=1 out=2
+$ make 8 > classes 8 | findi\
+#3 what is refused puts no witness, folder=1 : O p/A init
+$ check --platform P --old O --new N --witness d ! jcompat: platform: bad root missing
+";
 
 #[test]
 fn a_failing_call_ends_a_run(rt: HostRuntime) {
-    for row in ROWS {
-        see_failing(&rt, rt.alloc(), row);
+    for table in [CAPTURE, CHECKS, LINKS, OTHERS] {
+        see_table(&rt, table);
     }
 }
 
-fn see_check(rt: &impl Abort, alloc: Global, files: Vec<MemFile>, said: &Said<'_>) {
-    let ended = run_on(rt, alloc, CHECK, files, [&[], &[], &[], &[]]);
-    assert!(rt; ended.says(said));
-}
+/// A lattice of interfaces, and its lowest level.
+const LATTICE: &str = "$ check --platform P --old O --new N
+#0 a wide lattice of interfaces : P java/lang/Object init
+> compatible: 0 findings, 0 collisions, 0 notes
+: O,N p/A00 flags=601 | O,N p/B00 flags=601
+";
 
-// The file of an interface of this level under the root, which extends both of the level below.
-fn interface(rt: &impl Abort, alloc: Global, root: &str, side: &str, level: u32) -> MemFile {
+// Puts the interfaces of this level, of which each extends both of the level below.
+fn put_level(rt: &impl Host, table: &mut String, level: u32) {
     let below = level.saturating_sub(1);
-    let line = format!(in alloc;
-        "{root} p/{side}{level:02} flags=601 implements=p/A{below:02} implements=p/B{below:02}"
-    );
-    file_of(rt, alloc, line.expect(rt, "memory").as_str())
-}
-
-/// `java/lang/Object`, and the lowest level of a lattice.
-const LOWEST: &[&str] = &[
-    "P java/lang/Object init",
-    "O p/A00 flags=601",
-    "O p/B00 flags=601",
-    "N p/A00 flags=601",
-    "N p/B00 flags=601",
-];
-
-fn put_level(rt: &impl Abort, alloc: Global, files: &mut Vec<MemFile>, level: u32) {
-    put_last(rt, files, interface(rt, alloc, "O", "A", level));
-    put_last(rt, files, interface(rt, alloc, "O", "B", level));
-    put_last(rt, files, interface(rt, alloc, "N", "A", level));
-    put_last(rt, files, interface(rt, alloc, "N", "B", level));
+    for name in ["p/A", "p/B"] {
+        let line = format!(in rt.alloc();
+            ": O,N {name}{level:02} flags=601 implements=p/A{below:02} implements=p/B{below:02}\n"
+        );
+        push(rt, table, line.expect(rt, "memory").as_str());
+    }
 }
 
 #[test]
 fn a_wide_lattice_of_interfaces(rt: HostRuntime) {
-    let alloc = rt.alloc();
-    let mut files = files_of(&rt, alloc, LOWEST);
+    let mut table = String::from_str(rt.alloc(), LATTICE).expect(&rt, "memory");
     for level in 1..40 {
-        put_level(&rt, alloc, &mut files, level);
+        put_level(&rt, &mut table, level);
     }
-    see_check(&rt, alloc, files, &(0, SAME, ""));
+    see_table(&rt, table.as_str());
 }
 
-// The file of a class of this number under the root, which extends the one before it.
-fn heir(rt: &impl Abort, alloc: Global, root: &str, number: u32) -> MemFile {
+// Puts a class of this number, which extends the one before it in the old release, and in the new one
+// too or only `java/lang/Object`.
+fn put_class(rt: &impl Host, table: &mut String, number: u32, is_kept: bool) {
     let above = number.saturating_sub(1);
-    let line = format!(in alloc; "{root} p/C{number:04} extends=p/C{above:04} init");
-    file_of(rt, alloc, line.expect(rt, "memory").as_str())
+    let old = format!(in rt.alloc(); "p/C{above:04}").expect(rt, "memory");
+    let old = old.as_str();
+    let new = if is_kept { old } else { "java/lang/Object" };
+    let line = format!(in rt.alloc();
+        ": O p/C{number:04} extends={old} init | N p/C{number:04} extends={new} init\n"
+    );
+    push(rt, table, line.expect(rt, "memory").as_str());
 }
 
-// The same that extends none of them.
-fn lone(rt: &impl Abort, alloc: Global, root: &str, number: u32) -> MemFile {
-    let line = format!(in alloc; "{root} p/C{number:04} init");
-    file_of(rt, alloc, line.expect(rt, "memory").as_str())
-}
-
-fn in_new(rt: &impl Abort, alloc: Global, number: u32, is_chain: bool) -> MemFile {
-    if is_chain {
-        heir(rt, alloc, "N", number)
-    } else {
-        lone(rt, alloc, "N", number)
-    }
-}
-
-/// `java/lang/Object`, and the highest class of a chain.
-const HIGHEST: &[&str] = &[
-    "P java/lang/Object init",
-    "O p/C0000 init",
-    "N p/C0000 init",
-];
-
-// A chain of so many classes in the old release, and in the new one the chain, or the same classes each by itself.
-fn chains(rt: &impl Abort, alloc: Global, count: u32, new_too: bool) -> Vec<MemFile> {
-    let mut files = files_of(rt, alloc, HIGHEST);
+// Sees that the row is right, with a chain of so many classes.
+fn see_chain(rt: &impl Host, row: &str, count: u32, is_kept: bool) {
+    let mut table = String::from_str(rt.alloc(), row).expect(rt, "memory");
     for number in 1..count {
-        put_last(rt, &mut files, heir(rt, alloc, "O", number));
-        put_last(rt, &mut files, in_new(rt, alloc, number, new_too));
+        put_class(rt, &mut table, number, is_kept);
     }
-    files
+    see_table(rt, table.as_str());
 }
+
+/// A chain and its highest class, in the old release alone and in both.
+const BROKEN: &str = "#7 a long chain : P java/lang/Object init | O,N p/C0000 init
+$ check --platform P --old O --new N
+! jcompat: limit findings
+";
+
+const KEPT: &str = "#0 a long chain : P java/lang/Object init | O,N p/C0000 init
+$ check --platform P --old O --new N
+> compatible: 0 findings, 0 collisions, 0 notes
+";
 
 #[test]
 fn a_long_chain_of_classes(rt: HostRuntime) {
-    let alloc = rt.alloc();
-    let too_many = (7, "", "jcompat: limit findings\n");
-    see_check(&rt, alloc, chains(&rt, alloc, 1_500, false), &too_many);
-    see_check(&rt, alloc, chains(&rt, alloc, 2_000, true), &(0, SAME, ""));
+    see_chain(&rt, BROKEN, 1_500, false);
+    see_chain(&rt, KEPT, 2_000, true);
 }

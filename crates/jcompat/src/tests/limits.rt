@@ -3,15 +3,14 @@ ghost use Rattle.std.specs.Prelude.{None, IfOk, IsTrue, ◌^◌, ◌-◌};
 ghost use Rattle.jc_base.specs.Outside.{are_distinct};
 ghost use Rattle.jc_base.specs.States.{TreesState};
 
-use super::assembler::file_of;
-use super::verdicts::SAME;
-use super::{Said, WORDS, says, see, texts};
+use super::assembler::{cut, file_of, value_or};
+use super::rows::{Row, words_of};
+use super::{Host, run_over, see_ended, see_table};
 use crate::disk_trees::is_ascending;
 use jc_base::file_buf::FileBuf;
 use jc_base::text::Text;
 use jc_base::trees::{TreeError, Trees};
 use std::alloc::{AllocError, Global};
-use std::process::Abort;
 
 /// Trees of class files of `java/lang/Object`: of the one at its place, and under the root `O` of so
 /// many more at other places.
@@ -62,80 +61,61 @@ impl Trees for Numbered {
     }
 }
 
-const LINK: &[&str] = &["link", "--platform", "P", "--release", "O", "--client", "C"];
+/// Runs, with how many more files the root `O` has.
+const NUMBERED: &str = "$ check --platform P --old O --new N
+#7 too many files, more=40000
+! jcompat: old: limit files
+#3 as many files as there may be, more=39999
+! jcompat: old: java/lang/Object000000.class: misplaced java/lang/Object
+#7 too many files of a release, more=40000
+$ link --platform P --release O --client C
+! jcompat: release: limit files
+";
 
-/// Words, how many more files the root `O` has, and what is said.
-type Row = (&'static [&'static str], u32, Said<'static>);
-
-const ROWS: &[Row] = &[
-    (WORDS, 40_000, (7, "", "jcompat: old: limit files\n")),
-    (
-        WORDS,
-        39_999,
-        (
-            3,
-            "",
-            "jcompat: old: java/lang/Object000000.class: misplaced java/lang/Object\n",
-        ),
-    ),
-    (LINK, 40_000, (7, "", "jcompat: release: limit files\n")),
-];
-
-fn of_objects(rt: &impl Abort, alloc: Global, more: u32) -> Numbered {
-    Numbered {
-        more,
-        bytes: file_of(rt, alloc, "P java/lang/Object init").bytes,
-    }
-}
-
-fn see_numbered(rt: &impl Abort, alloc: Global, row: &Row) {
-    let (words, more, said) = row;
-    let words = texts(rt, alloc, words);
-    let mut trees = of_objects(rt, alloc, *more);
-    let is_said = says(rt, alloc, words.as_slice(), &mut trees, said);
-    assert!(rt; is_said, "{more}");
+fn see_numbered(rt: &impl Host, row: &Row<'_>) {
+    let mut trees = Numbered {
+        more: value_or(row.shown(), "more", "")
+            .parse::<u32>()
+            .unwrap_or(0),
+        bytes: file_of(rt, "P", "java/lang/Object init").bytes,
+    };
+    let words = words_of(rt, row.line());
+    see_ended(rt, row, &run_over(rt, words.as_slice(), &mut trees, ""));
 }
 
 #[test]
 fn at_most_so_many_class_files(rt: HostRuntime) {
-    for row in ROWS {
-        see_numbered(&rt, rt.alloc(), row);
+    let (common, rows) = cut(NUMBERED, "#");
+    for own in rows.split('#') {
+        see_numbered(&rt, &Row { common, own });
     }
-}
-
-fn see_path(rt: &impl Abort, alloc: Global, len: usize, said: &Said<'_>) {
-    let name = "a".repeat(alloc, len).expect(rt, "memory");
-    let line = format!(in alloc; "O {name} flags=20 init").expect(rt, "memory");
-    let lines = ["P java/lang/Object init", line.as_str()];
-    see(rt, alloc, "a long path", WORDS, &lines, said);
 }
 
 #[test]
 fn paths_of_at_most_so_many_bytes(rt: HostRuntime) {
-    let long = (7, "", "jcompat: old: limit path\n");
-    see_path(&rt, rt.alloc(), 4_091, &long);
-    see_path(&rt, rt.alloc(), 4_090, &(0, SAME, ""));
-}
-
-fn see_capture(rt: &impl Abort, alloc: Global, parameters: &str, output: &str) {
-    let line = format!(in alloc; "N p/A init method=9:s:({parameters})V").expect(rt, "memory");
-    let lines = ["P java/lang/Object init", "O p/A init", line.as_str()];
-    see(rt, alloc, output, WORDS, &lines, &(0, output, ""));
-}
-
-// The output of a check that finds a capture of a method with these parameters.
-fn captured(rt: &impl Abort, alloc: Global, parameters: &str) -> String {
-    format!(in alloc;
-        "1 Capture p/A s({parameters})V invokevirtual - IncompatibleClassChangeError\ncompatible: 0 findings, 1 collisions, 0 notes\n"
-    ).expect(rt, "memory")
+    let name = "a".repeat(rt.alloc(), 4_090).expect(&rt, "memory");
+    let table = format!(in rt.alloc();
+        "$ check --platform P --old O --new N
+: P java/lang/Object init
+#7 a path of a byte too many : O {name}a flags=20 init
+! jcompat: old: limit path
+#0 a path of as many bytes as there may be : O {name} flags=20 init
+> compatible: 0 findings, 0 collisions, 0 notes"
+    );
+    see_table(&rt, table.expect(&rt, "memory").as_str());
 }
 
 #[test]
 fn captures_have_at_most_255_slots(rt: HostRuntime) {
-    let alloc = rt.alloc();
-    let most = "I".repeat(alloc, 254).expect(&rt, "memory");
-    let more = "I".repeat(alloc, 255).expect(&rt, "memory");
-    let output = captured(&rt, alloc, most.as_str());
-    see_capture(&rt, alloc, most.as_str(), output.as_str());
-    see_capture(&rt, alloc, more.as_str(), SAME);
+    let most = "I".repeat(rt.alloc(), 254).expect(&rt, "memory");
+    let table = format!(in rt.alloc();
+        "$ check --platform P --old O --new N
+: P java/lang/Object init | O p/A init
+#0 a call of as many slots as there may be : N p/A init method=9:s:({most})V
+> 1 Capture p/A s({most})V invokevirtual - IncompatibleClassChangeError
+> compatible: 0 findings, 1 collisions, 0 notes
+#0 a call of a slot more : N p/A init method=9:s:({most}I)V
+> compatible: 0 findings, 0 collisions, 0 notes"
+    );
+    see_table(&rt, table.expect(&rt, "memory").as_str());
 }

@@ -1,3 +1,6 @@
+//! Real folders and files, and a word that isn't text.
+use super::Host;
+use super::assembler::cut;
 use crate::disk_trees::DiskTrees;
 use crate::std_sink::StdSink;
 use crate::{run_words, words_after_name};
@@ -13,13 +16,14 @@ use std::env::{Env, FillError};
 use std::io::Write;
 use std::os::unix::fs::symlink;
 use std::path::Path;
-use std::process::Abort;
-use std::rt::Files;
 use std::test::Fail;
 use std::{env, fs, io, process};
 
+/// Trees of real folders.
+pub(super) type Disk = DiskTrees<HostRuntime>;
+
 /// A new folder of a test's own.
-pub(crate) fn new_folder(rt: &HostRuntime, name: &str) -> Result<String, Fail> {
+pub(super) fn new_folder(rt: &HostRuntime, name: &str) -> Result<String, Fail> {
     let id = process::id(rt.process());
     let place = env::temp_dir(rt)?;
     let folder = format!(in rt.alloc(); "{}/jcompat_{name}_{id}", place.as_str())?;
@@ -31,22 +35,17 @@ pub(crate) fn new_folder(rt: &HostRuntime, name: &str) -> Result<String, Fail> {
 }
 
 /// Removes a folder and what stands in it.
-pub(crate) fn remove(rt: &(impl Abort + Files + AllocGlobal), folder: &str) {
+pub(super) fn remove(rt: &impl Host, folder: &str) {
     fs::remove_dir_all(rt, folder).expect(rt, "removed");
 }
 
 /// The path of what stands below the root.
-pub(crate) fn below(rt: &(impl Abort + Files + AllocGlobal), root: &str, path: &str) -> String {
+pub(super) fn below(rt: &impl Host, root: &str, path: &str) -> String {
     format!(in rt.alloc(); "{root}/{path}").expect(rt, "memory")
 }
 
 /// Writes a file below the root, and the folders that lead to it.
-pub(crate) fn put_file(
-    rt: &(impl Abort + Files + AllocGlobal),
-    root: &str,
-    path: &str,
-    bytes: &[u8],
-) {
+pub(super) fn put_file(rt: &impl Host, root: &str, path: &str, bytes: &[u8]) {
     let place = below(rt, root, path);
     if let Some(folder) = Path::new(place.as_str()).parent() {
         fs::create_dir_all(rt, folder).expect(rt, "made");
@@ -55,70 +54,49 @@ pub(crate) fn put_file(
 }
 
 /// Makes a link below the root.
-pub(crate) fn put_link(
-    rt: &(impl Abort + Files + AllocGlobal),
-    root: &str,
-    path: &str,
-    original: &str,
-) {
+pub(super) fn put_link(rt: &impl Host, root: &str, path: &str, original: &str) {
     symlink(rt, original, below(rt, root, path).as_str()).expect(rt, "linked");
 }
 
-const FILES: &[&str] = &["A.class", "notes.txt", "p/B.class", "p/q/C.class"];
+const FILES: &str = "A.class notes.txt p/B.class p/q/C.class";
 
-/// Links, and where they lead to: to a folder, to a file, to a device and to nothing.
-const LINKS: &[(&str, &str)] = &[
-    ("D.class", "A.class"),
-    ("r", "p"),
-    ("gone.class", "nowhere"),
-    ("null.class", "/dev/null"),
-];
+/// Links, and where they lead to: to a file, to a folder, to nothing and to a device.
+const LINKS: &str = "D.class=A.class r=p gone.class=nowhere null.class=/dev/null";
 
 // A folder with nested folders, a file that is no class file, and links.
-fn make_tree(rt: &(impl Abort + Files + AllocGlobal), root: &str) {
-    for file in FILES {
+fn make_tree(rt: &impl Host, root: &str) {
+    for file in FILES.split_whitespace() {
         put_file(rt, root, file, file.as_bytes());
     }
-    for (link, original) in LINKS {
+    for link in LINKS.split_whitespace() {
+        let (link, original) = cut(link, "=");
         put_link(rt, root, link, original);
     }
 }
 
 /// What is listed below the root, and below the link to a folder.
-const LISTED: &[&str] = &[
-    "A.class",
-    "D.class",
-    "gone.class",
-    "notes.txt",
-    "null.class",
-    "p/B.class",
-    "p/q/C.class",
-];
+const LISTED: &str = "A.class D.class gone.class notes.txt null.class p/B.class p/q/C.class";
 
-const LISTED_BELOW: &[&str] = &["B.class", "q/C.class"];
+const LISTED_BELOW: &str = "B.class q/C.class";
 
 // Whether the paths are these, in order.
-fn are_paths(paths: &[Text], wanted: &[&str]) -> bool {
-    paths.len() == wanted.len()
+fn are_paths(paths: &[Text], wanted: &str) -> bool {
+    paths.len() == wanted.split_whitespace().count()
         && paths
             .iter()
-            .zip(wanted.iter())
-            .all(|(path, want)| path.as_str() == *want)
+            .zip(wanted.split_whitespace())
+            .all(|(path, want)| path.as_str() == want)
 }
 
 // Whether the root's files are these, in order.
-fn lists(alloc: Global, trees: &mut DiskTrees<HostRuntime>, root: &str, wanted: &[&str]) -> bool {
+fn lists(alloc: Global, trees: &mut Disk, root: &str, wanted: &str) -> bool {
     match trees.list(alloc, root) {
         Ok(paths) => are_paths(paths.as_slice(), wanted),
         Err(_) => false,
     }
 }
 
-fn see_listings(
-    rt: &(impl Abort + Files + AllocGlobal),
-    trees: &mut DiskTrees<HostRuntime>,
-    root: &str,
-) {
+fn see_listings(rt: &impl Host, trees: &mut Disk, root: &str) {
     let alloc = rt.alloc();
     assert!(rt; lists(alloc, trees, root, LISTED));
     assert!(rt; lists(alloc, trees, below(rt, root, "r").as_str(), LISTED_BELOW));
@@ -126,45 +104,31 @@ fn see_listings(
     assert!(rt; trees.list(alloc, no_folder.as_str()).is_err());
 }
 
-/// A path, and the bytes that are read, or none where the call fails.
-pub(crate) type Reading = (&'static str, Option<&'static str>);
-
-const READINGS: &[Reading] = &[
-    ("p/q/C.class", Some("p/q/C.class")),
-    ("D.class", Some("A.class")),
-    ("gone.class", None),
-    ("null.class", None),
-];
-
-// Whether it is read so, where at most so many bytes are wanted.
-fn is_read(
-    alloc: Global,
-    trees: &mut DiskTrees<HostRuntime>,
-    root: &str,
-    reading: &Reading,
-    buffer: &mut FileBuf,
-) -> bool {
-    let (path, wanted) = *reading;
-    let read = trees.read_into(alloc, root, path, 100, buffer);
-    match wanted {
-        Some(bytes) => read.is_ok() && buffer.as_bytes() == bytes.as_bytes(),
-        None => read == Err(TreeError::Fault) && buffer.as_bytes().is_empty(),
+// Whether the file of `PATH=BYTES` has these bytes, of which there are at most 100, or can't be read where
+// no bytes are given.
+fn is_read(alloc: Global, trees: &mut Disk, root: &str, file: &str, buffer: &mut FileBuf) -> bool {
+    match file.split_once('=') {
+        Some((path, bytes)) => {
+            let read = trees.read_into(alloc, root, path, 100, buffer);
+            read.is_ok() && buffer.as_bytes() == bytes.as_bytes()
+        }
+        None => {
+            let read = trees.read_into(alloc, root, file, 100, buffer);
+            read == Err(TreeError::Fault) && buffer.as_bytes().is_empty()
+        }
     }
 }
 
 /// Sees that files below the root are read so, one after the other.
-pub(crate) fn see_readings(
-    rt: &(impl Abort + Files + AllocGlobal),
-    trees: &mut DiskTrees<HostRuntime>,
-    root: &str,
-    readings: &[Reading],
-) {
+pub(super) fn see_readings(rt: &impl Host, trees: &mut Disk, root: &str, readings: &str) {
     let mut buffer = FileBuf::new(rt.alloc()).expect(rt, "memory");
-    for reading in readings {
-        let is_read = is_read(rt.alloc(), trees, root, reading, &mut buffer);
-        assert!(rt; is_read, "{}", reading.0);
+    for file in readings.split_whitespace() {
+        let is_read = is_read(rt.alloc(), trees, root, file, &mut buffer);
+        assert!(rt; is_read, "{file}");
     }
 }
+
+const READINGS: &str = "p/q/C.class=p/q/C.class D.class=A.class gone.class null.class";
 
 #[test]
 fn real_folders_are_listed_and_read(rt: HostRuntime) -> Result<(), Fail> {
@@ -196,17 +160,15 @@ impl Write for Narrow {
     }
 }
 
-const PIECES: &[&str] = &["p/A\n", "", "p/B\n"];
-
-fn put_pieces(rt: &(impl Abort + Files + AllocGlobal), path: &str) {
+fn put_pieces(rt: &impl Host, path: &str) {
     let mut sink = StdSink::new(fs::create(rt, path).expect(rt, "made"));
-    for piece in PIECES {
+    for piece in ["p/A\n", "", "p/B\n"] {
         assert!(rt; sink.put(piece.as_bytes()).is_ok());
     }
 }
 
 /// Sees that a file has this text.
-pub(crate) fn see_text(rt: &(impl Abort + Files + AllocGlobal), path: &str, wanted: &str) {
+pub(super) fn see_text(rt: &impl Host, path: &str, wanted: &str) {
     let text = fs::read_to_string(rt, path).expect(rt, "read");
     assert!(rt; text.as_str() == wanted);
 }

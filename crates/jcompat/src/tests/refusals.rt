@@ -1,176 +1,85 @@
 //! Trees and calls that are refused.
-use super::assembler::file_of;
-use super::outside::{below, new_folder, put_file, remove};
-use super::{Said, WORDS, says, see, texts};
+use super::assembler::cut;
+use super::outside::{Disk, below, new_folder, put_file, remove};
+use super::rows::{Row, in_lines, words_of};
+use super::{Host, run_over, see_ended, see_table};
 use crate::disk_trees::DiskTrees;
-use std::process::Abort;
-use std::rt::Files;
 use std::test::Fail;
 
-/// What is shown, the files and the line on the error stream.
-type Row = (&'static str, &'static [&'static str], &'static str);
+const OVER_ROOT: &str = "$ check --platform P --old O --new N
+: P java/lang/Object init
+#3 a byte more than a class file has
+: O bytes p/A.class ca fe ba be 0 0 0 34 0 7 1 0 3 70 2f 41 7 0 1 1 0 10 6a 61 76 61 2f 6c 61 6e 67 2f 4f 62 6a 65 63 74 7 0 3 1 0 6 3c 69 6e 69 74 3e 1 0 3 28 29 56 0 21 0 2 0 4 0 0 0 0 0 1 0 1 0 5 0 6 0 0 0 0 0
+! jcompat: old: p/A.class: Trailing at 78
+#3 a byte less : O bytes p/A.class ca fe ba be 0 0 0 34 0 7 1 0 3 70 2f 41 7 0 1 1 0 10 6a 61 76 61 2f 6c 61 6e 67 2f 4f 62 6a 65 63 74 7 0 3 1 0 6 3c 69 6e 69 74 3e 1 0 3 28 29 56 0 21 0 2 0 4 0 0 0 0 0 1 0 1 0 5 0 6 0 0 0
+! jcompat: old: p/A.class: Short at 77
+#3 a file at another place : N at q/A.class p/A init ! jcompat: new: q/A.class: misplaced p/A
+#3 the new release declares java/lang/Object too : N java/lang/Object init ! jcompat: new: overlap java/lang/Object
+#3 both releases declare names of the platform, of which the first of the old one is named : P p/A init | P p/B init | O p/A init | O p/B init | N java/lang/Object init
+! jcompat: old: overlap p/A
+";
 
-const ROWS: &[Row] = &[
-    (
-        "malformed files, of which the first in order is named, before what the platform lacks",
-        &[
-            "N bytes p/A.class",
-            "O bytes p/C.class",
-            "O bytes p/B.class ca fe ba be 0 0 0 34 0 4 7 0",
-            "O p/A init",
-        ],
-        "jcompat: old: p/B.class: Short at 12\n",
-    ),
-    (
-        "a byte more than a class file has",
-        &[
-            "P java/lang/Object init",
-            "O bytes p/A.class ca fe ba be 0 0 0 34 0 7 1 0 3 70 2f 41 7 0 1 1 0 10 6a 61 76 61 2f 6c 61 6e 67 2f 4f 62 6a 65 63 74 7 0 3 1 0 6 3c 69 6e 69 74 3e 1 0 3 28 29 56 0 21 0 2 0 4 0 0 0 0 0 1 0 1 0 5 0 6 0 0 0 0 0",
-        ],
-        "jcompat: old: p/A.class: Trailing at 78\n",
-    ),
-    (
-        "a byte less",
-        &[
-            "P java/lang/Object init",
-            "O bytes p/A.class ca fe ba be 0 0 0 34 0 7 1 0 3 70 2f 41 7 0 1 1 0 10 6a 61 76 61 2f 6c 61 6e 67 2f 4f 62 6a 65 63 74 7 0 3 1 0 6 3c 69 6e 69 74 3e 1 0 3 28 29 56 0 21 0 2 0 4 0 0 0 0 0 1 0 1 0 5 0 6 0 0 0",
-        ],
-        "jcompat: old: p/A.class: Short at 77\n",
-    ),
-    (
-        "a file at another place",
-        &["P java/lang/Object init", "N at q/A.class p/A init"],
-        "jcompat: new: q/A.class: misplaced p/A\n",
-    ),
-    (
-        "an empty platform, and a release with java/lang/Object",
-        &["N java/lang/Object init"],
-        "jcompat: platform: bad root missing\n",
-    ),
-    (
-        "a final root",
-        &["P java/lang/Object flags=31 init"],
-        "jcompat: platform: bad root flags\n",
-    ),
-    (
-        "a root with an interface; with a superclass it would be malformed",
-        &["P java/lang/Object implements=p/I init"],
-        "jcompat: platform: bad root interfaces\n",
-    ),
-    (
-        "a root with a field",
-        &["P java/lang/Object field=1:f:I init"],
-        "jcompat: platform: bad root fields\n",
-    ),
-    (
-        "a sealed root",
-        &["P java/lang/Object sealed permits=p/A init"],
-        "jcompat: platform: bad root permits\n",
-    ),
-    (
-        "a root whose constructor is protected",
-        &["P java/lang/Object method=4:<init>:()V"],
-        "jcompat: platform: bad root init\n",
-    ),
-    (
-        "the new release declares java/lang/Object too",
-        &["P java/lang/Object init", "N java/lang/Object init"],
-        "jcompat: new: overlap java/lang/Object\n",
-    ),
-    (
-        "both releases declare names of the platform, of which the first of the old one is named",
-        &[
-            "P java/lang/Object init",
-            "P p/A init",
-            "P p/B init",
-            "O p/A init",
-            "O p/B init",
-            "N java/lang/Object init",
-        ],
-        "jcompat: old: overlap p/A\n",
-    ),
-];
+const OTHER_ROOTS: &str = "$ check --platform P --old O --new N
+#3 malformed files, of which the first in order is named, before what the platform lacks : N bytes p/A.class | O bytes p/C.class | O bytes p/B.class ca fe ba be 0 0 0 34 0 4 7 0 | O p/A init
+! jcompat: old: p/B.class: Short at 12
+#3 an empty platform, and a release with java/lang/Object : N java/lang/Object init ! jcompat: platform: bad root missing
+#3 a final root : P java/lang/Object flags=31 init ! jcompat: platform: bad root flags
+#3 a root with an interface; with a superclass it would be malformed : P java/lang/Object implements=p/I init
+! jcompat: platform: bad root interfaces
+#3 a root with a field : P java/lang/Object field=1:f:I init ! jcompat: platform: bad root fields
+#3 a sealed root : P java/lang/Object sealed permits=p/A init ! jcompat: platform: bad root permits
+#3 a root whose constructor is protected : P java/lang/Object method=4:<init>:()V ! jcompat: platform: bad root init
+";
 
 #[test]
 fn trees_are_refused(rt: HostRuntime) {
-    for (shown, lines, line) in ROWS {
-        see(&rt, rt.alloc(), shown, WORDS, lines, &(3, "", *line));
+    for table in [OVER_ROOT, OTHER_ROOTS] {
+        see_table(&rt, table);
     }
 }
 
-// Sees that a check of the folders below the root says just this, where the old release's `p/A.class`
-// has these bytes.
-fn see_file(
-    rt: &(impl Abort + Files + AllocGlobal),
-    trees: &mut DiskTrees<HostRuntime>,
-    root: &str,
-    bytes: &[u8],
-    said: &Said<'_>,
-) {
-    put_file(rt, root, "old/p/A.class", bytes);
-    let platform = below(rt, root, "platform");
-    let old = below(rt, root, "old");
-    let new = below(rt, root, "new");
-    let words = [
-        "check",
-        "--platform",
-        platform.as_str(),
-        "--old",
-        old.as_str(),
-        "--new",
-        new.as_str(),
-    ];
-    let words = texts(rt, rt.alloc(), &words);
-    let is_said = says(rt, rt.alloc(), words.as_slice(), trees, said);
-    assert!(rt; is_said, "{}", said.2);
+const ON_DISK: &str = ": P java/lang/Object init | N bytes notes.txt
+#3 a file that is cut off : O bytes p/A.class ca fe ba be 0 0 0 34 0 4 7 0
+! jcompat: old: p/A.class: Short at 12
+#3 an empty file : O bytes p/A.class
+! jcompat: old: p/A.class: Short at 0
+#3 a file at another place : O at p/A.class p/B init
+! jcompat: old: p/A.class: misplaced p/B
+#7 a byte more than a file may have : O zeros p/A.class 4194305
+! jcompat: old: p/A.class: limit bytes
+#3 as many bytes as a file may have : O zeros p/A.class 4194304
+! jcompat: old: p/A.class: BadMagic at 0
+";
+
+// Writes the files of the row to the folders of their roots.
+fn put_row(rt: &impl Host, folder: &str, row: &Row<'_>) {
+    for file in row.files(rt).as_slice() {
+        let root = below(rt, folder, file.root.as_str());
+        put_file(rt, root.as_str(), file.path.as_str(), file.bytes.as_slice());
+    }
 }
 
-/// The bytes of a file, and what is said.
-type File = (&'static [u8], Said<'static>);
-
-const FILES: &[File] = &[
-    (
-        b"\xca\xfe\xba\xbe\0\0\0\x34\0\x04\x07\0",
-        (3, "", "jcompat: old: p/A.class: Short at 12\n"),
-    ),
-    (b"", (3, "", "jcompat: old: p/A.class: Short at 0\n")),
-];
-
-const MISPLACED: Said<'static> = (3, "", "jcompat: old: p/A.class: misplaced p/B\n");
-
-const TOO_LONG: Said<'static> = (7, "", "jcompat: old: p/A.class: limit bytes\n");
-
-const BAD_MAGIC: Said<'static> = (3, "", "jcompat: old: p/A.class: BadMagic at 0\n");
-
-fn see_files(
-    rt: &(impl Abort + Files + AllocGlobal),
-    trees: &mut DiskTrees<HostRuntime>,
-    root: &str,
-) {
-    for (bytes, said) in FILES {
-        see_file(rt, trees, root, bytes, said);
-    }
-    let plain = file_of(rt, rt.alloc(), "O p/B init");
-    see_file(rt, trees, root, plain.bytes.as_slice(), &MISPLACED);
-    let zeros = vec![in rt.alloc(); 0u8; 4_194_305].expect(rt, "memory");
-    see_file(rt, trees, root, zeros.as_slice(), &TOO_LONG);
-    see_file(rt, trees, root, &zeros.as_slice()[1..], &BAD_MAGIC);
+// Sees that a check of these folders says what the row says.
+fn see_folders(rt: &impl Host, trees: &mut Disk, folder: &str, row: &Row<'_>) {
+    let line = format!(in rt.alloc();
+        "check --platform {folder}/P --old {folder}/O --new {folder}/N"
+    );
+    let words = words_of(rt, line.expect(rt, "memory").as_str());
+    see_ended(rt, row, &run_over(rt, words.as_slice(), trees, ""));
 }
 
 #[test]
 fn real_folders_are_refused(rt: HostRuntime) -> Result<(), Fail> {
-    let root = new_folder(&rt, "check")?;
-    let root = root.as_str();
-    let object = file_of(&rt, rt.alloc(), "P java/lang/Object init");
-    put_file(
-        &rt,
-        root,
-        "platform/java/lang/Object.class",
-        object.bytes.as_slice(),
-    );
-    put_file(&rt, root, "new/notes.txt", b"");
+    let folder = new_folder(&rt, "check")?;
+    let folder = folder.as_str();
     let mut trees = DiskTrees::new(rt.clone().expect(&rt, "memory"));
-    see_files(&rt, &mut trees, root);
-    remove(&rt, root);
+    let lines = in_lines(&rt, ON_DISK);
+    let (common, rows) = cut(lines.as_str(), "#");
+    for own in rows.split('#') {
+        let row = Row { common, own };
+        put_row(&rt, folder, &row);
+        see_folders(&rt, &mut trees, folder, &row);
+    }
+    remove(&rt, folder);
     Ok(())
 }
