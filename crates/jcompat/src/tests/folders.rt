@@ -42,7 +42,7 @@ fn real_folders_take_files(rt: HostRuntime) -> Result<(), Fail> {
     Ok(())
 }
 
-fn see_fault(rt: &impl Abort, folder: &mut Disk, path: &str) {
+fn see_fault(rt: &impl Host, folder: &mut Disk, path: &str) {
     let put = folder.put(path, b"file");
     assert!(rt; matches!(put, Err(FolderError::Fault)), "{path}");
 }

@@ -111,20 +111,20 @@ impl Gate for Watched {
 const ASKED: &str = "$ check --platform P --old O --new N
 : P java/lang/Object init method=1:toString:()Ljava/lang/String; | O p/A init
 : N p/A init method=11:toString:()Ljava/lang/String; method=11:close:()V
-#0 without names the gate links alone, which is open, gate=links:open gate=other:shut seen=612 asked=1 dropped=2
-#1 each gate that is named, in the order in which they were handed in, gate=links:shut gate=other:open seen=6120612 asked=2 dropped=2
+#0 without names the gate links alone, which is open, watched=links:open watched=other:shut seen=612 asked=1 dropped=2
+#1 each gate that is named, in the order in which they were handed in, watched=links:shut watched=other:open seen=6120612 asked=2 dropped=2
 $ check --platform P --old O --new N --gate other,links
-#1 both gates of one name, gate=links:open gate=links:shut seen=6120612 asked=2 dropped=2
-#2 no gate of the name, gate=other:open seen=0 asked=0 dropped=1
-#5 a last line that isn't put, gate=links:open gate=other:shut out=3 seen=0 asked=0 dropped=2
-#0 a link, which asks no gate, gate=links:shut seen=0 asked=0 dropped=1
+#1 both gates of one name, watched=links:open watched=links:shut seen=6120612 asked=2 dropped=2
+#2 no gate of the name, watched=other:open seen=0 asked=0 dropped=1
+#5 a last line that isn't put, watched=links:open watched=other:shut out=3 seen=0 asked=0 dropped=2
+#0 a link, which asks no gate, watched=links:shut seen=0 asked=0 dropped=1
 $ link --platform P --release R --client C
 ";
 
 // The gates of a text, which tell their fate.
 fn watched_gates(rt: &impl Host, told: &str, fate: &Rc<Fate>) -> Vec<Box<dyn Gate>> {
     let mut watched: Vec<Box<dyn Gate>> = Vec::new(rt.alloc());
-    for gate in values(rt, told, "gate").as_slice() {
+    for gate in values(rt, told, "watched").as_slice() {
         let (name, state) = cut(gate, ":");
         let gate = Watched {
             is_links: name == "links",

@@ -1,6 +1,6 @@
 //! Runs of which one call fails, and hierarchies that are wide or deep.
-use super::rows::push;
-use super::{Host, see_table};
+use super::rows::{Row, push};
+use super::{Host, see_run, see_table};
 
 const CAPTURE: &str = r##"$ check --platform P --old O --new N --witness d
 : P java/lang/Object init | O p/A init | N p/A init method=2:run:()V
@@ -101,25 +101,26 @@ fn put_class(rt: &impl Host, table: &mut String, number: u32, is_kept: bool) {
     push(rt, table, line.expect(rt, "memory").as_str());
 }
 
-// Sees that the row is right, with a chain of so many classes.
-fn see_chain(rt: &impl Host, row: &str, count: u32, is_kept: bool) {
-    let mut table = String::from_str(rt.alloc(), row).expect(rt, "memory");
+/// A platform, and the highest class of a chain.
+const HIGHEST: &str = "$ check --platform P --old O --new N
+: P java/lang/Object init | O,N p/C0000 init
+";
+
+// Sees what is said of a chain of so many classes in the old release, which is kept in the new one or not.
+fn see_chain(rt: &impl Host, own: &str, count: u32, is_kept: bool) {
+    let mut table = String::from_str(rt.alloc(), HIGHEST).expect(rt, "memory");
     for number in 1..count {
         put_class(rt, &mut table, number, is_kept);
     }
-    see_table(rt, table.as_str());
+    let common = table.as_str();
+    see_run(rt, &Row { common, own });
 }
 
-/// A chain and its highest class, in the old release alone and in both.
-const BROKEN: &str = "#7 a long chain : P java/lang/Object init | O,N p/C0000 init
-$ check --platform P --old O --new N
-! jcompat: limit findings
-";
+const BROKEN: &str = "7 a long chain of classes, and the same without the chain
+! jcompat: limit findings";
 
-const KEPT: &str = "#0 a long chain : P java/lang/Object init | O,N p/C0000 init
-$ check --platform P --old O --new N
-> compatible: 0 findings, 0 collisions, 0 notes
-";
+const KEPT: &str = "0 a long chain of classes
+> compatible: 0 findings, 0 collisions, 0 notes";
 
 #[test]
 fn a_long_chain_of_classes(rt: HostRuntime) {

@@ -17,6 +17,7 @@ use jc_base::mem_file::MemFile;
 use jc_base::text::Text;
 
 /// A row, and the lines before the first one.
+#[derive(Drop)]
 pub(super) struct Row<'a> {
     pub(super) common: &'a str,
     pub(super) own: &'a str,
