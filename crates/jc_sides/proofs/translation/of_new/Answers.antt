@@ -8,8 +8,8 @@ use Rattle.jc_sides.proofs.translation.of_new.Goals as goal
 pub loop-number-init : goal.loop-number-init
 loop-number-init c = starts c.args.sides.now (numbered_keys c.args.sides.now.new) c.in_ok-numbers.numbers.items c.in_ok-numbers.ensures.items
 
-pub unwrap-requires : goal.unwrap-requires
-unwrap-requires c = is_there (numbered_keys c.sides.inside.new.now) c.loop-number.number c.key_at.result (λ k. k.now) (omega (arith, c.key_count-number-end.ensures.count)) c.key_at.ensures
+pub unwrap-key-requires : goal.unwrap-key-requires
+unwrap-key-requires c = is_there (numbered_keys c.sides.inside.new.now) c.loop-number.number c.key_at.result (λ k. k.now) (omega (arith, c.key_count-number-end.ensures.count)) c.key_at.ensures
 
 pub loop-number-preserved : goal.loop-number-preserved
 loop-number-preserved c =
