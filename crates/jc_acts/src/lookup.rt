@@ -6,6 +6,7 @@ ghost use Rattle.jc_facts.specs.world.World.{size};
 ghost use Rattle.jc_facts.specs.world.Loading.{load_fault};
 ghost use Rattle.jc_facts.specs.rule.Bases.{is_key_of_method};
 ghost use Rattle.jc_table.specs.Ids.{name_at};
+ghost use Rattle.jc_table.specs.Keys.{numbered_keys, IsNumber};
 ghost use Rattle.jc_table.specs.Sides.{IsSide};
 ghost use Rattle.jc_acts.specs.steps.LookedUp.{LooksUp, IsInside};
 ghost use Rattle.jc_acts.specs.steps.References.{acts_of, MayName};
@@ -14,8 +15,8 @@ use jc_facts::act::{Act, Form};
 use jc_facts::flags::is_interface;
 use jc_facts::key::Key;
 use jc_facts::link_error::LinkError;
-use jc_field::find::find_field;
-use jc_method::find::{find_interface_method, find_method};
+use jc_field::find::find_field_by_number;
+use jc_method::find::{find_interface_method_by_number, find_method_by_number};
 use jc_table::ids::{ClassId, Found};
 use jc_table::table::Table;
 
@@ -39,66 +40,92 @@ pub fn acts(form: Form) -> &'static [Act]
 }
 
 // What references to fields find (JVMS 5.4.3.2).
-fn look_up_field(table: &Table, class: ClassId, key: &Key) -> Result<Found, LinkError>
+fn look_up_field(
+    table: &Table,
+    class: ClassId,
+    key: &Key,
+    number: Option<usize>,
+) -> Result<Found, LinkError>
     requires class { class < size table.now }
     requires loads { load_fault table.now (name_at table.now class) ≡ None }
+    requires number { IsNumber (numbered_keys table.now) key.now number }
     ensures found { LooksUp table.now (name_at table.now class) key.now FieldForm result }
     ensures inside { IsInside table.now result }
 {
-    match find_field(table, class, key) {
+    match find_field_by_number(table, class, key, number) {
         Some(found) => Ok(found),
         None => Err(LinkError::NoSuchFieldError),
     }
 }
 
 // What references to methods of classes find (JVMS 5.4.3.3).
-fn look_up_method(table: &Table, class: ClassId, key: &Key) -> Result<Found, LinkError>
+fn look_up_method(
+    table: &Table,
+    class: ClassId,
+    key: &Key,
+    number: Option<usize>,
+) -> Result<Found, LinkError>
     requires side { IsSide table.now }
     requires class { class < size table.now }
     requires loads { load_fault table.now (name_at table.now class) ≡ None }
     requires key { IsTrue (is_key_of_method key.now) }
+    requires number { IsNumber (numbered_keys table.now) key.now number }
     ensures found { LooksUp table.now (name_at table.now class) key.now MethodForm result }
     ensures inside { IsInside table.now result }
 {
     if is_interface(table.facts(class).flags) {
         return Err(LinkError::IncompatibleClassChangeError);
     }
-    match find_method(table, class, key) {
+    match find_method_by_number(table, class, key, number) {
         Some(found) => Ok(found),
         None => Err(LinkError::NoSuchMethodError),
     }
 }
 
 // What references to methods of interfaces find (JVMS 5.4.3.4).
-fn look_up_interface_method(table: &Table, class: ClassId, key: &Key) -> Result<Found, LinkError>
+fn look_up_interface_method(
+    table: &Table,
+    class: ClassId,
+    key: &Key,
+    number: Option<usize>,
+) -> Result<Found, LinkError>
     requires side { IsSide table.now }
     requires class { class < size table.now }
     requires loads { load_fault table.now (name_at table.now class) ≡ None }
     requires key { IsTrue (is_key_of_method key.now) }
+    requires number { IsNumber (numbered_keys table.now) key.now number }
     ensures found { LooksUp table.now (name_at table.now class) key.now InterfaceForm result }
     ensures inside { IsInside table.now result }
 {
     if !is_interface(table.facts(class).flags) {
         return Err(LinkError::IncompatibleClassChangeError);
     }
-    match find_interface_method(table, class, key) {
+    match find_interface_method_by_number(table, class, key, number) {
         Some(found) => Ok(found),
         None => Err(LinkError::NoSuchMethodError),
     }
 }
 
-/// What references of the form to a key of the class find: a member, or the error of the lookup.
-pub fn look_up(table: &Table, form: Form, class: ClassId, key: &Key) -> Result<Found, LinkError>
+/// What references of the form to a key of the class find: a member, or the error of the lookup. The
+/// number is the key's in the table.
+pub fn look_up(
+    table: &Table,
+    form: Form,
+    class: ClassId,
+    key: &Key,
+    number: Option<usize>,
+) -> Result<Found, LinkError>
     requires side { IsSide table.now }
     requires class { class < size table.now }
     requires loads { load_fault table.now (name_at table.now class) ≡ None }
     requires key { MayName (form_view form) key.now }
+    requires number { IsNumber (numbered_keys table.now) key.now number }
     ensures found { LooksUp table.now (name_at table.now class) key.now (form_view form) result }
     ensures inside { IsInside table.now result }
 {
     match form {
-        Form::Field => look_up_field(table, class, key),
-        Form::Method => look_up_method(table, class, key),
-        Form::Interface => look_up_interface_method(table, class, key),
+        Form::Field => look_up_field(table, class, key, number),
+        Form::Method => look_up_method(table, class, key, number),
+        Form::Interface => look_up_interface_method(table, class, key, number),
     }
 }

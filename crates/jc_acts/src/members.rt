@@ -3,6 +3,7 @@ ghost use Rattle.std.specs.Prelude.{IsTrue};
 ghost use Rattle.jc_facts.specs.client.Forms.{form_view};
 ghost use Rattle.jc_facts.specs.rule.OpenActs.{field_acts, method_acts};
 ghost use Rattle.jc_facts.specs.rule.Bases.{is_key_of_method, is_steady};
+ghost use Rattle.jc_sides.specs.Numbering.{AreNumbers};
 ghost use Rattle.jc_sides.specs.SharedOf.{IsShared, name_of};
 ghost use Rattle.jc_acts.specs.ClosedActs.{IsFirstClosed};
 ghost use Rattle.jc_acts.specs.Seats.{AreSeats};
@@ -15,6 +16,7 @@ use crate::lookup::{Looked, acts, look_up};
 use crate::seats::Seats;
 use jc_facts::act::Form;
 use jc_facts::key::Key;
+use jc_sides::key_numbers::KeyNumbers;
 use jc_sides::shared::Shared;
 use jc_sides::sides::Sides;
 
@@ -25,17 +27,19 @@ fn closed_by<'a>(
     class: &Shared<'_>,
     form: Form,
     key: &Key,
+    numbers: &KeyNumbers,
 ) -> Option<ClosedAct<'a>>
     requires seats { AreSeats sides.now seats.now }
     requires class { IsShared sides.now «class».now }
     requires steady { IsTrue (is_steady sides.now.old sides.now.new (name_of «class».now)) }
     requires key { MayName (form_view form) key.now }
+    requires numbers { AreNumbers sides.now key.now numbers.now }
     ensures { IsFirstClosed sides.now (name_of «class».now) key.now (acts_of form) result }
 {
-    let Ok(before) = look_up(sides.old, form, class.old, key) else {
+    let Ok(before) = look_up(sides.old, form, class.old, key, numbers.old) else {
         return None;
     };
-    let after = look_up(sides.new, form, class.new, key);
+    let after = look_up(sides.new, form, class.new, key, numbers.new);
     let looked = Looked { before, after };
     let asked = asked(sides, seats, class, &looked);
     first_closed(sides, class, &looked, acts(form), asked)
@@ -49,13 +53,15 @@ pub fn field_closed<'a>(
     seats: &Seats<'a>,
     class: &Shared<'_>,
     key: &Key,
+    numbers: &KeyNumbers,
 ) -> Option<ClosedAct<'a>>
     requires seats { AreSeats sides.now seats.now }
     requires class { IsShared sides.now «class».now }
     requires steady { IsTrue (is_steady sides.now.old sides.now.new (name_of «class».now)) }
+    requires numbers { AreNumbers sides.now key.now numbers.now }
     ensures { IsFirstClosed sides.now (name_of «class».now) key.now field_acts result }
 {
-    closed_by(sides, seats, class, Form::Field, key)
+    closed_by(sides, seats, class, Form::Field, key, numbers)
 }
 
 /// The same of acts on the method of the key, which is no initializer's (JVMS 5.4.3.3, 5.4.3.4,
@@ -65,15 +71,17 @@ pub fn method_closed<'a>(
     seats: &Seats<'a>,
     class: &Shared<'_>,
     key: &Key,
+    numbers: &KeyNumbers,
 ) -> Option<ClosedAct<'a>>
     requires seats { AreSeats sides.now seats.now }
     requires class { IsShared sides.now «class».now }
     requires steady { IsTrue (is_steady sides.now.old sides.now.new (name_of «class».now)) }
     requires key { IsTrue (is_key_of_method key.now) }
+    requires numbers { AreNumbers sides.now key.now numbers.now }
     ensures { IsFirstClosed sides.now (name_of «class».now) key.now method_acts result }
 {
-    match closed_by(sides, seats, class, Form::Method, key) {
+    match closed_by(sides, seats, class, Form::Method, key, numbers) {
         Some(closed) => Some(closed),
-        None => closed_by(sides, seats, class, Form::Interface, key),
+        None => closed_by(sides, seats, class, Form::Interface, key, numbers),
     }
 }

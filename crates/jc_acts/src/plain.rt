@@ -36,7 +36,7 @@ fn fault_on(table: &Table, seat: ClassId, class: ClassId, key: &Key, act: Act) -
     requires key { MayName (form_of act) key.now }
     ensures { result ≡ act_fault table.now (name_at table.now seat) (name_at table.now class) key.now act }
 {
-    match look_up(table, act.form(), class, key) {
+    match look_up(table, act.form(), class, key, table.key_number(key)) {
         Err(error) => Some(error),
         Ok(found) => use_fault(table, seat, class, act, found),
     }

@@ -1,6 +1,6 @@
 -- Fields that are looked up in a row, and the keys of those that are found.
-use Rattle.std.proofs.Common.{◌≡◌, Bool, true, false, List, refl, Option, Some, None, is_some}
-use Rattle.std.specs.Prelude.{IsTrue}
+use Rattle.std.proofs.Common.{◌≡◌, Bool, true, false, List, refl, sym, Option, Some, None, is_some}
+use Rattle.std.specs.Prelude.{IsTrue, IfSome}
 use Rattle.std.specs.List.{list_any}
 use Rattle.jc_facts.specs.declared.key.Key.{Key}
 use Rattle.jc_facts.specs.Exactly.{HasExactly}
@@ -18,8 +18,9 @@ use Rattle.jc_rows.specs.Keys.{declares_with_rows}
 use Rattle.jc_rows.specs.Rows.{IsFieldRow}
 use Rattle.jc_rows.specs.WithRows.{has_rows}
 use Rattle.jc_rows.proofs.WithRows.{unnumbered-field}
-use Rattle.jc_table.specs.RowKeys.{HaveKeysOf, HasForKey}
+use Rattle.jc_table.specs.RowKeys.{keys_of_row, HaveKeysOf, HasForKey}
 use Rattle.jc_table.proofs.InRows.{looked_up, is_among, is_listed}
+use Rattle.jc_table.proofs.RowKeys.{have_keys}
 use Rattle.jc_field.specs.FoundKeys.{HaveFound}
 use Rattle.jc_field.proofs.Declared.{found_is_declared}
 
@@ -53,3 +54,8 @@ module _ (W : World) (s : IsSide W) (x : Bytes) (loads : load_fault W x ≡ None
     -- each key that is found is among those of the row
     pub found_in_row : (keys : List Key) → HaveKeysOf W row keys → HaveFound W x keys
     found_in_row keys w k f = is_among W s.differ (λ j o. IsAnswer W o (field_found W x j)) row h.found undeclared keys w k (λ r a. there W r (field_found W x k) a f)
+
+  -- the keys of the row that is made of it, if one is, are those of all that is found; r is the row as it is lent
+  pub row_finds : {A : Type 0} (r : Option A) (view : A → List RowItem) → is_some r ≡ has_rows W x → IfSome r (λ a. IsFieldRow W x (view a)) → IfSome r (λ a. HaveFound W x (keys_of_row W (view a)))
+  row_finds None view m h = tt
+  row_finds (Some a) view m h = found_in_row (sym m) (view a) h (keys_of_row W (view a)) (have_keys W (view a))

@@ -11,7 +11,7 @@ ghost use Rattle.jc_field.specs.FoundKeys.{HaveFound};
 
 use jc_facts::key::Key;
 use jc_table::ids::ClassId;
-use jc_table::keys::{keys_in, keys_of};
+use jc_table::keys::keys_of;
 use jc_table::members::MemberKind;
 use jc_table::table::Table;
 use std::alloc::{AllocError, Global};
@@ -26,9 +26,9 @@ pub fn field_keys(alloc: Global, table: &Table, class: ClassId) -> Result<Vec<Ke
     keys_of(alloc, table, class, MemberKind::Field)
 }
 
-/// The keys of the fields that a reference to the class finds, each once, in any order
-/// (JVMS 5.4.3.2); where no row is made of it, those of all that are declared above it. The class
-/// has to load. A row's keys share their bytes.
+/// The keys of the fields that a reference to the class finds, and of all others that are declared
+/// above it, each once, by a walk (JVMS 5.4.3.2). The class has to load. It is for a class of which no
+/// row is made: a row has the keys themselves.
 ///
 /// # Errors
 ///
@@ -43,8 +43,5 @@ pub fn found_field_keys(
     ensures { IfOk result (λ keys. HaveFound table.now (name_at table.now class) keys.items) }
 {
     let _classes = table.count();
-    match table.field_row(class) {
-        Some(row) => keys_in(alloc, table, row),
-        None => field_keys(alloc, table, class),
-    }
+    field_keys(alloc, table, class)
 }

@@ -7,6 +7,7 @@ ghost use Rattle.jc_facts.specs.world.Loading.{load_fault};
 ghost use Rattle.jc_facts.specs.world.Lookup.{first_declared, method_choices, interface_choices};
 ghost use Rattle.jc_method.specs.Inheriting.{inherits_from};
 ghost use Rattle.jc_table.specs.Ids.{name_at};
+ghost use Rattle.jc_table.specs.Keys.{numbered_keys, IsNumber};
 ghost use Rattle.jc_table.specs.Lookups.{IsAnswer, IsChoice};
 ghost use Rattle.jc_index.specs.steps.Choosing.{candidate_at};
 
@@ -14,6 +15,7 @@ use crate::own::{any_candidate, candidate, declared};
 use crate::walk::{walk_interface_method, walk_method};
 use jc_facts::flags::is_interface;
 use jc_facts::key::Key;
+use jc_table::by_number::find_at;
 use jc_table::ids::{ClassId, Found};
 use jc_table::table::Table;
 
@@ -46,9 +48,26 @@ pub fn find_method(table: &Table, class: ClassId, key: &Key) -> Option<Found>
     requires kind { IsFalse (is_interface_of table.now (name_at table.now class)) }
     ensures { IsChoice table.now result (method_choices table.now (name_at table.now class) key.now) }
 {
+    find_method_by_number(table, class, key, table.key_number(key))
+}
+
+/// The same method, of a key whose number in the table is at hand. Where the class has a row, no byte
+/// of the key is looked at.
+pub fn find_method_by_number(
+    table: &Table,
+    class: ClassId,
+    key: &Key,
+    number: Option<usize>,
+) -> Option<Found>
+    requires class { class < size table.now }
+    requires loads { load_fault table.now (name_at table.now class) ≡ None }
+    requires kind { IsFalse (is_interface_of table.now (name_at table.now class)) }
+    requires number { IsNumber (numbered_keys table.now) key.now number }
+    ensures { IsChoice table.now result (method_choices table.now (name_at table.now class) key.now) }
+{
     let _classes = table.count();
     match table.method_row(class) {
-        Some(row) => table.find_in(row, key),
+        Some(row) => find_at(row, number),
         None => walk_method(table, class, key),
     }
 }
@@ -62,9 +81,26 @@ pub fn find_interface_method(table: &Table, class: ClassId, key: &Key) -> Option
     requires kind { IsTrue (is_interface_of table.now (name_at table.now class)) }
     ensures { IsChoice table.now result (interface_choices table.now (name_at table.now class) key.now) }
 {
+    find_interface_method_by_number(table, class, key, table.key_number(key))
+}
+
+/// The same method, of a key whose number in the table is at hand. Where the interface has a row, no
+/// byte of the key is looked at.
+pub fn find_interface_method_by_number(
+    table: &Table,
+    class: ClassId,
+    key: &Key,
+    number: Option<usize>,
+) -> Option<Found>
+    requires class { class < size table.now }
+    requires loads { load_fault table.now (name_at table.now class) ≡ None }
+    requires kind { IsTrue (is_interface_of table.now (name_at table.now class)) }
+    requires number { IsNumber (numbered_keys table.now) key.now number }
+    ensures { IsChoice table.now result (interface_choices table.now (name_at table.now class) key.now) }
+{
     let _classes = table.count();
     match table.method_row(class) {
-        Some(row) => table.find_in(row, key),
+        Some(row) => find_at(row, number),
         None => walk_interface_method(table, class, key),
     }
 }

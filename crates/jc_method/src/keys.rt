@@ -11,7 +11,7 @@ ghost use Rattle.jc_method.specs.FoundKeys.{HaveFound};
 
 use jc_facts::key::Key;
 use jc_table::ids::ClassId;
-use jc_table::keys::{keys_in, keys_of};
+use jc_table::keys::keys_of;
 use jc_table::members::MemberKind;
 use jc_table::table::Table;
 use std::alloc::{AllocError, Global};
@@ -26,9 +26,9 @@ pub fn method_keys(alloc: Global, table: &Table, class: ClassId) -> Result<Vec<K
     keys_of(alloc, table, class, MemberKind::Method)
 }
 
-/// The keys of the methods that a reference to the class or the interface may find, each once, in
-/// any order (JVMS 5.4.3.3, 5.4.3.4); where no row is made of it, those of all that are declared
-/// above it. The class has to load. A row's keys share their bytes.
+/// The keys of the methods that a reference to the class or the interface may find, and of all others
+/// that are declared above it, each once, by a walk (JVMS 5.4.3.3, 5.4.3.4). The class has to load. It
+/// is for a class of which no row is made: a row has the keys themselves.
 ///
 /// # Errors
 ///
@@ -43,8 +43,5 @@ pub fn found_method_keys(
     ensures { IfOk result (λ keys. HaveFound table.now (name_at table.now class) keys.items) }
 {
     let _classes = table.count();
-    match table.method_row(class) {
-        Some(row) => keys_in(alloc, table, row),
-        None => method_keys(alloc, table, class),
-    }
+    method_keys(alloc, table, class)
 }

@@ -27,7 +27,7 @@ use Rattle.jc_worlds.specs.Agreement.{LooksTheSame}
 use Rattle.jc_worlds.specs.Choices.{IsPublicInstance}
 use Rattle.jc_worlds.proofs.ChoiceLaws.{inherited_are_public}
 use Rattle.jc_sides.specs.BrokenOf.{BrokenOf, broken_if, collided}
-use Rattle.jc_sides.specs.Members.{is_member, is_hidden, OfPassing}
+use Rattle.jc_sides.specs.Members.{is_member, OfPassing}
 use Rattle.jc_sides.specs.declared.members.Members.TheVariants as members
 use Rattle.jc_sides.specs.Rules.{key_collision, IsCollision, IsItemRule}
 use Rattle.jc_sides.proofs.BrokenActs.{collided_where}
@@ -37,6 +37,7 @@ use Rattle.jc_sides.proofs.ItemRules.{made_where, collision_rule}
 use Rattle.jc_sides.proofs.NamedAbove.{class_unkept}
 use Rattle.jc_table.specs.Sides.{IsSide}
 use Rattle.jc_table.specs.Lookups.{IsChoice}
+use Rattle.jc_table.specs.Rows.{choices_by}
 use Rattle.jc_table.proofs.Sides.{classes_valid}
 use Rattle.jc_index.specs.declared.ids.Found.{Found}
 
@@ -197,22 +198,6 @@ capture_parts s x k c h =
     let e = and_parts (is_key_of_method k) (is_base_class s.old s.new x) d.0 in
     record { base = e.1; unknown = d.1; declared = b.1 }
 
--- where the first method fails calls, a class of the chain declares one that does
-first_hidden : (k : Key) (cs : List ClassFacts) → some_and (λ m. not (public_flag m.member.flags && no_static_flag m.member.flags)) (first_declared k cs) ≡ true → list_any (λ c. some_and is_hidden (own_method_of c k)) cs ≡ true
-unfolding first_declared found_in or_else
-first_hidden k [] h = absurd (let clash : false ≡ true = h in cc)
-first_hidden k (c ∷ cs) h = go (own_method_of c k) h (first_hidden k cs)
-  where
-    go : (o : Option Member) → some_and (λ m. not (public_flag m.member.flags && no_static_flag m.member.flags)) (or_else (found_in c o) (first_declared k cs)) ≡ true
-        → (some_and (λ m. not (public_flag m.member.flags && no_static_flag m.member.flags)) (first_declared k cs) ≡ true → list_any (λ c. some_and is_hidden (own_method_of c k)) cs ≡ true)
-        → (some_and is_hidden o || list_any (λ c. some_and is_hidden (own_method_of c k)) cs) ≡ true
-    go None h r = r h
-    go (Some m) h r = or_left (is_hidden m) (list_any (λ c. some_and is_hidden (own_method_of c k)) cs) h
-
-pub of_hidden : (s : SidesOf) (x : Bytes) → OfPassing (key_collision 11 s x) (is_member members.NewHidden s x)
-unfolding captures
-of_hidden s x k c e = first_hidden k (chain s.new x) (capture_parts s x k c e).declared
-
 -- nothing is captured where all lookups are as they were
 found_none : (W : World) (x : Bytes) (k : Key) → captures W x k ≡ true → are_none (method_choices W x k) ≡ true → ⊥
 unfolding captures method_choices or_choices
@@ -221,6 +206,21 @@ found_none W x k h n = go (first_declared k (chain W x)) h n
     go : (o : Option DeclaredMember) → some_and (λ m. not (public_flag m.member.flags && no_static_flag m.member.flags)) o ≡ true → are_none (or_choices o (superinterface_choices W x k)) ≡ true → ⊥
     go None h n = let clash : false ≡ true = h in cc
     go (Some m) h n = let clash : false ≡ true = n in cc
+
+-- the new lookup finds what is captured
+pub of_methods : (s : SidesOf) (x : Bytes) → OfPassing (key_collision 11 s x) (is_member members.NewMethods s x)
+of_methods s x k c e = go (is_interface_of s.new x) (no_interface_now s x p.base)
+  where
+    p : IsCapture s x k
+    p = capture_parts s x k c e
+
+    some : (b : Bool) → are_none (method_choices s.new x k) ≡ b → not b ≡ true
+    some true n = absurd (found_none s.new x k p.declared n)
+    some false n = refl
+
+    go : (b : Bool) → b ≡ false → not (are_none (choices_by b s.new x k)) ≡ true
+    go true n = absurd (let clash : true ≡ false = n in cc)
+    go false n = some (are_none (method_choices s.new x k)) refl
 
 pub of_none : (s : SidesOf) (x : Bytes) → LooksTheSame s.old s.new x → OfPassing (key_collision 11 s x) (is_member members.Nothing s x)
 of_none s x same k c e = let p = capture_parts s x k c e in absurd (found_none s.new x k p.declared (ap are_none (sym (same.method k)) ∙ p.unknown))

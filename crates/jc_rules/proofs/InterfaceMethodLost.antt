@@ -84,6 +84,26 @@ module _ (s : SidesOf) (x : Bytes) (k : Key) where
   pub lost_else : (r : Bool) → r ≡ inherits s.old x k → r ≡ false → r ≡ loses s x k
   lost_else r a t = row_false (inherits s.old x k) (inherits s.new x k) r a t
 
+-- the loss is asked first, which tells nothing where java/lang/Object has the method, and then that
+no_method : {A : Type 0} (o : Option A) → is_some o ≡ false → o ≡ None
+no_method None e = refl
+no_method (Some a) e = absurd (let c : true ≡ false = e in cc)
+
+asked_last : (m l L b : Bool) → (b ≡ false → l ≡ L) → (m && l && not b) ≡ (m && not b && L)
+asked_last false l L b h = refl
+asked_last true true L true h = refl
+asked_last true false L true h = refl
+asked_last true l L false h = go l L (h refl)
+  where
+    go : (i j : Bool) → i ≡ j → (i && true) ≡ j
+    go true j e = e
+    go false j e = e
+
+pub lost_apart : (s : SidesOf) (x : Bytes) (k : Key) (i l b : Bool) → is_key_of_method k ≡ not i → (public_method_of_object s.old k ≡ None → l ≡ loses s x k) → b ≡ is_some (public_method_of_object s.old k) → (not i && l && not b) ≡ has_lost_method s x k
+lost_apart s x k i l b m h e =
+    ap (λ (t : Bool). t && l && not b) (sym m) ∙ ap (λ (t : Bool). is_key_of_method k && l && not t) e
+    ∙ asked_last (is_key_of_method k) l (loses s x k) (is_some (public_method_of_object s.old k)) (λ n. h (no_method (public_method_of_object s.old k) n))
+
 -- ---- what an interface inherits, by what the lookup from it finds
 
 module _ (W : World) (x : Bytes) (c : ClassFacts) (there : find_class W x ≡ Some c) (loads : load_fault W x ≡ None) (k : Key) (apart : public_method_of_object W k ≡ None) where

@@ -7,6 +7,7 @@ ghost use Rattle.jc_facts.specs.rule.Collisions.{are_none, leaves_room};
 ghost use Rattle.jc_facts.specs.Flags.{public_flag, no_static_flag};
 ghost use Rattle.jc_facts.specs.world.Lookup.{method_choices};
 ghost use Rattle.jc_facts.specs.rule.Bases.{is_base_class, is_key_of_method};
+ghost use Rattle.jc_sides.specs.Numbering.{AreNumbers};
 ghost use Rattle.jc_sides.specs.SharedOf.{IsShared, name_of};
 
 use jc_acts::seats::Seats;
@@ -17,9 +18,10 @@ use jc_facts::flags::{is_public, is_static};
 use jc_facts::key::Key;
 use jc_facts::link_error::LinkError;
 use jc_facts::rule_numbers::CAPTURE_ADDED;
-use jc_method::find::find_method;
+use jc_method::find::find_method_by_number;
 use jc_sides::broken::{BrokenAct, broken_where};
 use jc_sides::collision_rule::CollisionRule;
+use jc_sides::key_numbers::KeyNumbers;
 use jc_sides::members::Members;
 use jc_sides::shared::Shared;
 use jc_sides::sides::Sides;
@@ -57,14 +59,21 @@ fn error_of(flags: u16) -> LinkError
 
 // Whether the new chain's method of the key, of these flags, fails calls from below the base class
 // that could find a method of a client's interface before.
-fn is_captured(sides: &Sides<'_>, class: &Shared<'_>, key: &Key, flags: u16) -> bool
+fn is_captured(
+    sides: &Sides<'_>,
+    class: &Shared<'_>,
+    key: &Key,
+    numbers: &KeyNumbers,
+    flags: u16,
+) -> bool
     requires shared { IsShared sides.now «class».now }
     requires covered { IsTrue (is_base_class sides.now.old sides.now.new (name_of «class».now)) }
+    requires numbers { AreNumbers sides.now key.now numbers.now }
     ensures { result ≡ (not (public_flag flags && no_static_flag flags) && is_key_of_method key.now && are_none (method_choices sides.now.old (name_of «class».now) key.now) && leaves_room key.now) }
 {
     fails(flags)
         && !is_initializer(key.name.as_bytes())
-        && find_method(sides.old, class.old, key).is_none()
+        && find_method_by_number(sides.old, class.old, key, numbers.old).is_none()
         && has_room(key)
 }
 
@@ -90,16 +99,22 @@ impl<'a, 'b> CollisionRule for CaptureAdded<'a, 'b> {
 
     fn members(&self, sides: &Sides<'_>, class: &Shared<'_>) -> Members {
         if self.seats.may_close(sides, class) {
-            Members::NewHidden
+            Members::NewMethods
         } else {
             Members::Nothing
         }
     }
 
-    fn on_key(&self, sides: &Sides<'_>, class: &Shared<'_>, key: &Key) -> Option<BrokenAct<'_>> {
+    fn on_key(
+        &self,
+        sides: &Sides<'_>,
+        class: &Shared<'_>,
+        key: &Key,
+        numbers: &KeyNumbers,
+    ) -> Option<BrokenAct<'_>> {
         // One that superinterfaces give is a public instance method, and fails no call.
-        let method = find_method(sides.new, class.new, key)?;
-        let captured = is_captured(sides, class, key, method.flags);
+        let method = find_method_by_number(sides.new, class.new, key, numbers.new)?;
+        let captured = is_captured(sides, class, key, numbers, method.flags);
         broken_where(captured, Act::InvokeVirtual, error_of(method.flags))
     }
 }

@@ -12,6 +12,7 @@ ghost use Rattle.jc_rules.specs.Verdicts.{IsVerdictWithin, KeepsAll, BreaksEach}
 ghost use Rattle.jc_rules.specs.steps.Classes.{OfRules};
 ghost use Rattle.jc_rules.specs.steps.Within.{IsLimited};
 ghost use Rattle.jc_sides.specs.Limit.{IsWithin};
+ghost use Rattle.jc_sides.specs.Numbering.{IsTranslation};
 ghost use Rattle.jc_sides.specs.SharedOf.{AreThose};
 ghost use Rattle.jc_sides.specs.SidesOf.{AreSides};
 
@@ -41,6 +42,7 @@ use jc_sides::item_rule::by_items;
 use jc_sides::limit::left;
 use jc_sides::shared::Shared;
 use jc_sides::sides::Sides;
+use jc_sides::translation::Translation;
 use jc_table::table::Table;
 use std::alloc::{AllocError, Global};
 
@@ -79,12 +81,14 @@ fn findings_on_classes(
 fn findings_below(
     alloc: Global,
     sides: &Sides<'_>,
+    translation: &Translation,
     seats: &Seats<'_>,
     steady: &[Shared<'_>],
     most: Option<usize>,
 ) -> Result<Option<Vec<Finding>>, AllocError>
     requires seats { AreSeats sides.now seats.now }
     requires steady { AreThose (is_steady sides.now.old sides.now.new) sides.now steady.now }
+    requires translation { IsTranslation sides.now translation.now }
     ensures { IfOk result (λ found. IsWithin finding_order (OfRules 5 7 sides.now) most (option_map (λ fs. fs.items) found)) }
 {
     let constructors = Findings {
@@ -93,11 +97,13 @@ fn findings_below(
     let made_final = Findings {
         rule: MethodMadeFinal { seats },
     };
-    let Some(mut findings) = by_items(alloc, &constructors, sides, steady, most)? else {
+    let Some(mut findings) = by_items(alloc, &constructors, sides, translation, steady, most)?
+    else {
         return Ok(None);
     };
     let room = left(most, findings.len());
-    let Some(mut finals) = by_items(alloc, &made_final, sides, seats.bases(), room)? else {
+    let Some(mut finals) = by_items(alloc, &made_final, sides, translation, seats.bases(), room)?
+    else {
         return Ok(None);
     };
     findings.append(&mut finals)?;
@@ -108,6 +114,7 @@ fn findings_below(
 fn findings_on_uses(
     alloc: Global,
     sides: &Sides<'_>,
+    translation: &Translation,
     seats: &Seats<'_>,
     steady: &[Shared<'_>],
     interfaces: &[Shared<'_>],
@@ -116,6 +123,7 @@ fn findings_on_uses(
     requires seats { AreSeats sides.now seats.now }
     requires steady { AreThose (is_steady sides.now.old sides.now.new) sides.now steady.now }
     requires interfaces { AreThose (is_base_interface sides.now.old sides.now.new) sides.now interfaces.now }
+    requires translation { IsTranslation sides.now translation.now }
     ensures { IfOk result (λ found. IsWithin finding_order (OfRules 7 10 sides.now) most (option_map (λ fs. fs.items) found)) }
 {
     let fields = Findings {
@@ -127,16 +135,16 @@ fn findings_on_uses(
     let inherited = Findings {
         rule: InterfaceMethodLost { seats },
     };
-    let Some(mut findings) = by_items(alloc, &fields, sides, steady, most)? else {
+    let Some(mut findings) = by_items(alloc, &fields, sides, translation, steady, most)? else {
         return Ok(None);
     };
     let room = left(most, findings.len());
-    let Some(mut closed) = by_items(alloc, &methods, sides, steady, room)? else {
+    let Some(mut closed) = by_items(alloc, &methods, sides, translation, steady, room)? else {
         return Ok(None);
     };
     findings.append(&mut closed)?;
     let room = left(most, findings.len());
-    let Some(mut lost) = by_items(alloc, &inherited, sides, interfaces, room)? else {
+    let Some(mut lost) = by_items(alloc, &inherited, sides, translation, interfaces, room)? else {
         return Ok(None);
     };
     findings.append(&mut lost)?;
@@ -147,6 +155,7 @@ fn findings_on_uses(
 fn findings(
     alloc: Global,
     sides: &Sides<'_>,
+    translation: &Translation,
     seats: &Seats<'_>,
     steady: &[Shared<'_>],
     interfaces: &[Shared<'_>],
@@ -155,18 +164,28 @@ fn findings(
     requires seats { AreSeats sides.now seats.now }
     requires steady { AreThose (is_steady sides.now.old sides.now.new) sides.now steady.now }
     requires interfaces { AreThose (is_base_interface sides.now.old sides.now.new) sides.now interfaces.now }
+    requires translation { IsTranslation sides.now translation.now }
     ensures { IfOk result (λ found. IsWithin finding_order (Stands sides.now.old sides.now.new) most (option_map (λ fs. fs.items) found)) }
 {
     let Some(mut findings) = findings_on_classes(alloc, sides, most)? else {
         return Ok(None);
     };
     let room = left(most, findings.len());
-    let Some(mut below) = findings_below(alloc, sides, seats, steady, room)? else {
+    let Some(mut below) = findings_below(alloc, sides, translation, seats, steady, room)? else {
         return Ok(None);
     };
     findings.append(&mut below)?;
     let room = left(most, findings.len());
-    let Some(mut uses) = findings_on_uses(alloc, sides, seats, steady, interfaces, room)? else {
+    let Some(mut uses) = findings_on_uses(
+        alloc,
+        sides,
+        translation,
+        seats,
+        steady,
+        interfaces,
+        room,
+    )?
+    else {
         return Ok(None);
     };
     findings.append(&mut uses)?;
@@ -177,12 +196,14 @@ fn findings(
 fn collisions(
     alloc: Global,
     sides: &Sides<'_>,
+    translation: &Translation,
     seats: &Seats<'_>,
     interfaces: &[Shared<'_>],
     most: Option<usize>,
 ) -> Result<Option<Vec<Collision>>, AllocError>
     requires seats { AreSeats sides.now seats.now }
     requires interfaces { AreThose (is_base_interface sides.now.old sides.now.new) sides.now interfaces.now }
+    requires translation { IsTranslation sides.now translation.now }
     ensures { IfOk result (λ made. IsWithin collision_order (CollisionStands sides.now.old sides.now.new) most (option_map (λ cs. cs.items) made)) }
 {
     let classes = seats.bases();
@@ -195,16 +216,17 @@ fn collisions(
     let finals = Collisions {
         rule: FinalAdded { seats },
     };
-    let Some(mut collisions) = by_items(alloc, &constants, sides, interfaces, most)? else {
+    let Some(mut collisions) = by_items(alloc, &constants, sides, translation, interfaces, most)?
+    else {
         return Ok(None);
     };
     let room = left(most, collisions.len());
-    let Some(mut captured) = by_items(alloc, &captures, sides, classes, room)? else {
+    let Some(mut captured) = by_items(alloc, &captures, sides, translation, classes, room)? else {
         return Ok(None);
     };
     collisions.append(&mut captured)?;
     let room = left(most, collisions.len());
-    let Some(mut final_now) = by_items(alloc, &finals, sides, classes, room)? else {
+    let Some(mut final_now) = by_items(alloc, &finals, sides, translation, classes, room)? else {
         return Ok(None);
     };
     collisions.append(&mut final_now)?;
@@ -233,9 +255,11 @@ fn limited(
     let steady = steady_classes(alloc, sides)?;
     let interfaces = base_interfaces(alloc, sides)?;
     let seats = Seats::new(alloc, sides, base_classes(alloc, sides)?)?;
+    let translation = Translation::new(alloc, sides)?;
     let found = findings(
         alloc,
         sides,
+        &translation,
         &seats,
         steady.as_slice(),
         interfaces.as_slice(),
@@ -245,7 +269,14 @@ fn limited(
         return Ok(None);
     };
     let room = left(most, findings.len());
-    let made = collisions(alloc, sides, &seats, interfaces.as_slice(), room)?;
+    let made = collisions(
+        alloc,
+        sides,
+        &translation,
+        &seats,
+        interfaces.as_slice(),
+        room,
+    )?;
     let Some(collisions) = made else {
         return Ok(None);
     };

@@ -4,6 +4,7 @@ ghost use Rattle.jc_acts.specs.Seats.{AreSeats};
 ghost use Rattle.jc_facts.specs.declared.rule_numbers.TheConstants.{CONSTANT_ADDED};
 ghost use Rattle.jc_facts.specs.rule.Bases.{is_base_interface};
 ghost use Rattle.jc_facts.specs.rule.Collisions.{constant_added};
+ghost use Rattle.jc_sides.specs.Numbering.{AreNumbers};
 ghost use Rattle.jc_sides.specs.SharedOf.{IsShared, name_of};
 
 use jc_acts::seats::Seats;
@@ -11,21 +12,23 @@ use jc_facts::act::Act;
 use jc_facts::key::Key;
 use jc_facts::link_error::LinkError;
 use jc_facts::rule_numbers::CONSTANT_ADDED;
-use jc_field::find::find_field;
+use jc_field::find::find_field_by_number;
 use jc_sides::broken::{BrokenAct, broken_where};
 use jc_sides::collision_rule::CollisionRule;
+use jc_sides::key_numbers::KeyNumbers;
 use jc_sides::members::Members;
 use jc_sides::shared::Shared;
 use jc_sides::sides::Sides;
 
 // Whether the base interface has a field of the key now and had none.
-fn is_added(sides: &Sides<'_>, class: &Shared<'_>, key: &Key) -> bool
+fn is_added(sides: &Sides<'_>, class: &Shared<'_>, key: &Key, numbers: &KeyNumbers) -> bool
     requires shared { IsShared sides.now «class».now }
     requires covered { IsTrue (is_base_interface sides.now.old sides.now.new (name_of «class».now)) }
+    requires numbers { AreNumbers sides.now key.now numbers.now }
     ensures { result ≡ constant_added sides.now.old sides.now.new (name_of «class».now) key.now }
 {
-    find_field(sides.new, class.new, key).is_some()
-        && find_field(sides.old, class.old, key).is_none()
+    find_field_by_number(sides.new, class.new, key, numbers.new).is_some()
+        && find_field_by_number(sides.old, class.old, key, numbers.old).is_none()
 }
 
 /// Fields that interfaces have now and hadn't, their own or inherited ones (JVMS 5.4.3.2): a client
@@ -56,8 +59,14 @@ impl<'a, 'b> CollisionRule for ConstantAdded<'a, 'b> {
         }
     }
 
-    fn on_key(&self, sides: &Sides<'_>, class: &Shared<'_>, key: &Key) -> Option<BrokenAct<'_>> {
-        let added = is_added(sides, class, key);
+    fn on_key(
+        &self,
+        sides: &Sides<'_>,
+        class: &Shared<'_>,
+        key: &Key,
+        numbers: &KeyNumbers,
+    ) -> Option<BrokenAct<'_>> {
+        let added = is_added(sides, class, key, numbers);
         broken_where(
             added,
             Act::GetField,

@@ -16,6 +16,7 @@ use jc_facts::rule_numbers::CONSTRUCTOR_CLOSED;
 use jc_sides::broken::{BrokenAct, broken_where};
 use jc_sides::clients::is_base_class;
 use jc_sides::finding_rule::FindingRule;
+use jc_sides::key_numbers::KeyNumbers;
 use jc_sides::members::Members;
 use jc_sides::shared::{Shared, after, before};
 use jc_sides::sides::Sides;
@@ -122,9 +123,15 @@ impl FindingRule for ConstructorClosed {
         Members::OldInitializers
     }
 
-    fn on_key(&self, sides: &Sides<'_>, class: &Shared<'_>, key: &Key) -> Option<BrokenAct<'_>> {
-        let was = method_flags(sides.old, class.old, key);
-        let now = method_flags(sides.new, class.new, key);
+    fn on_key(
+        &self,
+        sides: &Sides<'_>,
+        class: &Shared<'_>,
+        key: &Key,
+        numbers: &KeyNumbers,
+    ) -> Option<BrokenAct<'_>> {
+        let was = method_flags(sides.old, class.old, key, numbers.old);
+        let now = method_flags(sides.new, class.new, key, numbers.new);
         if let Some(error) = new_fault(before(sides, class), after(sides, class), key, was, now) {
             return broken_where(true, Act::NewObject, error);
         }

@@ -10,6 +10,7 @@ use jc_facts::key::Key;
 use jc_facts::rule_numbers::FIELD_CLOSED;
 use jc_sides::broken::BrokenAct;
 use jc_sides::finding_rule::FindingRule;
+use jc_sides::key_numbers::KeyNumbers;
 use jc_sides::members::Members;
 use jc_sides::shared::Shared;
 use jc_sides::sides::Sides;
@@ -41,7 +42,13 @@ impl<'a, 'b> FindingRule for FieldClosed<'a, 'b> {
         }
     }
 
-    fn on_key(&self, sides: &Sides<'_>, class: &Shared<'_>, key: &Key) -> Option<BrokenAct<'_>> {
-        broken(field_closed(sides, self.seats, class, key))
+    fn on_key(
+        &self,
+        sides: &Sides<'_>,
+        class: &Shared<'_>,
+        key: &Key,
+        numbers: &KeyNumbers,
+    ) -> Option<BrokenAct<'_>> {
+        broken(field_closed(sides, self.seats, class, key, numbers))
     }
 }

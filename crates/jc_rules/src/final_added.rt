@@ -11,6 +11,7 @@ use jc_facts::link_error::LinkError;
 use jc_facts::rule_numbers::FINAL_ADDED;
 use jc_sides::broken::{BrokenAct, broken_where};
 use jc_sides::collision_rule::CollisionRule;
+use jc_sides::key_numbers::KeyNumbers;
 use jc_sides::members::Members;
 use jc_sides::shared::Shared;
 use jc_sides::sides::Sides;
@@ -42,8 +43,14 @@ impl<'a, 'b> CollisionRule for FinalAdded<'a, 'b> {
         }
     }
 
-    fn on_key(&self, sides: &Sides<'_>, class: &Shared<'_>, key: &Key) -> Option<BrokenAct<'_>> {
-        let overridable = made_final(sides, class, key)?;
+    fn on_key(
+        &self,
+        sides: &Sides<'_>,
+        class: &Shared<'_>,
+        key: &Key,
+        numbers: &KeyNumbers,
+    ) -> Option<BrokenAct<'_>> {
+        let overridable = made_final(sides, class, key, numbers)?;
         let error = LinkError::IncompatibleClassChangeError;
         broken_where(!overridable, Act::Override, error)
     }

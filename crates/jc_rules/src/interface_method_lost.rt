@@ -9,8 +9,10 @@ ghost use Rattle.jc_facts.specs.world.Lookup.{public_method_of_object};
 ghost use Rattle.jc_facts.specs.world.World.{size};
 ghost use Rattle.jc_facts.specs.rule.Bases.{is_base_interface, inherits};
 ghost use Rattle.jc_rules.specs.steps.Methods.{loses, has_lost_method};
+ghost use Rattle.jc_sides.specs.Numbering.{AreNumbers};
 ghost use Rattle.jc_sides.specs.SharedOf.{IsShared, name_of};
 ghost use Rattle.jc_table.specs.Ids.{name_at};
+ghost use Rattle.jc_table.specs.Keys.{numbered_keys, IsNumber};
 
 use jc_acts::seats::Seats;
 use jc_desc::names::is_initializer;
@@ -21,9 +23,10 @@ use jc_facts::key_set::KeyRef;
 use jc_facts::link_error::LinkError;
 use jc_facts::rule_numbers::INTERFACE_METHOD_LOST;
 use jc_index::choose::any_candidate;
-use jc_method::find::find_interface_method;
+use jc_method::find::find_interface_method_by_number;
 use jc_sides::broken::{BrokenAct, broken_where};
 use jc_sides::finding_rule::FindingRule;
+use jc_sides::key_numbers::KeyNumbers;
 use jc_sides::members::Members;
 use jc_sides::shared::Shared;
 use jc_sides::sides::Sides;
@@ -53,43 +56,48 @@ fn are_inheritable(flags: u16) -> bool
 
 // Whether the interface or one above it declares the key as such a method, where java/lang/Object
 // has no public instance method of it. It is looked up in the interface's row.
-fn inherits(table: &Table, class: ClassId, key: &Key) -> bool
+fn inherits(table: &Table, class: ClassId, key: &Key, number: Option<usize>) -> bool
     requires class { class < size table.now }
     requires loads { load_fault table.now (name_at table.now class) ≡ None }
     requires kind { IsTrue (is_interface_of table.now (name_at table.now class)) }
-    requires apart { public_method_of_object table.now key.now ≡ None }
-    ensures { result ≡ inherits table.now (name_at table.now class) key.now }
+    requires number { IsNumber (numbered_keys table.now) key.now number }
+    ensures { public_method_of_object table.now key.now ≡ None → result ≡ inherits table.now (name_at table.now class) key.now }
 {
     let _classes = table.count();
-    let Some(found) = find_interface_method(table, class, key) else {
+    let Some(found) = find_interface_method_by_number(table, class, key, number) else {
         return false;
     };
     if are_inheritable(found.flags) {
         return true;
     }
-    // The interface's own, which hides what is above it.
+    // The interface's own, static or private, which hides what is above it. They are few, and walked
+    // to.
     any_candidate(table.hierarchy(), class, key).is_some()
 }
 
-// Whether the base interface inherited the key and doesn't any more.
-fn is_lost(sides: &Sides<'_>, class: &Shared<'_>, key: &Key) -> bool
+// Whether the base interface inherited the key and doesn't any more, where java/lang/Object has no
+// public instance method of it.
+fn is_lost(sides: &Sides<'_>, class: &Shared<'_>, key: &Key, numbers: &KeyNumbers) -> bool
     requires shared { IsShared sides.now «class».now }
     requires covered { IsTrue (is_base_interface sides.now.old sides.now.new (name_of «class».now)) }
-    requires apart { public_method_of_object sides.now.old key.now ≡ None }
-    ensures { result ≡ loses sides.now (name_of «class».now) key.now }
+    requires numbers { AreNumbers sides.now key.now numbers.now }
+    ensures { public_method_of_object sides.now.old key.now ≡ None → result ≡ loses sides.now (name_of «class».now) key.now }
 {
-    inherits(sides.old, class.old, key) && !inherits(sides.new, class.new, key)
+    inherits(sides.old, class.old, key, numbers.old)
+        && !inherits(sides.new, class.new, key, numbers.new)
 }
 
-// Whether the base interface has lost the method of the key.
-fn loses_method(sides: &Sides<'_>, class: &Shared<'_>, key: &Key) -> bool
+// Whether the base interface has lost the method of the key. Few seem lost, and of these alone the
+// key is looked up in java/lang/Object.
+fn loses_method(sides: &Sides<'_>, class: &Shared<'_>, key: &Key, numbers: &KeyNumbers) -> bool
     requires shared { IsShared sides.now «class».now }
     requires covered { IsTrue (is_base_interface sides.now.old sides.now.new (name_of «class».now)) }
+    requires numbers { AreNumbers sides.now key.now numbers.now }
     ensures { result ≡ has_lost_method sides.now (name_of «class».now) key.now }
 {
     !is_initializer(key.name.as_bytes())
+        && is_lost(sides, class, key, numbers)
         && !is_of_object(sides.old, key)
-        && is_lost(sides, class, key)
 }
 
 /// Methods that interfaces inherited and don't any more (JVMS 5.4.3.4). A public instance method of
@@ -119,8 +127,14 @@ impl<'a, 'b> FindingRule for InterfaceMethodLost<'a, 'b> {
         }
     }
 
-    fn on_key(&self, sides: &Sides<'_>, class: &Shared<'_>, key: &Key) -> Option<BrokenAct<'_>> {
-        let lost = loses_method(sides, class, key);
+    fn on_key(
+        &self,
+        sides: &Sides<'_>,
+        class: &Shared<'_>,
+        key: &Key,
+        numbers: &KeyNumbers,
+    ) -> Option<BrokenAct<'_>> {
+        let lost = loses_method(sides, class, key, numbers);
         broken_where(lost, Act::Inherit, LinkError::NoSuchMethodError)
     }
 }

@@ -11,6 +11,7 @@ use jc_facts::key::Key;
 use jc_facts::rule_numbers::METHOD_CLOSED;
 use jc_sides::broken::BrokenAct;
 use jc_sides::finding_rule::FindingRule;
+use jc_sides::key_numbers::KeyNumbers;
 use jc_sides::members::Members;
 use jc_sides::shared::Shared;
 use jc_sides::sides::Sides;
@@ -42,10 +43,16 @@ impl<'a, 'b> FindingRule for MethodClosed<'a, 'b> {
         }
     }
 
-    fn on_key(&self, sides: &Sides<'_>, class: &Shared<'_>, key: &Key) -> Option<BrokenAct<'_>> {
+    fn on_key(
+        &self,
+        sides: &Sides<'_>,
+        class: &Shared<'_>,
+        key: &Key,
+        numbers: &KeyNumbers,
+    ) -> Option<BrokenAct<'_>> {
         if is_initializer(key.name.as_bytes()) {
             return None;
         }
-        broken(method_closed(sides, self.seats, class, key))
+        broken(method_closed(sides, self.seats, class, key, numbers))
     }
 }

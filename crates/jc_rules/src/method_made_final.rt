@@ -11,6 +11,7 @@ use jc_facts::link_error::LinkError;
 use jc_facts::rule_numbers::METHOD_MADE_FINAL;
 use jc_sides::broken::{BrokenAct, broken_where};
 use jc_sides::finding_rule::FindingRule;
+use jc_sides::key_numbers::KeyNumbers;
 use jc_sides::members::Members;
 use jc_sides::shared::Shared;
 use jc_sides::sides::Sides;
@@ -42,8 +43,14 @@ impl<'a, 'b> FindingRule for MethodMadeFinal<'a, 'b> {
         }
     }
 
-    fn on_key(&self, sides: &Sides<'_>, class: &Shared<'_>, key: &Key) -> Option<BrokenAct<'_>> {
-        let overridable = made_final(sides, class, key)?;
+    fn on_key(
+        &self,
+        sides: &Sides<'_>,
+        class: &Shared<'_>,
+        key: &Key,
+        numbers: &KeyNumbers,
+    ) -> Option<BrokenAct<'_>> {
+        let overridable = made_final(sides, class, key, numbers)?;
         let error = LinkError::IncompatibleClassChangeError;
         broken_where(overridable, Act::Override, error)
     }

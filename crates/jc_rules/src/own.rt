@@ -5,10 +5,12 @@ ghost use Rattle.jc_facts.specs.world.World.{size};
 ghost use Rattle.jc_facts.specs.world.Loading.{load_fault};
 ghost use Rattle.jc_rules.specs.steps.Own.{flags_by, field_flags_of, method_flags_of};
 ghost use Rattle.jc_table.specs.Ids.{name_at};
+ghost use Rattle.jc_table.specs.Keys.{numbered_keys, IsNumber};
 
 use jc_facts::key::Key;
 use jc_facts::key_set::KeyRef;
 use jc_field::find::find_field;
+use jc_table::by_number::find_at;
 use jc_table::ids::{ClassId, Found};
 use jc_table::members::own_method;
 use jc_table::table::Table;
@@ -50,15 +52,16 @@ fn listed_flags(table: &Table, class: ClassId, key: &Key) -> Option<u16>
 }
 
 /// The flags of the class's own method of the key, an initializer too; none where it declares none.
-/// The class has to load.
-pub fn method_flags(table: &Table, class: ClassId, key: &Key) -> Option<u16>
+/// The class has to load. The number is the key's in the table.
+pub fn method_flags(table: &Table, class: ClassId, key: &Key, number: Option<usize>) -> Option<u16>
     requires class { class < size table.now }
     requires loads { load_fault table.now (name_at table.now class) ≡ None }
+    requires number { IsNumber (numbered_keys table.now) key.now number }
     ensures { result ≡ method_flags_of table.now (name_at table.now class) key.now }
 {
     let _classes = table.count();
     match table.method_row(class) {
-        Some(row) => flags_in(class, table.find_in(row, key)),
+        Some(row) => flags_in(class, find_at(row, number)),
         None => listed_flags(table, class, key),
     }
 }

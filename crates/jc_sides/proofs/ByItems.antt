@@ -19,10 +19,10 @@ use Rattle.jc_sides.specs.Rules.{HasEachInOrder, IsItemRule, IsOf}
 use Rattle.jc_sides.specs.SharedOf.{AreThose, name_of, SharedOf}
 use Rattle.jc_sides.specs.SidesOf.{SidesOf}
 
--- ---- a loop over keys
+-- ---- a loop over keys, or over items of a row
 
--- one more key
-pub keys_more : {F : Type 0} (h : Key → Option F) (ks : List Key) (n : ℕ) (k : Key) (o : Option F) (fs gs : List F) → n < length ks → k ≡ get_or ks n k → fs ≡ filter_map h (take n ks) → o ≡ h k → gs ≡ fs ++ cons_option o []
+-- one more
+pub keys_more : {A F : Type 0} (h : A → Option F) (ks : List A) (n : ℕ) (k : A) (o : Option F) (fs gs : List F) → n < length ks → k ≡ get_or ks n k → fs ≡ filter_map h (take n ks) → o ≡ h k → gs ≡ fs ++ cons_option o []
     → gs ≡ filter_map h (take (n + 1) ks)
 keys_more h ks n k o fs gs l is e q g =
     g ∙ ap (λ xs. xs ++ cons_option o []) e ∙ ap (λ p. filter_map h (take n ks) ++ cons_option p []) (q ∙ ap h is)

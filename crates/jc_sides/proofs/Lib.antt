@@ -5,7 +5,8 @@ pub mod ByClass
 pub mod BrokenActs
 pub mod KeySets
 mod MadeKeys
-mod ChainKeys
+mod FinalKeys
+mod TranslatedKeys
 pub mod MemberKeys
 mod TestedClasses
 mod ByItems

@@ -1,18 +1,23 @@
 -- The keys of which a rule makes something.
-use Rattle.std.proofs.Common.{◌≡◌, Bool, true, false, ◌||◌, List, [], ◌∷◌, refl, sym, ◌∙◌, ap, subst, Option, Some, None, is_some}
+use Rattle.std.proofs.Common.{◌≡◌, ◌≤◌, ℕ, length, take, slice_get, Bool, true, false, ◌||◌, List, [], ◌∷◌, refl, sym, ◌∙◌, ap, subst, Option, Some, None, is_some}
 use Rattle.std.specs.BTreeSet as sorted
 use Rattle.std.specs.List.{filter_map, cons_option, Contains}
+use Rattle.std.proofs.lemmas.List.{take_all}
 use Rattle.std.proofs.lemmas.Map.Views.{btree_set_contains_iff}
 use Rattle.jc_facts.specs.declared.key.Key.{Key}
 use Rattle.jc_facts.specs.Names.{same_key}
 use Rattle.jc_facts.specs.Exactly.{Rises}
 use Rattle.jc_facts.specs.KeyOrder.{key_cmp, key_total}
-use Rattle.jc_facts.specs.Options.{some_where}
+use Rattle.jc_facts.specs.Options.{and_then, some_where}
 use Rattle.jc_facts.specs.Seen.{Holds}
 use Rattle.jc_facts.specs.file.Valid.{has_key}
+use Rattle.jc_facts.specs.world.World.{World}
 use Rattle.jc_facts.proofs.KeySets.{key_exact, rises}
 use Rattle.jc_facts.proofs.Same.{key_itself}
 use Rattle.jc_index.proofs.HashedKeys.{key_is}
+use Rattle.jc_rows.specs.declared.row.RowItem.{RowItem}
+use Rattle.jc_table.specs.Keys.{numbered_keys}
+use Rattle.jc_table.specs.RowKeys.{keys_of_row}
 use Rattle.jc_sides.specs.Rules.{HasEachKey, HasEachInOrder}
 use Rattle.jc_sides.specs.steps.KeySets.{AreInOrder}
 
@@ -52,8 +57,41 @@ module _ {F : Type 0} (makes : Key → Option F) where
       go true e q r = first (sym (key_is k j e))
       go false e q r = later (is_some (makes j)) (r q) e
 
-  pub each_in_order : (keys made list : List Key) → HasEachKey makes keys → made ≡ filter_map made_key keys → AreInOrder made list → HasEachInOrder makes list
-  each_in_order keys made list h e a = record {
+  -- each of them is among those of which something is made
+  pub each_made : (keys made : List Key) → HasEachKey makes keys → made ≡ filter_map made_key keys → HasEachKey makes made
+  each_made keys made h e k f m = ap (has_key k) e ∙ stays keys k (ap is_some m) (h k f m)
+
+  pub each_in_order : (made list : List Key) → HasEachKey makes made → AreInOrder made list → HasEachInOrder makes list
+  each_in_order made list h a = record {
     in_order = a.in_order;
-    each = λ k f m. a.each k (ap (has_key k) e ∙ stays keys k (ap is_some m) (h k f m));
+    each = λ k f m. a.each k (h k f m);
   }
+
+  -- ---- along a row
+
+  module _ (W : World) where
+    -- the key of the item, where something is made of it
+    abbrev pub made_at : RowItem → Option Key
+    made_at i = and_then made_key (slice_get (numbered_keys W) i.key)
+
+    one_made : (o : Option Key) (keys : List Key) → filter_map made_key (cons_option o keys) ≡ cons_option (and_then made_key o) (filter_map made_key keys)
+    unfolding and_then
+    one_made None keys = refl
+    one_made (Some k) keys = refl
+
+    -- item by item is key by key
+    along : (row : List RowItem) → filter_map made_at row ≡ filter_map made_key (keys_of_row W row)
+    along [] = refl
+    along (i ∷ is) = ap (cons_option (made_at i)) (along is) ∙ sym (one_made (slice_get (numbered_keys W) i.key) (keys_of_row W is))
+
+    pub row_end : (row : List RowItem) (n : ℕ) (made : List Key) → length row ≤ n → made ≡ filter_map made_at (take n row) → made ≡ filter_map made_key (keys_of_row W row)
+    row_end row n made l e = e ∙ ap (filter_map made_at) (take_all n row l) ∙ along row
+
+    -- an item whose key is found, and one whose key isn't
+    pub at_some : (n : ℕ) (k : Key) (o : Option Key) → slice_get (numbered_keys W) n ≡ Some k → o ≡ made_key k → o ≡ and_then made_key (slice_get (numbered_keys W) n)
+    unfolding and_then
+    at_some n k o e m = m ∙ sym (ap (and_then made_key) e)
+
+    pub at_none : (n : ℕ) → slice_get (numbered_keys W) n ≡ None → None ≡ and_then made_key (slice_get (numbered_keys W) n)
+    unfolding and_then
+    at_none n e = sym (ap (and_then made_key) e)

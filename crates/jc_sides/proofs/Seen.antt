@@ -1,9 +1,13 @@
--- What a table of the two sides says of a class by its number, the sides say of it by its name; t are the tables' worlds, d is the class as its fields have it.
+-- What a table of the two sides says of a class by its number, the sides say of it by its name; and the numbers of keys. t are the tables' worlds, d is the class as its fields have it.
 use Rattle.std.proofs.Common.{◌≡◌, ◌<◌, sym, subst, None}
 use Rattle.jc_facts.specs.world.Loading.{load_fault}
 use Rattle.jc_facts.specs.Names.{Bytes}
+use Rattle.jc_facts.specs.declared.key.Key.{Key}
 use Rattle.jc_facts.specs.world.World.{World, size}
 use Rattle.jc_table.specs.Ids.{name_at}
+use Rattle.jc_table.specs.Keys.{numbered_keys, IsNumber}
+use Rattle.jc_sides.specs.Numbering.{AreNumbers}
+use Rattle.jc_sides.specs.declared.key_numbers.KeyNumbers.{KeyNumbers}
 use Rattle.jc_sides.specs.SharedOf.{IsShared, name_of, SharedOf}
 use Rattle.jc_sides.specs.SidesOf.{SidesOf}
 use Rattle.jc_sides.proofs.BaseParts.{IsOnBoth}
@@ -33,3 +37,12 @@ module _ (t s : SidesOf) (v : t ≡ s) (d b : SharedOf) (w : d ≡ b) (shared : 
 
   pub loads_after : IsOnBoth s (name_of b) → load_fault t.new (name_at t.new d.new) ≡ None
   loads_after h = to_new (λ W x. load_fault W x ≡ None) h.loads_now
+
+-- ---- the numbers of a key
+
+module _ (t s : SidesOf) (v : t ≡ s) (k : Key) (p : KeyNumbers) (numbers : AreNumbers s k p) where
+  pub number_before : IsNumber (numbered_keys t.old) k p.old
+  number_before = subst (λ (u : SidesOf). IsNumber (numbered_keys u.old) k p.old) (sym v) numbers.old
+
+  pub number_after : IsNumber (numbered_keys t.new) k p.new
+  number_after = subst (λ (u : SidesOf). IsNumber (numbered_keys u.new) k p.new) (sym v) numbers.new

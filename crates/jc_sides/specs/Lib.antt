@@ -4,6 +4,7 @@ pub mod SharedOf
 pub mod SharedFields
 pub mod BrokenOf
 pub mod BrokenFields
+pub mod Numbering
 pub mod Members
 pub mod Limit
 pub mod Rules

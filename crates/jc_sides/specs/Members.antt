@@ -1,29 +1,17 @@
 -- The keys of which a rule may speak.
-use Rattle.std.specs.Prelude.{◌≡◌, ◌&&◌, Bool, true, false, not, List, Option, Some, is_some}
-use Rattle.std.specs.List.{list_any}
-use Rattle.jc_facts.specs.declared.class_facts.Member.{Member}
+use Rattle.std.specs.Prelude.{◌≡◌, Bool, true, false, List, Option, Some, is_some}
 use Rattle.jc_facts.specs.declared.key.Key.{Key}
 use Rattle.jc_facts.specs.Names.{Bytes, is_init_name}
-use Rattle.jc_facts.specs.Flags.{public_flag, no_static_flag}
 use Rattle.jc_facts.specs.file.Valid.{has_key}
 use Rattle.jc_facts.specs.Options.{some_and}
 use Rattle.jc_facts.specs.rule.Bases.{is_final_in_chain}
-use Rattle.jc_facts.specs.world.World.{World, find_class, own_method_of}
-use Rattle.jc_facts.specs.world.Hierarchy.{chain}
+use Rattle.jc_facts.specs.world.World.{find_class}
 use Rattle.jc_facts.specs.world.Lookup.{field_found}
 use Rattle.jc_method.specs.FoundKeys.{finds_method}
 use Rattle.jc_sides.specs.SidesOf.{SidesOf}
 use Rattle.jc_sides.specs.steps.KeySets.{has_member}
 use Rattle.jc_sides.specs.declared.members.Members.{Members}
 use Rattle.jc_sides.specs.declared.members.Members.TheVariants as members
-
--- the method is no public instance method
-abbrev pub is_hidden : Member → Bool
-is_hidden m = not (public_flag m.flags && no_static_flag m.flags)
-
--- a class of the chain declares a method of the key that passes
-abbrev pub declares_in_chain : (Member → Bool) → World → Bytes → Key → Bool
-declares_in_chain test W x k = list_any (λ c. some_and test (own_method_of c k)) (chain W x)
 
 -- the key is that of one of these members of the class x
 abbrev pub is_member : Members → SidesOf → Bytes → Key → Bool
@@ -32,7 +20,7 @@ is_member members.OldInitializers s x k = some_and (λ c. has_member (λ m. is_i
 is_member members.OldFields s x k = is_some (field_found s.old x k)
 is_member members.OldMethods s x k = finds_method s.old x k
 is_member members.NewFields s x k = is_some (field_found s.new x k)
-is_member members.NewHidden s x k = declares_in_chain is_hidden s.new x k
+is_member members.NewMethods s x k = finds_method s.new x k
 is_member members.NewFinals s x k = is_final_in_chain s.new x k
 
 -- each key that passes is among these

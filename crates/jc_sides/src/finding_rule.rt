@@ -4,14 +4,16 @@ ghost use Rattle.jc_facts.specs.rule.Orders.{finding_order};
 ghost use Rattle.jc_facts.specs.Names.{Bytes};
 ghost use Rattle.jc_sides.specs.BrokenOf.{found};
 ghost use Rattle.jc_sides.specs.Members.{is_member, OfPassing};
-ghost use Rattle.jc_sides.specs.Rules.{HasEachKey, IsFinding, key_finding, on_key};
+ghost use Rattle.jc_sides.specs.Numbering.{AreNumbers};
+ghost use Rattle.jc_sides.specs.Rules.{IsFinding, key_finding, on_key};
 ghost use Rattle.jc_sides.specs.SharedOf.{IsShared, name_of};
 ghost use Rattle.jc_sides.specs.SidesOf.{SidesOf, AreSides};
 
 use crate::broken::BrokenAct;
 use crate::found::finding;
 use crate::item_rule::ItemRule;
-use crate::members::{Members, keys_of};
+use crate::key_numbers::KeyNumbers;
+use crate::members::Members;
 use crate::shared::Shared;
 use crate::sides::Sides;
 use jc_facts::finding::Finding;
@@ -40,11 +42,18 @@ pub trait FindingRule {
         requires covered { IsTrue (covers sides.now (name_of «class».now)) }
         ensures { OfPassing (key_finding rule sides.now (name_of «class».now)) (is_member result sides.now (name_of «class».now)) };
 
-    /// What is broken by the change of the key's member.
-    fn on_key(&self, sides: &Sides<'_>, class: &Shared<'_>, key: &Key) -> Option<BrokenAct<'_>>
+    /// What is broken by the change of the member of the key of these numbers.
+    fn on_key(
+        &self,
+        sides: &Sides<'_>,
+        class: &Shared<'_>,
+        key: &Key,
+        numbers: &KeyNumbers,
+    ) -> Option<BrokenAct<'_>>
         requires ready { ready self.now sides.now }
         requires shared { IsShared sides.now «class».now }
         requires covered { IsTrue (covers sides.now (name_of «class».now)) }
+        requires numbers { AreNumbers sides.now key.now numbers.now }
         ensures { found (on_key rule (name_of «class».now) key.now) result ≡ key_finding rule sides.now (name_of «class».now) key.now };
 }
 
@@ -69,15 +78,8 @@ impl<R: FindingRule> ItemRule for Findings<R> {
 
     ghost ready = { λ r s. R.ready r.rule s };
 
-    fn keys(
-        &self,
-        alloc: Global,
-        sides: &Sides<'_>,
-        class: &Shared<'_>,
-    ) -> Result<Vec<Key>, AllocError> {
-        let members = self.rule.members(sides, class);
-        let keys = keys_of(alloc, sides, class, members)?;
-        Ok(keys)
+    fn members(&self, sides: &Sides<'_>, class: &Shared<'_>) -> Members {
+        self.rule.members(sides, class)
     }
 
     fn on_key(
@@ -86,8 +88,9 @@ impl<R: FindingRule> ItemRule for Findings<R> {
         sides: &Sides<'_>,
         class: &Shared<'_>,
         key: &Key,
+        numbers: &KeyNumbers,
     ) -> Result<Option<Finding>, AllocError> {
-        let broken = self.rule.on_key(sides, class, key);
+        let broken = self.rule.on_key(sides, class, key, numbers);
         let found = finding(
             alloc,
             self.rule.number(),

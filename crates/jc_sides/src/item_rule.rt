@@ -1,6 +1,6 @@
 //! Rules that speak of a class and a key.
 ghost use Rattle.std.specs.BTreeSet.{IsOrdered};
-ghost use Rattle.std.specs.Prelude.{◌≡◌, ◌++◌, ◌∷◌, [], List, Bool, IfOk, IsTrue, Option, option_map, is_some};
+ghost use Rattle.std.specs.Prelude.{◌≡◌, ◌++◌, ◌∷◌, [], List, Bool, IfOk, IsTrue, Option, option_map, is_some, slice_get};
 ghost use Rattle.std.specs.List.{filter_map};
 ghost use Rattle.std.specs.declared.cmp.Ordering.{Ordering};
 ghost use Rattle.jc_facts.specs.declared.key.Key.{Key as KeyOf};
@@ -8,19 +8,28 @@ ghost use Rattle.jc_facts.specs.Names.{Bytes};
 ghost use Rattle.jc_facts.specs.Exactly.{HasExactly};
 ghost use Rattle.jc_facts.specs.KeyOrder.{key_cmp};
 ghost use Rattle.jc_facts.specs.Seen.{Holds};
-ghost use Rattle.jc_facts.specs.Options.{some_where};
+ghost use Rattle.jc_facts.specs.Options.{and_then, some_where};
 ghost use Rattle.jc_facts.specs.rule.Bases.{is_kept};
 ghost use Rattle.jc_sides.specs.Limit.{IsWithin};
+ghost use Rattle.jc_sides.specs.Members.{is_member, OfPassing};
+ghost use Rattle.jc_sides.specs.Numbering.{AreNumbers, AreOfKeys, IsTranslation};
 ghost use Rattle.jc_sides.specs.Rules.{HasEachKey, IsItemRule, IsOf};
 ghost use Rattle.jc_sides.specs.SharedOf.{IsShared, AreThose, name_of};
 ghost use Rattle.jc_sides.specs.steps.KeySets.{AreInOrder};
 ghost use Rattle.jc_sides.specs.SidesOf.{SidesOf, AreSides};
+ghost use Rattle.jc_table.specs.Keys.{numbered_keys};
+ghost use Rattle.jc_table.specs.RowKeys.{keys_of_row};
 
 use crate::found::push_some;
+use crate::key_numbers::KeyNumbers;
 use crate::limit::is_over;
+use crate::members::{Members, keys_of, new_row, old_row};
 use crate::shared::Shared;
 use crate::sides::Sides;
+use crate::translation::{Translation, numbers_at};
 use jc_facts::key::Key;
+use jc_table::row::RowItem;
+use jc_table::table::Table;
 use std::alloc::{AllocError, Global};
 use std::collections::BTreeSet;
 
@@ -44,35 +53,31 @@ pub trait ItemRule {
     // What has to be true of the rule's own values, as of lists that it keeps of the sides.
     ghost ready: { Self → SidesOf → Type 0 };
 
-    /// Keys in any order, each of which it makes something among them.
-    fn keys(
-        &self,
-        alloc: Global,
-        sides: &Sides<'_>,
-        class: &Shared<'_>,
-    ) -> Result<Vec<Key>, AllocError>
+    /// Of which members of the class it may speak.
+    fn members(&self, sides: &Sides<'_>, class: &Shared<'_>) -> Members
         requires sides { AreSides sides.now }
         requires ready { ready self.now sides.now }
         requires shared { IsShared sides.now «class».now }
-        requires kept { IsTrue (is_kept sides.now.old sides.now.new (name_of «class».now)) }
         requires covered { IsTrue (covers sides.now (name_of «class».now)) }
-        ensures { IfOk result (λ keys. HasEachKey (makes sides.now (name_of «class».now)) keys.items) };
+        ensures { OfPassing (makes sides.now (name_of «class».now)) (is_member result sides.now (name_of «class».now)) };
 
-    /// What it makes of the class and the key.
+    /// What it makes of the class and the key of these numbers.
     fn on_key(
         &self,
         alloc: Global,
         sides: &Sides<'_>,
         class: &Shared<'_>,
         key: &Key,
+        numbers: &KeyNumbers,
     ) -> Result<Option<Self::Item>, AllocError>
         requires ready { ready self.now sides.now }
         requires shared { IsShared sides.now «class».now }
         requires covered { IsTrue (covers sides.now (name_of «class».now)) }
+        requires numbers { AreNumbers sides.now key.now numbers.now }
         ensures { IfOk result (λ made. made ≡ makes sides.now (name_of «class».now) key.now) };
 }
 
-// What the rule makes of the class and these keys, in their order.
+// What the rule makes of the class and these keys, in their order. They are few, and looked up.
 fn on_keys<R: ItemRule>(
     alloc: Global,
     rule: &R,
@@ -87,25 +92,30 @@ fn on_keys<R: ItemRule>(
 {
     let mut items = Vec::new(alloc);
     for key in keys {
-        push_some(&mut items, rule.on_key(alloc, sides, class, key)?)?;
+        let numbers = KeyNumbers::of(sides, key);
+        push_some(&mut items, rule.on_key(alloc, sides, class, key, &numbers)?)?;
     }
     Ok(items)
 }
 
-// The key, where the rule makes something of it.
+// ---- the keys of which something is made
+
+// The key of these numbers, where the rule makes something of it.
 fn if_made<R: ItemRule>(
     alloc: Global,
     rule: &R,
     sides: &Sides<'_>,
     class: &Shared<'_>,
     key: &Key,
+    numbers: &KeyNumbers,
 ) -> Result<Option<Key>, AllocError>
     requires ready { R.ready rule.now sides.now }
     requires shared { IsShared sides.now «class».now }
     requires covered { IsTrue (R.covers sides.now (name_of «class».now)) }
+    requires numbers { AreNumbers sides.now key.now numbers.now }
     ensures { IfOk result (λ made. made ≡ some_where (is_some (R.makes sides.now (name_of «class».now) key.now)) key.now) }
 {
-    let item = rule.on_key(alloc, sides, class, key)?;
+    let item = rule.on_key(alloc, sides, class, key, numbers)?;
     if item.is_some() {
         Ok(Some(key.copy(alloc)?))
     } else {
@@ -113,8 +123,8 @@ fn if_made<R: ItemRule>(
     }
 }
 
-// Those of the keys of which the rule makes something.
-fn made_of<R: ItemRule>(
+// Those of the keys of which the rule makes something. Each is looked up once on each side.
+fn made_of_keys<R: ItemRule>(
     alloc: Global,
     rule: &R,
     sides: &Sides<'_>,
@@ -128,10 +138,99 @@ fn made_of<R: ItemRule>(
 {
     let mut made = Vec::new(alloc);
     for key in keys {
-        push_some(&mut made, if_made(alloc, rule, sides, class, key)?)?;
+        let numbers = KeyNumbers::of(sides, key);
+        push_some(
+            &mut made,
+            if_made(alloc, rule, sides, class, key, &numbers)?,
+        )?;
     }
     Ok(made)
 }
+
+// The key of the item of a row of the table, where the rule makes something of it. The numbers are
+// those of the table's keys.
+fn if_made_at<R: ItemRule>(
+    alloc: Global,
+    rule: &R,
+    sides: &Sides<'_>,
+    class: &Shared<'_>,
+    table: &Table,
+    numbers: &[KeyNumbers],
+    item: &RowItem,
+) -> Result<Option<Key>, AllocError>
+    requires ready { R.ready rule.now sides.now }
+    requires shared { IsShared sides.now «class».now }
+    requires covered { IsTrue (R.covers sides.now (name_of «class».now)) }
+    requires numbers { AreOfKeys sides.now table.now numbers.now }
+    ensures { IfOk result (λ made. made ≡ and_then (λ k. some_where (is_some (R.makes sides.now (name_of «class».now) k)) k) (slice_get (numbered_keys table.now) item.now.key)) }
+{
+    let Some(numbers) = numbers_at(numbers, item.key) else {
+        return Ok(None);
+    };
+    let Some(key) = table.key_at(item.key) else {
+        return Ok(None);
+    };
+    if_made(alloc, rule, sides, class, key, numbers)
+}
+
+// Those of the keys of a row of the table of which the rule makes something. No byte of a key is
+// looked at on the way, and none is copied but those.
+fn made_in_row<R: ItemRule>(
+    alloc: Global,
+    rule: &R,
+    sides: &Sides<'_>,
+    class: &Shared<'_>,
+    table: &Table,
+    numbers: &[KeyNumbers],
+    row: &[RowItem],
+) -> Result<Vec<Key>, AllocError>
+    requires ready { R.ready rule.now sides.now }
+    requires shared { IsShared sides.now «class».now }
+    requires covered { IsTrue (R.covers sides.now (name_of «class».now)) }
+    requires numbers { AreOfKeys sides.now table.now numbers.now }
+    ensures { IfOk result (λ made. made.items ≡ filter_map (λ k. some_where (is_some (R.makes sides.now (name_of «class».now) k)) k) (keys_of_row table.now row.now)) }
+{
+    let mut made = Vec::new(alloc);
+    for item in row {
+        push_some(
+            &mut made,
+            if_made_at(alloc, rule, sides, class, table, numbers, item)?,
+        )?;
+    }
+    Ok(made)
+}
+
+// The keys of these members of the class of which the rule makes something, in any order, and maybe
+// twice: those of the row, and where there is none those of a walk.
+fn made_of<R: ItemRule>(
+    alloc: Global,
+    rule: &R,
+    sides: &Sides<'_>,
+    translation: &Translation,
+    class: &Shared<'_>,
+    members: Members,
+) -> Result<Vec<Key>, AllocError>
+    requires ready { R.ready rule.now sides.now }
+    requires shared { IsShared sides.now «class».now }
+    requires kept { IsTrue (is_kept sides.now.old sides.now.new (name_of «class».now)) }
+    requires covered { IsTrue (R.covers sides.now (name_of «class».now)) }
+    requires translation { IsTranslation sides.now translation.now }
+    requires passing { OfPassing (R.makes sides.now (name_of «class».now)) (is_member members sides.now (name_of «class».now)) }
+    ensures { IfOk result (λ made. HasEachKey (R.makes sides.now (name_of «class».now)) made.items) }
+{
+    if let Some(row) = old_row(sides, class, members) {
+        let numbers = translation.old.as_slice();
+        return made_in_row(alloc, rule, sides, class, sides.old, numbers, row);
+    }
+    if let Some(row) = new_row(sides, class, members) {
+        let numbers = translation.new.as_slice();
+        return made_in_row(alloc, rule, sides, class, sides.new, numbers, row);
+    }
+    let keys = keys_of(alloc, sides, class, members)?;
+    made_of_keys(alloc, rule, sides, class, keys.as_slice())
+}
+
+// ---- in order
 
 // Adds the key.
 fn put(set: &mut BTreeSet<Key>, key: Key) -> Result<(), AllocError>
@@ -173,12 +272,15 @@ fn in_order(alloc: Global, keys: Vec<Key>) -> Result<Vec<Key>, AllocError>
     Ok(keys)
 }
 
+// ---- what the rule makes
+
 // What the rule makes of the class, in the order of the keys. Of most keys it makes nothing, so those
 // alone of which it makes something are sorted.
 fn of_class<R: ItemRule>(
     alloc: Global,
     rule: &R,
     sides: &Sides<'_>,
+    translation: &Translation,
     class: &Shared<'_>,
 ) -> Result<Vec<R::Item>, AllocError>
     requires sides { AreSides sides.now }
@@ -186,10 +288,11 @@ fn of_class<R: ItemRule>(
     requires rule { IsItemRule R.order R.class_of R.makes R.stands R.covers }
     requires shared { IsShared sides.now «class».now }
     requires covered { IsTrue (R.covers sides.now (name_of «class».now)) }
+    requires translation { IsTranslation sides.now translation.now }
     ensures { IfOk result (λ made. HasExactly R.order (IsOf R.class_of (R.stands sides.now) (name_of «class».now)) made.items) }
 {
-    let keys = rule.keys(alloc, sides, class)?;
-    let made = made_of(alloc, rule, sides, class, keys.as_slice())?;
+    let members = rule.members(sides, class);
+    let made = made_of(alloc, rule, sides, translation, class, members)?;
     let sorted = in_order(alloc, made)?;
     let items = on_keys(alloc, rule, sides, class, sorted.as_slice())?;
     Ok(items)
@@ -198,21 +301,26 @@ fn of_class<R: ItemRule>(
 /// What the rule makes of these classes, in byte order of their names and in the order of the keys.
 /// They have to be all of which it speaks. None where that is more than the limit allows; no more is
 /// made then than what one class adds past it.
+///
+/// A class is gone over along its row, by the numbers of keys and their translation; only members that
+/// stand in no row are walked to and looked up.
 pub fn by_items<R: ItemRule>(
     alloc: Global,
     rule: &R,
     sides: &Sides<'_>,
+    translation: &Translation,
     classes: &[Shared<'_>],
     most: Option<usize>,
 ) -> Result<Option<Vec<R::Item>>, AllocError>
     requires ready { R.ready rule.now sides.now }
     requires rule { IsItemRule R.order R.class_of R.makes R.stands R.covers }
+    requires translation { IsTranslation sides.now translation.now }
     requires classes { AreThose (R.covers sides.now) sides.now classes.now }
     ensures { IfOk result (λ made. IsWithin R.order (R.stands sides.now) most (option_map (λ items. items.items) made)) }
 {
     let mut items = Vec::new(alloc);
     for class in classes {
-        items.append(&mut of_class(alloc, rule, sides, class)?)?;
+        items.append(&mut of_class(alloc, rule, sides, translation, class)?)?;
         if is_over(items.len(), most) {
             return Ok(None);
         }

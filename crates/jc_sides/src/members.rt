@@ -1,11 +1,11 @@
 //! The members of which a rule may speak, and their keys.
-ghost use Rattle.std.specs.Prelude.{◌≡◌, ◌<◌, ◌&&◌, Bool, IfOk, OnOk, IsTrue};
-ghost use Rattle.jc_facts.specs.declared.class_facts.Member.{Member as MemberOf};
+ghost use Rattle.std.specs.Prelude.{◌≡◌, ◌<◌, ◌&&◌, IfOk, IfSome, OnOk, IsTrue};
 ghost use Rattle.jc_facts.specs.Names.{is_init_name, is_key};
 ghost use Rattle.jc_facts.specs.world.World.{size};
-ghost use Rattle.jc_facts.specs.rule.Bases.{is_kept, is_open_final};
+ghost use Rattle.jc_facts.specs.rule.Bases.{is_kept, is_open_final, is_final_in_chain};
 ghost use Rattle.jc_table.specs.Ids.{name_at};
-ghost use Rattle.jc_sides.specs.Members.{is_member, is_hidden, declares_in_chain, HasAll};
+ghost use Rattle.jc_table.specs.RowKeys.{keys_of_row};
+ghost use Rattle.jc_sides.specs.Members.{is_member, HasAll};
 ghost use Rattle.jc_sides.specs.SharedOf.{IsShared, name_of};
 ghost use Rattle.jc_sides.specs.steps.KeySets.{Adds, has_member};
 
@@ -19,6 +19,7 @@ use jc_field::keys::found_field_keys;
 use jc_method::keys::found_method_keys;
 use jc_table::ids::ClassId;
 use jc_table::members::key_of_member;
+use jc_table::row::RowItem;
 use jc_table::table::Table;
 use std::alloc::{AllocError, Global};
 
@@ -36,8 +37,8 @@ pub enum Members {
     OldMethods,
     /// The fields that it has now.
     NewFields,
-    /// The methods of its chain now that are no public instance methods (JVMS 5.4.3.3).
-    NewHidden,
+    /// The methods that it has now.
+    NewMethods,
     /// The methods of its chain that may not be overridden now (JVMS 5.4.5).
     NewFinals,
 }
@@ -69,64 +70,30 @@ fn init_keys(alloc: Global, class: &ClassFacts) -> Result<Vec<Key>, AllocError>
     Ok(keys)
 }
 
-// A test of methods.
-trait MethodTest {
-    ghost test: { MemberOf → Bool };
-
-    // Whether the method passes.
-    fn passes(&self, method: &Member) -> bool
-        ensures { result ≡ test method.now };
-}
-
 // Whether subclasses can see the method and may not override it.
-struct OpenFinal;
-
-impl MethodTest for OpenFinal {
-    ghost test = { is_open_final };
-
-    fn passes(&self, method: &Member) -> bool {
-        let flags = method.flags;
-        is_final(flags) && !is_static(flags) && (is_public(flags) || is_protected(flags))
-    }
+fn is_open_final(method: &Member) -> bool
+    ensures { result ≡ is_open_final method.now }
+{
+    let flags = method.flags;
+    is_final(flags) && !is_static(flags) && (is_public(flags) || is_protected(flags))
 }
 
-// Whether the method is no public instance method.
-struct Hidden;
-
-impl MethodTest for Hidden {
-    ghost test = { is_hidden };
-
-    fn passes(&self, method: &Member) -> bool {
-        let flags = method.flags;
-        !is_public(flags) || is_static(flags)
-    }
-}
-
-// Adds the keys of the class's methods that pass.
-fn add_where<T: MethodTest>(
-    alloc: Global,
-    keys: &mut Vec<Key>,
-    class: &ClassFacts,
-    test: &T,
-) -> Result<(), AllocError>
-    ensures { OnOk result (Adds (has_member T.test class.now.methods) keys.old.items keys.new.items) }
+// Adds the keys of the class's methods that may not be overridden.
+fn add_finals(alloc: Global, keys: &mut Vec<Key>, class: &ClassFacts) -> Result<(), AllocError>
+    ensures { OnOk result (Adds (has_member is_open_final class.now.methods) keys.old.items keys.new.items) }
 {
     for method in class.methods.as_slice() {
-        let wanted = test.passes(method);
+        let wanted = is_open_final(method);
         push_if(alloc, keys, method, wanted)?;
     }
     Ok(())
 }
 
-// The keys of the methods of the class's chain that pass.
-fn chain_keys<T: MethodTest>(
-    alloc: Global,
-    table: &Table,
-    class: ClassId,
-    test: &T,
-) -> Result<Vec<Key>, AllocError>
+// The keys of the methods of the class's chain that may not be overridden, by a walk: in the row of
+// the class a static or a private method may hide one.
+fn final_keys(alloc: Global, table: &Table, class: ClassId) -> Result<Vec<Key>, AllocError>
     requires { class < size table.now }
-    ensures { IfOk result (λ keys. HasAll (declares_in_chain T.test table.now (name_at table.now class)) keys.items) }
+    ensures { IfOk result (λ keys. HasAll (is_final_in_chain table.now (name_at table.now class)) keys.items) }
 {
     let mut keys = Vec::new(alloc);
     let mut next = Some(class);
@@ -134,14 +101,42 @@ fn chain_keys<T: MethodTest>(
         let Some(class) = next else {
             return Ok(keys);
         };
-        add_where(alloc, &mut keys, table.facts(class), test)?;
+        add_finals(alloc, &mut keys, table.facts(class))?;
         next = table.superclass(class);
     }
     Ok(keys)
 }
 
-/// The keys of these members of the kept class, in any order, and maybe further ones. They share their
-/// bytes.
+/// The row of the old side that has these members of the kept class; none where they are of the new
+/// side or stand in no row, or where no row is made of the class.
+pub fn old_row<'a>(sides: &Sides<'a>, class: &Shared<'_>, members: Members) -> Option<&'a [RowItem]>
+    requires shared { IsShared sides.now «class».now }
+    requires kept { IsTrue (is_kept sides.now.old sides.now.new (name_of «class».now)) }
+    ensures { IfSome result (λ row. HasAll (is_member members sides.now (name_of «class».now)) (keys_of_row sides.now.old row.now)) }
+{
+    match members {
+        Members::OldFields => sides.old.field_row(class.old),
+        Members::OldMethods => sides.old.method_row(class.old),
+        _ => None,
+    }
+}
+
+/// The same of the new side.
+pub fn new_row<'a>(sides: &Sides<'a>, class: &Shared<'_>, members: Members) -> Option<&'a [RowItem]>
+    requires shared { IsShared sides.now «class».now }
+    requires kept { IsTrue (is_kept sides.now.old sides.now.new (name_of «class».now)) }
+    ensures { IfSome result (λ row. HasAll (is_member members sides.now (name_of «class».now)) (keys_of_row sides.now.new row.now)) }
+{
+    match members {
+        Members::NewFields => sides.new.field_row(class.new),
+        Members::NewMethods => sides.new.method_row(class.new),
+        _ => None,
+    }
+}
+
+/// The keys of these members of the kept class, in any order, and maybe further ones, by a walk over
+/// the records. It is for those that stand in no row: initializers, of which a class has few, final
+/// methods of a chain, of which few pass, and all members of a class of which no row is made.
 pub fn keys_of(
     alloc: Global,
     sides: &Sides<'_>,
@@ -158,7 +153,7 @@ pub fn keys_of(
         Members::OldFields => found_field_keys(alloc, sides.old, class.old),
         Members::OldMethods => found_method_keys(alloc, sides.old, class.old),
         Members::NewFields => found_field_keys(alloc, sides.new, class.new),
-        Members::NewHidden => chain_keys(alloc, sides.new, class.new, &Hidden),
-        Members::NewFinals => chain_keys(alloc, sides.new, class.new, &OpenFinal),
+        Members::NewMethods => found_method_keys(alloc, sides.new, class.new),
+        Members::NewFinals => final_keys(alloc, sides.new, class.new),
     }
 }

@@ -1,6 +1,6 @@
 //! The keys of members that a class has or inherits.
-ghost use Rattle.std.specs.Prelude.{◌≡◌, ◌<◌, ◌++◌, [], IfOk, OnOk, IsTrue, is_some, option_map};
-ghost use Rattle.std.specs.List.{All, list_any, cons_option};
+ghost use Rattle.std.specs.Prelude.{◌≡◌, ◌<◌, IfOk, IsTrue, is_some};
+ghost use Rattle.std.specs.List.{All, list_any};
 ghost use Rattle.std.specs.BTreeSet.{IsOrdered};
 ghost use Rattle.jc_facts.specs.world.World.{size};
 ghost use Rattle.jc_facts.specs.KeyOrder.{key_cmp};
@@ -8,7 +8,6 @@ ghost use Rattle.jc_facts.specs.Exactly.{HasExactly};
 ghost use Rattle.jc_worlds.specs.Hierarchy.{above};
 ghost use Rattle.jc_index.specs.Ids.{name_at};
 ghost use Rattle.jc_index.specs.Kinds.{own_of, declare_of};
-ghost use Rattle.jc_table.specs.RowKeys.{HaveKeysOf};
 ghost use Rattle.jc_table.specs.steps.Collecting.{Adds, declares_at, HasKeys};
 
 use crate::table::Table;
@@ -17,7 +16,6 @@ use jc_facts::key::Key;
 use jc_facts::key_set::KeyRef;
 use jc_index::ids::ClassId;
 use jc_index::members::{MemberKind, members};
-use jc_rows::row::RowItem;
 use std::alloc::{AllocError, Global};
 use std::collections::BTreeSet;
 
@@ -103,34 +101,5 @@ pub fn keys_of(
 {
     let set = keys_above(alloc, table, class, kind)?;
     let keys = to_keys(alloc, &set)?;
-    Ok(keys)
-}
-
-// Adds a copy of the key, if there is one.
-fn push_copy(alloc: Global, keys: &mut Vec<Key>, key: Option<&Key>) -> Result<(), AllocError>
-    ensures { OnOk result (keys.new.items ≡ keys.old.items ++ cons_option (option_map (λ k. k.now) key.entry) []) }
-{
-    match key {
-        Some(key) => {
-            keys.push(key.copy(alloc)?)?;
-            Ok(())
-        }
-        None => Ok(()),
-    }
-}
-
-/// The keys of the items of a row of the table, in the order of their numbers. They share their
-/// bytes.
-///
-/// # Errors
-///
-/// `AllocError` where memory runs out.
-pub fn keys_in(alloc: Global, table: &Table, row: &[RowItem]) -> Result<Vec<Key>, AllocError>
-    ensures { IfOk result (λ keys. HaveKeysOf table.now row.now keys.items) }
-{
-    let mut keys = Vec::with_capacity(alloc, row.len())?;
-    for item in row {
-        push_copy(alloc, &mut keys, table.key_at(item.key))?;
-    }
     Ok(keys)
 }

@@ -1,6 +1,7 @@
 //! The classes of a side, the platform with one release of a library, found by their names.
 #![tactic(auto)]
 
+pub mod by_number;
 pub mod keys;
 pub mod table;
 

@@ -16,9 +16,8 @@ ghost use Rattle.jc_index.specs.Mentioned.{is_package, mentions_front};
 ghost use Rattle.jc_index.specs.Root.{fault_of_root};
 ghost use Rattle.jc_index.specs.Sides.{IsSide, overlap_of};
 ghost use Rattle.jc_rows.specs.Keys.{numbered_keys, declares_with_rows, IsNumber, AreDistinct};
-ghost use Rattle.jc_rows.specs.Rows.{IsFieldRow, IsMethodRow, Rises};
+ghost use Rattle.jc_rows.specs.Rows.{IsFieldRow, IsMethodRow};
 ghost use Rattle.jc_rows.specs.WithRows.{has_rows};
-ghost use Rattle.jc_table.specs.RowKeys.{HasForKey};
 ghost use Rattle.jc_table.specs.Tables.{HasCause};
 
 use jc_base::name::Name;
@@ -27,14 +26,14 @@ use jc_facts::key::Key;
 use jc_facts::link_error::LinkError;
 use jc_index::faults::{Loading, load_all};
 use jc_index::hierarchy::Hierarchy;
-use jc_index::ids::{ClassId, Found};
+use jc_index::ids::ClassId;
 use jc_index::index::Index;
 use jc_index::mentioned::{MentionedNames, begins};
 use jc_index::overlap::first_overlap;
 use jc_index::platform::Platform;
 use jc_index::root::{RootPart, root_fault};
 use jc_index::side::Side;
-use jc_rows::row::{RowItem, find};
+use jc_rows::row::RowItem;
 use jc_rows::rows::Rows;
 use std::alloc::{AllocError, Global};
 use std::marker::Model;
@@ -374,17 +373,6 @@ impl Table {
             Some(self.rows.methods[id.number() as usize].as_slice())
         } else {
             None
-        }
-    }
-
-    /// What the row, one of its own, has for the key; none where the key has no number either.
-    pub fn find_in(&self, row: &[RowItem], key: &Key) -> Option<Found>
-        requires { Rises row.now }
-        ensures { HasForKey self.now row.now key.now result }
-    {
-        match self.key_number(key) {
-            Some(number) => find(row, number),
-            None => None,
         }
     }
 }

@@ -14,6 +14,7 @@ use jc_facts::key::Key;
 use jc_sides::classes::base_classes;
 use jc_sides::clients::is_steady;
 use jc_sides::kept::kept;
+use jc_sides::key_numbers::KeyNumbers;
 use jc_sides::shared::Shared;
 use jc_sides::sides::Sides;
 use jc_table::table::Table;
@@ -138,7 +139,8 @@ fn is_told_of_field(
     requires class { IsShared sides.now «class».now }
     requires steady { IsTrue (is_steady sides.now.old sides.now.new (name_of «class».now)) }
 {
-    let few = members::field_closed(sides, seats, class, key);
+    let numbers = KeyNumbers::of(sides, key);
+    let few = members::field_closed(sides, seats, class, key, &numbers);
     let all = plain::field_closed(sides, seats, class, key);
     few.is_some() == closed && is_same(&few, &all)
 }
@@ -156,7 +158,8 @@ fn is_told_of_method(
     requires steady { IsTrue (is_steady sides.now.old sides.now.new (name_of «class».now)) }
     requires key { IsTrue (is_key_of_method key.now) }
 {
-    let few = members::method_closed(sides, seats, class, key);
+    let numbers = KeyNumbers::of(sides, key);
+    let few = members::method_closed(sides, seats, class, key, &numbers);
     let all = plain::method_closed(sides, seats, class, key);
     few.is_some() == closed && is_same(&few, &all)
 }

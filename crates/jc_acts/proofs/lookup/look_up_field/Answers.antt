@@ -8,9 +8,9 @@ use Rattle.jc_acts.proofs.lookup.look_up_field.Goals as goal
 pub returns-in-Some-clause-found : goal.returns-in-Some-clause-found
 returns-in-Some-clause-found c =
     field_member c.args.table.now (name_at c.args.table.now c.args.class) c.args.key.now c.in-Some.found
-    (subst (λ o. IsAnswer c.args.table.now o (field_found c.args.table.now (name_at c.args.table.now c.args.class) c.args.key.now)) c.in-Some.is c.find_field.ensures)
+    (subst (λ o. IsAnswer c.args.table.now o (field_found c.args.table.now (name_at c.args.table.now c.args.class) c.args.key.now)) c.in-Some.is c.find_field_by_number.ensures)
 
 pub returns-in-None-clause-found : goal.returns-in-None-clause-found
 returns-in-None-clause-found c =
     field_fault c.args.table.now (name_at c.args.table.now c.args.class) c.args.key.now
-    (subst (λ o. IsAnswer c.args.table.now o (field_found c.args.table.now (name_at c.args.table.now c.args.class) c.args.key.now)) c.in-None.is c.find_field.ensures)
+    (subst (λ o. IsAnswer c.args.table.now o (field_found c.args.table.now (name_at c.args.table.now c.args.class) c.args.key.now)) c.in-None.is c.find_field_by_number.ensures)

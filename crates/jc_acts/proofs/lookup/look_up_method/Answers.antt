@@ -19,10 +19,10 @@ pub returns-in-Some-clause-found : goal.returns-in-Some-clause-found
 returns-in-Some-clause-found c =
     let i : is_interface_of c.args.table.now (name_at c.args.table.now c.args.class) ≡ false = ap (some_and (λ (d : ClassFacts). interface_flag d.flags)) (sym c.facts.ensures) ∙ sym c.is_interface.ensures ∙ c.if-is_interface.false in
     class_member c.args.table.now (side_valid c.args.table.now c.requires.side) (name_at c.args.table.now c.args.class) c.args.key.now c.requires.loads c.requires.key i c.in-Some.found
-    (subst (λ o. IsChoice c.args.table.now o (method_choices c.args.table.now (name_at c.args.table.now c.args.class) c.args.key.now)) c.in-Some.is c.find_method.ensures)
+    (subst (λ o. IsChoice c.args.table.now o (method_choices c.args.table.now (name_at c.args.table.now c.args.class) c.args.key.now)) c.in-Some.is c.find_method_by_number.ensures)
 
 pub returns-in-None-clause-found : goal.returns-in-None-clause-found
 returns-in-None-clause-found c =
     let i : is_interface_of c.args.table.now (name_at c.args.table.now c.args.class) ≡ false = ap (some_and (λ (d : ClassFacts). interface_flag d.flags)) (sym c.facts.ensures) ∙ sym c.is_interface.ensures ∙ c.if-is_interface.false in
     class_fault c.args.table.now (side_valid c.args.table.now c.requires.side) (name_at c.args.table.now c.args.class) c.args.key.now c.requires.loads c.requires.key i
-    (subst (λ o. IsChoice c.args.table.now o (method_choices c.args.table.now (name_at c.args.table.now c.args.class) c.args.key.now)) c.in-None.is c.find_method.ensures)
+    (subst (λ o. IsChoice c.args.table.now o (method_choices c.args.table.now (name_at c.args.table.now c.args.class) c.args.key.now)) c.in-None.is c.find_method_by_number.ensures)

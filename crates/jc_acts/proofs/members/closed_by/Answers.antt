@@ -10,7 +10,7 @@ use Rattle.jc_acts.specs.steps.LookedUp.{closed_use, LooksUp}
 use Rattle.jc_facts.specs.client.Forms.{form_view}
 use Rattle.jc_acts.specs.steps.References.{acts_of}
 use Rattle.jc_acts.proofs.BothLooked.{none_found, by_looked}
-use Rattle.jc_sides.proofs.Seen.{of_old, of_new, loads_before, loads_after}
+use Rattle.jc_sides.proofs.Seen.{of_old, of_new, loads_before, loads_after, number_before, number_after}
 use Rattle.jc_sides.proofs.BaseParts.{steady_parts}
 use Rattle.jc_table.specs.Ids.{name_at}
 use Rattle.jc_acts.proofs.Firsts.{first_closed}
@@ -21,6 +21,12 @@ look_up-requires-clause-loads c = loads_before (worlds c.sides.inside) c.args.si
 
 pub look_up-after-requires-clause-loads : goal.look_up-after-requires-clause-loads
 look_up-after-requires-clause-loads c = loads_after (worlds c.sides.inside) c.args.sides.now c.sides.view_is (shared_of c.class.inside) c.args.class.now c.class.view_is c.requires.class (steady_parts c.args.sides.now (name_of c.args.class.now) c.requires.steady).both
+
+pub look_up-requires-clause-number : goal.look_up-requires-clause-number
+look_up-requires-clause-number c = number_before (worlds c.sides.inside) c.args.sides.now c.sides.view_is c.args.key.now c.args.numbers.now c.requires.numbers
+
+pub look_up-after-requires-clause-number : goal.look_up-after-requires-clause-number
+look_up-after-requires-clause-number c = number_after (worlds c.sides.inside) c.args.sides.now c.sides.view_is c.args.key.now c.args.numbers.now c.requires.numbers
 
 pub returns-in_default : goal.returns-in_default
 returns-in_default c =

@@ -1,19 +1,17 @@
 use Rattle.std.proofs.Common.{List, sym, subst, ap, ◌∙◌}
 use Rattle.std.specs.List.{filter_map}
-use Rattle.jc_facts.specs.declared.key.Key.{Key}
 use Rattle.jc_facts.specs.Exactly.{HasExactly}
 use Rattle.jc_sides.specs.Rules.{IsOf}
 use Rattle.jc_sides.specs.SharedOf.{name_of}
 use Rattle.jc_sides.proofs.ByItems.{of_class}
-use Rattle.jc_sides.proofs.MadeKeys.{made_key, each_in_order}
+use Rattle.jc_sides.proofs.MadeKeys.{each_in_order}
 use Rattle.jc_sides.proofs.item_rule.of_class.Goals as goal
 
 pub returns : goal.returns
 returns g c =
-    subst (HasExactly g.R.ItemRule.order (IsOf g.R.ItemRule.class_of (g.R.ItemRule.stands c.args.sides.now) (name_of c.args.class.now))) (sym (c.in_ok-items.ensures ∙ ap (filter_map (g.R.ItemRule.makes c.args.sides.now (name_of c.args.class.now))) c.as_slice-2.ensures.value))
+    subst (HasExactly g.R.ItemRule.order (IsOf g.R.ItemRule.class_of (g.R.ItemRule.stands c.args.sides.now) (name_of c.args.class.now))) (sym (c.in_ok-items.ensures ∙ ap (filter_map (g.R.ItemRule.makes c.args.sides.now (name_of c.args.class.now))) c.as_slice.ensures.value))
     (of_class g.R.ItemRule.order g.R.ItemRule.class_of g.R.ItemRule.makes g.R.ItemRule.stands g.R.ItemRule.covers c.requires.rule c.args.sides.now (name_of c.args.class.now) c.in_ok-sorted.sorted.items
-    (each_in_order (g.R.ItemRule.makes c.args.sides.now (name_of c.args.class.now)) c.in_ok-keys.keys.items c.in_ok-made.made.items c.in_ok-sorted.sorted.items c.in_ok-keys.ensures
-    (c.in_ok-made.ensures ∙ ap (λ (ks : List Key). filter_map (made_key (g.R.ItemRule.makes c.args.sides.now (name_of c.args.class.now))) ks) c.as_slice.ensures.value) c.in_ok-sorted.ensures))
+    (each_in_order (g.R.ItemRule.makes c.args.sides.now (name_of c.args.class.now)) c.in_ok-made.made.items c.in_ok-sorted.sorted.items c.in_ok-made.ensures c.in_ok-sorted.ensures))
 
-pub keys-requires-clause-kept : goal.keys-requires-clause-kept
-keys-requires-clause-kept g c = c.requires.rule.kept c.args.sides.now (name_of c.args.class.now) c.requires.covered
+pub made_of-requires-clause-kept : goal.made_of-requires-clause-kept
+made_of-requires-clause-kept g c = c.requires.rule.kept c.args.sides.now (name_of c.args.class.now) c.requires.covered

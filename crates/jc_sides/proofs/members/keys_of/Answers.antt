@@ -1,10 +1,10 @@
 use Rattle.std.proofs.lemmas.Result.{IfOk-weaker}
 use Rattle.jc_facts.specs.Names.{is_init_name}
-use Rattle.jc_facts.specs.rule.Bases.{is_open_final, is_final_in_chain}
+use Rattle.jc_facts.specs.rule.Bases.{is_final_in_chain}
 use Rattle.jc_field.specs.FoundKeys.{HaveFound as HaveFields}
 use Rattle.jc_method.specs.FoundKeys.{HaveFound as HaveMethods}
 use Rattle.jc_table.specs.Ids.{name_at}
-use Rattle.jc_sides.specs.Members.{is_member, is_hidden, declares_in_chain, HasAll}
+use Rattle.jc_sides.specs.Members.{is_member, HasAll}
 use Rattle.jc_sides.specs.declared.members.Members.TheVariants as members
 use Rattle.jc_sides.specs.steps.KeySets.{has_member}
 use Rattle.jc_sides.specs.SharedFields.{shared_of}
@@ -23,6 +23,9 @@ found_method_keys-requires-clause-loads c = loads_before (worlds c.sides.inside)
 
 pub found_field_keys-requires-in-NewFields-clause-loads : goal.found_field_keys-requires-in-NewFields-clause-loads
 found_field_keys-requires-in-NewFields-clause-loads c = loads_after (worlds c.sides.inside) c.args.sides.now c.sides.view_is (shared_of c.class.inside) c.args.class.now c.class.view_is c.requires.shared (kept_parts c.args.sides.now (name_of c.args.class.now) c.requires.kept)
+
+pub found_method_keys-requires-in-NewMethods-clause-loads : goal.found_method_keys-requires-in-NewMethods-clause-loads
+found_method_keys-requires-in-NewMethods-clause-loads c = loads_after (worlds c.sides.inside) c.args.sides.now c.sides.view_is (shared_of c.class.inside) c.args.class.now c.class.view_is c.requires.shared (kept_parts c.args.sides.now (name_of c.args.class.now) c.requires.kept)
 
 pub returns-in-Nothing : goal.returns-in-Nothing
 returns-in-Nothing c = named_so c.args.members members.Nothing c.in-Nothing.is c.args.sides.now (name_of c.args.class.now) c.new.result.items (none_pass c.new.result.items)
@@ -52,15 +55,14 @@ returns-in-OldInitializers c =
     (inits c.args.sides.now (name_of c.args.class.now) c.before-in-OldInitializers.result.now c.before-in-OldInitializers.ensures keys.items h))
     c.init_keys.ensures
 
-pub returns-in-NewHidden : goal.returns-in-NewHidden
-returns-in-NewHidden c =
-    IfOk-weaker c.chain_keys.result (λ keys. HasAll (declares_in_chain is_hidden c.sides.inside.new.now (name_at c.sides.inside.new.now c.class.inside.new)) keys.items) (λ keys. HasAll (is_member c.args.members c.args.sides.now (name_of c.args.class.now)) keys.items)
-    (λ keys h. named_so c.args.members members.NewHidden c.in-NewHidden.is c.args.sides.now (name_of c.args.class.now) keys.items (of_new (worlds c.sides.inside) c.args.sides.now c.sides.view_is (shared_of c.class.inside) c.args.class.now c.class.view_is c.requires.shared (λ W x. HasAll (declares_in_chain is_hidden W x) keys.items) h))
-    c.chain_keys.ensures
+pub returns-in-NewMethods : goal.returns-in-NewMethods
+returns-in-NewMethods c =
+    IfOk-weaker c.found_method_keys-in-NewMethods.result (λ keys. HaveMethods c.sides.inside.new.now (name_at c.sides.inside.new.now c.class.inside.new) keys.items) (λ keys. HasAll (is_member c.args.members c.args.sides.now (name_of c.args.class.now)) keys.items)
+    (λ keys h. named_so c.args.members members.NewMethods c.in-NewMethods.is c.args.sides.now (name_of c.args.class.now) keys.items (of_new (worlds c.sides.inside) c.args.sides.now c.sides.view_is (shared_of c.class.inside) c.args.class.now c.class.view_is c.requires.shared (λ W x. HaveMethods W x keys.items) h))
+    c.found_method_keys-in-NewMethods.ensures
 
 pub returns-in-NewFinals : goal.returns-in-NewFinals
-unfolding is_final_in_chain
 returns-in-NewFinals c =
-    IfOk-weaker c.chain_keys-in-NewFinals.result (λ keys. HasAll (declares_in_chain is_open_final c.sides.inside.new.now (name_at c.sides.inside.new.now c.class.inside.new)) keys.items) (λ keys. HasAll (is_member c.args.members c.args.sides.now (name_of c.args.class.now)) keys.items)
-    (λ keys h. named_so c.args.members members.NewFinals c.in-NewFinals.is c.args.sides.now (name_of c.args.class.now) keys.items (of_new (worlds c.sides.inside) c.args.sides.now c.sides.view_is (shared_of c.class.inside) c.args.class.now c.class.view_is c.requires.shared (λ W x. HasAll (declares_in_chain is_open_final W x) keys.items) h))
-    c.chain_keys-in-NewFinals.ensures
+    IfOk-weaker c.final_keys.result (λ keys. HasAll (is_final_in_chain c.sides.inside.new.now (name_at c.sides.inside.new.now c.class.inside.new)) keys.items) (λ keys. HasAll (is_member c.args.members c.args.sides.now (name_of c.args.class.now)) keys.items)
+    (λ keys h. named_so c.args.members members.NewFinals c.in-NewFinals.is c.args.sides.now (name_of c.args.class.now) keys.items (of_new (worlds c.sides.inside) c.args.sides.now c.sides.view_is (shared_of c.class.inside) c.args.class.now c.class.view_is c.requires.shared (λ W x. HasAll (is_final_in_chain W x) keys.items) h))
+    c.final_keys.ensures

@@ -2,11 +2,11 @@ use Rattle.std.proofs.Common.{sym, ◌∙◌}
 use Rattle.jc_acts.proofs.Untouched.{looks_alike}
 use Rattle.jc_sides.specs.SharedOf.{name_of}
 use Rattle.jc_sides.proofs.BaseParts.{base_class_parts}
-use Rattle.jc_rules.proofs.CaptureAdded.{of_none, of_hidden}
+use Rattle.jc_rules.proofs.CaptureAdded.{of_none, of_methods}
 use Rattle.jc_rules.proofs.capture_added.CaptureAddedCollisionRule.members.Goals as goal
 
 pub returns-then-may_close : goal.returns-then-may_close
-returns-then-may_close c = of_hidden c.args.sides.now (name_of c.args.class.now)
+returns-then-may_close c = of_methods c.args.sides.now (name_of c.args.class.now)
 
 pub returns-else-may_close : goal.returns-else-may_close
 returns-else-may_close c =

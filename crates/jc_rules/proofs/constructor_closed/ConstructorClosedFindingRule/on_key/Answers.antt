@@ -6,7 +6,7 @@ use Rattle.jc_sides.specs.SharedFields.{shared_of}
 use Rattle.jc_sides.specs.SharedOf.{name_of}
 use Rattle.jc_sides.specs.SidesFields.{worlds}
 use Rattle.jc_sides.proofs.BaseParts.{steady_parts}
-use Rattle.jc_sides.proofs.Seen.{of_old, of_new, loads_before, loads_after}
+use Rattle.jc_sides.proofs.Seen.{of_old, of_new, loads_before, loads_after, number_before, number_after}
 use Rattle.jc_rules.proofs.ConstructorClosed.{found_new, found_super, found_none}
 use Rattle.jc_rules.proofs.constructor_closed.ConstructorClosedFindingRule.on_key.Goals as goal
 
@@ -15,6 +15,12 @@ method_flags-was-requires-clause-loads c = loads_before (worlds c.sides.inside) 
 
 pub method_flags-now-requires-clause-loads : goal.method_flags-now-requires-clause-loads
 method_flags-now-requires-clause-loads c = loads_after (worlds c.sides.inside) c.args.sides.now c.sides.view_is (shared_of c.class.inside) c.args.class.now c.class.view_is c.requires.shared (steady_parts c.args.sides.now (name_of c.args.class.now) c.requires.covered).both
+
+pub method_flags-was-requires-clause-number : goal.method_flags-was-requires-clause-number
+method_flags-was-requires-clause-number c = number_before (worlds c.sides.inside) c.args.sides.now c.sides.view_is c.args.key.now c.args.numbers.now c.requires.numbers
+
+pub method_flags-now-requires-clause-number : goal.method_flags-now-requires-clause-number
+method_flags-now-requires-clause-number c = number_after (worlds c.sides.inside) c.args.sides.now c.sides.view_is c.args.key.now c.args.numbers.now c.requires.numbers
 
 pub returns-in-Some : goal.returns-in-Some
 returns-in-Some c =

@@ -2,7 +2,7 @@ use Rattle.std.proofs.Common.{◌≡◌, take}
 use Rattle.std.specs.List.{filter_map}
 use Rattle.jc_sides.specs.SharedOf.{name_of}
 use Rattle.jc_sides.proofs.MadeKeys.{made_key}
-use Rattle.jc_sides.proofs.item_rule.made_of.Given as goal
+use Rattle.jc_sides.proofs.item_rule.made_of_keys.Given as goal
 
 abbrev pub invariant-loop-key : goal.invariant-loop-key
 invariant-loop-key g l = l.made.items ≡ filter_map (made_key (g.R.ItemRule.makes l.sides (name_of l.class))) (take l.key-index l.keys)

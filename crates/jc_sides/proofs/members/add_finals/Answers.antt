@@ -1,22 +1,23 @@
 use Rattle.std.proofs.Common.{◌≡◌, ◌<◌, ◌≤◌, List, length, get_or, ap, ◌∙◌, ◌&&◌, arith}
 use Rattle.jc_facts.specs.declared.class_facts.Member.{Member}
 use Rattle.jc_facts.specs.Names.{is_key}
+use Rattle.jc_facts.specs.rule.Bases.{is_open_final}
 use Rattle.jc_sides.proofs.KeySets.{adds_none, put_member, adds_all}
-use Rattle.jc_sides.proofs.members.add_where.Goals as goal
+use Rattle.jc_sides.proofs.members.add_finals.Goals as goal
 
 pub loop-method-init : goal.loop-method-init
-loop-method-init g c = adds_none c.args.keys.now.items
+loop-method-init c = adds_none c.args.keys.now.items
 
 pub loop-method-preserved : goal.loop-method-preserved
-loop-method-preserved g c =
+loop-method-preserved c =
     let here : c.as_slice-method-items.result.now ≡ c.args.class.now.methods = c.as_slice-method-items.ensures in
     let within : c.loop-method.method-index < length c.args.class.now.methods = omega (arith, ap (λ (xs : List Member). length xs) here) in
-    put_member g.T.MethodTest.test c.args.class.now.methods c.loop-method.method-index c.method-item.result c.passes-wanted.result _ _ _ within
-    (c.method-item.is ∙ ap (λ (xs : List Member). get_or xs c.loop-method.method-index c.method-item.result) here) c.passes-wanted.ensures
+    put_member is_open_final c.args.class.now.methods c.loop-method.method-index c.method-item.result c.is_open_final-wanted.result _ _ _ within
+    (c.method-item.is ∙ ap (λ (xs : List Member). get_or xs c.loop-method.method-index c.method-item.result) here) c.is_open_final-wanted.ensures
     c.loop-method.invariant c.in_ok-push_if.ensures
 
 pub returns : goal.returns
-returns g c =
+returns c =
     let here : c.as_slice-method-items.result.now ≡ c.args.class.now.methods = c.as_slice-method-items.ensures in
     let end : length c.args.class.now.methods ≤ c.loop-method.method-index = omega (arith, ap (λ (xs : List Member). length xs) here) in
-    adds_all (λ q m. g.T.MethodTest.test m && is_key q m) c.args.class.now.methods c.loop-method.method-index c.args.keys.now.items c.loop-method.keys.items end c.loop-method.invariant
+    adds_all (λ q m. is_open_final m && is_key q m) c.args.class.now.methods c.loop-method.method-index c.args.keys.now.items c.loop-method.keys.items end c.loop-method.invariant

@@ -1,0 +1,13 @@
+use Rattle.std.proofs.Common.{sym}
+use Rattle.jc_index.specs.Ids.{name_at}
+use Rattle.jc_method.proofs.Rows.{in_row, of_class}
+use Rattle.jc_method.proofs.find.find_method_by_number.Goals as goal
+
+pub find_at-requires : goal.find_at-requires
+find_at-requires c = c.in-Some.ensures.row.rises
+
+pub returns-in-Some : goal.returns-in-Some
+returns-in-Some c =
+    of_class c.args.table.now (name_at c.args.table.now c.args.class) c.args.key.now c.find_at.result c.requires.kind
+    (in_row c.args.table.now c.count-classes.ensures.side (name_at c.args.table.now c.args.class) c.requires.loads (sym c.in-Some.ensures.made) c.in-Some.row.now c.in-Some.ensures.row c.args.key.now c.find_at.result
+    (c.args.number, c.requires.number, c.find_at.ensures))
