@@ -1,18 +1,20 @@
 -- The classes that are found by their names, and the side that is kept of them.
 use Rattle.std.proofs.Common.{◌≡◌, ℕ, ◌<◌, ◌≤◌, List, [], length, get_or, sym, ◌∙◌, ap, subst, Some, None, arith, ◌⊎◌, inl, inr}
 use Rattle.std.specs.Prelude.{is_some, IsTrue, nat_lt, slice_get}
-use Rattle.std.proofs.lemmas.List.{get_or-map}
+use Rattle.std.proofs.lemmas.List.{length-map, get_or-map}
 use Rattle.std.proofs.lemmas.Option.{slice_get_cases}
 use Rattle.jc_facts.specs.declared.class_facts.ClassFacts.{ClassFacts}
 use Rattle.jc_facts.specs.Names.{Bytes}
 use Rattle.jc_facts.specs.world.World.{World, classes, size, find_class, class_named}
 use Rattle.jc_facts.specs.client.Clients.{differ_by_name}
 use Rattle.jc_index.specs.Ids.{names_of, names, name_at, place_of, id_of}
-use Rattle.jc_index.specs.steps.Order.{name_or, name_in, AreNamedClasses}
+use Rattle.jc_index.specs.steps.Order.{name_or, name_in, names_at}
+use Rattle.jc_index.specs.steps.NamedClasses.{AreNamedClasses}
 use Rattle.jc_index.specs.declared.named_classes.NamedClasses.TheInside.{Inside}
-use Rattle.jc_index.proofs.Numbers.{names_of-length}
+use Rattle.jc_index.proofs.Numbers.{IsAt, place-at, names_of-length}
 use Rattle.jc_index.proofs.InSide.{front}
 use Rattle.jc_index.proofs.Places.{order_length, found_there, in_front}
+use Rattle.jc_index.proofs.Standing.{unplaced}
 
 module _ (i : Inside) (h : AreNamedClasses i) (W : World) (v : i.side ≡ W) where
   classes_are : classes W ≡ classes i.side
@@ -37,9 +39,22 @@ module _ (i : Inside) (h : AreNamedClasses i) (W : World) (v : i.side ≡ W) whe
   unfolding size
   size_is = sym (ap length classes_are)
 
-  pub id_is : (x : Bytes) → place_of (names_of (classes i.side)) x ≡ id_of W x
+  id_is : (x : Bytes) → place_of (names_of (classes i.side)) x ≡ id_of W x
   unfolding id_of
   id_is x = sym (ap (λ (ns : List Bytes). place_of ns x) names_are)
+
+  -- the number of a name is that of its place
+  pub number_is : (x : Bytes) (at : ℕ) → place_of (names_at (classes i.side)) x ≡ Some at → (at < length i.numbers.items) × (Some (get_or i.numbers.items at 0) ≡ id_of W x)
+  number_is x at e =
+      let a : IsAt (names_at (classes i.side)) x at = place-at (names_at (classes i.side)) x at e in
+      let below : at < length (names_at (classes i.side)) = a.within in
+      let many = h.numbers.count in
+      let l : at < length (classes i.side) = omega (arith, length-map (classes i.side) (λ (c : ClassFacts). c.name)) in
+      (omega arith, sym (h.numbers.each at l) ∙ ap (place_of (names_of (classes i.side))) a.name ∙ id_is x)
+
+  -- a name without a place has none
+  pub no_number : (x : Bytes) → place_of (names_at (classes i.side)) x ≡ None → None ≡ id_of W x
+  no_number x e = sym (unplaced (classes i.side) x e) ∙ id_is x
 
   -- the place of a number is within the classes
   pub within : (n at : ℕ) → n < size W → at ≡ get_or i.order.items n at → at < length (classes i.side)

@@ -29,4 +29,6 @@ pub mod Picked
 pub mod Ordering
 pub mod Undeclared
 pub mod NumberedNames
+pub mod Standing
+pub mod Merged
 pub mod HashedKeys

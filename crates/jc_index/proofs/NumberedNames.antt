@@ -1,15 +1,12 @@
 -- Names that are numbered in a set in the order in which they were added.
-use Rattle.std.proofs.Common.{◌≡◌, ◌≢◌, ◌<◌, ◌≤◌, ◌+◌, ℕ, suc, Bool, true, false, cond, not, ◌||◌, List, [], ◌∷◌, ◌++◌, length, map, take, get_or, position, refl, sym, ◌∙◌, ap, subst, Option, Some, None, arith}
-use Rattle.std.specs.Prelude.{nat_eq, nat_lt, option_map, IsTrue}
+use Rattle.std.proofs.Common.{◌≡◌, ◌≢◌, ◌+◌, ℕ, suc, Bool, true, false, cond, not, ◌||◌, List, [], ◌∷◌, ◌++◌, length, map, take, position, refl, sym, ◌∙◌, ap, subst, Option, Some, None, arith}
+use Rattle.std.specs.Prelude.{nat_eq, nat_lt, option_map}
 use Rattle.std.specs.List.{list_any, position_or_len}
 use Rattle.std.specs.Cmp.Lexicographic.{pointwise, same_text, other_text}
 use Rattle.std.proofs.lemmas.Slice.Eq.{bytes_eq-Decides}
-use Rattle.std.proofs.lemmas.List.{take_more, take_all, map-append}
-use Rattle.jc_facts.specs.declared.class_facts.ClassFacts.{ClassFacts}
+use Rattle.std.proofs.lemmas.List.{map-append}
 use Rattle.jc_facts.specs.Names.{Bytes, same, is_name_among}
-use Rattle.jc_facts.specs.client.Clients.{differ_by_name}
-use Rattle.jc_index.specs.Ids.{names_of, place_of}
-use Rattle.jc_index.proofs.Numbers.{place-back, names_of-rise}
+use Rattle.jc_index.specs.Ids.{place_of}
 
 -- the test of the set is the test of names
 pub same-test : (x y : Bytes) → pointwise nat_eq x y ≡ same y x
@@ -63,16 +60,9 @@ added_last f x v vs now names e n h a =
     let last : now ≡ vs ++ v ∷ [] = h ∙ ap (λ (b : Bool). cond b vs (vs ++ v ∷ [])) none in
     ap (map f) last ∙ map-append f vs (v ∷ []) ∙ ap (λ (ns : List Bytes). ns ++ f v ∷ []) n ∙ ap (λ (y : Bytes). names ++ y ∷ []) e
 
--- one more name is numbered
-pub one_more_name : (cs : List ClassFacts) (n : ℕ) (names now : List Bytes) (x : Bytes) → n < length (names_of cs) → names ≡ take n (names_of cs) → x ≡ get_or (names_of cs) n [] → now ≡ names ++ x ∷ [] → now ≡ take (n + 1) (names_of cs)
-one_more_name cs n names now x l h g q = q ∙ ap (λ (ns : List Bytes). ns ++ x ∷ []) h ∙ ap (λ (y : Bytes). take n (names_of cs) ++ y ∷ []) g ∙ sym (take_more (names_of cs) n [] l)
-
-pub all_names : (cs : List ClassFacts) (n : ℕ) (names : List Bytes) → length (names_of cs) ≤ n → names ≡ take n (names_of cs) → names ≡ names_of cs
-all_names cs n names l h = h ∙ take_all n (names_of cs) l
-
 -- ---- a name doesn't stand before its place
 
-before_place : (ys : List Bytes) (x : Bytes) (n : ℕ) → place_of ys x ≡ Some n → is_name_among (take n ys) x ≡ false
+pub before_place : (ys : List Bytes) (x : Bytes) (n : ℕ) → place_of ys x ≡ Some n → is_name_among (take n ys) x ≡ false
 unfolding place_of
 before_place [] x n e = absurd (let clash : None ≡ Some n = e in cc)
 before_place (y ∷ ys) x n e = go (same y x) refl e (before_place ys x)
@@ -84,6 +74,3 @@ before_place (y ∷ ys) x n e = go (same y x) refl e (before_place ys x)
     go : (b : Bool) → same y x ≡ b → cond b (Some 0) (option_map suc (place_of ys x)) ≡ Some n → ((m : ℕ) → place_of ys x ≡ Some m → is_name_among (take m ys) x ≡ false) → is_name_among (take n (y ∷ ys)) x ≡ false
     go true p k r = let l : 0 ≡ n = cc in subst (λ j. is_name_among (take j (y ∷ ys)) x ≡ false) l refl
     go false p k r = go2 p (place_of ys x) refl k r
-
-pub new_name : (cs : List ClassFacts) (n : ℕ) → IsTrue (differ_by_name cs) → n < length (names_of cs) → is_name_among (take n (names_of cs)) (get_or (names_of cs) n []) ≡ false
-new_name cs n d l = before_place (names_of cs) (get_or (names_of cs) n []) n (place-back (names_of cs) n (names_of-rise cs d) l)

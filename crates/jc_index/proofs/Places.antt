@@ -5,10 +5,10 @@ use Rattle.std.specs.List.{Contains, All}
 use Rattle.std.specs.List.Sorted.{IsPermutation, IsSortedBy}
 use Rattle.std.specs.Ordering.{is_lt}
 use Rattle.std.proofs.lemmas.Bool.Decides.{nat_tests}
-use Rattle.std.proofs.lemmas.List.{length-map, map_push, map_more}
+use Rattle.std.proofs.lemmas.List.{length-map, map_push, map_more, get_or-map}
 use Rattle.std.proofs.lemmas.Option.{slice_get_read}
 use Rattle.std.proofs.lemmas.List.Elements.{All-push, All-map, All-weaker, recursion_from_All}
-use Rattle.std.proofs.lemmas.List.Sorted.{All-permutation, Contains-permutation, IsPermutation-map, IsPermutation-sym}
+use Rattle.std.proofs.lemmas.List.Sorted.{All-permutation, Contains-permutation, IsPermutation-map, IsPermutation-sym, IsPermutation-refl, IsPermutation-trans, IsPermutation-cons, IsPermutation-middle}
 use Rattle.jc_facts.specs.declared.class_facts.ClassFacts.{ClassFacts}
 use Rattle.jc_facts.specs.Names.{Bytes, same}
 use Rattle.jc_facts.specs.Exactly.{name_order, Rises}
@@ -19,7 +19,7 @@ use Rattle.jc_lemmas.proofs.Listed.{EachOf, here, there, none, cases}
 use Rattle.jc_facts.proofs.OneList.{same_list}
 use Rattle.jc_facts.proofs.Apart.{Apart, ApartRec, rec-Apart, Apart-permutation, NamesRise-sorted}
 use Rattle.jc_facts.proofs.Same.{same_is, same_itself}
-use Rattle.jc_index.specs.Ids.{names_of}
+use Rattle.jc_index.specs.Ids.{insert, names_of}
 use Rattle.jc_index.specs.steps.Order.{name_or, name_in, names_at, IsPlace, IsOrder}
 use Rattle.jc_index.proofs.Numbers.{is_none-None, and_true, named-in, in-named, names_of-rise}
 
@@ -28,7 +28,7 @@ order_length cs order o = sym (length-map order (name_in cs)) ∙ ap length o.na
 
 -- ---- the names as they stand
 
-absent : (cs : List ClassFacts) (x : Bytes) → class_named cs x ≡ None → EachOf (λ y. x ≢ y) (names_at cs)
+pub absent : (cs : List ClassFacts) (x : Bytes) → class_named cs x ≡ None → EachOf (λ y. x ≢ y) (names_at cs)
 unfolding class_named
 absent [] x e = tt
 absent (c ∷ cs) x e = go (same c.name x) refl e (absent cs x)
@@ -44,7 +44,7 @@ apart (c ∷ cs) h =
     let k = and_true (is_none (class_named cs c.name)) (differ_by_name cs) h in
     (absent cs c.name (is_none-None (class_named cs c.name) k.0), apart cs k.1)
 
-stands : (cs : List ClassFacts) (x : Bytes) → is_some (class_named cs x) ≡ true → Contains (names_at cs) x
+pub stands : (cs : List ClassFacts) (x : Bytes) → is_some (class_named cs x) ≡ true → Contains (names_at cs) x
 unfolding class_named
 stands [] x h = absurd (cc)
 stands (c ∷ cs) x h = go (same c.name x) refl h (stands cs x)
@@ -53,7 +53,7 @@ stands (c ∷ cs) x h = go (same c.name x) refl h (stands cs x)
     go true p q r = subst (λ (z : Bytes). Contains (c.name ∷ names_at cs) z) (same_is c.name x p) (here c.name (names_at cs))
     go false p q r = there x c.name (names_at cs) (r q)
 
-has : (cs : List ClassFacts) (x : Bytes) → Contains (names_at cs) x → is_some (class_named cs x) ≡ true
+pub has : (cs : List ClassFacts) (x : Bytes) → Contains (names_at cs) x → is_some (class_named cs x) ≡ true
 unfolding class_named
 has [] x k = absurd (none x k)
 has (c ∷ cs) x k = go (cases c.name (names_at cs) x k) (has cs x)
@@ -97,8 +97,34 @@ named : (cs : List ClassFacts) (ps : List (Bytes × ℕ)) → EachOf (IsPlace cs
 named cs [] h = refl
 named cs (p ∷ ps) h = ap (λ (x : Bytes). x ∷ map (name_in cs) (map (λ p. p.1) ps)) h.0.1 ∙ ap (λ (xs : List Bytes). p.0 ∷ xs) (named cs ps h.1)
 
+-- the names in byte order are those that stand
+insert-permutation : (x : Bytes) (ys : List Bytes) → IsPermutation (x ∷ ys) (insert x ys)
+unfolding insert
+insert-permutation x [] = IsPermutation-refl (x ∷ [])
+insert-permutation x (y ∷ ys) = go (is_lt (name_order x y)) (insert-permutation x ys)
+  where
+    go : (b : Bool) → IsPermutation (x ∷ ys) (insert x ys) → IsPermutation (x ∷ y ∷ ys) (cond b (x ∷ y ∷ ys) (y ∷ insert x ys))
+    go true r = IsPermutation-refl (x ∷ y ∷ ys)
+    go false r =
+        IsPermutation-trans (x ∷ y ∷ ys) (y ∷ x ∷ ys) (y ∷ insert x ys)
+        (IsPermutation-sym (y ∷ x ∷ ys) (x ∷ y ∷ ys) (IsPermutation-middle (y ∷ []) x ys))
+        (IsPermutation-cons y (x ∷ ys) (insert x ys) r)
+
+pub names-permutation : (cs : List ClassFacts) → IsPermutation (names_at cs) (names_of cs)
+unfolding names_of
+names-permutation [] = IsPermutation-refl []
+names-permutation (c ∷ cs) =
+    IsPermutation-trans (c.name ∷ names_at cs) (c.name ∷ names_of cs) (insert c.name (names_of cs))
+    (IsPermutation-cons c.name (names_at cs) (names_of cs) (names-permutation cs)) (insert-permutation c.name (names_of cs))
+
+-- no two places have one name
+places-apart : (ps : List (Bytes × ℕ)) → Apart (λ (z : Bytes). z) (map (λ p. p.0) ps) → Apart (λ (p : Bytes × ℕ). p.0) ps
+places-apart ps a i j d n hi hj e =
+    let long = length-map ps (λ (p : Bytes × ℕ). p.0) in
+    a i j [] n (omega arith) (omega arith) (get_or-map (λ (p : Bytes × ℕ). p.0) ps i d [] hi ∙ e ∙ sym (get_or-map (λ (p : Bytes × ℕ). p.0) ps j d [] hj))
+
 -- the places of all classes, sorted by their names
-pub sorted_order : (cs : List ClassFacts) (ps qs : List (Bytes × ℕ)) → IsTrue (differ_by_name cs) → map (λ p. p.0) ps ≡ names_at cs → All (IsPlace cs) ps
+pub sorted_order : (cs : List ClassFacts) (ps qs : List (Bytes × ℕ)) → IsTrue (differ_by_name cs) → IsPermutation (names_at cs) (map (λ p. p.0) ps) → All (IsPlace cs) ps
     → IsPermutation ps qs → IsSortedBy (λ x y. is_lt (name_order x.0 y.0)) qs → IsOrder cs (map (λ p. p.1) qs)
 sorted_order cs ps qs d e all p s = record {
   within = All-map (λ at. at < length cs) (λ (p : Bytes × ℕ). p.1) qs (All-weaker (IsPlace cs) (λ p. p.1 < length cs) (λ p h. h.0) qs places);
@@ -109,18 +135,10 @@ sorted_order cs ps qs d e all p s = record {
     places = All-permutation (IsPlace cs) ps qs p all
 
     moved : IsPermutation (names_at cs) (map (λ p. p.0) qs)
-    moved = subst (λ (xs : List Bytes). IsPermutation xs (map (λ p. p.0) qs)) e (IsPermutation-map (λ (p : Bytes × ℕ). p.0) ps qs p)
-
-    by_first : (xs : List (Bytes × ℕ)) → ApartRec (λ (z : Bytes). z) (map (λ p. p.0) xs) → ApartRec (λ (p : Bytes × ℕ). p.0) xs
-    by_first [] h = tt
-    by_first (x ∷ xs) h = (each xs h.0, by_first xs h.1)
-      where
-        each : (ys : List (Bytes × ℕ)) → EachOf (λ y. x.0 ≢ y) (map (λ p. p.0) ys) → EachOf (λ y. x.0 ≢ y.0) ys
-        each [] k = tt
-        each (y ∷ ys) k = (k.0, each ys k.1)
+    moved = IsPermutation-trans (names_at cs) (map (λ p. p.0) ps) (map (λ p. p.0) qs) e (IsPermutation-map (λ (p : Bytes × ℕ). p.0) ps qs p)
 
     far : Apart (λ (p : Bytes × ℕ). p.0) qs
-    far = Apart-permutation (λ (p : Bytes × ℕ). p.0) ps qs p (rec-Apart (λ (p : Bytes × ℕ). p.0) ps (by_first ps (subst (λ (xs : List Bytes). ApartRec (λ (z : Bytes). z) xs) (sym e) (apart cs d))))
+    far = places-apart qs (Apart-permutation (λ (z : Bytes). z) (names_at cs) (map (λ p. p.0) qs) moved (rec-Apart (λ (z : Bytes). z) (names_at cs) (apart cs d)))
 
 -- ---- the class of a place
 

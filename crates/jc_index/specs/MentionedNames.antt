@@ -12,4 +12,4 @@ pub record AreMentionedNames (cs : List ClassFacts) (t : MentionedNames) : Type 
   pub packages : (x : Bytes) → is_name_among t.packages x ≡ list_any (λ c. same (package_name c.name) x) cs
   pub supers : (x : Bytes) → is_name_among t.supers x ≡ list_any (λ c. is_name_among (supers c) x) cs
   pub count : t.count ≡ length (all_mentions cs)
-  pub small : t.count < 2 ^ 63
+  pub small : t.count < 2 ^ 62

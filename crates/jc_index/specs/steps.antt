@@ -9,3 +9,5 @@ pub mod Passing
 pub mod Parts
 pub mod HashedKeys
 pub mod Adding
+pub mod ClassLists
+pub mod NamedClasses

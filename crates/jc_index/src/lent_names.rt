@@ -1,9 +1,9 @@
 //! Names of classes that are looked for by their hashes.
-ghost use Rattle.std.specs.Prelude.{◌≡◌, ◌∷◌, [], is_some, IfOk, OnOk};
+ghost use Rattle.std.specs.Prelude.{◌≡◌, ◌∷◌, [], IfOk, OnOk};
 ghost use Rattle.std.specs.List.{list_any};
 ghost use Rattle.jc_facts.specs.Names.{Bytes, is_name_among};
 ghost use Rattle.jc_facts.specs.world.Search.{supers_of};
-ghost use Rattle.jc_facts.specs.world.World.{class_named, classes};
+ghost use Rattle.jc_facts.specs.world.World.{classes};
 ghost use Rattle.jc_index.specs.steps.Adding.{Adds};
 
 use crate::side::Side;
@@ -37,14 +37,6 @@ impl<'a> LentNames<'a> {
         }
     }
 
-    // No names, with room for so many.
-    fn with_capacity(alloc: Global, count: usize) -> Result<LentNames<'a>, AllocError>
-        ensures { IfOk result (λ names. names ≡ []) }
-    {
-        let set = IndexSet::with_capacity(alloc, count)?;
-        Ok(LentNames { set })
-    }
-
     // Adds the name, where it isn't one of them.
     fn put(&mut self, name: &'a [u8]) -> Result<(), AllocError>
         ensures { OnOk result (Adds self.old self.new (name.now ∷ [])) }
@@ -61,17 +53,6 @@ impl<'a> LentNames<'a> {
     {
         self.set.contains(name)
     }
-}
-
-/// The names of the classes.
-pub(crate) fn lent_names(alloc: Global, classes: &[ClassFacts]) -> Result<LentNames<'_>, AllocError>
-    ensures { IfOk result (λ names. (x : Bytes) → is_name_among names x ≡ is_some (class_named classes.now x)) }
-{
-    let mut names = LentNames::with_capacity(alloc, classes.len())?;
-    for class in classes {
-        names.put(class.name.as_bytes())?;
-    }
-    Ok(names)
 }
 
 // Adds the name that the class has as its superclass's, where it has one.

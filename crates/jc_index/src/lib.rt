@@ -4,6 +4,7 @@
 
 mod above;
 pub mod choose;
+pub mod class_list;
 pub mod faults;
 mod final_keys;
 mod hashed_keys;

@@ -1,9 +1,8 @@
-//! The names that the classes of a side mention.
+//! The names that classes mention.
 ghost use Rattle.std.specs.Prelude.{◌≡◌, ◌+◌, ◌<◌, ◌^◌, nat_eq, length, IfOk, IfSome, OnOk};
 ghost use Rattle.std.specs.List.{list_any, starts_with};
 ghost use Rattle.jc_facts.specs.Names.{Bytes, same, is_name_among, package_name};
 ghost use Rattle.jc_facts.specs.world.Search.{supers};
-ghost use Rattle.jc_facts.specs.world.World.{classes};
 ghost use Rattle.jc_facts.specs.world.Mentioned.{permitted, mentions, all_mentions};
 ghost use Rattle.jc_index.specs.Mentioned.{mentions_front};
 ghost use Rattle.jc_index.specs.steps.Adding.{Adds};
@@ -67,23 +66,23 @@ fn put_supers(alloc: Global, set: &mut NumberedNames, class: &ClassFacts) -> Res
 }
 
 // The packages of the classes.
-fn packages(alloc: Global, side: &Side) -> Result<NumberedNames, AllocError>
-    ensures { IfOk result (λ set. (x : Bytes) → is_name_among set x ≡ list_any (λ c. same (package_name c.name) x) (classes side.now)) }
+fn packages(alloc: Global, classes: &[ClassFacts]) -> Result<NumberedNames, AllocError>
+    ensures { IfOk result (λ set. (x : Bytes) → is_name_among set x ≡ list_any (λ c. same (package_name c.name) x) classes.now) }
 {
     let mut set = NumberedNames::new(alloc);
-    for place in 0..side.count() {
-        set.put(alloc, package_of(side.at(place).name.as_bytes()))?;
+    for class in classes {
+        set.put(alloc, package_of(class.name.as_bytes()))?;
     }
     Ok(set)
 }
 
 // The names that the classes name above themselves.
-fn all_supers(alloc: Global, side: &Side) -> Result<NumberedNames, AllocError>
-    ensures { IfOk result (λ set. (x : Bytes) → is_name_among set x ≡ list_any (λ c. is_name_among (supers c) x) (classes side.now)) }
+fn all_supers(alloc: Global, classes: &[ClassFacts]) -> Result<NumberedNames, AllocError>
+    ensures { IfOk result (λ set. (x : Bytes) → is_name_among set x ≡ list_any (λ c. is_name_among (supers c) x) classes.now) }
 {
     let mut set = NumberedNames::new(alloc);
-    for place in 0..side.count() {
-        put_supers(alloc, &mut set, side.at(place))?;
+    for class in classes {
+        put_supers(alloc, &mut set, class)?;
     }
     Ok(set)
 }
@@ -98,15 +97,15 @@ fn permit_count(class: &ClassFacts) -> usize
     }
 }
 
-// So many names, and those that the class mentions; none where that are 2^63 or more.
+// So many names, and those that the class mentions; none where that are 2^62 or more.
 fn counted(count: usize, class: &ClassFacts) -> Option<usize>
     ensures value { IfSome result (λ n. n ≡ count + length (mentions class.now)) }
-    ensures small { IfSome result (λ n. n < 2 ^ 63) }
+    ensures small { IfSome result (λ n. n < 2 ^ 62) }
 {
     let with_own = count.checked_add(1)?;
     let with_supers = with_own.checked_add(super_count(class))?;
     let with_all = with_supers.checked_add(permit_count(class))?;
-    if with_all < 1 << 63 {
+    if with_all < 1 << 62 {
         Some(with_all)
     } else {
         None
@@ -114,13 +113,13 @@ fn counted(count: usize, class: &ClassFacts) -> Option<usize>
 }
 
 // How many names the classes mention.
-fn mention_count(side: &Side) -> Result<usize, AllocError>
-    ensures value { IfOk result (λ n. n ≡ length (all_mentions (classes side.now))) }
-    ensures small { IfOk result (λ n. n < 2 ^ 63) }
+fn mention_count(classes: &[ClassFacts]) -> Result<usize, AllocError>
+    ensures value { IfOk result (λ n. n ≡ length (all_mentions classes.now)) }
+    ensures small { IfOk result (λ n. n < 2 ^ 62) }
 {
     let mut count = 0;
-    for place in 0..side.count() {
-        count = match counted(count, side.at(place)) {
+    for class in classes {
+        count = match counted(count, class) {
             Some(more) => more,
             None => return Err(AllocError),
         };
@@ -129,17 +128,17 @@ fn mention_count(side: &Side) -> Result<usize, AllocError>
 }
 
 impl MentionedNames {
-    /// Those of the classes of a side.
+    /// Those of these classes.
     ///
     /// # Errors
     ///
-    /// `AllocError` where memory runs out, also for 2^63 names or more, which no memory holds.
-    pub fn new(alloc: Global, side: &Side) -> Result<MentionedNames, AllocError>
-        ensures { IfOk result (λ names. AreMentionedNames (classes side.now) names) }
+    /// `AllocError` where memory runs out, also for 2^62 names or more, which no memory holds.
+    pub fn new(alloc: Global, classes: &[ClassFacts]) -> Result<MentionedNames, AllocError>
+        ensures { IfOk result (λ names. AreMentionedNames classes.now names) }
     {
-        let packages = packages(alloc, side)?;
-        let supers = all_supers(alloc, side)?;
-        let count = mention_count(side)?;
+        let packages = packages(alloc, classes)?;
+        let supers = all_supers(alloc, classes)?;
+        let count = mention_count(classes)?;
         Ok(MentionedNames {
             packages,
             supers,

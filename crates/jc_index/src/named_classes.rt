@@ -9,8 +9,7 @@ ghost use Rattle.jc_index.specs.Ids.{names, names_of, name_at, id_of, superclass
 ghost use Rattle.jc_index.specs.Sides.{IsSide};
 
 use crate::ids::ClassId;
-use crate::names::{NumberedNames, numbered};
-use crate::order::ordered;
+use crate::order::{merged, numbers};
 use crate::side::Side;
 use jc_facts::class_facts::ClassFacts;
 use std::alloc::{AllocError, Global};
@@ -22,8 +21,8 @@ pub(crate) struct NamedClasses {
     side: Side,
     // Places of its classes, in byte order of names.
     order: Vec<usize>,
-    // The names in this order, numbered.
-    names: NumberedNames,
+    // For each place the number of the class there.
+    numbers: Vec<u32>,
 }
 
 // One call at each exit of a function that owns it, where a derived drop is written out.
@@ -32,7 +31,7 @@ impl Drop for NamedClasses {
         let NamedClasses {
             side: _,
             order: _,
-            names: _,
+            numbers: _,
         } = self;
     }
 }
@@ -42,7 +41,7 @@ impl Model for NamedClasses {
 
     ghost Value = { World };
 
-    ghost use Rattle.jc_index.specs.steps.Order.{AreNamedClasses};
+    ghost use Rattle.jc_index.specs.steps.NamedClasses.{AreNamedClasses};
 
     ghost view = { λ i. i.side };
 
@@ -60,9 +59,13 @@ impl NamedClasses {
         ensures { IfOk result (λ classes. classes ≡ side) }
     {
         let _few = side.count();
-        let order = ordered(alloc, &side)?;
-        let names = numbered(alloc, &side, order.as_slice())?;
-        Ok(NamedClasses { side, order, names })
+        let order = merged(alloc, &side)?;
+        let numbers = numbers(alloc, &side, order.as_slice())?;
+        Ok(NamedClasses {
+            side,
+            order,
+            numbers,
+        })
     }
 
     /// The side.
@@ -85,8 +88,8 @@ impl NamedClasses {
         ensures value { result ≡ id_of self.now name.now }
         ensures of_table { IfSome result (λ id. id < size self.now) }
     {
-        match self.names.number(name) {
-            Some(place) => Some(ClassId::new(place as u32)),
+        match self.side.place(name) {
+            Some(place) => Some(ClassId::new(self.numbers[place])),
             None => None,
         }
     }

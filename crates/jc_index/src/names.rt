@@ -2,14 +2,12 @@
 ghost use Rattle.std.specs.Prelude.{◌≡◌, ◌++◌, ◌∷◌, [], false, IfOk, OnOk, IsTrue};
 ghost use Rattle.jc_facts.specs.Names.{is_name_among};
 ghost use Rattle.jc_facts.specs.client.Clients.{differ_by_name};
-ghost use Rattle.jc_facts.specs.world.World.{classes};
-ghost use Rattle.jc_index.specs.Ids.{names_of, place_of};
+ghost use Rattle.jc_index.specs.Ids.{place_of};
 ghost use Rattle.jc_index.specs.steps.Adding.{Adds};
-ghost use Rattle.jc_index.specs.steps.Order.{IsOrder};
+ghost use Rattle.jc_index.specs.steps.Order.{names_at};
 
-use crate::order::name_there;
-use crate::side::Side;
 use indexmap::IndexSet;
+use jc_facts::class_facts::ClassFacts;
 use std::alloc::{AllocError, Global};
 use std::marker::Model;
 
@@ -85,15 +83,14 @@ impl NumberedNames {
     }
 }
 
-/// The names of the classes, numbered in byte order.
-pub fn numbered(alloc: Global, side: &Side, order: &[usize]) -> Result<NumberedNames, AllocError>
-    requires differ { IsTrue (differ_by_name (classes side.now)) }
-    requires order { IsOrder (classes side.now) order.now }
-    ensures { IfOk result (λ names. names ≡ names_of (classes side.now)) }
+/// The names of the classes, numbered as they stand.
+pub(crate) fn numbered(alloc: Global, classes: &[ClassFacts]) -> Result<NumberedNames, AllocError>
+    requires { IsTrue (differ_by_name classes.now) }
+    ensures { IfOk result (λ names. names ≡ names_at classes.now) }
 {
-    let mut names = NumberedNames::with_capacity(alloc, order.len())?;
-    for at in 0..order.len() {
-        names.push(alloc, name_there(side, order, at))?;
+    let mut names = NumberedNames::with_capacity(alloc, classes.len())?;
+    for class in classes {
+        names.push(alloc, class.name.as_bytes())?;
     }
     Ok(names)
 }

@@ -1,15 +1,17 @@
 //! Where classes stand in byte order of their names.
-ghost use Rattle.std.specs.Prelude.{◌≡◌, ◌<◌, IfOk, OnOk, IsTrue, length, map, [], slice_index_or};
+ghost use Rattle.std.specs.Prelude.{◌≡◌, ◌<◌, ◌≤◌, ◌+◌, ◌++◌, ℕ, List, IfOk, OnOk, IsTrue, length, map, slice_index_or};
 ghost use Rattle.std.specs.List.{All};
 ghost use Rattle.std.specs.List.Sorted.{IsPermutation, IsSortedBy};
 ghost use Rattle.std.specs.Ordering.{is_lt};
+ghost use Rattle.jc_facts.specs.declared.class_facts.ClassFacts.{ClassFacts as FactsOf};
 ghost use Rattle.jc_facts.specs.client.Clients.{differ_by_name};
 ghost use Rattle.jc_facts.specs.world.World.{classes};
 ghost use Rattle.jc_facts.specs.Exactly.{name_order};
-ghost use Rattle.jc_index.specs.Ids.{names_of};
-ghost use Rattle.jc_index.specs.steps.Order.{IsOrder, IsPlace, names_at};
+ghost use Rattle.jc_index.specs.Sides.{IsSide};
+ghost use Rattle.jc_index.specs.steps.Order.{IsOrder, IsPlace, AreNumbers, names_at, place_after};
 
 use crate::side::Side;
+use jc_facts::class_facts::ClassFacts;
 use std::alloc::{AllocError, Global};
 use std::cmp::Ordering;
 use std::marker::Model;
@@ -30,15 +32,16 @@ impl<'a> Model for Place<'a> {
 }
 
 // The places of the classes, as they stand.
-fn places(alloc: Global, side: &Side) -> Result<Vec<Place<'_>>, AllocError>
-    ensures names { IfOk result (λ places. map (λ p. p.0) places.items ≡ names_at (classes side.now)) }
-    ensures at { IfOk result (λ places. All (IsPlace (classes side.now)) places.items) }
+fn places(alloc: Global, classes: &[ClassFacts]) -> Result<Vec<Place<'_>>, AllocError>
+    ensures names { IfOk result (λ places. map (λ p. p.0) places.items ≡ names_at classes.now) }
+    ensures at { IfOk result (λ places. All (IsPlace classes.now) places.items) }
 {
-    let mut places = Vec::with_capacity(alloc, side.count())?;
-    for place in 0..side.count() {
+    let mut places = Vec::with_capacity(alloc, classes.len())?;
+    for at in 0..classes.len() {
+        let class = &classes[at];
         places.push(Place {
-            name: side.at(place).name.as_bytes(),
-            at: place,
+            name: class.name.as_bytes(),
+            at,
         })?;
     }
     Ok(places)
@@ -53,12 +56,10 @@ fn sort_by_name(places: &mut Vec<Place<'_>>) -> Result<(), AllocError>
     Ok(())
 }
 
-/// The places of the classes, in byte order of their names.
-pub fn ordered(alloc: Global, side: &Side) -> Result<Vec<usize>, AllocError>
-    requires { IsTrue (differ_by_name (classes side.now)) }
-    ensures { IfOk result (λ order. IsOrder (classes side.now) order.items) }
+// The places, sorted by the names.
+fn sorted(alloc: Global, mut places: Vec<Place<'_>>) -> Result<Vec<usize>, AllocError>
+    ensures { IfOk result (λ order. (cs : List FactsOf) → IsTrue (differ_by_name cs) → IsPermutation (names_at cs) (map (λ p. p.0) places.entry.items) → All (IsPlace cs) places.entry.items → IsOrder cs order.items) }
 {
-    let mut places = places(alloc, side)?;
     sort_by_name(&mut places)?;
     let mut order = Vec::with_capacity(alloc, places.len())?;
     for place in places.as_slice() {
@@ -67,11 +68,83 @@ pub fn ordered(alloc: Global, side: &Side) -> Result<Vec<usize>, AllocError>
     Ok(order)
 }
 
-/// The name that stands there in byte order.
-pub fn name_there<'a>(side: &'a Side, order: &[usize], at: usize) -> &'a [u8]
-    requires order { IsOrder (classes side.now) order.now }
-    requires within { at < length order.now }
-    ensures { result.now ≡ slice_index_or (names_of (classes side.now)) at [] }
+/// The places of the classes, in byte order of their names.
+pub(crate) fn ordered(alloc: Global, classes: &[ClassFacts]) -> Result<Vec<usize>, AllocError>
+    requires { IsTrue (differ_by_name classes.now) }
+    ensures { IfOk result (λ order. IsOrder classes.now order.items) }
 {
-    side.at(order[at]).name.as_bytes()
+    let places = places(alloc, classes)?;
+    let order = sorted(alloc, places)?;
+    Ok(order)
+}
+
+// Adds the places on a side of the classes of this order, before which so many stand.
+fn add_ordered<'a>(
+    places: &mut Vec<Place<'a>>,
+    side: &'a Side,
+    order: &[usize],
+    before: usize,
+) -> Result<(), AllocError>
+    requires { All (λ at. before + at < length (classes side.now)) order.now }
+    ensures { OnOk result (places.new.items ≡ places.old.items ++ map (place_after (classes side.now) before) order.now) }
+{
+    let _few = side.count();
+    for n in 0..order.len() {
+        let place = before + order[n];
+        let class = side.at(place);
+        places.push(Place {
+            name: class.name.as_bytes(),
+            at: place,
+        })?;
+    }
+    Ok(())
+}
+
+/// The places of the classes of a side, in byte order of their names. Those of the platform and those
+/// of the release stand in this order already, so that the sort merges the two.
+pub(crate) fn merged(alloc: Global, side: &Side) -> Result<Vec<usize>, AllocError>
+    requires { IsSide side.now }
+    ensures { IfOk result (λ order. IsOrder (classes side.now) order.items) }
+{
+    let platform = side.platform();
+    let release = side.release();
+    let mut places = Vec::with_capacity(alloc, side.count())?;
+    add_ordered(&mut places, side, platform.order(), 0)?;
+    add_ordered(&mut places, side, release.order(), platform.classes().len())?;
+    let order = sorted(alloc, places)?;
+    Ok(order)
+}
+
+// So many zeros.
+fn zeros(alloc: Global, count: usize) -> Result<Vec<u32>, AllocError>
+    ensures { IfOk result (λ zeros. length zeros.items ≡ count) }
+{
+    let zeros = vec![in alloc; 0u32; count]?;
+    Ok(zeros)
+}
+
+// Notes at each place of the order its number.
+fn note_numbers(numbers: &mut [u32], order: &[usize])
+    requires within { All (λ at. at < length numbers.old) order.now }
+    requires few { length order.now ≤ 120000 }
+    requires apart { (i j : ℕ) → i < j → j < length order.now → slice_index_or order.now i 0 ≡ slice_index_or order.now j 0 → i ≡ j }
+    ensures count { length numbers.new ≡ length numbers.old }
+    ensures each { (n : ℕ) → n < length order.now → slice_index_or numbers.new (slice_index_or order.now n 0) 0 ≡ n }
+{
+    for n in 0..order.len() {
+        let at = order[n];
+        numbers[at] = n as u32;
+    }
+}
+
+/// For each place the number of the class there: so many classes have names that are less.
+pub(crate) fn numbers(alloc: Global, side: &Side, order: &[usize]) -> Result<Vec<u32>, AllocError>
+    requires differ { IsTrue (differ_by_name (classes side.now)) }
+    requires order { IsOrder (classes side.now) order.now }
+    ensures { IfOk result (λ numbers. AreNumbers (classes side.now) numbers.items) }
+{
+    let _few = side.count();
+    let mut numbers = zeros(alloc, order.len())?;
+    note_numbers(&mut numbers, order);
+    Ok(numbers)
 }

@@ -1,12 +1,12 @@
 //! Names that a platform and a release both declare.
-ghost use Rattle.std.specs.Prelude.{◌≡◌, cond, Some, IfOk, IsTrue};
+ghost use Rattle.std.specs.Prelude.{◌≡◌, cond, Some, is_some, IfOk, IsTrue};
 ghost use Rattle.std.specs.Option.{option_copied};
-ghost use Rattle.jc_facts.specs.Names.{is_name_among};
 ghost use Rattle.jc_facts.specs.client.Clients.{differ_by_name};
 ghost use Rattle.jc_facts.specs.rule.OpenActs.{least, lower};
+ghost use Rattle.jc_facts.specs.world.World.{class_named};
 ghost use Rattle.jc_index.specs.Sides.{overlap_of};
 
-use crate::lent_names::{LentNames, lent_names};
+use crate::class_list::ClassList;
 use jc_base::name::Name;
 use jc_facts::class_facts::ClassFacts;
 use std::alloc::{AllocError, Global};
@@ -21,29 +21,30 @@ fn lower<'a>(name: &'a Name, other: Option<&'a Name>) -> &'a Name
     }
 }
 
-// The lower one of the name and the other, where the name is known, and else the other.
+// The lower one of the name and the other, where the platform has a class of the name, and else the
+// other.
 fn lower_known<'a>(
-    known: &LentNames<'_>,
+    platform: &ClassList,
     name: &'a Name,
     other: Option<&'a Name>,
 ) -> Option<&'a Name>
-    ensures { option_copied result ≡ cond (is_name_among known.now name.now) (Some (lower name.now (option_copied other.entry))) (option_copied other.entry) }
+    ensures { option_copied result ≡ cond (is_some (class_named platform.now name.now)) (Some (lower name.now (option_copied other.entry))) (option_copied other.entry) }
 {
-    if known.has(name.as_bytes()) {
+    if platform.has(name.as_bytes()) {
         Some(lower(name, other))
     } else {
         other
     }
 }
 
-// The least known name of the release.
-fn least_known<'a>(known: &LentNames<'_>, release: &'a [ClassFacts]) -> Option<&'a Name>
-    ensures { option_copied result ≡ least (is_name_among known.now) release.now }
+// The least name of the release that the platform has a class of.
+fn least_known<'a>(platform: &ClassList, release: &'a [ClassFacts]) -> Option<&'a Name>
+    ensures { option_copied result ≡ overlap_of platform.now release.now }
 {
     let mut least = None;
     for done in 0..release.len() {
         let class = &release[release.len() - 1 - done];
-        least = lower_known(known, &class.name, least);
+        least = lower_known(platform, &class.name, least);
     }
     least
 }
@@ -52,15 +53,14 @@ fn least_known<'a>(known: &LentNames<'_>, release: &'a [ClassFacts]) -> Option<&
 /// is none.
 pub fn first_overlap(
     alloc: Global,
-    platform: &[ClassFacts],
+    platform: &ClassList,
     release: &[ClassFacts],
 ) -> Result<Option<Name>, AllocError>
     requires platform_differs { IsTrue (differ_by_name platform.now) }
     requires release_differs { IsTrue (differ_by_name release.now) }
     ensures { IfOk result (λ overlap. overlap ≡ overlap_of platform.now release.now) }
 {
-    let known = lent_names(alloc, platform)?;
-    match least_known(&known, release) {
+    match least_known(platform, release) {
         Some(name) => Ok(Some(name.copy(alloc)?)),
         None => Ok(None),
     }

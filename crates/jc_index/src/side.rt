@@ -1,7 +1,13 @@
 //! The classes of a platform with those of one release of a library.
-ghost use Rattle.std.specs.Prelude.{◌≡◌, ◌≤◌, ◌<◌, ◌+◌, Some, length, nat_lt, slice_get};
+ghost use Rattle.std.specs.Prelude.{◌≡◌, ◌≤◌, ◌<◌, ◌+◌, ◌^◌, Some, length, nat_lt, slice_get};
+ghost use Rattle.jc_facts.specs.client.Clients.{is_named_above};
+ghost use Rattle.jc_facts.specs.world.Mentioned.{all_mentions};
 ghost use Rattle.jc_facts.specs.world.World.{side, classes};
+ghost use Rattle.jc_index.specs.Ids.{place_of};
+ghost use Rattle.jc_index.specs.Mentioned.{is_package};
+ghost use Rattle.jc_index.specs.steps.Order.{names_at};
 
+use crate::class_list::ClassList;
 use crate::platform::Platform;
 use jc_facts::class_facts::ClassFacts;
 use std::marker::Model;
@@ -10,7 +16,7 @@ use std::marker::Model;
 /// most 120,000. A contract sees it as the side.
 pub struct Side {
     platform: Platform,
-    release: Vec<ClassFacts>,
+    release: ClassList,
 }
 
 // One call at each exit of a function that owns it, where a derived drop is written out.
@@ -29,16 +35,16 @@ impl Model for Side {
 
     ghost Value = { World };
 
-    ghost view = { λ s. side s.platform s.release.items };
+    ghost view = { λ s. side s.platform s.release };
 
-    ghost invariant = { λ s. length s.platform + length s.release.items ≤ 120000 };
+    ghost invariant = { λ s. length s.platform + length s.release ≤ 120000 };
 }
 
 impl Side {
     /// The side of this platform and this release.
-    pub fn new(platform: Platform, release: Vec<ClassFacts>) -> Side
-        requires { length platform + length release.items ≤ 120000 }
-        ensures { result ≡ side platform release.items }
+    pub fn new(platform: Platform, release: ClassList) -> Side
+        requires { length platform + length release ≤ 120000 }
+        ensures { result ≡ side platform release }
     {
         Side { platform, release }
     }
@@ -48,7 +54,7 @@ impl Side {
         ensures count { result ≡ length (classes self.now) }
         ensures few { result ≤ 120000 }
     {
-        self.platform.classes().len() + self.release.len()
+        self.platform.classes().len() + self.release.classes().len()
     }
 
     /// The class at this place.
@@ -60,7 +66,34 @@ impl Side {
         if place < platform.len() {
             &platform[place]
         } else {
-            &self.release[place - platform.len()]
+            &self.release.classes()[place - platform.len()]
+        }
+    }
+
+    // The classes of the platform.
+    pub(crate) fn platform(&self) -> &ClassList
+        ensures { result.now ≡ self.now.platform }
+    {
+        self.platform.list()
+    }
+
+    // The classes of the release.
+    pub(crate) fn release(&self) -> &ClassList
+        ensures { result.now ≡ self.now.release }
+    {
+        &self.release
+    }
+
+    // The place of the class of this name; none where there is none.
+    pub(crate) fn place(&self, name: &[u8]) -> Option<usize>
+        ensures { result ≡ place_of (names_at (classes self.now)) name.now }
+    {
+        match self.platform().place(name) {
+            Some(place) => Some(place),
+            None => match self.release.place(name) {
+                Some(place) => Some(self.platform.classes().len() + place),
+                None => None,
+            },
         }
     }
 
@@ -69,5 +102,28 @@ impl Side {
         ensures { result ≡ nat_lt place (length self.now.platform) }
     {
         place < self.platform.classes().len()
+    }
+
+    /// Whether a class is of this package: a name up to its last `/`, or nothing (JVMS 5.3).
+    pub fn has_package(&self, package: &[u8]) -> bool
+        ensures { result ≡ is_package self.now «package».now }
+    {
+        self.platform().has_package(package) || self.release.has_package(package)
+    }
+
+    /// Whether a class names this one as its superclass or as an interface (JVMS 4.1).
+    pub fn names_super(&self, name: &[u8]) -> bool
+        ensures { result ≡ is_named_above self.now name.now }
+    {
+        self.platform().names_super(name) || self.release.names_super(name)
+    }
+
+    /// How many names its classes have, name above themselves or permit to extend them, each counted
+    /// as often as a class does so; fewer than 2^63.
+    pub fn mention_count(&self) -> usize
+        ensures count { result ≡ length (all_mentions (classes self.now)) }
+        ensures small { result < 2 ^ 63 }
+    {
+        self.platform().mention_count() + self.release.mention_count()
     }
 }

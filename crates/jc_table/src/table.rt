@@ -24,11 +24,12 @@ use jc_base::name::Name;
 use jc_facts::class_facts::ClassFacts;
 use jc_facts::key::Key;
 use jc_facts::link_error::LinkError;
+use jc_index::class_list::ClassList;
 use jc_index::faults::{Loading, load_all};
 use jc_index::hierarchy::Hierarchy;
 use jc_index::ids::ClassId;
 use jc_index::index::Index;
-use jc_index::mentioned::{MentionedNames, begins};
+use jc_index::mentioned::begins;
 use jc_index::overlap::first_overlap;
 use jc_index::platform::Platform;
 use jc_index::root::{RootPart, root_fault};
@@ -58,7 +59,6 @@ pub enum TableError {
 pub struct Table {
     // The classes, and what stands above each.
     hierarchy: Hierarchy,
-    mentioned: MentionedNames,
     // For each class its load fault.
     faults: Vec<Option<LinkError>>,
     // For each class that has rows what the lookups from it find.
@@ -70,7 +70,6 @@ impl Drop for Table {
     fn drop(self) {
         let Table {
             hierarchy: _,
-            mentioned: _,
             faults: _,
             rows: _,
         } = self;
@@ -94,14 +93,12 @@ fn of_side(alloc: Global, side: Side) -> Result<Table, AllocError>
     requires { IsSide side }
     ensures { IfOk result (λ table. table ≡ side) }
 {
-    let mentioned = MentionedNames::new(alloc, &side)?;
     let index = Index::new(alloc, side)?;
     let Loading { faults, order } = load_all(alloc, &index)?;
     let hierarchy = Hierarchy::new(alloc, index)?;
     let rows = Rows::new(alloc, &hierarchy, order.as_slice())?;
     Ok(Table {
         hierarchy,
-        mentioned,
         faults,
         rows,
     })
@@ -153,12 +150,15 @@ impl Table {
         if let Some(part) = root_fault(platform.classes()) {
             return Err(TableError::BadRoot(part));
         }
-        match first_overlap(alloc, platform.classes(), release.as_slice()) {
+        match first_overlap(alloc, platform.list(), release.as_slice()) {
             Ok(None) => {}
             Ok(Some(name)) => return Err(TableError::Overlap(name)),
             Err(_) => return Err(TableError::Memory),
         }
         let Ok(platform) = platform.share() else {
+            return Err(TableError::Memory);
+        };
+        let Ok(release) = ClassList::new(alloc, release) else {
             return Err(TableError::Memory);
         };
         match of_side(alloc, Side::new(platform, release)) {
@@ -179,6 +179,13 @@ impl Table {
         ensures { result.now ≡ self.now }
     {
         &self.hierarchy
+    }
+
+    // Its classes by their places.
+    fn side(&self) -> &Side
+        ensures { result.now ≡ self.now }
+    {
+        self.hierarchy.index().side()
     }
 
     /// How many classes there are.
@@ -264,14 +271,14 @@ impl Table {
     pub fn has_package(&self, package: &[u8]) -> bool
         ensures { result ≡ is_package self.now «package».now }
     {
-        self.mentioned.packages.has(package)
+        self.side().has_package(package)
     }
 
     /// Whether a class names this one as its superclass or as an interface (JVMS 4.1).
     pub fn names_super(&self, name: &Name) -> bool
         ensures { result ≡ is_named_above self.now name.now }
     {
-        self.mentioned.supers.has(name.as_bytes())
+        self.side().names_super(name.as_bytes())
     }
 
     /// Whether a name that a class has, names above itself or permits to extend it begins with these
@@ -279,7 +286,7 @@ impl Table {
     pub fn begins(&self, front: &[u8]) -> bool
         ensures { result ≡ mentions_front self.now front.now }
     {
-        begins(self.hierarchy.index().side(), front)
+        begins(self.side(), front)
     }
 
     /// How many names its classes have, name above themselves or permit to extend them, each counted
@@ -288,7 +295,7 @@ impl Table {
         ensures count { result ≡ length (all_mentions (classes self.now)) }
         ensures small { result < 2 ^ 63 }
     {
-        self.mentioned.count
+        self.side().mention_count()
     }
 
     /// The load faults of all classes, in byte order of their names; none where a class loads

@@ -1,12 +1,9 @@
 -- Where the classes of a list stand, in byte order of their names.
-use Rattle.std.specs.Prelude.{ℕ, ◌<◌, ◌≤◌, ◌≡◌, List, [], map, length, Option, None, Some, slice_get}
+use Rattle.std.specs.Prelude.{ℕ, ◌<◌, ◌+◌, ◌≡◌, List, [], map, length, Option, None, Some, slice_get, slice_index_or}
 use Rattle.std.specs.List.{All}
 use Rattle.jc_facts.specs.declared.class_facts.ClassFacts.{ClassFacts}
 use Rattle.jc_facts.specs.Names.{Bytes}
-use Rattle.jc_facts.specs.world.World.{classes}
-use Rattle.jc_index.specs.Ids.{names_of}
-use Rattle.jc_index.specs.Sides.{IsSide}
-use Rattle.jc_index.specs.declared.named_classes.NamedClasses.TheInside.{Inside}
+use Rattle.jc_index.specs.Ids.{names_of, place_of}
 
 -- the name of the class, nothing where there is none
 abbrev pub name_or : Option ClassFacts → Bytes
@@ -30,9 +27,11 @@ pub record IsOrder (cs : List ClassFacts) (order : List ℕ) : Type 0 where
   pub within : All (λ at. at < length cs) order
   pub named : map (name_in cs) order ≡ names_of cs
 
--- kept are a side of few classes, their order, and their names in this order
-pub record AreNamedClasses (i : Inside) : Type 0 where
-  pub few : length (classes i.side) ≤ 120000
-  pub order : IsOrder (classes i.side) i.order.items
-  pub names : i.names ≡ names_of (classes i.side)
-  pub side : IsSide i.side
+-- the name and the place of the class that stands so far behind the first `before` classes
+abbrev pub place_after : List ClassFacts → ℕ → ℕ → Bytes × ℕ
+place_after cs before at = (name_in cs (before + at), before + at)
+
+-- for each place the number of the class there
+pub record AreNumbers (cs : List ClassFacts) (numbers : List ℕ) : Type 0 where
+  pub count : length numbers ≡ length cs
+  pub each : (at : ℕ) → at < length cs → place_of (names_of cs) (slice_index_or (names_at cs) at []) ≡ Some (slice_index_or numbers at 0)

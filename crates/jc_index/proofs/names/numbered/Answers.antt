@@ -1,13 +1,18 @@
-use Rattle.std.proofs.Common.{◌<◌, ◌≡◌, [], get_or, length, false, List, sym, subst, arith}
+use Rattle.std.proofs.Common.{◌≡◌, false, List, sym, subst}
 use Rattle.jc_facts.specs.Names.{Bytes, is_name_among}
-use Rattle.jc_facts.specs.world.World.{classes}
-use Rattle.jc_index.specs.Ids.{names_of}
-use Rattle.jc_index.proofs.Places.{order_length}
-use Rattle.jc_index.proofs.NumberedNames.{new_name}
+use Rattle.jc_index.proofs.Standing.{new_name, one_more_name, all_names}
 use Rattle.jc_index.proofs.names.numbered.Goals as goal
 
 pub push-requires : goal.push-requires
 push-requires c =
-    let l : c.loop-at.at < length (names_of (classes c.args.side.now)) = omega (arith, order_length (classes c.args.side.now) c.args.order.now c.requires.order, c.loop-at-test.true) in
-    subst (λ (x : Bytes). is_name_among c.loop-at.names x ≡ false) (sym c.name_there.ensures)
-    (subst (λ (ns : List Bytes). is_name_among ns (get_or (names_of (classes c.args.side.now)) c.loop-at.at []) ≡ false) (sym c.loop-at.invariant) (new_name (classes c.args.side.now) c.loop-at.at c.requires.differ l))
+    subst (λ (x : Bytes). is_name_among c.loop-class.names x ≡ false) (sym c.as_bytes.ensures)
+    (subst (λ (ns : List Bytes). is_name_among ns c.class-item.result.name ≡ false) (sym c.loop-class.invariant)
+    (new_name c.args.classes.now c.loop-class.class-index c.class-item.result c.requires c.loop-class-test.true c.class-item.is))
+
+pub loop-class-preserved : goal.loop-class-preserved
+loop-class-preserved c =
+    one_more_name c.args.classes.now c.loop-class.class-index c.class-item.result c.loop-class.names c.push.new.self c.as_bytes.result.now
+    c.loop-class-test.true c.class-item.is c.as_bytes.ensures c.loop-class.invariant c.in_ok-push.ensures
+
+pub returns : goal.returns
+returns c = all_names c.args.classes.now c.loop-class.class-index c.loop-class.names c.loop-class-test.false c.loop-class.invariant

@@ -8,6 +8,6 @@ use Rattle.jc_table.proofs.table.Table.over.Goals as goal
 
 pub of_side-requires : goal.of_side-requires
 of_side-requires c =
-    subst IsSide (sym (c.new.ensures ∙ ap (λ (cs : List ClassFacts). side cs c.args.release.items) c.in-Ok.ensures))
+    subst IsSide (sym (c.new-2.ensures ∙ ap (λ (cs : List ClassFacts). side cs c.in-Ok-new.release) c.in-Ok.ensures ∙ ap (λ (cs : List ClassFacts). side c.args.platform.now cs) c.in-Ok-new.ensures))
     (is_side c.args.platform.now c.args.release.items c.requires.valid_platform c.requires.valid_release c.requires.platform_differs c.requires.release_differs (c.in_default.ensures ∙ ap fault_of_root c.classes.ensures)
-    (sym c.in-Ok-None.field-0-is ∙ c.in-Ok-None.ensures ∙ ap (λ (cs : List ClassFacts). overlap_of cs c.as_slice.result.now) c.classes-2.ensures ∙ ap (λ (cs : List ClassFacts). overlap_of c.args.platform.now cs) c.as_slice.ensures.value))
+    (sym c.in-Ok-None.field-0-is ∙ c.in-Ok-None.ensures ∙ ap (λ (cs : List ClassFacts). overlap_of cs c.as_slice.result.now) c.list.ensures ∙ ap (λ (cs : List ClassFacts). overlap_of c.args.platform.now cs) c.as_slice.ensures.value))
