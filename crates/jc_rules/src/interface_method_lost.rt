@@ -95,9 +95,10 @@ fn loses_method(sides: &Sides<'_>, class: &Shared<'_>, key: &Key, numbers: &KeyN
     requires numbers { AreNumbers sides.now key.now numbers.now }
     ensures { result ≡ has_lost_method sides.now (name_of «class».now) key.now }
 {
-    !is_initializer(key.name.as_bytes())
-        && is_lost(sides, class, key, numbers)
-        && !is_of_object(sides.old, key)
+    if is_initializer(key.name.as_bytes()) {
+        return false;
+    }
+    is_lost(sides, class, key, numbers) && !is_of_object(sides.old, key)
 }
 
 /// Methods that interfaces inherited and don't any more (JVMS 5.4.3.4). A public instance method of
