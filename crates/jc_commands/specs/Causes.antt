@@ -1,5 +1,5 @@
 -- Why a command has no report.
-use Rattle.std.specs.Prelude.{◌≡◌, ◌⊎◌, ℕ, List, [], ◌∷◌, Ok, Err, IsOkAnd}
+use Rattle.std.specs.Prelude.{◌≡◌, ◌⊎◌, ℕ, List, [], ◌∷◌, Err, IsOkAnd}
 use Rattle.jc_base.specs.Causes.{Rose}
 use Rattle.jc_base.specs.Outside.{FileOf}
 use Rattle.jc_base.specs.States.{TreesState, Change}
