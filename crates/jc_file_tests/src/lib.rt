@@ -6,8 +6,6 @@ mod classes;
 #[cfg(test)]
 mod clients;
 #[cfg(test)]
-mod code;
-#[cfg(test)]
 mod contents;
 #[cfg(test)]
 mod cut_files;
