@@ -32,3 +32,4 @@ pub mod NumberedNames
 pub mod Standing
 pub mod Merged
 pub mod HashedKeys
+pub mod Loads

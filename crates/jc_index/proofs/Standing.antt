@@ -197,9 +197,9 @@ noted order numbers now n at number a l e f b q h k s = go (cases_eq k n)
         ap (λ (ns : List ℕ). get_or ns (get_or order k 0) 0) q ∙ get_or-set_other numbers at (get_or order k 0) number 0 apart ∙ h k before
 
 -- what was lent and is given back
-pub lent_back : (len : ℕ) (new items : List ℕ) → length new ≡ length items → len ≡ length items → take len (new ++ drop (length new) items) ≡ new
-lent_back len new items e l =
-    ap (take len) (ap (λ (xs : List ℕ). new ++ xs) (drop_all (length new) items (omega arith)) ∙ append-nil new) ∙ take_all len new (omega arith)
+pub lent_back : {A : Type 0} (len : ℕ) (new items : List A) → length new ≡ length items → len ≡ length items → take len (new ++ drop (length new) items) ≡ new
+lent_back {A = A} len new items e l =
+    ap (take len) (ap (λ (xs : List A). new ++ xs) (drop_all (length new) items (omega arith)) ∙ append-nil new) ∙ take_all len new (omega arith)
 
 pub place-below : (cs : List ClassFacts) (x : Bytes) (o : Option ℕ) → o ≡ place_of (names_at cs) x → IfSome o (λ p. p < length cs)
 place-below cs x None e = tt

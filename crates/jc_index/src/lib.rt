@@ -31,5 +31,6 @@ mod reach;
 pub mod root;
 mod rows;
 pub mod search;
+pub mod shared_list;
 pub mod side;
 pub mod supertypes;

@@ -7,6 +7,7 @@ ghost use Rattle.jc_facts.specs.client.Clients.{differ_by_name, HasRoot};
 ghost use Rattle.jc_facts.specs.world.World.{World, side, classes, size, find_class, class_named};
 ghost use Rattle.jc_index.specs.Ids.{names, names_of, name_at, id_of, superclass_of};
 ghost use Rattle.jc_index.specs.Sides.{IsSide};
+ghost use Rattle.jc_index.specs.steps.Order.{name_in};
 
 use crate::ids::ClassId;
 use crate::order::{merged, numbers};
@@ -92,6 +93,24 @@ impl NamedClasses {
             Some(place) => Some(ClassId::new(self.numbers[place])),
             None => None,
         }
+    }
+
+    /// The class at this place.
+    pub fn id_at(&self, place: usize) -> ClassId
+        requires { place < length (classes self.now) }
+        ensures of_table { result < size self.now }
+        ensures named { name_at self.now result ≡ name_in (classes self.now) place }
+    {
+        ClassId::new(self.numbers[place])
+    }
+
+    /// The place of the class.
+    pub fn place(&self, id: ClassId) -> usize
+        requires { id < size self.now }
+        ensures within { result < length (classes self.now) }
+        ensures named { name_in (classes self.now) result ≡ name_at self.now id }
+    {
+        self.order[id.number() as usize]
     }
 
     /// The record of the class.

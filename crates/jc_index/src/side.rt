@@ -8,14 +8,14 @@ ghost use Rattle.jc_index.specs.Mentioned.{is_package};
 ghost use Rattle.jc_index.specs.steps.Order.{names_at};
 
 use crate::class_list::ClassList;
-use crate::platform::Platform;
+use crate::shared_list::SharedList;
 use jc_facts::class_facts::ClassFacts;
 use std::marker::Model;
 
 /// The classes of a side, those of the platform and then those of the release, by their places: at
 /// most 120,000. A contract sees it as the side.
 pub struct Side {
-    platform: Platform,
+    platform: SharedList,
     release: ClassList,
 }
 
@@ -42,7 +42,7 @@ impl Model for Side {
 
 impl Side {
     /// The side of this platform and this release.
-    pub fn new(platform: Platform, release: ClassList) -> Side
+    pub fn new(platform: SharedList, release: ClassList) -> Side
         requires { length platform + length release ≤ 120000 }
         ensures { result ≡ side platform release }
     {
@@ -54,7 +54,7 @@ impl Side {
         ensures count { result ≡ length (classes self.now) }
         ensures few { result ≤ 120000 }
     {
-        self.platform.classes().len() + self.release.classes().len()
+        self.platform().classes().len() + self.release.classes().len()
     }
 
     /// The class at this place.
@@ -62,7 +62,7 @@ impl Side {
         requires { place < length (classes self.now) }
         ensures { Some result.now ≡ slice_get (classes self.now) place }
     {
-        let platform = self.platform.classes();
+        let platform = self.platform().classes();
         if place < platform.len() {
             &platform[place]
         } else {
@@ -91,7 +91,7 @@ impl Side {
         match self.platform().place(name) {
             Some(place) => Some(place),
             None => match self.release.place(name) {
-                Some(place) => Some(self.platform.classes().len() + place),
+                Some(place) => Some(self.platform().classes().len() + place),
                 None => None,
             },
         }
@@ -101,7 +101,7 @@ impl Side {
     pub fn in_platform(&self, place: usize) -> bool
         ensures { result ≡ nat_lt place (length self.now.platform) }
     {
-        place < self.platform.classes().len()
+        place < self.platform().classes().len()
     }
 
     /// Whether a class is of this package: a name up to its last `/`, or nothing (JVMS 5.3).

@@ -13,7 +13,7 @@ returns-in-Some c =
 
 pub returns-in-Some-place : goal.returns-in-Some-place
 returns-in-Some-place c =
-    ap (λ (cs : List ClassFacts). Some (length cs + c.in-Some-place.place)) c.classes.ensures
+    ap (λ (cs : List ClassFacts). Some (length cs + c.in-Some-place.place)) (c.classes.ensures ∙ c.platform-in-Some-place.ensures ∙ sym (ap (λ (V : World). V.platform) c.self.view_is))
     ∙ place-release c.self.inside.platform c.self.inside.release c.args.self.now c.self.view_is c.args.name.now (Some c.in-Some-place.place)
     (sym (c.in-None.ensures.value ∙ ap (λ (cs : List ClassFacts). place_of (names_at cs) c.args.name.now) (c.platform.ensures ∙ sym (ap (λ (V : World). V.platform) c.self.view_is))))
     (sym c.in-Some-place.ensures.value)
