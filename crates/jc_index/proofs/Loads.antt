@@ -1,5 +1,5 @@
 -- The classes of a platform that load without any release: they load with each.
-use Rattle.std.proofs.Common.{◌≡◌, ℕ, zero, suc, ◌<◌, ◌≤◌, Bool, true, false, cond, eqb, List, [], ◌∷◌, ◌++◌, length, get_or, map, take, drop, refl, sym, ◌∙◌, ap, subst, Some, None, arith, length-append}
+use Rattle.std.proofs.Common.{◌≡◌, ℕ, zero, suc, ◌<◌, ◌≤◌, Bool, true, false, cond, eqb, List, [], ◌∷◌, ◌++◌, length, get_or, map, take, refl, sym, ◌∙◌, ap, subst, Some, None, arith, length-append}
 use Rattle.std.specs.Prelude.{is_some, IsTrue}
 use Rattle.std.specs.List.{All, Contains}
 use Rattle.std.proofs.lemmas.Bool.{eqb-true}
@@ -24,7 +24,7 @@ use Rattle.jc_index.specs.Sides.{IsSide}
 use Rattle.jc_index.specs.steps.Order.{name_in}
 use Rattle.jc_index.specs.declared.faults.State.{State}
 use Rattle.jc_index.specs.declared.faults.State.TheVariants as states
-use Rattle.jc_index.specs.steps.Entering.{AllLoad, IsRight, AreRight, IsSettled, is_entered, is_number_among, state_of}
+use Rattle.jc_index.specs.steps.Entering.{AllLoad, IsRight, IsSettled, is_entered, is_number_among, state_of}
 use Rattle.jc_index.specs.steps.Passing.{Orders}
 use Rattle.jc_index.proofs.Numbers.{id_of-Some, id_of-name_at}
 use Rattle.jc_index.proofs.Roots.{is_side}
@@ -133,11 +133,6 @@ platform-names V places h =
     (recursion_from_All (λ at. at < length (V.platform ++ V.release)) places
     (All-weaker (λ at. at < length V.platform) (λ at. at < length (V.platform ++ V.release)) (λ at l. omega (arith, length-append V.platform V.release)) places h))
     ∙ names-front V.platform V.release places (recursion_from_All (λ at. at < length V.platform) places h)
-
--- a place of the platform is one of the side
-pub platform-within : (V : World) (places : List ℕ) → All (λ at. at < length V.platform) places → All (λ at. at < length (classes V)) places
-platform-within V places h =
-    All-weaker (λ at. at < length V.platform) (λ at. at < length (classes V)) (λ at l. omega (arith, length-append V.platform V.release, length-append (V.platform ++ V.release) V.clients)) places h
 
 -- ---- from the platform alone to a side of it
 

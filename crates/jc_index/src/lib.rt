@@ -11,7 +11,6 @@ mod hashed_keys;
 pub mod hierarchy;
 pub mod ids;
 pub mod index;
-mod lent_names;
 pub mod members;
 pub mod mentioned;
 pub mod name_set;
