@@ -5,11 +5,13 @@ use Rattle.std.proofs.lemmas.List.{length-map, get_or-map, get_or_default}
 use Rattle.std.proofs.lemmas.Option.{slice_get_cases}
 use Rattle.jc_facts.specs.declared.class_facts.ClassFacts.{ClassFacts}
 use Rattle.jc_facts.specs.Names.{Bytes}
+use Rattle.jc_facts.specs.world.Search.{supers}
 use Rattle.jc_facts.specs.world.World.{World, classes, size, find_class, class_named}
 use Rattle.jc_facts.specs.client.Clients.{differ_by_name}
 use Rattle.jc_index.specs.Ids.{names_of, names, name_at, place_of, id_of}
 use Rattle.jc_index.specs.steps.Order.{name_or, name_in, names_at}
 use Rattle.jc_index.specs.steps.NamedClasses.{AreNamedClasses}
+use Rattle.jc_index.specs.steps.PlacesAbove.{IsAbove}
 use Rattle.jc_index.specs.declared.named_classes.NamedClasses.TheInside.{Inside}
 use Rattle.jc_index.proofs.Numbers.{IsAt, place-at, names_of-length, id_of-Some}
 use Rattle.jc_index.proofs.InSide.{front}
@@ -102,3 +104,11 @@ module _ (i : Inside) (h : AreNamedClasses i) (W : World) (v : i.side ≡ W) whe
           in_front (classes i.side) (length i.side.platform) at x.0 differ x.2 ∙ ap (λ (cs : List ClassFacts). is_some (class_named cs x.0.name)) (front i.side) ∙ ap (λ (y : Bytes). is_some (class_named i.side.platform y)) (name_is n at x.0 l a x.2)
           ∙ ap (λ (V : World). is_some (class_named V.platform (name_at W n))) v
       go (inr x) = absurd (let k = within n at l a in omega (arith, x.0))
+
+  -- a name that the class of a number has above itself, by the class's place
+  pub above_there : (n at place : ℕ) (x : Bytes) → n < size W → place ≡ get_or i.order.items n place → ((c : ClassFacts) → find_class W (name_at W n) ≡ Some c → slice_get (supers c) at ≡ Some x) → IsAbove (classes i.side) place at x
+  above_there n at place x l a named = go (slice_get_cases (classes i.side) place).1
+    where
+      go : ((c : ClassFacts) × (place < length (classes i.side)) × (slice_get (classes i.side) place ≡ Some c) × (get_or (classes i.side) place c ≡ c)) ⊎ ((length (classes i.side) ≤ place) × (slice_get (classes i.side) place ≡ None)) → IsAbove (classes i.side) place at x
+      go (inl c) = record { class = c.0; there = c.2; named = named c.0 (sym (class_is n place c.0 l a (sym c.2))) }
+      go (inr c) = absurd (let k = within n place l a in omega (arith, c.0))

@@ -33,3 +33,4 @@ pub mod Standing
 pub mod Merged
 pub mod HashedKeys
 pub mod Loads
+pub mod PlacesAbove

@@ -21,11 +21,12 @@ use Rattle.jc_index.specs.Ids.{name_at, id_of}
 use Rattle.jc_index.specs.LoadOrder.{AreInLoadOrder, LoadsAfter, LoadInOrder, AreLoads}
 use Rattle.jc_index.specs.Root.{fault_of_root}
 use Rattle.jc_index.specs.Sides.{IsSide}
-use Rattle.jc_index.specs.steps.Order.{name_in}
+use Rattle.jc_index.specs.steps.Order.{name_or, name_in}
 use Rattle.jc_index.specs.declared.faults.State.{State}
 use Rattle.jc_index.specs.declared.faults.State.TheVariants as states
 use Rattle.jc_index.specs.steps.Entering.{AllLoad, IsRight, IsSettled, is_entered, is_number_among, state_of}
 use Rattle.jc_index.specs.steps.Passing.{Orders}
+use Rattle.jc_index.proofs.InSide.{class-front}
 use Rattle.jc_index.proofs.Numbers.{id_of-Some, id_of-name_at}
 use Rattle.jc_index.proofs.Roots.{is_side}
 
@@ -117,14 +118,9 @@ by-numbers W order differ within h = λ i d l.
 
 -- ---- the places of the platform's classes on a side
 
-name-front : (cs ds : List ClassFacts) (n : ℕ) → n < length cs → name_in (cs ++ ds) n ≡ name_in cs n
-name-front [] ds n l = absurd (omega arith)
-name-front (c ∷ cs) ds zero l = refl
-name-front (c ∷ cs) ds (suc n) l = name-front cs ds n (omega arith)
-
 names-front : (cs ds : List ClassFacts) (places : List ℕ) → EachOf (λ at. at < length cs) places → map (name_in (cs ++ ds)) places ≡ map (name_in cs) places
 names-front cs ds [] h = refl
-names-front cs ds (at ∷ places) h = rw (name-front cs ds at h.0, names-front cs ds places h.1) refl
+names-front cs ds (at ∷ places) h = rw (ap name_or (class-front cs ds at h.0), names-front cs ds places h.1) refl
 
 -- the names of the platform's classes at these places
 platform-names : (V : World) (places : List ℕ) → All (λ at. at < length V.platform) places → map (name_in (classes V)) places ≡ map (name_in V.platform) places

@@ -26,6 +26,7 @@ mod part;
 mod parts;
 pub mod plain;
 pub mod platform;
+mod platform_list;
 mod reach;
 pub mod root;
 mod rows;

@@ -1,15 +1,17 @@
-//! A list of classes that several values keep.
+//! The classes of a platform, as several values keep them.
 ghost use Rattle.std.specs.Prelude.{◌≡◌, IfOk};
+ghost use Rattle.jc_index.specs.steps.PlacesAbove.{place_above as place_of_super};
 
 use crate::class_list::ClassList;
+use crate::platform_list::PlatformList;
 use std::alloc::{AllocError, Global};
 use std::marker::Model;
 use std::rc::Rc;
 
-/// A list of classes that several values keep. A contract sees it as the list.
+/// The classes of a platform, as several values keep them. A contract sees them as their list.
 #[derive(Drop)]
 pub struct SharedList {
-    list: Rc<ClassList>,
+    list: Rc<PlatformList>,
 }
 
 impl Model for SharedList {
@@ -30,6 +32,7 @@ impl SharedList {
     pub fn new(alloc: Global, list: ClassList) -> Result<SharedList, AllocError>
         ensures { IfOk result (λ shared. shared ≡ list) }
     {
+        let list = PlatformList::new(alloc, list)?;
         let list = Rc::new(alloc, list)?;
         Ok(SharedList { list })
     }
@@ -50,6 +53,14 @@ impl SharedList {
     pub fn list(&self) -> &ClassList
         ensures { result.now ≡ self.now }
     {
-        self.list.as_ref()
+        self.list.as_ref().list()
+    }
+
+    // The place of one of the classes that the class at this place names above itself, of which the
+    // superclass is the first; none where no class of the list has the name.
+    pub(crate) fn place_above(&self, place: usize, at: usize) -> Option<usize>
+        ensures { result ≡ place_of_super self.now place at }
+    {
+        self.list.as_ref().place_above(place, at)
     }
 }
