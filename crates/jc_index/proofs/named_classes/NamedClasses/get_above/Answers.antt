@@ -1,4 +1,4 @@
-use Rattle.std.proofs.Common.{◌≡◌, ◌<◌, ℕ, Some, length, get_or, arith, ◌∙◌, sym, ap, subst}
+use Rattle.std.proofs.Common.{◌≡◌, ◌<◌, ℕ, Some, length, get_or, arith, ◌∙◌, sym, ap}
 use Rattle.std.proofs.lemmas.List.{get_or_default}
 use Rattle.jc_index.proofs.Indexed.{count_is, number_is, no_number, above_there}
 use Rattle.jc_index.proofs.named_classes.NamedClasses.get_above.Goals as goal

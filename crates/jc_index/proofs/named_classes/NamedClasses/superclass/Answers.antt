@@ -1,5 +1,4 @@
-use Rattle.std.proofs.Common.{◌∙◌, sym, ap, Some, ◌≡◌}
-use Rattle.jc_facts.specs.Names.{Bytes}
+use Rattle.std.proofs.Common.{◌∙◌, sym, ap, Some}
 use Rattle.jc_facts.specs.Options.{and_then}
 use Rattle.jc_index.specs.Ids.{name_at, id_of}
 use Rattle.jc_index.proofs.NamedAbove.{first-above}
