@@ -1,33 +1,31 @@
 -- The keys of final instance methods: without its key no method overrides a final one.
-use Rattle.std.proofs.Common.{◌≡◌, ◌≢◌, ℕ, zero, suc, ◌<◌, ◌+◌, Bool, true, false, not, cond, ◌||◌, ◌&&◌, List, [], ◌∷◌, ◌++◌, map, refl, sym, ◌∙◌, ap, subst, Option, Some, None, ◌⊎◌, inl, inr, arith, eqb, ◌≤◌, length, drop, get_or}
+use Rattle.std.proofs.Common.{◌≡◌, ◌≢◌, ℕ, zero, suc, ◌<◌, ◌+◌, Bool, true, false, not, cond, ◌||◌, ◌&&◌, List, [], ◌∷◌, ◌++◌, map, refl, sym, ◌∙◌, ap, subst, Option, Some, None, ◌⊎◌, inl, inr, arith, eqb, ◌≤◌, length, drop, get_or, set}
 use Rattle.std.specs.Prelude.{is_some}
-use Rattle.std.specs.List.{filter, list_any, find as first_where}
+use Rattle.std.specs.List.{filter, find as first_where}
 use Rattle.std.proofs.lemmas.Bool.Decides.{eqb_tells}
 use Rattle.jc_facts.specs.declared.class_facts.ClassFacts.{ClassFacts}
 use Rattle.jc_facts.specs.declared.class_facts.Member.{Member}
 use Rattle.jc_facts.specs.declared.key.Key.{Key}
-use Rattle.jc_facts.specs.Names.{Bytes, same, key_of, is_key, same_key, is_name_among}
+use Rattle.jc_facts.specs.Names.{Bytes, key_of, is_key, same_key}
 use Rattle.jc_facts.specs.Flags.{final_flag, no_static_flag, private_flag, static_flag}
 use Rattle.jc_facts.specs.Options.{some_and, and_then}
 use Rattle.jc_facts.specs.file.Valid.{has_key}
-use Rattle.jc_facts.specs.world.World.{World, DeclaredMember, classes, find_class, size, declared_method, own_method_of, found_in}
-use Rattle.jc_facts.specs.world.Search.{descend, supers_of}
-use Rattle.jc_facts.proofs.Same.{same_itself}
-use Rattle.jc_facts.proofs.World.{find-name}
-use Rattle.jc_worlds.proofs.Allowed.{any_found}
+use Rattle.jc_facts.specs.world.World.{World, DeclaredMember, find_class, size, declared_method, own_method_of, found_in}
+use Rattle.jc_facts.specs.world.Search.{descend}
 use Rattle.jc_facts.specs.world.Hierarchy.{chain, chain_step, of_super}
 use Rattle.jc_index.proofs.Walking.{chain-super}
 use Rattle.jc_facts.specs.world.Overriding.{directly_overrides, is_overridden_by_any, linked, overrides_this_final, reaches_final, overrides_some_final}
 use Rattle.jc_desc.specs.Names.{is_init_name, is_clinit_name}
-use Rattle.std.proofs.lemmas.List.{drop_more, drop_all}
+use Rattle.std.proofs.lemmas.List.{drop_more, drop_all, length-set, get_or-set_same, get_or-set_other}
 use Rattle.jc_facts.proofs.Keys.{flip}
 use Rattle.jc_lemmas.proofs.Listed.{EachOf}
 use Rattle.std.proofs.lemmas.List.Folds.{list_any-append}
 use Rattle.jc_worlds.proofs.Descent.{descend-absent, descend-none_left, descend-found}
-use Rattle.jc_index.specs.Ids.{id_of, name_at}
-use Rattle.jc_index.specs.steps.Walking.{chain_from, is_final_instance, declares_final_instance, final_keys_in, HaveAllFinal}
-use Rattle.jc_index.proofs.Numbers.{id_of-Some, id-find}
-use Rattle.std.proofs.lemmas.Bool.{or_parts, or_left, and_right}
+use Rattle.jc_index.specs.Ids.{id_of, name_at, superclass_of}
+use Rattle.jc_index.specs.steps.Walking.{chain_from, is_final_instance, declares_final_instance, final_keys_where, marked_with, AreMarked, HaveAllFinal}
+use Rattle.jc_index.proofs.Keeps.{super-below}
+use Rattle.jc_index.proofs.Numbers.{id_of-Some, number_of, superclass_is}
+use Rattle.std.proofs.lemmas.Bool.{or_parts, and_right}
 
 -- ---- a private or static method
 
@@ -134,45 +132,75 @@ unfixed-methods k (m ∷ ms) h = go (is_key k m) (is_final_instance m) refl refl
     go false true p q r s = s (or_parts (same_key k (key_of m)) (has_key k (map key_of (filter is_final_instance ms))) r).1
     go false false p q r s = s r
 
--- the keys of the first n classes, of those whose names are these
-module _ (W : World) (names : List Bytes) where
+-- the keys of the first n classes, of those that are marked
+module _ (W : World) (marks : List Bool) where
   abbrev pub AreOfFirst : ℕ → List Key → Type 0
-  AreOfFirst n ks = (m : ℕ) → m < n → (c : ClassFacts) → find_class W (name_at W m) ≡ Some c → is_name_among names c.name ≡ true → (k : Key) → has_key k ks ≡ false → declares_final_instance k c ≡ false
+  AreOfFirst n ks = (m : ℕ) → m < n → (c : ClassFacts) → find_class W (name_at W m) ≡ Some c → get_or marks m false ≡ true → (k : Key) → has_key k ks ≡ false → declares_final_instance k c ≡ false
 
   -- one class more is done
-  pub finals-more : (ks : List Key) (n : ℕ) (c : ClassFacts) → AreOfFirst n ks → Some c ≡ find_class W (name_at W n) → AreOfFirst (n + 1) (ks ++ final_keys_in names c)
-  finals-more ks n c h f m l d e t k a = go (eqb_tells m n)
+  pub finals-more : (ks : List Key) (n : ℕ) (marked : Bool) (c : ClassFacts) → AreOfFirst n ks → Some c ≡ find_class W (name_at W n) → marked ≡ get_or marks n false → AreOfFirst (n + 1) (ks ++ final_keys_where marked c)
+  finals-more ks n marked c h f r m l d e t k a = go (eqb_tells m n)
     where
       own : List Key
       own = map key_of (filter is_final_instance c.methods)
 
-      parts : (has_key k ks ≡ false) × (has_key k (final_keys_in names c) ≡ false)
-      parts = or_parts (has_key k ks) (has_key k (final_keys_in names c)) (sym (list_any-append (same_key k) ks (final_keys_in names c)) ∙ a)
+      parts : (has_key k ks ≡ false) × (has_key k (final_keys_where marked c) ≡ false)
+      parts = or_parts (has_key k ks) (has_key k (final_keys_where marked c)) (sym (list_any-append (same_key k) ks (final_keys_where marked c)) ∙ a)
 
       go : ((eqb m n ≡ true) × (m ≡ n)) ⊎ ((eqb m n ≡ false) × (m ≢ n)) → declares_final_instance k d ≡ false
       go (inl q) =
           let same : Some d ≡ Some c = sym e ∙ ap (λ j. find_class W (name_at W j)) q.1 ∙ sym f in
           let is : d ≡ c = cc in
-          let named : is_name_among names c.name ≡ true = ap (λ (b : ClassFacts). is_name_among names b.name) (sym is) ∙ t in
-          ap (declares_final_instance k) is ∙ unfixed-methods k c.methods (ap (λ (b : Bool). has_key k (cond b own [])) (sym named) ∙ parts.1)
+          let set : marked ≡ true = r ∙ ap (λ j. get_or marks j false) (sym q.1) ∙ t in
+          ap (declares_final_instance k) is ∙ unfixed-methods k c.methods (ap (λ (b : Bool). has_key k (cond b own [])) (sym set) ∙ parts.1)
       go (inr q) = let ne : m ≢ n = q.1 in h m (omega arith) d e t k parts.0
 
-  -- all classes are done, and the names are those of superclasses
-  pub finals-all : (ks : List Key) (n : ℕ) → size W ≤ n → ((x : Bytes) → is_name_among names x ≡ list_any (λ c. is_name_among (supers_of c.superclass []) x) (classes W)) → AreOfFirst n ks → HaveAllFinal W ks
-  unfolding find_class
-  finals-all ks n l tells h k a x b f s g c e = go (id_of W s) refl
+  -- all classes are done, and the superclasses are marked
+  pub finals-all : (ks : List Key) (n : ℕ) → size W ≤ n → AreMarked W (size W) marks → AreOfFirst n ks → HaveAllFinal W ks
+  unfolding and_then
+  finals-all ks n l marked h k a x b f s g c e = go (number_of W x (ap is_some f)) (number_of W s (ap is_some e))
     where
-      own : is_name_among (supers_of b.superclass []) c.name ≡ true
-      own = ap (λ (o : Option Bytes). is_name_among (supers_of o []) c.name) g ∙ or_left (same s c.name) false (ap (same s) (find-name W s c e) ∙ same_itself s)
+      go : (m : ℕ) × (id_of W x ≡ Some m) → (id : ℕ) × (id_of W s ≡ Some id) → declares_final_instance k c ≡ false
+      go below above =
+          let p = id_of-Some W x below.0 below.1 in
+          let q = id_of-Some W s above.0 above.1 in
+          let named : superclass_of W (name_at W below.0) ≡ Some above.0 = ap (superclass_of W) p.1 ∙ superclass_is W x b (sym f) ∙ ap (and_then (id_of W)) g ∙ above.1 in
+          h above.0 (let i = q.0 in omega arith) c (ap (find_class W) q.1 ∙ e) (marked.marked below.0 above.0 p.0 named) k a
 
-      named : is_name_among names c.name ≡ true
-      named = tells c.name ∙ any_found (λ d. is_name_among (supers_of d.superclass []) c.name) (classes W) x b f own
+-- ---- marks
 
-      go : (o : Option ℕ) → id_of W s ≡ o → declares_final_instance k c ≡ false
-      go None q = absurd (let t : is_some (id_of W s) ≡ is_some (find_class W s) = id-find W s in let u : false ≡ true = sym (ap is_some q) ∙ t ∙ ap is_some e in cc)
-      go (Some id) q =
-          let p = id_of-Some W s id q in
-          h id (let i = p.0 in omega arith) c (ap (find_class W) p.1 ∙ e) named k a
+-- a mark that is set is one of the list
+set-inside : (marks : List Bool) (k : ℕ) → get_or marks k false ≡ true → k < length marks
+set-inside [] k h = absurd (let clash : false ≡ true = h in cc)
+set-inside (b ∷ marks) zero h = omega arith
+set-inside (b ∷ marks) (suc k) h = let l = set-inside marks k h in omega (arith, l)
+
+-- no class is done
+pub unmarked : (W : World) (marks : List Bool) → length marks ≡ size W → AreMarked W 0 marks
+unmarked W marks h = record { count = h; marked = λ m k l e. absurd (omega (arith, l)) }
+
+-- the superclass of one class more is marked
+pub marked-more : (W : World) (n : ℕ) (marks after : List Bool) (class : Option ℕ) → class ≡ superclass_of W (name_at W n) → after ≡ marked_with marks class → AreMarked W n marks → AreMarked W (n + 1) after
+marked-more W n marks after class e q h = rw q (record { count = counted class; marked = λ m k l f. one m k l f (eqb_tells m n) })
+  where
+    again : (id k : ℕ) → get_or marks k false ≡ true → ((eqb k id ≡ true) × (k ≡ id)) ⊎ ((eqb k id ≡ false) × (k ≢ id)) → get_or (set marks id true) k false ≡ true
+    again id k r (inl s) = subst (λ (j : ℕ). get_or (set marks j true) k false ≡ true) s.1 (get_or-set_same marks k true false (set-inside marks k r))
+    again id k r (inr s) = get_or-set_other marks id k true false s.1 ∙ r
+
+    counted : (o : Option ℕ) → length (marked_with marks o) ≡ size W
+    counted None = h.count
+    counted (Some id) = length-set marks id true ∙ h.count
+
+    kept : (o : Option ℕ) (k : ℕ) → get_or marks k false ≡ true → get_or (marked_with marks o) k false ≡ true
+    kept None k r = r
+    kept (Some id) k r = again id k r (eqb_tells k id)
+
+    one : (m k : ℕ) → m < n + 1 → superclass_of W (name_at W m) ≡ Some k → ((eqb m n ≡ true) × (m ≡ n)) ⊎ ((eqb m n ≡ false) × (m ≢ n)) → get_or (marked_with marks class) k false ≡ true
+    one m k l f (inr s) = let ne : m ≢ n = s.1 in kept class k (h.marked m k (omega arith) f)
+    one m k l f (inl s) =
+        let is : class ≡ Some k = e ∙ ap (λ j. superclass_of W (name_at W j)) (sym s.1) ∙ f in
+        let below : k < length marks = subst (λ j. k < j) (sym h.count) (super-below W (name_at W m) k f) in
+        ap (λ o. get_or (marked_with marks o) k false) is ∙ get_or-set_same marks k true false below
 
 -- and in other keys that are the same ones
 pub all-kept : (W : World) (ks js : List Key) → ((q : Key) → has_key q js ≡ has_key q ks) → HaveAllFinal W ks → HaveAllFinal W js

@@ -1,5 +1,5 @@
 -- The classes at the places of a side.
-use Rattle.std.proofs.Common.{◌≡◌, ℕ, ◌<◌, ◌≤◌, ◌+◌, Bool, true, false, ◌||◌, List, [], ◌∷◌, ◌++◌, length, take, get_or, sym, ◌∙◌, ap, subst, Some, arith}
+use Rattle.std.proofs.Common.{◌≡◌, ℕ, zero, suc, ◌<◌, ◌≤◌, ◌+◌, Bool, true, false, ◌||◌, List, [], ◌∷◌, ◌++◌, length, take, get_or, refl, sym, ◌∙◌, ap, subst, Some, arith}
 use Rattle.std.specs.Prelude.{slice_get}
 use Rattle.std.specs.List.{list_any, Contains}
 use Rattle.std.proofs.Math.Seq.{take-append_seam}
@@ -20,6 +20,12 @@ is_there W n c h = sym (get_or_from_slice_get (classes W) n c c (sym h))
 -- those of the platform are the first ones
 pub front : (W : World) → take (length W.platform) (classes W) ≡ W.platform
 front W = take-append-le (length W.platform) (W.platform ++ W.release) W.clients (let e = length-append W.platform W.release in omega arith) ∙ take-append_seam W.platform W.release
+
+-- a class of a list stands at its place where more classes stand behind the list
+pub class-front : (cs ds : List ClassFacts) (n : ℕ) → n < length cs → slice_get (cs ++ ds) n ≡ slice_get cs n
+class-front [] ds n l = absurd (omega arith)
+class-front (c ∷ cs) ds zero l = refl
+class-front (c ∷ cs) ds (suc n) l = class-front cs ds n (omega arith)
 
 -- ---- a test of the classes, by their places
 

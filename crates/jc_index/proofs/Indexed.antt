@@ -1,20 +1,22 @@
 -- The classes that are found by their names, and the side that is kept of them.
 use Rattle.std.proofs.Common.{◌≡◌, ℕ, ◌<◌, ◌≤◌, List, [], length, get_or, sym, ◌∙◌, ap, subst, Some, None, arith, ◌⊎◌, inl, inr}
 use Rattle.std.specs.Prelude.{is_some, IsTrue, nat_lt, slice_get}
-use Rattle.std.proofs.lemmas.List.{length-map, get_or-map}
+use Rattle.std.proofs.lemmas.List.{length-map, get_or-map, get_or_default}
 use Rattle.std.proofs.lemmas.Option.{slice_get_cases}
 use Rattle.jc_facts.specs.declared.class_facts.ClassFacts.{ClassFacts}
 use Rattle.jc_facts.specs.Names.{Bytes}
+use Rattle.jc_facts.specs.world.Search.{supers}
 use Rattle.jc_facts.specs.world.World.{World, classes, size, find_class, class_named}
 use Rattle.jc_facts.specs.client.Clients.{differ_by_name}
 use Rattle.jc_index.specs.Ids.{names_of, names, name_at, place_of, id_of}
 use Rattle.jc_index.specs.steps.Order.{name_or, name_in, names_at}
 use Rattle.jc_index.specs.steps.NamedClasses.{AreNamedClasses}
+use Rattle.jc_index.specs.steps.PlacesAbove.{IsAbove}
 use Rattle.jc_index.specs.declared.named_classes.NamedClasses.TheInside.{Inside}
-use Rattle.jc_index.proofs.Numbers.{IsAt, place-at, names_of-length}
+use Rattle.jc_index.proofs.Numbers.{IsAt, place-at, names_of-length, id_of-Some}
 use Rattle.jc_index.proofs.InSide.{front}
 use Rattle.jc_index.proofs.Places.{order_length, found_there, in_front}
-use Rattle.jc_index.proofs.Standing.{unplaced}
+use Rattle.jc_index.proofs.Standing.{name_in-at, unplaced}
 
 module _ (i : Inside) (h : AreNamedClasses i) (W : World) (v : i.side ≡ W) where
   classes_are : classes W ≡ classes i.side
@@ -60,6 +62,24 @@ module _ (i : Inside) (h : AreNamedClasses i) (W : World) (v : i.side ≡ W) whe
   pub within : (n at : ℕ) → n < size W → at ≡ get_or i.order.items n at → at < length (classes i.side)
   within n at l a = let e = count_is in subst (λ (k : ℕ). k < length (classes i.side)) (sym a) (h.order.within n at (omega arith))
 
+  -- the name there is the number's
+  pub named_there : (n at : ℕ) → n < size W → at ≡ get_or i.order.items n at → name_in (classes W) at ≡ name_at W n
+  named_there n at l a =
+      let many = count_is in
+      let below : n < length i.order.items = omega arith in
+      ap (λ (cs : List ClassFacts). name_in cs at) classes_are ∙ ap (name_in (classes i.side)) a ∙ sym (get_or-map (name_in (classes i.side)) i.order.items n at [] below)
+      ∙ ap (λ (ns : List Bytes). get_or ns n []) (h.order.named ∙ sym names_are)
+
+  -- the number at a place is that of the name there
+  pub number_there : (at number read : ℕ) → at < length (classes W) → number ≡ read → read ≡ get_or i.numbers.items at read → (number < size W) × (name_at W number ≡ name_in (classes W) at)
+  number_there at number read l n r =
+      let inside : at < length (classes i.side) = subst (λ (cs : List ClassFacts). at < length cs) classes_are l in
+      let below : at < length i.numbers.items = subst (λ (m : ℕ). at < m) (sym h.numbers.count) inside in
+      let is : number ≡ get_or i.numbers.items at 0 = n ∙ r ∙ get_or_default i.numbers.items at read 0 below in
+      id_of-Some W (name_in (classes W) at) number
+      (sym (id_is (name_in (classes W) at)) ∙ ap (λ (cs : List ClassFacts). place_of (names_of (classes i.side)) (name_in cs at)) classes_are
+      ∙ ap (place_of (names_of (classes i.side))) (name_in-at (classes i.side) at inside) ∙ h.numbers.each at inside ∙ ap Some (sym is))
+
   -- the class there has the number's name
   name_is : (n at : ℕ) (c : ClassFacts) → n < size W → at ≡ get_or i.order.items n at → slice_get (classes i.side) at ≡ Some c → c.name ≡ name_at W n
   name_is n at c l a e =
@@ -84,3 +104,11 @@ module _ (i : Inside) (h : AreNamedClasses i) (W : World) (v : i.side ≡ W) whe
           in_front (classes i.side) (length i.side.platform) at x.0 differ x.2 ∙ ap (λ (cs : List ClassFacts). is_some (class_named cs x.0.name)) (front i.side) ∙ ap (λ (y : Bytes). is_some (class_named i.side.platform y)) (name_is n at x.0 l a x.2)
           ∙ ap (λ (V : World). is_some (class_named V.platform (name_at W n))) v
       go (inr x) = absurd (let k = within n at l a in omega (arith, x.0))
+
+  -- a name that the class of a number has above itself, by the class's place
+  pub above_there : (n at place : ℕ) (x : Bytes) → n < size W → place ≡ get_or i.order.items n place → ((c : ClassFacts) → find_class W (name_at W n) ≡ Some c → slice_get (supers c) at ≡ Some x) → IsAbove (classes i.side) place at x
+  above_there n at place x l a named = go (slice_get_cases (classes i.side) place).1
+    where
+      go : ((c : ClassFacts) × (place < length (classes i.side)) × (slice_get (classes i.side) place ≡ Some c) × (get_or (classes i.side) place c ≡ c)) ⊎ ((length (classes i.side) ≤ place) × (slice_get (classes i.side) place ≡ None)) → IsAbove (classes i.side) place at x
+      go (inl c) = record { class = c.0; there = c.2; named = named c.0 (sym (class_is n place c.0 l a (sym c.2))) }
+      go (inr c) = absurd (let k = within n place l a in omega (arith, c.0))

@@ -32,3 +32,5 @@ pub mod NumberedNames
 pub mod Standing
 pub mod Merged
 pub mod HashedKeys
+pub mod Loads
+pub mod PlacesAbove

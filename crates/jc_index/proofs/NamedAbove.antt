@@ -1,11 +1,11 @@
 -- The classes of the names that a class has above itself.
-use Rattle.std.proofs.Common.{◌≡◌, ◌<◌, ◌≤◌, ℕ, zero, suc, List, [], ◌∷◌, length, get_or, map, refl, ◌∙◌, ap, arith, Option, Some, None, ◌⊎◌, inl, inr}
-use Rattle.std.specs.Prelude.{slice_get}
+use Rattle.std.proofs.Common.{◌≡◌, ◌<◌, ◌≤◌, ◌+◌, ℕ, zero, suc, List, [], ◌∷◌, cond, length, get_or, map, refl, ◌∙◌, ap, subst, arith, Option, Some, None, ◌⊎◌, inl, inr}
+use Rattle.std.specs.Prelude.{slice_get, is_some}
 use Rattle.std.proofs.lemmas.Option.{slice_get_cases}
 use Rattle.jc_facts.specs.declared.class_facts.ClassFacts.{ClassFacts}
 use Rattle.jc_facts.specs.Names.{Bytes}
 use Rattle.jc_facts.specs.Options.{and_then}
-use Rattle.jc_facts.specs.world.Search.{supers_of}
+use Rattle.jc_facts.specs.world.Search.{supers, supers_of}
 use Rattle.jc_facts.specs.world.World.{World, find_class}
 use Rattle.jc_index.specs.Ids.{name_at, id_of}
 use Rattle.jc_index.proofs.Entering.{found-by}
@@ -51,11 +51,11 @@ one-super W test (Some y) n c e f = one-named W test y n c e f
 
 -- ---- the class of the name at a place
 
-pub class-at : (W : World) (xs : List Bytes) (i : ℕ) → and_then (λ (o : Option ℕ). o) (slice_get (map (id_of W) xs) i) ≡ and_then (id_of W) (slice_get xs i)
+pub class-at : (f : Bytes → Option ℕ) (xs : List Bytes) (i : ℕ) → and_then (λ (o : Option ℕ). o) (slice_get (map f xs) i) ≡ and_then f (slice_get xs i)
 unfolding and_then
-class-at W [] i = refl
-class-at W (x ∷ xs) zero = refl
-class-at W (x ∷ xs) (suc i) = class-at W xs i
+class-at f [] i = refl
+class-at f (x ∷ xs) zero = refl
+class-at f (x ∷ xs) (suc i) = class-at f xs i
 
 module _ (W : World) (is : List Bytes) (o : Option Bytes) where
   -- the superclass stands first
@@ -68,3 +68,25 @@ module _ (W : World) (is : List Bytes) (o : Option Bytes) where
   -- without a superclass the interfaces stand first
   pub interface-alone : (i : ℕ) → o ≡ None → and_then (id_of W) (slice_get is i) ≡ and_then (id_of W) (slice_get (supers_of o is) i)
   interface-alone i e = rw e refl
+
+-- ---- the names above a class, the superclass first
+
+-- the superclass is the first
+pub first-above : (W : World) (x : Bytes) (c : ClassFacts) (name : Bytes) → Some c ≡ find_class W x → c.superclass ≡ Some name → (d : ClassFacts) → find_class W x ≡ Some d → slice_get (supers d) 0 ≡ Some name
+first-above W x c name f s d e =
+    let same : Some c ≡ Some d = f ∙ e in
+    let is : c ≡ d = cc in
+    subst (λ (b : ClassFacts). slice_get (supers b) 0 ≡ Some name) is (ap (λ (o : Option Bytes). slice_get (supers_of o c.interfaces) 0) s)
+
+-- so many stand before the interfaces
+interface-behind : (s : Option Bytes) (is : List Bytes) (at : ℕ) → slice_get (supers_of s is) (cond (is_some s) 1 0 + at) ≡ slice_get is at
+interface-behind None is at = ap (slice_get is) (let e : 0 + at ≡ at = omega arith in e)
+interface-behind (Some x) is at = ap (slice_get (x ∷ is)) (let e : 1 + at ≡ suc at = omega arith in e)
+
+pub interface-above : (W : World) (x : Bytes) (c : ClassFacts) (before at : ℕ) (name : Bytes) → Some c ≡ find_class W x → before ≡ cond (is_some c.superclass) 1 0 → slice_get c.interfaces at ≡ Some name
+    → (d : ClassFacts) → find_class W x ≡ Some d → slice_get (supers d) (before + at) ≡ Some name
+interface-above W x c before at name f b s d e =
+    let same : Some c ≡ Some d = f ∙ e in
+    let is : c ≡ d = cc in
+    subst (λ (y : ClassFacts). slice_get (supers y) (before + at) ≡ Some name) is
+    (ap (λ (n : ℕ). slice_get (supers c) (n + at)) b ∙ interface-behind c.superclass c.interfaces at ∙ s)

@@ -1,17 +1,21 @@
 -- The names of classes as they stand, and the places of classes by their names.
 use Rattle.std.proofs.Common.{◌≡◌, ◌≢◌, ℕ, zero, suc, ◌+◌, ◌<◌, ◌≤◌, Bool, true, false, cond, ◌||◌, List, [], ◌∷◌, ◌++◌, length, take, drop, get_or, set, refl, sym, ◌∙◌, ap, subst, Option, Some, None, ◌⊎◌, inl, inr, arith}
-use Rattle.std.specs.Prelude.{is_some, is_none, option_map, IsTrue, IfSome}
-use Rattle.std.proofs.lemmas.Bool.{cases_eq}
-use Rattle.std.proofs.lemmas.List.{append-nil, map-append, drop_all, length-map, map_more, get_or-map, get_or-set_same, get_or-set_other, take-map, take_all}
+use Rattle.std.specs.Prelude.{is_some, is_none, nat_lt, option_map, slice_get, IsTrue, IfSome}
+use Rattle.std.proofs.lemmas.Bool.{cases_eq, ltb-true}
+use Rattle.std.proofs.lemmas.List.{append-nil, length-append, map-append, drop_all, length-map, map_more, get_or-map, get_or-set_same, get_or-set_other, take-map, take_all}
 use Rattle.jc_lemmas.proofs.Listed.{each_in}
 use Rattle.jc_facts.specs.declared.class_facts.ClassFacts.{ClassFacts}
 use Rattle.jc_facts.specs.Names.{Bytes, same, is_name_among}
+use Rattle.jc_facts.specs.Options.{and_then}
 use Rattle.jc_facts.specs.client.Clients.{differ_by_name}
+use Rattle.jc_facts.specs.world.Search.{supers}
 use Rattle.jc_facts.specs.world.World.{World, side, classes, class_named}
 use Rattle.jc_facts.proofs.Same.{same_is, same_itself}
 use Rattle.jc_index.specs.Ids.{names_of, place_of}
 use Rattle.jc_index.specs.steps.Order.{name_in, names_at, IsOrder, AreNumbers}
+use Rattle.jc_index.specs.steps.PlacesAbove.{place_above, IsAbove}
 use Rattle.jc_index.proofs.Numbers.{IsAt, and_true, is_none-None, place-at, place-back, place-class, at-in, names_of-length, names_of-rise}
+use Rattle.jc_index.proofs.InSide.{class-front}
 use Rattle.jc_index.proofs.NumberedNames.{before_place}
 use Rattle.jc_index.proofs.Places.{absent, has, order_length}
 
@@ -197,9 +201,9 @@ noted order numbers now n at number a l e f b q h k s = go (cases_eq k n)
         ap (λ (ns : List ℕ). get_or ns (get_or order k 0) 0) q ∙ get_or-set_other numbers at (get_or order k 0) number 0 apart ∙ h k before
 
 -- what was lent and is given back
-pub lent_back : (len : ℕ) (new items : List ℕ) → length new ≡ length items → len ≡ length items → take len (new ++ drop (length new) items) ≡ new
-lent_back len new items e l =
-    ap (take len) (ap (λ (xs : List ℕ). new ++ xs) (drop_all (length new) items (omega arith)) ∙ append-nil new) ∙ take_all len new (omega arith)
+pub lent_back : {A : Type 0} (len : ℕ) (new items : List A) → length new ≡ length items → len ≡ length items → take len (new ++ drop (length new) items) ≡ new
+lent_back {A = A} len new items e l =
+    ap (take len) (ap (λ (xs : List A). new ++ xs) (drop_all (length new) items (omega arith)) ∙ append-nil new) ∙ take_all len new (omega arith)
 
 pub place-below : (cs : List ClassFacts) (x : Bytes) (o : Option ℕ) → o ≡ place_of (names_at cs) x → IfSome o (λ p. p < length cs)
 place-below cs x None e = tt
@@ -219,3 +223,14 @@ module _ (platform release : List ClassFacts) (W : World) (v : side platform rel
       ap (option_map (λ n. length platform + n)) (sym e)
       ∙ ap (λ (k : ℕ). option_map (λ n. k + n) (place_of (names_at release) x)) (sym (length-map platform (λ (c : ClassFacts). c.name)))
       ∙ sym (place-second (names_at platform) (names_at release) x none) ∙ ap (λ (ns : List Bytes). place_of ns x) both-names
+
+  -- the place that the platform keeps of a name above one of its classes
+  pub kept-place : (place at : ℕ) (x : Bytes) (o : Option ℕ) → IsAbove (classes W) place at x → nat_lt place (length platform) ≡ true → o ≡ place_above platform place at → place_of (names_at platform) x ≡ o
+  unfolding and_then
+  kept-place place at x o a l e =
+      let below : place < length platform = ltb-true place (length platform) l in
+      let both : place < length (platform ++ release) = omega (arith, below, length-append platform release) in
+      let there : slice_get platform place ≡ Some a.class =
+      sym (class-front (platform ++ release) [] place both ∙ class-front platform release place below) ∙ ap (λ (V : World). slice_get (classes V) place) v ∙ a.there
+      in
+      sym (e ∙ ap (and_then (λ c. and_then (place_of (names_at platform)) (slice_get (supers c) at))) there ∙ ap (and_then (place_of (names_at platform))) a.named)

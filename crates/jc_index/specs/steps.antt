@@ -11,3 +11,4 @@ pub mod HashedKeys
 pub mod Adding
 pub mod ClassLists
 pub mod NamedClasses
+pub mod PlacesAbove

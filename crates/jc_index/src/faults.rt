@@ -9,8 +9,8 @@ ghost use Rattle.jc_facts.specs.world.Search.{supers};
 ghost use Rattle.jc_facts.specs.world.World.{World, size, find_class};
 ghost use Rattle.jc_index.specs.Ids.{name_at, names, id_of};
 ghost use Rattle.jc_index.specs.steps.Walking.{HaveAllFinal};
-ghost use Rattle.jc_index.specs.steps.Entering.{state_of, is_on, is_known, is_entered, is_fresh, work, bottom, Says, Goes, Leads, IsSettled, IsUnderWay, AreRight, AllHave, Turns, LoadsBefore};
-ghost use Rattle.jc_index.specs.LoadOrder.{IsLoadOrder};
+ghost use Rattle.jc_index.specs.steps.Entering.{state_of, is_on, is_known, is_entered, is_fresh, work, bottom, Says, Goes, Leads, IsSettled, IsUnderWay, AreRight, AllHave, AllLoad, Turns, LoadsBefore};
+ghost use Rattle.jc_index.specs.LoadOrder.{AreInLoadOrder, AreLoads, IsLoadOrder};
 ghost use Rattle.jc_index.specs.steps.Passing.{Passes, ArePassed, AllPassed, GoesPast, ArePassedOnWay, Orders, Grows, Orderly};
 
 use crate::final_keys::FinalKeys;
@@ -394,6 +394,41 @@ fn no_states(alloc: Global, index: &Index) -> Result<Vec<State>, AllocError>
     Ok(states)
 }
 
+// Notes that these classes load.
+fn note_loads(states: &mut [State], ids: &[ClassId])
+    requires { All (λ n. n < length states.old) ids.now }
+    ensures { AllLoad states.old ids.now states.new }
+{
+    for id in ids {
+        states[id.number() as usize] = State::Known(None);
+    }
+}
+
+// What is known where these classes load, each after those that it names above itself.
+fn states_with(alloc: Global, index: &Index, ids: &[ClassId]) -> Result<Vec<State>, AllocError>
+    requires within { All (λ n. n < size index.now) ids.now }
+    requires order { AreInLoadOrder index.now ids.now }
+    ensures settled { IfOk result (λ states. IsSettled index.now states.items) }
+    ensures orders { IfOk result (λ states. Orders index.now states.items ids.now) }
+{
+    let mut states = no_states(alloc, index)?;
+    note_loads(&mut states, ids);
+    Ok(states)
+}
+
+// The classes at these places of the platform.
+fn ids_at(alloc: Global, index: &Index, places: &[usize]) -> Result<Vec<ClassId>, AllocError>
+    requires { AreLoads index.now.platform places.now }
+    ensures within { IfOk result (λ ids. All (λ n. n < size index.now) ids.items) }
+    ensures order { IfOk result (λ ids. AreInLoadOrder index.now ids.items) }
+{
+    let mut ids = Vec::with_capacity(alloc, index.count() as usize)?;
+    for place in places {
+        ids.push(index.id_at(*place))?;
+    }
+    Ok(ids)
+}
+
 /// What is found out of the loading of all classes of a side.
 #[derive(Drop)]
 pub struct Loading {
@@ -404,18 +439,20 @@ pub struct Loading {
 }
 
 /// The load faults of all classes of the side, and an order in which those that load can be loaded
-/// (JVMS 5.3.5). Each class is entered once, and each class above it is looked at twice at most.
+/// (JVMS 5.3.5). `loads` are places of classes that load in the platform alone, of which nothing is
+/// asked again. Each other class is entered once, and each class above it is looked at twice at most.
 ///
 /// # Errors
 ///
 /// `AllocError` where memory runs out.
-pub fn load_all(alloc: Global, index: &Index) -> Result<Loading, AllocError>
+pub fn load_all(alloc: Global, index: &Index, loads: &[usize]) -> Result<Loading, AllocError>
+    requires { AreLoads index.now.platform loads.now }
     ensures faults { IfOk result (λ loading. loading.faults.items ≡ map (load_fault index.now) (names index.now)) }
     ensures order { IfOk result (λ loading. IsLoadOrder index.now loading.order.items) }
 {
     let finals = final_keys(alloc, index)?;
-    let mut states = no_states(alloc, index)?;
-    let mut order = Vec::with_capacity(alloc, index.count() as usize)?;
+    let mut order = ids_at(alloc, index, loads)?;
+    let mut states = states_with(alloc, index, order.as_slice())?;
     let faults = all_faults(alloc, index, &finals, &mut states, &mut order)?;
     Ok(Loading { faults, order })
 }

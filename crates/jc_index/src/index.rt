@@ -1,11 +1,12 @@
 //! Classes in byte order of their names, and what each names above itself.
-ghost use Rattle.std.specs.Prelude.{◌≡◌, ◌<◌, Some, is_some, nat_lt, IfOk, IfSome};
+ghost use Rattle.std.specs.Prelude.{◌≡◌, ◌<◌, Some, is_some, length, nat_lt, IfOk, IfSome};
 ghost use Rattle.std.specs.List.{All};
 ghost use Rattle.jc_facts.specs.Options.{some_where};
-ghost use Rattle.jc_facts.specs.world.World.{size, find_class, class_named};
+ghost use Rattle.jc_facts.specs.world.World.{classes, size, find_class, class_named};
 ghost use Rattle.jc_index.specs.Ids.{name_at, id_of, superclass_of};
 ghost use Rattle.jc_index.specs.Interfaces.{interfaces_of};
 ghost use Rattle.jc_index.specs.Sides.{IsSide};
+ghost use Rattle.jc_index.specs.steps.Order.{name_in};
 
 use crate::ids::ClassId;
 use crate::named_above::{interfaces, superclasses};
@@ -102,6 +103,24 @@ impl Index {
         ensures of_table { IfSome result (λ id. id < size self.now) }
     {
         self.classes.get(name)
+    }
+
+    // The class at this place.
+    pub(crate) fn id_at(&self, place: usize) -> ClassId
+        requires { place < length (classes self.now) }
+        ensures of_table { result < size self.now }
+        ensures named { name_at self.now result ≡ name_in (classes self.now) place }
+    {
+        self.classes.id_at(place)
+    }
+
+    // The place of the class.
+    pub(crate) fn place(&self, id: ClassId) -> usize
+        requires { id < size self.now }
+        ensures within { result < length (classes self.now) }
+        ensures named { name_in (classes self.now) result ≡ name_at self.now id }
+    {
+        self.classes.place(id)
     }
 
     /// The record of the class.

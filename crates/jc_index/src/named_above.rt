@@ -1,12 +1,13 @@
 //! The classes that each class names above itself, each looked for by its name once.
-ghost use Rattle.std.specs.Prelude.{◌≡◌, map, IfOk};
-ghost use Rattle.jc_index.specs.Ids.{names, id_of, superclass_of};
+ghost use Rattle.std.specs.Prelude.{◌≡◌, ◌<◌, cond, is_some, map, Some, IfOk};
+ghost use Rattle.jc_facts.specs.world.World.{size, find_class};
+ghost use Rattle.jc_index.specs.Ids.{name_at, names, id_of, superclass_of};
 ghost use Rattle.jc_index.specs.Interfaces.{interfaces_of};
 
 use crate::ids::ClassId;
 use crate::named_classes::NamedClasses;
 use jc_base::items::Items;
-use jc_base::name::Name;
+use jc_facts::class_facts::ClassFacts;
 use std::alloc::{AllocError, Global};
 
 /// For each class the one that it names as its superclass.
@@ -23,17 +24,30 @@ pub(crate) fn superclasses(
     Ok(supers)
 }
 
-// The classes of these names; none at a name that no class has.
-fn ids_of(
+// How many names the class has above itself before its interfaces.
+fn before_interfaces(class: &ClassFacts) -> usize
+    ensures { result ≡ cond (is_some class.now.superclass) 1 0 }
+{
+    if class.superclass.is_some() { 1 } else { 0 }
+}
+
+// The classes that the class names as its interfaces; none at a name that no class has.
+fn interface_ids(
     alloc: Global,
     classes: &NamedClasses,
-    names: &[Name],
+    id: ClassId,
+    class: &ClassFacts,
 ) -> Result<Vec<Option<ClassId>>, AllocError>
-    ensures { IfOk result (λ ids. ids.items ≡ map (id_of classes.now) names.now) }
+    requires inside { id < size classes.now }
+    requires found { Some class.now ≡ find_class classes.now (name_at classes.now id) }
+    ensures { IfOk result (λ ids. ids.items ≡ map (id_of classes.now) class.now.interfaces) }
 {
+    let before = before_interfaces(class);
+    let names = class.interfaces.as_slice();
     let mut ids = Vec::with_capacity(alloc, names.len())?;
-    for name in names {
-        ids.push(classes.get(name.as_bytes()))?;
+    for at in 0..names.len() {
+        let name = &names[at];
+        ids.push(classes.get_above(id, before + at, name.as_bytes()))?;
     }
     Ok(ids)
 }
@@ -47,8 +61,8 @@ pub(crate) fn interfaces(
 {
     let mut rows = Vec::with_capacity(alloc, classes.count() as usize)?;
     for n in 0..classes.count() {
-        let class = classes.facts(ClassId::new(n));
-        let ids = ids_of(alloc, classes, class.interfaces.as_slice())?;
+        let id = ClassId::new(n);
+        let ids = interface_ids(alloc, classes, id, classes.facts(id))?;
         rows.push(Items::from_vec(ids))?;
     }
     Ok(rows)

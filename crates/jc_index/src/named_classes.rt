@@ -1,12 +1,15 @@
 //! Classes in byte order of their names.
-ghost use Rattle.std.specs.Prelude.{◌≡◌, ◌≤◌, ◌<◌, ◌+◌, ◌++◌, List, ℕ, Some, None, is_some, take, drop, length, IfOk, IfSome, IsTrue};
+ghost use Rattle.std.specs.Prelude.{◌≡◌, ◌≤◌, ◌<◌, ◌+◌, ◌++◌, List, ℕ, Some, None, is_some, take, drop, length, slice_get, IfOk, IfSome, IsTrue};
 ghost use Rattle.std.specs.List.{All};
+ghost use Rattle.jc_facts.specs.declared.class_facts.ClassFacts.{ClassFacts as FactsOf};
 ghost use Rattle.jc_facts.specs.Names.{Bytes};
 ghost use Rattle.jc_facts.specs.file.Valid.{IsValidClass};
 ghost use Rattle.jc_facts.specs.client.Clients.{differ_by_name, HasRoot};
+ghost use Rattle.jc_facts.specs.world.Search.{supers};
 ghost use Rattle.jc_facts.specs.world.World.{World, side, classes, size, find_class, class_named};
 ghost use Rattle.jc_index.specs.Ids.{names, names_of, name_at, id_of, superclass_of};
 ghost use Rattle.jc_index.specs.Sides.{IsSide};
+ghost use Rattle.jc_index.specs.steps.Order.{name_in};
 
 use crate::ids::ClassId;
 use crate::order::{merged, numbers};
@@ -94,6 +97,24 @@ impl NamedClasses {
         }
     }
 
+    /// The class at this place.
+    pub fn id_at(&self, place: usize) -> ClassId
+        requires { place < length (classes self.now) }
+        ensures of_table { result < size self.now }
+        ensures named { name_at self.now result ≡ name_in (classes self.now) place }
+    {
+        ClassId::new(self.numbers[place])
+    }
+
+    /// The place of the class.
+    pub fn place(&self, id: ClassId) -> usize
+        requires { id < size self.now }
+        ensures within { result < length (classes self.now) }
+        ensures named { name_in (classes self.now) result ≡ name_at self.now id }
+    {
+        self.order[id.number() as usize]
+    }
+
     /// The record of the class.
     pub fn facts(&self, id: ClassId) -> &ClassFacts
         requires { id < size self.now }
@@ -102,14 +123,29 @@ impl NamedClasses {
         self.side.at(self.order[id.number() as usize])
     }
 
+    /// The same as `get`, where the name is one of those that the class has above itself, of which
+    /// the superclass is the first.
+    pub fn get_above(&self, id: ClassId, at: usize, name: &[u8]) -> Option<ClassId>
+        requires inside { id < size self.now }
+        requires named { (c : FactsOf) → find_class self.now (name_at self.now id) ≡ Some c → slice_get (supers c) at ≡ Some name.now }
+        ensures { result ≡ id_of self.now name.now }
+    {
+        match self
+            .side
+            .place_above(self.order[id.number() as usize], at, name)
+        {
+            Some(place) => Some(ClassId::new(self.numbers[place])),
+            None => None,
+        }
+    }
+
     /// The class that the class names as its superclass; none where there is none of this name.
     pub fn superclass(&self, id: ClassId) -> Option<ClassId>
         requires { id < size self.now }
-        ensures value { result ≡ superclass_of self.now (name_at self.now id) }
-        ensures of_table { IfSome result (λ id. id < size self.now) }
+        ensures { result ≡ superclass_of self.now (name_at self.now id) }
     {
         match &self.facts(id).superclass {
-            Some(name) => self.get(name.as_bytes()),
+            Some(name) => self.get_above(id, 0, name.as_bytes()),
             None => None,
         }
     }

@@ -1,21 +1,19 @@
 //! Methods that override final ones (JVMS 5.4.5).
 ghost use Rattle.jc_desc.specs.Names.{is_init_name, is_clinit_name};
-ghost use Rattle.std.specs.Prelude.{◌≡◌, ◌<◌, ◌++◌, ◌∷◌, ◌&&◌, ◌||◌, not, [], IfOk, Some, None, IfSome, map};
-ghost use Rattle.std.specs.List.{filter, list_any};
-ghost use Rattle.jc_facts.specs.Names.{Bytes, is_name_among, key_of};
+ghost use Rattle.std.specs.Prelude.{◌≡◌, ◌<◌, ◌++◌, ◌∷◌, ◌&&◌, ◌||◌, not, [], length, IfOk, Some, None, IfSome, map};
+ghost use Rattle.std.specs.List.{filter};
+ghost use Rattle.jc_facts.specs.Names.{key_of};
 ghost use Rattle.jc_facts.specs.Flags.{package_private, final_flag};
 ghost use Rattle.jc_facts.specs.Options.{and_then};
-ghost use Rattle.jc_facts.specs.world.World.{size, classes, find_class, declared_method};
-ghost use Rattle.jc_facts.specs.world.Search.{supers_of};
+ghost use Rattle.jc_facts.specs.world.World.{size, find_class, declared_method};
 ghost use Rattle.jc_facts.specs.world.Hierarchy.{chain, of_super};
 ghost use Rattle.jc_facts.specs.world.Overriding.{directly_overrides, is_overridden_by_any, overrides_this_final, reaches_final, overrides_some_final};
 ghost use Rattle.jc_index.specs.Ids.{id_of, name_at};
-ghost use Rattle.jc_index.specs.steps.Walking.{chain_from, linked_last, HaveAllFinal, is_final_instance, final_keys_in};
+ghost use Rattle.jc_index.specs.steps.Walking.{chain_from, linked_last, AreMarked, HaveAllFinal, is_final_instance, final_keys_where, marked_with};
 
 use crate::final_keys::FinalKeys;
 use crate::ids::ClassId;
 use crate::index::Index;
-use crate::lent_names::{LentNames, lent_superclasses};
 use crate::members::{key_of_member, own_method};
 use crate::packages::same_package;
 use jc_base::name::Name;
@@ -154,40 +152,75 @@ fn push_finals(alloc: Global, keys: &mut Vec<Key>, class: &ClassFacts) -> Result
     Ok(())
 }
 
-// The same, where the class's name is one of these.
-fn push_finals_in(
+// The same, where the class is one that others name as their superclass.
+fn push_finals_where(
     alloc: Global,
     keys: &mut Vec<Key>,
-    names: &LentNames<'_>,
+    is_superclass: bool,
     class: &ClassFacts,
 ) -> Result<(), AllocError>
-    ensures { IfOk result (λ _. keys.new.items ≡ keys.old.items ++ final_keys_in names.now class.now) }
+    ensures { IfOk result (λ _. keys.new.items ≡ keys.old.items ++ final_keys_where is_superclass class.now) }
 {
-    if !names.has(class.name.as_bytes()) {
+    if !is_superclass {
         return Ok(());
     }
     push_finals(alloc, keys, class)?;
     Ok(())
 }
 
-// Those of all classes whose names are these, which are those of superclasses.
-fn finals_in(alloc: Global, index: &Index, names: &LentNames<'_>) -> Result<Vec<Key>, AllocError>
-    requires { (x : Bytes) → is_name_among names.now x ≡ list_any (λ c. is_name_among (supers_of c.superclass []) x) (classes index.now) }
+// Those of all marked classes, which are the superclasses.
+fn finals_in(alloc: Global, index: &Index, marks: &[bool]) -> Result<Vec<Key>, AllocError>
+    requires { AreMarked index.now (size index.now) marks.now }
     ensures { IfOk result (λ keys. HaveAllFinal index.now keys.items) }
 {
     let mut keys = Vec::new(alloc);
     for n in 0..index.count() {
-        push_finals_in(alloc, &mut keys, names, index.facts(ClassId::new(n)))?;
+        push_finals_where(
+            alloc,
+            &mut keys,
+            marks[n as usize],
+            index.facts(ClassId::new(n)),
+        )?;
     }
     Ok(keys)
+}
+
+// Marks the class, where there is one.
+fn mark(marks: &mut [bool], class: Option<ClassId>)
+    requires { IfSome class (λ id. id < length marks.old) }
+    ensures { marks.new ≡ marked_with marks.old class }
+{
+    match class {
+        Some(id) => marks[id.number() as usize] = true,
+        None => {}
+    }
+}
+
+// Marks the superclass of each class.
+fn mark_superclasses(index: &Index, marks: &mut [bool])
+    requires { length marks.old ≡ size index.now }
+    ensures { AreMarked index.now (size index.now) marks.new }
+{
+    for n in 0..index.count() {
+        mark(marks, index.superclass(ClassId::new(n)));
+    }
+}
+
+// No class is marked.
+fn no_marks(alloc: Global, index: &Index) -> Result<Vec<bool>, AllocError>
+    ensures { IfOk result (λ marks. length marks.items ≡ size index.now) }
+{
+    let marks = vec![in alloc; false; index.count() as usize]?;
+    Ok(marks)
 }
 
 // The keys of all final instance methods of superclasses: no method overrides another one.
 pub(crate) fn final_keys(alloc: Global, index: &Index) -> Result<FinalKeys, AllocError>
     ensures { IfOk result (λ keys. HaveAllFinal index.now keys) }
 {
-    let names = lent_superclasses(alloc, index.side())?;
-    let keys = finals_in(alloc, index, &names)?;
+    let mut marks = no_marks(alloc, index)?;
+    mark_superclasses(index, &mut marks);
+    let keys = finals_in(alloc, index, marks.as_slice())?;
     let finals = FinalKeys::new(alloc, keys)?;
     Ok(finals)
 }

@@ -1,17 +1,38 @@
-//! The classes of a platform, which the sides of its releases share.
-ghost use Rattle.std.specs.Prelude.{◌≡◌, IfOk, IsTrue};
+//! The classes of a platform, which the sides of its releases share, with what is found out of them
+//! once.
+ghost use Rattle.std.specs.Prelude.{◌≡◌, ◌<◌, ◌≤◌, map, length, None, IfOk, IsTrue};
+ghost use Rattle.std.specs.List.{All};
 ghost use Rattle.jc_facts.specs.client.Clients.{differ_by_name};
+ghost use Rattle.jc_facts.specs.file.Valid.{IsValidClass};
+ghost use Rattle.jc_facts.specs.world.World.{classes, size};
+ghost use Rattle.jc_index.specs.Ids.{name_at};
+ghost use Rattle.jc_index.specs.LoadOrder.{AreLoads};
+ghost use Rattle.jc_index.specs.Root.{fault_of_root};
+ghost use Rattle.jc_index.specs.steps.Order.{name_in};
 
 use crate::class_list::ClassList;
+use crate::faults::{Loading, load_all};
+use crate::ids::ClassId;
+use crate::index::Index;
+use crate::root::root_fault;
+use crate::shared_list::SharedList;
+use crate::side::Side;
 use jc_facts::class_facts::ClassFacts;
 use std::alloc::{AllocError, Global};
 use std::marker::Model;
-use std::rc::Rc;
 
 /// The classes of a platform. A contract sees it as their list.
-#[derive(Drop)]
 pub struct Platform {
-    classes: Rc<ClassList>,
+    list: SharedList,
+    // Places of classes that load without any release, each after those that it names above itself.
+    loads: Vec<usize>,
+}
+
+// One call at each exit of a function that owns it, where a derived drop is written out.
+impl Drop for Platform {
+    fn drop(self) {
+        let Platform { list: _, loads: _ } = self;
+    }
 }
 
 impl Model for Platform {
@@ -20,25 +41,80 @@ impl Model for Platform {
 
     ghost Value = { List ClassFacts };
 
-    ghost view = { λ p. p.classes.value };
+    ghost use Rattle.jc_index.specs.LoadOrder.{AreLoads};
+
+    ghost view = { λ p. p.list };
+
+    ghost invariant = { λ p. AreLoads p.list p.loads.items };
+}
+
+// The places of the classes of these numbers.
+fn places_of(alloc: Global, index: &Index, ids: &[ClassId]) -> Result<Vec<usize>, AllocError>
+    requires { All (λ n. n < size index.now) ids.now }
+    ensures within { IfOk result (λ places. All (λ at. at < length (classes index.now)) places.items) }
+    ensures named { IfOk result (λ places. map (name_in (classes index.now)) places.items ≡ map (name_at index.now) ids.now) }
+{
+    let mut places = Vec::with_capacity(alloc, ids.len())?;
+    for id in ids {
+        places.push(index.place(*id))?;
+    }
+    Ok(places)
+}
+
+// The places of the classes that load without any release, each after those that it names above
+// itself. They are found out of an index of the platform alone.
+fn places_alone(alloc: Global, list: &SharedList) -> Result<Vec<usize>, AllocError>
+    requires valid { All IsValidClass list.now }
+    requires differ { IsTrue (differ_by_name list.now) }
+    requires root { fault_of_root list.now ≡ None }
+    requires few { length list.now ≤ 120000 }
+    ensures { IfOk result (λ places. AreLoads list.now places.items) }
+{
+    let none = ClassList::new(alloc, Vec::new(alloc))?;
+    let index = Index::new(alloc, Side::new(list.share()?, none))?;
+    let nothing_known = Vec::new(alloc);
+    let Loading { faults: _, order } = load_all(alloc, &index, nothing_known.as_slice())?;
+    let places = places_of(alloc, &index, order.as_slice())?;
+    Ok(places)
+}
+
+// The same; none where no side of the platform may be made.
+fn loads_of(alloc: Global, list: &SharedList) -> Result<Vec<usize>, AllocError>
+    requires valid { All IsValidClass list.now }
+    requires differ { IsTrue (differ_by_name list.now) }
+    ensures { IfOk result (λ places. AreLoads list.now places.items) }
+{
+    let classes = list.list().classes();
+    if classes.len() > 120_000 {
+        return Ok(Vec::new(alloc));
+    }
+    if root_fault(classes).is_some() {
+        return Ok(Vec::new(alloc));
+    }
+    let places = places_alone(alloc, list)?;
+    Ok(places)
 }
 
 impl Platform {
-    /// The platform of these classes, whose names differ.
+    /// The platform of these classes, whose names differ, for the sides of several releases: what
+    /// loads without any of them is found out here.
     ///
     /// # Errors
     ///
     /// `AllocError` where memory runs out.
     pub fn new(alloc: Global, classes: Vec<ClassFacts>) -> Result<Platform, AllocError>
-        requires { IsTrue (differ_by_name classes.items) }
+        requires valid { All IsValidClass classes.items }
+        requires differ { IsTrue (differ_by_name classes.items) }
         ensures { IfOk result (λ platform. platform ≡ classes.items) }
     {
         let list = ClassList::new(alloc, classes)?;
-        let classes = Rc::new(alloc, list)?;
-        Ok(Platform { classes })
+        let list = SharedList::new(alloc, list)?;
+        let loads = loads_of(alloc, &list)?;
+        Ok(Platform { list, loads })
     }
 
-    /// The platform of copies of these classes, whose names differ.
+    /// The platform of copies of these classes, whose names differ, for the side of one release: what
+    /// loads is found out there alone.
     ///
     /// # Errors
     ///
@@ -51,19 +127,21 @@ impl Platform {
         for class in classes {
             copies.push(class.copy(alloc)?)?;
         }
-        Platform::new(alloc, copies)
+        let list = ClassList::new(alloc, copies)?;
+        let list = SharedList::new(alloc, list)?;
+        let loads = Vec::new(alloc);
+        Ok(Platform { list, loads })
     }
 
-    /// The same platform. No class is copied.
+    /// Its classes, as one more side keeps them. No class is copied.
     ///
     /// # Errors
     ///
-    /// `AllocError` where it is shared as often as can be counted.
-    pub fn share(&self) -> Result<Platform, AllocError>
-        ensures { IfOk result (λ platform. platform ≡ self.now) }
+    /// `AllocError` where they are shared as often as can be counted.
+    pub fn share(&self) -> Result<SharedList, AllocError>
+        ensures { IfOk result (λ list. list ≡ self.now) }
     {
-        let classes = Rc::clone(&self.classes)?;
-        Ok(Platform { classes })
+        self.list.share()
     }
 
     /// Its classes.
@@ -77,6 +155,14 @@ impl Platform {
     pub fn list(&self) -> &ClassList
         ensures { result.now ≡ self.now }
     {
-        self.classes.as_ref()
+        self.list.list()
+    }
+
+    /// Places of classes that load without any release, each after those that it names above itself
+    /// (JVMS 5.3.5). They load with each release. Others may load too.
+    pub fn loads(&self) -> &[usize]
+        ensures { AreLoads self.now result.now }
+    {
+        self.loads.as_slice()
     }
 }

@@ -1,21 +1,22 @@
 //! The classes of a platform with those of one release of a library.
-ghost use Rattle.std.specs.Prelude.{◌≡◌, ◌≤◌, ◌<◌, ◌+◌, ◌^◌, Some, length, nat_lt, slice_get};
+ghost use Rattle.std.specs.Prelude.{◌≡◌, ◌≤◌, ◌<◌, ◌+◌, ◌^◌, Some, length, nat_lt, option_map, slice_get};
 ghost use Rattle.jc_facts.specs.client.Clients.{is_named_above};
 ghost use Rattle.jc_facts.specs.world.Mentioned.{all_mentions};
 ghost use Rattle.jc_facts.specs.world.World.{side, classes};
 ghost use Rattle.jc_index.specs.Ids.{place_of};
 ghost use Rattle.jc_index.specs.Mentioned.{is_package};
 ghost use Rattle.jc_index.specs.steps.Order.{names_at};
+ghost use Rattle.jc_index.specs.steps.PlacesAbove.{IsAbove};
 
 use crate::class_list::ClassList;
-use crate::platform::Platform;
+use crate::shared_list::SharedList;
 use jc_facts::class_facts::ClassFacts;
 use std::marker::Model;
 
 /// The classes of a side, those of the platform and then those of the release, by their places: at
 /// most 120,000. A contract sees it as the side.
 pub struct Side {
-    platform: Platform,
+    platform: SharedList,
     release: ClassList,
 }
 
@@ -42,7 +43,7 @@ impl Model for Side {
 
 impl Side {
     /// The side of this platform and this release.
-    pub fn new(platform: Platform, release: ClassList) -> Side
+    pub fn new(platform: SharedList, release: ClassList) -> Side
         requires { length platform + length release ≤ 120000 }
         ensures { result ≡ side platform release }
     {
@@ -54,7 +55,7 @@ impl Side {
         ensures count { result ≡ length (classes self.now) }
         ensures few { result ≤ 120000 }
     {
-        self.platform.classes().len() + self.release.classes().len()
+        self.platform().classes().len() + self.release.classes().len()
     }
 
     /// The class at this place.
@@ -62,7 +63,7 @@ impl Side {
         requires { place < length (classes self.now) }
         ensures { Some result.now ≡ slice_get (classes self.now) place }
     {
-        let platform = self.platform.classes();
+        let platform = self.platform().classes();
         if place < platform.len() {
             &platform[place]
         } else {
@@ -84,16 +85,38 @@ impl Side {
         &self.release
     }
 
+    // The place of the release's class of this name; none where it has none.
+    fn place_in_release(&self, name: &[u8]) -> Option<usize>
+        ensures { result ≡ option_map (λ n. length self.now.platform + n) (place_of (names_at self.now.release) name.now) }
+    {
+        match self.release.place(name) {
+            Some(place) => Some(self.platform().classes().len() + place),
+            None => None,
+        }
+    }
+
     // The place of the class of this name; none where there is none.
     pub(crate) fn place(&self, name: &[u8]) -> Option<usize>
         ensures { result ≡ place_of (names_at (classes self.now)) name.now }
     {
-        match self.platform().place(name) {
+        match self.platform.list().place(name) {
             Some(place) => Some(place),
-            None => match self.release.place(name) {
-                Some(place) => Some(self.platform.classes().len() + place),
-                None => None,
-            },
+            None => self.place_in_release(name),
+        }
+    }
+
+    // The same, where the name is one of those that the class at this place has above itself, of which
+    // the superclass is the first. The platform's classes keep the places of what they name.
+    pub(crate) fn place_above(&self, place: usize, at: usize, name: &[u8]) -> Option<usize>
+        requires { IsAbove (classes self.now) place at name.now }
+        ensures { result ≡ place_of (names_at (classes self.now)) name.now }
+    {
+        if !self.in_platform(place) {
+            return self.place(name);
+        }
+        match self.platform.place_above(place, at) {
+            Some(place) => Some(place),
+            None => self.place_in_release(name),
         }
     }
 
@@ -101,7 +124,7 @@ impl Side {
     pub fn in_platform(&self, place: usize) -> bool
         ensures { result ≡ nat_lt place (length self.now.platform) }
     {
-        place < self.platform.classes().len()
+        place < self.platform().classes().len()
     }
 
     /// Whether a class is of this package: a name up to its last `/`, or nothing (JVMS 5.3).

@@ -12,6 +12,7 @@ ghost use Rattle.jc_facts.specs.world.Hierarchy.{in_chain, is_superinterface};
 ghost use Rattle.jc_facts.specs.world.Loading.{load_fault};
 ghost use Rattle.jc_index.specs.Above.{AreAbove};
 ghost use Rattle.jc_index.specs.Ids.{name_at, names, id_of, superclass_of};
+ghost use Rattle.jc_index.specs.LoadOrder.{AreLoads};
 ghost use Rattle.jc_index.specs.Mentioned.{is_package, mentions_front};
 ghost use Rattle.jc_index.specs.Root.{fault_of_root};
 ghost use Rattle.jc_index.specs.Sides.{IsSide, overlap_of};
@@ -88,13 +89,14 @@ impl Model for Table {
     ghost invariant = { IsTable };
 }
 
-// The table of a side.
-fn of_side(alloc: Global, side: Side) -> Result<Table, AllocError>
-    requires { IsSide side }
+// The table of a side. `loads` are places of classes that load in the platform alone.
+fn of_side(alloc: Global, side: Side, loads: &[usize]) -> Result<Table, AllocError>
+    requires side { IsSide side }
+    requires loads { AreLoads side.platform loads.now }
     ensures { IfOk result (λ table. table ≡ side) }
 {
     let index = Index::new(alloc, side)?;
-    let Loading { faults, order } = load_all(alloc, &index)?;
+    let Loading { faults, order } = load_all(alloc, &index, loads)?;
     let hierarchy = Hierarchy::new(alloc, index)?;
     let rows = Rows::new(alloc, &hierarchy, order.as_slice())?;
     Ok(Table {
@@ -155,13 +157,13 @@ impl Table {
             Ok(Some(name)) => return Err(TableError::Overlap(name)),
             Err(_) => return Err(TableError::Memory),
         }
-        let Ok(platform) = platform.share() else {
+        let Ok(classes) = platform.share() else {
             return Err(TableError::Memory);
         };
         let Ok(release) = ClassList::new(alloc, release) else {
             return Err(TableError::Memory);
         };
-        match of_side(alloc, Side::new(platform, release)) {
+        match of_side(alloc, Side::new(classes, release), platform.loads()) {
             Ok(table) => Ok(table),
             Err(_) => Err(TableError::Memory),
         }

@@ -107,6 +107,14 @@ work ss path = 2 * count_by is_fresh ss + length path
 abbrev pub AllHave : LinkError → List State → List Frame → ℕ → List State → Type 0
 AllHave e ss path top after = (length after ≡ length ss) × ((n : ℕ) → state_of after n ≡ cond (is_on n path || top == n) (states.Known (Some e)) (state_of ss n))
 
+-- the class of number n is one of these
+abbrev pub is_number_among : ℕ → List ℕ → Bool
+is_number_among n ids = list_any (λ m. m == n) ids
+
+-- the states after it is known that these classes load
+abbrev pub AllLoad : List State → List ℕ → List State → Type 0
+AllLoad ss ids after = (length after ≡ length ss) × ((n : ℕ) → state_of after n ≡ cond (is_number_among n ids) (states.Known None) (state_of ss n))
+
 -- what a turn leads to, where this number was at the bottom and so much was left: the fault of that class, or less to do
 abbrev pub Turns : World → ℕ → ℕ → List State → List Frame → Turn → Type 0
 Turns W at before ss path (turns.Over fault) = IsSettled W ss × (load_fault W (name_at W at) ≡ fault)

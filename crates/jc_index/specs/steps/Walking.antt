@@ -1,17 +1,17 @@
 -- Walks up the superclasses of a class, by numbers.
-use Rattle.std.specs.Prelude.{ℕ, ◌≡◌, Bool, false, cond, List, [], ◌∷◌, ◌++◌, map, filter, Option, None, Some, ◌&&◌}
+use Rattle.std.specs.Prelude.{ℕ, ◌≡◌, ◌<◌, Bool, true, false, cond, List, [], ◌∷◌, ◌++◌, length, map, filter, set, slice_index_or, Option, None, Some, ◌&&◌}
 use Rattle.jc_facts.specs.declared.class_facts.ClassFacts.{ClassFacts}
 use Rattle.jc_facts.specs.declared.class_facts.Member.{Member}
 use Rattle.jc_facts.specs.declared.key.Key.{Key}
-use Rattle.jc_facts.specs.Names.{Bytes, is_name_among, key_of}
+use Rattle.jc_facts.specs.Names.{Bytes, key_of}
 use Rattle.jc_facts.specs.Flags.{final_flag, no_static_flag}
 use Rattle.jc_facts.specs.Options.{some_and}
 use Rattle.jc_facts.specs.file.Valid.{has_key}
-use Rattle.jc_facts.specs.world.World.{World, DeclaredMember, find_class, own_method_of}
+use Rattle.jc_facts.specs.world.World.{World, DeclaredMember, find_class, own_method_of, size}
 use Rattle.jc_facts.specs.world.Search.{descend}
 use Rattle.jc_facts.specs.world.Hierarchy.{chain_step}
 use Rattle.jc_facts.specs.world.Overriding.{is_overridden_by_any}
-use Rattle.jc_index.specs.Ids.{name_at}
+use Rattle.jc_index.specs.Ids.{name_at, superclass_of}
 
 -- the class of this number and those above it, at most n of them
 unfoldable pub chain_from : World → ℕ → Option ℕ → List ClassFacts
@@ -31,9 +31,19 @@ is_final_instance m = final_flag m.flags && no_static_flag m.flags
 abbrev pub declares_final_instance : Key → ClassFacts → Bool
 declares_final_instance k c = some_and is_final_instance (own_method_of c k)
 
--- the keys of such methods of the class, where its name is one of these
-abbrev pub final_keys_in : List Bytes → ClassFacts → List Key
-final_keys_in names c = cond (is_name_among names c.name) (map key_of (filter is_final_instance c.methods)) []
+-- the keys of such methods of the class, where it is marked
+abbrev pub final_keys_where : Bool → ClassFacts → List Key
+final_keys_where marked c = cond marked (map key_of (filter is_final_instance c.methods)) []
+
+-- the marks, of which that of the class is set, where there is one
+abbrev pub marked_with : List Bool → Option ℕ → List Bool
+marked_with marks None = marks
+marked_with marks (Some n) = set marks n true
+
+-- there is a mark for each class, and those of the superclasses of the first so many classes are set
+pub record AreMarked (W : World) (n : ℕ) (marks : List Bool) : Type 0 where
+  pub count : length marks ≡ size W
+  pub marked : (m k : ℕ) → m < n → superclass_of W (name_at W m) ≡ Some k → slice_index_or marks k false ≡ true
 
 -- these are the keys of all such methods of the classes that others have as their superclass, or more
 abbrev pub HaveAllFinal : World → List Key → Type 0

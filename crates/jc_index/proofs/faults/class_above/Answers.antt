@@ -3,7 +3,7 @@ use Rattle.std.specs.Prelude.{IfSome, slice_get}
 use Rattle.jc_facts.specs.Options.{and_then}
 use Rattle.jc_facts.specs.world.World.{World, size}
 use Rattle.jc_facts.specs.world.Search.{supers}
-use Rattle.jc_index.specs.Ids.{name_at}
+use Rattle.jc_index.specs.Ids.{id_of, name_at}
 use Rattle.jc_index.proofs.Keeps.{interfaces_is}
 use Rattle.jc_index.proofs.Numbers.{superclass_is}
 use Rattle.jc_index.proofs.NamedAbove.{class-at, super-first, interface-next, interface-alone}
@@ -23,7 +23,7 @@ next c =
     let z : c.args.at ≡ suc (c.args.at - 1) = omega arith in
     c.class_at.ensures
     ∙ ap (λ (os : List (Option ℕ)). and_then (λ (o : Option ℕ). o) (slice_get os (c.args.at - 1))) (c.interfaces-interfaces.ensures.value ∙ interfaces_is W (name_at W c.args.id) c.args.class.now c.requires.found)
-    ∙ class-at W c.args.class.now.interfaces (c.args.at - 1)
+    ∙ class-at (id_of W) c.args.class.now.interfaces (c.args.at - 1)
     ∙ interface-next W c.args.class.now.interfaces c.args.class.now.superclass c.in-Some.field-0 c.args.at (c.args.at - 1) c.in-Some.is z
 
 pub returns-else-at-eq0-clause-value : goal.returns-else-at-eq0-clause-value
@@ -38,7 +38,7 @@ alone c =
     let W : World = c.args.index.now in
     c.class_at-in-None.ensures
     ∙ ap (λ (os : List (Option ℕ)). and_then (λ (o : Option ℕ). o) (slice_get os c.args.at)) (c.interfaces-interfaces.ensures.value ∙ interfaces_is W (name_at W c.args.id) c.args.class.now c.requires.found)
-    ∙ class-at W c.args.class.now.interfaces c.args.at
+    ∙ class-at (id_of W) c.args.class.now.interfaces c.args.at
     ∙ interface-alone W c.args.class.now.interfaces c.args.class.now.superclass c.args.at c.in-None.is
 
 pub returns-in-None-clause-value : goal.returns-in-None-clause-value

@@ -1,6 +1,6 @@
-use Rattle.std.proofs.Common.{◌≤◌, ◌∙◌, ◌++◌, ◌∷◌, [], map, sym, ap, arith}
+use Rattle.std.proofs.Common.{◌≤◌, ◌∙◌, ◌++◌, ◌∷◌, [], sym, ap, arith}
 use Rattle.jc_facts.specs.world.World.{size}
-use Rattle.jc_index.specs.Ids.{name_at, id_of}
+use Rattle.jc_index.specs.Ids.{name_at}
 use Rattle.jc_index.specs.Interfaces.{interfaces_of}
 use Rattle.jc_index.proofs.Keeps.{column-more, column-all, interfaces_is}
 use Rattle.jc_index.proofs.named_above.interfaces.Goals as goal
@@ -9,8 +9,8 @@ pub loop-n-preserved : goal.loop-n-preserved
 loop-n-preserved c =
     let W = c.args.classes.now in
     c.in_ok-push.ensures.items ∙ ap (λ ids. c.loop-n.rows.items ++ ids ∷ []) c.from_vec.ensures
-    ∙ column-more W (interfaces_of W) c.loop-n.rows.items c.loop-n.n c.new.result c.in_ok-ids.ids.items (omega (arith, c.count-n-end.ensures.count)) c.new.ensures c.loop-n.invariant
-    (c.in_ok-ids.ensures ∙ ap (map (id_of W)) c.as_slice.ensures ∙ sym (interfaces_is W (name_at W c.new.result) c.facts-class.result.now c.facts-class.ensures))
+    ∙ column-more W (interfaces_of W) c.loop-n.rows.items c.loop-n.n c.new-id.result c.in_ok-ids.ids.items (omega (arith, c.count-n-end.ensures.count)) c.new-id.ensures c.loop-n.invariant
+    (c.in_ok-ids.ensures ∙ sym (interfaces_is W (name_at W c.new-id.result) c.facts.result.now c.facts.ensures))
 
 pub returns : goal.returns
 returns c =
