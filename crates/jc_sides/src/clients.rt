@@ -83,8 +83,8 @@ fn permits(sides: &Sides<'_>, names: &Option<Items<Name>>) -> bool
     }
 }
 
-// The names, to be looked for.
-fn set_of(alloc: Global, names: &[Name]) -> Result<NameSet, AllocError>
+/// The names, to be looked for.
+pub fn set_of(alloc: Global, names: &[Name]) -> Result<NameSet, AllocError>
     ensures { IfOk result (λ set. IsPermutation names.now set) }
 {
     let mut copies = Vec::with_capacity(alloc, names.len())?;
@@ -95,8 +95,8 @@ fn set_of(alloc: Global, names: &[Name]) -> Result<NameSet, AllocError>
     Ok(set)
 }
 
-// Whether the name is a client's and isn't in the set.
-fn is_left_out(sides: &Sides<'_>, name: &Name, set: &NameSet) -> bool
+/// Whether clients of both sides may have the name, and it isn't in the set.
+pub fn is_left_out(sides: &Sides<'_>, name: &Name, set: &NameSet) -> bool
     ensures { result ≡ (allowed sides.now.old sides.now.new name.now && not (is_name_among set.now name.now)) }
 {
     is_allowed_on_both(sides, name) && !set.has(name.as_bytes())
