@@ -1,5 +1,5 @@
 -- Fields that are looked up in a row, and the keys of those that are found.
-use Rattle.std.proofs.Common.{◌≡◌, Bool, true, false, List, refl, sym, Option, Some, None, is_some}
+use Rattle.std.proofs.Common.{◌≡◌, true, false, List, refl, sym, Option, Some, None, is_some}
 use Rattle.std.specs.Prelude.{IsTrue, IfSome}
 use Rattle.std.specs.List.{list_any}
 use Rattle.jc_facts.specs.declared.key.Key.{Key}

@@ -1,10 +1,9 @@
 -- What the collision of methods that are found before those of a client's interfaces makes.
 use Rattle.std.proofs.Common.{◌≡◌, ℕ, Bool, true, false, not, cond, List, [], ◌∷◌, refl, sym, ◌∙◌, ap, Option, Some, None, is_some, is_none, ◌&&◌, ◌||◌, ◌⊎◌, inl, inr}
-use Rattle.std.specs.List.{list_any, Contains}
+use Rattle.std.specs.List.{Contains}
 use Rattle.std.proofs.lemmas.Bool.{and_parts, and_from, or_left}
 use Rattle.std.proofs.lemmas.List.Elements.{recursion_from_All}
 use Rattle.jc_facts.specs.declared.class_facts.ClassFacts.{ClassFacts}
-use Rattle.jc_facts.specs.declared.class_facts.Member.{Member}
 use Rattle.jc_facts.specs.declared.act.Act.TheVariants.{InvokeVirtual}
 use Rattle.jc_facts.specs.declared.key.Key.{Key}
 use Rattle.jc_facts.specs.declared.link_error.LinkError.{LinkError}
@@ -17,10 +16,10 @@ use Rattle.jc_facts.specs.world.Lookup.{first_declared, method_choices, or_choic
 use Rattle.jc_facts.specs.world.Loading.{load_fault}
 use Rattle.jc_facts.specs.world.Assignment.{is_interface_of}
 use Rattle.jc_facts.specs.Names.{Bytes, is_init_name, is_clinit_name}
-use Rattle.jc_facts.specs.Options.{or_else, some_and, some_where}
+use Rattle.jc_facts.specs.Options.{some_and, some_where}
 use Rattle.jc_facts.specs.rule.Orders.{collision_order}
 use Rattle.jc_facts.specs.rule.Bases.{class_is, newly_sealed, is_steady, is_class_closed, is_extendable, is_implementable, is_base_class, is_key_of_method}
-use Rattle.jc_facts.specs.world.World.{World, find_class, own_method_of, found_in, DeclaredMember}
+use Rattle.jc_facts.specs.world.World.{World, find_class, DeclaredMember}
 use Rattle.jc_lemmas.proofs.Bools.{and_false, neither_first, neither_last, not_true}
 use Rattle.jc_lemmas.proofs.Listed.{none, cases, each_in}
 use Rattle.jc_worlds.specs.Agreement.{LooksTheSame}

@@ -16,6 +16,7 @@ use jc_sides::kept::kept;
 use jc_sides::shared::before;
 use jc_sides::sides::Sides;
 use jc_table::ids::ClassId;
+use std::alloc::{AllocError, Global};
 
 // How clients name the class above themselves.
 fn act_on(class: &ClassFacts) -> Act
@@ -41,10 +42,18 @@ impl ClassRule for ClassClosed {
         CLASS_CLOSED
     }
 
-    fn on_class(&self, sides: &Sides<'_>, id: ClassId) -> Option<BrokenAct<'_>> {
-        let class = kept(sides, id)?;
-        let closed = is_closed(sides, &class);
+    fn on_class(
+        &self,
+        alloc: Global,
+        sides: &Sides<'_>,
+        id: ClassId,
+    ) -> Result<Option<BrokenAct<'_>>, AllocError> {
+        let Some(class) = kept(sides, id) else {
+            return Ok(None);
+        };
+        let closed = is_closed(alloc, sides, &class)?;
         let act = act_on(before(sides, &class));
-        broken_where(closed, act, LinkError::IncompatibleClassChangeError)
+        let error = LinkError::IncompatibleClassChangeError;
+        Ok(broken_where(closed, act, error))
     }
 }

@@ -14,6 +14,7 @@ use jc_sides::kept::is_usable;
 use jc_sides::sides::Sides;
 use jc_table::ids::ClassId;
 use jc_table::table::Table;
+use std::alloc::{AllocError, Global};
 
 // Why clients can't use the class of this name; none where they can.
 fn unusable(table: &Table, name: &Name) -> Option<LinkError>
@@ -44,9 +45,16 @@ impl ClassRule for ClassGone {
         CLASS_GONE
     }
 
-    fn on_class(&self, sides: &Sides<'_>, id: ClassId) -> Option<BrokenAct<'_>> {
+    fn on_class(
+        &self,
+        _alloc: Global,
+        sides: &Sides<'_>,
+        id: ClassId,
+    ) -> Result<Option<BrokenAct<'_>>, AllocError> {
         let was_usable = is_usable(sides.old, id);
-        let error = unusable(sides.new, &sides.old.facts(id).name)?;
-        broken_where(was_usable, Act::ClassRef, error)
+        let Some(error) = unusable(sides.new, &sides.old.facts(id).name) else {
+            return Ok(None);
+        };
+        Ok(broken_where(was_usable, Act::ClassRef, error))
     }
 }

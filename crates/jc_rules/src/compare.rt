@@ -35,7 +35,7 @@ use jc_base::items::Items;
 use jc_facts::finding::Finding;
 use jc_facts::verdict::{Collision, Note, Verdict};
 use jc_sides::class_rule::by_class;
-use jc_sides::classes::{base_classes, base_interfaces, steady_classes};
+use jc_sides::classes::{base_classes, base_interfaces, names_of, steady_classes};
 use jc_sides::collision_rule::Collisions;
 use jc_sides::finding_rule::Findings;
 use jc_sides::item_rule::by_items;
@@ -91,8 +91,9 @@ fn findings_below(
     requires translation { IsTranslation sides.now translation.now }
     ensures { IfOk result (λ found. IsWithin finding_order (OfRules 5 7 sides.now) most (option_map (λ fs. fs.items) found)) }
 {
+    let bases = names_of(alloc, seats.bases())?;
     let constructors = Findings {
-        rule: ConstructorClosed,
+        rule: ConstructorClosed { bases },
     };
     let made_final = Findings {
         rule: MethodMadeFinal { seats },

@@ -2,8 +2,9 @@
 ghost use Rattle.std.specs.Prelude.{◌≡◌};
 ghost use Rattle.jc_facts.specs.declared.rule_numbers.TheConstants.{CONSTRUCTOR_CLOSED};
 ghost use Rattle.jc_facts.specs.Flags.{public_flag};
-ghost use Rattle.jc_facts.specs.rule.Bases.{is_steady};
+ghost use Rattle.jc_facts.specs.rule.Bases.{is_base_class, is_steady};
 ghost use Rattle.jc_rules.specs.steps.Constructors.{makes_no_objects, open_flags, declares_init, fault_of_new, fault_of_super};
+ghost use Rattle.jc_sides.specs.SharedOf.{HasThose};
 
 use crate::own::method_flags;
 use jc_desc::names::is_init;
@@ -14,12 +15,12 @@ use jc_facts::key::Key;
 use jc_facts::link_error::LinkError;
 use jc_facts::rule_numbers::CONSTRUCTOR_CLOSED;
 use jc_sides::broken::{BrokenAct, broken_where};
-use jc_sides::clients::is_base_class;
 use jc_sides::finding_rule::FindingRule;
 use jc_sides::key_numbers::KeyNumbers;
 use jc_sides::members::Members;
 use jc_sides::shared::{Shared, after, before};
 use jc_sides::sides::Sides;
+use jc_table::name_set::NameSet;
 
 // Whether no object of the class can be made.
 fn is_uninstantiable(class: &ClassFacts) -> bool
@@ -106,14 +107,17 @@ fn super_fault(key: &Key, was: Option<u16>, now: Option<u16>) -> Option<LinkErro
 /// Constructors by which clients could make objects of a class, or which their subclasses could
 /// call, and can't any more (JVMS 5.4.4, 6.5).
 #[derive(Drop)]
-pub struct ConstructorClosed;
+pub struct ConstructorClosed {
+    /// The names of the base classes. Whether a class is one is asked for each of its constructors.
+    pub bases: NameSet,
+}
 
 impl FindingRule for ConstructorClosed {
     ghost rule = { CONSTRUCTOR_CLOSED };
 
     ghost covers = { λ s x. is_steady s.old s.new x };
 
-    ghost ready = { λ _ _. Unit {0} };
+    ghost ready = { λ r s. HasThose (is_base_class s.old s.new) s r.bases };
 
     fn number(&self) -> u8 {
         CONSTRUCTOR_CLOSED
@@ -136,6 +140,7 @@ impl FindingRule for ConstructorClosed {
             return broken_where(true, Act::NewObject, error);
         }
         let error = super_fault(key, was, now)?;
-        broken_where(is_base_class(sides, class), Act::InitSuper, error)
+        let is_base = self.bases.has(class.name.as_bytes());
+        broken_where(is_base, Act::InitSuper, error)
     }
 }

@@ -11,6 +11,7 @@ use jc_sides::clients::became_class;
 use jc_sides::kept::kept;
 use jc_sides::sides::Sides;
 use jc_table::ids::ClassId;
+use std::alloc::{AllocError, Global};
 
 /// Kept interfaces that became classes (JVMS 4.10.1.2).
 pub struct InterfaceBecameClass;
@@ -24,9 +25,16 @@ impl ClassRule for InterfaceBecameClass {
         INTERFACE_BECAME_CLASS
     }
 
-    fn on_class(&self, sides: &Sides<'_>, id: ClassId) -> Option<BrokenAct<'_>> {
-        let class = kept(sides, id)?;
+    fn on_class(
+        &self,
+        _alloc: Global,
+        sides: &Sides<'_>,
+        id: ClassId,
+    ) -> Result<Option<BrokenAct<'_>>, AllocError> {
+        let Some(class) = kept(sides, id) else {
+            return Ok(None);
+        };
         let became = became_class(sides, &class);
-        broken_where(became, Act::Assignment, LinkError::VerifyError)
+        Ok(broken_where(became, Act::Assignment, LinkError::VerifyError))
     }
 }

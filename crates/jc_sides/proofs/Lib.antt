@@ -14,3 +14,4 @@ pub mod Limits
 pub mod ItemRules
 pub mod BaseParts
 pub mod Seen
+mod Permitted

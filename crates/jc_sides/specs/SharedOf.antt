@@ -1,7 +1,7 @@
 -- Classes that both sides have.
 use Rattle.std.specs.Prelude.{◌<◌, ◌≡◌, ◌++◌, [], ℕ, true, false, Bool, List, Option, None, Some, map}
 use Rattle.std.specs.List.{filter, cons_option, All}
-use Rattle.jc_facts.specs.Names.{Bytes}
+use Rattle.jc_facts.specs.Names.{Bytes, is_name_among}
 use Rattle.jc_facts.specs.world.World.{size}
 use Rattle.jc_facts.specs.rule.Bases.{is_kept}
 use Rattle.jc_table.specs.Ids.{name_at, names}
@@ -42,3 +42,7 @@ pub record AreThose (test : Bytes → Bool) (s : SidesOf) (bases : List SharedOf
 -- only classes that are kept pass the test
 abbrev pub OfKept : (SidesOf → Bytes → Bool) → Type 0
 OfKept test = (s : SidesOf) (x : Bytes) → is_kept s.old s.new x ≡ false → test s x ≡ false
+
+-- a class that both sides have has its name in the set exactly where it passes the test
+abbrev pub HasThose : (Bytes → Bool) → SidesOf → List Bytes → Type 0
+HasThose test s set = (b : SharedOf) → IsShared s b → is_name_among set (name_of b) ≡ test (name_of b)

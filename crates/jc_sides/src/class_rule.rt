@@ -24,9 +24,14 @@ pub trait ClassRule {
         ensures { result ≡ rule };
 
     /// What is broken by the change of the class of this number on the old side.
-    fn on_class(&self, sides: &Sides<'_>, id: ClassId) -> Option<BrokenAct<'_>>
+    fn on_class(
+        &self,
+        alloc: Global,
+        sides: &Sides<'_>,
+        id: ClassId,
+    ) -> Result<Option<BrokenAct<'_>>, AllocError>
         requires { id < size sides.now.old }
-        ensures { found (on_class rule (name_at sides.now.old id)) result ≡ class_finding rule sides.now (name_at sides.now.old id) };
+        ensures { IfOk result (λ broken. found (on_class rule (name_at sides.now.old id)) broken ≡ class_finding rule sides.now (name_at sides.now.old id)) };
 
     ghost alone: { IsOnClass rule };
 }
@@ -42,7 +47,7 @@ fn of_class<R: ClassRule>(
     ensures { IfOk result (λ f. f ≡ class_finding R.rule sides.now (name_at sides.now.old id)) }
 {
     let name = &sides.old.facts(id).name;
-    let broken = rule.on_class(sides, id);
+    let broken = rule.on_class(alloc, sides, id)?;
     let found = finding(alloc, rule.number(), name, None, None, broken)?;
     Ok(found)
 }

@@ -4,7 +4,7 @@ ghost use Rattle.jc_facts.specs.Names.{Bytes};
 ghost use Rattle.jc_facts.specs.world.World.{size};
 ghost use Rattle.jc_facts.specs.rule.Bases.{is_kept, is_steady, is_base_class, is_base_interface};
 ghost use Rattle.jc_table.specs.Ids.{name_at};
-ghost use Rattle.jc_sides.specs.SharedOf.{IsShared, AddsWhere, AreThose, OfKept, name_of};
+ghost use Rattle.jc_sides.specs.SharedOf.{IsShared, AddsWhere, AreThose, HasThose, OfKept, name_of};
 ghost use Rattle.jc_sides.specs.SidesOf.{SidesOf};
 
 use crate::clients::{is_base_class, is_base_interface, is_steady};
@@ -12,6 +12,7 @@ use crate::kept::kept;
 use crate::shared::Shared;
 use crate::sides::Sides;
 use jc_table::ids::ClassId;
+use jc_table::name_set::NameSet;
 use std::alloc::{AllocError, Global};
 
 /// A test of kept classes.
@@ -19,14 +20,20 @@ pub trait ClassTest {
     ghost test: { SidesOf → Bytes → Bool };
 
     /// Whether the kept class passes.
-    fn passes(&self, sides: &Sides<'_>, class: &Shared<'_>) -> bool
+    fn passes(
+        &self,
+        alloc: Global,
+        sides: &Sides<'_>,
+        class: &Shared<'_>,
+    ) -> Result<bool, AllocError>
         requires shared { IsShared sides.now «class».now }
         requires kept { IsTrue (is_kept sides.now.old sides.now.new (name_of «class».now)) }
-        ensures { result ≡ test sides.now (name_of «class».now) };
+        ensures { IfOk result (λ passes. passes ≡ test sides.now (name_of «class».now)) };
 }
 
 // Adds the class of this number, if it passes.
 fn push_where<'a, T: ClassTest>(
+    alloc: Global,
     classes: &mut Vec<Shared<'a>>,
     sides: &Sides<'a>,
     test: &T,
@@ -39,7 +46,8 @@ fn push_where<'a, T: ClassTest>(
     let Some(class) = kept(sides, id) else {
         return Ok(());
     };
-    if !test.passes(sides, &class) {
+    let passes = test.passes(alloc, sides, &class)?;
+    if !passes {
         return Ok(());
     }
     classes.push(class)?;
@@ -58,7 +66,7 @@ pub fn classes_where<'a, T: ClassTest>(
     let mut classes = Vec::new(alloc);
     for n in 0..sides.old.count() {
         let id = sides.old.id(n).unwrap();
-        push_where(&mut classes, sides, test, id)?;
+        push_where(alloc, &mut classes, sides, test, id)?;
     }
     Ok(classes)
 }
@@ -69,8 +77,13 @@ struct Steady;
 impl ClassTest for Steady {
     ghost test = { λ s x. is_steady s.old s.new x };
 
-    fn passes(&self, sides: &Sides<'_>, class: &Shared<'_>) -> bool {
-        is_steady(sides, class)
+    fn passes(
+        &self,
+        _alloc: Global,
+        sides: &Sides<'_>,
+        class: &Shared<'_>,
+    ) -> Result<bool, AllocError> {
+        Ok(is_steady(sides, class))
     }
 }
 
@@ -80,8 +93,13 @@ struct BaseClass;
 impl ClassTest for BaseClass {
     ghost test = { λ s x. is_base_class s.old s.new x };
 
-    fn passes(&self, sides: &Sides<'_>, class: &Shared<'_>) -> bool {
-        is_base_class(sides, class)
+    fn passes(
+        &self,
+        alloc: Global,
+        sides: &Sides<'_>,
+        class: &Shared<'_>,
+    ) -> Result<bool, AllocError> {
+        is_base_class(alloc, sides, class)
     }
 }
 
@@ -91,8 +109,13 @@ struct BaseInterface;
 impl ClassTest for BaseInterface {
     ghost test = { λ s x. is_base_interface s.old s.new x };
 
-    fn passes(&self, sides: &Sides<'_>, class: &Shared<'_>) -> bool {
-        is_base_interface(sides, class)
+    fn passes(
+        &self,
+        alloc: Global,
+        sides: &Sides<'_>,
+        class: &Shared<'_>,
+    ) -> Result<bool, AllocError> {
+        is_base_interface(alloc, sides, class)
     }
 }
 
@@ -120,4 +143,17 @@ pub fn base_interfaces<'a>(alloc: Global, sides: &Sides<'a>) -> Result<Vec<Share
 {
     let classes = classes_where(alloc, sides, &BaseInterface)?;
     Ok(classes)
+}
+
+/// The names of the classes, to be looked for: where they are all that pass a test, whether a class
+/// passes it.
+pub fn names_of(alloc: Global, classes: &[Shared<'_>]) -> Result<NameSet, AllocError>
+    ensures { IfOk result (λ set. (s : SidesOf) (test : Bytes → Bool) → AreThose test s classes.now → HasThose test s set) }
+{
+    let mut names = Vec::with_capacity(alloc, classes.len())?;
+    for class in classes {
+        names.push(class.name.copy(alloc)?)?;
+    }
+    let set = NameSet::new(names)?;
+    Ok(set)
 }

@@ -1,8 +1,10 @@
 //! Which kept classes clients could name above themselves, and still can (JVMS 4.7.31, 5.3.5).
-ghost use Rattle.std.specs.Prelude.{◌≡◌, ◌&&◌, not, is_some, IsTrue};
+ghost use Rattle.std.specs.Prelude.{◌≡◌, ◌&&◌, ◌||◌, not, is_some, IfOk, IsTrue};
 ghost use Rattle.std.specs.Str.{is_utf8};
 ghost use Rattle.std.specs.List.{list_any};
+ghost use Rattle.std.specs.List.Sorted.{IsPermutation};
 ghost use Rattle.jc_facts.specs.client.Clients.{is_allowed_name};
+ghost use Rattle.jc_facts.specs.Flags.{final_flag, interface_flag};
 ghost use Rattle.jc_facts.specs.Names.{is_name_among, is_init_name};
 ghost use Rattle.jc_facts.specs.world.World.{find_class};
 ghost use Rattle.jc_facts.specs.rule.Bases.{allowed, permits_some, has_init, public_or_protected, leaves_out, is_kept, became_class, is_steady, is_class_closed, is_base_class, is_base_interface};
@@ -16,8 +18,10 @@ use jc_base::name::Name;
 use jc_desc::names;
 use jc_facts::class_facts::{ClassFacts, Member};
 use jc_facts::flags::{is_final, is_interface, is_protected, is_public};
+use jc_table::name_set::NameSet;
 use jc_table::packages::package_of;
 use jc_table::table::Table;
+use std::alloc::{AllocError, Global};
 use std::str;
 
 // ---- names of clients
@@ -79,28 +83,62 @@ fn permits(sides: &Sides<'_>, names: &Option<Items<Name>>) -> bool
     }
 }
 
-// Whether the name is one of these.
-fn is_one_of(names: &[Name], name: &Name) -> bool
-    ensures { result ≡ is_name_among names.now name.now }
+/// The names, to be looked for.
+pub fn set_of(alloc: Global, names: &[Name]) -> Result<NameSet, AllocError>
+    ensures { IfOk result (λ set. IsPermutation names.now set) }
 {
-    names.iter().any(|one| *one == *name)
+    let mut copies = Vec::with_capacity(alloc, names.len())?;
+    for name in names {
+        copies.push(name.copy(alloc)?)?;
+    }
+    let set = NameSet::new(copies)?;
+    Ok(set)
 }
 
-// Whether one of the names is a client's and isn't listed any more.
-fn drops_one(sides: &Sides<'_>, before: &[Name], after: &[Name]) -> bool
-    ensures { result ≡ list_any (λ x. allowed sides.now.old sides.now.new x && not (is_name_among after.now x)) before.now }
+/// Whether clients of both sides may have the name, and it isn't in the set.
+pub fn is_left_out(sides: &Sides<'_>, name: &Name, set: &NameSet) -> bool
+    ensures { result ≡ (allowed sides.now.old sides.now.new name.now && not (is_name_among set.now name.now)) }
 {
-    before.iter().any(|name| is_allowed_on_both(sides, name) && !is_one_of(after, name))
+    is_allowed_on_both(sides, name) && !set.has(name.as_bytes())
+}
+
+// Whether one of the names is a client's and isn't in the set.
+fn leaves_one_out(sides: &Sides<'_>, names: &[Name], set: &NameSet) -> bool
+    ensures { result ≡ list_any (λ x. allowed sides.now.old sides.now.new x && not (is_name_among set.now x)) names.now }
+{
+    names.iter().any(|name| is_left_out(sides, name, set))
+}
+
+// Whether one of the names is a client's and isn't listed any more. Lists that are the same, as most
+// are, take no memory.
+fn drops_one(
+    alloc: Global,
+    sides: &Sides<'_>,
+    before: &[Name],
+    after: &[Name],
+) -> Result<bool, AllocError>
+    ensures { IfOk result (λ drops. drops ≡ list_any (λ x. allowed sides.now.old sides.now.new x && not (is_name_among after.now x)) before.now) }
+{
+    if before == after {
+        return Ok(false);
+    }
+    let set = set_of(alloc, after)?;
+    Ok(leaves_one_out(sides, before, &set))
 }
 
 // Whether the new permitted names leave out a client that the old ones let in.
-fn seals_off(sides: &Sides<'_>, before: &Option<Items<Name>>, after: &Option<Items<Name>>) -> bool
-    ensures { result ≡ leaves_out sides.now.old sides.now.new before.now after.now }
+fn seals_off(
+    alloc: Global,
+    sides: &Sides<'_>,
+    before: &Option<Items<Name>>,
+    after: &Option<Items<Name>>,
+) -> Result<bool, AllocError>
+    ensures { IfOk result (λ seals. seals ≡ leaves_out sides.now.old sides.now.new before.now after.now) }
 {
     match (before, after) {
-        (_, None) => false,
-        (None, Some(_)) => true,
-        (Some(before), Some(after)) => drops_one(sides, before.as_slice(), after.as_slice()),
+        (_, None) => Ok(false),
+        (None, Some(_)) => Ok(true),
+        (Some(before), Some(after)) => drops_one(alloc, sides, before.as_slice(), after.as_slice()),
     }
 }
 
@@ -137,13 +175,33 @@ fn could_implement(sides: &Sides<'_>, class: &ClassFacts) -> bool
     is_interface(class.flags) && permits(sides, &class.permits)
 }
 
-// Whether the class is final now, became an interface or is newly sealed.
-fn shuts_out(sides: &Sides<'_>, before: &ClassFacts, after: &ClassFacts) -> bool
-    ensures { result ≡ shuts_out sides.now before.now after.now }
+// Whether clients could name a usable class of this record above themselves.
+fn could_name(sides: &Sides<'_>, class: &ClassFacts) -> bool
+    ensures { result ≡ (could_extend sides.now class.now || could_implement sides.now class.now) }
 {
-    is_final(after.flags)
-        || (is_interface(after.flags) && !is_interface(before.flags))
-        || seals_off(sides, &before.permits, &after.permits)
+    could_extend(sides, class) || could_implement(sides, class)
+}
+
+// Whether the class is final now or became an interface.
+fn is_barred(before: &ClassFacts, after: &ClassFacts) -> bool
+    ensures { result ≡ (final_flag after.now.flags || (interface_flag after.now.flags && not (interface_flag before.now.flags))) }
+{
+    is_final(after.flags) || (is_interface(after.flags) && !is_interface(before.flags))
+}
+
+// Whether the class is final now, became an interface or is newly sealed.
+fn shuts_out(
+    alloc: Global,
+    sides: &Sides<'_>,
+    before: &ClassFacts,
+    after: &ClassFacts,
+) -> Result<bool, AllocError>
+    ensures { IfOk result (λ shuts. shuts ≡ shuts_out sides.now before.now after.now) }
+{
+    if is_barred(before, after) {
+        return Ok(true);
+    }
+    seals_off(alloc, sides, &before.permits, &after.permits)
 }
 
 // Whether the class was an interface and is none.
@@ -154,28 +212,56 @@ fn becomes_class(before: &ClassFacts, after: &ClassFacts) -> bool
 }
 
 // Whether clients could name the class above themselves, and some can't any more.
-fn closes(sides: &Sides<'_>, before: &ClassFacts, after: &ClassFacts) -> bool
-    ensures { result ≡ closes sides.now before.now after.now }
+fn closes(
+    alloc: Global,
+    sides: &Sides<'_>,
+    before: &ClassFacts,
+    after: &ClassFacts,
+) -> Result<bool, AllocError>
+    ensures { IfOk result (λ closed. closed ≡ closes sides.now before.now after.now) }
 {
-    !becomes_class(before, after)
-        && (could_extend(sides, before) || could_implement(sides, before))
-        && shuts_out(sides, before, after)
+    if becomes_class(before, after) {
+        return Ok(false);
+    }
+    if !could_name(sides, before) {
+        return Ok(false);
+    }
+    shuts_out(alloc, sides, before, after)
 }
 
 // Whether clients could extend the class, and still can.
-fn stays_superclass(sides: &Sides<'_>, before: &ClassFacts, after: &ClassFacts) -> bool
-    ensures { result ≡ stays_superclass sides.now before.now after.now }
+fn stays_superclass(
+    alloc: Global,
+    sides: &Sides<'_>,
+    before: &ClassFacts,
+    after: &ClassFacts,
+) -> Result<bool, AllocError>
+    ensures { IfOk result (λ stays. stays ≡ stays_superclass sides.now before.now after.now) }
 {
-    could_extend(sides, before) && !shuts_out(sides, before, after)
+    if !could_extend(sides, before) {
+        return Ok(false);
+    }
+    let shut_out = shuts_out(alloc, sides, before, after)?;
+    Ok(!shut_out)
 }
 
 // Whether clients could implement the interface, and still can.
-fn stays_interface(sides: &Sides<'_>, before: &ClassFacts, after: &ClassFacts) -> bool
-    ensures { result ≡ stays_interface sides.now before.now after.now }
+fn stays_interface(
+    alloc: Global,
+    sides: &Sides<'_>,
+    before: &ClassFacts,
+    after: &ClassFacts,
+) -> Result<bool, AllocError>
+    ensures { IfOk result (λ stays. stays ≡ stays_interface sides.now before.now after.now) }
 {
-    could_implement(sides, before)
-        && !becomes_class(before, after)
-        && !shuts_out(sides, before, after)
+    if becomes_class(before, after) {
+        return Ok(false);
+    }
+    if !could_implement(sides, before) {
+        return Ok(false);
+    }
+    let closed = shuts_out(alloc, sides, before, after)?;
+    Ok(!closed)
 }
 
 // ---- of a kept class
@@ -201,28 +287,39 @@ pub fn is_steady(sides: &Sides<'_>, class: &Shared<'_>) -> bool
 
 /// Whether clients could extend or implement the kept class, and some can't any more, since it is
 /// final, became an interface or is newly sealed.
-pub fn is_closed(sides: &Sides<'_>, class: &Shared<'_>) -> bool
+pub fn is_closed(alloc: Global, sides: &Sides<'_>, class: &Shared<'_>) -> Result<bool, AllocError>
     requires shared { IsShared sides.now «class».now }
     requires kept { IsTrue (is_kept sides.now.old sides.now.new (name_of «class».now)) }
-    ensures { result ≡ is_class_closed sides.now.old sides.now.new (name_of «class».now) }
+    ensures { IfOk result (λ closed. closed ≡ is_class_closed sides.now.old sides.now.new (name_of «class».now)) }
 {
-    closes(sides, before(sides, class), after(sides, class))
+    let closed = closes(alloc, sides, before(sides, class), after(sides, class))?;
+    Ok(closed)
 }
 
 /// Whether the kept class is a base class: clients could extend it and still can.
-pub fn is_base_class(sides: &Sides<'_>, class: &Shared<'_>) -> bool
+pub(crate) fn is_base_class(
+    alloc: Global,
+    sides: &Sides<'_>,
+    class: &Shared<'_>,
+) -> Result<bool, AllocError>
     requires shared { IsShared sides.now «class».now }
     requires kept { IsTrue (is_kept sides.now.old sides.now.new (name_of «class».now)) }
-    ensures { result ≡ is_base_class sides.now.old sides.now.new (name_of «class».now) }
+    ensures { IfOk result (λ base. base ≡ is_base_class sides.now.old sides.now.new (name_of «class».now)) }
 {
-    stays_superclass(sides, before(sides, class), after(sides, class))
+    let stays = stays_superclass(alloc, sides, before(sides, class), after(sides, class))?;
+    Ok(stays)
 }
 
 /// Whether the kept class is a base interface: clients could implement it and still can.
-pub(crate) fn is_base_interface(sides: &Sides<'_>, class: &Shared<'_>) -> bool
+pub(crate) fn is_base_interface(
+    alloc: Global,
+    sides: &Sides<'_>,
+    class: &Shared<'_>,
+) -> Result<bool, AllocError>
     requires shared { IsShared sides.now «class».now }
     requires kept { IsTrue (is_kept sides.now.old sides.now.new (name_of «class».now)) }
-    ensures { result ≡ is_base_interface sides.now.old sides.now.new (name_of «class».now) }
+    ensures { IfOk result (λ base. base ≡ is_base_interface sides.now.old sides.now.new (name_of «class».now)) }
 {
-    stays_interface(sides, before(sides, class), after(sides, class))
+    let stays = stays_interface(alloc, sides, before(sides, class), after(sides, class))?;
+    Ok(stays)
 }

@@ -1,8 +1,10 @@
 -- The names that a class permits, as they are looked for.
-use Rattle.std.proofs.Common.{◌≡◌, true, not, ◌&&◌, List, [], refl, sym, ◌∙◌, ap, Option, Some, None}
+use Rattle.std.proofs.Common.{◌≡◌, Bool, true, not, ◌&&◌, List, [], refl, sym, ◌∙◌, ap, Option, Some, None}
 use Rattle.std.proofs.Math.Bool.{and-true}
+use Rattle.std.specs.List.Sorted.{IsPermutation}
+use Rattle.std.proofs.lemmas.List.Sorted.{list_any-IsPermutation}
 use Rattle.jc_facts.specs.declared.class_facts.ClassFacts.{ClassFacts}
-use Rattle.jc_facts.specs.Names.{Bytes, is_name_among}
+use Rattle.jc_facts.specs.Names.{Bytes, same, is_name_among}
 use Rattle.jc_facts.specs.Options.{and_then}
 use Rattle.jc_facts.specs.world.World.{World, find_class}
 use Rattle.jc_facts.specs.world.Mentioned.{permitted}
@@ -10,6 +12,13 @@ use Rattle.jc_facts.specs.rule.Bases.{allowed}
 use Rattle.jc_facts.specs.plan.PlannedNames.{least_name, permitted_name, missing_name}
 use Rattle.jc_sides.specs.SidesOf.{SidesOf}
 use Rattle.jc_witness.proofs.LowestOfNames.{tests_alike}
+
+-- by a set of the others
+pub by_set : (s : SidesOf) (others set names : List Bytes) → IsPermutation others set
+    → least_name (λ y. allowed s.old s.new y && not (is_name_among set y)) names ≡ least_name (λ y. allowed s.old s.new y && not (is_name_among others y)) names
+by_set s others set names p =
+    tests_alike (λ y. allowed s.old s.new y && not (is_name_among set y)) (λ y. allowed s.old s.new y && not (is_name_among others y))
+    (λ y. ap (λ (b : Bool). allowed s.old s.new y && not b) (sym (list_any-IsPermutation (λ z. same z y) others set p))) names
 
 module _ (s : SidesOf) (W : World) (old : W ≡ s.old) (x : Bytes) where
   pub no_class : None ≡ find_class W x → None ≡ permitted_name s.old s.new x

@@ -78,7 +78,7 @@ impl<'a> Planner<'a> {
     ) -> Result<Name, AllocError>
         ensures { IfOk result (λ name. name ≡ own_name self.now.old self.now.new (in_package (fresh_package self.now.old self.now.new) simple.now) above.now) }
     {
-        match permitted_of(&self.sides, above) {
+        match permitted_of(alloc, &self.sides, above)? {
             Some(name) => name.copy(alloc),
             None => name_in(alloc, &self.package, simple),
         }
@@ -94,7 +94,7 @@ impl<'a> Planner<'a> {
     ) -> Result<Name, AllocError>
         ensures { IfOk result (λ name. name ≡ closed_name self.now.old self.now.new (in_package (fresh_package self.now.old self.now.new) simple.now) above.now) }
     {
-        match missing_of(&self.sides, above) {
+        match missing_of(alloc, &self.sides, above)? {
             Some(name) => name.copy(alloc),
             None => self.own_name(alloc, simple, above),
         }

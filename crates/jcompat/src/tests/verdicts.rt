@@ -17,6 +17,11 @@ const CLASSES: &str = r"$ check --platform P --old O --new N
 #1 a seal that permits fewer, of classes in no folder : O p/S flags=601 sealed permits=q/C permits=r/D | N p/S flags=601 sealed permits=q/C
 > 1 H2 p/S - implement - IncompatibleClassChangeError | incompatible: 1 findings, 0 collisions, 0 notes
 * d/000001/r/D.class | class r/D | IncompatibleClassChangeError
+#0 a seal that permits the same in another order : O p/S flags=601 sealed permits=q/C permits=r/D permits=s/E | N p/S flags=601 sealed permits=s/E permits=q/C permits=r/D
+> compatible: 0 findings, 0 collisions, 0 notes
+#1 a seal that drops a name in the middle and has one more : O p/S flags=601 sealed permits=q/C permits=r/D permits=s/E permits=t/F | N p/S flags=601 sealed permits=t/F permits=s/E permits=q/C permits=u/G
+> 1 H2 p/S - implement - IncompatibleClassChangeError | incompatible: 1 findings, 0 collisions, 0 notes
+* d/000001/r/D.class | class r/D | IncompatibleClassChangeError
 #1 an interface that became a class : O p/I flags=601 | N p/I init
 > 1 H3 p/I - assign - VerifyError | incompatible: 1 findings, 0 collisions, 0 notes
 * d/000001/w0/U.class | item w0/U assign java/lang/Object p/I - | VerifyError

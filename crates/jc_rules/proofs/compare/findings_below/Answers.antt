@@ -1,4 +1,5 @@
 use Rattle.std.proofs.Common.{arith}
+use Rattle.jc_facts.specs.rule.Bases.{is_base_class}
 use Rattle.jc_facts.specs.rule.Findings.{Stands}
 use Rattle.jc_facts.specs.rule.Orders.{finding_order}
 use Rattle.jc_sides.specs.Rules.{IsFinding}
@@ -12,11 +13,14 @@ use Rattle.jc_rules.proofs.compare.findings_below.Goals as goal
 pub by_items-requires-clause-rule : goal.by_items-requires-clause-rule
 by_items-requires-clause-rule c = constructor_closed
 
+pub by_items-requires-clause-ready : goal.by_items-requires-clause-ready
+by_items-requires-clause-ready c = c.in_ok-bases.ensures c.args.sides.now (is_base_class c.args.sides.now.old c.args.sides.now.new) (c.bases.ensures c.args.sides.now c.requires.seats)
+
 pub by_items-requires-2-clause-rule : goal.by_items-requires-2-clause-rule
 by_items-requires-2-clause-rule c = method_made_final
 
 pub by_items-requires-2-clause-classes : goal.by_items-requires-2-clause-classes
-by_items-requires-2-clause-classes c = c.bases.ensures c.args.sides.now c.requires.seats
+by_items-requires-2-clause-classes c = c.bases-2.ensures c.args.sides.now c.requires.seats
 
 pub returns-in_default-2 : goal.returns-in_default-2
 returns-in_default-2 c =

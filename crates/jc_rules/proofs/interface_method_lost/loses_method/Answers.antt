@@ -1,4 +1,4 @@
-use Rattle.std.proofs.Common.{◌≡◌, true, false, None, not, is_some, refl, sym, ap, subst, ◌∙◌}
+use Rattle.std.proofs.Common.{◌≡◌, true, false, not, is_some, refl, sym, ap, subst, ◌∙◌}
 use Rattle.jc_desc.specs.Names.{is_initializer_name}
 use Rattle.jc_facts.specs.world.Lookup.{public_method_of_object}
 use Rattle.jc_rules.specs.steps.Methods.{loses}

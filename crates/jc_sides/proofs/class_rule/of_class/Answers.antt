@@ -9,6 +9,6 @@ use Rattle.jc_sides.proofs.class_rule.of_class.Goals as goal
 
 pub returns : goal.returns
 returns g c =
-    class_found g.R.ClassRule.rule c.args.id (worlds c.sides.inside) c.args.sides.now c.sides.view_is c.facts.result.now.name c.on_class-broken.result c.in_ok-found.found
-    (found_name c.sides.inside.old.now (name_at c.sides.inside.old.now c.args.id) c.facts.result.now c.facts.ensures) c.on_class-broken.ensures
-    (c.in_ok-found.ensures ∙ ap (λ (r : ℕ). found (on_class r c.facts.result.now.name) c.on_class-broken.result) c.number.ensures)
+    class_found g.R.ClassRule.rule c.args.id (worlds c.sides.inside) c.args.sides.now c.sides.view_is c.facts.result.now.name c.in_ok-broken.broken c.in_ok-found.found
+    (found_name c.sides.inside.old.now (name_at c.sides.inside.old.now c.args.id) c.facts.result.now c.facts.ensures) c.in_ok-broken.ensures
+    (c.in_ok-found.ensures ∙ ap (λ (r : ℕ). found (on_class r c.facts.result.now.name) c.in_ok-broken.broken) c.number.ensures)

@@ -9,8 +9,8 @@ returns-in_default g c = adds_none g.T.ClassTest.test c.args.sides.now (name_at 
 pub returns-then-not-passes : goal.returns-then-not-passes
 returns-then-not-passes g c =
     adds_none g.T.ClassTest.test c.args.sides.now (name_at c.args.sides.now.old c.args.id) c.args.classes.now.items
-    (failing g.T.ClassTest.test c.args.sides.now (name_at c.args.sides.now.old c.args.id) c.in-Some.class c.in-Some.ensures (sym c.passes.ensures ∙ c.if-not-passes.true))
+    (failing g.T.ClassTest.test c.args.sides.now (name_at c.args.sides.now.old c.args.id) c.in-Some.class c.in-Some.ensures (sym c.in_ok-passes.ensures ∙ c.if-not-passes.true))
 
 pub returns : goal.returns
 returns g c =
-    adds g.T.ClassTest.test c.args.sides.now (name_at c.args.sides.now.old c.args.id) c.in-Some.class c.args.classes.now.items c.push.new.self.items c.in-Some.ensures (sym c.passes.ensures ∙ c.if-not-passes.false) c.in_ok-push.ensures.items
+    adds g.T.ClassTest.test c.args.sides.now (name_at c.args.sides.now.old c.args.id) c.in-Some.class c.args.classes.now.items c.push.new.self.items c.in-Some.ensures (sym c.in_ok-passes.ensures ∙ c.if-not-passes.false) c.in_ok-push.ensures.items

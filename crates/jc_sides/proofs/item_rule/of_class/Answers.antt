@@ -1,4 +1,4 @@
-use Rattle.std.proofs.Common.{List, sym, subst, ap, ◌∙◌}
+use Rattle.std.proofs.Common.{sym, subst, ap, ◌∙◌}
 use Rattle.std.specs.List.{filter_map}
 use Rattle.jc_facts.specs.Exactly.{HasExactly}
 use Rattle.jc_sides.specs.Rules.{IsOf}

@@ -1,5 +1,4 @@
-use Rattle.std.proofs.Common.{◌≡◌, ◌<◌, length, slice_get, option_map, is_some, Some, true, sym, subst, ap, ◌∙◌, arith}
-use Rattle.jc_facts.specs.declared.key.Key.{Key}
+use Rattle.std.proofs.Common.{◌≡◌, length, slice_get, option_map, Some, sym, subst, ap, ◌∙◌, arith}
 use Rattle.jc_table.specs.Keys.{numbered_keys, IsNumber}
 use Rattle.jc_sides.specs.SidesOf.{SidesOf}
 use Rattle.jc_sides.proofs.TranslatedKeys.{starts, one_more, all_of, is_there}

@@ -10,8 +10,8 @@ pub loop-name-preserved : goal.loop-name-preserved
 loop-name-preserved c =
     let counts : Bytes → Bool = λ x. allowed c.args.sides.now.old c.args.sides.now.new x && not (is_name_among c.args.others.now x) in
     let below : c.loop-name.name-index < length c.args.names.now = omega arith in
-    found_next (least_name counts) (λ x. x) counts (name_first counts) c.args.names.now c.loop-name.name-index c.name-item.result c.may_be_new.result (option_copied c.loop-name.lowest) (option_copied c.lowest_with-lowest.result) _
-    below c.name-item.is c.may_be_new.ensures c.lowest_with-lowest.ensures c.loop-name.invariant
+    found_next (least_name counts) (λ x. x) counts (name_first counts) c.args.names.now c.loop-name.name-index c.name-item.result c.is_left_out.result (option_copied c.loop-name.lowest) (option_copied c.lowest_with-lowest.result) _
+    below c.name-item.is c.is_left_out.ensures c.lowest_with-lowest.ensures c.loop-name.invariant
 
 pub returns : goal.returns
 returns c =

@@ -1,6 +1,6 @@
 use Rattle.std.proofs.Common.{ap, sym, ◌∙◌, Some}
 use Rattle.jc_sides.specs.SidesOf.{SidesOf}
-use Rattle.jc_witness.proofs.PermittedNames.{no_old, no_new, no_list, of_list}
+use Rattle.jc_witness.proofs.PermittedNames.{no_old, no_new, no_list, of_list, by_set}
 use Rattle.jc_witness.proofs.permitted.missing_of.Goals as goal
 
 pub returns-in_default : goal.returns-in_default
@@ -11,12 +11,13 @@ returns-in_default-record_of c =
     no_new c.args.sides.now c.sides.inside.old.now (ap (λ (s : SidesOf). s.old) c.sides.view_is) c.args.class.now c.sides.inside.new.now (ap (λ (s : SidesOf). s.new) c.sides.view_is)
     c.in-Some.before.now c.in-Some.ensures c.in_default-record_of.ensures
 
-pub returns-in-None : goal.returns-in-None
-returns-in-None c =
+pub returns-in_default-permits : goal.returns-in_default-permits
+returns-in_default-permits c =
     no_list c.args.sides.now c.sides.inside.old.now (ap (λ (s : SidesOf). s.old) c.sides.view_is) c.args.class.now c.sides.inside.new.now (ap (λ (s : SidesOf). s.new) c.sides.view_is)
-    c.in-Some.before.now c.in-Some.ensures c.in-Some-record_of.after.now c.in-Some-record_of.ensures c.in-None.is
+    c.in-Some.before.now c.in-Some.ensures c.in-Some-record_of.after.now c.in-Some-record_of.ensures c.in_default-permits.is
 
-pub returns-in-Some-permits : goal.returns-in-Some-permits
-returns-in-Some-permits c =
+pub returns : goal.returns
+returns c =
     of_list c.args.sides.now c.sides.inside.old.now (ap (λ (s : SidesOf). s.old) c.sides.view_is) c.args.class.now c.sides.inside.new.now (ap (λ (s : SidesOf). s.new) c.sides.view_is)
-    c.in-Some.before.now c.in-Some.ensures c.in-Some-record_of.after.now c.as_slice.result.now c.names_of.result.now _ c.in-Some-record_of.ensures (c.in-Some-permits.is ∙ ap Some (sym c.as_slice.ensures)) c.names_of.ensures c.first_allowed.ensures
+    c.in-Some.before.now c.in-Some.ensures c.in-Some-record_of.after.now c.as_slice.result.now c.names_of.result.now _ c.in-Some-record_of.ensures (c.in-Some-permits.is ∙ ap Some (sym c.as_slice.ensures)) c.names_of.ensures
+    (c.first_allowed.ensures ∙ by_set c.args.sides.now c.as_slice.result.now c.in_ok-others.others c.names_of.result.now c.in_ok-others.ensures)

@@ -1,4 +1,5 @@
 use Rattle.std.proofs.Common.{◌≡◌, ap, sym, ◌∙◌}
+use Rattle.jc_facts.specs.Names.{is_name_among}
 use Rattle.jc_rules.specs.steps.Own.{method_flags_of}
 use Rattle.jc_sides.specs.BrokenOf.{found}
 use Rattle.jc_sides.specs.Rules.{on_key}
@@ -37,13 +38,11 @@ returns-in_err-error c =
     (of_new (worlds c.sides.inside) c.args.sides.now c.sides.view_is (shared_of c.class.inside) c.args.class.now c.class.view_is c.requires.shared (λ W x. c.method_flags-now.result ≡ method_flags_of W x c.args.key.now) c.method_flags-now.ensures)
     (sym c.in_default.is ∙ c.new_fault.ensures) (sym c.in_err-error.was ∙ c.super_fault.ensures)
 
-pub is_base_class-requires-clause-kept : goal.is_base_class-requires-clause-kept
-is_base_class-requires-clause-kept c = (steady_parts c.args.sides.now (name_of c.args.class.now) c.requires.covered).kept
-
 pub returns : goal.returns
 returns c =
     found_super c.args.sides.now (name_of c.args.class.now) c.before-2.result.now c.after.result.now c.before-2.ensures c.after.ensures c.requires.covered c.args.key.now c.method_flags-was.result c.method_flags-now.result
     (of_old (worlds c.sides.inside) c.args.sides.now c.sides.view_is (shared_of c.class.inside) c.args.class.now c.class.view_is c.requires.shared (λ W x. c.method_flags-was.result ≡ method_flags_of W x c.args.key.now) c.method_flags-was.ensures)
     (of_new (worlds c.sides.inside) c.args.sides.now c.sides.view_is (shared_of c.class.inside) c.args.class.now c.class.view_is c.requires.shared (λ W x. c.method_flags-now.result ≡ method_flags_of W x c.args.key.now) c.method_flags-now.ensures)
-    c.is_base_class.result c.in_ok-error.error c.broken_where-2.result (sym c.in_default.is ∙ c.new_fault.ensures)
-    (sym c.in_ok-error.was ∙ c.super_fault.ensures) c.is_base_class.ensures c.broken_where-2.ensures
+    c.has-is_base.result c.in_ok-error.error c.broken_where-2.result (sym c.in_default.is ∙ c.new_fault.ensures)
+    (sym c.in_ok-error.was ∙ c.super_fault.ensures) (c.has-is_base.ensures ∙ ap (is_name_among c.args.self.now.bases) (c.as_bytes.ensures ∙ ap name_of c.class.view_is) ∙ c.requires.ready c.args.class.now c.requires.shared)
+    c.broken_where-2.ensures
