@@ -71,7 +71,7 @@ module _ (q : Key) where
 -- ---- classes by their names
 
 -- where no two classes have one name, each is the class of its name
-pub each_named : (cs : List ClassFacts) → differ_by_name cs ≡ true → EachOf (λ c. class_named cs c.name ≡ Some c) cs
+each_named : (cs : List ClassFacts) → differ_by_name cs ≡ true → EachOf (λ c. class_named cs c.name ≡ Some c) cs
 unfolding differ_by_name class_named
 each_named [] h = tt
 each_named (c ∷ cs) h = (

@@ -16,4 +16,5 @@ pub mod Sources
 pub mod MethodsAbove
 pub mod Agreed
 pub mod Filling
+pub mod Standing
 pub mod Marking

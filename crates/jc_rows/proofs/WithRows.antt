@@ -17,11 +17,11 @@ use Rattle.jc_facts.proofs.Hierarchy.{names_in-each, each-all}
 use Rattle.jc_facts.proofs.Same.{same_is}
 use Rattle.jc_facts.proofs.World.{find-name, class_named-each, IsOf}
 use Rattle.jc_lemmas.proofs.Bools.{imply, and_false, neither_first, neither_last}
-use Rattle.jc_lemmas.proofs.Listed.{EachOf, EachOf-map, EachOf-both, EachOf-append, each_in, each_from, each_of, any_has, any_passes, any_none, not_any}
+use Rattle.jc_lemmas.proofs.Listed.{EachOf, EachOf-map, EachOf-both, EachOf-append, Passes, each_in, each_from, any_has, any_passes, any_none, not_any}
 use Rattle.jc_lemmas.proofs.Lists.{any_left, any_right, any_weaker}
 use Rattle.jc_worlds.specs.Hierarchy.{above}
 use Rattle.jc_worlds.proofs.Above.{chain-each, superinterfaces-each}
-use Rattle.jc_worlds.proofs.Bare.{bare_loads}
+use Rattle.jc_worlds.proofs.Bare.{bare_loads, has_root}
 use Rattle.jc_worlds.proofs.Loaded.{loads-found, loads-parts, loads-induction}
 use Rattle.jc_worlds.proofs.Locality.{of_interfaces}
 use Rattle.jc_worlds.proofs.Unrolled.{above as up, in_chain-step, own_chain, chain-unroll, with_interfaces-unroll, superinterfaces-unroll}
@@ -32,7 +32,7 @@ use Rattle.jc_index.proofs.Aboves.{superinterface-is, leads-on, leads-itself}
 use Rattle.jc_index.proofs.Numbers.{is_none-None}
 use Rattle.jc_index.proofs.Sides.{side_valid, root_at}
 use Rattle.jc_rows.specs.Keys.{declares_with_rows}
-use Rattle.jc_rows.specs.WithRows.{platform_names_release, is_above, is_above_release, has_rows}
+use Rattle.jc_rows.specs.WithRows.{is_above, stands_on_release, has_rows}
 
 module _ (W : World) where
   -- x is the class y, a superclass of it or a superinterface
@@ -90,74 +90,89 @@ module _ (W : World) where
         go (inl k) = named (chain W y) (chain_has y l h) x k
         go (inr k) = named (superinterfaces W y) (superinterfaces_have y l h) x k
 
-    -- what holds of java/lang/Object and of the classes of the release holds of all above them
-    pub release_least : S object_name → ((c : ClassFacts) → Contains W.release c → load_fault W c.name ≡ None → S c.name) → (x : Bytes) → is_above_release W x ≡ true → S x
-    release_least root release x h = go (or_cases (is_above W x object_name) (list_any (λ c. is_above W x c.name) W.release) h)
+    -- what holds of java/lang/Object and of what stands on the release holds of all that has rows
+    pub rows_least : S object_name → ((y : Bytes) → stands_on_release W y ≡ true → S y) → (x : Bytes) → has_rows W x ≡ true → S x
+    unfolding has_rows
+    rows_least root standing x h = go (or_cases (is_above W x object_name) (list_any (λ d. stands_on_release W d.name && is_above W x d.name) (classes W)) h)
       where
-        by : (y : Bytes) → (load_fault W y ≡ None → S y) → is_above W x y ≡ true → S x
-        by y s a =
-            let p = and_parts (is_none (load_fault W y)) (is_over y x) a in
-            let l : load_fault W y ≡ None = is_none-None (load_fault W y) p.0 in
-            over_has y l (s l) x p.1
+        by : (y : Bytes) → S y → is_above W x y ≡ true → S x
+        by y s a = let p = and_parts (is_none (load_fault W y)) (is_over y x) a in over_has y (is_none-None (load_fault W y) p.0) s x p.1
 
-        go : (is_above W x object_name ≡ true) ⊎ (list_any (λ c. is_above W x c.name) W.release ≡ true) → S x
-        go (inl a) = by object_name (λ l. root) a
-        go (inr a) = let q = any_passes (λ c. is_above W x c.name) W.release a in by q.one.name (release q.one q.is_in) q.passes
+        go : (is_above W x object_name ≡ true) ⊎ (list_any (λ d. stands_on_release W d.name && is_above W x d.name) (classes W) ≡ true) → S x
+        go (inl a) = by object_name root a
+        go (inr a) =
+            let q = any_passes (λ d. stands_on_release W d.name && is_above W x d.name) (classes W) a in
+            let p = and_parts (stands_on_release W q.one.name) (is_above W x q.one.name) q.passes in
+            by q.one.name (standing q.one.name p.0) p.1
 
-  -- ---- java/lang/Object and the classes of the release
+  -- ---- java/lang/Object and what stands on the release
 
-  over-itself : (x : Bytes) → load_fault W x ≡ None → is_over x x ≡ true
+  pub over-itself : (x : Bytes) → load_fault W x ≡ None → is_over x x ≡ true
   over-itself x l = or_left (in_chain W x x) (is_superinterface W x x) (own_chain W x l)
 
   above_from : (x y : Bytes) → load_fault W y ≡ None → is_over y x ≡ true → is_above W x y ≡ true
   above_from x y l o = and_from (is_none (load_fault W y)) (is_over y x) (ap is_none l) o
 
-  over-object : load_fault W object_name ≡ None → (x : Bytes) → is_over object_name x ≡ true → is_above_release W x ≡ true
-  over-object l x o = or_left (is_above W x object_name) (list_any (λ c. is_above W x c.name) W.release) (above_from x object_name l o)
+  -- what stands on the release loads
+  pub standing-loads : (y : Bytes) → stands_on_release W y ≡ true → load_fault W y ≡ None
+  unfolding stands_on_release
+  standing-loads y h =
+      let p = any_passes (λ c. is_above W c.name y) W.release h in
+      is_none-None (load_fault W y) (and_parts (is_none (load_fault W y)) (is_over y p.one.name) p.passes).0
 
-  over-release : (c : ClassFacts) → Contains W.release c → load_fault W c.name ≡ None → (x : Bytes) → is_over c.name x ≡ true → is_above_release W x ≡ true
-  over-release c i l x o =
-      or_right (is_above W x object_name) (list_any (λ d. is_above W x d.name) W.release) (any_has (λ d. is_above W x d.name) W.release c i (above_from x c.name l o))
+  -- a class of the release is above it
+  pub standing-over : (y : Bytes) → stands_on_release W y ≡ true → Passes (λ c. is_over y c.name) W.release
+  unfolding stands_on_release
+  standing-over y h =
+      let p = any_passes (λ c. is_above W c.name y) W.release h in
+      record { one = p.one; is_in = p.is_in; passes = (and_parts (is_none (load_fault W y)) (is_over y p.one.name) p.passes).1 }
 
-  rows_where : (x : Bytes) → is_above_release W x ≡ true → has_rows W x ≡ true
+  pub standing-from : (y : Bytes) → load_fault W y ≡ None → (c : ClassFacts) → Contains W.release c → is_over y c.name ≡ true → stands_on_release W y ≡ true
+  unfolding stands_on_release
+  standing-from y l c i o = any_has (λ d. is_above W d.name y) W.release c i (above_from c.name y l o)
+
+  in_classes : (y : Bytes) (c : ClassFacts) → find_class W y ≡ Some c → Contains (classes W) c
+  unfolding find_class
+  in_classes y c f = class_named-each (Contains (classes W)) (classes W) y c (each_from (Contains (classes W)) (classes W) (λ d i. i)) f
+
+  over-object : load_fault W object_name ≡ None → (x : Bytes) → is_over object_name x ≡ true → has_rows W x ≡ true
   unfolding has_rows
-  rows_where x h = or_right (platform_names_release W) (is_above_release W x) h
+  over-object l x o = or_left (is_above W x object_name) (list_any (λ d. stands_on_release W d.name && is_above W x d.name) (classes W)) (above_from x object_name l o)
 
-  pub rows-release : (c : ClassFacts) → Contains W.release c → load_fault W c.name ≡ None → has_rows W c.name ≡ true
-  rows-release c i l = rows_where c.name (over-release c i l c.name (over-itself c.name l))
-
-  -- where the platform names the release, each class has rows, and elsewhere those above the release's
-  pub rows-all : platform_names_release W ≡ true → (x : Bytes) → has_rows W x ≡ true
+  over-standing : (y : Bytes) → stands_on_release W y ≡ true → (x : Bytes) → is_over y x ≡ true → has_rows W x ≡ true
   unfolding has_rows
-  rows-all h x = or_left (platform_names_release W) (is_above_release W x) h
+  over-standing y h x o =
+      let l = standing-loads y h in
+      let t = loads-found W y l in
+      let both : (stands_on_release W y && is_above W x y) ≡ true = and_from (stands_on_release W y) (is_above W x y) h (above_from x y l o) in
+      or_right (is_above W x object_name) (list_any (λ d. stands_on_release W d.name && is_above W x d.name) (classes W))
+      (any_has (λ d. stands_on_release W d.name && is_above W x d.name) (classes W) t.0 (in_classes y t.0 t.1)
+      (subst (λ (z : Bytes). (stands_on_release W z && is_above W x z) ≡ true) (sym (find-name W y t.0 t.1)) both))
 
-  pub rows-some : platform_names_release W ≡ false → (x : Bytes) → has_rows W x ≡ true → is_above_release W x ≡ true
-  unfolding has_rows
-  rows-some n x h = go (or_cases (platform_names_release W) (is_above_release W x) h)
-    where
-      go : (platform_names_release W ≡ true) ⊎ (is_above_release W x ≡ true) → is_above_release W x ≡ true
-      go (inl p) = absurd (let c : true ≡ false = sym p ∙ n in cc)
-      go (inr a) = a
+  pub rows-standing : (y : Bytes) → stands_on_release W y ≡ true → has_rows W y ≡ true
+  rows-standing y h = over-standing y h y (over-itself y (standing-loads y h))
 
-  -- such a class stands above one of which all that is above is so too
+  -- a class that has rows stands above one of which all that is above has rows
   record IsBelow (x : Bytes) : Type 0 where
     name : Bytes
     loads : load_fault W name ≡ None
     over : is_over name x ≡ true
-    all : (y : Bytes) → is_over name y ≡ true → is_above_release W y ≡ true
+    all : (y : Bytes) → is_over name y ≡ true → has_rows W y ≡ true
 
-  below : (x : Bytes) → is_above_release W x ≡ true → IsBelow x
-  below x h = go (or_cases (is_above W x object_name) (list_any (λ c. is_above W x c.name) W.release) h)
+  below : (x : Bytes) → has_rows W x ≡ true → IsBelow x
+  unfolding has_rows
+  below x h = go (or_cases (is_above W x object_name) (list_any (λ d. stands_on_release W d.name && is_above W x d.name) (classes W)) h)
     where
       parts : (y : Bytes) → is_above W x y ≡ true → (load_fault W y ≡ None) × (is_over y x ≡ true)
       parts y a = let p = and_parts (is_none (load_fault W y)) (is_over y x) a in (is_none-None (load_fault W y) p.0, p.1)
 
-      go : (is_above W x object_name ≡ true) ⊎ (list_any (λ c. is_above W x c.name) W.release ≡ true) → IsBelow x
+      go : (is_above W x object_name ≡ true) ⊎ (list_any (λ d. stands_on_release W d.name && is_above W x d.name) (classes W) ≡ true) → IsBelow x
       go (inl a) = let p = parts object_name a in record { name = object_name; loads = p.0; over = p.1; all = over-object p.0 }
       go (inr a) =
-          let q = any_passes (λ c. is_above W x c.name) W.release a in
-          let p = parts q.one.name q.passes in
-          record { name = q.one.name; loads = p.0; over = p.1; all = over-release q.one q.is_in p.0 }
+          let q = any_passes (λ d. stands_on_release W d.name && is_above W x d.name) (classes W) a in
+          let b = and_parts (stands_on_release W q.one.name) (is_above W x q.one.name) q.passes in
+          let p = parts q.one.name b.1 in
+          record { name = q.one.name; loads = p.0; over = p.1; all = over-standing q.one.name b.0 }
 
   -- ---- what is named by what is above
 
@@ -174,7 +189,7 @@ module _ (W : World) where
           ∙ any_right (λ c. same c.name x) (each (with_interfaces W) d.interfaces) (superinterfaces W s) i)
 
   -- what the class itself names
-  over-named : (y : Bytes) (d : ClassFacts) → find_class W y ≡ Some d → load_fault W y ≡ None → EachOf (λ s. is_over y s ≡ true) (supers d)
+  pub over-named : (y : Bytes) (d : ClassFacts) → find_class W y ≡ Some d → load_fault W y ≡ None → EachOf (λ s. is_over y s ≡ true) (supers d)
   over-named y d f l = go d.superclass refl all_load
     where
       all_load : EachOf (λ s. load_fault W s ≡ None) (supers d)
@@ -241,11 +256,11 @@ module _ (W : World) where
     object_loads : load_fault W object_name ≡ None
     object_loads = bare_loads W object_name side.root.root (root_at W side) side.root.superclass side.root.interfaces
 
-    above-object : is_above_release W object_name ≡ true
-    above-object = over-object object_loads object_name (over-itself object_name object_loads)
-
     pub rows-object : has_rows W object_name ≡ true
-    rows-object = rows_where object_name above-object
+    rows-object = over-object object_loads object_name (over-itself object_name object_loads)
+
+    over-root : (y : Bytes) → load_fault W y ≡ None → is_over y object_name ≡ true
+    over-root y l = or_left (in_chain W y object_name) (is_superinterface W y object_name) (has_root W (side_valid W side) y l)
 
     -- the superclass of an interface is java/lang/Object
     object_named : (x : Bytes) (c : ClassFacts) → find_class W x ≡ Some c → interface_flag c.flags ≡ true → (s : Bytes) → c.superclass ≡ Some s → s ≡ object_name
@@ -253,28 +268,46 @@ module _ (W : World) where
         let v : superclass_is_valid c (Some s) ≡ true = subst (λ (o : Option Bytes). superclass_is_valid c o ≡ true) e (side_valid W side x c f).superclass in
         same_is s object_name (imply (interface_flag c.flags) (is_object_name s) (and_parts (is_valid_name s && not (is_object_name c.name)) (implies (interface_flag c.flags) (is_object_name s)) v).1 i)
 
-    above-up : (x : Bytes) (c : ClassFacts) → find_class W x ≡ Some c → load_fault W x ≡ None → is_above_release W x ≡ true → EachOf (λ s. is_above_release W s ≡ true) (supers c)
-    above-up x c f l h = go (or_cases (in_chain W b.name x) (is_superinterface W b.name x) b.over)
+    -- what a class above y names above itself is above y
+    over-up : (y : Bytes) → load_fault W y ≡ None → (x : Bytes) (c : ClassFacts) → find_class W x ≡ Some c → load_fault W x ≡ None → is_over y x ≡ true → EachOf (λ s. is_over y s ≡ true) (supers c)
+    over-up y m x c f l h = go (or_cases (in_chain W y x) (is_superinterface W y x) h)
       where
-        b : IsBelow x
-        b = below x h
-
-        by : interface_flag c.flags ≡ true → EachOf (λ i. is_above_release W i ≡ true) c.interfaces → (o : Option Bytes) → c.superclass ≡ o → EachOf (λ s. is_above_release W s ≡ true) (supers_of o c.interfaces)
+        by : interface_flag c.flags ≡ true → EachOf (λ i. is_over y i ≡ true) c.interfaces → (o : Option Bytes) → c.superclass ≡ o → EachOf (λ s. is_over y s ≡ true) (supers_of o c.interfaces)
         by i is None e = is
-        by i is (Some s) e = (ap (is_above_release W) (object_named x c f i s e) ∙ above-object, is)
+        by i is (Some s) e = (ap (is_over y) (object_named x c f i s e) ∙ over-root y m, is)
 
-        go : (in_chain W b.name x ≡ true) ⊎ (is_superinterface W b.name x ≡ true) → EachOf (λ s. is_above_release W s ≡ true) (supers c)
-        go (inl k) = EachOf-map b.all (supers c) (over-chain b.name b.loads x c f k)
-        go (inr k) = by (over-interface b.name b.loads x c f k)
-            (EachOf-map b.all c.interfaces (over-interfaces b.name x c f k (of_interfaces (λ s. load_fault W s ≡ None) c.superclass c.interfaces (loads-parts W x c f l).0))) c.superclass refl
+        go : (in_chain W y x ≡ true) ⊎ (is_superinterface W y x ≡ true) → EachOf (λ s. is_over y s ≡ true) (supers c)
+        go (inl k) = over-chain y m x c f k
+        go (inr k) = by (over-interface y m x c f k) (over-interfaces y x c f k (of_interfaces (λ s. load_fault W s ≡ None) c.superclass c.interfaces (loads-parts W x c f l).0)) c.superclass refl
+
+    -- what is above a class above y is above y
+    pub over-on : (y s : Bytes) → load_fault W y ≡ None → load_fault W s ≡ None → is_over y s ≡ true → (x : Bytes) → is_over s x ≡ true → is_over y x ≡ true
+    over-on y s m l h x o = over_has (λ z. is_over y z ≡ true) (λ z c f k i. over-up y m z c f k i) s l h x o
+
+    -- what is above y is y, or above a class that y names above itself
+    pub over-down : (y : Bytes) (d : ClassFacts) → find_class W y ≡ Some d → load_fault W y ≡ None → (x : Bytes) → is_over y x ≡ true → (y ≡ x) ⊎ (list_any (λ s. is_over s x) (supers d) ≡ true)
+    over-down y d f l x h = over_has (λ z. (y ≡ z) ⊎ (list_any (λ s. is_over s z) (supers d) ≡ true)) step y l (inl refl) x h
+      where
+        load : EachOf (λ s. load_fault W s ≡ None) (supers d)
+        load = (loads-parts W y d f l).0
+
+        named : (s z : Bytes) → Contains (supers d) s → is_over s z ≡ true → (y ≡ z) ⊎ (list_any (λ t. is_over t z) (supers d) ≡ true)
+        named s z i o = inr (any_has (λ t. is_over t z) (supers d) s i o)
+
+        step : (z : Bytes) (c : ClassFacts) → find_class W z ≡ Some c → load_fault W z ≡ None → (y ≡ z) ⊎ (list_any (λ s. is_over s z) (supers d) ≡ true) → EachOf (λ t. (y ≡ t) ⊎ (list_any (λ s. is_over s t) (supers d) ≡ true)) (supers c)
+        step z c g k (inl e) =
+            let is : d ≡ c = (let q : Some d ≡ Some c = sym f ∙ ap (find_class W) e ∙ g in cc) in
+            subst (λ (b : ClassFacts). EachOf (λ t. (y ≡ t) ⊎ (list_any (λ s. is_over s t) (supers d) ≡ true)) (supers b)) is
+            (each_from (λ t. (y ≡ t) ⊎ (list_any (λ s. is_over s t) (supers d) ≡ true)) (supers d)
+            (λ t i. named t t i (over-itself t (each_in (λ s. load_fault W s ≡ None) (supers d) t load i))))
+        step z c g k (inr a) =
+            let q = any_passes (λ s. is_over s z) (supers d) a in
+            EachOf-map (λ t o. named q.one t q.is_in o) (supers c)
+            (over-up q.one (each_in (λ s. load_fault W s ≡ None) (supers d) q.one load q.is_in) z c g k q.passes)
 
     -- what a class that has rows names above itself has rows
     pub rows-up : (x : Bytes) (c : ClassFacts) → find_class W x ≡ Some c → load_fault W x ≡ None → has_rows W x ≡ true → EachOf (λ s. has_rows W s ≡ true) (supers c)
-    rows-up x c f l h = go (platform_names_release W) refl
-      where
-        go : (b : Bool) → platform_names_release W ≡ b → EachOf (λ s. has_rows W s ≡ true) (supers c)
-        go true e = each_of (λ s. has_rows W s ≡ true) (rows-all e) (supers c)
-        go false e = EachOf-map rows_where (supers c) (above-up x c f l (rows-some e x h))
+    rows-up x c f l h = let b = below x h in EachOf-map b.all (supers c) (over-up b.name b.loads x c f l b.over)
 
     -- the classes above a class that has rows have rows
     pub rows_above : (x : Bytes) → has_rows W x ≡ true → load_fault W x ≡ None → EachOf (λ c. has_rows W c.name ≡ true) (above W x)
@@ -284,14 +317,10 @@ module _ (W : World) where
 
     module _ (k : Key) (none : list_any (declares_with_rows W k) (classes W) ≡ false) where
       undeclared : (x : Bytes) → has_rows W x ≡ true → load_fault W x ≡ None → EachOf (λ c. (is_some (own_field_of c k) || is_some (own_method_of c k)) ≡ false) (above W x)
-      unfolding find_class
       undeclared x h l =
           EachOf-both one (above W x) (rows_above x h l)
-          (EachOf-append (Contains (classes W)) (chain W x) (superinterfaces W x) (chain-each W (Contains (classes W)) (λ y c f m. there y c f) x l) (superinterfaces-each W (Contains (classes W)) (λ y c f m i. there y c f) x l))
+          (EachOf-append (Contains (classes W)) (chain W x) (superinterfaces W x) (chain-each W (Contains (classes W)) (λ y c f m. in_classes y c f) x l) (superinterfaces-each W (Contains (classes W)) (λ y c f m i. in_classes y c f) x l))
         where
-          there : (y : Bytes) (c : ClassFacts) → find_class W y ≡ Some c → Contains (classes W) c
-          there y c f = class_named-each (Contains (classes W)) (classes W) y c (each_from (Contains (classes W)) (classes W) (λ d i. i)) f
-
           one : (c : ClassFacts) → has_rows W c.name ≡ true → Contains (classes W) c → (is_some (own_field_of c k) || is_some (own_method_of c k)) ≡ false
           one c r i = and_false (has_rows W c.name) (is_some (own_field_of c k) || is_some (own_method_of c k)) (not_any (declares_with_rows W k) (classes W) c none i) r
 

@@ -14,9 +14,9 @@ use jc_index::ids::ClassId;
 use std::alloc::{AllocError, Global};
 
 /// The fields and the methods that the lookups from classes find, by the numbers of the classes, and
-/// the keys by whose numbers they stand. Rows are made of `java/lang/Object`, of the classes of the
-/// release that load, and of those above them; where a class of the platform names one of the release
-/// above itself, of every class that loads.
+/// the keys by whose numbers they stand. Rows are made of `java/lang/Object`, of the classes that stand
+/// on the release, and of those above them. A class that loads stands on the release where it is of it,
+/// or is below a class of it.
 pub struct Rows {
     /// The keys of all fields and methods that the classes with rows declare.
     pub keys: Keys,

@@ -178,7 +178,8 @@ fn agrees(table: &Table, class: ClassId) -> bool
     true
 }
 
-fn see_rows(rt: &impl Abort, table: &Table) {
+/// Sees that the lookups in rows and the walks find the same, of each class that loads and each key that has a number.
+pub(crate) fn see_rows(rt: &impl Abort, table: &Table) {
     for number in 0..table.count() {
         let class = table.id(number).expect(rt, "a class of the table");
         if table.fault_at(class).is_none() {

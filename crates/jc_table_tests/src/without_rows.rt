@@ -1,5 +1,5 @@
-//! Classes of the platform that stand above no class of a release: no rows are made of them, and lookups from them walk.
-use crate::agreeing::{same_field, same_method};
+//! Of which classes of the platform rows are made. Lookups from the others walk.
+use crate::agreeing::{same_field, same_method, see_rows};
 use crate::sides::{Declared, INTERFACE, PLAIN, ROOT, Row, key, loaded, table_over};
 use jc_facts::key::Key;
 use jc_field::find::find_field;
@@ -50,30 +50,58 @@ const PLATFORM: &[Row] = &[
     },
 ];
 
-// A class of the platform that names one of the release above itself.
-const NAMING: &[Row] = &[
+const CLASS: Row = Row {
+    name: b"p/A",
+    superclass: b"q/Base",
+    ..PLAIN
+};
+
+fn with_platform(rt: &impl Abort, alloc: Global) -> Table {
+    table_over(rt, alloc, PLATFORM, &[CLASS])
+}
+
+// A platform of which three classes stand on a release: one extends a class of it, one stands below
+// that one, and one implements an interface of it. `q/Beside` stands beside them.
+const STANDING: &[Row] = &[
     ROOT,
     BASE,
     FACE,
     Row {
         name: b"q/Below",
         superclass: b"p/A",
+        interfaces: &[b"q/Face"],
+        ..PLAIN
+    },
+    Row {
+        name: b"q/Beside",
+        superclass: b"q/Base",
+        fields: &[(b"z", NUMBER, 0x0001)],
+        methods: METHOD,
+        ..PLAIN
+    },
+    Row {
+        name: b"q/Lowest",
+        superclass: b"q/Below",
+        methods: METHOD,
+        ..PLAIN
+    },
+    Row {
+        name: b"q/Maker",
+        interfaces: &[b"p/I"],
         ..PLAIN
     },
 ];
 
-const RELEASE: &[Row] = &[Row {
-    name: b"p/A",
-    superclass: b"q/Base",
-    ..PLAIN
-}];
+const STOOD_ON: &[Row] = &[
+    CLASS,
+    Row {
+        name: b"p/I",
+        ..FACE
+    },
+];
 
-fn side(rt: &impl Abort, alloc: Global, platform: &[Row]) -> Table {
-    table_over(rt, alloc, platform, RELEASE)
-}
-
-fn with_platform(rt: &impl Abort, alloc: Global) -> Table {
-    side(rt, alloc, PLATFORM)
+fn with_standing(rt: &impl Abort, alloc: Global) -> Table {
+    table_over(rt, alloc, STANDING, STOOD_ON)
 }
 
 // A class, and how many entries its rows of fields and of methods have.
@@ -88,12 +116,16 @@ const LENGTHS: &[Lengths] = &[
     (b"q/Other", None, None),
 ];
 
-const NAMED: &[Lengths] = &[
+const OF_STANDING: &[Lengths] = &[
     (b"java/lang/Object", Some(0), Some(1)),
     (b"p/A", Some(1), Some(2)),
+    (b"p/I", Some(1), Some(2)),
     (b"q/Base", Some(1), Some(2)),
-    (b"q/Below", Some(1), Some(2)),
+    (b"q/Below", Some(2), Some(3)),
+    (b"q/Beside", None, None),
     (b"q/Face", Some(1), Some(2)),
+    (b"q/Lowest", Some(2), Some(3)),
+    (b"q/Maker", Some(1), Some(2)),
 ];
 
 fn see_lengths(rt: &impl Abort, table: &Table, lengths: &[Lengths]) {
@@ -142,8 +174,12 @@ fn rows_of_the_classes_above_a_release(rt: HostRuntime) {
 }
 
 #[test]
-fn rows_of_all_where_the_platform_names_the_release(rt: HostRuntime) {
-    see_lengths(&rt, &side(&rt, rt.alloc(), NAMING), NAMED);
+fn rows_of_the_platforms_classes_that_stand_on_a_release(rt: HostRuntime) {
+    let table = with_standing(&rt, rt.alloc());
+    see_lengths(&rt, &table, OF_STANDING);
+    see_rows(&rt, &table);
+    // c, d, f, m and the initializer of `java/lang/Object`, but not z.
+    assert_eq!(&rt; table.key_count(), 5);
 }
 
 #[test]
