@@ -353,9 +353,8 @@ impl Table {
     /// The fields that a reference to the class finds (JVMS 5.4.3.2): one entry for each key of which
     /// it finds one, and no other, in rising order of the keys' numbers. The class has to load.
     ///
-    /// Rows are made of `java/lang/Object`, of the classes of the release that load, and of what
-    /// stands above these; of all classes, where one of the platform names one of the release above
-    /// itself. Of any other class there is none.
+    /// Rows are made of `java/lang/Object`, of the classes of the release that load, of those of the
+    /// platform that stand on these, and of what is above them. Of any other class there is none.
     pub fn field_row(&self, id: ClassId) -> Option<&[RowItem]>
         requires class { id < size self.now }
         requires loads { load_fault self.now (name_at self.now id) ≡ None }
