@@ -33,24 +33,26 @@ use Rattle.jc_table.proofs.Roots.{has_root}
 use Rattle.jc_table.specs.Root.{fault_of_root}
 use Rattle.jc_gate.specs.Gates.{GateOf}
 use Rattle.jc_words.specs.declared.usage.Usage.{Usage}
-use Rattle.jc_commands.specs.Causes.{IsRefused, IsAccepted, IsFirstUnread}
+use Rattle.jc_commands.specs.Causes.{IsRefused, IsAccepted}
+use Rattle.jc_trees.specs.FirstTree.{IsFirstUnread}
 use Rattle.jc_commands.specs.Check.{CheckRecords, mismatch_of}
-use Rattle.jc_commands.specs.ClassFiles.{is_class_path, IsClassPathOf, AreClassPaths, path_of, IsReadAs, IsReadIn, IsFileFault, IsTreeFault, IsClassIn, AreClasses, AreRecords, without_code}
+use Rattle.jc_trees.specs.ClassFiles.{is_class_path, IsClassPathOf, AreClassPaths, path_of, IsReadAs, IsReadIn, IsFileFault, IsTreeFault, IsClassIn, AreClasses, AreRecords, without_code}
 use Rattle.jc_commands.specs.Command.{CommandOf, CheckOf, CheckCommand, LinkCommand, MakeCommand, trees_of, asked_of}
 use Rattle.jc_commands.specs.Link.{refusal_of}
 use Rattle.jc_commands.specs.Reports.{RecordsOf, ReportOf, Refuses, Accepts, IsReportOn}
-use Rattle.jc_commands.specs.Tree.{TreeOf}
-use Rattle.jc_commands.specs.declared.file_fault.FileFault.{FileFault}
-use Rattle.jc_commands.specs.declared.file_fault.FileFault.TheVariants as faults
-use Rattle.jc_commands.specs.declared.file_fault.TreeFault.{TreeFault}
-use Rattle.jc_commands.specs.declared.file_fault.TreeFault.TheVariants as tree_faults
-use Rattle.jc_commands.specs.declared.limits.TheConstants.{MAX_FILES, MAX_PATH, MAX_BYTES, MAX_FINDINGS}
+use Rattle.jc_trees.specs.Tree.{TreeOf}
+use Rattle.jc_trees.specs.declared.file_fault.FileFault.{FileFault}
+use Rattle.jc_trees.specs.declared.file_fault.FileFault.TheVariants as faults
+use Rattle.jc_trees.specs.declared.file_fault.TreeFault.{TreeFault}
+use Rattle.jc_trees.specs.declared.file_fault.TreeFault.TheVariants as tree_faults
+use Rattle.jc_trees.specs.declared.limits.TheConstants.{MAX_FILES, MAX_PATH, MAX_BYTES}
+use Rattle.jc_commands.specs.declared.limits.TheConstants.{MAX_FINDINGS}
 use Rattle.jc_commands.specs.declared.stop.Stop.{Stop}
 use Rattle.jc_commands.specs.declared.stop.Stop.TheVariants as stops
-use Rattle.jc_commands.specs.declared.tree.TreeName.{TreeName}
-use Rattle.jc_commands.specs.declared.tree.TreeName.TheVariants as names
-use Rattle.jc_commands.specs.steps.ReadTree.{AreReadAt, IsFirstOf}
-use Rattle.jc_commands.specs.steps.ReadTrees.{AreClassesOf}
+use Rattle.jc_trees.specs.declared.tree.TreeName.{TreeName}
+use Rattle.jc_trees.specs.declared.tree.TreeName.TheVariants as names
+use Rattle.jc_trees.specs.steps.ReadTree.{AreReadAt, IsFirstOf}
+use Rattle.jc_trees.specs.ReadTrees.{AreClassesOf}
 use Rattle.jc_commands.specs.ReportValue.{IsSized}
 use Rattle.jc_commands.proofs.Asked.{is_sized}
 use Rattle.jc_commands.proofs.Events.{for_ok}
@@ -59,7 +61,7 @@ use Rattle.jc_commands.proofs.Records.{check_records, link_records, first_none, 
 use Rattle.jc_commands.proofs.Releases.{made_verdict}
 use Rattle.jc_commands.proofs.SomeVerdict.{some_verdict}
 use Rattle.jc_commands.proofs.Subjects.{name_tied}
-use Rattle.jc_commands.proofs.TreeRead.{short_paths, long_path, classes_are, first_fault}
+use Rattle.jc_trees.proofs.TreeRead.{short_paths, long_path, classes_are, first_fault}
 
 -- ---- the class files of a root
 

@@ -24,25 +24,26 @@ use Rattle.jc_facts.proofs.ClassFiles.{never_both, one_record, one_fault}
 use Rattle.jc_facts.proofs.OneList.{one_exact}
 use Rattle.jc_gate.specs.Gates.{GateOf}
 use Rattle.jc_words.specs.declared.usage.Usage.{Usage}
-use Rattle.jc_commands.specs.Causes.{IsFirstUnread, IsRefusedTo, IsRefused, IsAccepted, StopsCommand, HasCause, HasFailed}
-use Rattle.jc_commands.specs.ClassFiles.{IsClassPathOf, path_of, items_in, IsReadAs, IsReadIn, IsFileFault, HasFewFiles, HasManyFiles, HasShortPaths, HasLongPath, IsFirstFault, IsTreeFault, IsClean}
+use Rattle.jc_commands.specs.Causes.{IsRefusedTo, IsRefused, IsAccepted, StopsCommand, HasCause, HasFailed}
+use Rattle.jc_trees.specs.FirstTree.{IsFirstUnread}
+use Rattle.jc_trees.specs.ClassFiles.{IsClassPathOf, path_of, items_in, IsReadAs, IsReadIn, IsFileFault, HasFewFiles, HasManyFiles, HasShortPaths, HasLongPath, IsFirstFault, IsTreeFault, IsClean}
 use Rattle.jc_commands.specs.Command.{CommandOf, CheckCommand, LinkCommand, MakeCommand, trees_of, asked_of}
 use Rattle.jc_commands.specs.Reports.{ToldTo, RecordsOf, ReportOf, Refuses, Accepts, IsReportOn}
 use Rattle.jc_commands.specs.Stop.{status_of}
-use Rattle.jc_commands.specs.Tree.{TreeOf}
-use Rattle.jc_commands.specs.declared.file_fault.FileFault.{FileFault}
-use Rattle.jc_commands.specs.declared.file_fault.FileFault.TheVariants as faults
-use Rattle.jc_commands.specs.declared.file_fault.TreeFault.{TreeFault}
-use Rattle.jc_commands.specs.declared.file_fault.TreeFault.TheVariants as tree_faults
-use Rattle.jc_commands.specs.declared.limits.TheConstants.{MAX_BYTES, MAX_PATH}
+use Rattle.jc_trees.specs.Tree.{TreeOf}
+use Rattle.jc_trees.specs.declared.file_fault.FileFault.{FileFault}
+use Rattle.jc_trees.specs.declared.file_fault.FileFault.TheVariants as faults
+use Rattle.jc_trees.specs.declared.file_fault.TreeFault.{TreeFault}
+use Rattle.jc_trees.specs.declared.file_fault.TreeFault.TheVariants as tree_faults
+use Rattle.jc_trees.specs.declared.limits.TheConstants.{MAX_BYTES, MAX_PATH}
 use Rattle.jc_commands.specs.declared.status.TheConstants.{PASSED, NOT_PASSED, READ_FAULT, WRITE_FAULT, NO_MEMORY}
 use Rattle.jc_commands.specs.declared.stop.Stop.{Stop}
 use Rattle.jc_commands.specs.declared.stop.Stop.TheVariants as stops
-use Rattle.jc_commands.specs.declared.tree.TreeName.{TreeName}
-use Rattle.jc_commands.specs.declared.tree.TreeName.TheVariants as names
+use Rattle.jc_trees.specs.declared.tree.TreeName.{TreeName}
+use Rattle.jc_trees.specs.declared.tree.TreeName.TheVariants as names
 use Rattle.jc_commands.proofs.Records.{apart_numbers, one_refused, accepted_or_refused, report_accepted}
-use Rattle.jc_commands.proofs.Results.{same_ok, same_err, ok_or_err}
-use Rattle.jc_commands.proofs.TreeRead.{one_file}
+use Rattle.jc_trees.proofs.Results.{same_ok, same_err, ok_or_err}
+use Rattle.jc_trees.proofs.TreeRead.{one_file}
 
 -- ---- one file
 

@@ -23,21 +23,21 @@ use Rattle.jc_link.specs.Refusals.{refused_client}
 use Rattle.jc_table.specs.Root.{fault_of_root}
 use Rattle.jc_table.specs.Sides.{overlap_of}
 use Rattle.jc_commands.specs.Check.{CheckRecords, IsUnfit, mismatch_of}
-use Rattle.jc_commands.specs.ClassFiles.{path_of, items_in, IsClassIn, AreClasses, AreRecords, without_code}
+use Rattle.jc_trees.specs.ClassFiles.{path_of, items_in, IsClassIn, AreClasses, AreRecords, without_code}
 use Rattle.jc_commands.specs.Command.{CommandOf, CheckOf, LinkOf, CheckCommand, LinkCommand, MakeCommand, trees_of}
 use Rattle.jc_commands.specs.Link.{LinkRecords, refusal_of, client_name}
 use Rattle.jc_commands.specs.Make.{old_made, new_made}
 use Rattle.jc_commands.specs.Reports.{RecordsOf, ReportOf, Refuses, Accepts, IsReportOn}
-use Rattle.jc_commands.specs.Tree.{TreeOf, tree_at}
+use Rattle.jc_trees.specs.Tree.{TreeOf, tree_at}
 use Rattle.jc_commands.specs.declared.limits.TheConstants.{MAX_FINDINGS}
 use Rattle.jc_commands.specs.declared.stop.Stop.{Stop}
 use Rattle.jc_commands.specs.declared.stop.Stop.TheVariants as stops
-use Rattle.jc_commands.specs.declared.tree.TreeName.{TreeName}
-use Rattle.jc_commands.specs.declared.tree.TreeName.TheVariants as names
-use Rattle.jc_commands.proofs.Results.{same_ok}
-use Rattle.jc_commands.proofs.ShortPaths.{short_records}
-use Rattle.jc_commands.specs.steps.ReadTree.{IsClassList, IsRecordList}
-use Rattle.jc_commands.specs.steps.ReadTrees.{AreClassesOf}
+use Rattle.jc_trees.specs.declared.tree.TreeName.{TreeName}
+use Rattle.jc_trees.specs.declared.tree.TreeName.TheVariants as names
+use Rattle.jc_trees.proofs.Results.{same_ok}
+use Rattle.jc_trees.proofs.ShortPaths.{short_records}
+use Rattle.jc_trees.specs.ClassLists.{IsClassList, IsRecordList}
+use Rattle.jc_trees.specs.ReadTrees.{AreClassesOf}
 
 -- ---- there or not
 

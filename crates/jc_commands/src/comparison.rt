@@ -10,11 +10,11 @@ ghost use Rattle.jc_bodies.specs.Files.{CanWrite};
 ghost use Rattle.jc_witness.specs.Ground.{HasShortSide};
 ghost use Rattle.jc_commands.specs.Check.{mismatch_of, MeetsNone};
 ghost use Rattle.jc_commands.specs.steps.Check.{IsComparison, StopsComparing, StopsCounting, StopsMatching, unfit_by};
-ghost use Rattle.jc_commands.specs.steps.ReadTree.{IsRecordList};
+ghost use Rattle.jc_trees.specs.ClassLists.{IsRecordList};
 
 use crate::limits::MAX_FINDINGS;
 use crate::stop::Stop;
-use crate::tree::TreeName;
+use jc_trees::tree::TreeName;
 use jc_facts::class_facts::ClassFacts;
 use jc_facts::verdict::Verdict;
 use jc_rules::compare::compare_within;

@@ -19,7 +19,7 @@ use Rattle.jc_commands.specs.declared.stop.Stop.{Stop}
 use Rattle.jc_commands.specs.declared.stop.Stop.TheVariants as stops
 use Rattle.jc_lemmas.proofs.Bools.{contradicts}
 use Rattle.jc_commands.proofs.Events.{ok_of}
-use Rattle.jc_commands.proofs.Results.{same_ok, ok_or_err}
+use Rattle.jc_trees.proofs.Results.{same_ok, ok_or_err}
 
 -- a number up to 7
 by_number : (P : ℕ → Type 0) (n : ℕ) → n ≤ 7 → P 0 → P 1 → P 2 → P 3 → P 4 → P 5 → P 6 → P 7 → P n

@@ -3,18 +3,19 @@ use Rattle.std.proofs.Common.{◌≡◌, ◌==◌, inl, inr, false, ℕ, List, [
 use Rattle.std.specs.Prelude.{Result, Ok, Err, IsOkAnd}
 use Rattle.jc_base.specs.Causes.{Rose}
 use Rattle.jc_facts.specs.Names.{Bytes}
-use Rattle.jc_commands.specs.declared.file_fault.FileFault.{FileFault}
-use Rattle.jc_commands.specs.declared.file_fault.FileFault.TheVariants as faults
-use Rattle.jc_commands.specs.declared.file_fault.TreeFault.TheVariants as tree_faults
+use Rattle.jc_trees.specs.declared.file_fault.FileFault.{FileFault}
+use Rattle.jc_trees.specs.declared.file_fault.FileFault.TheVariants as faults
+use Rattle.jc_trees.specs.declared.file_fault.TreeFault.TheVariants as tree_faults
 use Rattle.jc_commands.specs.declared.status.TheConstants.{READ_FAULT, WRITE_FAULT}
 use Rattle.jc_commands.specs.declared.stop.Stop.{Stop}
 use Rattle.jc_commands.specs.declared.stop.Stop.TheVariants as stops
-use Rattle.jc_commands.specs.declared.tree.TreeName.{TreeName}
-use Rattle.jc_commands.specs.Causes.{IsFirst, HasCause}
+use Rattle.jc_trees.specs.declared.tree.TreeName.{TreeName}
+use Rattle.jc_commands.specs.Causes.{HasCause}
+use Rattle.jc_trees.specs.FirstTree.{IsFirst}
 use Rattle.jcompat.specs.Answers.{Ran, Answers, IsCutShort}
 use Rattle.jc_commands.specs.Command.{trees_of, asked_of}
 use Rattle.jc_commands.specs.Stop.{file_status, status_of}
-use Rattle.jc_commands.specs.Tree.{TreeOf}
+use Rattle.jc_trees.specs.Tree.{TreeOf}
 
 -- a count that stays 0 hasn't risen
 not_risen : (before after : ℕ) → before ≡ 0 → after ≡ 0 → Rose before after → ⊥
