@@ -8,7 +8,6 @@ pub mod CausesPut
 pub mod Bodies
 pub mod Compared
 pub mod Causes
-pub mod Gathered
 pub mod Declarations
 pub mod Subjects
 pub mod SomeVerdict

@@ -1,6 +1,5 @@
 -- Why a command has no report.
-use Rattle.std.specs.Prelude.{◌≡◌, ◌⊎◌, ℕ, List, [], ◌∷◌, Err, IsOkAnd}
-use Rattle.jc_base.specs.Causes.{Rose}
+use Rattle.std.specs.Prelude.{◌≡◌, ◌⊎◌, ℕ, List, Err, IsOkAnd}
 use Rattle.jc_base.specs.Outside.{FileOf}
 use Rattle.jc_base.specs.States.{TreesState, Change}
 use Rattle.jc_facts.specs.Names.{Bytes}
@@ -8,10 +7,7 @@ use Rattle.jc_gate.specs.Gates.{GateOf}
 use Rattle.jc_trees.specs.FirstTree.{IsFirstUnread, HasReadFault}
 use Rattle.jc_commands.specs.Command.{CommandOf, trees_of, asked_of}
 use Rattle.jc_commands.specs.Reports.{ToldTo, RecordsOf, Refuses, Accepts}
-use Rattle.jc_trees.specs.Tree.{TreeOf}
-use Rattle.jc_trees.specs.declared.file_fault.TreeFault.{TreeFault}
 use Rattle.jc_commands.specs.declared.status.TheConstants.{READ_FAULT, WRITE_FAULT, NO_MEMORY}
-use Rattle.jc_trees.specs.declared.tree.TreeName.{TreeName}
 use Rattle.jc_commands.specs.declared.stop.Stop.{Stop}
 use Rattle.jc_commands.specs.declared.stop.Stop.TheVariants as stops
 

@@ -11,13 +11,13 @@ ghost use Rattle.jc_commands.specs.ReportValue.{IsReportOf};
 
 use crate::command::trees_of_check;
 use crate::comparison::Comparison;
-use jc_trees::read_trees::read_trees;
 use crate::report::Report;
 use crate::stop::Stop;
 use crate::three_trees::{records_of, three_of};
 use crate::unread::stop_of;
 use jc_base::trees::Trees;
 use jc_facts::client::ClientClass;
+use jc_trees::read_trees::read_trees;
 use jc_words::check::Check;
 use std::alloc::Global;
 

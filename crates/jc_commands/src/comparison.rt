@@ -14,12 +14,12 @@ ghost use Rattle.jc_trees.specs.ClassLists.{IsRecordList};
 
 use crate::limits::MAX_FINDINGS;
 use crate::stop::Stop;
-use jc_trees::tree::TreeName;
 use jc_facts::class_facts::ClassFacts;
 use jc_facts::verdict::Verdict;
 use jc_rules::compare::compare_within;
 use jc_table::platform::Platform;
 use jc_table::table::{Table, TableError};
+use jc_trees::tree::TreeName;
 use std::alloc::Global;
 
 /// The platform with the old release and with the new one, and the verdict on them.

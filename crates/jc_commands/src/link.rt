@@ -11,17 +11,17 @@ ghost use Rattle.jc_trees.specs.ClassLists.{IsClassList};
 ghost use Rattle.jc_commands.specs.ReportValue.{IsReportOf};
 
 use crate::command::trees_of_link;
-use jc_trees::read_trees::read_trees;
 use crate::report::Report;
 use crate::stop::Stop;
 use crate::three_trees::{records_of, three_of};
-use jc_trees::tree::TreeName;
 use crate::unread::stop_of;
 use jc_base::trees::Trees;
 use jc_facts::client::ClientClass;
 use jc_facts::outcome::Outcome;
 use jc_link::link::link;
 use jc_link::refusal::LinkRefusal;
+use jc_trees::read_trees::read_trees;
+use jc_trees::tree::TreeName;
 use jc_words::link::Link;
 use std::alloc::Global;
 

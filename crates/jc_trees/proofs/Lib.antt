@@ -5,3 +5,6 @@ pub mod Results
 mod FrontRead
 pub mod TreeRead
 mod TreesRead
+pub mod OneFault
+pub mod Gathered
+pub mod SomeTrees

@@ -1,13 +1,20 @@
 -- A list in order of what is among candidates.
 --     gathered order total tied cs      what is in cs, in order and once
+--     name_tied      names that tie are equal
 use Rattle.std.proofs.Common.{◌≡◌, List, [], ◌∷◌, refl, sym, ◌∙◌, ap, subst, ◌⊎◌, inl, inr}
 use Rattle.std.specs.List.{Contains}
 use Rattle.std.specs.declared.cmp.Ordering.{Ordering}
 use Rattle.std.specs.declared.cmp.Ordering.TheVariants.{Less, Equal, Greater}
-use Rattle.std.specs.Ordering.{ordering_reverse}
+use Rattle.std.specs.Ordering.{ordering_reverse, is_eq}
 use Rattle.std.specs.Cmp.{IsTotalOrder}
-use Rattle.jc_facts.specs.Exactly.{Rises}
+use Rattle.std.proofs.lemmas.Map.Text.{is_eq-slice_cmp}
+use Rattle.jc_facts.specs.Exactly.{Rises, name_order}
+use Rattle.jc_facts.specs.Names.{Bytes}
+use Rattle.jc_facts.proofs.Same.{same_is}
 use Rattle.jc_lemmas.proofs.Listed.{EachOf, EachOf-map, here, there, none, cases, each_in, each_from}
+
+pub name_tied : (x y : Bytes) → name_order x y ≡ Equal → x ≡ y
+name_tied x y e = same_is x y (sym (is_eq-slice_cmp x y) ∙ ap is_eq e)
 
 -- what is in the list, in order and once
 pub record Gathered {S : Type 0} (order : S → S → Ordering) (cs : List S) : Type 0 where
