@@ -26,18 +26,22 @@ use Rattle.jc_commands.specs.declared.comparison.Comparison.{Comparison}
 use Rattle.jc_commands.specs.declared.report.Report.{Report}
 use Rattle.jc_commands.specs.declared.stop.Stop.{Stop}
 use Rattle.jc_commands.specs.declared.stop.Stop.TheVariants as stops
-use Rattle.jc_commands.specs.declared.tree.TreeName.TheVariants as names
-use Rattle.jc_commands.specs.Causes.{HasCause, IsFirstUnread, StopsCommand}
+use Rattle.jc_trees.specs.declared.tree.TreeName.TheVariants as names
+use Rattle.jc_trees.specs.FirstTree.{IsFirstUnread}
+use Rattle.jc_trees.specs.declared.trees_error.TreesError.{TreesError}
+use Rattle.jc_trees.specs.declared.trees_error.TreesError.TheVariants as trees_errors
+use Rattle.jc_commands.specs.Causes.{HasCause, StopsCommand}
 use Rattle.jc_commands.specs.Check.{CheckRecords, mismatch_of, puts_below}
-use Rattle.jc_commands.specs.ClassFiles.{Told}
+use Rattle.jc_trees.specs.ClassFiles.{Told}
 use Rattle.jc_commands.specs.Command.{CommandOf, CheckOf, LinkOf, CheckCommand, LinkCommand, trees_of, asked_of}
 use Rattle.jc_commands.specs.Link.{LinkRecords, refusal_of, AreOutcomesOf}
 use Rattle.jc_commands.specs.Reports.{ToldTo, RecordsOf, Refuses}
-use Rattle.jc_commands.specs.Tree.{TreeOf}
+use Rattle.jc_trees.specs.Tree.{TreeOf}
 use Rattle.jc_commands.specs.steps.Check.{IsComparison, StopsComparing, StopsCounting, StopsMatching, unfit_by}
+use Rattle.jc_commands.specs.steps.Trees.{stop_by_trees}
 use Rattle.jc_commands.specs.steps.Link.{StopsLinking, stop_by_refusal}
-use Rattle.jc_commands.specs.steps.ReadTree.{IsClassList, IsRecordList}
-use Rattle.jc_commands.specs.steps.ReadTrees.{AreClassesOf, StopsAmong}
+use Rattle.jc_trees.specs.ClassLists.{IsClassList, IsRecordList}
+use Rattle.jc_trees.specs.ReadTrees.{AreClassesOf, StopsAmong}
 use Rattle.jc_commands.specs.ReportValue.{TellsOf, HasToShow, IsBare, puts_in, IsReportOf}
 use Rattle.jc_commands.proofs.Bodies.{bare_dir, bare_puts, bare_can}
 use Rattle.jc_commands.proofs.Compared.{some_broken, each_shown, show_dir, show_puts, can_show_any}
@@ -105,19 +109,15 @@ three_lists all a b c is h = recursion_from_All IsClassList (a ∷ b ∷ c ∷ [
 
 module _ (command : CommandOf) (c : Change TreesState) where
   -- reading the trees stopped
-  pub cause_reading : ((P : List FileOf → Type 0) → Told c.before.content P → ToldTo command c.before.content P)
-      → (wanted : List TreeOf) → wanted ≡ trees_of command → (stop : Stop) → StopsAmong c wanted stop → StopsCommand command c stop
-  cause_reading told wanted wanted_is stop h = by_stop stop (subst (λ (ts : List TreeOf). StopsAmong c ts stop) wanted_is h)
+  pub cause_reading : ((P : List FileOf → Type 0) → Told c.before.content P → ToldTo command c.before.content P) → (wanted : List TreeOf) → wanted ≡ trees_of command
+      → (stop : Stop) (error : TreesError) → stop ≡ stop_by_trees error → StopsAmong c wanted error → StopsCommand command c stop
+  cause_reading told wanted wanted_is stop error is h =
+      subst (λ (s : Stop). StopsCommand command c s) (sym is) (by_error error (subst (λ (ts : List TreeOf). StopsAmong c ts error) wanted_is h))
     where
-      by_stop : (stop : Stop) → StopsAmong c (trees_of command) stop → StopsCommand command c stop
-      by_stop (stops.Unread name fault) h = told (λ files. IsFirstUnread files (trees_of command) name fault) h
-      by_stop (stops.ReadFault name) h = h
-      by_stop stops.Memory h = tt
-      by_stop (stops.Usage usage) h = absurd h
-      by_stop (stops.BadRoot p) h = absurd h
-      by_stop (stops.Overlap t x) h = absurd h
-      by_stop (stops.ClientName x p) h = absurd h
-      by_stop stops.TooManyFindings h = absurd h
+      by_error : (error : TreesError) → StopsAmong c (trees_of command) error → StopsCommand command c (stop_by_trees error)
+      by_error (trees_errors.Unread name fault) h = told (λ files. IsFirstUnread files (trees_of command) name fault) h
+      by_error (trees_errors.Fault name) h = h
+      by_error trees_errors.Memory h = tt
 
   -- the records of the trees are refused
   cause_refused : (stop : Stop) → IsOfRecords stop → ToldTo command c.before.content (λ files. (r : RecordsOf files command) × Refuses files command r stop) → StopsCommand command c stop

@@ -1,10 +1,3 @@
-pub mod Places
-pub mod ShortPaths
-pub mod Listings
-pub mod Results
-pub mod FrontRead
-pub mod TreeRead
-pub mod TreesRead
 pub mod Records
 pub mod Events
 pub mod Asked
@@ -15,7 +8,6 @@ pub mod CausesPut
 pub mod Bodies
 pub mod Compared
 pub mod Causes
-pub mod Gathered
 pub mod Declarations
 pub mod Subjects
 pub mod SomeVerdict

@@ -1,5 +1,5 @@
 -- No two of the witness files of a verdict have one path.
-use Rattle.std.proofs.Common.{◌≡◌, ◌≢◌, ◌≤◌, ◌<◌, ◌+◌, ◌^◌, ℕ, Bool, true, false, cond, List, [], ◌∷◌, ◌++◌, map, length, Some, None, refl, sym, ap, subst, ◌∙◌, All, arith, IsTrue}
+use Rattle.std.proofs.Common.{◌≡◌, ◌≢◌, ◌≤◌, ◌<◌, ◌+◌, ◌^◌, ℕ, true, List, [], ◌∷◌, ◌++◌, map, length, refl, sym, subst, ◌∙◌, All, arith, IsTrue}
 use Rattle.std.specs.Str.{is_utf8}
 use Rattle.std.proofs.lemmas.List.{length-append, length-map}
 use Rattle.std.proofs.lemmas.List.Elements.{All-from_recursion, recursion_from_All}
@@ -10,10 +10,10 @@ use Rattle.jc_facts.specs.declared.client.ClientClass.{ClientClass}
 use Rattle.jc_facts.specs.declared.verdict.Cause.{Cause}
 use Rattle.jc_facts.specs.declared.verdict.Cause.TheVariants as cause
 use Rattle.jc_facts.specs.declared.verdict.Verdict.{Verdict}
-use Rattle.jc_facts.specs.client.Clients.{differ_by_name, facts_of, is_allowed_name}
-use Rattle.jc_facts.specs.Names.{Bytes, same}
+use Rattle.jc_facts.specs.client.Clients.{is_allowed_name}
+use Rattle.jc_facts.specs.Names.{Bytes}
 use Rattle.jc_facts.specs.plan.Planned.{planned}
-use Rattle.jc_facts.specs.world.World.{World, class_named}
+use Rattle.jc_facts.specs.world.World.{World}
 use Rattle.jc_facts.proofs.Apart.{ApartRec}
 use Rattle.jc_facts.proofs.Clients.{clients_apart, name_of}
 use Rattle.jc_witness.specs.declared.witness.WitnessFile.{WitnessFile}

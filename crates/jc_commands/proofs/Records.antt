@@ -1,7 +1,6 @@
 -- The records of a command's trees: there is one of each, and who is refused is refused once.
-use Rattle.std.proofs.Common.{◌≡◌, ◌≤◌, ◌<◌, ◌⊎◌, inl, inr, ℕ, List, [], ◌∷◌, map, length, Option, Some, None, refl, sym, ap, subst, ◌∙◌, arith}
+use Rattle.std.proofs.Common.{◌≡◌, ◌≤◌, inl, inr, List, [], ◌∷◌, Option, Some, None, refl, sym, ap, subst, ◌∙◌, arith}
 use Rattle.std.specs.Prelude.{Ok, option_map}
-use Rattle.std.specs.List.{All}
 use Rattle.std.proofs.lemmas.List.Elements.{All-from_recursion, recursion_from_All}
 use Rattle.jc_base.specs.Outside.{FileOf}
 use Rattle.jc_facts.specs.declared.class_facts.ClassFacts.{ClassFacts}
@@ -23,21 +22,21 @@ use Rattle.jc_link.specs.Refusals.{refused_client}
 use Rattle.jc_table.specs.Root.{fault_of_root}
 use Rattle.jc_table.specs.Sides.{overlap_of}
 use Rattle.jc_commands.specs.Check.{CheckRecords, IsUnfit, mismatch_of}
-use Rattle.jc_commands.specs.ClassFiles.{path_of, items_in, IsClassIn, AreClasses, AreRecords, without_code}
+use Rattle.jc_trees.specs.ClassFiles.{path_of, items_in, IsClassIn, AreClasses, AreRecords, without_code}
 use Rattle.jc_commands.specs.Command.{CommandOf, CheckOf, LinkOf, CheckCommand, LinkCommand, MakeCommand, trees_of}
 use Rattle.jc_commands.specs.Link.{LinkRecords, refusal_of, client_name}
 use Rattle.jc_commands.specs.Make.{old_made, new_made}
 use Rattle.jc_commands.specs.Reports.{RecordsOf, ReportOf, Refuses, Accepts, IsReportOn}
-use Rattle.jc_commands.specs.Tree.{TreeOf, tree_at}
+use Rattle.jc_trees.specs.Tree.{TreeOf, tree_at}
 use Rattle.jc_commands.specs.declared.limits.TheConstants.{MAX_FINDINGS}
 use Rattle.jc_commands.specs.declared.stop.Stop.{Stop}
 use Rattle.jc_commands.specs.declared.stop.Stop.TheVariants as stops
-use Rattle.jc_commands.specs.declared.tree.TreeName.{TreeName}
-use Rattle.jc_commands.specs.declared.tree.TreeName.TheVariants as names
-use Rattle.jc_commands.proofs.Results.{same_ok}
-use Rattle.jc_commands.proofs.ShortPaths.{short_records}
-use Rattle.jc_commands.specs.steps.ReadTree.{IsClassList, IsRecordList}
-use Rattle.jc_commands.specs.steps.ReadTrees.{AreClassesOf}
+use Rattle.jc_trees.specs.declared.tree.TreeName.TheVariants as names
+use Rattle.jc_trees.proofs.OneFault.{apart_numbers}
+use Rattle.jc_trees.proofs.Results.{same_ok}
+use Rattle.jc_trees.proofs.ShortPaths.{short_records}
+use Rattle.jc_trees.specs.ClassLists.{IsClassList, IsRecordList}
+use Rattle.jc_trees.specs.ReadTrees.{AreClassesOf}
 
 -- ---- there or not
 
@@ -163,10 +162,6 @@ pub refuses_says : (files : List FileOf) (command : CommandOf) (r : RecordsOf fi
 refuses_says files (CheckCommand check) r stop h = unfit_says r.platform r.old r.new stop h
 refuses_says files (LinkCommand link) r stop h = refusal_says r.platform r.release r.clients stop h
 refuses_says files (MakeCommand n) r stop h = absurd h
-
--- more and no more than a number
-pub apart_numbers : (n limit : ℕ) → n ≤ limit → limit < n → ⊥
-apart_numbers n limit le lt = omega arith
 
 one_unfit : (platform old new : List ClassFacts) (a b : Stop) → IsUnfit platform old new a → IsUnfit platform old new b → a ≡ b
 one_unfit platform old new a b (inl h) (inl k) = same_some (mismatch_of platform old new) a b h k

@@ -28,7 +28,7 @@ use Rattle.jc_commands.specs.declared.report.Report.{Report}
 use Rattle.jc_commands.specs.declared.stop.Stop.{Stop}
 use Rattle.jc_commands.specs.declared.stop.Stop.TheVariants as stops
 use Rattle.jc_commands.specs.steps.Check.{StopsMatching}
-use Rattle.jc_commands.specs.steps.ReadTree.{IsRecordList}
+use Rattle.jc_trees.specs.ClassLists.{IsRecordList}
 use Rattle.jc_commands.specs.ReportValue.{TellsOf, IsBare, IsReportOf}
 use Rattle.jc_commands.proofs.Bodies.{bare_dir, bare_puts, bare_can}
 use Rattle.jc_commands.proofs.Causes.{releases_fit}

@@ -1,17 +1,16 @@
 -- The subjects of which a verdict on two sides may speak, in order.
 --     subjects O N      all of them: each rule, class, key and target
 --     covered      a subject whose parts are theirs is one of them
-use Rattle.std.proofs.Common.{◌≡◌, true, ℕ, List, [], ◌∷◌, ◌++◌, map, refl, sym, ◌∙◌, ap, subst, Option, Some, None, ◌==◌, ◌⊎◌, inl, inr}
+use Rattle.std.proofs.Common.{◌≡◌, true, ℕ, List, [], ◌∷◌, ◌++◌, map, refl, ◌∙◌, ap, subst, Option, Some, None, ◌==◌, ◌⊎◌, inl, inr}
 use Rattle.std.specs.List.{Contains, list_any}
 use Rattle.std.specs.declared.cmp.Ordering.{Ordering}
 use Rattle.std.specs.declared.cmp.Ordering.TheVariants.{Less, Equal, Greater}
-use Rattle.std.specs.Ordering.{nat_cmp, is_eq, ordering_then}
+use Rattle.std.specs.Ordering.{nat_cmp, is_eq}
 use Rattle.std.specs.Option.{option_cmp}
 use Rattle.std.specs.Cmp.{IsTotalOrder, then_total, on_total, unsigned_ties}
 use Rattle.std.specs.Cmp.Lexicographic.{nat_list_cmp_total, options_total}
 use Rattle.std.proofs.lemmas.Bool.{or_cases, eqb-true}
 use Rattle.std.proofs.lemmas.Cmp.{nat_cmp_total}
-use Rattle.std.proofs.lemmas.Map.Text.{is_eq-slice_cmp}
 use Rattle.jc_facts.specs.declared.class_facts.ClassFacts.{ClassFacts}
 use Rattle.jc_facts.specs.declared.key.Key.{Key}
 use Rattle.jc_facts.specs.Names.{Bytes}
@@ -21,18 +20,14 @@ use Rattle.jc_facts.specs.rule.Findings.{Subject}
 use Rattle.jc_facts.specs.world.World.{World, classes}
 use Rattle.jc_lemmas.proofs.Listed.{here, there}
 use Rattle.jc_facts.proofs.KeySets.{then_equal}
-use Rattle.jc_facts.proofs.Same.{same_is}
 use Rattle.jc_sides.proofs.Subjects.{subject_order}
-use Rattle.jc_commands.proofs.Gathered.{Gathered, gathered}
+use Rattle.jc_trees.proofs.Gathered.{Gathered, gathered, name_tied}
 use Rattle.jc_commands.proofs.Declarations.{mapped, spread, spread_has, all_keys}
 
 -- ---- subjects that tie are equal
 
 number_tied : (m n : ℕ) → nat_cmp m n ≡ Equal → m ≡ n
 number_tied m n e = eqb-true m n (unsigned_ties m n ∙ ap is_eq e)
-
-pub name_tied : (x y : Bytes) → name_order x y ≡ Equal → x ≡ y
-name_tied x y e = same_is x y (sym (is_eq-slice_cmp x y) ∙ ap is_eq e)
 
 option_tied : {T : Type 0} (order : T → T → Ordering) → ((x y : T) → order x y ≡ Equal → x ≡ y) → (p q : Option T) → option_cmp order p q ≡ Equal → p ≡ q
 option_tied order tied None None e = refl

@@ -1,36 +1,19 @@
 -- Why a command has no report.
-use Rattle.std.specs.Prelude.{◌≡◌, ◌⊎◌, ℕ, List, [], ◌∷◌, Err, IsOkAnd}
-use Rattle.jc_base.specs.Causes.{Rose}
+use Rattle.std.specs.Prelude.{◌≡◌, ◌⊎◌, ℕ, List, Err, IsOkAnd}
 use Rattle.jc_base.specs.Outside.{FileOf}
 use Rattle.jc_base.specs.States.{TreesState, Change}
 use Rattle.jc_facts.specs.Names.{Bytes}
 use Rattle.jc_gate.specs.Gates.{GateOf}
-use Rattle.jc_commands.specs.ClassFiles.{Told, IsClean, IsTreeFault}
+use Rattle.jc_trees.specs.FirstTree.{IsFirstUnread, HasReadFault}
 use Rattle.jc_commands.specs.Command.{CommandOf, trees_of, asked_of}
 use Rattle.jc_commands.specs.Reports.{ToldTo, RecordsOf, Refuses, Accepts}
-use Rattle.jc_commands.specs.Tree.{TreeOf}
-use Rattle.jc_commands.specs.declared.file_fault.TreeFault.{TreeFault}
 use Rattle.jc_commands.specs.declared.status.TheConstants.{READ_FAULT, WRITE_FAULT, NO_MEMORY}
-use Rattle.jc_commands.specs.declared.tree.TreeName.{TreeName}
 use Rattle.jc_commands.specs.declared.stop.Stop.{Stop}
 use Rattle.jc_commands.specs.declared.stop.Stop.TheVariants as stops
 
 -- ---- events, in their order: the words, and the gates that they name; the command's trees in order, each by the number of its class files, their paths, and then file by
 -- file; the records of the trees, by what the command says of them: a check of the platform's root, the names of the old release, those of
 -- the new, and the number of findings and collisions; the linking of clients of the root, the names of the release, and those of the clients. Generated releases come of the words alone
-
--- of the trees in their order this one has the second property, and each before it has the first
-abbrev pub IsFirst : (TreeOf → Type 0) → (TreeOf → Type 0) → List TreeOf → TreeName → Type 0
-IsFirst Before This [] name = ⊥
-IsFirst Before This (tree ∷ trees) name = ((tree.name ≡ name) × This tree) ⊎ (Before tree × IsFirst Before This trees name)
-
--- this is the first tree that isn't read, and why
-abbrev pub IsFirstUnread : List FileOf → List TreeOf → TreeName → TreeFault → Type 0
-IsFirstUnread files trees name fault = IsFirst (IsClean files) (λ tree. IsTreeFault files tree fault) trees name
-
--- a call on this tree failed, where no earlier tree is refused: the count of its root rose
-abbrev pub HasReadFault : Change TreesState → List TreeOf → TreeName → Type 0
-HasReadFault c = IsFirst (λ tree. Told c.before.content (λ files. IsClean files tree)) (λ tree. Rose (c.before.faults tree.root) (c.after.faults tree.root))
 
 -- the files are refused to the command, and this is the first cause
 abbrev pub IsRefusedTo : CommandOf → List FileOf → Stop → Type 0

@@ -1,5 +1,5 @@
 -- A check of two releases: what it reads, why that is refused, and its verdict.
-use Rattle.std.specs.Prelude.{◌≡◌, ◌≢◌, ◌≤◌, ◌<◌, ◌+◌, ◌⊎◌, ℕ, List, [], Bool, length, Option, Some, None, option_map, if◌then◌else◌}
+use Rattle.std.specs.Prelude.{◌≡◌, ◌≢◌, ◌≤◌, ◌<◌, ◌⊎◌, List, [], Bool, Option, Some, None, option_map, if◌then◌else◌}
 use Rattle.std.specs.List.{All}
 use Rattle.jc_base.specs.Outside.{FileOf}
 use Rattle.jc_base.specs.States.{FolderState, Change}
@@ -21,12 +21,12 @@ use Rattle.jc_table.specs.Root.{fault_of_root}
 use Rattle.jc_table.specs.Sides.{overlap_of}
 use Rattle.jc_complete.specs.Completeness.{IsBroken}
 use Rattle.jc_witness.specs.Witnesses.{IsWitnessOf, witness_files}
-use Rattle.jc_commands.specs.ClassFiles.{AreRecords}
+use Rattle.jc_trees.specs.ClassFiles.{AreRecords}
 use Rattle.jc_commands.specs.Command.{CheckOf}
-use Rattle.jc_commands.specs.Tree.{tree_at}
+use Rattle.jc_trees.specs.Tree.{tree_at}
 use Rattle.jc_commands.specs.Witness.{PutFile, PutsFiles, causes_of, witness_puts}
 use Rattle.jc_commands.specs.declared.limits.TheConstants.{MAX_FINDINGS}
-use Rattle.jc_commands.specs.declared.tree.TreeName.TheVariants as names
+use Rattle.jc_trees.specs.declared.tree.TreeName.TheVariants as names
 use Rattle.jc_commands.specs.declared.stop.Stop.{Stop}
 use Rattle.jc_commands.specs.declared.stop.Stop.TheVariants as stops
 

@@ -6,8 +6,8 @@ use Rattle.jc_gate.specs.Gates.{GateOf, first_unknown}
 pub use Rattle.jc_words.specs.Command.{CheckOf, LinkOf, CommandOf, CheckCommand, LinkCommand, MakeCommand, asked}
 use Rattle.jc_words.specs.declared.usage.Usage.{Usage}
 use Rattle.jc_words.specs.declared.usage.Usage.TheVariants as usages
-use Rattle.jc_commands.specs.Tree.{TreeOf, tree_at}
-use Rattle.jc_commands.specs.declared.tree.TreeName.TheVariants as names
+use Rattle.jc_trees.specs.Tree.{TreeOf, tree_at}
+use Rattle.jc_trees.specs.declared.tree.TreeName.TheVariants as names
 
 -- the trees that are read for it, in this order
 abbrev pub trees_of : CommandOf → List TreeOf

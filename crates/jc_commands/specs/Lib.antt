@@ -1,8 +1,6 @@
-pub mod Tree
 pub mod Command
 pub mod Stop
 pub mod Witness
-pub mod ClassFiles
 pub mod Check
 pub mod Link
 pub mod Make

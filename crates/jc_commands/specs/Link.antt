@@ -12,10 +12,10 @@ use Rattle.jc_table.specs.Root.{fault_of_root}
 use Rattle.jc_table.specs.Sides.{overlap_of}
 use Rattle.jc_link.specs.Refusals.{refused_client}
 use Rattle.jc_link.specs.declared.refusal.ClientPart.{ClientPart}
-use Rattle.jc_commands.specs.ClassFiles.{AreRecords, AreClasses}
+use Rattle.jc_trees.specs.ClassFiles.{AreRecords, AreClasses}
 use Rattle.jc_commands.specs.Command.{LinkOf}
-use Rattle.jc_commands.specs.Tree.{tree_at}
-use Rattle.jc_commands.specs.declared.tree.TreeName.TheVariants as names
+use Rattle.jc_trees.specs.Tree.{tree_at}
+use Rattle.jc_trees.specs.declared.tree.TreeName.TheVariants as names
 use Rattle.jc_commands.specs.declared.stop.Stop.{Stop}
 use Rattle.jc_commands.specs.declared.stop.Stop.TheVariants as stops
 

@@ -12,7 +12,7 @@ use Rattle.jc_facts.specs.world.World.{World}
 use Rattle.jc_gate.specs.Gates.{GateOf, all_pass}
 use Rattle.jc_complete.specs.Completeness.{IsBroken}
 use Rattle.jc_commands.specs.Check.{CheckRecords, IsVerdictOn, IsShown, MeetsNone, old_side, new_side, verdict_bytes, puts_below}
-use Rattle.jc_commands.specs.ClassFiles.{Told}
+use Rattle.jc_trees.specs.ClassFiles.{Told}
 use Rattle.jc_commands.specs.Command.{CommandOf, CheckOf, CheckCommand, LinkCommand, MakeCommand, witness_dir, asked_of}
 use Rattle.jc_commands.specs.Make.{IsSize}
 use Rattle.jc_commands.specs.Reports.{ToldTo, RecordsOf, ReportOf, IsReportOn, passes, bytes_of, puts_of}

@@ -9,7 +9,7 @@ use Rattle.jc_facts.specs.print.LinkText.{link_text_of}
 use Rattle.jc_facts.specs.print.MadeText.{made_text_of}
 use Rattle.jc_gate.specs.Gates.{GateOf, all_pass}
 use Rattle.jc_commands.specs.Check.{CheckRecords, IsUnfit, IsFit, IsVerdictOn, old_side, new_side, verdict_bytes, puts_below}
-use Rattle.jc_commands.specs.ClassFiles.{Told}
+use Rattle.jc_trees.specs.ClassFiles.{Told}
 use Rattle.jc_commands.specs.Command.{CommandOf, CheckCommand, LinkCommand, MakeCommand}
 use Rattle.jc_commands.specs.Link.{LinkRecords, refusal_of, AreOutcomesOf}
 use Rattle.jc_commands.specs.Make.{IsSize, IsVerdictOnMade}

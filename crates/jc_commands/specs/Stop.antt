@@ -13,12 +13,12 @@ use Rattle.jc_link.specs.declared.refusal.ClientPart.{ClientPart}
 use Rattle.jc_link.specs.declared.refusal.ClientPart.TheVariants as client_parts
 use Rattle.jc_words.specs.declared.usage.Usage.{Usage}
 use Rattle.jc_words.specs.declared.usage.Usage.TheVariants as usages
-use Rattle.jc_commands.specs.Tree.{tree_words}
+use Rattle.jc_trees.specs.Tree.{tree_words}
 use Rattle.jc_commands.specs.declared.status.TheConstants.{USAGE, BAD_INPUT, READ_FAULT, NO_MEMORY, LIMIT}
-use Rattle.jc_commands.specs.declared.file_fault.FileFault.{FileFault}
-use Rattle.jc_commands.specs.declared.file_fault.FileFault.TheVariants as faults
-use Rattle.jc_commands.specs.declared.file_fault.TreeFault.{TreeFault}
-use Rattle.jc_commands.specs.declared.file_fault.TreeFault.TheVariants as tree_faults
+use Rattle.jc_trees.specs.declared.file_fault.FileFault.{FileFault}
+use Rattle.jc_trees.specs.declared.file_fault.FileFault.TheVariants as faults
+use Rattle.jc_trees.specs.declared.file_fault.TreeFault.{TreeFault}
+use Rattle.jc_trees.specs.declared.file_fault.TreeFault.TheVariants as tree_faults
 use Rattle.jc_commands.specs.declared.stop.Stop.{Stop}
 use Rattle.jc_commands.specs.declared.stop.Stop.TheVariants as stops
 

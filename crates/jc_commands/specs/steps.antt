@@ -1,6 +1,4 @@
-pub mod TreeView
-pub mod ReadTree
-pub mod ReadTrees
+pub mod Trees
 pub mod Check
 pub mod Link
 pub mod PutFiles

@@ -6,17 +6,18 @@ ghost use Rattle.jc_commands.specs.Causes.{StopsCommand};
 ghost use Rattle.jc_commands.specs.Command.{CheckCommand};
 ghost use Rattle.jc_commands.specs.steps.Check.{IsComparison, StopsComparing};
 ghost use Rattle.jc_words.specs.CommandView.{check_of};
-ghost use Rattle.jc_commands.specs.steps.ReadTree.{IsClassList};
+ghost use Rattle.jc_trees.specs.ClassLists.{IsClassList};
 ghost use Rattle.jc_commands.specs.ReportValue.{IsReportOf};
 
 use crate::command::trees_of_check;
 use crate::comparison::Comparison;
-use crate::read_trees::read_trees;
 use crate::report::Report;
 use crate::stop::Stop;
 use crate::three_trees::{records_of, three_of};
+use crate::unread::stop_of;
 use jc_base::trees::Trees;
 use jc_facts::client::ClientClass;
+use jc_trees::read_trees::read_trees;
 use jc_words::check::Check;
 use std::alloc::Global;
 
@@ -61,7 +62,7 @@ pub fn check<'a, T: Trees>(
     let wanted = trees_of_check(check);
     let all = match read_trees(alloc, &wanted, trees) {
         Ok(all) => all,
-        Err(stop) => return Err(stop),
+        Err(error) => return Err(stop_of(error)),
     };
     let (platform, old, new) = three_of(all);
     let comparison = match compared(alloc, platform, old, new) {

@@ -2,9 +2,9 @@
 ghost use Rattle.std.specs.Prelude.{◌≡◌, IfOk, map};
 ghost use Rattle.jc_words.specs.CommandView.{check_of, link_of, command_of};
 ghost use Rattle.jc_commands.specs.Command.{trees_of, gates_named as named_by, CheckCommand, LinkCommand};
-ghost use Rattle.jc_commands.specs.steps.TreeView.{tree_of};
+ghost use Rattle.jc_trees.specs.TreeView.{tree_of};
 
-use crate::tree::{Tree, TreeName};
+use jc_trees::tree::{Tree, TreeName};
 use jc_words::check::Check;
 use jc_words::command::Command;
 use jc_words::link::Link;

@@ -10,16 +10,16 @@ ghost use Rattle.jc_bodies.specs.Files.{CanWrite};
 ghost use Rattle.jc_witness.specs.Ground.{HasShortSide};
 ghost use Rattle.jc_commands.specs.Check.{mismatch_of, MeetsNone};
 ghost use Rattle.jc_commands.specs.steps.Check.{IsComparison, StopsComparing, StopsCounting, StopsMatching, unfit_by};
-ghost use Rattle.jc_commands.specs.steps.ReadTree.{IsRecordList};
+ghost use Rattle.jc_trees.specs.ClassLists.{IsRecordList};
 
 use crate::limits::MAX_FINDINGS;
 use crate::stop::Stop;
-use crate::tree::TreeName;
 use jc_facts::class_facts::ClassFacts;
 use jc_facts::verdict::Verdict;
 use jc_rules::compare::compare_within;
 use jc_table::platform::Platform;
 use jc_table::table::{Table, TableError};
+use jc_trees::tree::TreeName;
 use std::alloc::Global;
 
 /// The platform with the old release and with the new one, and the verdict on them.

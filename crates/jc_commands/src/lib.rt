@@ -4,22 +4,18 @@
 
 pub mod body;
 mod check;
-pub mod class_file;
 mod command;
 mod comparison;
 pub mod decide;
-pub mod file_fault;
 pub mod limits;
 mod link;
 mod make;
 pub mod put;
 mod put_witnesses;
-mod read_tree;
-mod read_trees;
 pub mod report;
 pub mod shown;
 pub mod status;
 pub mod stop;
 mod three_trees;
-pub mod tree;
+mod unread;
 mod witness_path;

@@ -1,13 +1,4 @@
-//! The limits.
-
-/// The most class files of a tree.
-pub const MAX_FILES: usize = 40_000;
-
-/// The most bytes of a class file's path.
-pub const MAX_PATH: usize = 4_096;
-
-/// The most bytes of a class file.
-pub const MAX_BYTES: u32 = 4_194_304;
+//! The limit on verdicts.
 
 /// The most findings and collisions of a verdict that is printed.
 pub const MAX_FINDINGS: usize = 999_999;

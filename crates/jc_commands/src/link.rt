@@ -7,20 +7,21 @@ ghost use Rattle.jc_commands.specs.Command.{LinkCommand};
 ghost use Rattle.jc_commands.specs.Link.{AreOutcomesOf};
 ghost use Rattle.jc_words.specs.CommandView.{link_of};
 ghost use Rattle.jc_commands.specs.steps.Link.{StopsLinking, stop_by_refusal};
-ghost use Rattle.jc_commands.specs.steps.ReadTree.{IsClassList};
+ghost use Rattle.jc_trees.specs.ClassLists.{IsClassList};
 ghost use Rattle.jc_commands.specs.ReportValue.{IsReportOf};
 
 use crate::command::trees_of_link;
-use crate::read_trees::read_trees;
 use crate::report::Report;
 use crate::stop::Stop;
 use crate::three_trees::{records_of, three_of};
-use crate::tree::TreeName;
+use crate::unread::stop_of;
 use jc_base::trees::Trees;
 use jc_facts::client::ClientClass;
 use jc_facts::outcome::Outcome;
 use jc_link::link::link;
 use jc_link::refusal::LinkRefusal;
+use jc_trees::read_trees::read_trees;
+use jc_trees::tree::TreeName;
 use jc_words::link::Link;
 use std::alloc::Global;
 
@@ -74,7 +75,7 @@ pub fn link_clients<'a, T: Trees>(
     let wanted = trees_of_link(asked);
     let all = match read_trees(alloc, &wanted, trees) {
         Ok(all) => all,
-        Err(stop) => return Err(stop),
+        Err(error) => return Err(stop_of(error)),
     };
     let (platform, release, clients) = three_of(all);
     let outcomes = match linked(alloc, platform, release, clients) {

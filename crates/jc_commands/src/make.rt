@@ -7,7 +7,7 @@ ghost use Rattle.jc_commands.specs.Command.{MakeCommand};
 ghost use Rattle.jc_commands.specs.Make.{IsSize};
 ghost use Rattle.jc_commands.specs.declared.stop.Stop.{Stop};
 ghost use Rattle.jc_commands.specs.steps.Check.{StopsMatching};
-ghost use Rattle.jc_commands.specs.steps.ReadTree.{IsRecordList};
+ghost use Rattle.jc_trees.specs.ClassLists.{IsRecordList};
 ghost use Rattle.jc_commands.specs.ReportValue.{IsReportOf};
 
 use crate::comparison::both_sides;

@@ -1,18 +1,18 @@
 //! Why there is no report.
 ghost use Rattle.std.specs.Prelude.{◌≡◌, ◌++◌, codes, IfOk, OnOk};
 ghost use Rattle.jc_facts.specs.print.Text.{printed};
-ghost use Rattle.jc_commands.specs.Tree.{tree_words};
+ghost use Rattle.jc_trees.specs.Tree.{tree_words};
 ghost use Rattle.jc_commands.specs.Stop.{reason_name as name_of, code_reason_name as name_of_code_reason, part_name as part_name_of, client_part_name as name_of_client_part, file_words, unread_words, usage_words, line_of, file_status as file_status_of, tree_status as tree_status_of, status_of};
 
-use crate::file_fault::{FileFault, TreeFault};
 use crate::status::{BAD_INPUT, LIMIT, NO_MEMORY, READ_FAULT, USAGE};
-use crate::tree::TreeName;
 use jc_base::name::Name;
 use jc_desc::fault::Reason;
 use jc_facts::code_fault::CodeReason;
 use jc_link::refusal::ClientPart;
 use jc_report::printed::{push_decimal, push_printed};
 use jc_table::root::RootPart;
+use jc_trees::file_fault::{FileFault, TreeFault};
+use jc_trees::tree::TreeName;
 use jc_words::usage::Usage;
 use std::alloc::{AllocError, Global};
 

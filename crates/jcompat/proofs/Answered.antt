@@ -5,9 +5,9 @@ use Rattle.jc_base.specs.Outside.{FileOf}
 use Rattle.jc_base.specs.States.{TreesState}
 use Rattle.jc_facts.specs.declared.verdict.Verdict.{Verdict}
 use Rattle.jc_facts.specs.Names.{Bytes}
-use Rattle.jc_commands.specs.declared.file_fault.FileFault.{FileFault}
-use Rattle.jc_commands.specs.declared.file_fault.FileFault.TheVariants as faults
-use Rattle.jc_commands.specs.declared.file_fault.TreeFault.TheVariants as tree_faults
+use Rattle.jc_trees.specs.declared.file_fault.FileFault.{FileFault}
+use Rattle.jc_trees.specs.declared.file_fault.FileFault.TheVariants as faults
+use Rattle.jc_trees.specs.declared.file_fault.TreeFault.TheVariants as tree_faults
 use Rattle.jc_commands.specs.declared.report.Report.{Report}
 use Rattle.jc_commands.specs.declared.status.TheConstants.{PASSED, NOT_PASSED, WRITE_FAULT, NO_MEMORY, LIMIT}
 use Rattle.jc_commands.specs.declared.stop.Stop.{Stop}
@@ -16,7 +16,7 @@ use Rattle.jc_commands.specs.Causes.{HasCause, HasFailed}
 use Rattle.jc_commands.specs.Outputs.{IsQuiet, IsUntouched, PutsAll, PutsFront}
 use Rattle.jcompat.specs.Answers.{Ran, Answers, Due, due_bytes, Puts, PutsWitnesses, IsStopped, CutsWitnesses, CutsReport, CutsRefusal, OfFiles}
 use Rattle.jc_commands.specs.Check.{IsCompatible, IsIncompatible, IsWitnessed, verdict_bytes, old_side, new_side, puts_below}
-use Rattle.jc_commands.specs.ClassFiles.{Told}
+use Rattle.jc_trees.specs.ClassFiles.{Told}
 use Rattle.jc_commands.specs.Command.{CommandOf, CheckOf, CheckCommand, LinkCommand, MakeCommand, witness_dir, asked}
 use Rattle.jc_commands.specs.Reports.{RecordsOf, IsReportOn, puts_of}
 use Rattle.jc_commands.specs.Stop.{line_of, file_status, status_of}
@@ -25,7 +25,7 @@ use Rattle.jc_commands.specs.ReportValue.{IsChecked, IsReportOf, Reports, bytes_
 use Rattle.jc_commands.specs.Putting.{IsPutWith, IsPutAfter, IsCutBefore}
 use Rattle.jc_commands.proofs.Asked.{asked_without}
 use Rattle.jc_commands.proofs.Events.{told_to, not_refused, reported_accepted, refused_status, accepted_status}
-use Rattle.jc_commands.proofs.Results.{same_ok}
+use Rattle.jc_trees.proofs.Results.{same_ok}
 
 -- a status isn't two numbers
 clash : {P : Type 0} (s m n : ℕ) → s ≡ m → s ≡ n → (m == n) ≡ false → P

@@ -14,7 +14,7 @@ use Rattle.jc_table.specs.declared.table.TableError.TheVariants as errors
 use Rattle.jc_commands.specs.Check.{IsUnfit, IsVerdictOn, MeetsNone, mismatch_of}
 use Rattle.jc_commands.specs.declared.comparison.Comparison.{Comparison}
 use Rattle.jc_commands.specs.declared.limits.TheConstants.{MAX_FINDINGS}
-use Rattle.jc_commands.specs.declared.tree.TreeName.{TreeName}
+use Rattle.jc_trees.specs.declared.tree.TreeName.{TreeName}
 use Rattle.jc_commands.specs.declared.stop.Stop.{Stop}
 use Rattle.jc_commands.specs.declared.stop.Stop.TheVariants as stops
 

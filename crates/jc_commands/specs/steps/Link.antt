@@ -5,7 +5,7 @@ use Rattle.jc_facts.specs.declared.client.ClientClass.{ClientClass}
 use Rattle.jc_link.specs.declared.refusal.LinkRefusal.{LinkRefusal}
 use Rattle.jc_link.specs.declared.refusal.LinkRefusal.TheVariants as refusals
 use Rattle.jc_commands.specs.Link.{refusal_of}
-use Rattle.jc_commands.specs.declared.tree.TreeName.TheVariants as names
+use Rattle.jc_trees.specs.declared.tree.TreeName.TheVariants as names
 use Rattle.jc_commands.specs.declared.stop.Stop.{Stop}
 use Rattle.jc_commands.specs.declared.stop.Stop.TheVariants as stops
 

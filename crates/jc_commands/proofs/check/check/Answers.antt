@@ -6,7 +6,7 @@ use Rattle.jc_commands.proofs.check.check.Goals as goal
 
 pub returns-in-Err-clause-stopped : goal.returns-in-Err-clause-stopped
 returns-in-Err-clause-stopped g c =
-    cause_reading (CheckCommand (check_of c.args.check.now)) (change g.T.Trees.state c.args.trees.now c.read_trees.new.trees) (λ P h. h) _ c.trees_of_check-wanted.ensures c.in-Err.stop c.in-Err.ensures.stopped
+    cause_reading (CheckCommand (check_of c.args.check.now)) (change g.T.Trees.state c.args.trees.now c.read_trees.new.trees) (λ P h. h) _ c.trees_of_check-wanted.ensures c.stop_of.result c.in-Err.error c.stop_of.ensures c.in-Err.ensures.stopped
 
 pub returns-in-Err-compared-clause-stopped : goal.returns-in-Err-compared-clause-stopped
 returns-in-Err-compared-clause-stopped g c =

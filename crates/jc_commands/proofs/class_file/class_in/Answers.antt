@@ -1,7 +1,0 @@
-use Rattle.jc_commands.proofs.class_file.class_in.Goals as goal
-
-pub returns-in-Err-clause-fault : goal.returns-in-Err-clause-fault
-returns-in-Err-clause-fault c = (rw c.in-Err.is at c.in_ok-facts.ensures.fault) c.args.tree
-
-pub returns-in-Err-2-clause-fault : goal.returns-in-Err-2-clause-fault
-returns-in-Err-2-clause-fault c = (rw c.in-Err-2.is at c.in_ok-items.ensures.fault) c.args.path.now c.in-Ok.facts (rw c.in-Ok.is at c.in_ok-facts.ensures.read)

@@ -1,0 +1,23 @@
+-- What lists of classes and of records are that are read of a tree, whether its files are told or not.
+use Rattle.std.specs.Prelude.{◌≤◌, List, length, IsTrue}
+use Rattle.std.specs.List.{All}
+use Rattle.jc_bodies.specs.Files.{HasShortNames}
+use Rattle.jc_facts.specs.declared.class_facts.ClassFacts.{ClassFacts}
+use Rattle.jc_facts.specs.declared.client.ClientClass.{ClientClass}
+use Rattle.jc_facts.specs.client.Clients.{IsValidClient, differ_by_name, facts_of}
+use Rattle.jc_facts.specs.file.Valid.{IsValidClass}
+use Rattle.jc_trees.specs.declared.limits.TheConstants.{MAX_FILES}
+
+-- what the classes of a tree are: valid, with short names, no more than the limit, and their names differ
+pub record IsClassList (cs : List ClientClass) : Type 0 where
+  pub valid : All IsValidClient cs
+  pub short : All (λ c. HasShortNames c.facts) cs
+  pub differ : IsTrue (differ_by_name (facts_of cs))
+  pub few : length cs ≤ MAX_FILES
+
+-- what their records are
+pub record IsRecordList (records : List ClassFacts) : Type 0 where
+  pub valid : All IsValidClass records
+  pub short : All HasShortNames records
+  pub differ : IsTrue (differ_by_name records)
+  pub few : length records ≤ MAX_FILES
