@@ -8,8 +8,8 @@ use Rattle.jc_facts.specs.Names.{Bytes}
 use Rattle.jc_facts.specs.world.Search.{supers}
 use Rattle.jc_facts.specs.world.World.{World, classes, size, find_class, class_named}
 use Rattle.jc_facts.specs.client.Clients.{differ_by_name}
-use Rattle.jc_index.specs.Ids.{names_of, names, name_at, place_of, id_of}
-use Rattle.jc_index.specs.steps.Order.{name_or, name_in, names_at}
+use Rattle.jc_index.specs.Ids.{names_of, names, name_at, place_of, id_of, name_or, name_in}
+use Rattle.jc_index.specs.steps.Order.{names_at}
 use Rattle.jc_index.specs.steps.NamedClasses.{AreNamedClasses}
 use Rattle.jc_index.specs.steps.PlacesAbove.{IsAbove}
 use Rattle.jc_index.specs.declared.named_classes.NamedClasses.TheInside.{Inside}

@@ -17,11 +17,10 @@ use Rattle.jc_facts.specs.world.World.{World, side, classes, size, find_class, c
 use Rattle.jc_facts.proofs.World.{class_named-first}
 use Rattle.jc_worlds.proofs.Agree.{Agree, load_fault-agree}
 use Rattle.jc_worlds.proofs.Loaded.{loads-found, loads-parts}
-use Rattle.jc_index.specs.Ids.{name_at, id_of}
+use Rattle.jc_index.specs.Ids.{name_at, id_of, name_or, name_in}
 use Rattle.jc_index.specs.LoadOrder.{AreInLoadOrder, LoadsAfter, LoadInOrder, AreLoads}
 use Rattle.jc_index.specs.Root.{fault_of_root}
 use Rattle.jc_index.specs.Sides.{IsSide}
-use Rattle.jc_index.specs.steps.Order.{name_or, name_in}
 use Rattle.jc_index.specs.declared.faults.State.{State}
 use Rattle.jc_index.specs.declared.faults.State.TheVariants as states
 use Rattle.jc_index.specs.steps.Entering.{AllLoad, IsRight, IsSettled, is_entered, is_number_among, state_of}

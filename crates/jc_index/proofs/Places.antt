@@ -19,8 +19,8 @@ use Rattle.jc_lemmas.proofs.Listed.{EachOf, here, there, none, cases}
 use Rattle.jc_facts.proofs.OneList.{same_list}
 use Rattle.jc_facts.proofs.Apart.{Apart, ApartRec, rec-Apart, Apart-permutation, NamesRise-sorted}
 use Rattle.jc_facts.proofs.Same.{same_is, same_itself}
-use Rattle.jc_index.specs.Ids.{insert, names_of}
-use Rattle.jc_index.specs.steps.Order.{name_or, name_in, names_at, IsPlace, IsOrder}
+use Rattle.jc_index.specs.Ids.{insert, names_of, name_or, name_in}
+use Rattle.jc_index.specs.steps.Order.{names_at, IsPlace, IsOrder}
 use Rattle.jc_index.proofs.Numbers.{is_none-None, and_true, named-in, in-named, names_of-rise}
 
 pub order_length : (cs : List ClassFacts) (order : List ℕ) → IsOrder cs order → length order ≡ length (names_of cs)

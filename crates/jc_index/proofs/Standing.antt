@@ -11,8 +11,8 @@ use Rattle.jc_facts.specs.client.Clients.{differ_by_name}
 use Rattle.jc_facts.specs.world.Search.{supers}
 use Rattle.jc_facts.specs.world.World.{World, side, classes, class_named}
 use Rattle.jc_facts.proofs.Same.{same_is, same_itself}
-use Rattle.jc_index.specs.Ids.{names_of, place_of}
-use Rattle.jc_index.specs.steps.Order.{name_in, names_at, IsOrder, AreNumbers}
+use Rattle.jc_index.specs.Ids.{names_of, place_of, name_in}
+use Rattle.jc_index.specs.steps.Order.{names_at, IsOrder, AreNumbers}
 use Rattle.jc_index.specs.steps.PlacesAbove.{place_above, IsAbove}
 use Rattle.jc_index.proofs.Numbers.{IsAt, and_true, is_none-None, place-at, place-back, place-class, at-in, names_of-length, names_of-rise}
 use Rattle.jc_index.proofs.InSide.{class-front}

@@ -1,8 +1,9 @@
--- The numbers of a world's classes: they stand in byte order of the names.
+-- The numbers of a world's classes: they stand in byte order of the names. And their names by their places.
 --     names W      the names of the classes, in byte order
 --     name_at W n      the name of the class of number n
 --     id_of W x      the number of the class of this name
-use Rattle.std.specs.Prelude.{ℕ, suc, cond, List, [], ◌∷◌, Option, None, Some, option_map, slice_index_or}
+--     name_in cs at      the name of the class at this place of a list
+use Rattle.std.specs.Prelude.{ℕ, suc, cond, List, [], ◌∷◌, Option, None, Some, option_map, slice_get, slice_index_or}
 use Rattle.std.specs.Ordering.{is_lt}
 use Rattle.jc_facts.specs.declared.class_facts.ClassFacts.{ClassFacts}
 use Rattle.jc_facts.specs.Names.{Bytes, same}
@@ -40,3 +41,14 @@ id_of W x = place_of (names W) x
 -- the number of the class that the class x names as its superclass, none where the world has no such class
 unfoldable pub superclass_of : World → Bytes → Option ℕ
 superclass_of W x = and_then (λ c. and_then (id_of W) c.superclass) (find_class W x)
+
+-- ---- by their places
+
+-- the name of the class, nothing where there is none
+abbrev pub name_or : Option ClassFacts → Bytes
+name_or None = []
+name_or (Some c) = c.name
+
+-- the name of the class at this place
+abbrev pub name_in : List ClassFacts → ℕ → Bytes
+name_in cs at = name_or (slice_get cs at)

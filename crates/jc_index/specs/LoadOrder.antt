@@ -6,8 +6,7 @@ use Rattle.jc_facts.specs.Names.{Bytes}
 use Rattle.jc_facts.specs.world.World.{World, side, find_class, size}
 use Rattle.jc_facts.specs.world.Search.{supers}
 use Rattle.jc_facts.specs.world.Loading.{load_fault}
-use Rattle.jc_index.specs.Ids.{name_at, id_of}
-use Rattle.jc_index.specs.steps.Order.{name_in}
+use Rattle.jc_index.specs.Ids.{name_at, id_of, name_in}
 
 -- the class of number n loads, and the numbers of all that it names above itself are among these
 pub record IsNext (W : World) (before : List ℕ) (n : ℕ) : Type 0 where

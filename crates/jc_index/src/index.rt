@@ -3,10 +3,9 @@ ghost use Rattle.std.specs.Prelude.{◌≡◌, ◌<◌, Some, is_some, length, n
 ghost use Rattle.std.specs.List.{All};
 ghost use Rattle.jc_facts.specs.Options.{some_where};
 ghost use Rattle.jc_facts.specs.world.World.{classes, size, find_class, class_named};
-ghost use Rattle.jc_index.specs.Ids.{name_at, id_of, superclass_of};
+ghost use Rattle.jc_index.specs.Ids.{name_at, id_of, superclass_of, name_in};
 ghost use Rattle.jc_index.specs.Interfaces.{interfaces_of};
 ghost use Rattle.jc_index.specs.Sides.{IsSide};
-ghost use Rattle.jc_index.specs.steps.Order.{name_in};
 
 use crate::ids::ClassId;
 use crate::named_above::{interfaces, superclasses};

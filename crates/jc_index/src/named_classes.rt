@@ -7,9 +7,8 @@ ghost use Rattle.jc_facts.specs.file.Valid.{IsValidClass};
 ghost use Rattle.jc_facts.specs.client.Clients.{differ_by_name, HasRoot};
 ghost use Rattle.jc_facts.specs.world.Search.{supers};
 ghost use Rattle.jc_facts.specs.world.World.{World, side, classes, size, find_class, class_named};
-ghost use Rattle.jc_index.specs.Ids.{names, names_of, name_at, id_of, superclass_of};
+ghost use Rattle.jc_index.specs.Ids.{names, names_of, name_at, id_of, superclass_of, name_in};
 ghost use Rattle.jc_index.specs.Sides.{IsSide};
-ghost use Rattle.jc_index.specs.steps.Order.{name_in};
 
 use crate::ids::ClassId;
 use crate::order::{merged, numbers};

@@ -5,10 +5,9 @@ ghost use Rattle.std.specs.List.{All};
 ghost use Rattle.jc_facts.specs.client.Clients.{differ_by_name};
 ghost use Rattle.jc_facts.specs.file.Valid.{IsValidClass};
 ghost use Rattle.jc_facts.specs.world.World.{classes, size};
-ghost use Rattle.jc_index.specs.Ids.{name_at};
+ghost use Rattle.jc_index.specs.Ids.{name_at, name_in};
 ghost use Rattle.jc_index.specs.LoadOrder.{AreLoads};
 ghost use Rattle.jc_index.specs.Root.{fault_of_root};
-ghost use Rattle.jc_index.specs.steps.Order.{name_in};
 
 use crate::class_list::ClassList;
 use crate::faults::{Loading, load_all};

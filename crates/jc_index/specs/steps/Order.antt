@@ -1,18 +1,9 @@
 -- Where the classes of a list stand, in byte order of their names.
-use Rattle.std.specs.Prelude.{ℕ, ◌<◌, ◌+◌, ◌≡◌, List, [], map, length, Option, None, Some, slice_get, slice_index_or}
+use Rattle.std.specs.Prelude.{ℕ, ◌<◌, ◌+◌, ◌≡◌, List, [], map, length, Some, slice_index_or}
 use Rattle.std.specs.List.{All}
 use Rattle.jc_facts.specs.declared.class_facts.ClassFacts.{ClassFacts}
 use Rattle.jc_facts.specs.Names.{Bytes}
-use Rattle.jc_index.specs.Ids.{names_of, place_of}
-
--- the name of the class, nothing where there is none
-abbrev pub name_or : Option ClassFacts → Bytes
-name_or None = []
-name_or (Some c) = c.name
-
--- the name of the class at this place
-abbrev pub name_in : List ClassFacts → ℕ → Bytes
-name_in cs at = name_or (slice_get cs at)
+use Rattle.jc_index.specs.Ids.{names_of, place_of, name_in}
 
 -- the names of the classes, as they stand
 abbrev pub names_at : List ClassFacts → List Bytes

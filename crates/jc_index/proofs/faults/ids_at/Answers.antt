@@ -1,7 +1,7 @@
 use Rattle.std.proofs.Common.{map, ◌∙◌, ap, arith}
 use Rattle.std.proofs.lemmas.List.{take_all}
 use Rattle.jc_facts.specs.world.World.{classes}
-use Rattle.jc_index.specs.steps.Order.{name_in}
+use Rattle.jc_index.specs.Ids.{name_in}
 use Rattle.jc_index.proofs.Loads.{numbers-in_order}
 use Rattle.jc_index.proofs.faults.ids_at.Goals as goal
 
