@@ -11,6 +11,7 @@ mod hashed_keys;
 pub mod hierarchy;
 pub mod ids;
 pub mod index;
+pub mod limits;
 pub mod members;
 pub mod mentioned;
 pub mod name_set;

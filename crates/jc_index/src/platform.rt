@@ -8,11 +8,13 @@ ghost use Rattle.jc_facts.specs.world.World.{classes, size};
 ghost use Rattle.jc_index.specs.Ids.{name_at, name_in};
 ghost use Rattle.jc_index.specs.LoadOrder.{AreLoads};
 ghost use Rattle.jc_index.specs.Root.{fault_of_root};
+ghost use Rattle.jc_index.specs.declared.limits.TheConstants.{MAX_CLASSES};
 
 use crate::class_list::ClassList;
 use crate::faults::{Loading, load_all};
 use crate::ids::ClassId;
 use crate::index::Index;
+use crate::limits::MAX_CLASSES;
 use crate::root::root_fault;
 use crate::shared_list::SharedList;
 use crate::side::Side;
@@ -66,7 +68,7 @@ fn places_alone(alloc: Global, list: &SharedList) -> Result<Vec<usize>, AllocErr
     requires valid { All IsValidClass list.now }
     requires differ { IsTrue (differ_by_name list.now) }
     requires root { fault_of_root list.now ≡ None }
-    requires few { length list.now ≤ 120000 }
+    requires few { length list.now ≤ MAX_CLASSES }
     ensures { IfOk result (λ places. AreLoads list.now places.items) }
 {
     let none = ClassList::new(alloc, Vec::new(alloc))?;
@@ -84,7 +86,7 @@ fn loads_of(alloc: Global, list: &SharedList) -> Result<Vec<usize>, AllocError>
     ensures { IfOk result (λ places. AreLoads list.now places.items) }
 {
     let classes = list.list().classes();
-    if classes.len() > 120_000 {
+    if classes.len() > MAX_CLASSES {
         return Ok(Vec::new(alloc));
     }
     if root_fault(classes).is_some() {

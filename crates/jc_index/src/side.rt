@@ -5,6 +5,7 @@ ghost use Rattle.jc_facts.specs.world.Mentioned.{all_mentions};
 ghost use Rattle.jc_facts.specs.world.World.{side, classes};
 ghost use Rattle.jc_index.specs.Ids.{place_of};
 ghost use Rattle.jc_index.specs.Mentioned.{is_package};
+ghost use Rattle.jc_index.specs.declared.limits.TheConstants.{MAX_CLASSES};
 ghost use Rattle.jc_index.specs.steps.Order.{names_at};
 ghost use Rattle.jc_index.specs.steps.PlacesAbove.{IsAbove};
 
@@ -14,7 +15,7 @@ use jc_facts::class_facts::ClassFacts;
 use std::marker::Model;
 
 /// The classes of a side, those of the platform and then those of the release, by their places: at
-/// most 120,000. A contract sees it as the side.
+/// most `MAX_CLASSES`. A contract sees it as the side.
 pub struct Side {
     platform: SharedList,
     release: ClassList,
@@ -33,18 +34,19 @@ impl Drop for Side {
 impl Model for Side {
     ghost use Rattle.std.specs.Prelude.{◌≤◌, ◌+◌, length};
     ghost use Rattle.jc_facts.specs.world.World.{World, side};
+    ghost use Rattle.jc_index.specs.declared.limits.TheConstants.{MAX_CLASSES};
 
     ghost Value = { World };
 
     ghost view = { λ s. side s.platform s.release };
 
-    ghost invariant = { λ s. length s.platform + length s.release ≤ 120000 };
+    ghost invariant = { λ s. length s.platform + length s.release ≤ MAX_CLASSES };
 }
 
 impl Side {
     /// The side of this platform and this release.
     pub fn new(platform: SharedList, release: ClassList) -> Side
-        requires { length platform + length release ≤ 120000 }
+        requires { length platform + length release ≤ MAX_CLASSES }
         ensures { result ≡ side platform release }
     {
         Side { platform, release }
@@ -53,7 +55,7 @@ impl Side {
     /// How many classes there are.
     pub fn count(&self) -> usize
         ensures count { result ≡ length (classes self.now) }
-        ensures few { result ≤ 120000 }
+        ensures few { result ≤ MAX_CLASSES }
     {
         self.platform().classes().len() + self.release.classes().len()
     }
