@@ -114,26 +114,6 @@ impl Platform {
         Ok(Platform { list, loads })
     }
 
-    /// The platform of copies of these classes, whose names differ, for the side of one release: what
-    /// loads is found out there alone.
-    ///
-    /// # Errors
-    ///
-    /// `AllocError` where memory runs out.
-    pub fn of_copies(alloc: Global, classes: &[ClassFacts]) -> Result<Platform, AllocError>
-        requires { IsTrue (differ_by_name classes.now) }
-        ensures { IfOk result (λ platform. platform ≡ classes.now) }
-    {
-        let mut copies = Vec::with_capacity(alloc, classes.len())?;
-        for class in classes {
-            copies.push(class.copy(alloc)?)?;
-        }
-        let list = ClassList::new(alloc, copies)?;
-        let list = SharedList::new(alloc, list)?;
-        let loads = Vec::new(alloc);
-        Ok(Platform { list, loads })
-    }
-
     /// Its classes, as one more side keeps them. No class is copied.
     ///
     /// # Errors

@@ -106,6 +106,17 @@ fn of_side(alloc: Global, side: Side, loads: &[usize]) -> Result<Table, AllocErr
     })
 }
 
+// Copies of these classes.
+fn copies_of(alloc: Global, classes: &[ClassFacts]) -> Result<Vec<ClassFacts>, AllocError>
+    ensures { IfOk result (λ copies. copies.items ≡ classes.now) }
+{
+    let mut copies = Vec::with_capacity(alloc, classes.len())?;
+    for class in classes {
+        copies.push(class.copy(alloc)?)?;
+    }
+    Ok(copies)
+}
+
 impl Table {
     /// The table of a platform and a release: valid records, with names that differ in each of the
     /// two, and no more than 120,000 together. The platform's `java/lang/Object` has to be as
@@ -128,7 +139,10 @@ impl Table {
         if let Some(part) = root_fault(platform) {
             return Err(TableError::BadRoot(part));
         }
-        let Ok(platform) = Platform::of_copies(alloc, platform) else {
+        let Ok(copies) = copies_of(alloc, platform) else {
+            return Err(TableError::Memory);
+        };
+        let Ok(platform) = Platform::new(alloc, copies) else {
             return Err(TableError::Memory);
         };
         Table::over(alloc, &platform, release)
