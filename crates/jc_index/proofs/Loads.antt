@@ -18,7 +18,7 @@ use Rattle.jc_facts.proofs.World.{class_named-first}
 use Rattle.jc_worlds.proofs.Agree.{Agree, load_fault-agree}
 use Rattle.jc_worlds.proofs.Loaded.{loads-found, loads-parts}
 use Rattle.jc_index.specs.Ids.{name_at, id_of, name_or, name_in}
-use Rattle.jc_index.specs.LoadOrder.{AreInLoadOrder, LoadsAfter, LoadInOrder, AreLoads}
+use Rattle.jc_index.specs.LoadOrder.{AreInLoadOrder, LoadsAfter, LoadInOrder, IsLoadOrder, AreLoads, AreAllLoads}
 use Rattle.jc_index.specs.Root.{fault_of_root}
 use Rattle.jc_index.specs.Sides.{IsSide}
 use Rattle.jc_index.specs.declared.faults.State.{State}
@@ -26,7 +26,7 @@ use Rattle.jc_index.specs.declared.faults.State.TheVariants as states
 use Rattle.jc_index.specs.steps.Entering.{AllLoad, IsRight, IsSettled, is_entered, is_number_among, state_of}
 use Rattle.jc_index.specs.steps.Passing.{Orders}
 use Rattle.jc_index.proofs.InSide.{class-front}
-use Rattle.jc_index.proofs.Numbers.{id_of-Some, id_of-name_at}
+use Rattle.jc_index.proofs.Numbers.{id_of-Some, id_of-name_at, number_of}
 use Rattle.jc_index.proofs.Roots.{is_side}
 
 -- ---- with any release
@@ -136,23 +136,28 @@ pub is_side-alone : (P : List ClassFacts) → All IsValidClass P → IsTrue (dif
 unfolding differ_by_name least
 is_side-alone P valid differ root = is_side P [] valid (λ k d l. absurd (let m : k < 0 = l in omega arith)) differ refl root refl
 
--- no class
-pub no-loads : (P : List ClassFacts) (places : List ℕ) → places ≡ [] → AreLoads P places
-no-loads P places e = subst (AreLoads P) (sym e) (record {
-  within = λ k d l. absurd (let m : k < 0 = l in omega arith);
-  order = λ i d l. absurd (let m : i < 0 = l in omega arith);
-})
-
 -- the places of the classes that load in the platform alone
-pub loads-alone : (P : List ClassFacts) (W : World) (order places : List ℕ) → W ≡ side P [] → AreInLoadOrder W order → All (λ at. at < length (classes W)) places
-    → map (name_in (classes W)) places ≡ map (name_at W) order → AreLoads P places
-loads-alone P W order places is each within named =
-    let all : classes W ≡ P = ap classes is ∙ alone P in
-    record {
-      within = subst (λ (cs : List ClassFacts). All (λ at. at < length cs) places) all within;
-      order = subst (λ (V : World). LoadInOrder V (map (name_in P) places)) is
-          (subst (LoadInOrder W) (sym named ∙ ap (λ (cs : List ClassFacts). map (name_in cs) places) all) (by-names W order each));
-    }
+module _ (P : List ClassFacts) (W : World) (order places : List ℕ) (is : W ≡ side P []) (h : IsLoadOrder W order) (named : map (name_in (classes W)) places ≡ map (name_at W) order) where
+  all-classes : classes W ≡ P
+  all-classes = ap classes is ∙ alone P
+
+  names-alone : map (name_at W) order ≡ map (name_in P) places
+  names-alone = sym named ∙ ap (λ (cs : List ClassFacts). map (name_in cs) places) all-classes
+
+  pub loads-alone : All (λ at. at < length (classes W)) places → AreLoads P places
+  loads-alone within = record {
+    within = subst (λ (cs : List ClassFacts). All (λ at. at < length cs) places) all-classes within;
+    order = subst (λ (V : World). LoadInOrder V (map (name_in P) places)) is (subst (LoadInOrder W) names-alone (by-names W order h.each));
+  }
+
+  -- they are all that do
+  pub all-alone : AreAllLoads P places
+  all-alone x loads =
+      let loads_here : load_fault W x ≡ None = subst (λ (V : World). load_fault V x ≡ None) (sym is) loads in
+      let n = number_of W x (ap is_some (loads-found W x loads_here).1) in
+      let at = id_of-Some W x n.0 n.1 in
+      let stands : Contains order n.0 = h.all n.0 at.0 (subst (λ (y : Bytes). load_fault W y ≡ None) (sym at.1) loads_here) in
+      subst (λ (xs : List Bytes). Contains xs x) names-alone (subst (λ (y : Bytes). Contains (map (name_at W) order) y) at.1 (in_names (name_at W) order n.0 stands))
 
 -- the numbers of these classes on a side stand in an order of loading
 pub numbers-in_order : (V : World) (places order : List ℕ) → IsTrue (differ_by_name (classes V)) → AreLoads V.platform places → All (λ n. n < size V) order

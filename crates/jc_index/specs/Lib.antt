@@ -12,3 +12,4 @@ pub mod MentionedNames
 pub mod LoadOrder
 pub mod Interfaces
 pub mod IndexFields
+pub mod PlatformFields

@@ -38,3 +38,7 @@ LoadInOrder W xs = (i : ℕ) (d : Bytes) → i < length xs → LoadsAfter W (tak
 pub record AreLoads (platform : List ClassFacts) (places : List ℕ) : Type 0 where
   pub within : All (λ at. at < length platform) places
   pub order : LoadInOrder (side platform []) (map (name_in platform) places)
+
+-- each class of the platform that loads without any release is at one of these places
+abbrev pub AreAllLoads : List ClassFacts → List ℕ → Type 0
+AreAllLoads platform places = (x : Bytes) → load_fault (side platform []) x ≡ None → Contains (map (name_in platform) places) x

@@ -1,12 +1,12 @@
 //! The classes of a platform, which the sides of its releases share, with what is found out of them
 //! once.
-ghost use Rattle.std.specs.Prelude.{◌≡◌, ◌<◌, ◌≤◌, map, length, None, IfOk, IsTrue};
+ghost use Rattle.std.specs.Prelude.{◌≡◌, ◌<◌, ◌≤◌, [], map, length, None, IfOk, IsTrue};
 ghost use Rattle.std.specs.List.{All};
 ghost use Rattle.jc_facts.specs.client.Clients.{differ_by_name};
 ghost use Rattle.jc_facts.specs.file.Valid.{IsValidClass};
-ghost use Rattle.jc_facts.specs.world.World.{classes, size};
+ghost use Rattle.jc_facts.specs.world.World.{classes, side, size};
 ghost use Rattle.jc_index.specs.Ids.{name_at, name_in};
-ghost use Rattle.jc_index.specs.LoadOrder.{AreLoads};
+ghost use Rattle.jc_index.specs.LoadOrder.{AreLoads, AreAllLoads};
 ghost use Rattle.jc_index.specs.Root.{fault_of_root};
 ghost use Rattle.jc_index.specs.declared.limits.TheConstants.{MAX_CLASSES};
 
@@ -25,7 +25,8 @@ use std::marker::Model;
 /// The classes of a platform. A contract sees it as their list.
 pub struct Platform {
     list: SharedList,
-    // Places of classes that load without any release, each after those that it names above itself.
+    // Places of classes that load without any release, each after those that it names above itself: of
+    // all of them, where the platform may have a side.
     loads: Vec<usize>,
 }
 
@@ -42,11 +43,11 @@ impl Model for Platform {
 
     ghost Value = { List ClassFacts };
 
-    ghost use Rattle.jc_index.specs.LoadOrder.{AreLoads};
+    ghost use Rattle.jc_index.specs.PlatformFields.{IsPlatform};
 
     ghost view = { λ p. p.list };
 
-    ghost invariant = { λ p. AreLoads p.list p.loads.items };
+    ghost invariant = { IsPlatform };
 }
 
 // The places of the classes of these numbers.
@@ -62,6 +63,19 @@ fn places_of(alloc: Global, index: &Index, ids: &[ClassId]) -> Result<Vec<usize>
     Ok(places)
 }
 
+// The index of the platform alone, as a side whose release has no class.
+fn index_alone(alloc: Global, list: &SharedList) -> Result<Index, AllocError>
+    requires valid { All IsValidClass list.now }
+    requires differ { IsTrue (differ_by_name list.now) }
+    requires root { fault_of_root list.now ≡ None }
+    requires few { length list.now ≤ MAX_CLASSES }
+    ensures { IfOk result (λ index. index ≡ side list.now []) }
+{
+    let none = ClassList::new(alloc, Vec::new(alloc))?;
+    let index = Index::new(alloc, Side::new(list.share()?, none))?;
+    Ok(index)
+}
+
 // The places of the classes that load without any release, each after those that it names above
 // itself. They are found out of an index of the platform alone.
 fn places_alone(alloc: Global, list: &SharedList) -> Result<Vec<usize>, AllocError>
@@ -69,10 +83,10 @@ fn places_alone(alloc: Global, list: &SharedList) -> Result<Vec<usize>, AllocErr
     requires differ { IsTrue (differ_by_name list.now) }
     requires root { fault_of_root list.now ≡ None }
     requires few { length list.now ≤ MAX_CLASSES }
-    ensures { IfOk result (λ places. AreLoads list.now places.items) }
+    ensures loads { IfOk result (λ places. AreLoads list.now places.items) }
+    ensures all { IfOk result (λ places. AreAllLoads list.now places.items) }
 {
-    let none = ClassList::new(alloc, Vec::new(alloc))?;
-    let index = Index::new(alloc, Side::new(list.share()?, none))?;
+    let index = index_alone(alloc, list)?;
     let nothing_known = Vec::new(alloc);
     let Loading { faults: _, order } = load_all(alloc, &index, nothing_known.as_slice())?;
     let places = places_of(alloc, &index, order.as_slice())?;
@@ -83,7 +97,8 @@ fn places_alone(alloc: Global, list: &SharedList) -> Result<Vec<usize>, AllocErr
 fn loads_of(alloc: Global, list: &SharedList) -> Result<Vec<usize>, AllocError>
     requires valid { All IsValidClass list.now }
     requires differ { IsTrue (differ_by_name list.now) }
-    ensures { IfOk result (λ places. AreLoads list.now places.items) }
+    ensures loads { IfOk result (λ places. AreLoads list.now places.items) }
+    ensures all { IfOk result (λ places. fault_of_root list.now ≡ None → length list.now ≤ MAX_CLASSES → AreAllLoads list.now places.items) }
 {
     let classes = list.list().classes();
     if classes.len() > MAX_CLASSES {
@@ -97,8 +112,8 @@ fn loads_of(alloc: Global, list: &SharedList) -> Result<Vec<usize>, AllocError>
 }
 
 impl Platform {
-    /// The platform of these classes, whose names differ, for the sides of several releases: what
-    /// loads without any of them is found out here.
+    /// The platform of these classes, valid records whose names differ, for the sides of one or several
+    /// releases: what loads without any of them is found out here.
     ///
     /// # Errors
     ///
@@ -140,9 +155,12 @@ impl Platform {
     }
 
     /// Places of classes that load without any release, each after those that it names above itself
-    /// (JVMS 5.3.5). They load with each release. Others may load too.
+    /// (JVMS 5.3.5). They load with each release; with one of them others may load too. Where the
+    /// platform may have a side, as its `java/lang/Object` is as it has to be and it has at most
+    /// [`MAX_CLASSES`] classes, these are all that load without any; else there may be none.
     pub fn loads(&self) -> &[usize]
-        ensures { AreLoads self.now result.now }
+        ensures loads { AreLoads self.now result.now }
+        ensures all { fault_of_root self.now ≡ None → length self.now ≤ MAX_CLASSES → AreAllLoads self.now result.now }
     {
         self.loads.as_slice()
     }

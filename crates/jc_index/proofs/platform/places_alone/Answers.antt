@@ -1,28 +1,14 @@
-use Rattle.std.proofs.Common.{◌≡◌, [], List, refl, sym, ◌∙◌, ap, subst}
-use Rattle.std.specs.Prelude.{IsTrue}
-use Rattle.jc_facts.specs.declared.class_facts.ClassFacts.{ClassFacts}
-use Rattle.jc_facts.specs.client.Clients.{differ_by_name}
-use Rattle.jc_facts.specs.world.World.{World, side}
-use Rattle.jc_index.specs.LoadOrder.{AreInLoadOrder}
-use Rattle.jc_index.specs.Sides.{IsSide}
-use Rattle.jc_index.proofs.Loads.{is_side-alone, loads-alone}
+use Rattle.std.proofs.Common.{sym, subst}
+use Rattle.jc_index.specs.LoadOrder.{IsLoadOrder}
+use Rattle.jc_index.proofs.Loads.{loads-alone, all-alone}
 use Rattle.jc_index.proofs.platform.places_alone.Goals as goal
 
-pub new-requires-2 : goal.new-requires-2
-unfolding differ_by_name
-new-requires-2 c = subst (λ (cs : List ClassFacts). IsTrue (differ_by_name cs)) (sym c.new.ensures.items) refl
+pub returns-clause-loads : goal.returns-clause-loads
+returns-clause-loads c =
+    loads-alone c.args.list.now c.in_ok-index.index c.as_slice-2.result.now c.in_ok-places.places.items c.in_ok-index.ensures
+    (subst (IsLoadOrder c.in_ok-index.index) (sym c.as_slice-2.ensures.value) c.in_ok-order.ensures.order) c.in_ok-places.ensures.named c.in_ok-places.ensures.within
 
-pub new-requires-4 : goal.new-requires-4
-new-requires-4 c =
-    subst IsSide (sym (c.new-3.ensures ∙ ap (λ (cs : List ClassFacts). side cs c.in_ok-none.none) c.in_ok-share.ensures ∙ ap (λ (cs : List ClassFacts). side c.args.list.now cs) (c.in_ok-none.ensures ∙ c.new.ensures.items)))
-    (is_side-alone c.args.list.now c.requires.valid c.requires.differ (sym c.requires.root))
-
-pub returns : goal.returns
-returns c =
-    let W : World = c.in_ok-index.index in
-    let is : W ≡ side c.args.list.now [] =
-    c.in_ok-index.ensures ∙ c.new-3.ensures ∙ ap (λ (cs : List ClassFacts). side cs c.in_ok-none.none) c.in_ok-share.ensures ∙ ap (λ (cs : List ClassFacts). side c.args.list.now cs) (c.in_ok-none.ensures ∙ c.new.ensures.items)
-    in
-    loads-alone c.args.list.now W c.as_slice-2.result.now c.in_ok-places.places.items is
-    (subst (AreInLoadOrder W) (sym c.as_slice-2.ensures.value) c.in_ok-order.ensures.order.each)
-    c.in_ok-places.ensures.within c.in_ok-places.ensures.named
+pub returns-clause-all : goal.returns-clause-all
+returns-clause-all c =
+    all-alone c.args.list.now c.in_ok-index.index c.as_slice-2.result.now c.in_ok-places.places.items c.in_ok-index.ensures
+    (subst (IsLoadOrder c.in_ok-index.index) (sym c.as_slice-2.ensures.value) c.in_ok-order.ensures.order) c.in_ok-places.ensures.named

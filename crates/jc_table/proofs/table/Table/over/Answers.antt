@@ -17,4 +17,4 @@ pub of_side-requires-clause-loads : goal.of_side-requires-clause-loads
 of_side-requires-clause-loads c =
     subst (λ (cs : List ClassFacts). AreLoads cs c.loads.result.now)
     (sym (ap (λ (W : World). W.platform) (c.new-2.ensures ∙ ap (λ (cs : List ClassFacts). side cs c.in-Ok-new.release) c.in-Ok.ensures)))
-    c.loads.ensures
+    c.loads.ensures.loads
