@@ -1,4 +1,4 @@
 //! The limit on sides.
 
 /// The most classes of a side.
-pub const MAX_CLASSES: usize = 120_000;
+pub const MAX_SIDE_CLASSES: usize = 120_000;

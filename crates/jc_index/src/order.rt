@@ -8,7 +8,7 @@ ghost use Rattle.jc_facts.specs.client.Clients.{differ_by_name};
 ghost use Rattle.jc_facts.specs.world.World.{classes};
 ghost use Rattle.jc_facts.specs.Exactly.{name_order};
 ghost use Rattle.jc_index.specs.Sides.{IsSide};
-ghost use Rattle.jc_index.specs.declared.limits.TheConstants.{MAX_CLASSES};
+ghost use Rattle.jc_index.specs.declared.limits.TheConstants.{MAX_SIDE_CLASSES};
 ghost use Rattle.jc_index.specs.steps.Order.{IsOrder, IsPlace, AreNumbers, names_at, place_after};
 
 use crate::side::Side;
@@ -127,7 +127,7 @@ fn zeros(alloc: Global, count: usize) -> Result<Vec<u32>, AllocError>
 // Notes at each place of the order its number.
 fn note_numbers(numbers: &mut [u32], order: &[usize])
     requires within { All (λ at. at < length numbers.old) order.now }
-    requires few { length order.now ≤ MAX_CLASSES }
+    requires few { length order.now ≤ MAX_SIDE_CLASSES }
     requires apart { (i j : ℕ) → i < j → j < length order.now → slice_index_or order.now i 0 ≡ slice_index_or order.now j 0 → i ≡ j }
     ensures count { length numbers.new ≡ length numbers.old }
     ensures each { (n : ℕ) → n < length order.now → slice_index_or numbers.new (slice_index_or order.now n 0) 0 ≡ n }

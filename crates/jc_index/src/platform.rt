@@ -8,13 +8,13 @@ ghost use Rattle.jc_facts.specs.world.World.{classes, side, size};
 ghost use Rattle.jc_index.specs.Ids.{name_at, name_in};
 ghost use Rattle.jc_index.specs.LoadOrder.{AreLoads, AreAllLoads};
 ghost use Rattle.jc_index.specs.Root.{fault_of_root};
-ghost use Rattle.jc_index.specs.declared.limits.TheConstants.{MAX_CLASSES};
+ghost use Rattle.jc_index.specs.declared.limits.TheConstants.{MAX_SIDE_CLASSES};
 
 use crate::class_list::ClassList;
 use crate::faults::{Loading, load_all};
 use crate::ids::ClassId;
 use crate::index::Index;
-use crate::limits::MAX_CLASSES;
+use crate::limits::MAX_SIDE_CLASSES;
 use crate::root::root_fault;
 use crate::shared_list::SharedList;
 use crate::side::Side;
@@ -68,7 +68,7 @@ fn index_alone(alloc: Global, list: &SharedList) -> Result<Index, AllocError>
     requires valid { All IsValidClass list.now }
     requires differ { IsTrue (differ_by_name list.now) }
     requires root { fault_of_root list.now ≡ None }
-    requires few { length list.now ≤ MAX_CLASSES }
+    requires few { length list.now ≤ MAX_SIDE_CLASSES }
     ensures { IfOk result (λ index. index ≡ side list.now []) }
 {
     let none = ClassList::new(alloc, Vec::new(alloc))?;
@@ -82,7 +82,7 @@ fn places_alone(alloc: Global, list: &SharedList) -> Result<Vec<usize>, AllocErr
     requires valid { All IsValidClass list.now }
     requires differ { IsTrue (differ_by_name list.now) }
     requires root { fault_of_root list.now ≡ None }
-    requires few { length list.now ≤ MAX_CLASSES }
+    requires few { length list.now ≤ MAX_SIDE_CLASSES }
     ensures loads { IfOk result (λ places. AreLoads list.now places.items) }
     ensures all { IfOk result (λ places. AreAllLoads list.now places.items) }
 {
@@ -98,10 +98,10 @@ fn loads_of(alloc: Global, list: &SharedList) -> Result<Vec<usize>, AllocError>
     requires valid { All IsValidClass list.now }
     requires differ { IsTrue (differ_by_name list.now) }
     ensures loads { IfOk result (λ places. AreLoads list.now places.items) }
-    ensures all { IfOk result (λ places. fault_of_root list.now ≡ None → length list.now ≤ MAX_CLASSES → AreAllLoads list.now places.items) }
+    ensures all { IfOk result (λ places. fault_of_root list.now ≡ None → length list.now ≤ MAX_SIDE_CLASSES → AreAllLoads list.now places.items) }
 {
     let classes = list.list().classes();
-    if classes.len() > MAX_CLASSES {
+    if classes.len() > MAX_SIDE_CLASSES {
         return Ok(Vec::new(alloc));
     }
     if root_fault(classes).is_some() {
@@ -157,10 +157,10 @@ impl Platform {
     /// Places of classes that load without any release, each after those that it names above itself
     /// (JVMS 5.3.5). They load with each release; with one of them others may load too. Where the
     /// platform may have a side, as its `java/lang/Object` is as it has to be and it has at most
-    /// [`MAX_CLASSES`] classes, these are all that load without any; else there may be none.
+    /// [`MAX_SIDE_CLASSES`] classes, these are all that load without any; else there may be none.
     pub fn loads(&self) -> &[usize]
         ensures loads { AreLoads self.now result.now }
-        ensures all { fault_of_root self.now ≡ None → length self.now ≤ MAX_CLASSES → AreAllLoads self.now result.now }
+        ensures all { fault_of_root self.now ≡ None → length self.now ≤ MAX_SIDE_CLASSES → AreAllLoads self.now result.now }
     {
         self.loads.as_slice()
     }

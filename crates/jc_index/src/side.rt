@@ -5,7 +5,7 @@ ghost use Rattle.jc_facts.specs.world.Mentioned.{all_mentions};
 ghost use Rattle.jc_facts.specs.world.World.{side, classes};
 ghost use Rattle.jc_index.specs.Ids.{place_of};
 ghost use Rattle.jc_index.specs.Mentioned.{is_package};
-ghost use Rattle.jc_index.specs.declared.limits.TheConstants.{MAX_CLASSES};
+ghost use Rattle.jc_index.specs.declared.limits.TheConstants.{MAX_SIDE_CLASSES};
 ghost use Rattle.jc_index.specs.steps.Order.{names_at};
 ghost use Rattle.jc_index.specs.steps.PlacesAbove.{IsAbove};
 
@@ -15,7 +15,7 @@ use jc_facts::class_facts::ClassFacts;
 use std::marker::Model;
 
 /// The classes of a side, those of the platform and then those of the release, by their places: at
-/// most `MAX_CLASSES`. A contract sees it as the side.
+/// most `MAX_SIDE_CLASSES`. A contract sees it as the side.
 pub struct Side {
     platform: SharedList,
     release: ClassList,
@@ -34,19 +34,19 @@ impl Drop for Side {
 impl Model for Side {
     ghost use Rattle.std.specs.Prelude.{◌≤◌, ◌+◌, length};
     ghost use Rattle.jc_facts.specs.world.World.{World, side};
-    ghost use Rattle.jc_index.specs.declared.limits.TheConstants.{MAX_CLASSES};
+    ghost use Rattle.jc_index.specs.declared.limits.TheConstants.{MAX_SIDE_CLASSES};
 
     ghost Value = { World };
 
     ghost view = { λ s. side s.platform s.release };
 
-    ghost invariant = { λ s. length s.platform + length s.release ≤ MAX_CLASSES };
+    ghost invariant = { λ s. length s.platform + length s.release ≤ MAX_SIDE_CLASSES };
 }
 
 impl Side {
     /// The side of this platform and this release.
     pub fn new(platform: SharedList, release: ClassList) -> Side
-        requires { length platform + length release ≤ MAX_CLASSES }
+        requires { length platform + length release ≤ MAX_SIDE_CLASSES }
         ensures { result ≡ side platform release }
     {
         Side { platform, release }
@@ -55,7 +55,7 @@ impl Side {
     /// How many classes there are.
     pub fn count(&self) -> usize
         ensures count { result ≡ length (classes self.now) }
-        ensures few { result ≤ MAX_CLASSES }
+        ensures few { result ≤ MAX_SIDE_CLASSES }
     {
         self.platform().classes().len() + self.release.classes().len()
     }
