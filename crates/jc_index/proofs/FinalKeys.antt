@@ -1,6 +1,6 @@
 -- The keys of final instance methods: without its key no method overrides a final one.
 use Rattle.std.proofs.Common.{◌≡◌, ◌≢◌, ℕ, zero, suc, ◌<◌, ◌+◌, Bool, true, false, not, cond, ◌||◌, ◌&&◌, List, [], ◌∷◌, ◌++◌, map, refl, sym, ◌∙◌, ap, subst, Option, Some, None, ◌⊎◌, inl, inr, arith, eqb, ◌≤◌, length, drop, get_or, set}
-use Rattle.std.specs.Prelude.{is_some}
+use Rattle.std.specs.Prelude.{IfSome}
 use Rattle.std.specs.List.{filter, find as first_where}
 use Rattle.std.proofs.lemmas.Bool.Decides.{eqb_tells}
 use Rattle.jc_facts.specs.declared.class_facts.ClassFacts.{ClassFacts}
@@ -21,10 +21,8 @@ use Rattle.jc_facts.proofs.Keys.{flip}
 use Rattle.jc_lemmas.proofs.Listed.{EachOf}
 use Rattle.std.proofs.lemmas.List.Folds.{list_any-append}
 use Rattle.jc_worlds.proofs.Descent.{descend-absent, descend-none_left, descend-found}
-use Rattle.jc_index.specs.Ids.{id_of, name_at, superclass_of}
+use Rattle.jc_index.specs.Ids.{id_of}
 use Rattle.jc_index.specs.steps.Walking.{chain_from, is_final_instance, declares_final_instance, final_keys_where, marked_with, AreMarked, HaveAllFinal}
-use Rattle.jc_index.proofs.Keeps.{super-below}
-use Rattle.jc_index.proofs.Numbers.{id_of-Some, number_of, superclass_is}
 use Rattle.std.proofs.lemmas.Bool.{or_parts, and_right}
 
 -- ---- a private or static method
@@ -132,13 +130,13 @@ unfixed-methods k (m ∷ ms) h = go (is_key k m) (is_final_instance m) refl refl
     go false true p q r s = s (or_parts (same_key k (key_of m)) (has_key k (map key_of (filter is_final_instance ms))) r).1
     go false false p q r s = s r
 
--- the keys of the first n classes, of those that are marked
-module _ (W : World) (marks : List Bool) where
+-- the keys of the first n classes, of those that are marked, where `at` gives the class of a number
+module _ (at : ℕ → Option ClassFacts) (marks : List Bool) where
   abbrev pub AreOfFirst : ℕ → List Key → Type 0
-  AreOfFirst n ks = (m : ℕ) → m < n → (c : ClassFacts) → find_class W (name_at W m) ≡ Some c → get_or marks m false ≡ true → (k : Key) → has_key k ks ≡ false → declares_final_instance k c ≡ false
+  AreOfFirst n ks = (m : ℕ) → m < n → (c : ClassFacts) → at m ≡ Some c → get_or marks m false ≡ true → (k : Key) → has_key k ks ≡ false → declares_final_instance k c ≡ false
 
   -- one class more is done
-  pub finals-more : (ks : List Key) (n : ℕ) (marked : Bool) (c : ClassFacts) → AreOfFirst n ks → Some c ≡ find_class W (name_at W n) → marked ≡ get_or marks n false → AreOfFirst (n + 1) (ks ++ final_keys_where marked c)
+  pub finals-more : (ks : List Key) (n : ℕ) (marked : Bool) (c : ClassFacts) → AreOfFirst n ks → Some c ≡ at n → marked ≡ get_or marks n false → AreOfFirst (n + 1) (ks ++ final_keys_where marked c)
   finals-more ks n marked c h f r m l d e t k a = go (eqb_tells m n)
     where
       own : List Key
@@ -149,23 +147,11 @@ module _ (W : World) (marks : List Bool) where
 
       go : ((eqb m n ≡ true) × (m ≡ n)) ⊎ ((eqb m n ≡ false) × (m ≢ n)) → declares_final_instance k d ≡ false
       go (inl q) =
-          let same : Some d ≡ Some c = sym e ∙ ap (λ j. find_class W (name_at W j)) q.1 ∙ sym f in
+          let same : Some d ≡ Some c = sym e ∙ ap at q.1 ∙ sym f in
           let is : d ≡ c = cc in
           let set : marked ≡ true = r ∙ ap (λ j. get_or marks j false) (sym q.1) ∙ t in
           ap (declares_final_instance k) is ∙ unfixed-methods k c.methods (ap (λ (b : Bool). has_key k (cond b own [])) (sym set) ∙ parts.1)
       go (inr q) = let ne : m ≢ n = q.1 in h m (omega arith) d e t k parts.0
-
-  -- all classes are done, and the superclasses are marked
-  pub finals-all : (ks : List Key) (n : ℕ) → size W ≤ n → AreMarked W (size W) marks → AreOfFirst n ks → HaveAllFinal W ks
-  unfolding and_then
-  finals-all ks n l marked h k a x b f s g c e = go (number_of W x (ap is_some f)) (number_of W s (ap is_some e))
-    where
-      go : (m : ℕ) × (id_of W x ≡ Some m) → (id : ℕ) × (id_of W s ≡ Some id) → declares_final_instance k c ≡ false
-      go below above =
-          let p = id_of-Some W x below.0 below.1 in
-          let q = id_of-Some W s above.0 above.1 in
-          let named : superclass_of W (name_at W below.0) ≡ Some above.0 = ap (superclass_of W) p.1 ∙ superclass_is W x b (sym f) ∙ ap (and_then (id_of W)) g ∙ above.1 in
-          h above.0 (let i = q.0 in omega arith) c (ap (find_class W) q.1 ∙ e) (marked.marked below.0 above.0 p.0 named) k a
 
 -- ---- marks
 
@@ -175,36 +161,33 @@ set-inside [] k h = absurd (let clash : false ≡ true = h in cc)
 set-inside (b ∷ marks) zero h = omega arith
 set-inside (b ∷ marks) (suc k) h = let l = set-inside marks k h in omega (arith, l)
 
--- no class is done
-pub unmarked : (W : World) (marks : List Bool) → length marks ≡ size W → AreMarked W 0 marks
-unmarked W marks h = record { count = h; marked = λ m k l e. absurd (omega (arith, l)) }
+module _ (next : ℕ → Option ℕ) (many : ℕ) where
+  -- no class is done
+  pub unmarked : (marks : List Bool) → length marks ≡ many → AreMarked next many 0 marks
+  unmarked marks h = record { count = h; marked = λ m k l e. absurd (omega (arith, l)) }
 
--- the superclass of one class more is marked
-pub marked-more : (W : World) (n : ℕ) (marks after : List Bool) (class : Option ℕ) → class ≡ superclass_of W (name_at W n) → after ≡ marked_with marks class → AreMarked W n marks → AreMarked W (n + 1) after
-marked-more W n marks after class e q h = rw q (record { count = counted class; marked = λ m k l f. one m k l f (eqb_tells m n) })
-  where
-    again : (id k : ℕ) → get_or marks k false ≡ true → ((eqb k id ≡ true) × (k ≡ id)) ⊎ ((eqb k id ≡ false) × (k ≢ id)) → get_or (set marks id true) k false ≡ true
-    again id k r (inl s) = subst (λ (j : ℕ). get_or (set marks j true) k false ≡ true) s.1 (get_or-set_same marks k true false (set-inside marks k r))
-    again id k r (inr s) = get_or-set_other marks id k true false s.1 ∙ r
+  -- the superclass of one class more is marked
+  pub marked-more : (n : ℕ) (marks after : List Bool) (class : Option ℕ) → class ≡ next n → IfSome class (λ k. k < length marks) → after ≡ marked_with marks class → AreMarked next many n marks → AreMarked next many (n + 1) after
+  marked-more n marks after class e below q h = rw q (record { count = counted class; marked = λ m k l f. one m k l f (eqb_tells m n) })
+    where
+      again : (id k : ℕ) → get_or marks k false ≡ true → ((eqb k id ≡ true) × (k ≡ id)) ⊎ ((eqb k id ≡ false) × (k ≢ id)) → get_or (set marks id true) k false ≡ true
+      again id k r (inl s) = subst (λ (j : ℕ). get_or (set marks j true) k false ≡ true) s.1 (get_or-set_same marks k true false (set-inside marks k r))
+      again id k r (inr s) = get_or-set_other marks id k true false s.1 ∙ r
 
-    counted : (o : Option ℕ) → length (marked_with marks o) ≡ size W
-    counted None = h.count
-    counted (Some id) = length-set marks id true ∙ h.count
+      counted : (o : Option ℕ) → length (marked_with marks o) ≡ many
+      counted None = h.count
+      counted (Some id) = length-set marks id true ∙ h.count
 
-    kept : (o : Option ℕ) (k : ℕ) → get_or marks k false ≡ true → get_or (marked_with marks o) k false ≡ true
-    kept None k r = r
-    kept (Some id) k r = again id k r (eqb_tells k id)
+      kept : (o : Option ℕ) (k : ℕ) → get_or marks k false ≡ true → get_or (marked_with marks o) k false ≡ true
+      kept None k r = r
+      kept (Some id) k r = again id k r (eqb_tells k id)
 
-    one : (m k : ℕ) → m < n + 1 → superclass_of W (name_at W m) ≡ Some k → ((eqb m n ≡ true) × (m ≡ n)) ⊎ ((eqb m n ≡ false) × (m ≢ n)) → get_or (marked_with marks class) k false ≡ true
-    one m k l f (inr s) = let ne : m ≢ n = s.1 in kept class k (h.marked m k (omega arith) f)
-    one m k l f (inl s) =
-        let is : class ≡ Some k = e ∙ ap (λ j. superclass_of W (name_at W j)) (sym s.1) ∙ f in
-        let below : k < length marks = subst (λ j. k < j) (sym h.count) (super-below W (name_at W m) k f) in
-        ap (λ o. get_or (marked_with marks o) k false) is ∙ get_or-set_same marks k true false below
-
--- and in other keys that are the same ones
-pub all-kept : (W : World) (ks js : List Key) → ((q : Key) → has_key q js ≡ has_key q ks) → HaveAllFinal W ks → HaveAllFinal W js
-all-kept W ks js e h k a = h k (sym (e k) ∙ a)
+      one : (m k : ℕ) → m < n + 1 → next m ≡ Some k → ((eqb m n ≡ true) × (m ≡ n)) ⊎ ((eqb m n ≡ false) × (m ≢ n)) → get_or (marked_with marks class) k false ≡ true
+      one m k l f (inr s) = let ne : m ≢ n = s.1 in kept class k (h.marked m k (omega arith) f)
+      one m k l f (inl s) =
+          let is : class ≡ Some k = e ∙ ap next (sym s.1) ∙ f in
+          let inside : k < length marks = subst (λ (o : Option ℕ). IfSome o (λ j. j < length marks)) is below in
+          ap (λ o. get_or (marked_with marks o) k false) is ∙ get_or-set_same marks k true false inside
 
 -- ---- a method of a class
 

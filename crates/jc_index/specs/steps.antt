@@ -12,3 +12,4 @@ pub mod Adding
 pub mod ClassLists
 pub mod NamedClasses
 pub mod PlacesAbove
+pub mod PlatformLists

@@ -13,10 +13,11 @@ ghost use Rattle.jc_index.specs.steps.Entering.{state_of, is_on, is_known, is_en
 ghost use Rattle.jc_index.specs.LoadOrder.{AreInLoadOrder, AreLoads, IsLoadOrder};
 ghost use Rattle.jc_index.specs.steps.Passing.{Passes, ArePassed, AllPassed, GoesPast, ArePassedOnWay, Orders, Grows, Orderly};
 
-use crate::final_keys::FinalKeys;
+use crate::finals::final_keys;
 use crate::ids::ClassId;
 use crate::index::Index;
-use crate::overriding::{final_keys, overrides_final};
+use crate::overriding::overrides_final;
+use crate::side_finals::SideFinals;
 use crate::supertypes::{own_interfaces_fault, own_superclass_fault};
 use jc_base::name::Name;
 use jc_facts::class_facts::ClassFacts;
@@ -214,7 +215,7 @@ fn go_up(
 fn own_fault<'a>(
     alloc: Global,
     index: &'a Index,
-    finals: &FinalKeys,
+    finals: &SideFinals<'_>,
     id: ClassId,
     class: &'a ClassFacts,
 ) -> Result<Option<LinkError>, AllocError>
@@ -247,7 +248,7 @@ fn own_fault<'a>(
 fn leave<'a>(
     alloc: Global,
     index: &'a Index,
-    finals: &FinalKeys,
+    finals: &SideFinals<'_>,
     states: &mut [State],
     path: &mut Vec<Frame>,
     order: &mut Vec<ClassId>,
@@ -279,7 +280,7 @@ fn leave<'a>(
 fn go_on<'a>(
     alloc: Global,
     index: &'a Index,
-    finals: &FinalKeys,
+    finals: &SideFinals<'_>,
     states: &mut [State],
     path: &mut Vec<Frame>,
     order: &mut Vec<ClassId>,
@@ -313,7 +314,7 @@ fn go_on<'a>(
 fn enter<'a>(
     alloc: Global,
     index: &'a Index,
-    finals: &FinalKeys,
+    finals: &SideFinals<'_>,
     states: &mut [State],
     order: &mut Vec<ClassId>,
     class: ClassId,
@@ -341,7 +342,7 @@ fn enter<'a>(
 fn fault_of<'a>(
     alloc: Global,
     index: &'a Index,
-    finals: &FinalKeys,
+    finals: &SideFinals<'_>,
     states: &mut [State],
     order: &mut Vec<ClassId>,
     class: ClassId,
@@ -367,7 +368,7 @@ fn fault_of<'a>(
 fn all_faults<'a>(
     alloc: Global,
     index: &'a Index,
-    finals: &FinalKeys,
+    finals: &SideFinals<'_>,
     states: &mut [State],
     order: &mut Vec<ClassId>,
 ) -> Result<Vec<Option<LinkError>>, AllocError>

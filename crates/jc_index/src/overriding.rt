@@ -1,26 +1,24 @@
 //! Methods that override final ones (JVMS 5.4.5).
 ghost use Rattle.jc_desc.specs.Names.{is_init_name, is_clinit_name};
-ghost use Rattle.std.specs.Prelude.{◌≡◌, ◌<◌, ◌++◌, ◌∷◌, ◌&&◌, ◌||◌, not, [], length, IfOk, Some, None, IfSome, map};
-ghost use Rattle.std.specs.List.{filter};
+ghost use Rattle.std.specs.Prelude.{◌≡◌, ◌<◌, ◌∷◌, ◌&&◌, ◌||◌, not, [], IfOk, Some, None, IfSome};
 ghost use Rattle.jc_facts.specs.Names.{key_of};
 ghost use Rattle.jc_facts.specs.Flags.{package_private, final_flag};
 ghost use Rattle.jc_facts.specs.Options.{and_then};
 ghost use Rattle.jc_facts.specs.world.World.{size, find_class, declared_method};
 ghost use Rattle.jc_facts.specs.world.Hierarchy.{chain, of_super};
 ghost use Rattle.jc_facts.specs.world.Overriding.{directly_overrides, is_overridden_by_any, overrides_this_final, reaches_final, overrides_some_final};
-ghost use Rattle.jc_index.specs.Ids.{id_of, name_at};
-ghost use Rattle.jc_index.specs.steps.Walking.{chain_from, linked_last, AreMarked, HaveAllFinal, is_final_instance, final_keys_where, marked_with};
+ghost use Rattle.jc_index.specs.Ids.{id_of};
+ghost use Rattle.jc_index.specs.steps.Walking.{chain_from, linked_last, HaveAllFinal};
 
-use crate::final_keys::FinalKeys;
 use crate::ids::ClassId;
 use crate::index::Index;
 use crate::members::{key_of_member, own_method};
 use crate::packages::same_package;
+use crate::side_finals::SideFinals;
 use jc_base::name::Name;
 use jc_desc::names::is_initializer;
 use jc_facts::class_facts::{ClassFacts, Member};
 use jc_facts::flags::{is_final, is_private, is_protected, is_public, is_static};
-use jc_facts::key::Key;
 use jc_facts::key_set::KeyRef;
 use std::alloc::{AllocError, Global};
 use std::marker::Model;
@@ -140,91 +138,6 @@ pub(crate) fn meets_final<'a>(
     Ok(false)
 }
 
-// Adds the keys of the class's final instance methods.
-fn push_finals(alloc: Global, keys: &mut Vec<Key>, class: &ClassFacts) -> Result<(), AllocError>
-    ensures { IfOk result (λ _. keys.new.items ≡ keys.old.items ++ map key_of (filter is_final_instance class.now.methods)) }
-{
-    for member in class.methods.as_slice() {
-        if is_final(member.flags) && !is_static(member.flags) {
-            keys.push(key_of_member(alloc, member)?)?;
-        }
-    }
-    Ok(())
-}
-
-// The same, where the class is one that others name as their superclass.
-fn push_finals_where(
-    alloc: Global,
-    keys: &mut Vec<Key>,
-    is_superclass: bool,
-    class: &ClassFacts,
-) -> Result<(), AllocError>
-    ensures { IfOk result (λ _. keys.new.items ≡ keys.old.items ++ final_keys_where is_superclass class.now) }
-{
-    if !is_superclass {
-        return Ok(());
-    }
-    push_finals(alloc, keys, class)?;
-    Ok(())
-}
-
-// Those of all marked classes, which are the superclasses.
-fn finals_in(alloc: Global, index: &Index, marks: &[bool]) -> Result<Vec<Key>, AllocError>
-    requires { AreMarked index.now (size index.now) marks.now }
-    ensures { IfOk result (λ keys. HaveAllFinal index.now keys.items) }
-{
-    let mut keys = Vec::new(alloc);
-    for n in 0..index.count() {
-        push_finals_where(
-            alloc,
-            &mut keys,
-            marks[n as usize],
-            index.facts(ClassId::new(n)),
-        )?;
-    }
-    Ok(keys)
-}
-
-// Marks the class, where there is one.
-fn mark(marks: &mut [bool], class: Option<ClassId>)
-    requires { IfSome class (λ id. id < length marks.old) }
-    ensures { marks.new ≡ marked_with marks.old class }
-{
-    match class {
-        Some(id) => marks[id.number() as usize] = true,
-        None => {}
-    }
-}
-
-// Marks the superclass of each class.
-fn mark_superclasses(index: &Index, marks: &mut [bool])
-    requires { length marks.old ≡ size index.now }
-    ensures { AreMarked index.now (size index.now) marks.new }
-{
-    for n in 0..index.count() {
-        mark(marks, index.superclass(ClassId::new(n)));
-    }
-}
-
-// No class is marked.
-fn no_marks(alloc: Global, index: &Index) -> Result<Vec<bool>, AllocError>
-    ensures { IfOk result (λ marks. length marks.items ≡ size index.now) }
-{
-    let marks = vec![in alloc; false; index.count() as usize]?;
-    Ok(marks)
-}
-
-// The keys of all final instance methods of superclasses: no method overrides another one.
-pub(crate) fn final_keys(alloc: Global, index: &Index) -> Result<FinalKeys, AllocError>
-    ensures { IfOk result (λ keys. HaveAllFinal index.now keys) }
-{
-    let mut marks = no_marks(alloc, index)?;
-    mark_superclasses(index, &mut marks);
-    let keys = finals_in(alloc, index, marks.as_slice())?;
-    let finals = FinalKeys::new(alloc, keys)?;
-    Ok(finals)
-}
-
 // The number of the class that the class names as its superclass; none where there is none of
 // this name.
 #[tactic(auto, unfolding(jc_facts::specs::Options::and_then))]
@@ -242,7 +155,7 @@ pub(crate) fn number_above(index: &Index, class: &ClassFacts) -> Option<ClassId>
 fn method_overrides<'a>(
     alloc: Global,
     index: &'a Index,
-    finals: &FinalKeys,
+    finals: &SideFinals<'_>,
     class: &'a ClassFacts,
     member: &'a Member,
 ) -> Result<bool, AllocError>
@@ -285,7 +198,7 @@ fn method_overrides<'a>(
 pub(crate) fn overrides_final<'a>(
     alloc: Global,
     index: &'a Index,
-    finals: &FinalKeys,
+    finals: &SideFinals<'_>,
     class: &'a ClassFacts,
 ) -> Result<bool, AllocError>
     requires finals { HaveAllFinal index.now finals.now }

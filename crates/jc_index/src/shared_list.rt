@@ -1,8 +1,10 @@
 //! The classes of a platform, as several values keep them.
 ghost use Rattle.std.specs.Prelude.{◌≡◌, IfOk};
 ghost use Rattle.jc_index.specs.steps.PlacesAbove.{place_above as place_of_super};
+ghost use Rattle.jc_index.specs.steps.Walking.{HavePlatformFinals};
 
 use crate::class_list::ClassList;
+use crate::final_keys::FinalKeys;
 use crate::platform_list::PlatformList;
 use std::alloc::{AllocError, Global};
 use std::marker::Model;
@@ -62,5 +64,12 @@ impl SharedList {
         ensures { result ≡ place_of_super self.now place at }
     {
         self.list.as_ref().place_above(place, at)
+    }
+    // The keys of final instance methods of those of the classes that one of them has as its
+    // superclass.
+    pub(crate) fn finals(&self) -> &FinalKeys
+        ensures { HavePlatformFinals self.now result.now }
+    {
+        self.list.as_ref().finals()
     }
 }

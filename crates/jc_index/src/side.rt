@@ -8,8 +8,10 @@ ghost use Rattle.jc_index.specs.Mentioned.{is_package};
 ghost use Rattle.jc_index.specs.declared.limits.TheConstants.{MAX_SIDE_CLASSES};
 ghost use Rattle.jc_index.specs.steps.Order.{names_at};
 ghost use Rattle.jc_index.specs.steps.PlacesAbove.{IsAbove};
+ghost use Rattle.jc_index.specs.steps.Walking.{HavePlatformFinals};
 
 use crate::class_list::ClassList;
+use crate::final_keys::FinalKeys;
 use crate::shared_list::SharedList;
 use jc_facts::class_facts::ClassFacts;
 use std::marker::Model;
@@ -78,6 +80,14 @@ impl Side {
         ensures { result.now ≡ self.now.platform }
     {
         self.platform.list()
+    }
+
+    // The keys of final instance methods of those of the platform's classes that one of them has as
+    // its superclass.
+    pub(crate) fn platform_finals(&self) -> &FinalKeys
+        ensures { HavePlatformFinals self.now.platform result.now }
+    {
+        self.platform.finals()
     }
 
     // The classes of the release.

@@ -15,6 +15,10 @@ places_above cs c = map (place_of (names_at cs)) (supers c)
 abbrev pub place_above : List ClassFacts → ℕ → ℕ → Option ℕ
 place_above cs place at = and_then (λ c. and_then (place_of (names_at cs)) (slice_get (supers c) at)) (slice_get cs place)
 
+-- the first one in the row of this place
+abbrev pub first_place : List (List (Option ℕ)) → ℕ → Option ℕ
+first_place rows place = and_then (λ row. and_then (λ above. above) (slice_get row 0)) (slice_get rows place)
+
 -- x is the one at `at` of the names that the class at this place has above itself
 pub record IsAbove (cs : List ClassFacts) (place at : ℕ) (x : Bytes) : Type 0 where
   pub class : ClassFacts
