@@ -41,10 +41,10 @@ set_already flags n true false e = sym (ap (λ b. set flags n b) e ∙ set-get_o
 module _ (W : World) where
   -- ---- flags of all
 
-  pub one_more : (p : Bytes → Bool) (flags after : List Bool) (n k : ℕ) (b : Bool) → n < size W → k ≡ n → b ≡ p (name_at W k) → after ≡ flags ++ b ∷ [] → flags ≡ map p (take n (names W)) → after ≡ map p (take (n + 1) (names W))
-  one_more p flags after n k b l is h j e =
-      j ∙ ap (λ fs. fs ++ b ∷ []) e ∙ ap (λ t. map p (take n (names W)) ++ t ∷ []) (h ∙ ap (λ m. p (name_at W m)) is)
-      ∙ sym (ap (map p) (take_more (names W) n [] (subst (λ m. n < m) (sym (names-length W)) l)) ∙ map-append p (take n (names W)) (name_at W n ∷ []))
+  pub one_more : {A : Type 0} (f : Bytes → A) (some after : List A) (n k : ℕ) (a : A) → n < size W → k ≡ n → a ≡ f (name_at W k) → after ≡ some ++ a ∷ [] → some ≡ map f (take n (names W)) → after ≡ map f (take (n + 1) (names W))
+  one_more f some after n k a l is h j e =
+      j ∙ ap (λ xs. xs ++ a ∷ []) e ∙ ap (λ x. map f (take n (names W)) ++ x ∷ []) (h ∙ ap (λ m. f (name_at W m)) is)
+      ∙ sym (ap (map f) (take_more (names W) n [] (subst (λ m. n < m) (sym (names-length W)) l)) ∙ map-append f (take n (names W)) (name_at W n ∷ []))
 
   pub all_flags : (p : Bytes → Bool) (flags : List Bool) (n : ℕ) → size W ≤ n → flags ≡ map p (take n (names W)) → AreFlags W p flags
   all_flags p flags n l h = record {

@@ -33,7 +33,7 @@ use Rattle.jc_worlds.proofs.Bare.{bare_loads, bare_chain, bare_interfaces, has_r
 use Rattle.jc_worlds.proofs.FieldActs.{field_found-declared}
 use Rattle.jc_worlds.proofs.Loaded.{loads-parts, loads-found}
 use Rattle.jc_worlds.proofs.Locality.{of_interfaces}
-use Rattle.jc_worlds.proofs.Unrolled.{chain-unroll, with_interfaces-unroll}
+use Rattle.jc_worlds.proofs.Unrolled.{with_interfaces-unroll}
 use Rattle.jc_worlds.proofs.ValidFacts.{superclass_fits, fit_of}
 use Rattle.jc_sound.proofs.MethodLooked.{looked-declared}
 use Rattle.jc_sound.proofs.Looked.{looked, head_of, look_up-takes, look_up-from}
@@ -51,6 +51,7 @@ use Rattle.jc_acts.specs.Touched.{is_changed, is_touched, left_chain_of}
 use Rattle.jc_acts.proofs.Changed.{same_found}
 use Rattle.jc_acts.proofs.Firsts.{first_none, first_closed}
 use Rattle.jc_acts.proofs.Narrowed.{use_further}
+use Rattle.jc_acts.proofs.SetAbove.{above_is}
 
 neither : (a b : Bool) → a ≡ false → b ≡ false → (a || b) ≡ false
 neither a b e f = ap (λ c. c || b) e ∙ f
@@ -141,15 +142,6 @@ module _ (W : World) (so : IsSide W) (p : Bytes → Bool) (root : p object_name 
   clear_from : (y : Bytes) → load_fault W y ≡ None → list_any q (above W y) ≡ false → none_above y ≡ true
   clear_from y l c = and_from (loads W y) (not (list_any q (above W y))) (ap is_none l) (ap not c)
 
-  -- the class, its superclasses, the interfaces that it leads to, and the superinterfaces of its superclass
-  split : (y : Bytes) (c : ClassFacts) → find_class W y ≡ Some c → load_fault W y ≡ None
-      → list_any q (above W y) ≡ ((q c || list_any q (of_super (chain W) c.superclass)) || (list_any q (each (with_interfaces W) c.interfaces) || list_any q (interfaces_of W (of_super (chain W) c.superclass))))
-  unfolding superinterfaces interfaces_of
-  split y c f l =
-      list_any-append q (chain W y) (superinterfaces W y)
-      ∙ ap (λ cs. list_any q cs || list_any q (interfaces_of W cs)) (chain-unroll W y c f l)
-      ∙ ap (λ b. (q c || list_any q (of_super (chain W) c.superclass)) || b) (list_any-append q (each (with_interfaces W) c.interfaces) (interfaces_of W (of_super (chain W) c.superclass)))
-
   record AreClear (c : ClassFacts) : Type 0 where
     own : q c ≡ false
     supers : list_any q (of_super (chain W) c.superclass) ≡ false
@@ -161,7 +153,7 @@ module _ (W : World) (so : IsSide W) (p : Bytes → Bool) (root : p object_name 
       let s = list_any q (of_super (chain W) c.superclass) in
       let e = list_any q (each (with_interfaces W) c.interfaces) in
       let b = list_any q (interfaces_of W (of_super (chain W) c.superclass)) in
-      let h : ((q c || s) || (e || b)) ≡ false = sym (split y c f k.loaded) ∙ k.clear in
+      let h : ((q c || s) || (e || b)) ≡ false = sym (above_is W q y c f k.loaded) ∙ k.clear in
       record {
         own = neither_first (q c) s (neither_first (q c || s) (e || b) h);
         supers = neither_last (q c) s (neither_first (q c || s) (e || b) h);
@@ -202,7 +194,7 @@ module _ (W : World) (so : IsSide W) (p : Bytes → Bool) (root : p object_name 
       let e : (q t.0 || list_any q (each (with_interfaces W) t.0.interfaces)) ≡ false = sym (ap (list_any q) (with_interfaces-unroll W i t.0 t.1 l)) ∙ h in
       let u = above_interface t.0 j t.0.superclass (fit_of t.0 (side_valid W so i t.0 t.1)).superclass in
       clear_from i l
-      (split i t.0 t.1 l
+      (above_is W q i t.0 t.1 l
       ∙ neither (q t.0 || list_any q (of_super (chain W) t.0.superclass)) (list_any q (each (with_interfaces W) t.0.interfaces) || list_any q (interfaces_of W (of_super (chain W) t.0.superclass)))
       (neither (q t.0) (list_any q (of_super (chain W) t.0.superclass)) (neither_first (q t.0) (list_any q (each (with_interfaces W) t.0.interfaces)) e) u.0)
       (neither (list_any q (each (with_interfaces W) t.0.interfaces)) (list_any q (interfaces_of W (of_super (chain W) t.0.superclass))) (neither_last (q t.0) (list_any q (each (with_interfaces W) t.0.interfaces)) e) u.1))

@@ -1,5 +1,6 @@
 pub mod Chains
 pub mod Commons
 pub mod Firsts
+pub mod Known
 pub mod LookedUp
 pub mod References

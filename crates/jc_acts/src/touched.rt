@@ -1,15 +1,14 @@
 //! Classes that changed between the two sides, or left the chain of a seat. Where neither a class nor
 //! any above it did, lookups from it find the same on both sides, and stay open to the seats.
-ghost use Rattle.std.specs.Prelude.{◌≡◌, ◌<◌, ◌&&◌, ◌||◌, Bool, cond, length, map, not, set, Some, true, IfOk};
+ghost use Rattle.std.specs.Prelude.{◌≡◌, ◌<◌, ◌&&◌, ◌||◌, Bool, cond, length, map, not, set, true, IfOk};
 ghost use Rattle.std.specs.List.{All, list_any};
 ghost use Rattle.jc_facts.specs.Names.{Bytes};
-ghost use Rattle.jc_facts.specs.declared.class_facts.ClassFacts.{ClassFacts as FactsOf};
-ghost use Rattle.jc_facts.specs.world.Hierarchy.{each, in_chain, with_interfaces};
-ghost use Rattle.jc_facts.specs.world.World.{find_class, size};
-ghost use Rattle.jc_worlds.specs.Hierarchy.{above};
+ghost use Rattle.jc_facts.specs.world.Hierarchy.{in_chain};
+ghost use Rattle.jc_facts.specs.world.World.{size};
 ghost use Rattle.jc_table.specs.Ids.{name_at};
 ghost use Rattle.jc_sides.specs.SharedOf.{IsShared, name_of};
 ghost use Rattle.jc_acts.specs.Touched.{AreFlags, AreSet, flag_at, is_changed, is_touched, left_chain_of, passes_above};
+ghost use Rattle.jc_acts.specs.steps.Known.{fails_or_passes, passes_at, AreKnown};
 
 use crate::chains::{has_lost, is_met_or_above, look_beside};
 use crate::records::are_same;
@@ -145,41 +144,99 @@ fn is_any_set(flags: &[bool], ids: &[ClassId]) -> bool
 fn is_set_at(table: &Table, flags: &[bool], id: ClassId) -> bool
     requires flags { length flags.now ≡ size table.now }
     requires class { id < size table.now }
-    ensures { (p : Bytes → Bool) → AreFlags table.now p flags.now → (c : FactsOf) → Some c ≡ find_class table.now (name_at table.now id) → result ≡ (p c.name || list_any (λ d. p d.name) (each (with_interfaces table.now) c.interfaces)) }
+    ensures { (p : Bytes → Bool) → AreFlags table.now p flags.now → result ≡ passes_at table.now p (name_at table.now id) }
 {
     flags[id.number() as usize] || is_any_set(flags, table.interfaces(id))
 }
 
-// Whether the class or one above it has its flag set.
-fn is_set_above(table: &Table, flags: &[bool], class: ClassId) -> bool
+// Whether the class doesn't load, or has its flag set, or an interface that it names or that leads
+// to.
+fn fails_or_is_set(table: &Table, flags: &[bool], id: ClassId) -> bool
     requires flags { length flags.now ≡ size table.now }
+    requires class { id < size table.now }
+    ensures { (p : Bytes → Bool) → AreFlags table.now p flags.now → result ≡ fails_or_passes table.now p (name_at table.now id) }
+{
+    table.fault_at(id).is_some() || is_set_at(table, flags, id)
+}
+
+// For each class what is known of it by itself: that it doesn't load, or has its flag set, or an
+// interface that it names or that leads to; else nothing.
+fn known_first(
+    alloc: Global,
+    table: &Table,
+    flags: &[bool],
+) -> Result<Vec<Option<bool>>, AllocError>
+    requires { length flags.now ≡ size table.now }
+    ensures count { IfOk result (λ known. length known.items ≡ size table.now) }
+    ensures known { IfOk result (λ known. (p : Bytes → Bool) → AreFlags table.now p flags.now → AreKnown table.now p known.items) }
+{
+    let mut known = Vec::new(alloc);
+    for n in 0..table.count() {
+        let id = table.id(n).unwrap();
+        known.push(fails_or_is_set(table, flags, id).then_some(true))?;
+    }
+    Ok(known)
+}
+
+// What is known of the class, or else of the first above it of which something is known; no where
+// there is none.
+fn answer_of(table: &Table, known: &[Option<bool>], class: ClassId) -> bool
+    requires known { length known.now ≡ size table.now }
     requires class { class < size table.now }
-    ensures { (p : Bytes → Bool) → AreFlags table.now p flags.now → result ≡ list_any (λ c. p c.name) (above table.now (name_at table.now class)) }
+    ensures { (p : Bytes → Bool) → AreKnown table.now p known.now → result ≡ passes_above table.now p (name_at table.now class) }
 {
     let mut next = Some(class);
     for _ in 0..table.count() {
         let Some(id) = next else {
             return false;
         };
-        if is_set_at(table, flags, id) {
-            return true;
+        match known[id.number() as usize] {
+            Some(answer) => return answer,
+            None => next = table.superclass(id),
         }
-        next = table.superclass(id);
     }
     false
 }
 
-// Whether the class doesn't load, or it or one above it has its flag set.
-fn fails_or_set_above(table: &Table, flags: &[bool], id: ClassId) -> bool
-    requires flags { length flags.now ≡ size table.now }
-    requires class { id < size table.now }
-    ensures { (p : Bytes → Bool) → AreFlags table.now p flags.now → result ≡ passes_above table.now p (name_at table.now id) }
+// Notes the answer of the class, which is also that of those above it up to the first of which
+// something is known.
+fn note(table: &Table, known: &mut Vec<Option<bool>>, class: ClassId, answer: bool)
+    requires known { length known.old.items ≡ size table.now }
+    requires class { class < size table.now }
+    ensures count { length known.new.items ≡ size table.now }
+    ensures known { (p : Bytes → Bool) → AreKnown table.now p known.old.items → answer ≡ passes_above table.now p (name_at table.now class) → AreKnown table.now p known.new.items }
 {
-    table.fault_at(id).is_some() || is_set_above(table, flags, id)
+    let mut next = Some(class);
+    for _ in 0..table.count() {
+        let Some(id) = next else {
+            return;
+        };
+        let n = id.number() as usize;
+        if known[n].is_some() {
+            return;
+        }
+        known[n] = Some(answer);
+        next = table.superclass(id);
+    }
 }
 
-/// For each class, whether it doesn't load, or it or one above it has its flag set. It takes time in
-/// proportion to the classes above each that loads.
+// Whether the class doesn't load, or it or one above it has its flag set. It is noted for all that
+// were passed on the way up.
+fn ask(table: &Table, known: &mut Vec<Option<bool>>, class: ClassId) -> bool
+    requires known { length known.old.items ≡ size table.now }
+    requires class { class < size table.now }
+    ensures count { length known.new.items ≡ size table.now }
+    ensures answer { (p : Bytes → Bool) → AreKnown table.now p known.old.items → result ≡ passes_above table.now p (name_at table.now class) }
+    ensures known { (p : Bytes → Bool) → AreKnown table.now p known.old.items → AreKnown table.now p known.new.items }
+{
+    let answer = answer_of(table, known.as_slice(), class);
+    note(table, known, class, answer);
+    answer
+}
+
+/// For each class, whether it doesn't load, or it or one above it has its flag set. Each class is
+/// asked once, with the interfaces that it leads to, and passed twice at most on the way up to one of
+/// which the answer is known: it takes time in proportion to the classes and those interfaces.
 pub fn with_those_below(
     alloc: Global,
     table: &Table,
@@ -188,10 +245,11 @@ pub fn with_those_below(
     requires { length flags.now ≡ size table.now }
     ensures { IfOk result (λ below. (p : Bytes → Bool) → AreFlags table.now p flags.now → AreFlags table.now (passes_above table.now p) below.items) }
 {
+    let mut known = known_first(alloc, table, flags)?;
     let mut below = Vec::new(alloc);
     for n in 0..table.count() {
         let id = table.id(n).unwrap();
-        below.push(fails_or_set_above(table, flags, id))?;
+        below.push(ask(table, &mut known, id))?;
     }
     Ok(below)
 }
