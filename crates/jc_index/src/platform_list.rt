@@ -126,6 +126,7 @@ impl PlatformList {
             None => None,
         }
     }
+
     /// The keys of final instance methods of those of the classes that one of them has as its
     /// superclass.
     pub fn finals(&self) -> &FinalKeys

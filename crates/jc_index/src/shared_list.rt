@@ -65,6 +65,7 @@ impl SharedList {
     {
         self.list.as_ref().place_above(place, at)
     }
+
     // The keys of final instance methods of those of the classes that one of them has as its
     // superclass.
     pub(crate) fn finals(&self) -> &FinalKeys
