@@ -34,3 +34,4 @@ pub mod Merged
 pub mod HashedKeys
 pub mod Loads
 pub mod PlacesAbove
+pub mod Across
