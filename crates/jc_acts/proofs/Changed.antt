@@ -1,14 +1,14 @@
 -- Classes that are the same on both sides.
-use Rattle.std.proofs.Common.{◌≡◌, ℕ, Bool, true, false, not, ◌&&◌, ◌++◌, refl, sym, ◌∙◌, ap, Option, Some, None, is_some}
+use Rattle.std.proofs.Common.{◌≡◌, Bool, true, false, not, ◌&&◌, ◌++◌, refl, sym, ◌∙◌, ap, Option, Some, None, is_some}
 use Rattle.std.specs.Option.{option_eq}
 use Rattle.std.proofs.lemmas.Bool.{not-false}
 use Rattle.jc_facts.specs.declared.class_facts.ClassFacts.{ClassFacts}
 use Rattle.jc_facts.specs.Names.{Bytes}
 use Rattle.jc_facts.specs.world.World.{World, find_class, class_named}
 use Rattle.jc_facts.specs.world.Hierarchy.{in_chain}
-use Rattle.jc_facts.proofs.World.{find-name, class_named-first}
-use Rattle.jc_table.specs.Ids.{id_of, name_at}
-use Rattle.jc_table.proofs.Numbers.{id_of-Some, find-None}
+use Rattle.jc_facts.proofs.World.{class_named-first}
+use Rattle.jc_table.specs.Ids.{id_of}
+use Rattle.jc_table.proofs.Numbers.{find-None}
 use Rattle.jc_sides.specs.SidesOf.{SidesOf}
 use Rattle.jc_acts.specs.Records.{same_facts}
 use Rattle.jc_acts.specs.Seats.{loses_class}
@@ -34,12 +34,11 @@ platform_same s one y h = go (class_named s.old.platform y) refl h
     go (Some c) e k =
         ap not (sym (same_facts_itself c)) ∙ changed_by s y (Some c) (Some c) (find_platform s.old y c e) (find_platform s.new y c (ap (λ cs. class_named cs y) (sym one) ∙ e))
 
-pub changed_there : (s : SidesOf) (x : Bytes) (c d : ClassFacts) (n : ℕ) → Some c ≡ find_class s.old x → id_of s.new c.name ≡ Some n → Some d ≡ find_class s.new (name_at s.new n) → not (same_facts c d) ≡ is_changed s x
-changed_there s x c d n e i f =
-    changed_by s x (Some c) (Some d) (sym e) (ap (find_class s.new) (sym (find-name s.old x c (sym e)) ∙ sym (id_of-Some s.new c.name n i).1) ∙ sym f)
+pub changed_there : (s : SidesOf) (x : Bytes) (c d : ClassFacts) → Some c ≡ find_class s.old x → Some d ≡ find_class s.new x → not (same_facts c d) ≡ is_changed s x
+changed_there s x c d e f = changed_by s x (Some c) (Some d) (sym e) (sym f)
 
-pub changed_gone : (s : SidesOf) (x : Bytes) (c : ClassFacts) → Some c ≡ find_class s.old x → id_of s.new c.name ≡ None → true ≡ is_changed s x
-changed_gone s x c e i = changed_by s x (Some c) None (sym e) (ap (find_class s.new) (sym (find-name s.old x c (sym e))) ∙ find-None s.new c.name i)
+pub changed_gone : (s : SidesOf) (x : Bytes) (c : ClassFacts) → Some c ≡ find_class s.old x → id_of s.new x ≡ None → true ≡ is_changed s x
+changed_gone s x c e i = changed_by s x (Some c) None (sym e) (find-None s.new x i)
 
 pub same_found : (s : SidesOf) (y : Bytes) → is_changed s y ≡ false → find_class s.old y ≡ find_class s.new y
 same_found s y h = same_classes (find_class s.old y) (find_class s.new y) (not-false (option_eq same_facts (find_class s.old y) (find_class s.new y)) h)

@@ -29,7 +29,7 @@ fn has_changed(sides: &Sides<'_>, id: ClassId) -> bool
         return false;
     }
     let before = sides.old.facts(id);
-    match sides.new.get(before.name.as_bytes()) {
+    match sides.new_id(id) {
         Some(now) => !are_same(before, sides.new.facts(now)),
         None => true,
     }

@@ -54,7 +54,7 @@ super-some W x (Some k) e = super-below W x k (sym e)
 -- ---- interfaces
 
 -- the class of a name is one of the world's
-id-below : (W : World) (x : Bytes) (o : Option ℕ) → id_of W x ≡ o → IfSome o (λ id. id < size W)
+pub id-below : (W : World) (x : Bytes) (o : Option ℕ) → id_of W x ≡ o → IfSome o (λ id. id < size W)
 id-below W x None e = tt
 id-below W x (Some k) e = (id_of-Some W x k e).0
 

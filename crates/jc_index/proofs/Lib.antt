@@ -35,3 +35,4 @@ pub mod HashedKeys
 pub mod Loads
 pub mod PlacesAbove
 pub mod PlatformFinals
+pub mod Across

@@ -13,6 +13,7 @@ use Rattle.jc_table.specs.Ids.{name_at, id_of}
 use Rattle.jc_table.proofs.Numbers.{id-find, id_of-Some}
 use Rattle.jc_sides.specs.SharedOf.{IsWhere, name_of, SharedOf}
 use Rattle.jc_sides.specs.SidesOf.{SidesOf}
+use Rattle.jc_sides.proofs.Seen.{of_same_name}
 
 -- a usable class has a number
 usable_there : (W : World) (x : Bytes) → is_class_usable W x ≡ true → is_some (id_of W x) ≡ true
@@ -49,37 +50,39 @@ module _ (O N : World) (x : Bytes) where
 
 module _ (t s : SidesOf) (v : t ≡ s) (n : ℕ) where
   -- what is told of the class of number n
-  abbrev Tells : SidesOf → Option SharedOf → Type 0
-  Tells w o = IsWhere (is_kept w.old w.new (name_at w.old n)) w (name_at w.old n) o
+  abbrev Tells : Option SharedOf → Type 0
+  Tells o = IsWhere (is_kept s.old s.new (name_at s.old n)) s (name_at s.old n) o
 
-  seen : (o : Option SharedOf) → Tells t o → Tells s o
-  seen o h = subst (λ (w : SidesOf). Tells w o) v h
+  before : (b : Bool) → is_class_usable t.old (name_at t.old n) ≡ b → is_class_usable s.old (name_at s.old n) ≡ b
+  before b h = subst (λ (w : SidesOf). is_class_usable w.old (name_at w.old n) ≡ b) v h
 
-  pub unusable : is_class_usable t.old (name_at t.old n) ≡ false → Tells s None
-  unusable h = seen None (not_before t.old t.new (name_at t.old n) h)
+  pub unusable : is_class_usable t.old (name_at t.old n) ≡ false → Tells None
+  unusable h = not_before s.old s.new (name_at s.old n) (before false h)
 
-  module _ (c : ClassFacts) (f : Some c ≡ find_class t.old (name_at t.old n)) where
-    is : c.name ≡ name_at t.old n
-    is = found_name t.old (name_at t.old n) c f
+  pub absent : None ≡ id_of s.new (name_at s.old n) → Tells None
+  absent h = not_after s.old s.new (name_at s.old n) (numbered s.new (name_at s.old n) (sym h))
 
-    pub absent : None ≡ id_of t.new c.name → Tells s None
-    absent h = seen None (not_after t.old t.new (name_at t.old n) (numbered t.new (name_at t.old n) (ap (id_of t.new) (sym is) ∙ sym h)))
+  -- the class of number k has its name on the new side
+  module _ (k : ℕ) (h : Some k ≡ id_of s.new (name_at s.old n)) where
+    name_is : name_at s.new k ≡ name_at s.old n
+    name_is = (id_of-Some s.new (name_at s.old n) k (sym h)).1
 
-    name_is : (k : ℕ) → Some k ≡ id_of t.new c.name → name_at t.new k ≡ name_at t.old n
-    name_is k h = (id_of-Some t.new c.name k (sym h)).1 ∙ is
+    after : (b : Bool) → is_class_usable t.new (name_at t.new k) ≡ b → is_class_usable s.new (name_at s.old n) ≡ b
+    after b w = of_same_name t s v n k h (λ W x. is_class_usable W x ≡ b) w
 
-    pub unusable_now : (k : ℕ) → Some k ≡ id_of t.new c.name → is_class_usable t.new (name_at t.new k) ≡ false → Tells s None
-    unusable_now k h w = seen None (not_after t.old t.new (name_at t.old n) (ap (is_class_usable t.new) (sym (name_is k h)) ∙ w))
+    pub unusable_now : is_class_usable t.new (name_at t.new k) ≡ false → Tells None
+    unusable_now w = not_after s.old s.new (name_at s.old n) (after false w)
 
-    pub stays : (b : SharedOf) → b.old ≡ n → name_of b ≡ c.name → n < size s.old → Some b.new ≡ id_of t.new c.name → is_class_usable t.old (name_at t.old n) ≡ true → is_class_usable t.new (name_at t.new b.new) ≡ true → Tells s (Some b)
-    stays b o m l h u w =
-        seen (Some b) (
-          on_both t.old t.new (name_at t.old n) u (ap (is_class_usable t.new) (sym (name_is b.new h)) ∙ w),
-          m ∙ is,
+    pub stays : (c : ClassFacts) → Some c ≡ find_class t.old (name_at t.old n) → (b : SharedOf) → b.old ≡ n → b.new ≡ k → name_of b ≡ c.name → n < size s.old
+        → is_class_usable t.old (name_at t.old n) ≡ true → is_class_usable t.new (name_at t.new k) ≡ true → Tells (Some b)
+    stays c f b o p m l u w =
+        let is : name_of b ≡ name_at s.old n = m ∙ found_name t.old (name_at t.old n) c f ∙ ap (λ (z : SidesOf). name_at z.old n) v in (
+          on_both s.old s.new (name_at s.old n) (before true u) (after true w),
+          is,
           record {
-            old_below = subst (λ (i : ℕ). i < size t.old) (sym o) (subst (λ (z : SidesOf). n < size z.old) (sym v) l);
-            new_below = (id_of-Some t.new c.name b.new (sym h)).0;
-            old_name = ap (name_at t.old) o ∙ sym (m ∙ is);
-            new_name = name_is b.new h ∙ sym (m ∙ is);
+            old_below = subst (λ (i : ℕ). i < size s.old) (sym o) l;
+            new_below = subst (λ (i : ℕ). i < size s.new) (sym p) (id_of-Some s.new (name_at s.old n) k (sym h)).0;
+            old_name = ap (name_at s.old) o ∙ sym is;
+            new_name = ap (name_at s.new) p ∙ name_is ∙ sym is;
           },
         )

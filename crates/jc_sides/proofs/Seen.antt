@@ -1,11 +1,12 @@
 -- What a table of the two sides says of a class by its number, the sides say of it by its name; and the numbers of keys. t are the tables' worlds, d is the class as its fields have it.
-use Rattle.std.proofs.Common.{◌≡◌, ◌<◌, sym, subst, None}
+use Rattle.std.proofs.Common.{◌≡◌, ◌<◌, ℕ, sym, subst, Some, None}
 use Rattle.jc_facts.specs.world.Loading.{load_fault}
 use Rattle.jc_facts.specs.Names.{Bytes}
 use Rattle.jc_facts.specs.declared.key.Key.{Key}
 use Rattle.jc_facts.specs.world.World.{World, size}
-use Rattle.jc_table.specs.Ids.{name_at}
+use Rattle.jc_table.specs.Ids.{name_at, id_of}
 use Rattle.jc_table.specs.Keys.{numbered_keys, IsNumber}
+use Rattle.jc_table.proofs.Numbers.{id_of-Some}
 use Rattle.jc_sides.specs.Numbering.{AreNumbers}
 use Rattle.jc_sides.specs.declared.key_numbers.KeyNumbers.{KeyNumbers}
 use Rattle.jc_sides.specs.SharedOf.{IsShared, name_of, SharedOf}
@@ -46,3 +47,7 @@ module _ (t s : SidesOf) (v : t ≡ s) (k : Key) (p : KeyNumbers) (numbers : Are
 
   pub number_after : IsNumber (numbered_keys t.new) k p.new
   number_after = subst (λ (u : SidesOf). IsNumber (numbered_keys u.new) k p.new) (sym v) numbers.new
+
+-- the same of the new side's class that has the name of one of the old side
+pub of_same_name : (t s : SidesOf) → t ≡ s → (n k : ℕ) → Some k ≡ id_of s.new (name_at s.old n) → (P : World → Bytes → Type 0) → P t.new (name_at t.new k) → P s.new (name_at s.old n)
+of_same_name t s v n k e P h = subst (P s.new) (id_of-Some s.new (name_at s.old n) k (sym e)).1 (subst (λ (u : SidesOf). P u.new (name_at u.new k)) v h)

@@ -28,13 +28,10 @@ pub fn kept<'a>(sides: &Sides<'a>, id: ClassId) -> Option<Shared<'a>>
     if !is_usable(sides.old, id) {
         return None;
     }
-    let name = &sides.old.facts(id).name;
-    let Some(after) = sides.new.get(name.as_bytes()) else {
-        return None;
-    };
+    let after = sides.new_id(id)?;
     if is_usable(sides.new, after) {
         Some(Shared {
-            name,
+            name: &sides.old.facts(id).name,
             old: id,
             new: after,
         })

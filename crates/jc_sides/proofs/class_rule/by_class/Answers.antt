@@ -16,7 +16,7 @@ loop-n-preserved g c =
 pub returns-then-is_over : goal.returns-then-is_over
 returns-then-is_over g c =
     let l : c.loop-n.n < size c.sides.inside.old.now = omega (arith, c.count-n-end.ensures.count) in
-    past g.R.ClassRule.rule g.met.R.ClassRule.alone c.args.sides.now (subst AreSides c.sides.view_is c.sides.invariant) c.args.most (c.loop-n.n + 1) c.push_some.new.items.items
+    past g.R.ClassRule.rule g.met.R.ClassRule.alone c.args.sides.now (subst AreSides c.sides.view_is c.sides.invariant.sides) c.args.most (c.loop-n.n + 1) c.push_some.new.items.items
     (one_more g.R.ClassRule.rule g.met.R.ClassRule.alone c.args.sides.now c.sides.inside.old.now (ap (λ (s : SidesOf). s.old) c.sides.view_is) c.loop-n.n c.unwrap-id.result c.loop-n.findings.items c.push_some.new.items.items c.in_ok-of_class.field-0 l
     (sym c.id.ensures.value ∙ c.unwrap-id.ensures) c.loop-n.invariant.0 c.in_ok-of_class.ensures c.in_ok-push_some.ensures)
     (told c.args.most c.push_some.new.items.items c.len.result c.is_over.result true (omega (arith, c.len.ensures, c.push_some.new.items.ok.0)) c.is_over.ensures c.if-is_over.true)
@@ -24,4 +24,4 @@ returns-then-is_over g c =
 pub returns : goal.returns
 returns g c =
     let l : size c.sides.inside.old.now ≤ c.loop-n.n = omega (arith, c.count-n-end.ensures.count) in
-    (all_classes g.R.ClassRule.rule g.met.R.ClassRule.alone c.args.sides.now (subst AreSides c.sides.view_is c.sides.invariant) c.sides.inside.old.now (ap (λ (s : SidesOf). s.old) c.sides.view_is) c.loop-n.n c.loop-n.findings.items l c.loop-n.invariant.0, c.loop-n.invariant.1)
+    (all_classes g.R.ClassRule.rule g.met.R.ClassRule.alone c.args.sides.now (subst AreSides c.sides.view_is c.sides.invariant.sides) c.sides.inside.old.now (ap (λ (s : SidesOf). s.old) c.sides.view_is) c.loop-n.n c.loop-n.findings.items l c.loop-n.invariant.0, c.loop-n.invariant.1)

@@ -16,4 +16,4 @@ loop-n-preserved g c =
 pub returns : goal.returns
 returns g c =
     let l : size c.sides.inside.old.now ≤ c.loop-n.n = omega (arith, c.count-n-end.ensures.count) in
-    all_classes (g.T.ClassTest.test c.args.sides.now) c.args.sides.now (subst AreSides c.sides.view_is c.sides.invariant) c.sides.inside.old.now (ap (λ (s : SidesOf). s.old) c.sides.view_is) c.loop-n.n c.loop-n.classes.items l c.loop-n.invariant
+    all_classes (g.T.ClassTest.test c.args.sides.now) c.args.sides.now (subst AreSides c.sides.view_is c.sides.invariant.sides) c.sides.inside.old.now (ap (λ (s : SidesOf). s.old) c.sides.view_is) c.loop-n.n c.loop-n.classes.items l c.loop-n.invariant

@@ -25,10 +25,10 @@ pub returns-in-OldFields : goal.returns-in-OldFields
 returns-in-OldFields c =
     subst (λ (m : Members). IfSome c.field_row.result (λ row. HasAll (is_member m c.args.sides.now (name_of c.args.class.now)) (keys_of_row c.args.sides.now.old row.now))) (sym c.in-OldFields.is)
     (of_old (worlds c.sides.inside) c.args.sides.now c.sides.view_is (shared_of c.class.inside) c.args.class.now c.class.view_is c.requires.shared (λ W x. IfSome c.field_row.result (λ row. HaveFields W x (keys_of_row W row.now)))
-    (field_row_finds c.sides.inside.old.now c.sides.invariant.old_side (name_at c.sides.inside.old.now c.class.inside.old) (loads_before (worlds c.sides.inside) c.args.sides.now c.sides.view_is (shared_of c.class.inside) c.args.class.now c.class.view_is c.requires.shared (kept_parts c.args.sides.now (name_of c.args.class.now) c.requires.kept)) c.field_row.result (λ row. row.now) c.field_row.ensures.made c.field_row.ensures.row))
+    (field_row_finds c.sides.inside.old.now c.sides.invariant.sides.old_side (name_at c.sides.inside.old.now c.class.inside.old) (loads_before (worlds c.sides.inside) c.args.sides.now c.sides.view_is (shared_of c.class.inside) c.args.class.now c.class.view_is c.requires.shared (kept_parts c.args.sides.now (name_of c.args.class.now) c.requires.kept)) c.field_row.result (λ row. row.now) c.field_row.ensures.made c.field_row.ensures.row))
 
 pub returns-in-OldMethods : goal.returns-in-OldMethods
 returns-in-OldMethods c =
     subst (λ (m : Members). IfSome c.method_row.result (λ row. HasAll (is_member m c.args.sides.now (name_of c.args.class.now)) (keys_of_row c.args.sides.now.old row.now))) (sym c.in-OldMethods.is)
     (of_old (worlds c.sides.inside) c.args.sides.now c.sides.view_is (shared_of c.class.inside) c.args.class.now c.class.view_is c.requires.shared (λ W x. IfSome c.method_row.result (λ row. HaveMethods W x (keys_of_row W row.now)))
-    (method_row_finds c.sides.inside.old.now c.sides.invariant.old_side (name_at c.sides.inside.old.now c.class.inside.old) (loads_before (worlds c.sides.inside) c.args.sides.now c.sides.view_is (shared_of c.class.inside) c.args.class.now c.class.view_is c.requires.shared (kept_parts c.args.sides.now (name_of c.args.class.now) c.requires.kept)) c.method_row.result (λ row. row.now) c.method_row.ensures.made c.method_row.ensures.row))
+    (method_row_finds c.sides.inside.old.now c.sides.invariant.sides.old_side (name_at c.sides.inside.old.now c.class.inside.old) (loads_before (worlds c.sides.inside) c.args.sides.now c.sides.view_is (shared_of c.class.inside) c.args.class.now c.class.view_is c.requires.shared (kept_parts c.args.sides.now (name_of c.args.class.now) c.requires.kept)) c.method_row.result (λ row. row.now) c.method_row.ensures.made c.method_row.ensures.row))
