@@ -1,5 +1,5 @@
 -- Why clients can't use a class, and what the rule on classes that are gone finds.
-use Rattle.std.proofs.Common.{◌≡◌, ℕ, Bool, true, false, cond, refl, sym, ◌∙◌, ap, subst, Option, Some, None, not, ◌&&◌}
+use Rattle.std.proofs.Common.{◌≡◌, Bool, true, false, cond, refl, sym, ◌∙◌, ap, Option, Some, None, not, ◌&&◌}
 use Rattle.jc_facts.specs.declared.act.Act.TheVariants.{ClassRef}
 use Rattle.jc_facts.specs.declared.class_facts.ClassFacts.{ClassFacts}
 use Rattle.jc_facts.specs.declared.link_error.LinkError.{LinkError}
@@ -17,7 +17,7 @@ use Rattle.jc_sides.specs.BrokenOf.{BrokenOf, broken_if, found}
 use Rattle.jc_sides.specs.Rules.{on_class, class_finding}
 use Rattle.jc_sides.specs.SidesOf.{SidesOf}
 use Rattle.jc_sides.proofs.BrokenActs.{found_where}
-use Rattle.jc_table.specs.Ids.{id_of, name_at}
+use Rattle.jc_table.specs.Ids.{id_of}
 use Rattle.jc_table.proofs.Numbers.{find-None}
 
 -- ---- why a class can't be used
@@ -69,7 +69,3 @@ module _ (s : SidesOf) (x : Bytes) where
       go a true h = absurd (cc)
       go true false h = let k : gone_error s.new x ≡ e = cc in ap (report_where true (on_class 1 x) ClassRef) k
       go false false h = refl
-
--- what is found of the two sides' tables is found of the sides
-pub seen : (n : ℕ) (t s : SidesOf) → t ≡ s → (o : Option BrokenOf) → found (on_class 1 (name_at t.old n)) o ≡ class_finding 1 t (name_at t.old n) → found (on_class 1 (name_at s.old n)) o ≡ class_finding 1 s (name_at s.old n)
-seen n t s v o e = subst (λ (w : SidesOf). found (on_class 1 (name_at w.old n)) o ≡ class_finding 1 w (name_at w.old n)) v e

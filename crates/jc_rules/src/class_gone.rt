@@ -1,9 +1,10 @@
 //! The rule on classes that are gone.
-ghost use Rattle.std.specs.Prelude.{◌≡◌, refl};
+ghost use Rattle.std.specs.Prelude.{◌≡◌, ◌<◌, refl};
 ghost use Rattle.jc_facts.specs.declared.rule_numbers.TheConstants.{CLASS_GONE};
+ghost use Rattle.jc_facts.specs.world.World.{size};
+ghost use Rattle.jc_table.specs.Ids.{name_at};
 ghost use Rattle.jc_rules.specs.steps.Classes.{why_unusable};
 
-use jc_base::name::Name;
 use jc_facts::act::Act;
 use jc_facts::flags::is_public;
 use jc_facts::link_error::LinkError;
@@ -13,20 +14,20 @@ use jc_sides::class_rule::ClassRule;
 use jc_sides::kept::is_usable;
 use jc_sides::sides::Sides;
 use jc_table::ids::ClassId;
-use jc_table::table::Table;
 use std::alloc::{AllocError, Global};
 
-// Why clients can't use the class of this name; none where they can.
-fn unusable(table: &Table, name: &Name) -> Option<LinkError>
-    ensures { result ≡ why_unusable table.now name.now }
+// Why clients can't use the class of the old side on the new side; none where they can.
+fn unusable(sides: &Sides<'_>, id: ClassId) -> Option<LinkError>
+    requires { id < size sides.now.old }
+    ensures { result ≡ why_unusable sides.now.new (name_at sides.now.old id) }
 {
-    let Some(id) = table.get(name.as_bytes()) else {
+    let Some(after) = sides.new_id(id) else {
         return Some(LinkError::NoClassDefFoundError);
     };
-    if let Some(error) = table.fault_at(id) {
+    if let Some(error) = sides.new.fault_at(after) {
         return Some(error);
     }
-    if is_public(table.facts(id).flags) {
+    if is_public(sides.new.facts(after).flags) {
         None
     } else {
         Some(LinkError::IllegalAccessError)
@@ -52,7 +53,7 @@ impl ClassRule for ClassGone {
         id: ClassId,
     ) -> Result<Option<BrokenAct<'_>>, AllocError> {
         let was_usable = is_usable(sides.old, id);
-        let Some(error) = unusable(sides.new, &sides.old.facts(id).name) else {
+        let Some(error) = unusable(sides, id) else {
             return Ok(None);
         };
         Ok(broken_where(was_usable, Act::ClassRef, error))

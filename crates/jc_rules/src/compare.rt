@@ -302,7 +302,7 @@ pub fn compare(alloc: Global, old: &Table, new: &Table) -> Result<Verdict, Alloc
     // Whatever clients there are, whoever names a class that is gone has the finding's error.
     ensures broken { IfOk result (BreaksEach old.now new.now) }
 {
-    let sides = Sides::new(old, new);
+    let sides = Sides::new(alloc, old, new)?;
     let verdict = limited(alloc, &sides, None)?;
     Ok(verdict.unwrap())
 }
@@ -320,7 +320,7 @@ pub fn compare_within(
     ensures kept { IfOk result (λ made. IfSome made (KeepsAll old.now new.now)) }
     ensures broken { IfOk result (λ made. IfSome made (BreaksEach old.now new.now)) }
 {
-    let sides = Sides::new(old, new);
+    let sides = Sides::new(alloc, old, new)?;
     let verdict = limited(alloc, &sides, Some(most))?;
     Ok(verdict)
 }

@@ -6,11 +6,11 @@ use Rattle.jc_rules.proofs.compare.compare_within.Goals as goal
 
 pub returns-clause-exact : goal.returns-clause-exact
 returns-clause-exact c =
-    subst (λ (s : SidesOf). IsVerdictWithin s.old s.new c.args.most c.in_ok-verdict.verdict) c.new-sides.ensures
-    (limited_within c.new-sides.result c.args.most c.in_ok-verdict.verdict c.in_ok-verdict.ensures.0)
+    subst (λ (s : SidesOf). IsVerdictWithin s.old s.new c.args.most c.in_ok-verdict.verdict) c.in_ok-sides.ensures
+    (limited_within c.in_ok-sides.sides c.args.most c.in_ok-verdict.verdict c.in_ok-verdict.ensures.0)
 
 pub returns-clause-kept : goal.returns-clause-kept
-returns-clause-kept c = kept_within c.args.old.now c.args.new.now c.args.most (subst AreSides c.new-sides.ensures c.in_ok-verdict.ensures.1) c.in_ok-verdict.verdict (returns-clause-exact c)
+returns-clause-kept c = kept_within c.args.old.now c.args.new.now c.args.most (subst AreSides c.in_ok-sides.ensures c.in_ok-verdict.ensures.1) c.in_ok-verdict.verdict (returns-clause-exact c)
 
 pub returns-clause-broken : goal.returns-clause-broken
-returns-clause-broken c = broken_within c.args.old.now c.args.new.now c.args.most (subst AreSides c.new-sides.ensures c.in_ok-verdict.ensures.1) c.in_ok-verdict.verdict (returns-clause-exact c)
+returns-clause-broken c = broken_within c.args.old.now c.args.new.now c.args.most (subst AreSides c.in_ok-sides.ensures c.in_ok-verdict.ensures.1) c.in_ok-verdict.verdict (returns-clause-exact c)

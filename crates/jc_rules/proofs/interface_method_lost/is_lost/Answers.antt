@@ -33,7 +33,7 @@ pub returns-then-inherits : goal.returns-then-inherits
 returns-then-inherits c = λ apart.
     let was : public_method_of_object c.sides.inside.old.now c.args.key.now ≡ None = subst (λ (s : SidesOf). public_method_of_object s.old c.args.key.now ≡ None) (sym c.sides.view_is) apart in
     let now : public_method_of_object c.sides.inside.new.now c.args.key.now ≡ None =
-    subst (λ (s : SidesOf). public_method_of_object s.new c.args.key.now ≡ None) (sym c.sides.view_is) (apart_now c.args.sides.now (subst AreSides c.sides.view_is c.sides.invariant) c.args.key.now apart) in
+    subst (λ (s : SidesOf). public_method_of_object s.new c.args.key.now ≡ None) (sym c.sides.view_is) (apart_now c.args.sides.now (subst AreSides c.sides.view_is c.sides.invariant.sides) c.args.key.now apart) in
     lost_then c.args.sides.now (name_of c.args.class.now) c.args.key.now c.inherits.result c.inherits-then-inherits.result
     (of_old (worlds c.sides.inside) c.args.sides.now c.sides.view_is (shared_of c.class.inside) c.args.class.now c.class.view_is c.requires.shared (λ W x. c.inherits.result ≡ inherits W x c.args.key.now) (c.inherits.ensures was)) c.if-inherits.true
     (of_new (worlds c.sides.inside) c.args.sides.now c.sides.view_is (shared_of c.class.inside) c.args.class.now c.class.view_is c.requires.shared (λ W x. c.inherits-then-inherits.result ≡ inherits W x c.args.key.now) (c.inherits-then-inherits.ensures now))

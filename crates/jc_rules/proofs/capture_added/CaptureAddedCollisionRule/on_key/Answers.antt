@@ -32,7 +32,7 @@ returns-in_err-method c =
 pub returns : goal.returns
 returns c =
     captured c.args.sides.now (name_of c.args.class.now) c.args.key.now c.in_ok-method.method c.is_captured-captured.result c.error_of.result c.broken_where.result c.requires.covered
-    (subst (λ (s : SidesOf). IsSide s.new) c.sides.view_is c.sides.invariant.new_side)
+    (subst (λ (s : SidesOf). IsSide s.new) c.sides.view_is c.sides.invariant.sides.new_side)
     (base_class_parts c.args.sides.now (name_of c.args.class.now) c.requires.covered).both.loads_now
     (of_new (worlds c.sides.inside) c.args.sides.now c.sides.view_is (shared_of c.class.inside) c.args.class.now c.class.view_is c.requires.shared (λ W x. IsChoice W (Some c.in_ok-method.method) (method_choices W x c.args.key.now))
     (subst (λ o. IsChoice c.sides.inside.new.now o (method_choices c.sides.inside.new.now (name_at c.sides.inside.new.now c.class.inside.new) c.args.key.now)) c.in_ok-method.was c.find_method_by_number.ensures))
