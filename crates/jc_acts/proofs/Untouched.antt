@@ -48,7 +48,7 @@ use Rattle.jc_acts.specs.Seats.{all_seats, may_be_closed}
 use Rattle.jc_acts.specs.steps.Firsts.{first_at, closed_on}
 use Rattle.jc_acts.specs.steps.LookedUp.{use_at}
 use Rattle.jc_acts.specs.Touched.{is_changed, is_touched, left_chain_of}
-use Rattle.jc_acts.proofs.Changed.{same_found}
+use Rattle.jc_acts.proofs.Changed.{platform_same, same_found}
 use Rattle.jc_acts.proofs.Firsts.{first_none, first_closed}
 use Rattle.jc_acts.proofs.Narrowed.{use_further}
 use Rattle.jc_acts.proofs.SetAbove.{above_is}
@@ -325,3 +325,10 @@ none_closed s are x free steady = has_none s are x free (steady_parts s x steady
 
 pub looks_alike : (s : SidesOf) → AreSides s → (x : Bytes) → may_be_closed s x ≡ false → load_fault s.old x ≡ None → LooksTheSame s.old s.new x
 looks_alike s are x free loaded = looks_same s are x free loaded
+
+pub one_record : (s : SidesOf) → AreSides s → (x : Bytes) → may_be_closed s x ≡ false → load_fault s.old x ≡ None → find_class s.old x ≡ find_class s.new x
+one_record s are x free loaded = (both s are x free loaded).same x (it_is s are x free loaded)
+
+-- a class of the platform is the same, whatever is above it
+pub platform_record : (s : SidesOf) → AreSides s → (x : Bytes) → is_some (class_named s.old.platform x) ≡ true → find_class s.old x ≡ find_class s.new x
+platform_record s are x h = same_found s x (sym (platform_same s are.platform x h))

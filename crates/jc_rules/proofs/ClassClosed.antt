@@ -1,20 +1,30 @@
 -- What the rule on classes that are closed to some clients finds.
-use Rattle.std.proofs.Common.{◌≡◌, Bool, false, cond, refl, sym, ◌∙◌, ap, Option, Some, None}
+use Rattle.std.proofs.Common.{◌≡◌, Bool, true, false, not, cond, ◌||◌, ◌&&◌, List, refl, sym, ◌∙◌, ap, Option, Some, None, is_some, nat_lt}
+use Rattle.std.proofs.lemmas.Bool.{and_parts}
 use Rattle.jc_facts.specs.declared.act.Act.{Act}
 use Rattle.jc_facts.specs.declared.act.Act.TheVariants.{Extend, Implement}
 use Rattle.jc_facts.specs.declared.class_facts.ClassFacts.{ClassFacts}
 use Rattle.jc_facts.specs.declared.link_error.LinkError.TheVariants.{IncompatibleClassChangeError}
 use Rattle.jc_facts.specs.world.Assignment.{is_interface_of}
+use Rattle.jc_facts.specs.file.Rules.{apart, implies}
+use Rattle.jc_facts.specs.file.Valid.{IsValidClass}
 use Rattle.jc_facts.specs.rule.Findings.{finding_at, class_closed, report_where}
-use Rattle.jc_facts.specs.Flags.{interface_flag}
-use Rattle.jc_facts.specs.Names.{Bytes}
-use Rattle.jc_facts.specs.rule.Bases.{is_kept, is_class_closed}
-use Rattle.jc_facts.specs.world.World.{find_class}
+use Rattle.jc_facts.specs.Flags.{abstract_flag, final_flag, interface_flag, module_flag}
+use Rattle.jc_facts.specs.Names.{Bytes, is_name_among}
+use Rattle.jc_facts.specs.rule.Bases.{allowed, has_init, is_class_closed, is_kept, is_open, leaves_out, newly_sealed, public_or_protected}
+use Rattle.jc_facts.specs.world.World.{World, class_named, find_class}
+use Rattle.jc_acts.proofs.Untouched.{platform_record}
+use Rattle.jc_lemmas.proofs.Listed.{EachOf-map, any_none}
+use Rattle.jc_worlds.proofs.Allowed.{among_each}
+use Rattle.jc_worlds.proofs.Loaded.{loads-found}
+use Rattle.jc_table.proofs.Sides.{side_valid}
+use Rattle.jc_sides.specs.steps.ClientsOf.{closes}
 use Rattle.jc_sides.specs.BrokenOf.{BrokenOf, broken_if, found}
 use Rattle.jc_sides.specs.Rules.{on_class, class_finding}
-use Rattle.jc_sides.specs.SidesOf.{SidesOf}
+use Rattle.jc_sides.specs.SidesOf.{SidesOf, AreSides}
+use Rattle.jc_sides.proofs.BaseParts.{kept_parts}
 use Rattle.jc_sides.proofs.BrokenActs.{found_where}
-use Rattle.jc_sides.proofs.NamedAbove.{closed_unkept}
+use Rattle.jc_sides.proofs.NamedAbove.{closed_is as closes_by, closed_unkept}
 
 -- how clients name the class above themselves
 act_on : SidesOf → Bytes → Act
@@ -26,6 +36,49 @@ closed_is s x = refl
 
 pub unkept : (s : SidesOf) (x : Bytes) → is_kept s.old s.new x ≡ false → None ≡ class_finding 2 s x
 unkept s x h = sym (closed_is s x ∙ ap (λ b. report_where b (on_class 2 x) (act_on s x) IncompatibleClassChangeError) (closed_unkept s x h))
+
+-- ---- a class that has one record on both sides
+
+-- permitted names leave out none of themselves
+none_left_out : (O N : World) (p : Option (List Bytes)) → leaves_out O N p p ≡ false
+none_left_out O N None = refl
+none_left_out O N (Some ns) = any_none (λ x. allowed O N x && not (is_name_among ns x)) ns (EachOf-map (λ x h. listed (allowed O N x) (is_name_among ns x) h) ns (among_each ns))
+  where
+    listed : (a b : Bool) → b ≡ true → (a && not b) ≡ false
+    listed true true h = refl
+    listed true false h = absurd (cc)
+    listed false b h = refl
+
+-- of an interface, which isn't final, or of a class that isn't
+open_row : (i f h o n r : Bool) → n ≡ false → (not i || (not f && r)) ≡ true → (not (i && not i) && ((not i && not f && h && o) || (i && o)) && (f || (i && not i) || n)) ≡ false
+open_row i f h o true r e v = absurd (cc)
+open_row true true h o false r e v = absurd (cc)
+open_row true false h true false r e v = refl
+open_row true false h false false r e v = refl
+open_row false true h o false r e v = refl
+open_row false false true true false r e v = refl
+open_row false false true false false r e v = refl
+open_row false false false o false r e v = refl
+
+closes_none : (s : SidesOf) (c : ClassFacts) → IsValidClass c → closes s c c ≡ false
+closes_none s c v =
+    let f = c.flags in
+    let plain = and_parts (not (module_flag f) && apart (final_flag f) (abstract_flag f)) (implies (interface_flag f) (not (final_flag f) && (abstract_flag f || nat_lt c.major 50))) v.flags in
+    open_row (interface_flag f) (final_flag f) (has_init c public_or_protected) (is_open s.old s.new c) (newly_sealed s.old s.new c c) (abstract_flag f || nat_lt c.major 50) (none_left_out s.old s.new c.permits) plain.1
+
+unclosed : (s : SidesOf) → AreSides s → (x : Bytes) → find_class s.old x ≡ find_class s.new x → is_class_closed s.old s.new x ≡ false
+unclosed s are x same = go (is_kept s.old s.new x) refl
+  where
+    go : (b : Bool) → is_kept s.old s.new x ≡ b → is_class_closed s.old s.new x ≡ false
+    go false k = closed_unkept s x k
+    go true k =
+        let t = loads-found s.old x (kept_parts s x k).loads in
+        closes_by s x t.0 t.0 k (sym t.1) (sym t.1 ∙ same) ∙ closes_none s t.0 (side_valid s.old are.old_side x t.0 t.1)
+
+pub of_platform : (s : SidesOf) → AreSides s → (x : Bytes) → is_some (class_named s.old.platform x) ≡ true → None ≡ class_finding 2 s x
+of_platform s are x h = sym (closed_is s x ∙ ap (λ b. report_where b (on_class 2 x) (act_on s x) IncompatibleClassChangeError) (unclosed s are x (platform_record s are x h)))
+
+-- ---- a class that is kept
 
 act_is : (s : SidesOf) (x : Bytes) (c : ClassFacts) → Some c ≡ find_class s.old x → cond (interface_flag c.flags) Implement Extend ≡ act_on s x
 unfolding act_on

@@ -7,7 +7,7 @@ use Rattle.jc_facts.specs.declared.class_facts.Member.{Member}
 use Rattle.jc_facts.specs.declared.finding.Finding.{Finding}
 use Rattle.jc_facts.specs.declared.key.Key.{Key}
 use Rattle.jc_facts.specs.declared.link_error.LinkError.{LinkError}
-use Rattle.jc_facts.specs.declared.link_error.LinkError.TheVariants.{IllegalAccessError}
+use Rattle.jc_facts.specs.declared.link_error.LinkError.TheVariants.{IllegalAccessError, InstantiationError}
 use Rattle.jc_facts.specs.Names.{Bytes, same, is_key, is_init_name}
 use Rattle.jc_facts.specs.Flags.{public_flag}
 use Rattle.jc_facts.specs.Options.{or_else, and_then, some_and}
@@ -18,6 +18,7 @@ use Rattle.jc_facts.specs.rule.Bases.{is_class_usable, is_kept, became_class, is
 use Rattle.jc_facts.specs.rule.Findings.{Subject, finding_at, constructor_closed, report, report_where, new_broken, init_broken, missing_or}
 use Rattle.jc_facts.proofs.Same.{same_is}
 use Rattle.jc_worlds.proofs.Inherited.{found_passes}
+use Rattle.jc_worlds.proofs.Loaded.{loads-found}
 use Rattle.jc_sound.proofs.Standing.{usable_parts}
 use Rattle.jc_sound.proofs.UsableLaw.{Needs, or_else_needs, and_then_needs}
 use Rattle.jc_lemmas.proofs.Bools.{both_last}
@@ -28,6 +29,7 @@ use Rattle.jc_sides.specs.Members.{is_member, OfPassing}
 use Rattle.jc_sides.specs.steps.KeySets.{has_member}
 use Rattle.jc_sides.specs.declared.members.Members.TheVariants as members
 use Rattle.jc_sides.specs.Rules.{on_key, key_finding, IsFinding, IsItemRule}
+use Rattle.jc_sides.proofs.BaseParts.{steady_parts}
 use Rattle.jc_sides.proofs.BrokenActs.{found_where}
 use Rattle.jc_sides.proofs.KeySets.{some_member}
 use Rattle.jc_sides.specs.SidesOf.{SidesOf}
@@ -153,6 +155,35 @@ of_inits s x steady k f m =
     let c = usable_parts s.old x q.0 in
     let d = usable_parts s.new x q.1 in
     ap (some_and (λ (e : ClassFacts). has_member (λ n. is_init_name n.name) e.methods k)) c.is_there ∙ init_declared s x c.class d.class (sym c.is_there) (sym d.is_there) steady k f m
+
+-- what is declared with flags that pass isn't closed
+still_open : (test : ℕ → Bool) (k : Key) (was : Option ℕ) → declares_init test k was ≡ true → why_closed test was ≡ None
+still_open test k None h = absurd (cc)
+still_open test k (Some f) h = rw (both_last (is_init_name k.name) (test f) h) refl
+
+none_of_new : (c : ClassFacts) (k : Key) (was : Option ℕ) → fault_of_new c c k was was ≡ None
+none_of_new c k was = go (makes_no_objects c) (declares_init (λ f. public_flag f) k was) refl
+  where
+    go : (m d : Bool) → declares_init (λ f. public_flag f) k was ≡ d → cond (not m && d) (cond m (Some InstantiationError) (why_closed (λ f. public_flag f) was)) None ≡ None
+    go true d e = refl
+    go false true e = still_open (λ f. public_flag f) k was e
+    go false false e = refl
+
+none_of_super : (b : Bool) (k : Key) (was : Option ℕ) → cond (b && declares_init (λ f. open_flags f) k was) (why_closed (λ f. open_flags f) was) None ≡ None
+none_of_super b k was = go b (declares_init (λ f. open_flags f) k was) refl
+  where
+    go : (a d : Bool) → declares_init (λ f. open_flags f) k was ≡ d → cond (a && d) (why_closed (λ f. open_flags f) was) None ≡ None
+    go true true e = still_open (λ f. open_flags f) k was e
+    go true false e = refl
+    go false d e = refl
+
+-- a class that has one record on both sides has no finding
+pub of_none : (s : SidesOf) (x : Bytes) → is_steady s.old s.new x ≡ true → find_class s.old x ≡ find_class s.new x → OfPassing (key_finding 5 s x) (is_member members.Nothing s x)
+unfolding and_then or_else
+of_none s x steady same k f m =
+    let t = loads-found s.old x (steady_parts s x steady).both.loads in
+    let was = flags_of (own_method_of t.0 k) in
+    absurd (let z : None ≡ Some f = sym (finding_is s x t.0 t.0 (sym t.1) (sym t.1 ∙ same) steady k ∙ rw (none_of_new t.0 k was, none_of_super (is_base_class s.old s.new x) k was) refl) ∙ m in cc)
 
 not_found : (s : SidesOf) (x : Bytes) (k : Key) → is_steady s.old s.new x ≡ false → key_finding 5 s x k ≡ None
 unfolding and_then or_else

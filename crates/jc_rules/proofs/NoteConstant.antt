@@ -5,7 +5,7 @@ use Rattle.std.specs.BTreeMap as tree
 use Rattle.std.specs.List.{Contains, find as first_where, filter_map, cons_option}
 use Rattle.std.specs.Ordering.{is_eq}
 use Rattle.std.specs.declared.cmp.Ordering.TheVariants.{Less}
-use Rattle.std.proofs.lemmas.Bool.{and_parts}
+use Rattle.std.proofs.lemmas.Bool.{and_parts, both_ways}
 use Rattle.std.proofs.lemmas.List.{drop_all, at_drop_more}
 use Rattle.std.proofs.lemmas.List.Elements.{All-contains_itself, filter_map-append}
 use Rattle.std.proofs.lemmas.Map.Views.{btree_map_contains_key_iff}
@@ -30,14 +30,16 @@ use Rattle.jc_facts.proofs.InOrder.{exact_none}
 use Rattle.jc_facts.proofs.KeySets.{key_exact, rises}
 use Rattle.jc_facts.proofs.Options.{some_where-is}
 use Rattle.jc_sound.proofs.Standing.{usable_parts}
+use Rattle.jc_worlds.proofs.Loaded.{loads-found}
 use Rattle.jc_table.specs.Ids.{names, name_at}
 use Rattle.jc_table.specs.Sides.{IsSide}
-use Rattle.jc_table.proofs.Numbers.{names-in, names-length, names-rise, class_at}
+use Rattle.jc_table.proofs.Numbers.{names-in, names-length, names-rise}
 use Rattle.jc_rules.specs.steps.Notes.{HasConstants, AreConstants, fixed_at, value_in, changed_in, static_final_flags, constant_note, is_in_both, loses, IsConstantNote, OnConstants}
 use Rattle.jc_rules.specs.steps.Own.{flags_of, field_flags_of}
 use Rattle.jc_rules.proofs.NoteUnloadable.{two_lists, of_release, not_platform}
 use Rattle.jc_sides.specs.Rules.{IsItemRule, IsOf}
 use Rattle.jc_sides.specs.SidesOf.{SidesOf, AreSides}
+use Rattle.jc_sides.proofs.BaseParts.{kept_parts}
 use Rattle.jc_sides.proofs.ItemRules.{made_where}
 use Rattle.jc_sides.proofs.Subjects.{same_name}
 
@@ -57,18 +59,13 @@ found_is : (W : World) → IsSide W → (x : Bytes) → is_some (in_release W x)
 unfolding find_class
 found_is W s x h = ap (λ (cs : List ClassFacts). class_named cs x) (two_lists W s) ∙ later_list W.platform W.release x (of_release W s x h)
 
--- a class that isn't the platform's is the release's
-pub released : (W : World) → IsSide W → (id : ℕ) → id < size W → not (is_some (class_named W.platform (name_at W id))) ≡ is_some (in_release W (name_at W id))
-released W s id l = go (is_some (class_named W.platform (name_at W id))) refl (is_some (in_release W (name_at W id))) refl
+-- a class of the platform isn't the release's
+unreleased : (W : World) → IsSide W → (x : Bytes) → is_some (class_named W.platform x) ≡ true → is_some (in_release W x) ≡ false
+unreleased W s x h = go (is_some (in_release W x)) refl
   where
-    there : is_some (find_class W (name_at W id)) ≡ true
-    there = ap is_some (class_at W id s.differ l).found
-
-    go : (p : Bool) → is_some (class_named W.platform (name_at W id)) ≡ p → (r : Bool) → is_some (in_release W (name_at W id)) ≡ r → not p ≡ r
-    go true e true f = absurd (let z : true ≡ false = sym e ∙ of_release W s (name_at W id) f in cc)
-    go true e false f = refl
-    go false e true f = refl
-    go false e false f = absurd (let z : false ≡ true = sym f ∙ not_platform W s (name_at W id) there e in cc)
+    go : (b : Bool) → is_some (in_release W x) ≡ b → b ≡ false
+    go false e = refl
+    go true e = absurd (both_ways (is_some (class_named W.platform x)) (of_release W s x e) h)
 
 -- ---- of one class
 
@@ -78,17 +75,22 @@ both_rows true true false h = absurd (cc)
 both_rows true false c h = absurd (cc)
 both_rows false b c h = absurd (cc)
 
--- a class that is kept, of its tests on both sides
-pub both_then : (s : SidesOf) (x : Bytes) (r : Bool) → is_kept s.old s.new x ≡ true → is_some (in_release s.old x) ≡ true → r ≡ is_some (in_release s.new x) → r ≡ is_in_both s x
-both_then s x r k o n = rw (k, o) n
-
-pub both_else : (s : SidesOf) (x : Bytes) (r : Bool) → r ≡ is_some (in_release s.old x) → r ≡ false → r ≡ is_in_both s x
-both_else s x r o h = h ∙ sym (go (is_kept s.old s.new x) (is_some (in_release s.old x)) (is_some (in_release s.new x)) (sym o ∙ h))
+-- a class of the platform is of neither release
+pub not_both : (s : SidesOf) → AreSides s → (x : Bytes) → is_some (class_named s.old.platform x) ≡ true → is_in_both s x ≡ false
+not_both s are x h = go (is_kept s.old s.new x) (is_some (in_release s.old x)) (is_some (in_release s.new x)) (unreleased s.old are.old_side x h)
   where
     go : (a b c : Bool) → b ≡ false → (a && b && c) ≡ false
     go true true c h = absurd (cc)
     go true false c h = refl
     go false b c h = refl
+
+-- and another one that is kept is of both
+pub both_kept : (s : SidesOf) → AreSides s → (x : Bytes) → is_some (class_named s.old.platform x) ≡ false → is_kept s.old s.new x ≡ true → is_in_both s x ≡ true
+both_kept s are x h k =
+    let p = kept_parts s x k in
+    let o = not_platform s.old are.old_side x p.there h in
+    let n = not_platform s.new are.new_side x (ap is_some (loads-found s.new x p.loads_now).1) (subst (λ (cs : List ClassFacts). is_some (class_named cs x) ≡ false) are.platform h) in
+    rw (k, o, n) refl
 
 module _ (s : SidesOf) (are : AreSides s) (x : Bytes) (c d : ClassFacts) (before : Some c ≡ find_class s.old x) (after : Some d ≡ find_class s.new x) (both : is_in_both s x ≡ true) where
   parts_of : (is_kept s.old s.new x ≡ true) × (is_some (in_release s.old x) ≡ true) × (is_some (in_release s.new x) ≡ true)

@@ -17,7 +17,7 @@ use Rattle.jc_facts.specs.declared.link_error.LinkError.TheVariants.{VerifyError
 use Rattle.jc_facts.specs.Names.{Bytes}
 use Rattle.jc_facts.specs.Flags.{interface_flag}
 use Rattle.jc_facts.specs.world.World.{World, find_class, size}
-use Rattle.jc_facts.specs.world.Hierarchy.{in_chain}
+use Rattle.jc_facts.specs.world.Hierarchy.{chain, in_chain, names_in}
 use Rattle.jc_facts.specs.world.Assignment.{is_interface_of}
 use Rattle.jc_facts.specs.rule.Bases.{is_class_usable, is_kept}
 use Rattle.jc_facts.specs.rule.Findings.{Subject, finding_at, finding_by, subject_of, superclass_lost, report_where}
@@ -144,14 +144,21 @@ pub unkept_chain : (s : SidesOf) (x : Bytes) → is_kept s.old s.new x ≡ false
 unkept_chain s x h = exact_none finding_order (OfChain s x) (λ f p. let w = of_chain s x f p in both_ways (is_kept s.old s.new x) h (target_says s x w.0 f w.1).0)
 
 -- nothing is found of a chain that nothing has left
-pub whole_chain : (s : SidesOf) (x : Bytes) → loses_class s x ≡ false → HasExactly finding_order (OfChain s x) []
-whole_chain s x h = exact_none finding_order (OfChain s x) still
+still_whole : (s : SidesOf) (x : Bytes) → ((t : Bytes) → in_chain s.old x t ≡ true → in_chain s.new x t ≡ true) → HasExactly finding_order (OfChain s x) []
+still_whole s x h = exact_none finding_order (OfChain s x) still
   where
     still : (f : Finding) → OfChain s x f → ⊥
     still f p =
         let w = of_chain s x f p in
-        let stays : in_chain s.new x w.0 ≡ true = keeps s x h w.0 (target_says s x w.0 f w.1).2 in
+        let stays : in_chain s.new x w.0 ≡ true = h w.0 (target_says s x w.0 f w.1).2 in
         both_ways (not (in_chain s.new x w.0)) (ap not stays) (target_left s x w.0 f w.1)
+
+pub whole_chain : (s : SidesOf) (x : Bytes) → loses_class s x ≡ false → HasExactly finding_order (OfChain s x) []
+whole_chain s x h = still_whole s x (keeps s x h)
+
+-- nor of one that is the same on both sides
+pub same_chain : (s : SidesOf) (x : Bytes) → chain s.old x ≡ chain s.new x → HasExactly finding_order (OfChain s x) []
+same_chain s x h = still_whole s x (λ t i. ap (λ (cs : List ClassFacts). names_in cs t) (sym h) ∙ i)
 
 -- ---- rising numbers have rising names
 

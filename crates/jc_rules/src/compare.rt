@@ -51,8 +51,10 @@ use std::alloc::{AllocError, Global};
 fn findings_on_classes(
     alloc: Global,
     sides: &Sides<'_>,
+    seats: &Seats<'_>,
     most: Option<usize>,
 ) -> Result<Option<Vec<Finding>>, AllocError>
+    requires { AreSeats sides.now seats.now }
     ensures { IfOk result (λ found. IsWithin finding_order (OfRules 1 5 sides.now) most (option_map (λ fs. fs.items) found)) }
 {
     let Some(mut findings) = by_class(alloc, sides, &ClassGone, most)? else {
@@ -69,7 +71,7 @@ fn findings_on_classes(
     };
     findings.append(&mut became_class)?;
     let room = left(most, findings.len());
-    let Some(mut superclasses) = superclass_lost(alloc, sides, room)? else {
+    let Some(mut superclasses) = superclass_lost(alloc, sides, seats, room)? else {
         return Ok(None);
     };
     findings.append(&mut superclasses)?;
@@ -93,7 +95,7 @@ fn findings_below(
 {
     let bases = names_of(alloc, seats.bases())?;
     let constructors = Findings {
-        rule: ConstructorClosed { bases },
+        rule: ConstructorClosed { seats, bases },
     };
     let made_final = Findings {
         rule: MethodMadeFinal { seats },
@@ -168,7 +170,7 @@ fn findings(
     requires translation { IsTranslation sides.now translation.now }
     ensures { IfOk result (λ found. IsWithin finding_order (Stands sides.now.old sides.now.new) most (option_map (λ fs. fs.items) found)) }
 {
-    let Some(mut findings) = findings_on_classes(alloc, sides, most)? else {
+    let Some(mut findings) = findings_on_classes(alloc, sides, seats, most)? else {
         return Ok(None);
     };
     let room = left(most, findings.len());

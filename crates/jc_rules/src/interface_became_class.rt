@@ -31,6 +31,10 @@ impl ClassRule for InterfaceBecameClass {
         sides: &Sides<'_>,
         id: ClassId,
     ) -> Result<Option<BrokenAct<'_>>, AllocError> {
+        // A class of the platform is the same on both sides.
+        if sides.old.in_platform(id) {
+            return Ok(None);
+        }
         let Some(class) = kept(sides, id) else {
             return Ok(None);
         };

@@ -110,15 +110,6 @@ fn declares_still(sides: &Sides<'_>, class: &Shared<'_>, key: &Key) -> bool
 
 // ---- the notes on a class
 
-// Whether both releases declare the kept class.
-fn in_both(sides: &Sides<'_>, class: &Shared<'_>) -> bool
-    requires shared { IsShared sides.now «class».now }
-    requires kept { IsTrue (is_kept sides.now.old sides.now.new (name_of «class».now)) }
-    ensures { result ≡ is_in_both sides.now (name_of «class».now) }
-{
-    !sides.old.in_platform(class.old) && !sides.new.in_platform(class.new)
-}
-
 // The note on the class's constant of the key, if there is one.
 fn note_on<'a>(
     alloc: Global,
@@ -177,12 +168,13 @@ fn on_class(alloc: Global, sides: &Sides<'_>, id: ClassId) -> Result<Vec<Note>, 
     requires class { id < size sides.now.old }
     ensures { IfOk result (λ notes. HasExactly note_order (OnConstants sides.now (name_at sides.now.old id)) notes.items) }
 {
+    // What isn't the platform's and is kept is of both releases.
+    if sides.old.in_platform(id) {
+        return Ok(Vec::new(alloc));
+    }
     let Some(class) = kept(sides, id) else {
         return Ok(Vec::new(alloc));
     };
-    if !in_both(sides, &class) {
-        return Ok(Vec::new(alloc));
-    }
     let was = constants_of(alloc, before(sides, &class))?;
     let now = constants_of(alloc, after(sides, &class))?;
     let notes = on_keys(alloc, sides, &class, &was, &now)?;

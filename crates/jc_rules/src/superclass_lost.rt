@@ -1,5 +1,6 @@
 //! The rule on superclasses that left the chain.
 ghost use Rattle.std.specs.Prelude.{◌≡◌, ◌<◌, IfOk, IsTrue, option_map};
+ghost use Rattle.jc_acts.specs.Seats.{AreSeats};
 ghost use Rattle.jc_facts.specs.world.Hierarchy.{in_chain};
 ghost use Rattle.jc_facts.specs.Names.{Bytes};
 ghost use Rattle.jc_facts.specs.rule.Orders.{finding_order};
@@ -14,6 +15,7 @@ ghost use Rattle.jc_sides.specs.SidesOf.{AreSides};
 ghost use Rattle.jc_table.specs.Ids.{name_at};
 
 use jc_acts::chains::has_lost;
+use jc_acts::seats::Seats;
 use jc_base::name::Name;
 use jc_facts::act::Act;
 use jc_facts::finding::Finding;
@@ -111,14 +113,24 @@ fn on_chain(
     Ok(findings)
 }
 
-// What has left the chain of the class, in byte order of names.
-fn on_class(alloc: Global, sides: &Sides<'_>, id: ClassId) -> Result<Vec<Finding>, AllocError>
-    requires { id < size sides.now.old }
+// What has left the chain of the class, in byte order of names. Nothing has where neither the class nor
+// any above it changed.
+fn on_class(
+    alloc: Global,
+    sides: &Sides<'_>,
+    seats: &Seats<'_>,
+    id: ClassId,
+) -> Result<Vec<Finding>, AllocError>
+    requires seats { AreSeats sides.now seats.now }
+    requires class { id < size sides.now.old }
     ensures { IfOk result (λ found. HasExactly finding_order (OfChain sides.now (name_at sides.now.old id)) found.items) }
 {
     let Some(class) = kept(sides, id) else {
         return Ok(Vec::new(alloc));
     };
+    if !seats.may_close(sides, &class) {
+        return Ok(Vec::new(alloc));
+    }
     if !has_lost(sides, &class) {
         return Ok(Vec::new(alloc));
     }
@@ -129,20 +141,23 @@ fn on_class(alloc: Global, sides: &Sides<'_>, id: ClassId) -> Result<Vec<Finding
 }
 
 /// Kept superclasses that left the chain of a kept class and are no interfaces (JVMS 4.10.1.2), in
-/// byte order of the names of the class and of the superclass. Each class takes time in proportion
-/// to the lengths of its two chains, but for the logarithm of a look-up. None where there are more
-/// than the limit allows; no more are made then than what one class adds past it.
+/// byte order of the names of the class and of the superclass. A class takes time in proportion to
+/// the lengths of its two chains, but for the logarithm of a look-up, and hardly any where neither it
+/// nor any above it changed. None where there are more than the limit allows; no more are made then
+/// than what one class adds past it.
 pub fn superclass_lost(
     alloc: Global,
     sides: &Sides<'_>,
+    seats: &Seats<'_>,
     most: Option<usize>,
 ) -> Result<Option<Vec<Finding>>, AllocError>
+    requires { AreSeats sides.now seats.now }
     ensures { IfOk result (λ found. IsWithin finding_order (IsFinding 4 sides.now) most (option_map (λ fs. fs.items) found)) }
 {
     let mut findings = Vec::new(alloc);
     for n in 0..sides.old.count() {
         let id = sides.old.id(n).unwrap();
-        findings.append(&mut on_class(alloc, sides, id)?)?;
+        findings.append(&mut on_class(alloc, sides, seats, id)?)?;
         if is_over(findings.len(), most) {
             return Ok(None);
         }

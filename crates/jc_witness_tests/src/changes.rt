@@ -13,7 +13,7 @@ use jc_facts::finding::Finding;
 use jc_facts::verdict::{Cause, Collision, Spot, Verdict};
 use jc_rules::compare::compare;
 use jc_table::table::Table;
-use jc_table_tests::rows::{INTERFACE, PLAIN, Row};
+use jc_table_tests::rows::{INTERFACE, PLAIN, ROOT, Row, classes};
 use jc_witness::planner::Planner;
 use jc_witness::witness::{WitnessFile, witness};
 use jc_witness::witnessed::Witnessed;
@@ -140,6 +140,33 @@ const ON_CLASSES: &[Change] = &[
         findings: &[(4, &[(b"w0/U", SECOND)])],
         collisions: &[],
     },
+    // A superclass left the chain of a class, and of one below that didn't change itself.
+    Change {
+        old: &[
+            A,
+            Row {
+                name: b"p/B",
+                superclass: b"p/A",
+                ..A
+            },
+            Row {
+                name: b"p/C",
+                superclass: b"p/B",
+                ..A
+            },
+        ],
+        new: &[
+            A,
+            Row { name: b"p/B", ..A },
+            Row {
+                name: b"p/C",
+                superclass: b"p/B",
+                ..A
+            },
+        ],
+        findings: &[(4, &[(b"w0/U", SECOND)]), (4, &[(b"w0/U", SECOND)])],
+        collisions: &[],
+    },
 ];
 
 const ON_MEMBERS: &[Change] = &[
@@ -154,6 +181,30 @@ const ON_MEMBERS: &[Change] = &[
             ..A
         }],
         findings: &[(5, &[(b"w0/U", THIRD)]), (5, &[(b"w0/Y", FIRST)])],
+        collisions: &[],
+    },
+    // The same of a superclass alone: the constructor of the class below is as it was.
+    Change {
+        old: &[
+            A,
+            Row {
+                name: b"p/B",
+                superclass: b"p/A",
+                ..A
+            },
+        ],
+        new: &[
+            Row {
+                methods: &[(b"<init>", b"()V", 0x0004)],
+                ..A
+            },
+            Row {
+                name: b"p/B",
+                superclass: b"p/A",
+                ..A
+            },
+        ],
+        findings: &[(5, &[(b"w0/U", THIRD)])],
         collisions: &[],
     },
     // A method is final now. The class is sealed, and the client has the first name in byte order that it permits.
@@ -259,6 +310,30 @@ const COLLISIONS: &[Change] = &[
         collisions: &[(12, &[(b"w0/Y", LOAD)])],
     },
 ];
+
+/// A platform with a final class and a sealed interface, which are the same for both releases.
+const CLOSED_PLATFORM: &[Row] = &[
+    ROOT,
+    Row {
+        name: b"j/F",
+        flags: 0x0031,
+        ..A
+    },
+    Row {
+        name: b"j/S",
+        flags: INTERFACE,
+        permits: Some(&[b"q/C"]),
+        ..PLAIN
+    },
+];
+
+/// A class of the release is final now.
+const FINAL_NOW: Change = Change {
+    old: &[A],
+    new: &[Row { flags: 0x0031, ..A }],
+    findings: &[(2, &[(b"w0/Y", LOAD)])],
+    collisions: &[],
+};
 
 // Whether the files have these names and spots.
 fn are_files(files: &[WitnessFile], wanted: &[File]) -> bool {
@@ -379,6 +454,14 @@ fn files_and_spots_of_findings_on_members(rt: HostRuntime) {
 #[test]
 fn files_and_spots_of_collisions(rt: HostRuntime) {
     see_changes(&rt, rt.alloc(), COLLISIONS);
+}
+
+// The platform's own classes aren't among the findings.
+#[test]
+fn the_finding_over_a_platform_that_is_closed(rt: HostRuntime) {
+    let alloc = rt.alloc();
+    let platform = classes(alloc, CLOSED_PLATFORM).expect(&rt, "memory");
+    see_change(&rt, alloc, platform.as_slice(), &FINAL_NOW);
 }
 
 // The last finding of the verdict, as a cause.

@@ -14,7 +14,7 @@ pub by_items-requires-clause-rule : goal.by_items-requires-clause-rule
 by_items-requires-clause-rule c = constructor_closed
 
 pub by_items-requires-clause-ready : goal.by_items-requires-clause-ready
-by_items-requires-clause-ready c = c.in_ok-bases.ensures c.args.sides.now (is_base_class c.args.sides.now.old c.args.sides.now.new) (c.bases.ensures c.args.sides.now c.requires.seats)
+by_items-requires-clause-ready c = (c.requires.seats, c.in_ok-bases.ensures c.args.sides.now (is_base_class c.args.sides.now.old c.args.sides.now.new) (c.bases.ensures c.args.sides.now c.requires.seats))
 
 pub by_items-requires-2-clause-rule : goal.by_items-requires-2-clause-rule
 by_items-requires-2-clause-rule c = method_made_final

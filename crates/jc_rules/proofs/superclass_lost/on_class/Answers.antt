@@ -7,16 +7,26 @@ use Rattle.jc_facts.specs.rule.Bases.{is_kept}
 use Rattle.jc_sides.specs.SharedFields.{shared_of}
 use Rattle.jc_sides.specs.SharedOf.{name_of}
 use Rattle.jc_sides.specs.SidesFields.{worlds}
+use Rattle.jc_sides.proofs.BaseParts.{kept_parts}
 use Rattle.jc_sides.proofs.Seen.{of_old, of_new}
+use Rattle.jc_acts.proofs.Untouched.{looks_alike}
 use Rattle.jc_table.specs.Ids.{name_at}
 use Rattle.jc_rules.specs.steps.Chains.{HasChain, OfChain}
-use Rattle.jc_rules.proofs.SuperclassLost.{unkept_chain, whole_chain}
+use Rattle.jc_rules.proofs.SuperclassLost.{same_chain, unkept_chain, whole_chain}
 use Rattle.jc_rules.proofs.superclass_lost.on_class.Goals as goal
 
 pub returns-in_default : goal.returns-in_default
 returns-in_default c =
     subst (λ (fs : List Finding). HasExactly finding_order (OfChain c.args.sides.now (name_at c.args.sides.now.old c.args.id)) fs) (sym c.new.ensures.items)
     (unkept_chain c.args.sides.now (name_at c.args.sides.now.old c.args.id) c.in_default.ensures)
+
+pub returns-then-not-may_close : goal.returns-then-not-may_close
+returns-then-not-may_close c =
+    let x : Bytes = name_of c.in-Some.class in
+    subst (λ (fs : List Finding). HasExactly finding_order (OfChain c.args.sides.now (name_at c.args.sides.now.old c.args.id)) fs) (sym c.new-then-not-may_close.ensures.items)
+    (subst (λ (y : Bytes). HasExactly finding_order (OfChain c.args.sides.now y) []) c.in-Some.ensures.1
+    (same_chain c.args.sides.now x (looks_alike c.args.sides.now c.requires.seats.sides x (sym c.may_close.ensures ∙ c.if-not-may_close.true)
+    (kept_parts c.args.sides.now x (subst (λ (y : Bytes). is_kept c.args.sides.now.old c.args.sides.now.new y ≡ true) (sym c.in-Some.ensures.1) c.in-Some.ensures.0)).loads).chain))
 
 pub returns-then-not-has_lost : goal.returns-then-not-has_lost
 returns-then-not-has_lost c =

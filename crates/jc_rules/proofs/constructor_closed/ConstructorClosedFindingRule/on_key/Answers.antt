@@ -44,5 +44,5 @@ returns c =
     (of_old (worlds c.sides.inside) c.args.sides.now c.sides.view_is (shared_of c.class.inside) c.args.class.now c.class.view_is c.requires.shared (λ W x. c.method_flags-was.result ≡ method_flags_of W x c.args.key.now) c.method_flags-was.ensures)
     (of_new (worlds c.sides.inside) c.args.sides.now c.sides.view_is (shared_of c.class.inside) c.args.class.now c.class.view_is c.requires.shared (λ W x. c.method_flags-now.result ≡ method_flags_of W x c.args.key.now) c.method_flags-now.ensures)
     c.has-is_base.result c.in_ok-error.error c.broken_where-2.result (sym c.in_default.is ∙ c.new_fault.ensures)
-    (sym c.in_ok-error.was ∙ c.super_fault.ensures) (c.has-is_base.ensures ∙ ap (is_name_among c.args.self.now.bases) (c.as_bytes.ensures ∙ ap name_of c.class.view_is) ∙ c.requires.ready c.args.class.now c.requires.shared)
+    (sym c.in_ok-error.was ∙ c.super_fault.ensures) (c.has-is_base.ensures ∙ ap (is_name_among c.args.self.now.bases) (c.as_bytes.ensures ∙ ap name_of c.class.view_is) ∙ c.requires.ready.1 c.args.class.now c.requires.shared)
     c.broken_where-2.ensures
