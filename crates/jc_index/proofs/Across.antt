@@ -5,13 +5,12 @@ use Rattle.std.proofs.lemmas.Bool.{ltb-true}
 use Rattle.jc_facts.specs.declared.class_facts.ClassFacts.{ClassFacts}
 use Rattle.jc_facts.specs.client.Clients.{differ_by_name}
 use Rattle.jc_facts.specs.world.World.{World, classes, size}
-use Rattle.jc_index.specs.Ids.{name_at, id_of}
-use Rattle.jc_index.specs.steps.Order.{name_or, name_in}
+use Rattle.jc_index.specs.Ids.{name_at, id_of, name_or, name_in}
 use Rattle.jc_index.proofs.InSide.{class-front}
 use Rattle.jc_index.proofs.Numbers.{id_of-name_at}
 
 -- a class of the platform stands at its place on a side
-of-platform : (V : World) (at : ℕ) → at < length V.platform → name_in (classes V) at ≡ name_in V.platform at
+pub of-platform : (V : World) (at : ℕ) → at < length V.platform → name_in (classes V) at ≡ name_in V.platform at
 of-platform V at l =
     let both : at < length (V.platform ++ V.release) = omega (arith, length-append V.platform V.release) in
     ap name_or (class-front (V.platform ++ V.release) V.clients at both ∙ class-front V.platform V.release at l)

@@ -4,7 +4,7 @@ use Rattle.std.specs.Prelude.{is_some, IsTrue}
 use Rattle.std.specs.List.{All, Contains}
 use Rattle.std.proofs.lemmas.Bool.{eqb-true}
 use Rattle.std.proofs.lemmas.List.{append-nil, length-map, get_or-map, take-map}
-use Rattle.std.proofs.lemmas.List.Elements.{All-contains, All-take, All-weaker, Contains-get_or, recursion_from_All}
+use Rattle.std.proofs.lemmas.List.Elements.{All-contains, All-take, Contains-get_or, recursion_from_All}
 use Rattle.jc_lemmas.proofs.Listed.{EachOf, EachOf-map, none, any_passes}
 use Rattle.jc_facts.specs.declared.class_facts.ClassFacts.{ClassFacts}
 use Rattle.jc_facts.specs.Names.{Bytes}
@@ -17,7 +17,7 @@ use Rattle.jc_facts.specs.world.World.{World, side, classes, size, find_class, c
 use Rattle.jc_facts.proofs.World.{class_named-first}
 use Rattle.jc_worlds.proofs.Agree.{Agree, load_fault-agree}
 use Rattle.jc_worlds.proofs.Loaded.{loads-found, loads-parts}
-use Rattle.jc_index.specs.Ids.{name_at, id_of, name_or, name_in}
+use Rattle.jc_index.specs.Ids.{name_at, id_of, name_in}
 use Rattle.jc_index.specs.LoadOrder.{AreInLoadOrder, LoadsAfter, LoadInOrder, IsLoadOrder, AreLoads, AreAllLoads}
 use Rattle.jc_index.specs.Root.{fault_of_root}
 use Rattle.jc_index.specs.Sides.{IsSide}
@@ -25,7 +25,7 @@ use Rattle.jc_index.specs.declared.faults.State.{State}
 use Rattle.jc_index.specs.declared.faults.State.TheVariants as states
 use Rattle.jc_index.specs.steps.Entering.{AllLoad, IsRight, IsSettled, is_entered, is_number_among, state_of}
 use Rattle.jc_index.specs.steps.Passing.{Orders}
-use Rattle.jc_index.proofs.InSide.{class-front}
+use Rattle.jc_index.proofs.Across.{of-platform}
 use Rattle.jc_index.proofs.Numbers.{id_of-Some, id_of-name_at, number_of}
 use Rattle.jc_index.proofs.Roots.{is_side}
 
@@ -117,17 +117,13 @@ by-numbers W order differ within h = λ i d l.
 
 -- ---- the places of the platform's classes on a side
 
-names-front : (cs ds : List ClassFacts) (places : List ℕ) → EachOf (λ at. at < length cs) places → map (name_in (cs ++ ds)) places ≡ map (name_in cs) places
-names-front cs ds [] h = refl
-names-front cs ds (at ∷ places) h = rw (ap name_or (class-front cs ds at h.0), names-front cs ds places h.1) refl
-
 -- the names of the platform's classes at these places
 platform-names : (V : World) (places : List ℕ) → All (λ at. at < length V.platform) places → map (name_in (classes V)) places ≡ map (name_in V.platform) places
-platform-names V places h =
-    names-front (V.platform ++ V.release) V.clients places
-    (recursion_from_All (λ at. at < length (V.platform ++ V.release)) places
-    (All-weaker (λ at. at < length V.platform) (λ at. at < length (V.platform ++ V.release)) (λ at l. omega (arith, length-append V.platform V.release)) places h))
-    ∙ names-front V.platform V.release places (recursion_from_All (λ at. at < length V.platform) places h)
+platform-names V places h = go places (recursion_from_All (λ at. at < length V.platform) places h)
+  where
+    go : (places : List ℕ) → EachOf (λ at. at < length V.platform) places → map (name_in (classes V)) places ≡ map (name_in V.platform) places
+    go [] h = refl
+    go (at ∷ places) h = rw (of-platform V at h.0, go places h.1) refl
 
 -- ---- from the platform alone to a side of it
 

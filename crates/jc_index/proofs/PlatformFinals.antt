@@ -35,7 +35,7 @@ first-within rows marks n None h e f = tt
 first-within rows marks n (Some m) h e f = subst (λ j. m < j) (sym e) (h n m (sym f))
 
 module _ (cs : List ClassFacts) where
-  pub above-within : (place at n : ℕ) → place_above cs place at ≡ Some n → n < length cs
+  above-within : (place at n : ℕ) → place_above cs place at ≡ Some n → n < length cs
   unfolding and_then
   above-within place at n e = class (slice_get cs place) e
     where
@@ -49,7 +49,7 @@ module _ (cs : List ClassFacts) where
 
   -- the rows of the places above, of which the first is the superclass's
   module _ (rows : List (List (Option ℕ))) (h : rows ≡ map (places_above cs) cs) where
-    pub as-many : length rows ≡ length cs
+    as-many : length rows ≡ length cs
     as-many = ap length h ∙ length-map cs (places_above cs)
 
     first-above : (place : ℕ) → first_place rows place ≡ place_above cs place 0

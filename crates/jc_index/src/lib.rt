@@ -33,7 +33,7 @@ mod reach;
 pub mod root;
 mod rows;
 pub mod search;
-pub mod shared_list;
+pub mod shared_platform;
 pub mod side;
 mod side_finals;
 pub mod supertypes;

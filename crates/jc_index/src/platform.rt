@@ -16,7 +16,7 @@ use crate::ids::ClassId;
 use crate::index::Index;
 use crate::limits::MAX_SIDE_CLASSES;
 use crate::root::root_fault;
-use crate::shared_list::SharedList;
+use crate::shared_platform::SharedPlatform;
 use crate::side::Side;
 use jc_facts::class_facts::ClassFacts;
 use std::alloc::{AllocError, Global};
@@ -24,7 +24,7 @@ use std::marker::Model;
 
 /// The classes of a platform. A contract sees it as their list.
 pub struct Platform {
-    list: SharedList,
+    list: SharedPlatform,
     // Places of classes that load without any release, each after those that it names above itself: of
     // all of them, where the platform may have a side.
     loads: Vec<usize>,
@@ -64,7 +64,7 @@ fn places_of(alloc: Global, index: &Index, ids: &[ClassId]) -> Result<Vec<usize>
 }
 
 // The index of the platform alone, as a side whose release has no class.
-fn index_alone(alloc: Global, list: &SharedList) -> Result<Index, AllocError>
+fn index_alone(alloc: Global, list: &SharedPlatform) -> Result<Index, AllocError>
     requires valid { All IsValidClass list.now }
     requires differ { IsTrue (differ_by_name list.now) }
     requires root { fault_of_root list.now ≡ None }
@@ -78,7 +78,7 @@ fn index_alone(alloc: Global, list: &SharedList) -> Result<Index, AllocError>
 
 // The places of the classes that load without any release, each after those that it names above
 // itself. They are found out of an index of the platform alone.
-fn places_alone(alloc: Global, list: &SharedList) -> Result<Vec<usize>, AllocError>
+fn places_alone(alloc: Global, list: &SharedPlatform) -> Result<Vec<usize>, AllocError>
     requires valid { All IsValidClass list.now }
     requires differ { IsTrue (differ_by_name list.now) }
     requires root { fault_of_root list.now ≡ None }
@@ -94,7 +94,7 @@ fn places_alone(alloc: Global, list: &SharedList) -> Result<Vec<usize>, AllocErr
 }
 
 // The same; none where no side of the platform may be made.
-fn loads_of(alloc: Global, list: &SharedList) -> Result<Vec<usize>, AllocError>
+fn loads_of(alloc: Global, list: &SharedPlatform) -> Result<Vec<usize>, AllocError>
     requires valid { All IsValidClass list.now }
     requires differ { IsTrue (differ_by_name list.now) }
     ensures loads { IfOk result (λ places. AreLoads list.now places.items) }
@@ -124,7 +124,7 @@ impl Platform {
         ensures { IfOk result (λ platform. platform ≡ classes.items) }
     {
         let list = ClassList::new(alloc, classes)?;
-        let list = SharedList::new(alloc, list)?;
+        let list = SharedPlatform::new(alloc, list)?;
         let loads = loads_of(alloc, &list)?;
         Ok(Platform { list, loads })
     }
@@ -134,7 +134,7 @@ impl Platform {
     /// # Errors
     ///
     /// `AllocError` where they are shared as often as can be counted.
-    pub fn share(&self) -> Result<SharedList, AllocError>
+    pub fn share(&self) -> Result<SharedPlatform, AllocError>
         ensures { IfOk result (λ list. list ≡ self.now) }
     {
         self.list.share()

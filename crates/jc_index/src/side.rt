@@ -12,14 +12,14 @@ ghost use Rattle.jc_index.specs.steps.Walking.{HavePlatformFinals};
 
 use crate::class_list::ClassList;
 use crate::final_keys::FinalKeys;
-use crate::shared_list::SharedList;
+use crate::shared_platform::SharedPlatform;
 use jc_facts::class_facts::ClassFacts;
 use std::marker::Model;
 
 /// The classes of a side, those of the platform and then those of the release, by their places: at
 /// most `MAX_SIDE_CLASSES`. A contract sees it as the side.
 pub struct Side {
-    platform: SharedList,
+    platform: SharedPlatform,
     release: ClassList,
 }
 
@@ -47,7 +47,7 @@ impl Model for Side {
 
 impl Side {
     /// The side of this platform and this release.
-    pub fn new(platform: SharedList, release: ClassList) -> Side
+    pub fn new(platform: SharedPlatform, release: ClassList) -> Side
         requires { length platform + length release ≤ MAX_SIDE_CLASSES }
         ensures { result ≡ side platform release }
     {

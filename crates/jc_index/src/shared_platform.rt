@@ -12,11 +12,11 @@ use std::rc::Rc;
 
 /// The classes of a platform, as several values keep them. A contract sees them as their list.
 #[derive(Drop)]
-pub struct SharedList {
+pub struct SharedPlatform {
     list: Rc<PlatformList>,
 }
 
-impl Model for SharedList {
+impl Model for SharedPlatform {
     ghost use Rattle.std.specs.Prelude.{List};
     ghost use Rattle.jc_facts.specs.declared.class_facts.ClassFacts.{ClassFacts};
 
@@ -25,18 +25,18 @@ impl Model for SharedList {
     ghost view = { λ s. s.list.value };
 }
 
-impl SharedList {
+impl SharedPlatform {
     /// The list, which may be shared.
     ///
     /// # Errors
     ///
     /// `AllocError` where memory runs out.
-    pub fn new(alloc: Global, list: ClassList) -> Result<SharedList, AllocError>
+    pub fn new(alloc: Global, list: ClassList) -> Result<SharedPlatform, AllocError>
         ensures { IfOk result (λ shared. shared ≡ list) }
     {
         let list = PlatformList::new(alloc, list)?;
         let list = Rc::new(alloc, list)?;
-        Ok(SharedList { list })
+        Ok(SharedPlatform { list })
     }
 
     /// The same list. No class is copied.
@@ -44,11 +44,11 @@ impl SharedList {
     /// # Errors
     ///
     /// `AllocError` where it is shared as often as can be counted.
-    pub fn share(&self) -> Result<SharedList, AllocError>
+    pub fn share(&self) -> Result<SharedPlatform, AllocError>
         ensures { IfOk result (λ shared. shared ≡ self.now) }
     {
         let list = Rc::clone(&self.list)?;
-        Ok(SharedList { list })
+        Ok(SharedPlatform { list })
     }
 
     /// The list.
