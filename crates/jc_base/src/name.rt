@@ -68,6 +68,10 @@ fn inside(bytes: &[u8]) -> Name
 
 impl Name {
     /// A copy of the bytes.
+    ///
+    /// # Errors
+    ///
+    /// `AllocError` where memory runs out.
     pub fn from_bytes(alloc: Global, bytes: &[u8]) -> Result<Name, AllocError>
         ensures { IfOk result (λ name. name ≡ bytes.now) }
     {

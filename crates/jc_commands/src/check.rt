@@ -50,6 +50,11 @@ fn compared(
 }
 
 /// What a check comes to, or why it has no report.
+///
+/// # Errors
+///
+/// `Stop::Unread` or `ReadFault` where a tree isn't read, `BadRoot` or `Overlap` where the trees don't make
+/// two sides, `TooManyFindings` where the verdict is over the limit, and `Memory` where memory runs out.
 pub fn check<'a, T: Trees>(
     alloc: Global,
     check: &Check<'a>,

@@ -51,6 +51,10 @@ pub fn trees_of_link<'a>(link: &Link<'a>) -> [Tree<'a>; 3]
 }
 
 /// The names of the gates that a command asks, from left to right.
+///
+/// # Errors
+///
+/// `AllocError` where memory runs out.
 pub fn gates_named<'a>(alloc: Global, command: &Command<'a>) -> Result<Vec<&'a str>, AllocError>
     ensures { IfOk result (λ names. map (λ name. name.now) names.items ≡ named_by (command_of command.now)) }
 {

@@ -94,6 +94,11 @@ fn sides_over(
 }
 
 /// The tables of the two sides, or why there are none.
+///
+/// # Errors
+///
+/// `Stop::BadRoot` where the platform's `java/lang/Object` isn't as it has to be, `Overlap` where a release
+/// declares a name of the platform, of the old release first, and `Memory` where memory runs out.
 pub fn both_sides(
     alloc: Global,
     platform: Vec<ClassFacts>,
@@ -136,6 +141,10 @@ fn counted(alloc: Global, old: &Table, new: &Table) -> Result<Verdict, Stop>
 
 impl Comparison {
     /// The comparison of these records, or why there is none.
+    ///
+    /// # Errors
+    ///
+    /// Those of `both_sides`; and `Stop::TooManyFindings` where the verdict is over the limit.
     pub fn of_records(
         alloc: Global,
         platform: Vec<ClassFacts>,

@@ -80,6 +80,11 @@ fn carry_out<'a, T: Trees>(
 
 /// What the command that the words ask for comes to, where these gates are there, or why there is no
 /// report. Nothing is written, and no gate is asked.
+///
+/// # Errors
+///
+/// `Stop::Usage` where the words ask for nothing, and else what stops the command: see `check`,
+/// `link_clients` and `make_releases`.
 pub fn decide<'a, T: Trees>(
     alloc: Global,
     words: &'a [Text],

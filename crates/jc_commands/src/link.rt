@@ -63,6 +63,12 @@ fn linked(
 }
 
 /// What the linking of clients comes to, or why it has no report.
+///
+/// # Errors
+///
+/// `Stop::Unread` or `ReadFault` where a tree isn't read, `BadRoot` or `Overlap` where platform and release
+/// don't make a side, `ClientName` where they don't allow a client of its name, and `Memory` where memory
+/// runs out.
 pub fn link_clients<'a, T: Trees>(
     alloc: Global,
     asked: &Link<'a>,

@@ -99,6 +99,10 @@ fn are_ok(outcomes: &[Outcome]) -> bool
 impl<'a> Report<'a> {
     /// The text or JSON of a comparison's verdict, as the check asks, which passes by the gates that the
     /// check names. It is shown by witness files where the check has a folder for them.
+    ///
+    /// # Errors
+    ///
+    /// `AllocError` where memory runs out.
     pub fn of_comparison(
         alloc: Global,
         comparison: Comparison,
@@ -116,6 +120,10 @@ impl<'a> Report<'a> {
     }
 
     /// The text of the outcomes of linking, which passes where each is Ok. Nothing is shown.
+    ///
+    /// # Errors
+    ///
+    /// `AllocError` where memory runs out.
     pub fn of_outcomes(alloc: Global, outcomes: &[Outcome]) -> Result<Report<'a>, AllocError>
         ensures tells { IfOk result (λ report. (link : LinkOf) → TellsOf (LinkCommand link) outcomes.now report) }
         ensures shown { IfOk result (λ report. IsBare report.body) }
@@ -130,6 +138,10 @@ impl<'a> Report<'a> {
 
     /// The text of the verdict on generated releases of so many classes, which passes whatever it is.
     /// Nothing is shown.
+    ///
+    /// # Errors
+    ///
+    /// `AllocError` where memory runs out.
     pub fn of_made(alloc: Global, classes: u32, verdict: &Verdict) -> Result<Report<'a>, AllocError>
         ensures tells { IfOk result (TellsOf (MakeCommand classes) verdict.now) }
         ensures shown { IfOk result (λ report. IsBare report.body) }

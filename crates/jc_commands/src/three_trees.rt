@@ -21,6 +21,10 @@ pub fn three_of(
 }
 
 /// The records of the classes.
+///
+/// # Errors
+///
+/// `AllocError` where memory runs out.
 pub fn records_of(alloc: Global, classes: Vec<ClientClass>) -> Result<Vec<ClassFacts>, AllocError>
     ensures { IfOk result (λ records. records.items ≡ facts_of classes.items) }
 {

@@ -83,6 +83,10 @@ fn copy_signatures(alloc: Global, signatures: &Items<Signed>) -> Result<Items<Si
 
 impl Key {
     /// A copy of the key.
+    ///
+    /// # Errors
+    ///
+    /// `AllocError` where memory runs out.
     pub fn copy(&self, alloc: Global) -> Result<Key, AllocError>
         ensures { IfOk result (λ copy. copy ≡ self.now) }
     {
@@ -95,6 +99,10 @@ impl Key {
 
 impl Member {
     /// A copy of the member.
+    ///
+    /// # Errors
+    ///
+    /// `AllocError` where memory runs out.
     pub fn copy(&self, alloc: Global) -> Result<Member, AllocError>
         ensures { IfOk result (λ copy. copy ≡ self.now) }
     {
@@ -108,6 +116,10 @@ impl Member {
 
 impl Constant {
     /// A copy of the value.
+    ///
+    /// # Errors
+    ///
+    /// `AllocError` where memory runs out.
     pub fn copy(&self, alloc: Global) -> Result<Constant, AllocError>
         ensures { IfOk result (λ copy. copy ≡ self.now) }
     {
@@ -123,6 +135,10 @@ impl Constant {
 
 impl Fixed {
     /// A copy of the field and its value.
+    ///
+    /// # Errors
+    ///
+    /// `AllocError` where memory runs out.
     pub fn copy(&self, alloc: Global) -> Result<Fixed, AllocError>
         ensures { IfOk result (λ copy. copy ≡ self.now) }
     {
@@ -135,6 +151,10 @@ impl Fixed {
 
 impl Signed {
     /// A copy of the signature.
+    ///
+    /// # Errors
+    ///
+    /// `AllocError` where memory runs out.
     pub fn copy(&self, alloc: Global) -> Result<Signed, AllocError>
         ensures { IfOk result (λ copy. copy ≡ self.now) }
     {

@@ -52,6 +52,10 @@ impl<'a> KeyRef<'a> {
     }
 
     /// A key of its own.
+    ///
+    /// # Errors
+    ///
+    /// `AllocError` where memory runs out.
     pub fn to_key(&self, alloc: Global) -> Result<Key, AllocError>
         ensures { IfOk result (λ key. key ≡ self.now) }
     {
@@ -104,6 +108,10 @@ impl<'a> Ord for KeyRef<'a> {
 }
 
 /// Adds a key, and says whether it is new.
+///
+/// # Errors
+///
+/// `AllocError` where memory runs out.
 pub fn put<'a>(keys: &mut BTreeSet<KeyRef<'a>>, key: KeyRef<'a>) -> Result<bool, AllocError>
     ensures { IfOk result (λ new. (seen : List Key) → Holds keys.old seen
         → (new ≡ not (has_key key.entry seen)) × Holds keys.new (seen ++ key.entry ∷ [])) }
@@ -120,6 +128,10 @@ pub fn holds<'a>(keys: &BTreeSet<KeyRef<'a>>, key: &KeyRef<'a>) -> bool
 }
 
 /// The set of these keys.
+///
+/// # Errors
+///
+/// `AllocError` where memory runs out.
 pub fn set_of<'a>(alloc: Global, keys: Vec<KeyRef<'a>>) -> Result<BTreeSet<KeyRef<'a>>, AllocError>
     ensures { IfOk result (λ set. Holds set keys.entry.items) }
 {

@@ -15,6 +15,10 @@ const PUBLIC_CLASS: u16 = 0x0021;
 
 impl Member {
     /// A member of this name, descriptor and flags.
+    ///
+    /// # Errors
+    ///
+    /// `AllocError` where memory runs out.
     pub fn new(
         alloc: Global,
         name: &[u8],

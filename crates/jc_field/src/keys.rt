@@ -18,6 +18,10 @@ use std::alloc::{AllocError, Global};
 
 /// The keys of the fields that the class, its superclasses and its superinterfaces declare, each
 /// once, in their order. The class has to load.
+///
+/// # Errors
+///
+/// `AllocError` where memory runs out.
 pub fn field_keys(alloc: Global, table: &Table, class: ClassId) -> Result<Vec<Key>, AllocError>
     requires class { class < size table.now }
     requires loads { load_fault table.now (name_at table.now class) ≡ None }

@@ -265,6 +265,10 @@ fn refused_among<'a>(
 
 /// The first of the clients whose name a platform and a release don't allow, and why; none where all
 /// are allowed.
+///
+/// # Errors
+///
+/// `AllocError` where memory runs out.
 pub fn refused_client<'a>(
     alloc: Global,
     platform: &[ClassFacts],

@@ -65,6 +65,12 @@ fn interface_method(table: &Table, class: ClassId, key: &Key) -> Result<Found, L
 }
 
 /// What the act's lookup finds from the class, which loads; no act on a method names `<clinit>`.
+///
+/// # Errors
+///
+/// `IncompatibleClassChangeError` where the act names a method of a class and this is an interface, or of an
+/// interface and this is a class; where nothing is found `NoSuchFieldError` or `NoSuchMethodError` (JVMS
+/// 5.4.3.2 to 5.4.3.4).
 pub fn look_up(table: &Table, act: Act, class: ClassId, key: &Key) -> Result<Found, LinkError>
     requires side { IsSide table.now }
     requires class { class < size table.now }

@@ -19,6 +19,10 @@ fn sort_by_name(clients: &mut Vec<ClientClass>) -> Result<(), AllocError>
 }
 
 /// Puts the clients, whose names differ, into byte order of their names.
+///
+/// # Errors
+///
+/// `AllocError` where memory runs out.
 pub fn sort(clients: &mut Vec<ClientClass>) -> Result<(), AllocError>
     requires { IsTrue (differ_by_name (facts_of clients.now.items)) }
     ensures { OnOk result (clients.new.items ≡ in_order clients.old.items) }

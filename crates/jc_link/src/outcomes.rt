@@ -99,6 +99,10 @@ fn add_client(
 }
 
 /// The outcomes of the clients, as they stand.
+///
+/// # Errors
+///
+/// `AllocError` where memory runs out.
 pub fn outcomes_in_order(
     alloc: Global,
     table: &Table,

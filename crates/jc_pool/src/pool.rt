@@ -137,6 +137,10 @@ impl<'a> Pool<'a> {
     }
 
     /// The same. Its names share the bytes of those that were made of the files before.
+    ///
+    /// # Errors
+    ///
+    /// `AllocError` where memory runs out.
     pub fn read_front_after(
         alloc: Global,
         recent: &'a RecentNames,

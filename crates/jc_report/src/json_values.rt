@@ -98,6 +98,10 @@ fn note_value(alloc: Global, note: &Note) -> Result<Value, AllocError>
 }
 
 /// The findings, numbered from 1.
+///
+/// # Errors
+///
+/// `AllocError` where memory runs out.
 pub fn finding_values(alloc: Global, findings: &[Finding]) -> Result<Vec<Value>, AllocError>
     ensures { IfOk result (λ values. map view values.items ≡ findings_json 1 findings.now) }
 {
@@ -109,6 +113,10 @@ pub fn finding_values(alloc: Global, findings: &[Finding]) -> Result<Vec<Value>,
 }
 
 /// The collisions, numbered from the number after those of the findings.
+///
+/// # Errors
+///
+/// `AllocError` where memory runs out.
 pub fn collision_values(
     alloc: Global,
     findings: &[Finding],
@@ -124,6 +132,10 @@ pub fn collision_values(
 }
 
 /// The notes.
+///
+/// # Errors
+///
+/// `AllocError` where memory runs out.
 pub fn note_values(alloc: Global, notes: &[Note]) -> Result<Vec<Value>, AllocError>
     ensures { IfOk result (λ values. map view values.items ≡ notes_json notes.now) }
 {

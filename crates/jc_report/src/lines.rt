@@ -21,6 +21,10 @@ fn push_member(text: &mut Vec<u8>, finding: &Finding) -> Result<(), AllocError>
 }
 
 /// The line of a finding of this number, its line end with it.
+///
+/// # Errors
+///
+/// `AllocError` where memory runs out.
 #[tactic(auto, unfolding(jc_facts::specs::print::Text::line_of_finding))]
 pub fn finding_line(alloc: Global, number: usize, finding: &Finding) -> Result<Vec<u8>, AllocError>
     ensures { IfOk result (λ line. line.items ≡ line_of_finding number finding.now) }
@@ -44,6 +48,10 @@ pub fn finding_line(alloc: Global, number: usize, finding: &Finding) -> Result<V
 }
 
 /// The lines of the findings, numbered from 1.
+///
+/// # Errors
+///
+/// `AllocError` where memory runs out.
 pub fn finding_lines(alloc: Global, findings: &[Finding]) -> Result<Vec<u8>, AllocError>
     ensures { IfOk result (λ text. text.items ≡ lines_of_findings 1 findings.now) }
 {
@@ -56,6 +64,10 @@ pub fn finding_lines(alloc: Global, findings: &[Finding]) -> Result<Vec<u8>, All
 }
 
 /// The line of a collision of this number, its line end with it.
+///
+/// # Errors
+///
+/// `AllocError` where memory runs out.
 #[tactic(auto, unfolding(jc_facts::specs::print::Text::line_of_collision))]
 pub fn collision_line(
     alloc: Global,
@@ -81,6 +93,10 @@ pub fn collision_line(
 }
 
 /// The lines of the collisions, numbered from the number after those of the findings.
+///
+/// # Errors
+///
+/// `AllocError` where memory runs out.
 pub fn collision_lines(
     alloc: Global,
     findings: &[Finding],
@@ -128,6 +144,10 @@ fn constant_line(alloc: Global, class: &Name, key: &Key) -> Result<Vec<u8>, Allo
 }
 
 /// The line of a note, its line end with it.
+///
+/// # Errors
+///
+/// `AllocError` where memory runs out.
 #[tactic(auto, unfolding(jc_facts::specs::print::Text::line_of_note))]
 pub fn note_line(alloc: Global, note: &Note) -> Result<Vec<u8>, AllocError>
     ensures { IfOk result (λ line. line.items ≡ line_of_note note.now) }
@@ -139,6 +159,10 @@ pub fn note_line(alloc: Global, note: &Note) -> Result<Vec<u8>, AllocError>
 }
 
 /// The lines of the notes.
+///
+/// # Errors
+///
+/// `AllocError` where memory runs out.
 pub fn note_lines(alloc: Global, notes: &[Note]) -> Result<Vec<u8>, AllocError>
     ensures { IfOk result (λ text. text.items ≡ lines_of_notes notes.now) }
 {

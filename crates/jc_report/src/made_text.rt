@@ -20,6 +20,10 @@ fn push_count(alloc: Global, text: &mut Vec<u8>, word: &str, count: usize) -> Re
 /// The text of the verdict on two releases of so many classes, five lines: how many classes there are,
 /// findings, collisions and notes, and `verdict compatible` or, where there is a finding,
 /// `verdict incompatible`.
+///
+/// # Errors
+///
+/// `AllocError` where memory runs out.
 #[tactic(auto, unfolding(jc_facts::specs::print::MadeText::made_text_of))]
 pub fn made_text(alloc: Global, classes: u32, verdict: &Verdict) -> Result<Vec<u8>, AllocError>
     ensures exact { IfOk result (λ text. text.items ≡ made_text_of classes verdict.now) }

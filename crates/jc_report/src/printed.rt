@@ -83,6 +83,10 @@ pub fn push_printed<P: Printout>(text: &mut P, bytes: &[u8]) -> Result<(), Alloc
 }
 
 /// The decimal digits of a number at the end of the text.
+///
+/// # Errors
+///
+/// `AllocError` where memory runs out.
 pub fn push_decimal(alloc: Global, text: &mut Vec<u8>, number: usize) -> Result<(), AllocError>
     ensures { OnOk result (text.new.items ≡ text.old.items ++ decimal number) }
 {

@@ -9,6 +9,10 @@ use std::alloc::{AllocError, Global};
 
 /// The name of a rule: `Constant` for 10, `Capture` for 11, `Final` for 12, and `H` with the number for
 /// any other.
+///
+/// # Errors
+///
+/// `AllocError` where memory runs out.
 pub fn rule_text(alloc: Global, rule: u8) -> Result<String, AllocError>
     ensures { IfOk result (λ text. string_bytes text ≡ rule_name rule) }
 {

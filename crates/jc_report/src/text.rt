@@ -29,6 +29,10 @@ pub(crate) fn last_line(alloc: Global, verdict: &Verdict) -> Result<Vec<u8>, All
 /// The text of a verdict: a line for each finding and each collision, `NUMBER RULE CLASS MEMBER ACT
 /// SEAT ERROR` with `-` for what isn't there and with numbers that go on; a line for each note; and
 /// the last line, which begins with `compatible` or, where there is a finding, with `incompatible`.
+///
+/// # Errors
+///
+/// `AllocError` where memory runs out.
 #[tactic(auto, unfolding(jc_facts::specs::print::Text::text_of))]
 pub fn text(alloc: Global, verdict: &Verdict) -> Result<Vec<u8>, AllocError>
     ensures exact { IfOk result (λ text. text.items ≡ text_of verdict.now) }

@@ -15,6 +15,10 @@ pub struct RowItem {
 }
 
 /// The entries of two rows; where both have one for a key, that of the first.
+///
+/// # Errors
+///
+/// `AllocError` where memory runs out.
 pub fn merge(
     alloc: Global,
     first: &[RowItem],
@@ -66,6 +70,10 @@ fn is_rising(items: &[RowItem]) -> bool
 }
 
 /// The items in the order of their keys; of those of one key the first.
+///
+/// # Errors
+///
+/// `AllocError` where memory runs out.
 pub fn sorted(alloc: Global, items: &[RowItem]) -> Result<Vec<RowItem>, AllocError>
     ensures { IfOk result (λ row. IsRowOf items.now row.items) }
 {

@@ -44,6 +44,10 @@ impl Drop for Rows {
 impl Rows {
     /// The rows of the classes that load and have rows. `order` gives those that load, each after
     /// those that it names above itself.
+    ///
+    /// # Errors
+    ///
+    /// `AllocError` where memory runs out.
     pub fn new(alloc: Global, hierarchy: &Hierarchy, order: &[ClassId]) -> Result<Rows, AllocError>
         requires { IsLoadOrder hierarchy.now order.now }
         ensures { IfOk result (λ rows. AreRows hierarchy.now rows) }

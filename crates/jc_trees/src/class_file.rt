@@ -94,6 +94,10 @@ fn items_in(
 /// What a class file is read as in this tree, or why it isn't read: its record, where it stands at its
 /// class's place, and of a client the items of its code. The path isn't longer than the limit. Its
 /// names share the bytes of those of the files before.
+///
+/// # Errors
+///
+/// `AllocError` where memory runs out.
 pub fn class_in(
     alloc: Global,
     recent: &RecentNames,

@@ -142,6 +142,12 @@ fn has_long_path(paths: &[Text]) -> bool
 
 /// What a tree's class files are read as, in the order of their paths, or why it isn't read. The bytes
 /// of one file after the other go through the buffer, and their names share what is the same.
+///
+/// # Errors
+///
+/// `TreesError::Unread` with what stands in the way first: too many class files, a path that is too long,
+/// or, in the order of paths, a file that is too long, malformed or misplaced, or a client's whose code is
+/// refused. `Fault` where a call on the tree failed, and `Memory` where memory runs out.
 pub fn read_tree<T: Trees>(
     alloc: Global,
     tree: &Tree<'_>,

@@ -20,6 +20,11 @@ use std::alloc::Global;
 /// What the class files of each of these trees are read as, in this order, or why the first tree that
 /// isn't read isn't. Of a class that is no client's there are no items. The bytes of all files go through
 /// one buffer, which is made first, and the long names of all share what is the same.
+///
+/// # Errors
+///
+/// Those of `read_tree`, of the first tree that has one; `TreesError::Memory` also where there is none for
+/// the buffer.
 pub fn read_trees<T: Trees>(
     alloc: Global,
     wanted: &[Tree<'_>],

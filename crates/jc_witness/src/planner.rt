@@ -41,6 +41,10 @@ impl<'a> Model for Planner<'a> {
 
 impl<'a> Planner<'a> {
     /// For the old and the new release of a library, on one platform.
+    ///
+    /// # Errors
+    ///
+    /// `AllocError` where memory runs out.
     pub fn new(alloc: Global, old: &'a Table, new: &'a Table) -> Result<Planner<'a>, AllocError>
         requires { old.now.platform ≡ new.now.platform }
         ensures { IfOk result (λ planner. planner ≡ record { old = old.now; new = new.now }) }

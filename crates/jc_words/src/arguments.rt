@@ -52,6 +52,10 @@ pub fn bare<'a>(alloc: Global, name: &'a str) -> Command<'a>
 }
 
 /// What `clap` makes of the words, or none where the command doesn't take them.
+///
+/// # Errors
+///
+/// `AllocError` where memory runs out.
 pub fn taken<'a>(
     command: Command<'a>,
     words: &'a [Text],

@@ -27,6 +27,10 @@ pub struct Check<'a> {
 
 impl<'a> Check<'a> {
     /// The check of the words after `check`, or none where they aren't taken.
+    ///
+    /// # Errors
+    ///
+    /// `AllocError` where memory runs out.
     pub fn from_words(alloc: Global, words: &'a [Text]) -> Result<Option<Check<'a>>, AllocError>
         ensures exact { IfOk result (λ c. option_map check_of c ≡ check_by words.entry.now) }
     {
@@ -51,6 +55,10 @@ impl<'a> Check<'a> {
 
     /// The names of the gates that are asked, at least one: the parts of the value of `--gate`, which
     /// is cut at each comma, and `links` without it.
+    ///
+    /// # Errors
+    ///
+    /// `AllocError` where memory runs out.
     pub fn gate_names(&self, alloc: Global) -> Result<Vec<&'a str>, AllocError>
         ensures { IfOk result (λ names. map (λ name. name.now) names.items ≡ (check_of self.now).gates) }
     {

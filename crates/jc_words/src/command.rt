@@ -27,6 +27,10 @@ impl<'a> Command<'a> {
     /// `NoCommand` where there is no word, `UnknownCommand` where the first is none of `check`, `link`
     /// and `make`, `Words` where the command doesn't take the others, and `Number` where `make` takes
     /// the other, and it says no number from 1 to 4,096.
+    ///
+    /// # Errors
+    ///
+    /// `AllocError` where memory runs out.
     pub fn from_words(
         alloc: Global,
         words: &'a [Text],

@@ -20,6 +20,10 @@ pub struct Link<'a> {
 
 impl<'a> Link<'a> {
     /// The link of the words after `link`, or none where they aren't taken.
+    ///
+    /// # Errors
+    ///
+    /// `AllocError` where memory runs out.
     pub fn from_words(alloc: Global, words: &'a [Text]) -> Result<Option<Link<'a>>, AllocError>
         ensures exact { IfOk result (λ l. option_map link_of l ≡ link_by words.entry.now) }
     {

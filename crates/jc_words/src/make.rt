@@ -23,6 +23,10 @@ pub struct Make {
 impl Make {
     /// What the words after `make` ask for. The fault is `Words` where they aren't one word that is no
     /// option, and `Number` where the word says no number from 1 to 4,096.
+    ///
+    /// # Errors
+    ///
+    /// `AllocError` where memory runs out.
     pub fn from_words(alloc: Global, words: &[Text]) -> Result<Result<Make, Usage>, AllocError>
         ensures exact { IfOk result (λ r. result_map_both (λ make. MakeCommand make.classes) (λ usage. usage) r ≡ make_by words.now) }
     {

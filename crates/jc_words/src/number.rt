@@ -27,6 +27,10 @@ fn is_written(alloc: Global, text: &str, number: u32) -> Result<bool, AllocError
 }
 
 /// The number from 1 to 4,096 that the text says in decimal digits, without a sign or a leading zero.
+///
+/// # Errors
+///
+/// `AllocError` where memory runs out.
 #[tactic(auto, using(crate::proofs::Numbers::number_found, crate::proofs::Numbers::number_missing))]
 pub fn number_of(alloc: Global, text: &str) -> Result<Option<u32>, AllocError>
     ensures { IfOk result (λ n. n ≡ number_in text.now) }
