@@ -109,6 +109,10 @@ fn nothing(alloc: Global, count: u32) -> Result<Vec<Option<ClassId>>, AllocError
 
 /// For each class of the old side a class of the new one below which all these seats stand that
 /// stood below the first; none where no seat did. The seats load on both sides.
+///
+/// # Errors
+///
+/// `AllocError` where memory runs out.
 pub fn commons(
     alloc: Global,
     old: &Table,

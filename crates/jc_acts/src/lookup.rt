@@ -108,6 +108,12 @@ fn look_up_interface_method(
 
 /// What references of the form to a key of the class find: a member, or the error of the lookup. The
 /// number is the key's in the table.
+///
+/// # Errors
+///
+/// `IncompatibleClassChangeError` where the form is that of a method of a class and this is an interface, or
+/// of an interface and this is a class; where nothing is found `NoSuchFieldError` or `NoSuchMethodError`
+/// (JVMS 5.4.3.2 to 5.4.3.4).
 pub fn look_up(
     table: &Table,
     form: Form,

@@ -56,6 +56,10 @@ impl<'a> Seats<'a> {
     ghost use Rattle.jc_acts.specs.Seats.{AreSeats, may_be_closed};
 
     /// The seats that these base classes make, with `java/lang/Object`.
+    ///
+    /// # Errors
+    ///
+    /// `AllocError` where memory runs out.
     pub fn new(
         alloc: Global,
         sides: &Sides<'a>,

@@ -114,6 +114,10 @@ fn set_left_by_any(sides: &Sides<'_>, flags: &mut Vec<bool>, seats: &[Shared<'_>
 }
 
 /// For each class of the old side, whether it changed or left the chain of one of the seats.
+///
+/// # Errors
+///
+/// `AllocError` where memory runs out.
 pub fn touched(
     alloc: Global,
     sides: &Sides<'_>,
@@ -237,6 +241,10 @@ fn ask(table: &Table, known: &mut Vec<Option<bool>>, class: ClassId) -> bool
 /// For each class, whether it doesn't load, or it or one above it has its flag set. Each class is
 /// asked once, with the interfaces that it leads to, and passed twice at most on the way up to one of
 /// which the answer is known: it takes time in proportion to the classes and those interfaces.
+///
+/// # Errors
+///
+/// `AllocError` where memory runs out.
 pub fn with_those_below(
     alloc: Global,
     table: &Table,

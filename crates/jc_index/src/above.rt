@@ -41,6 +41,10 @@ fn edges(alloc: Global, index: &Index) -> Result<Vec<Items<u32>>, AllocError>
 }
 
 /// For each class of an index the interfaces that it names, and those that they lead to.
+///
+/// # Errors
+///
+/// `AllocError` where memory runs out.
 pub fn interfaces_above(alloc: Global, index: &Index) -> Result<Rows, AllocError>
     ensures { IfOk result (λ rows. AreRows index.now rows) }
 {

@@ -30,6 +30,10 @@ impl Model for NameSet {
 
 impl NameSet {
     /// These names.
+    ///
+    /// # Errors
+    ///
+    /// `AllocError` where memory runs out.
     pub fn new(mut names: Vec<Name>) -> Result<NameSet, AllocError>
         ensures { IfOk result (λ set. IsPermutation names.items set) }
     {

@@ -51,6 +51,10 @@ fn least_known<'a>(platform: &ClassList, release: &'a [ClassFacts]) -> Option<&'
 
 /// The first name in byte order that both the platform and the release declare; none where there
 /// is none.
+///
+/// # Errors
+///
+/// `AllocError` where memory runs out.
 pub fn first_overlap(
     alloc: Global,
     platform: &ClassList,

@@ -240,6 +240,10 @@ fn make_all(
 
 /// For each number those that it leads to by one edge or more, where `edges` are the numbers that
 /// each one names.
+///
+/// # Errors
+///
+/// `AllocError` where memory runs out.
 pub fn all_led_to(alloc: Global, edges: &[Items<u32>]) -> Result<Rows, AllocError>
     requires within { All (λ ids. All (λ id. id < length edges.now) ids) edges.now }
     requires few { length edges.now < 4294967296 }

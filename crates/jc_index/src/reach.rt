@@ -30,6 +30,10 @@ fn add(set: &mut BTreeSet<u32>, queue: &mut Vec<u32>, ids: &[u32]) -> Result<(),
 
 /// The numbers that a number leads to by one edge or more, each once, where `edges` are the numbers
 /// that each one names.
+///
+/// # Errors
+///
+/// `AllocError` where memory runs out.
 pub fn led_to(alloc: Global, edges: &[Items<u32>], start: u32) -> Result<Vec<u32>, AllocError>
     requires within { All (λ ids. All (λ id. id < length edges.now) ids) edges.now }
     requires start { start < length edges.now }

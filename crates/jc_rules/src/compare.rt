@@ -294,6 +294,10 @@ fn limited(
 /// The verdict on a new release, after an old one: what it breaks of what clients could do, which
 /// changes stand in the way of some clients, and what is worth telling. The two sides have one
 /// platform.
+///
+/// # Errors
+///
+/// `AllocError` where memory runs out.
 pub fn compare(alloc: Global, old: &Table, new: &Table) -> Result<Verdict, AllocError>
     requires { old.now.platform ≡ new.now.platform }
     ensures exact { IfOk result (IsVerdict old.now new.now) }
@@ -311,6 +315,10 @@ pub fn compare(alloc: Global, old: &Table, new: &Table) -> Result<Verdict, Alloc
 
 /// The same verdict, where its findings and collisions are at most so many; None where they are more.
 /// Past the limit no more are made than what one class adds to one rule.
+///
+/// # Errors
+///
+/// `AllocError` where memory runs out.
 pub fn compare_within(
     alloc: Global,
     old: &Table,

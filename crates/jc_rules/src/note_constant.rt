@@ -187,6 +187,10 @@ fn on_class(alloc: Global, sides: &Sides<'_>, id: ClassId) -> Result<Vec<Note>, 
 /// classes that both releases declare (JVMS 4.7.2): clients that were built with the old value keep
 /// it. They are in byte order of the names of the classes, and in the order of the keys. A class
 /// takes time in proportion to its constants, but for the logarithm of a look-up.
+///
+/// # Errors
+///
+/// `AllocError` where memory runs out.
 pub fn note_constant(alloc: Global, sides: &Sides<'_>) -> Result<Vec<Note>, AllocError>
     ensures { IfOk result (λ notes. HasExactly note_order (IsConstantNote sides.now) notes.items) }
 {

@@ -37,6 +37,10 @@ fn note_on(
 
 /// The notes on classes of the old or of the new release that don't load (JVMS 5.3.5), in byte
 /// order of their names.
+///
+/// # Errors
+///
+/// `AllocError` where memory runs out.
 pub fn note_unloadable(alloc: Global, table: &Table, of_old: bool) -> Result<Vec<Note>, AllocError>
     ensures { IfOk result (λ notes. HasExactly note_order (NoteIn table.now of_old) notes.items) }
 {

@@ -145,6 +145,10 @@ fn on_class(
 /// the lengths of its two chains, but for the logarithm of a look-up, and hardly any where neither it
 /// nor any above it changed. None where there are more than the limit allows; no more are made then
 /// than what one class adds past it.
+///
+/// # Errors
+///
+/// `AllocError` where memory runs out.
 pub fn superclass_lost(
     alloc: Global,
     sides: &Sides<'_>,

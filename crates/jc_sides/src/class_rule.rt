@@ -24,6 +24,10 @@ pub trait ClassRule {
         ensures { result ≡ rule };
 
     /// What is broken by the change of the class of this number on the old side.
+    ///
+    /// # Errors
+    ///
+    /// `AllocError` where memory runs out.
     fn on_class(
         &self,
         alloc: Global,
@@ -54,6 +58,10 @@ fn of_class<R: ClassRule>(
 
 /// What the rule finds, in byte order of the names of the classes; None where that is more than the
 /// limit allows. No more is made than one finding past it.
+///
+/// # Errors
+///
+/// `AllocError` where memory runs out.
 pub fn by_class<R: ClassRule>(
     alloc: Global,
     sides: &Sides<'_>,

@@ -20,6 +20,10 @@ pub trait ClassTest {
     ghost test: { SidesOf → Bytes → Bool };
 
     /// Whether the kept class passes.
+    ///
+    /// # Errors
+    ///
+    /// `AllocError` where memory runs out.
     fn passes(
         &self,
         alloc: Global,
@@ -55,6 +59,10 @@ fn push_where<'a, T: ClassTest>(
 }
 
 /// The kept classes that pass the test, in byte order of their names.
+///
+/// # Errors
+///
+/// `AllocError` where memory runs out.
 pub fn classes_where<'a, T: ClassTest>(
     alloc: Global,
     sides: &Sides<'a>,
@@ -120,6 +128,10 @@ impl ClassTest for BaseInterface {
 }
 
 /// The kept classes that haven't stopped to be interfaces, in byte order of their names.
+///
+/// # Errors
+///
+/// `AllocError` where memory runs out.
 pub fn steady_classes<'a>(alloc: Global, sides: &Sides<'a>) -> Result<Vec<Shared<'a>>, AllocError>
     ensures { IfOk result (λ classes. AreThose (is_steady sides.now.old sides.now.new) sides.now classes.items) }
 {
@@ -129,6 +141,10 @@ pub fn steady_classes<'a>(alloc: Global, sides: &Sides<'a>) -> Result<Vec<Shared
 
 /// The classes that clients could extend and still can (JVMS 4.7.31, 5.3.5), in byte order of
 /// their names.
+///
+/// # Errors
+///
+/// `AllocError` where memory runs out.
 pub fn base_classes<'a>(alloc: Global, sides: &Sides<'a>) -> Result<Vec<Shared<'a>>, AllocError>
     ensures { IfOk result (λ classes. AreThose (is_base_class sides.now.old sides.now.new) sides.now classes.items) }
 {
@@ -138,6 +154,10 @@ pub fn base_classes<'a>(alloc: Global, sides: &Sides<'a>) -> Result<Vec<Shared<'
 
 /// The interfaces that clients could implement and still can (JVMS 4.7.31, 5.3.5), in byte order
 /// of their names.
+///
+/// # Errors
+///
+/// `AllocError` where memory runs out.
 pub fn base_interfaces<'a>(alloc: Global, sides: &Sides<'a>) -> Result<Vec<Shared<'a>>, AllocError>
     ensures { IfOk result (λ classes. AreThose (is_base_interface sides.now.old sides.now.new) sides.now classes.items) }
 {
@@ -147,6 +167,10 @@ pub fn base_interfaces<'a>(alloc: Global, sides: &Sides<'a>) -> Result<Vec<Share
 
 /// The names of the classes, to be looked for: where they are all that pass a test, whether a class
 /// passes it.
+///
+/// # Errors
+///
+/// `AllocError` where memory runs out.
 pub fn names_of(alloc: Global, classes: &[Shared<'_>]) -> Result<NameSet, AllocError>
     ensures { IfOk result (λ set. (s : SidesOf) (test : Bytes → Bool) → AreThose test s classes.now → HasThose test s set) }
 {

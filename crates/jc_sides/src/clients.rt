@@ -84,6 +84,10 @@ fn permits(sides: &Sides<'_>, names: &Option<Items<Name>>) -> bool
 }
 
 /// The names, to be looked for.
+///
+/// # Errors
+///
+/// `AllocError` where memory runs out.
 pub fn set_of(alloc: Global, names: &[Name]) -> Result<NameSet, AllocError>
     ensures { IfOk result (λ set. IsPermutation names.now set) }
 {
@@ -287,6 +291,10 @@ pub fn is_steady(sides: &Sides<'_>, class: &Shared<'_>) -> bool
 
 /// Whether clients could extend or implement the kept class, and some can't any more, since it is
 /// final, became an interface or is newly sealed.
+///
+/// # Errors
+///
+/// `AllocError` where memory runs out.
 pub fn is_closed(alloc: Global, sides: &Sides<'_>, class: &Shared<'_>) -> Result<bool, AllocError>
     requires shared { IsShared sides.now «class».now }
     requires kept { IsTrue (is_kept sides.now.old sides.now.new (name_of «class».now)) }

@@ -32,6 +32,10 @@ fn copy_key(alloc: Global, key: Option<&Key>) -> Result<Option<Key>, AllocError>
 
 /// The finding of the rule on the class, and on the key or the target where there is one, if an act
 /// is broken.
+///
+/// # Errors
+///
+/// `AllocError` where memory runs out.
 pub fn finding(
     alloc: Global,
     rule: u8,
@@ -57,6 +61,10 @@ pub fn finding(
 }
 
 /// The collision of the rule on the class and the key, if an act is broken.
+///
+/// # Errors
+///
+/// `AllocError` where memory runs out.
 pub fn collision(
     alloc: Global,
     rule: u8,
@@ -79,6 +87,10 @@ pub fn collision(
 }
 
 /// Adds the item, if there is one.
+///
+/// # Errors
+///
+/// `AllocError` where memory runs out.
 pub fn push_some<T: Drop>(items: &mut Vec<T>, item: Option<T>) -> Result<(), AllocError>
     ensures { OnOk result (items.new.items ≡ items.old.items ++ cons_option item []) }
 {

@@ -62,6 +62,10 @@ pub trait ItemRule {
         ensures { OfPassing (makes sides.now (name_of «class».now)) (is_member result sides.now (name_of «class».now)) };
 
     /// What it makes of the class and the key of these numbers.
+    ///
+    /// # Errors
+    ///
+    /// `AllocError` where memory runs out.
     fn on_key(
         &self,
         alloc: Global,
@@ -304,6 +308,10 @@ fn of_class<R: ItemRule>(
 ///
 /// A class is gone over along its row, by the numbers of keys and their translation; only members that
 /// stand in no row are walked to and looked up.
+///
+/// # Errors
+///
+/// `AllocError` where memory runs out.
 pub fn by_items<R: ItemRule>(
     alloc: Global,
     rule: &R,

@@ -137,6 +137,10 @@ pub fn new_row<'a>(sides: &Sides<'a>, class: &Shared<'_>, members: Members) -> O
 /// The keys of these members of the kept class, in any order, and maybe further ones, by a walk over
 /// the records. It is for those that stand in no row: initializers, of which a class has few, final
 /// methods of a chain, of which few pass, and all members of a class of which no row is made.
+///
+/// # Errors
+///
+/// `AllocError` where memory runs out.
 pub fn keys_of(
     alloc: Global,
     sides: &Sides<'_>,

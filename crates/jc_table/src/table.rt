@@ -149,6 +149,10 @@ impl Table {
     }
 
     /// The same table, of a platform that it shares with others.
+    ///
+    /// # Errors
+    ///
+    /// Those of `build`.
     pub fn over(
         alloc: Global,
         platform: &Platform,
