@@ -52,7 +52,7 @@ impl<'a> Planner<'a> {
         // Counts say that few names are mentioned.
         let _old = old.mention_count();
         let _new = new.mention_count();
-        let sides = Sides::new(old, new);
+        let sides = Sides::new(alloc, old, new)?;
         let package = fresh(alloc, &sides)?;
         Ok(Planner { sides, package })
     }

@@ -4,6 +4,8 @@
 #[cfg(test)]
 mod changes;
 #[cfg(test)]
+mod other_side;
+#[cfg(test)]
 mod releases;
 #[cfg(test)]
 mod seats;

@@ -228,7 +228,7 @@ fn key(rt: &impl Abort, alloc: Global, descriptor: &[u8]) -> Key {
 fn see_told(rt: &impl Abort, alloc: Global, old: &Table, new: &Table)
     requires { old.now.platform ≡ new.now.platform }
 {
-    let sides = Sides::new(old, new);
+    let sides = Sides::new(alloc, old, new).expect(rt, "memory");
     let field = key(rt, alloc, b"I");
     let method = key(rt, alloc, b"()V");
     let seats = seats_of(alloc, &sides).expect(rt, "memory");
