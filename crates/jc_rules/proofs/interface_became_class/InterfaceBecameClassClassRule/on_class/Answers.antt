@@ -10,7 +10,7 @@ use Rattle.jc_rules.proofs.interface_became_class.InterfaceBecameClassClassRule.
 pub returns-then-in_platform : goal.returns-then-in_platform
 returns-then-in_platform c =
     subst (λ (s : SidesOf). None ≡ class_finding 3 s (name_at s.old c.args.id)) c.sides.view_is
-    (of_platform (worlds c.sides.inside) c.sides.invariant (name_at c.sides.inside.old.now c.args.id) (sym c.in_platform.ensures ∙ c.if-in_platform.true))
+    (of_platform (worlds c.sides.inside) c.sides.invariant.sides (name_at c.sides.inside.old.now c.args.id) (sym c.in_platform.ensures ∙ c.if-in_platform.true))
 
 pub returns-in_default : goal.returns-in_default
 returns-in_default c = unkept c.args.sides.now (name_at c.args.sides.now.old c.args.id) c.in_default.ensures
