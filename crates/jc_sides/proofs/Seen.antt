@@ -1,9 +1,9 @@
 -- What a table of the two sides says of a class by its number, the sides say of it by its name; and the numbers of keys. t are the tables' worlds, d is the class as its fields have it.
-use Rattle.std.proofs.Common.{◌≡◌, ◌<◌, ℕ, sym, subst, Some, None}
+use Rattle.std.proofs.Common.{◌≡◌, ℕ, sym, subst, Some, None}
 use Rattle.jc_facts.specs.world.Loading.{load_fault}
 use Rattle.jc_facts.specs.Names.{Bytes}
 use Rattle.jc_facts.specs.declared.key.Key.{Key}
-use Rattle.jc_facts.specs.world.World.{World, size}
+use Rattle.jc_facts.specs.world.World.{World}
 use Rattle.jc_table.specs.Ids.{name_at, id_of}
 use Rattle.jc_table.specs.Keys.{numbered_keys, IsNumber}
 use Rattle.jc_table.proofs.Numbers.{id_of-Some}
@@ -25,12 +25,6 @@ module _ (t s : SidesOf) (v : t ≡ s) (d b : SharedOf) (w : d ≡ b) (shared : 
 
   pub to_new : (P : World → Bytes → Type 0) → P s.new (name_of b) → P t.new (name_at t.new d.new)
   to_new P h = subst (λ (u : SidesOf). P u.new (name_at u.new d.new)) (sym v) (subst (λ (c : SharedOf). P s.new (name_at s.new c.new)) (sym w) (subst (P s.new) (sym shared.new_name) h))
-
-  pub below_before : d.old < size t.old
-  below_before = subst (λ (u : SidesOf). d.old < size u.old) (sym v) (subst (λ (c : SharedOf). c.old < size s.old) (sym w) shared.old_below)
-
-  pub below_after : d.new < size t.new
-  below_after = subst (λ (u : SidesOf). d.new < size u.new) (sym v) (subst (λ (c : SharedOf). c.new < size s.new) (sym w) shared.new_below)
 
   -- a class that loads
   pub loads_before : IsOnBoth s (name_of b) → load_fault t.old (name_at t.old d.old) ≡ None
