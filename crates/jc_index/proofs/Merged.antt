@@ -64,11 +64,11 @@ each-below : (ds : List ClassFacts) (order : List ℕ) → IsOrder ds order → 
 each-below ds order o = recursion_from_All (λ at. at < length ds) order o.within
 
 -- the classes of a side
-whole : (W : World) → IsSide W → classes W ≡ W.platform ++ W.release
-whole W s = ap (λ (cs : List ClassFacts). W.platform ++ W.release ++ cs) s.no_clients ∙ append-nil (W.platform ++ W.release)
+pub two_lists : (W : World) → IsSide W → classes W ≡ W.platform ++ W.release
+two_lists W s = ap (λ (cs : List ClassFacts). W.platform ++ W.release ++ cs) s.no_clients ∙ append-nil (W.platform ++ W.release)
 
 many : (W : World) → IsSide W → length (classes W) ≡ length W.platform + length W.release
-many W s = ap length (whole W s) ∙ length-append W.platform W.release
+many W s = ap length (two_lists W s) ∙ length-append W.platform W.release
 
 first-each : (W : World) → IsSide W → (first : List ℕ) → IsOrder W.platform first → EachOf (λ at. 0 + at < length (classes W)) first
 first-each W s first f = inside (classes W) W.platform 0 first (let m = many W s in omega arith) f
@@ -91,11 +91,11 @@ module _ (W : World) (s : IsSide W) (first second : List ℕ) (f : IsOrder W.pla
 
   first-name : (at : ℕ) → at < length W.platform → name_in (classes W) (0 + at) ≡ name_in W.platform at
   first-name at l =
-      ap (name_in (classes W)) (let q : 0 + at ≡ at = omega arith in q) ∙ ap (λ (cs : List ClassFacts). name_in cs at) (whole W s)
+      ap (name_in (classes W)) (let q : 0 + at ≡ at = omega arith in q) ∙ ap (λ (cs : List ClassFacts). name_in cs at) (two_lists W s)
       ∙ name-first W.platform W.release at l
 
   second-name : (at : ℕ) → at < length W.release → name_in (classes W) (length W.platform + at) ≡ name_in W.release at
-  second-name at l = ap (λ (cs : List ClassFacts). name_in cs (length W.platform + at)) (whole W s) ∙ name-second W.platform W.release at
+  second-name at l = ap (λ (cs : List ClassFacts). name_in cs (length W.platform + at)) (two_lists W s) ∙ name-second W.platform W.release at
 
   names_are : map (λ p. p.0) (map (place_after (classes W) 0) first ++ map (place_after (classes W) (length W.platform)) second) ≡ names_of W.platform ++ names_of W.release
   names_are =
@@ -108,7 +108,7 @@ module _ (W : World) (s : IsSide W) (first second : List ℕ) (f : IsOrder W.pla
   named : IsPermutation (names_at (classes W)) (map (λ p. p.0) (map (place_after (classes W) 0) first ++ map (place_after (classes W) (length W.platform)) second))
   named =
       subst (λ (xs : List Bytes). IsPermutation (names_at (classes W)) xs) (sym names_are)
-      (subst (λ (xs : List Bytes). IsPermutation xs (names_of W.platform ++ names_of W.release)) (sym (ap names_at (whole W s) ∙ map-append (λ (c : ClassFacts). c.name) W.platform W.release))
+      (subst (λ (xs : List Bytes). IsPermutation xs (names_of W.platform ++ names_of W.release)) (sym (ap names_at (two_lists W s) ∙ map-append (λ (c : ClassFacts). c.name) W.platform W.release))
       (IsPermutation-append (names_at W.platform) (names_of W.platform) (names_at W.release) (names_of W.release) (names-permutation W.platform) (names-permutation W.release)))
 
   -- what is sorted is the order of the side

@@ -102,7 +102,7 @@ names-rise W h = names_of-rise (classes W) h
 
 -- ---- whose names they are
 
-some-map : {A B : Type 0} (f : A → B) (o : Option A) → is_some (option_map f o) ≡ is_some o
+pub some-map : {A B : Type 0} (f : A → B) (o : Option A) → is_some (option_map f o) ≡ is_some o
 some-map f None = refl
 some-map f (Some x) = refl
 
@@ -147,9 +147,9 @@ pub id-find : (W : World) (x : Bytes) → is_some (id_of W x) ≡ is_some (find_
 unfolding id_of names find_class
 id-find W x = place-class (classes W) x
 
-none_from : {A B : Type 0} (o : Option A) (p : Option B) → is_some o ≡ is_some p → o ≡ None → p ≡ None
-none_from o None h e = refl
-none_from o (Some x) h e = absurd (let k : is_some o ≡ false = ap is_some e in cc)
+pub none_too : {A B : Type 0} (o : Option A) (p : Option B) → is_some o ≡ is_some p → o ≡ None → p ≡ None
+none_too o None h e = refl
+none_too o (Some x) h e = absurd (let k : is_some o ≡ false = ap is_some e in cc)
 
 -- a class that is there has a number
 pub number_of : (W : World) (x : Bytes) → is_some (find_class W x) ≡ true → (k : ℕ) × (id_of W x ≡ Some k)
@@ -160,7 +160,7 @@ number_of W x h = go (id_of W x) (id-find W x ∙ h)
     go (Some k) q = (k, refl)
 
 pub find-None : (W : World) (x : Bytes) → id_of W x ≡ None → find_class W x ≡ None
-find-None W x e = none_from (id_of W x) (find_class W x) (id-find W x) e
+find-None W x e = none_too (id_of W x) (find_class W x) (id-find W x) e
 
 -- ---- a name by its number, and back
 

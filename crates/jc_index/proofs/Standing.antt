@@ -14,7 +14,7 @@ use Rattle.jc_facts.proofs.Same.{same_is, same_itself}
 use Rattle.jc_index.specs.Ids.{names_of, place_of, name_in}
 use Rattle.jc_index.specs.steps.Order.{names_at, IsOrder, AreNumbers}
 use Rattle.jc_index.specs.steps.PlacesAbove.{place_above, IsAbove}
-use Rattle.jc_index.proofs.Numbers.{IsAt, and_true, is_none-None, place-at, place-back, place-class, at-in, names_of-length, names_of-rise}
+use Rattle.jc_index.proofs.Numbers.{IsAt, and_true, is_none-None, none_too, some-map, place-at, place-back, place-class, at-in, names_of-length, names_of-rise}
 use Rattle.jc_index.proofs.InSide.{class-front}
 use Rattle.jc_index.proofs.NumberedNames.{before_place}
 use Rattle.jc_index.proofs.Places.{absent, has, order_length}
@@ -83,10 +83,6 @@ among-named (c ∷ cs) x = go (same c.name x) (among-named cs x)
     go true h = refl
     go false h = h
 
-some-map : {A B : Type 0} (f : A → B) (o : Option A) → is_some (option_map f o) ≡ is_some o
-some-map f None = refl
-some-map f (Some x) = refl
-
 -- a name has a place exactly where a class has it
 pub place-named : (cs : List ClassFacts) (x : Bytes) → is_some (place_of (names_at cs) x) ≡ is_some (class_named cs x)
 unfolding place_of class_named
@@ -96,10 +92,6 @@ place-named (c ∷ cs) x = go (same c.name x) (place-named cs x)
     go : (b : Bool) → is_some (place_of (names_at cs) x) ≡ is_some (class_named cs x) → is_some (cond b (Some 0) (option_map suc (place_of (names_at cs) x))) ≡ is_some (cond b (Some c) (class_named cs x))
     go true h = refl
     go false h = some-map suc (place_of (names_at cs) x) ∙ h
-
-none_too : {A B : Type 0} (o : Option A) (p : Option B) → is_some o ≡ is_some p → o ≡ None → p ≡ None
-none_too o None h e = refl
-none_too o (Some x) h e = absurd (let k : is_some o ≡ false = ap is_some e in cc)
 
 -- a name without a place has no number
 pub unplaced : (cs : List ClassFacts) (x : Bytes) → place_of (names_at cs) x ≡ None → place_of (names_of cs) x ≡ None

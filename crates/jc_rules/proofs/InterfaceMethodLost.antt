@@ -20,6 +20,7 @@ use Rattle.jc_facts.specs.rule.Bases.{is_base_interface, is_key_of_method, inher
 use Rattle.jc_facts.specs.world.World.{World, find_class, class_named, DeclaredMember, found_in, own_method_of, declared_method}
 use Rattle.jc_lemmas.proofs.Listed.{none, cases}
 use Rattle.jc_lemmas.proofs.Lists.{IsCons}
+use Rattle.jc_lemmas.proofs.Options.{none_from}
 use Rattle.jc_worlds.specs.Agreement.{LooksTheSame}
 use Rattle.jc_worlds.proofs.Loaded.{loads-found}
 use Rattle.jc_worlds.proofs.Offers.{choices-some, choices-offers}
@@ -85,10 +86,6 @@ module _ (s : SidesOf) (x : Bytes) (k : Key) where
   lost_else r a t = row_false (inherits s.old x k) (inherits s.new x k) r a t
 
 -- the loss is asked first, which tells nothing where java/lang/Object has the method, and then that
-no_method : {A : Type 0} (o : Option A) → is_some o ≡ false → o ≡ None
-no_method None e = refl
-no_method (Some a) e = absurd (let c : true ≡ false = e in cc)
-
 asked_last : (m l L b : Bool) → (b ≡ false → l ≡ L) → (m && l && not b) ≡ (m && not b && L)
 asked_last false l L b h = refl
 asked_last true true L true h = refl
@@ -102,7 +99,7 @@ asked_last true l L false h = go l L (h refl)
 pub lost_apart : (s : SidesOf) (x : Bytes) (k : Key) (i l b : Bool) → is_key_of_method k ≡ not i → (public_method_of_object s.old k ≡ None → l ≡ loses s x k) → b ≡ is_some (public_method_of_object s.old k) → (not i && l && not b) ≡ has_lost_method s x k
 lost_apart s x k i l b m h e =
     ap (λ (t : Bool). t && l && not b) (sym m) ∙ ap (λ (t : Bool). is_key_of_method k && l && not t) e
-    ∙ asked_last (is_key_of_method k) l (loses s x k) (is_some (public_method_of_object s.old k)) (λ n. h (no_method (public_method_of_object s.old k) n))
+    ∙ asked_last (is_key_of_method k) l (loses s x k) (is_some (public_method_of_object s.old k)) (λ n. h (none_from (public_method_of_object s.old k) n))
 
 -- ---- what an interface inherits, by what the lookup from it finds
 

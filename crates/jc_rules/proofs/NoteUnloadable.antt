@@ -3,7 +3,6 @@ use Rattle.std.proofs.Common.{◌≡◌, ◌≤◌, ℕ, take, Bool, true, false
 use Rattle.std.specs.List.{filter_map}
 use Rattle.std.specs.declared.cmp.Ordering.TheVariants.{Less}
 use Rattle.std.proofs.lemmas.Bool.{and_parts}
-use Rattle.std.proofs.lemmas.List.{append-nil}
 use Rattle.jc_facts.specs.declared.class_facts.ClassFacts.{ClassFacts}
 use Rattle.jc_facts.specs.declared.link_error.LinkError.{LinkError}
 use Rattle.jc_facts.specs.declared.verdict.Note.{Note}
@@ -20,6 +19,7 @@ use Rattle.jc_facts.specs.Exactly.{HasExactly}
 use Rattle.jc_facts.proofs.Exact.{Gives}
 use Rattle.jc_facts.proofs.Same.{same_is}
 use Rattle.jc_facts.proofs.InOrder.{exact_same, exact_append, exact_given}
+use Rattle.jc_index.proofs.Merged.{two_lists}
 use Rattle.jc_table.specs.Ids.{names}
 use Rattle.jc_table.specs.Sides.{IsSide}
 use Rattle.jc_table.proofs.Numbers.{names-rise, names-in, names-find}
@@ -53,10 +53,6 @@ not_before (c ∷ xs) ys x d h = go (same c.name x) refl (not_before xs ys x p.1
     go : (b : Bool) → same c.name x ≡ b → is_some (class_named xs x) ≡ false → is_some (cond b (Some c) (class_named xs x)) ≡ false
     go true e r = absurd (clash (class_named (xs ++ ys) c.name) p.0 (found_after xs ys c.name (subst (λ (z : Bytes). is_some (class_named ys z) ≡ true) (sym (same_is c.name x e)) h)))
     go false e r = r
-
--- a side's classes are those of the two
-pub two_lists : (W : World) → IsSide W → classes W ≡ W.platform ++ W.release
-two_lists W s = ap (λ (zs : List ClassFacts). W.platform ++ W.release ++ zs) s.no_clients ∙ append-nil (W.platform ++ W.release)
 
 -- a class of the release isn't one of the platform's
 pub of_release : (W : World) → IsSide W → (x : Bytes) → is_some (in_release W x) ≡ true → is_some (class_named W.platform x) ≡ false
