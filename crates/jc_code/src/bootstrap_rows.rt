@@ -16,6 +16,7 @@ use jc_attr::attribute::{Attribute, attribute_at};
 use jc_attr::bootstrap::{BootstrapParts, bootstraps};
 use jc_desc::bytes::u16_at;
 use jc_desc::fault::Fault;
+use jc_desc::versions::BOOTSTRAP_MAJOR;
 use jc_pool::pool::Pool;
 use std::alloc::{AllocError, Global};
 
@@ -37,7 +38,7 @@ fn taken<'b>(
 ) -> Option<&'b [u8]>
     ensures { Some (option_map (λ x. x.now) result) ≡ client.take_boots pool.now (option_map (λ x. x.now) found.entry) (attribute_view attribute.entry) }
 {
-    if 51 <= pool.major() && attribute.name == b"BootstrapMethods".as_slice() {
+    if pool.major() >= BOOTSTRAP_MAJOR && attribute.name == b"BootstrapMethods".as_slice() {
         or_body(found, attribute.body)
     } else {
         found

@@ -2,6 +2,7 @@
 -- entry lead to, and what is asked of an entry.
 use Rattle.std.specs.Prelude.{ℕ, ◌+◌, List, [], ◌∷◌, length, drop, get_or, Option, Some, None, Bool, true, false, ◌==◌, ◌||◌, ◌&&◌, not, nat_lt, is_some, if◌then◌else◌}
 use Rattle.byteorder.specs.Endian.{big_number}
+use Rattle.jc_desc.specs.declared.versions.TheConstants.{OLDEST_MAJOR, NEWEST_MAJOR, STRICT_MINOR_MAJOR}
 use Rattle.jc_desc.specs.Names.{spells_class_name, spells_member_name, is_init_name, is_clinit_name}
 use Rattle.jc_desc.specs.Reading.{field_of, method_of}
 use Rattle.jc_desc.specs.Tags as tags
@@ -23,9 +24,9 @@ pub record PoolOf : Type 0 where
 abbrev pub nothing : Slot
 nothing = record { tag = 0; body = []; left = 0 }
 
--- a major from 45 to 61; from 56 on the minor is 0 or 65535 (JVMS 4.1, table 4.1-A)
+-- a major from 45 to 65; from 56 on the minor is 0 or 65535 (JVMS 4.1, table 4.1-A)
 abbrev pub is_known_version : ℕ → ℕ → Bool
-is_known_version minor major = not (nat_lt major 45) && not (nat_lt 61 major) && (nat_lt major 56 || minor == 0 || minor == 65535)
+is_known_version minor major = not (nat_lt major OLDEST_MAJOR) && not (nat_lt NEWEST_MAJOR major) && (nat_lt major STRICT_MINOR_MAJOR || minor == 0 || minor == 65535)
 
 -- how many bytes follow the tag of an entry that isn't a Utf8
 abbrev pub body_length : ℕ → Option ℕ

@@ -11,3 +11,4 @@ pub mod names;
 pub mod pool_texts;
 pub mod tags;
 pub mod utf8;
+pub mod versions;

@@ -9,15 +9,9 @@ ghost use Rattle.jc_desc.specs.Pool.{is_known_version, names_array, describes_fi
 use crate::field::field_type;
 use crate::method::{returns_void, slots};
 use crate::names::{is_class_name, is_clinit, is_init, is_member_name};
+use crate::versions::{NEWEST_MAJOR, OLDEST_MAJOR, STRICT_MINOR_MAJOR};
 
-const OLDEST_MAJOR: u16 = 45;
-
-const NEWEST_MAJOR: u16 = 61;
-
-/// From this major on the minor is 0, or 65535 for a class that depends on preview features.
-const STRICT_MINOR_MAJOR: u16 = 56;
-
-/// Whether class files of this version are read: a major from 45 to 61, and from 56 on the minor 0
+/// Whether class files of this version are read: a major from 45 to 65, and from 56 on the minor 0
 /// or 65535 (JVMS 4.1, table 4.1-A).
 pub fn is_version(minor: u16, major: u16) -> bool
     ensures { result ≡ is_known_version minor major }

@@ -9,6 +9,7 @@ use crate::flags::{
 use jc_desc::field::field_type;
 use jc_desc::method::{returns_void, slots};
 use jc_desc::names::{is_clinit, is_init};
+use jc_desc::versions::{ABSTRACT_INTERFACE_MAJOR, INTERFACE_CODE_MAJOR};
 
 /// The name of the class that alone has no superclass.
 pub fn is_object(name: &[u8]) -> bool
@@ -31,7 +32,8 @@ pub fn are_class_flags(major: u16, flags: u16) -> bool
 {
     !is_module(flags)
         && !(is_final(flags) && is_abstract(flags))
-        && (!is_interface(flags) || (!is_final(flags) && (is_abstract(flags) || major < 50)))
+        && (!is_interface(flags)
+            || (!is_final(flags) && (is_abstract(flags) || major < ABSTRACT_INTERFACE_MAJOR)))
 }
 
 /// Whether a field may have these flags in a class with the flags `class` (JVMS 4.5).
@@ -49,7 +51,7 @@ fn are_plain_method_flags(major: u16, class: u16, name: &[u8], flags: u16) -> bo
     let hidden = is_private(flags) || is_static(flags) || is_final(flags) || is_native(flags);
     let special = is_static(flags) || is_final(flags) || is_native(flags) || is_abstract(flags);
     let of_interface = (is_public(flags) || is_private(flags))
-        && (major >= 52 || (is_public(flags) && is_abstract(flags)));
+        && (major >= INTERFACE_CODE_MAJOR || (is_public(flags) && is_abstract(flags)));
     at_most_one_access(flags)
         && (!is_abstract(flags) || !hidden)
         && (!is_init(name) || !special)

@@ -18,6 +18,7 @@ use jc_base::items::Items;
 use jc_base::name::Name;
 use jc_desc::names::{is_class_name, is_member_name};
 use jc_desc::utf8::is_text;
+use jc_desc::versions::{NEST_MAJOR, SEAL_MAJOR};
 use std::alloc::{AllocError, Global};
 use std::collections::BTreeSet;
 
@@ -95,7 +96,7 @@ fn are_permits(major: u16, permits: &Option<Items<Name>>) -> bool
 {
     match permits {
         None => true,
-        Some(names) => major >= 61 && are_names(names.as_slice()),
+        Some(names) => major >= SEAL_MAJOR && are_names(names.as_slice()),
     }
 }
 
@@ -104,14 +105,14 @@ fn is_nest_host(major: u16, host: &Option<Name>) -> bool
 {
     match host {
         None => true,
-        Some(name) => major >= 55 && is_name(name.as_bytes()),
+        Some(name) => major >= NEST_MAJOR && is_name(name.as_bytes()),
     }
 }
 
 fn are_nest_members(major: u16, names: &[Name]) -> bool
     ensures { result ≡ nest_members_are_valid major names.now }
 {
-    names.is_empty() || (major >= 55 && are_names(names))
+    names.is_empty() || (major >= NEST_MAJOR && are_names(names))
 }
 
 fn is_value(value: &Constant) -> bool

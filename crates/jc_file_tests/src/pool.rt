@@ -76,7 +76,8 @@ fn check(rt: &impl Abort, alloc: Global, changes: &[Change]) {
 
 const CHANGES: &[Change] = &[
     (0, b"\0", Some((0, Reason::BadMagic))),
-    (7, b"\x3e", Some((4, Reason::BadVersion))),
+    (7, b"\x42", Some((4, Reason::BadVersion))),
+    (7, b"\x41", None),
     (7, b"\x2c", Some((4, Reason::BadVersion))),
     (7, b"\x2d", None),
     (19, b"\x02", Some((19, Reason::BadTag))),
@@ -96,6 +97,8 @@ const VERSIONS: &[Change] = &[
     (4, b"\0\x01\0\x38", Some((4, Reason::BadVersion))),
     (4, b"\0\0\0\x3d", None),
     (4, b"\xff\xff\0\x3d", None),
+    (4, b"\0\x01\0\x41", Some((4, Reason::BadVersion))),
+    (4, b"\xff\xff\0\x41", None),
 ];
 
 #[test]

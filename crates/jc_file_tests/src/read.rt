@@ -19,7 +19,7 @@ const HOLDER: &[u8] =
     b"\xca\xfe\xba\xbe\0\0\0\x34\0\x0a\x07\0\x02\x01\0\x03p/A\x07\0\x04\x01\0\x10java/lang/Object\x01\0\x01f\x01\0\x01I\x01\0\x0dConstantValue\x03\0\0\0\x40\x01\0\x09Signature\0\x21\0\x01\0\x03\0\0\0\x01\0\x18\0\x05\0\x06\0\x02\0\x07\0\0\0\x02\0\x08\0\x09\0\0\0\x02\0\x06\0\0\0\0";
 
 /// A place, how many bytes are cut there, and those that come in their place.
-type Edit = (usize, usize, &'static [u8]);
+pub(crate) type Edit = (usize, usize, &'static [u8]);
 
 /// What is changed in a file, how, and its first fault then, if any.
 type Row = (&'static str, &'static [Edit], Option<(u32, Reason)>);
@@ -38,9 +38,15 @@ const PLAIN_ROWS: &[Row] = &[
     ),
     ("the magic", &[(0, 1, b"\0")], Some((0, Reason::BadMagic))),
     (
-        "major 62",
-        &[(7, 1, b"\x3e")],
+        "major 66",
+        &[(7, 1, b"\x42")],
         Some((4, Reason::BadVersion)),
+    ),
+    ("major 62", &[(7, 1, b"\x3e")], None),
+    (
+        "the flags of a module",
+        &[(41, 2, b"\x80\0")],
+        Some((41, Reason::BadFlags)),
     ),
     (
         "an entry of tag 2",
@@ -96,6 +102,16 @@ const PLAIN_ROWS: &[Row] = &[
         "too few permitted names",
         &[
             (7, 1, b"\x3d"),
+            (9, 1, b"\x06"),
+            (41, 0, b"\x01\0\x13PermittedSubclasses"),
+            (54, 1, b"\x01\0\x05\0\0\0\x03\0\x01\0"),
+        ],
+        Some((77, Reason::BadAttribute)),
+    ),
+    (
+        "the same at major 65",
+        &[
+            (7, 1, b"\x41"),
             (9, 1, b"\x06"),
             (41, 0, b"\x01\0\x13PermittedSubclasses"),
             (54, 1, b"\x01\0\x05\0\0\0\x03\0\x01\0"),
@@ -211,7 +227,7 @@ pub(crate) fn fault_of(rt: &impl Abort, alloc: Global, bytes: &[u8]) -> Option<M
 }
 
 // Whether the first fault is this one.
-fn is_fault(fault: Option<Malformed>, want: Option<(u32, Reason)>) -> bool {
+pub(crate) fn is_fault(fault: Option<Malformed>, want: Option<(u32, Reason)>) -> bool {
     match (fault, want) {
         (None, None) => true,
         (Some(fault), Some((offset, reason))) => fault.offset == offset && fault.reason == reason,

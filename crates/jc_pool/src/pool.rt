@@ -5,7 +5,7 @@ ghost use Rattle.std.specs.Result.{result_map_both};
 ghost use Rattle.jc_desc.specs.Pool.{PoolOf};
 ghost use Rattle.jc_desc.specs.PoolGrammar.{ReadsPool};
 ghost use Rattle.jc_desc.specs.PoolSteps.{pool_at, linked};
-ghost use Rattle.jc_desc.specs.PoolAnswers.{tag_in, utf8_in, class_in, member_ref_in, member_of, handle_in, dynamic_in, constant_in, word_from, double_word_from};
+ghost use Rattle.jc_desc.specs.PoolAnswers.{tag_in, utf8_in, class_in, module_in, package_in, member_ref_in, member_of, handle_in, dynamic_in, constant_in, word_from, double_word_from};
 ghost use Rattle.jc_pool.specs.Slots.{slot_of, slots_of};
 ghost use Rattle.jc_pool.specs.Views.{member_view, handle_view, constant_view, PoolFails};
 
@@ -250,6 +250,32 @@ impl<'a> Pool<'a> {
     {
         let slot = at(self.slots.as_slice(), index);
         if slot.tag == tags::CLASS {
+            Some(text(self.slots.as_slice(), slot))
+        } else {
+            None
+        }
+    }
+
+    /// The text that a Module names (JVMS 4.4.11), whatever it is. None exactly where the index holds no
+    /// Module.
+    pub fn module(&self, index: u16) -> Option<&'a [u8]>
+        ensures { option_map (λ text. text.now) result ≡ module_in self.now index }
+    {
+        let slot = at(self.slots.as_slice(), index);
+        if slot.tag == tags::MODULE {
+            Some(text(self.slots.as_slice(), slot))
+        } else {
+            None
+        }
+    }
+
+    /// The text that a Package names (JVMS 4.4.12), whatever it is. None exactly where the index holds no
+    /// Package.
+    pub fn package(&self, index: u16) -> Option<&'a [u8]>
+        ensures { option_map (λ text. text.now) result ≡ package_in self.now index }
+    {
+        let slot = at(self.slots.as_slice(), index);
+        if slot.tag == tags::PACKAGE {
             Some(text(self.slots.as_slice(), slot))
         } else {
             None

@@ -2,6 +2,7 @@
 --     items bytes      the items of the methods in order, or the first refusal
 --     IsBadCode bytes offset reason      the first refusal
 use Rattle.std.specs.Prelude.{◌≡◌, ℕ, zero, suc, ◌+◌, ◌-◌, ◌*◌, ◌/◌, List, [], ◌++◌, length, Option, Some, None, Result, Ok, Err, Bool, false, ◌||◌, ◌&&◌, nat_le, codes, true, if◌then◌else◌}
+use Rattle.jc_desc.specs.declared.versions.TheConstants.{BOOTSTRAP_MAJOR}
 use Rattle.jc_desc.specs.declared.fault.Fault.{Fault}
 use Rattle.jc_desc.specs.Pool.{PoolOf}
 use Rattle.jc_desc.specs.PoolAnswers.{some_if}
@@ -85,7 +86,7 @@ methods_items pool head boots (suc n) bytes = do
 
 -- the contents of the first BootstrapMethods, which is read from major 51 on; a later one doesn't count
 unfoldable pub take_boots : PoolOf → Option Bytes → Attribute → Option (Option Bytes)
-take_boots pool found a = Some (if nat_le 51 pool.major && has_this_name a (codes "BootstrapMethods") then or_else found (Some a.body) else found)
+take_boots pool found a = Some (if nat_le BOOTSTRAP_MAJOR pool.major && has_this_name a (codes "BootstrapMethods") then or_else found (Some a.body) else found)
 
 -- its rows; None where it isn't there or isn't of its form
 unfoldable pub boots_of : Option Bytes → Option (List BootstrapOf)

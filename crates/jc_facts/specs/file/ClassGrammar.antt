@@ -2,6 +2,7 @@
 -- what comes behind it.
 --     Reads bytes c      the bytes are a class file whose record is c
 use Rattle.std.specs.Prelude.{◌≡◌, ◌≢◌, ℕ, List, [], ◌∷◌, ◌++◌, length, filter, Option, Some, None, Bool, true, false, not, nat_le, codes, IsTrue, if◌then◌else◌}
+use Rattle.jc_desc.specs.declared.versions.TheConstants.{SIGNATURE_MAJOR, NEST_MAJOR, SEAL_MAJOR}
 use Rattle.jc_desc.specs.Names.{spells_member_name}
 use Rattle.jc_desc.specs.Pool.{PoolOf}
 use Rattle.jc_desc.specs.PoolAnswers.{class_in, utf8_in, constant_in, ConstantOf}
@@ -113,13 +114,13 @@ SayOnce form (a ∷ b ∷ ats) o = ⊥
 -- of a field or a method: ConstantValue of fields alone, Signature from major 49 on
 pub record SayOnMember (method : Bool) (pool : PoolOf) (ats : List Attribute) (found : OnMember) : Type 0 where
   pub constant : SayOnce (IsConstantValue pool) (named (not method) (codes "ConstantValue") ats) found.constant
-  pub signature : SayOnce (IsSignature pool) (named (nat_le 49 pool.major) (codes "Signature") ats) found.signature
+  pub signature : SayOnce (IsSignature pool) (named (nat_le SIGNATURE_MAJOR pool.major) (codes "Signature") ats) found.signature
 
 pub record SayOnClass (pool : PoolOf) (ats : List Attribute) (found : OnClass) : Type 0 where
-  pub permits : SayOnce (AreClasses pool) (named (nat_le 61 pool.major) (codes "PermittedSubclasses") ats) found.permits
-  pub nest_host : SayOnce (IsHost pool) (named (nat_le 55 pool.major) (codes "NestHost") ats) found.nest_host
-  pub nest_members : SayOnce (AreClasses pool) (named (nat_le 55 pool.major) (codes "NestMembers") ats) found.nest_members
-  pub signature : SayOnce (IsSignature pool) (named (nat_le 49 pool.major) (codes "Signature") ats) found.signature
+  pub permits : SayOnce (AreClasses pool) (named (nat_le SEAL_MAJOR pool.major) (codes "PermittedSubclasses") ats) found.permits
+  pub nest_host : SayOnce (IsHost pool) (named (nat_le NEST_MAJOR pool.major) (codes "NestHost") ats) found.nest_host
+  pub nest_members : SayOnce (AreClasses pool) (named (nat_le NEST_MAJOR pool.major) (codes "NestMembers") ats) found.nest_members
+  pub signature : SayOnce (IsSignature pool) (named (nat_le SIGNATURE_MAJOR pool.major) (codes "Signature") ats) found.signature
 
 -- ---- fields and methods (JVMS 4.5, 4.6)
 

@@ -5,6 +5,7 @@ use Rattle.std.specs.Prelude.{◌≡◌, ℕ, zero, suc, ◌-◌, List, [], ◌�
 use Rattle.jc_desc.specs.declared.fault.Fault.{Fault}
 use Rattle.jc_desc.specs.declared.fault.Reason.{Reason}
 use Rattle.jc_desc.specs.declared.fault.Reason.TheVariants as reasons
+use Rattle.jc_desc.specs.declared.versions.TheConstants.{SIGNATURE_MAJOR, NEST_MAJOR, SEAL_MAJOR}
 use Rattle.jc_desc.specs.Faults.{◌>>=◌, fault, number_at, part_at, check}
 use Rattle.jc_desc.specs.Names.{spells_member_name}
 use Rattle.jc_desc.specs.Pool.{PoolOf}
@@ -90,7 +91,7 @@ put_signature found (Some t) = Some (record { constant = found.constant; signatu
 unfoldable pub member_takes : Bool → PoolOf → OnMember → Attribute → Option OnMember
 member_takes method pool found a =
     if not method && has_this_name a (codes "ConstantValue") then put_constant found (once found.constant (constant_value_of pool a.body))
-    else if nat_le 49 pool.major && has_this_name a (codes "Signature") then put_signature found (once found.signature (signature_of pool a.body))
+    else if nat_le SIGNATURE_MAJOR pool.major && has_this_name a (codes "Signature") then put_signature found (once found.signature (signature_of pool a.body))
     else Some found
 
 abbrev pub put_permits : OnClass → Option (List Bytes) → Option OnClass
@@ -111,10 +112,10 @@ put_class_signature found (Some t) = Some (record { permits = found.permits; nes
 
 unfoldable pub class_takes : PoolOf → OnClass → Attribute → Option OnClass
 class_takes pool found a =
-    if nat_le 61 pool.major && has_this_name a (codes "PermittedSubclasses") then put_permits found (once found.permits (class_list_of pool a.body))
-    else if nat_le 55 pool.major && has_this_name a (codes "NestHost") then put_nest_host found (once found.nest_host (nest_host_of pool a.body))
-    else if nat_le 55 pool.major && has_this_name a (codes "NestMembers") then put_nest_members found (once found.nest_members (class_list_of pool a.body))
-    else if nat_le 49 pool.major && has_this_name a (codes "Signature") then put_class_signature found (once found.signature (signature_of pool a.body))
+    if nat_le SEAL_MAJOR pool.major && has_this_name a (codes "PermittedSubclasses") then put_permits found (once found.permits (class_list_of pool a.body))
+    else if nat_le NEST_MAJOR pool.major && has_this_name a (codes "NestHost") then put_nest_host found (once found.nest_host (nest_host_of pool a.body))
+    else if nat_le NEST_MAJOR pool.major && has_this_name a (codes "NestMembers") then put_nest_members found (once found.nest_members (class_list_of pool a.body))
+    else if nat_le SIGNATURE_MAJOR pool.major && has_this_name a (codes "Signature") then put_class_signature found (once found.signature (signature_of pool a.body))
     else Some found
 
 abbrev pub nothing_on_member : OnMember

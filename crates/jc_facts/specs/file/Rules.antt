@@ -5,6 +5,7 @@
 --     method_descriptor_fits name f descriptor      of a method of this name and these flags (JVMS 4.3.3, 4.6)
 -- No other rule on flags is made; bits that the rules don't name are kept and not judged.
 use Rattle.std.specs.Prelude.{ℕ, ◌+◌, Bool, true, false, not, Option, None, Some, is_some, ◌||◌, ◌&&◌, nat_le, nat_lt, if◌then◌else◌}
+use Rattle.jc_desc.specs.declared.versions.TheConstants.{ABSTRACT_INTERFACE_MAJOR, INTERFACE_CODE_MAJOR}
 use Rattle.jc_desc.specs.Names.{is_init_name, is_clinit_name}
 use Rattle.jc_desc.specs.Reading.{field_of, method_of, slots_of_method}
 use Rattle.jc_desc.specs.Pool.{no_result}
@@ -30,7 +31,7 @@ abbrev pub class_flags_fit : ℕ → ℕ → Bool
 class_flags_fit major f =
     not (module_flag f)
     && apart (final_flag f) (abstract_flag f)
-    && implies (interface_flag f) (not (final_flag f) && (abstract_flag f || nat_lt major 50))
+    && implies (interface_flag f) (not (final_flag f) && (abstract_flag f || nat_lt major ABSTRACT_INTERFACE_MAJOR))
 
 -- not both final and volatile; of an interface, public, static and final
 abbrev pub field_flags_fit : ℕ → ℕ → Bool
@@ -46,7 +47,7 @@ plain_method_flags_fit major c name f =
     one_access_at_most f
     && implies (abstract_flag f) (not (private_flag f || static_flag f || final_flag f || native_flag f))
     && implies (is_init_name name) (not (static_flag f || final_flag f || native_flag f || abstract_flag f))
-    && implies (interface_flag c) ((public_flag f || private_flag f) && (nat_le 52 major || (public_flag f && abstract_flag f)))
+    && implies (interface_flag c) ((public_flag f || private_flag f) && (nat_le INTERFACE_CODE_MAJOR major || (public_flag f && abstract_flag f)))
 
 -- the flags of a class initializer aren't judged
 abbrev pub method_flags_fit : ℕ → ℕ → Bytes → ℕ → Bool

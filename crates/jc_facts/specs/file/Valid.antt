@@ -2,6 +2,7 @@
 --     IsValidClass c      the record meets every rule
 use Rattle.std.specs.Prelude.{ℕ, Bool, true, false, not, List, [], ◌∷◌, ◌++◌, map, filter, count_by, Option, None, Some, is_none, ◌||◌, ◌&&◌, nat_le, IsTrue}
 use Rattle.std.specs.List.{list_any, list_all}
+use Rattle.jc_desc.specs.declared.versions.TheConstants.{NEST_MAJOR, SEAL_MAJOR}
 use Rattle.jc_desc.specs.Names.{spells_class_name, spells_member_name}
 use Rattle.jc_desc.specs.Utf8.{is_modified_utf8}
 use Rattle.jc_facts.specs.declared.class_facts.ClassFacts.{ClassFacts}
@@ -59,17 +60,17 @@ method_is_valid c m =
 -- only from major 61 on (JVMS 4.7.31)
 abbrev pub permits_are_valid : ℕ → Option (List Bytes) → Bool
 permits_are_valid major None = true
-permits_are_valid major (Some names) = nat_le 61 major && list_all is_valid_name names
+permits_are_valid major (Some names) = nat_le SEAL_MAJOR major && list_all is_valid_name names
 
 -- only from major 55 on (JVMS 4.7.28)
 abbrev pub nest_host_is_valid : ℕ → Option Bytes → Bool
 nest_host_is_valid major None = true
-nest_host_is_valid major (Some name) = nat_le 55 major && is_valid_name name
+nest_host_is_valid major (Some name) = nat_le NEST_MAJOR major && is_valid_name name
 
 -- only from major 55 on (JVMS 4.7.29)
 abbrev pub nest_members_are_valid : ℕ → List Bytes → Bool
 nest_members_are_valid major [] = true
-nest_members_are_valid major (name ∷ names) = nat_le 55 major && list_all is_valid_name (name ∷ names)
+nest_members_are_valid major (name ∷ names) = nat_le NEST_MAJOR major && list_all is_valid_name (name ∷ names)
 
 abbrev pub value_is_valid : Constant → Bool
 value_is_valid (constants.Text t) = is_modified_utf8 t

@@ -27,13 +27,14 @@ const FEW_GONE: &str = r##": P java/lang/Object init | O p/A init | N p/A init m
 
 const MANY_GONE: &str =
     ": P java/lang/Object init | O p/A init | O p/B init | O p/C init | O p/D init | O p/E init | O p/F init | O p/G init | O p/H init | O p/I init
-: O p/J init | O p/K init
+: O p/J init
 > 1 H1 p/A - class - NoClassDefFoundError | 2 H1 p/B - class - NoClassDefFoundError | 3 H1 p/C - class - NoClassDefFoundError
 > 4 H1 p/D - class - NoClassDefFoundError | 5 H1 p/E - class - NoClassDefFoundError | 6 H1 p/F - class - NoClassDefFoundError
 > 7 H1 p/G - class - NoClassDefFoundError | 8 H1 p/H - class - NoClassDefFoundError | 9 H1 p/I - class - NoClassDefFoundError
-> 10 H1 p/J - class - NoClassDefFoundError | 11 H1 p/K - class - NoClassDefFoundError | incompatible: 11 findings, 0 collisions, 0 notes
-#0 check --platform P --old O --new N --gate collisions
-#1 check --platform P --old O --new N --gate few
+> 10 H1 p/J - class - NoClassDefFoundError
+#0 check --platform P --old O --new N --gate few,collisions > incompatible: 10 findings, 0 collisions, 0 notes
+#1 check --platform P --old O --new N --gate few : O p/K init
+> 11 H1 p/K - class - NoClassDefFoundError | incompatible: 11 findings, 0 collisions, 0 notes
 ";
 
 const NO_FILES: &str =
