@@ -19,7 +19,6 @@ use Rattle.jc_facts.specs.written.PoolEntries.{PoolEntry, class, member, is_good
 use Rattle.jc_facts.specs.written.Bodies.{tag_of_act, init_name, step_needs, steps_needs}
 use Rattle.jc_facts.specs.plan.PlannedBodies.{basic_zero, zero_step, zeros, params_of, taken_by, given_by, pops_of, first_local, init_steps, cast_steps, turn_steps, make_steps, act_steps}
 use Rattle.jc_facts.proofs.Same.{same_itself}
-use Rattle.jc_worlds.proofs.ValidFacts.{no_array}
 use Rattle.jc_bodies.proofs.RowTypes.{IsAbove, IsUsable}
 use Rattle.jc_bodies.proofs.Keys.{IsMethodKey, IsFieldKey}
 use Rattle.jc_bodies.proofs.Limits.{is_short}

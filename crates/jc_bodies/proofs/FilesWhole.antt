@@ -6,7 +6,7 @@ use Rattle.jc_facts.specs.declared.verdict.Cause.{Cause}
 use Rattle.jc_facts.specs.declared.verdict.Cause.TheVariants as cause
 use Rattle.jc_facts.specs.rule.Collisions.{CollisionStands}
 use Rattle.jc_facts.specs.rule.Findings.{Stands}
-use Rattle.jc_facts.specs.world.World.{World, side}
+use Rattle.jc_facts.specs.world.World.{World}
 use Rattle.jc_facts.specs.plan.PlannedNames.{fresh_package}
 use Rattle.jc_facts.specs.plan.Planned.{plan, planned, planned_for}
 use Rattle.jc_facts.specs.plan.PlannedBodies.{blueprints, plan_bodies, planned_files}
@@ -31,19 +31,13 @@ shown_by_files O N e error w s = record {
         (files_of (plan O N (fresh_package O N) e).clients (plan_bodies O N (fresh_package O N) e) w)
 
 pub each_has_its_files : EachHasItsFiles
-each_has_its_files platform old new v can is = (
-  All-from_recursion (λ f. FilesShow O N (cause.Finding f) f.error × All (λ c. PlannedMeet O N (cause.Finding f) c → ⊥) v.collisions) v.findings (EachOf-both (λ f s p. (shown_by_files O N (cause.Finding f) f.error (finding_written platform old new can f s) p.0, p.1)) v.findings
+each_has_its_files O N v can is = (
+  All-from_recursion (λ f. FilesShow O N (cause.Finding f) f.error × All (λ c. PlannedMeet O N (cause.Finding f) c → ⊥) v.collisions) v.findings (EachOf-both (λ f s p. (shown_by_files O N (cause.Finding f) f.error (finding_written O N can f s) p.0, p.1)) v.findings
       (recursion_from_All (Stands O N) v.findings is.findings.sound) (recursion_from_All (λ f. PlannedShow O N (cause.Finding f) f.error × All (λ c. PlannedMeet O N (cause.Finding f) c → ⊥) v.collisions) v.findings whole.0)),
-  All-from_recursion (λ c. FilesShow O N (cause.Collision c) c.error × PlannedMeet O N (cause.Collision c) c) v.collisions (EachOf-both (λ c s p. (shown_by_files O N (cause.Collision c) c.error (collision_written platform old new can c s) p.0, p.1)) v.collisions
+  All-from_recursion (λ c. FilesShow O N (cause.Collision c) c.error × PlannedMeet O N (cause.Collision c) c) v.collisions (EachOf-both (λ c s p. (shown_by_files O N (cause.Collision c) c.error (collision_written O N can c s) p.0, p.1)) v.collisions
       (recursion_from_All (CollisionStands O N) v.collisions is.collisions.sound) (recursion_from_All (λ c. PlannedShow O N (cause.Collision c) c.error × PlannedMeet O N (cause.Collision c) c) v.collisions whole.1)),
 )
   where
-    O : World
-    O = side platform old
-
-    N : World
-    N = side platform new
-
-    whole : All (λ f. PlannedShow (side platform old) (side platform new) (cause.Finding f) f.error × All (λ c. PlannedMeet (side platform old) (side platform new) (cause.Finding f) c → ⊥) v.collisions) v.findings
-        × All (λ c. PlannedShow (side platform old) (side platform new) (cause.Collision c) c.error × PlannedMeet (side platform old) (side platform new) (cause.Collision c) c) v.collisions
-    whole = completeness platform old new v can.plan is
+    whole : All (λ f. PlannedShow O N (cause.Finding f) f.error × All (λ c. PlannedMeet O N (cause.Finding f) c → ⊥) v.collisions) v.findings
+        × All (λ c. PlannedShow O N (cause.Collision c) c.error × PlannedMeet O N (cause.Collision c) c) v.collisions
+    whole = completeness O N v can.plan is

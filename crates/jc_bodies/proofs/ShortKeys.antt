@@ -12,7 +12,7 @@ use Rattle.jc_facts.specs.rule.Findings.{Stands, subject_of}
 use Rattle.jc_facts.specs.world.Hierarchy.{chain, superinterfaces}
 use Rattle.jc_facts.specs.world.Loading.{load_fault}
 use Rattle.jc_facts.specs.Names.{Bytes}
-use Rattle.jc_facts.specs.world.World.{World, side, own_field_of, own_method_of}
+use Rattle.jc_facts.specs.world.World.{World, own_field_of, own_method_of}
 use Rattle.jc_sound.specs.Findings.{declares_key}
 use Rattle.jc_worlds.specs.Hierarchy.{above}
 use Rattle.jc_worlds.proofs.Above.{chain-each, superinterfaces-each}
@@ -50,16 +50,16 @@ any_short (c ∷ cs) k g h = go (or_cases (declares_key k c) (list_any (declares
 above_good : (W : World) → IsSound W → (x : Bytes) → load_fault W x ≡ None → EachOf IsGood (above W x)
 above_good W s x h = EachOf-append IsGood (chain W x) (superinterfaces W x) (chain-each W IsGood (λ y c e l. (s.valid y c e, s.short y c e)) x h) (superinterfaces-each W IsGood (λ y c e l i. (s.valid y c e, s.short y c e)) x h)
 
-module _ (platform old new : List ClassFacts) (can : CanWrite platform old new) where
+module _ (O N : World) (can : CanWrite O N) where
   -- of a finding on a class that loads on both sides
-  pub finding_key : (f : Finding) (k : Key) → f.key ≡ Some k → Stands (side platform old) (side platform new) f → load_fault (side platform old) f.«class» ≡ None → load_fault (side platform new) f.«class» ≡ None → IsShortKey k
+  pub finding_key : (f : Finding) (k : Key) → f.key ≡ Some k → Stands O N f → load_fault O f.«class» ≡ None → load_fault N f.«class» ≡ None → IsShortKey k
   finding_key f k e s lo ln =
-      any_short (above (side platform old) f.«class» ++ above (side platform new) f.«class») k
-      (EachOf-append IsGood (above (side platform old) f.«class») (above (side platform new) f.«class») (above_good (side platform old) (sound_old platform old new can [] tt) f.«class» lo) (above_good (side platform new) (sound_new platform old new can) f.«class» ln))
-      (keys_are_declared platform old new can.plan.root.has can.plan.platform_valid can.plan.old_valid can.plan.new_valid (subject_of f) k f e s)
+      any_short (above O f.«class» ++ above N f.«class») k
+      (EachOf-append IsGood (above O f.«class») (above N f.«class») (above_good O (sound_old O N can) f.«class» lo) (above_good N (sound_new O N can) f.«class» ln))
+      (keys_are_declared O N can.plan.pair (subject_of f) k f e s)
 
   -- of a collision on a class that loads on the new side
-  pub collision_key : (c : Collision) → CollisionStands (side platform old) (side platform new) c → load_fault (side platform new) c.«class» ≡ None → IsShortKey c.key
+  pub collision_key : (c : Collision) → CollisionStands O N c → load_fault N c.«class» ≡ None → IsShortKey c.key
   collision_key c s l =
-      any_short (above (side platform new) c.«class») c.key (above_good (side platform new) (sound_new platform old new can) c.«class» l)
-      (collision_keys_are_declared platform old new can.plan.root.has can.plan.platform_valid can.plan.old_valid can.plan.new_valid c.rule c.«class» c.key c s)
+      any_short (above N c.«class») c.key (above_good N (sound_new O N can) c.«class» l)
+      (collision_keys_are_declared O N can.plan.pair c.rule c.«class» c.key c s)

@@ -1,5 +1,5 @@
 -- Two releases with short names, and the old one with planned clients: worlds of valid classes with short names.
-use Rattle.std.proofs.Common.{◌≡◌, ◌≤◌, true, refl, ◌&&◌, not, List, [], ◌∷◌, ◌++◌, length, nat_le, is_some}
+use Rattle.std.proofs.Common.{◌≡◌, ◌≤◌, true, refl, sym, subst, ◌&&◌, not, List, [], ◌∷◌, ◌++◌, length, nat_le, is_some}
 use Rattle.std.specs.List.{list_all, All}
 use Rattle.std.specs.Str.{is_utf8}
 use Rattle.std.proofs.lemmas.Bool.{and_parts, and_from, le-leb, leb-true}
@@ -10,7 +10,7 @@ use Rattle.jc_facts.specs.declared.client.ClientClass.{ClientClass}
 use Rattle.jc_facts.specs.client.Clients.{IsValidClient, is_allowed_name, is_named_above, has_package, facts_of}
 use Rattle.jc_facts.specs.Names.{Bytes}
 use Rattle.jc_facts.specs.file.Valid.{IsValidClass}
-use Rattle.jc_facts.specs.world.World.{World, find_class, side, with_clients}
+use Rattle.jc_facts.specs.world.World.{World, classes, find_class, with_clients}
 use Rattle.jc_lemmas.proofs.Listed.{EachOf, EachOf-append, EachOf-both}
 use Rattle.jc_facts.proofs.World.{class_named-each}
 use Rattle.jc_bodies.specs.Files.{IsShortMember, HasShortNames, CanWrite}
@@ -40,18 +40,28 @@ allowed_length W x h =
     let p = and_parts (not (is_some (find_class W x)) && not (is_named_above W x) && not (has_package W x) && nat_le (length x) 4090) (is_utf8 x) h in
     leb-true (length x) 4090 (and_parts (not (is_some (find_class W x)) && not (is_named_above W x) && not (has_package W x)) (nat_le (length x) 4090) p.0).1
 
-sound_from : (platform release clients : List ClassFacts) → EachOf IsGood platform → EachOf IsGood release → EachOf IsGood clients → IsSound (with_clients (side platform release) clients)
+sound_from : (W : World) → EachOf IsGood W.platform → EachOf IsGood W.release → EachOf IsGood W.clients → IsSound W
 unfolding find_class
-sound_from platform release clients p r c =
-    let all : EachOf IsGood (platform ++ release ++ clients) = EachOf-append IsGood (platform ++ release) clients (EachOf-append IsGood platform release p r) c in
-    record { valid = λ x d e. (class_named-each IsGood (platform ++ release ++ clients) x d all e).0; short = λ x d e. (class_named-each IsGood (platform ++ release ++ clients) x d all e).1 }
+sound_from W p r c =
+    let all : EachOf IsGood (classes W) = EachOf-append IsGood (W.platform ++ W.release) W.clients (EachOf-append IsGood W.platform W.release p r) c in
+    record { valid = λ x d e. (class_named-each IsGood (classes W) x d all e).0; short = λ x d e. (class_named-each IsGood (classes W) x d all e).1 }
 
-module _ (platform old new : List ClassFacts) (can : CanWrite platform old new) where
-  pub sound_old : (clients : List ClassFacts) → EachOf IsGood clients → IsSound (with_clients (side platform old) clients)
-  sound_old clients c = sound_from platform old clients (all_good platform can.plan.platform_valid can.platform_short) (all_good old can.plan.old_valid can.old_short) c
+module _ (O N : World) (can : CanWrite O N) where
+  good_platform : EachOf IsGood O.platform
+  good_platform = all_good O.platform can.plan.pair.platform_valid can.platform_short
 
-  pub sound_new : IsSound (side platform new)
-  sound_new = sound_from platform new [] (all_good platform can.plan.platform_valid can.platform_short) (all_good new can.plan.new_valid can.new_short) tt
+  good_old : EachOf IsGood O.release
+  good_old = all_good O.release can.plan.pair.old_valid can.old_short
+
+  pub sound_clients : (clients : List ClassFacts) → EachOf IsGood clients → IsSound (with_clients O clients)
+  sound_clients clients c = sound_from (with_clients O clients) good_platform good_old c
+
+  pub sound_old : IsSound O
+  sound_old = sound_from O good_platform good_old (subst (EachOf IsGood) (sym can.plan.pair.run.old_bare) tt)
+
+  pub sound_new : IsSound N
+  sound_new =
+      sound_from N (subst (EachOf IsGood) can.plan.pair.run.platform good_platform) (all_good N.release can.plan.pair.new_valid can.new_short) (subst (EachOf IsGood) (sym can.plan.pair.run.new_bare) tt)
 
 -- clients whose members have short names
 abbrev pub HasShortMembers : ClientClass → Type 0

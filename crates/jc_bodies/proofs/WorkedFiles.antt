@@ -16,6 +16,7 @@ use Rattle.jc_facts.specs.Names.{object_name}
 use Rattle.jc_facts.specs.plan.Planned.{plan}
 use Rattle.jc_facts.specs.plan.PlannedBodies.{Bodies, body_of, plan_bodies, planned_files}
 use Rattle.jc_facts.specs.plan.PlannedNames.{first_unused, least_name, constructors}
+use Rattle.jc_facts.specs.world.World.{side}
 use Rattle.jc_facts.specs.written.PoolEntries.{entries_bytes}
 use Rattle.jc_facts.specs.written.Written.{pool_of_plan, written}
 use Rattle.jc_complete.proofs.WorkedPlans.{clients_can_be_planned}
@@ -68,7 +69,7 @@ short_old = short (plain p_A) (lit≤ tt) tt (short_init, tt)
 short_new : HasShortNames (public_class p_A [] (run 2 ∷ []))
 short_new = short (public_class p_A [] (run 2 ∷ [])) (lit≤ tt) tt (short_init, ((lit≤ tt, lit≤ tt), tt))
 
-files_can_be_written : CanWrite (object ∷ []) (plain p_A ∷ []) (public_class p_A [] (run 2 ∷ []) ∷ [])
+files_can_be_written : CanWrite (side (object ∷ []) (plain p_A ∷ [])) (side (object ∷ []) (public_class p_A [] (run 2 ∷ []) ∷ []))
 files_can_be_written = record {
   plan = clients_can_be_planned;
   platform_short = All-from_recursion HasShortNames (object ∷ []) (short object (lit≤ tt) tt (short_init, tt), tt);

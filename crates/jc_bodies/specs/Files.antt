@@ -8,7 +8,7 @@ use Rattle.jc_facts.specs.declared.link_error.LinkError.{LinkError}
 use Rattle.jc_facts.specs.declared.verdict.Cause.{Cause}
 use Rattle.jc_facts.specs.declared.verdict.Cause.TheVariants as cause
 use Rattle.jc_facts.specs.declared.verdict.Verdict.{Verdict}
-use Rattle.jc_facts.specs.world.World.{World, side}
+use Rattle.jc_facts.specs.world.World.{World}
 use Rattle.jc_facts.specs.file.ClassGrammar.{Reads}
 use Rattle.jc_facts.specs.code.ClientItems.{items as items_in}
 use Rattle.jc_facts.specs.written.Written.{written, HasShortFlags, fits_whole}
@@ -30,12 +30,12 @@ pub record HasShortNames (c : ClassFacts) : Type 0 where
   pub fields : All IsShortMember c.fields
   pub methods : All IsShortMember c.methods
 
--- clients can be planned for the two releases, and all names are short
-pub record CanWrite (platform old new : List ClassFacts) : Type 0 where
-  pub plan : CanPlan platform old new
-  pub platform_short : All HasShortNames platform
-  pub old_short : All HasShortNames old
-  pub new_short : All HasShortNames new
+-- clients can be planned for the two sides, and all names are short
+pub record CanWrite (O N : World) : Type 0 where
+  pub plan : CanPlan O N
+  pub platform_short : All HasShortNames O.platform
+  pub old_short : All HasShortNames O.release
+  pub new_short : All HasShortNames N.release
 
 -- ---- files
 
@@ -68,7 +68,6 @@ pub record FilesShow (O N : World) (e : Cause) (error : LinkError) : Type 0 wher
 -- For each finding and each collision of the verdict the planned files are read as the planned clients, which are in scope, link whole with
 -- the old release and fail with the new by the named error at one spot. Those of a finding meet no collision, and those of a collision meet it.
 abbrev pub EachHasItsFiles : Type 0
-EachHasItsFiles = (platform old new : List ClassFacts) (v : Verdict) → CanWrite platform old new → IsVerdict (side platform old) (side platform new) v
-    → let O = side platform old in let N = side platform new in
-    All (λ f. FilesShow O N (cause.Finding f) f.error × All (λ c. ¬ (PlannedMeet O N (cause.Finding f) c)) v.collisions) v.findings
+EachHasItsFiles = (O N : World) (v : Verdict) → CanWrite O N → IsVerdict O N v
+    → All (λ f. FilesShow O N (cause.Finding f) f.error × All (λ c. ¬ (PlannedMeet O N (cause.Finding f) c)) v.collisions) v.findings
     × All (λ c. FilesShow O N (cause.Collision c) c.error × PlannedMeet O N (cause.Collision c) c) v.collisions

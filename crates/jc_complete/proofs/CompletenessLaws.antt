@@ -4,7 +4,7 @@ use Rattle.std.proofs.lemmas.Bool.{and_parts, not-true}
 use Rattle.jc_facts.specs.declared.finding.Finding.{Finding}
 use Rattle.jc_facts.specs.declared.verdict.Cause.TheVariants as cause
 use Rattle.jc_facts.specs.Names.{Bytes}
-use Rattle.jc_facts.specs.world.World.{World, side, with_clients}
+use Rattle.jc_facts.specs.world.World.{World, with_clients}
 use Rattle.jc_facts.specs.declared.verdict.Collision.{Collision}
 use Rattle.jc_facts.specs.client.Clients.{facts_of}
 use Rattle.jc_facts.specs.client.Meets.{Meets}
@@ -37,106 +37,84 @@ ShowsIt O N w f = ShowsAlone O N (plan O N w (cause.Finding f)) f.error
 
 pub class_gone_shown : FindingsShown (λ f. f.rule ≡ 1)
 unfolding plan
-class_gone_shown platform old new c f e s =
-    let O = side platform old in
-    let N = side platform new in
-    let w = fresh_package (side platform old) (side platform new) in
+class_gone_shown O N c f e s =
+    let w = fresh_package O N in
     let g = by_class_gone O N f e s in
     let p = and_parts (is_class_usable O f.«class») (not (is_class_usable N f.«class»)) g.stands in
-    subst (ShowsIt O N w) g.is (class_gone_is_shown O N w (ready_of platform old new c) f.«class» p.0 (not-true (is_class_usable N f.«class») p.1))
+    subst (ShowsIt O N w) g.is (class_gone_is_shown O N w (ready_of O N c) f.«class» p.0 (not-true (is_class_usable N f.«class») p.1))
 
 pub interface_became_class_shown : FindingsShown (λ f. f.rule ≡ 3)
 unfolding plan
-interface_became_class_shown platform old new c f e s =
-    let O = side platform old in
-    let N = side platform new in
-    let w = fresh_package (side platform old) (side platform new) in
+interface_became_class_shown O N c f e s =
+    let w = fresh_package O N in
     let g = by_interface_became_class O N f e s in
-    subst (ShowsIt O N w) g.is (interface_became_class_is_shown O N w (ready_of platform old new c) f.«class» g.stands)
+    subst (ShowsIt O N w) g.is (interface_became_class_is_shown O N w (ready_of O N c) f.«class» g.stands)
 
 pub superclass_lost_shown : FindingsShown (λ f. f.rule ≡ 4)
 unfolding plan
-superclass_lost_shown platform old new c f e s =
-    let O = side platform old in
-    let N = side platform new in
-    let w = fresh_package (side platform old) (side platform new) in
+superclass_lost_shown O N c f e s =
+    let w = fresh_package O N in
     let g = by_superclass_lost O N f e s in
-    subst (ShowsIt O N w) g.is (superclass_lost_is_shown O N w (ready_of platform old new c) f.«class» g.target (cut_parts O N f.«class» g.target g.stands))
+    subst (ShowsIt O N w) g.is (superclass_lost_is_shown O N w (ready_of O N c) f.«class» g.target (cut_parts O N f.«class» g.target g.stands))
 
 pub constructor_closed_shown : FindingsShown (λ f. f.rule ≡ 5)
 unfolding plan
-constructor_closed_shown platform old new c f e s = go (by_constructor_closed (side platform old) (side platform new) f e s)
+constructor_closed_shown O N c f e s = go (by_constructor_closed O N f e s)
   where
-    O : World
-    O = side platform old
-
-    N : World
-    N = side platform new
-
     w : Bytes
-    w = fresh_package (side platform old) (side platform new)
+    w = fresh_package O N
 
-    r : Ready (side platform old) (side platform new) (fresh_package (side platform old) (side platform new))
-    r = ready_of platform old new c
+    r : Ready O N (fresh_package O N)
+    r = ready_of O N c
 
-    go : ConstructorClosed (side platform old) (side platform new) f → ShowsAlone (side platform old) (side platform new) (plan (side platform old) (side platform new) (fresh_package (side platform old) (side platform new)) (cause.Finding f)) f.error
+    go : ConstructorClosed O N f → ShowsAlone O N (plan O N (fresh_package O N) (cause.Finding f)) f.error
     go (by_new k x b is) = subst (ShowsIt O N w) is (new_is_shown O N w r f.«class» k x b)
     go (by_init k x b is) = subst (ShowsIt O N w) is (call_is_shown O N w r f.«class» k x b)
 
 pub class_closed_shown : FindingsShown (λ f. f.rule ≡ 2)
 unfolding plan
-class_closed_shown platform old new c f e s =
-    let O = side platform old in
-    let N = side platform new in
-    let w = fresh_package (side platform old) (side platform new) in
+class_closed_shown O N c f e s =
+    let w = fresh_package O N in
     let g = by_class_closed O N f e s in
-    subst (ShowsIt O N w) g.is (class_closed_is_shown O N w (ready_of platform old new c) f.«class» g.stands)
+    subst (ShowsIt O N w) g.is (class_closed_is_shown O N w (ready_of O N c) f.«class» g.stands)
 
 pub field_closed_shown : FindingsShown (λ f. f.rule ≡ 7)
 unfolding plan
-field_closed_shown platform old new c f e s =
-    let O = side platform old in
-    let N = side platform new in
-    let w = fresh_package (side platform old) (side platform new) in
+field_closed_shown O N c f e s =
+    let w = fresh_package O N in
     let g = by_field_closed O N f e s in
-    subst (ShowsIt O N w) g.acts.is (field_closed_is_shown O N w (ready_of platform old new c) f g)
+    subst (ShowsIt O N w) g.acts.is (field_closed_is_shown O N w (ready_of O N c) f g)
 
 pub method_closed_shown : FindingsShown (λ f. f.rule ≡ 8)
 unfolding plan
-method_closed_shown platform old new c f e s =
-    let O = side platform old in
-    let N = side platform new in
-    let w = fresh_package (side platform old) (side platform new) in
+method_closed_shown O N c f e s =
+    let w = fresh_package O N in
     let g = by_method_closed O N f e s in
-    subst (ShowsIt O N w) g.acts.is (method_closed_is_shown O N w (ready_of platform old new c) f g)
+    subst (ShowsIt O N w) g.acts.is (method_closed_is_shown O N w (ready_of O N c) f g)
 
 pub method_made_final_shown : FindingsShown (λ f. f.rule ≡ 6)
 unfolding plan
-method_made_final_shown platform old new c f e s =
-    let O = side platform old in
-    let N = side platform new in
-    let w = fresh_package (side platform old) (side platform new) in
+method_made_final_shown O N c f e s =
+    let w = fresh_package O N in
     let g = by_method_made_final O N f e s in
     let x = f.«class» in
     let a = and_parts (is_key_of_method g.key && is_base_class O N x && is_final_in_chain N x g.key && not (is_final_in_chain O x g.key)) (finds_overridable O x g.key) g.stands in
     let b = and_parts (is_key_of_method g.key && is_base_class O N x && is_final_in_chain N x g.key) (not (is_final_in_chain O x g.key)) a.0 in
     let d = and_parts (is_key_of_method g.key && is_base_class O N x) (is_final_in_chain N x g.key) b.0 in
     let h = and_parts (is_key_of_method g.key) (is_base_class O N x) d.0 in
-    subst (ShowsIt O N w) g.is (override_is_shown O N w (ready_of platform old new c) x (base_parts O N x h.1) g.key h.0 d.1 (not-true (is_final_in_chain O x g.key) b.1) a.1)
+    subst (ShowsIt O N w) g.is (override_is_shown O N w (ready_of O N c) x (base_parts O N x h.1) g.key h.0 d.1 (not-true (is_final_in_chain O x g.key) b.1) a.1)
 
 pub interface_method_lost_shown : FindingsShown (λ f. f.rule ≡ 9)
 unfolding plan
-interface_method_lost_shown platform old new c f e s =
-    let O = side platform old in
-    let N = side platform new in
-    let w = fresh_package (side platform old) (side platform new) in
+interface_method_lost_shown O N c f e s =
+    let w = fresh_package O N in
     let g = by_interface_method_lost O N f e s in
     let x = f.«class» in
     let a = and_parts (is_key_of_method g.key && is_base_interface O N x && inherits O x g.key && not (inherits N x g.key)) (is_none (public_method_of_object O g.key)) g.stands in
     let b = and_parts (is_key_of_method g.key && is_base_interface O N x && inherits O x g.key) (not (inherits N x g.key)) a.0 in
     let d = and_parts (is_key_of_method g.key && is_base_interface O N x) (inherits O x g.key) b.0 in
     let h = and_parts (is_key_of_method g.key) (is_base_interface O N x) d.0 in
-    subst (ShowsIt O N w) g.is (interface_method_lost_is_shown O N w (ready_of platform old new c) x (base_interface O N x h.1) g.key h.0 d.1 (not-true (inherits N x g.key) b.1) (none_where (public_method_of_object O g.key) a.1))
+    subst (ShowsIt O N w) g.is (interface_method_lost_is_shown O N w (ready_of O N c) x (base_interface O N x h.1) g.key h.0 d.1 (not-true (inherits N x g.key) b.1) (none_where (public_method_of_object O g.key) a.1))
 
 -- ---- collisions
 
@@ -146,11 +124,9 @@ ShowsMet O N w c = Shows O N (plan O N w (cause.Collision c)) c.error × Meets (
 
 pub final_added_shown : CollisionsShown (λ c. c.rule ≡ 12)
 unfolding plan
-final_added_shown platform old new can c e s =
-    let O = side platform old in
-    let N = side platform new in
-    let w = fresh_package (side platform old) (side platform new) in
-    let r = ready_of platform old new can in
+final_added_shown O N can c e s =
+    let w = fresh_package O N in
+    let r = ready_of O N can in
     let g = by_final O N c e s in
     let p = final_parts O N c.«class» c.key g.0 in
     let b = base_parts O N c.«class» p.base in
@@ -158,11 +134,9 @@ final_added_shown platform old new can c e s =
 
 pub constant_added_shown : CollisionsShown (λ c. c.rule ≡ 10)
 unfolding plan
-constant_added_shown platform old new can c e s =
-    let O = side platform old in
-    let N = side platform new in
-    let w = fresh_package (side platform old) (side platform new) in
-    let r = ready_of platform old new can in
+constant_added_shown O N can c e s =
+    let w = fresh_package O N in
+    let r = ready_of O N can in
     let g = by_constant O N c e s in
     let p = constant_parts O N c.«class» c.key g.0 in
     let b = base_interface O N c.«class» p.base in
@@ -170,11 +144,9 @@ constant_added_shown platform old new can c e s =
 
 pub capture_added_shown : CollisionsShown (λ c. c.rule ≡ 11)
 unfolding plan
-capture_added_shown platform old new can c e s =
-    let O = side platform old in
-    let N = side platform new in
-    let w = fresh_package (side platform old) (side platform new) in
-    let r = ready_of platform old new can in
+capture_added_shown O N can c e s =
+    let w = fresh_package O N in
+    let r = ready_of O N can in
     let g = by_capture O N c e s in
     let p = capture_parts O N c.«class» c.key g.0 in
     let b = base_parts O N c.«class» p.base in

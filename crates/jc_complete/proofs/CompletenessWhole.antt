@@ -7,7 +7,7 @@ use Rattle.jc_facts.specs.declared.verdict.Spot.TheVariants as spot
 use Rattle.jc_facts.specs.declared.finding.Finding.{Finding}
 use Rattle.jc_facts.specs.declared.verdict.Collision.{Collision}
 use Rattle.jc_facts.specs.declared.verdict.Cause.TheVariants as cause
-use Rattle.jc_facts.specs.world.World.{World, side, with_clients}
+use Rattle.jc_facts.specs.world.World.{World, with_clients}
 use Rattle.jc_facts.specs.declared.client.ClientClass.{ClientClass}
 use Rattle.jc_facts.specs.declared.client.Item.{Item}
 use Rattle.jc_facts.specs.declared.link_error.LinkError.{LinkError}
@@ -29,51 +29,51 @@ use Rattle.jc_complete.proofs.CompletenessLaws.{class_gone_shown, class_closed_s
 
 -- every finding is of one of the nine rules
 pub finding_shown : FindingsShown (λ f. f ≡ f)
-finding_shown platform old new c f e s = of_each_rule G (side platform old) (side platform new) each f s
+finding_shown O N c f e s = of_each_rule G O N each f s
   where
     G : Finding → Type 0
-    G f = let O = side platform old in let N = side platform new in let p = plan O N (fresh_package O N) (cause.Finding f) in Shows O N p f.error × MeetsNothing O N p.clients
+    G f = let p = plan O N (fresh_package O N) (cause.Finding f) in Shows O N p f.error × MeetsNothing O N p.clients
 
-    each : OfRules G (side platform old) (side platform new)
+    each : OfRules G O N
     each = record {
-      of_1 = class_gone_shown platform old new c;
-      of_2 = class_closed_shown platform old new c;
-      of_3 = interface_became_class_shown platform old new c;
-      of_4 = superclass_lost_shown platform old new c;
-      of_5 = constructor_closed_shown platform old new c;
-      of_6 = method_made_final_shown platform old new c;
-      of_7 = field_closed_shown platform old new c;
-      of_8 = method_closed_shown platform old new c;
-      of_9 = interface_method_lost_shown platform old new c;
+      of_1 = class_gone_shown O N c;
+      of_2 = class_closed_shown O N c;
+      of_3 = interface_became_class_shown O N c;
+      of_4 = superclass_lost_shown O N c;
+      of_5 = constructor_closed_shown O N c;
+      of_6 = method_made_final_shown O N c;
+      of_7 = field_closed_shown O N c;
+      of_8 = method_closed_shown O N c;
+      of_9 = interface_method_lost_shown O N c;
     }
 
 -- and every collision of one of the three
 pub collision_shown : CollisionsShown (λ c. c ≡ c)
-collision_shown platform old new can c e s =
-    of_each_collision G (side platform old) (side platform new) (constant_added_shown platform old new can) (capture_added_shown platform old new can) (final_added_shown platform old new can) c s
+collision_shown O N can c e s =
+    of_each_collision G O N (constant_added_shown O N can) (capture_added_shown O N can) (final_added_shown O N can) c s
   where
     G : Collision → Type 0
-    G c = let O = side platform old in let N = side platform new in let p = plan O N (fresh_package O N) (cause.Collision c) in Shows O N p c.error × Meets (with_clients O (facts_of p.clients)) p.clients c
+    G c = let p = plan O N (fresh_package O N) (cause.Collision c) in Shows O N p c.error × Meets (with_clients O (facts_of p.clients)) p.clients c
 
 pub completeness : Completeness
-completeness platform old new v can is = (
-  All-weaker (Stands (side platform old) (side platform new)) (λ f. PlannedShow (side platform old) (side platform new) (cause.Finding f) f.error × All (λ c. PlannedMeet (side platform old) (side platform new) (cause.Finding f) c → ⊥) v.collisions) of_finding v.findings is.findings.sound,
-  All-weaker (CollisionStands (side platform old) (side platform new)) (λ c. PlannedShow (side platform old) (side platform new) (cause.Collision c) c.error × PlannedMeet (side platform old) (side platform new) (cause.Collision c) c) of_collision v.collisions is.collisions.sound,
+completeness O N v can is = (
+  All-weaker (Stands O N) (λ f. PlannedShow O N (cause.Finding f) f.error × All (λ c. PlannedMeet O N (cause.Finding f) c → ⊥) v.collisions) of_finding v.findings is.findings.sound,
+  All-weaker (CollisionStands O N) (λ c. PlannedShow O N (cause.Collision c) c.error × PlannedMeet O N (cause.Collision c) c) of_collision v.collisions is.collisions.sound,
 )
   where
-    of_finding : (f : Finding) → Stands (side platform old) (side platform new) f → PlannedShow (side platform old) (side platform new) (cause.Finding f) f.error × All (λ c. PlannedMeet (side platform old) (side platform new) (cause.Finding f) c → ⊥) v.collisions
+    of_finding : (f : Finding) → Stands O N f → PlannedShow O N (cause.Finding f) f.error × All (λ c. PlannedMeet O N (cause.Finding f) c → ⊥) v.collisions
     of_finding f s =
-        let g = finding_shown platform old new can f refl s in
-        let p = plan (side platform old) (side platform new) (fresh_package (side platform old) (side platform new)) (cause.Finding f) in (
-          (sorted_rise p.clients g.0.in_scope.differ, shows_in_order (side platform old) (side platform new) p f.error g.0),
-          All-weaker (CollisionStands (side platform old) (side platform new)) (λ c. PlannedMeet (side platform old) (side platform new) (cause.Finding f) c → ⊥) (λ c stands. meets_nothing_in_order (side platform old) (side platform new) p g.0.in_scope.differ g.1 c stands) v.collisions is.collisions.sound,
+        let g = finding_shown O N can f refl s in
+        let p = plan O N (fresh_package O N) (cause.Finding f) in (
+          (sorted_rise p.clients g.0.in_scope.differ, shows_in_order O N p f.error g.0),
+          All-weaker (CollisionStands O N) (λ c. PlannedMeet O N (cause.Finding f) c → ⊥) (λ c stands. meets_nothing_in_order O N p g.0.in_scope.differ g.1 c stands) v.collisions is.collisions.sound,
         )
 
-    of_collision : (c : Collision) → CollisionStands (side platform old) (side platform new) c → PlannedShow (side platform old) (side platform new) (cause.Collision c) c.error × PlannedMeet (side platform old) (side platform new) (cause.Collision c) c
+    of_collision : (c : Collision) → CollisionStands O N c → PlannedShow O N (cause.Collision c) c.error × PlannedMeet O N (cause.Collision c) c
     of_collision c s =
-        let g = collision_shown platform old new can c refl s in
-        let p = plan (side platform old) (side platform new) (fresh_package (side platform old) (side platform new)) (cause.Collision c) in
-        ((sorted_rise p.clients g.0.in_scope.differ, shows_in_order (side platform old) (side platform new) p c.error g.0), meets_in_order (side platform old) (side platform new) p c g.0.in_scope.differ g.1)
+        let g = collision_shown O N can c refl s in
+        let p = plan O N (fresh_package O N) (cause.Collision c) in
+        ((sorted_rise p.clients g.0.in_scope.differ, shows_in_order O N p c.error g.0), meets_in_order O N p c g.0.in_scope.differ g.1)
 
 -- ---- with soundness
 
@@ -99,18 +99,18 @@ not_kept O N p e s k = go p.spot s.fails
         let z : None ≡ Some e = sym (k.uses s.spot f.1.0 s.is_in whole.0 i l.0 l.1) ∙ f.1.2 in cc
 
 pub verdict_is_exact : VerdictIsExact
-verdict_is_exact platform old new v can is = (λ h. broken v.findings refl h, λ cs b. found cs b v.findings refl)
+verdict_is_exact O N v can is = (λ h. broken v.findings refl h, λ cs b. found cs b v.findings refl)
   where
-    whole : All (λ f. PlannedShow (side platform old) (side platform new) (cause.Finding f) f.error × All (λ c. PlannedMeet (side platform old) (side platform new) (cause.Finding f) c → ⊥) v.collisions) v.findings
-    whole = (completeness platform old new v can is).0
+    whole : All (λ f. PlannedShow O N (cause.Finding f) f.error × All (λ c. PlannedMeet O N (cause.Finding f) c → ⊥) v.collisions) v.findings
+    whole = (completeness O N v can is).0
 
-    broken : (fs : List Finding) → v.findings ≡ fs → holds_some fs ≡ true → (cs : List ClientClass) × IsBroken (side platform old) (side platform new) v cs
+    broken : (fs : List Finding) → v.findings ≡ fs → holds_some fs ≡ true → (cs : List ClientClass) × IsBroken O N v cs
     broken [] e h = absurd (cc)
     broken (f ∷ fs) e h =
-        let g = All-head (λ f. PlannedShow (side platform old) (side platform new) (cause.Finding f) f.error × All (λ c. PlannedMeet (side platform old) (side platform new) (cause.Finding f) c → ⊥) v.collisions) f fs
-        (subst (All (λ f. PlannedShow (side platform old) (side platform new) (cause.Finding f) f.error × All (λ c. PlannedMeet (side platform old) (side platform new) (cause.Finding f) c → ⊥) v.collisions)) e whole) in
-        (planned (side platform old) (side platform new) (cause.Finding f), record { in_scope = g.0.1.in_scope; meets_none = g.1; not_kept = not_kept (side platform old) (side platform new) (planned_for (side platform old) (side platform new) (cause.Finding f)) f.error g.0.1 })
+        let g = All-head (λ f. PlannedShow O N (cause.Finding f) f.error × All (λ c. PlannedMeet O N (cause.Finding f) c → ⊥) v.collisions) f fs
+        (subst (All (λ f. PlannedShow O N (cause.Finding f) f.error × All (λ c. PlannedMeet O N (cause.Finding f) c → ⊥) v.collisions)) e whole) in
+        (planned O N (cause.Finding f), record { in_scope = g.0.1.in_scope; meets_none = g.1; not_kept = not_kept O N (planned_for O N (cause.Finding f)) f.error g.0.1 })
 
-    found : (cs : List ClientClass) → IsBroken (side platform old) (side platform new) v cs → (fs : List Finding) → v.findings ≡ fs → holds_some fs ≡ true
+    found : (cs : List ClientClass) → IsBroken O N v cs → (fs : List Finding) → v.findings ≡ fs → holds_some fs ≡ true
     found cs b (f ∷ fs) e = refl
-    found cs b [] e = absurd (b.not_kept (keeps platform old new v cs can.root.has can.platform_valid can.old_valid can.new_valid is e b.in_scope b.meets_none))
+    found cs b [] e = absurd (b.not_kept (keeps O N v cs can.pair is e b.in_scope b.meets_none))

@@ -26,8 +26,10 @@ use Rattle.jc_facts.specs.world.Lookup.{field_found, field_step, first_declared,
 use Rattle.jc_facts.specs.client.Outcome.{array_fault, outcome, class_step, class_fault, type_fault, element_fault, look_up, first_of, found_or, use_fault, assignment_ok, receiver_ok, is_direct_super, init_fault, init_key, instantiation_fault}
 use Rattle.jc_facts.specs.client.Clients.{is_in_reach, type_in_reach, text_in_reach, element_in_reach, seat, first_library}
 use Rattle.jc_facts.specs.client.Meets.{may_name}
+use Rattle.jc_worlds.specs.Alike.{AreModulesAlike}
+use Rattle.jc_worlds.proofs.VisibleFrom.{same_superclass, same_interface, same_class_access}
 
-module _ (V W : World) (found : (x : Bytes) → find_class V x ≡ find_class W x) (count : size V ≡ size W) (clients : (x : Bytes) → is_client V x ≡ is_client W x) where
+module _ (V W : World) (found : (x : Bytes) → find_class V x ≡ find_class W x) (count : size V ≡ size W) (clients : (x : Bytes) → is_client V x ≡ is_client W x) (modules : AreModulesAlike V W) where
   search_same : {B : Type 0} (missing deep : B) (step : (Bytes → B) → ClassFacts → B) (n : ℕ) (x : Bytes) → descend V missing deep step n x ≡ descend W missing deep step n x
   unfolding descend
   search_same missing deep step zero x = ap (of_class missing (λ c. deep)) (found x)
@@ -61,10 +63,17 @@ module _ (V W : World) (found : (x : Bytes) → find_class V x ≡ find_class W 
   own_same : (c : ClassFacts) → fault_of_itself V c ≡ fault_of_itself W c
   unfolding fault_of_itself fault_of_superclass fault_of_interface
   own_same c =
-      ap (λ (g : Bytes → Option ClassFacts). or_else (and_then (λ s. and_then (error_of_superclass c) (g s)) c.superclass) (or_else (first_some (λ s. and_then (error_of_interface c) (g s)) c.interfaces)
+      ap (λ (g : ClassFacts → Option LinkError). or_else (and_then (λ s. and_then g (find_class V s)) c.superclass) (or_else (first_some (λ s. and_then (error_of_interface V c) (find_class V s)) c.interfaces)
+      (fault_where (not (interface_flag c.flags) && overrides_some_final c.name c.methods (of_super (chain V) c.superclass)) IncompatibleClassChangeError))) (fun_ext (λ d. same_superclass V W c d (modules c.name d.name)))
+      ∙ ap (λ (g : ClassFacts → Option LinkError). or_else (and_then (λ s. and_then (error_of_superclass W c) (find_class V s)) c.superclass) (or_else (first_some (λ s. and_then g (find_class V s)) c.interfaces)
+      (fault_where (not (interface_flag c.flags) && overrides_some_final c.name c.methods (of_super (chain V) c.superclass)) IncompatibleClassChangeError))) (fun_ext (λ d. same_interface V W c d (modules c.name d.name)))
+      ∙ ap (λ (g : Bytes → Option ClassFacts). or_else (and_then (λ s. and_then (error_of_superclass W c) (g s)) c.superclass) (or_else (first_some (λ s. and_then (error_of_interface W c) (g s)) c.interfaces)
       (fault_where (not (interface_flag c.flags) && overrides_some_final c.name c.methods (of_super (chain V) c.superclass)) IncompatibleClassChangeError))) find_same
-      ∙ ap (λ (g : Bytes → List ClassFacts). or_else (and_then (λ s. and_then (error_of_superclass c) (find_class W s)) c.superclass) (or_else (first_some (λ s. and_then (error_of_interface c) (find_class W s)) c.interfaces)
+      ∙ ap (λ (g : Bytes → List ClassFacts). or_else (and_then (λ s. and_then (error_of_superclass W c) (find_class W s)) c.superclass) (or_else (first_some (λ s. and_then (error_of_interface W c) (find_class W s)) c.interfaces)
       (fault_where (not (interface_flag c.flags) && overrides_some_final c.name c.methods (of_super g c.superclass)) IncompatibleClassChangeError))) chain_same
+
+  access_same : (x : Bytes) → is_class_accessible V x ≡ is_class_accessible W x
+  access_same x = fun_ext (λ d. same_class_access V W x d (modules x d.name))
 
   steps_same : load_step V ≡ load_step W
   unfolding load_step
@@ -153,9 +162,10 @@ module _ (V W : World) (found : (x : Bytes) → find_class V x ≡ find_class W 
   unfolding class_step class_fault
   class_same x t = go (type_read t)
     where
-      named : (c : Bytes) → or_else (load_fault V c) (and_then (λ d. fault_where (not (is_class_accessible x d)) IllegalAccessError) (find_class V c)) ≡ or_else (load_fault W c) (and_then (λ d. fault_where (not (is_class_accessible x d)) IllegalAccessError) (find_class W c))
-      named c = ap (λ (g : Bytes → Option LinkError). or_else (g c) (and_then (λ d. fault_where (not (is_class_accessible x d)) IllegalAccessError) (find_class V c))) fault_same
-          ∙ ap (λ o. or_else (load_fault W c) (and_then (λ d. fault_where (not (is_class_accessible x d)) IllegalAccessError) o)) (found c)
+      named : (c : Bytes) → or_else (load_fault V c) (and_then (λ d. fault_where (not (is_class_accessible V x d)) IllegalAccessError) (find_class V c)) ≡ or_else (load_fault W c) (and_then (λ d. fault_where (not (is_class_accessible W x d)) IllegalAccessError) (find_class W c))
+      named c = ap (λ (g : ClassFacts → Bool). or_else (load_fault V c) (and_then (λ d. fault_where (not (g d)) IllegalAccessError) (find_class V c))) (access_same x)
+          ∙ ap (λ (g : Bytes → Option LinkError). or_else (g c) (and_then (λ d. fault_where (not (is_class_accessible W x d)) IllegalAccessError) (find_class V c))) fault_same
+          ∙ ap (λ o. or_else (load_fault W c) (and_then (λ d. fault_where (not (is_class_accessible W x d)) IllegalAccessError) o)) (found c)
 
       by : (a : Element) → element_fault V x a ≡ element_fault W x a
       by (Primitive p) = refl
@@ -203,7 +213,7 @@ module _ (V W : World) (found : (x : Bytes) → find_class V x ≡ find_class W 
     where
       by : (a : Element) → element_in_reach V x a ≡ element_in_reach W x a
       by (Primitive p) = refl
-      by (Class c) = ap (λ (g : Bytes → Option LinkError). is_none (g c) && some_and (is_class_accessible x) (find_class V c)) fault_same ∙ ap (λ o. is_none (load_fault W c) && some_and (is_class_accessible x) o) (found c)
+      by (Class c) = ap (λ (g : ClassFacts → Bool). is_none (load_fault V c) && some_and g (find_class V c)) (access_same x) ∙ ap (λ (g : Bytes → Option LinkError). is_none (g c) && some_and (is_class_accessible W x) (find_class V c)) fault_same ∙ ap (λ o. is_none (load_fault W c) && some_and (is_class_accessible W x) o) (found c)
 
       go : (o : Option TypeText) → text_in_reach V x o ≡ text_in_reach W x o
       go None = refl

@@ -1,6 +1,6 @@
 -- One planned client below a class of the side.
 use Rattle.std.proofs.Common.{◌≡◌, ℕ, Bool, true, false, List, [], ◌∷◌, refl, sym, ◌∙◌, ap, subst, Some, None, not, ◌&&◌, ◌||◌, ◌⊎◌, inl, inr, Contains, slice_get}
-use Rattle.std.proofs.lemmas.Bool.{and_from, both_ways, or_left, or_right}
+use Rattle.std.proofs.lemmas.Bool.{and_from, both_ways, or_right}
 use Rattle.std.proofs.lemmas.List.Elements.{All-from_recursion, Contains-push}
 use Rattle.std.specs.List.{list_all}
 use Rattle.jc_facts.specs.declared.verdict.Spot.TheVariants as spot
@@ -12,7 +12,7 @@ use Rattle.jc_facts.specs.declared.client.Item.TheVariants as item
 use Rattle.jc_facts.specs.declared.key.Key.{Key}
 use Rattle.jc_facts.specs.declared.link_error.LinkError.{LinkError}
 use Rattle.jc_facts.specs.declared.link_error.LinkError.TheVariants.{IllegalAccessError}
-use Rattle.jc_facts.specs.Names.{Bytes, same, in_same_package}
+use Rattle.jc_facts.specs.Names.{Bytes, same}
 use Rattle.jc_facts.specs.Flags.{public_flag, protected_flag, static_flag, no_static_flag, interface_flag, final_flag}
 use Rattle.jc_facts.specs.world.World.{World, DeclaredMember, find_class, class_named, with_clients, own_method_of}
 use Rattle.jc_facts.specs.world.Hierarchy.{chain, in_chain, is_superinterface}
@@ -33,13 +33,12 @@ use Rattle.jc_complete.specs.Completeness.{LinksWhole, Shows, MeetsNothing}
 use Rattle.jc_facts.proofs.Same.{same_itself}
 use Rattle.jc_facts.proofs.World.{find-name}
 use Rattle.jc_worlds.proofs.Clients.{Fits}
-use Rattle.jc_sound.proofs.ClientLoads.{superclass_taken}
 use Rattle.jc_worlds.proofs.Unrolled.{own_chain}
 use Rattle.jc_sound.proofs.Scope.{fits}
-use Rattle.jc_sound.proofs.Standing.{IsUsable}
+use Rattle.jc_sound.proofs.Standing.{IsUsable, usable_accessible}
 use Rattle.jc_complete.proofs.PlanGround.{Ready}
 use Rattle.jc_complete.proofs.PlanValid.{plain_valid}
-use Rattle.jc_complete.proofs.PlanLoads.{lib_find, lib_fault, client_loads}
+use Rattle.jc_complete.proofs.PlanLoads.{lib_find, lib_fault, client_loads, may_extend}
 use Rattle.jc_complete.proofs.PlanItems.{ItemLinks, links_whole, scope_from, calls_above, init_says}
 use Rattle.jc_complete.proofs.PlanMeets.{meets_nothing_by, seat_below, names_none, meets_no_capture, capture_parts, nothing_found}
 use Rattle.jc_complete.proofs.PlanSeats.{side_name, side_plain, access_is}
@@ -112,8 +111,8 @@ module _ (O N : World) (w : Bytes) (r : Ready O N w) (a : Bytes) (u : IsUsable O
     items = and_from (is_item_of Y.facts (item.Init a descriptor)) (list_all (is_item_of Y.facts) items) (or_right (same a y) (same a a) (same_itself a)) fine;
   }
 
-  pub taken_o : error_of_superclass Y.facts u.class ≡ None
-  taken_o = superclass_taken Y.facts u.class u.public kind extensible (own.sealed_o Y.facts refl good.public)
+  pub taken_o : error_of_superclass VO Y.facts u.class ≡ None
+  taken_o = may_extend O cs fo y Y.facts named a u kind extensible own.takes_o (own.sealed_o Y.facts refl good.public)
 
   up_o : load_fault VO a ≡ None
   up_o = lib_fault O cs fo a u.class u.is_there ∙ u.loaded
@@ -128,7 +127,7 @@ module _ (O N : World) (w : Bytes) (r : Ready O N w) (a : Bytes) (u : IsUsable O
         let m : DeclaredMember = record { owner = u.class.name; member = ctor.method } in
         let o : find_class O u.class.name ≡ Some u.class = ap (find_class O) (find-name O a u.class u.is_there) ∙ u.is_there in
         let i : in_chain O a u.class.name ≡ true = subst (λ z. in_chain O a z ≡ true) (sym (find-name O a u.class u.is_there)) (own_chain O a u.loaded) in
-        init_says VO y a descriptor u.class ctor.method (side_plain r.root w O r.old a u.class u.is_there) (lib_find O cs fo a u.class u.is_there) up_o (or_left (public_flag u.class.flags) (in_same_package y u.class.name) u.public) kind ctor.declares
+        init_says VO y a descriptor u.class ctor.method (side_plain r.root w O r.old a u.class u.is_there) (lib_find O cs fo a u.class u.is_there) up_o (usable_accessible O a u y) kind ctor.declares
         ∙ ap (λ b. fault_where (not b) IllegalAccessError)
         (access_is O cs fo y Y.facts a u.class named refl u.is_there u.loaded loads_o own.allowed_o a u.class u.is_there u.loaded m u.class o ∙ open_member O a m ctor.open_to i (own_chain O a u.loaded))
 

@@ -1,6 +1,6 @@
 -- Rule 5 of initializers: the client Y, which calls the constructor, shows it.
 use Rattle.std.proofs.Common.{◌≡◌, ℕ, Bool, true, false, cond, List, [], ◌∷◌, refl, sym, ◌∙◌, ap, subst, Option, Some, None, not, ◌&&◌, ◌||◌, codes}
-use Rattle.std.proofs.lemmas.Bool.{and_parts, or_left}
+use Rattle.std.proofs.lemmas.Bool.{and_parts}
 use Rattle.std.specs.List.{list_all, find as first_where}
 use Rattle.jc_desc.specs.Names.{is_init_name, is_clinit_name}
 use Rattle.jc_facts.specs.declared.class_facts.ClassFacts.{ClassFacts}
@@ -10,7 +10,7 @@ use Rattle.jc_facts.specs.declared.client.Item.TheVariants as item
 use Rattle.jc_facts.specs.declared.key.Key.{Key}
 use Rattle.jc_facts.specs.declared.link_error.LinkError.{LinkError}
 use Rattle.jc_facts.specs.declared.link_error.LinkError.TheVariants.{IllegalAccessError}
-use Rattle.jc_facts.specs.Names.{Bytes, same, is_key, in_same_package}
+use Rattle.jc_facts.specs.Names.{Bytes, same, is_key}
 use Rattle.jc_facts.specs.Flags.{public_flag, protected_flag, interface_flag}
 use Rattle.jc_facts.specs.world.Types.{is_array_text}
 use Rattle.jc_facts.specs.Options.{or_else, and_then}
@@ -29,11 +29,10 @@ use Rattle.jc_facts.proofs.Same.{same_is}
 use Rattle.jc_facts.proofs.World.{find-name}
 use Rattle.jc_lemmas.proofs.Bools.{neither_first, neither_last}
 use Rattle.jc_worlds.proofs.Clients.{Fits}
-use Rattle.jc_sound.proofs.ClientLoads.{superclass_taken}
 use Rattle.jc_sound.proofs.Scope.{overrides_none}
 use Rattle.jc_complete.proofs.PlanGround.{Ready, letter}
 use Rattle.jc_complete.proofs.PlanValid.{with_init}
-use Rattle.jc_complete.proofs.PlanLoads.{lib_find, lib_fault, client_loads}
+use Rattle.jc_complete.proofs.PlanLoads.{lib_find, lib_fault, client_loads, may_extend}
 use Rattle.jc_complete.proofs.PlanItems.{class_links, init_says}
 use Rattle.jc_complete.proofs.PlanMeets.{final_parts}
 use Rattle.jc_complete.proofs.PlanSeats.{side_plain, access_is}
@@ -42,9 +41,10 @@ use Rattle.jc_complete.proofs.PlanUses.{ShowsAlone}
 use Rattle.jc_complete.proofs.PlanBase.{IsBase, base_parts, OwnName, own_is, IsConstructor}
 use Rattle.jc_complete.proofs.PlanBelow.{IsFlags, AreMethods}
 use Rattle.jc_complete.proofs.PlanBelow as below
+use Rattle.jc_sound.proofs.Standing.{usable_accessible}
 
 -- the call of an initializer is the look for it
-pub call_says : (V : World) (x t descriptor : Bytes) (d : ClassFacts) → is_array_text t ≡ false → find_class V t ≡ Some d → load_fault V t ≡ None → is_class_accessible x d ≡ true
+pub call_says : (V : World) (x t descriptor : Bytes) (d : ClassFacts) → is_array_text t ≡ false → find_class V t ≡ Some d → load_fault V t ≡ None → is_class_accessible V x d ≡ true
     → outcome V x (item.Init t descriptor) ≡ init_fault V t descriptor (λ m. fault_where (not (is_member_accessible V x t m)) IllegalAccessError)
 unfolding outcome or_else
 call_says V x t descriptor d p e l a = rw (class_links V x t d p e l a, p) refl
@@ -78,9 +78,6 @@ module _ (O N : World) (w : Bytes) (r : Ready O N w) (a : Bytes) (b : IsBase O N
   abbrev pub fn : Fits N (Yf ∷ [])
   fn = below.fn O N w r a b.was b.class_o b.not_final_o y own.old flags good descriptor ctor ms methods items fine
 
-  pub taken_n : error_of_superclass Yf b.now.class ≡ None
-  taken_n = superclass_taken Yf b.now.class b.now.public b.class_n b.not_final_n (own.sealed_n Yf refl good.public)
-
   pub up_find : find_class VN a ≡ Some b.now.class
   up_find = lib_find N (Yf ∷ []) fn a b.now.class b.now.is_there
 
@@ -89,6 +86,9 @@ module _ (O N : World) (w : Bytes) (r : Ready O N w) (a : Bytes) (b : IsBase O N
 
   pub named_n : class_named (Yf ∷ []) y ≡ Some Yf
   named_n = below.named O N w r a b.was b.class_o b.not_final_o y own.old flags good descriptor ctor ms methods items fine
+
+  pub taken_n : error_of_superclass VN Yf b.now.class ≡ None
+  taken_n = may_extend N (Yf ∷ []) fn y Yf named_n a b.now b.class_n b.not_final_n own.takes_n (own.sealed_n Yf refl good.public)
 
   pub now_loads : overrides_some_final y (init_method ∷ ms) (chain VN a) ≡ false → load_fault VN y ≡ None
   now_loads o = client_loads N (Yf ∷ []) fn y Yf a b.now.class named_n refl up_find up_loads taken_n tt (rw (good.class, o) refl)
@@ -154,8 +154,8 @@ module _ (O N : World) (w : Bytes) (r : Ready O N w) where
       plain : is_array_text a ≡ false
       plain = side_plain r.root w N r.new a d b.now.is_there
 
-      access : is_class_accessible y d ≡ true
-      access = or_left (public_flag d.flags) (in_same_package y d.name) b.now.public
+      access : is_class_accessible N y d ≡ true
+      access = usable_accessible N a b.now y
 
       now : missing_or (λ m. fault_where (not (public_or_protected m)) IllegalAccessError) (own_method_of d k) ≡ Some e
       now = init_at b.now.is_there parts.1

@@ -18,7 +18,7 @@ use Rattle.jc_facts.specs.Options.{or_else, some_and}
 use Rattle.jc_facts.specs.world.World.{World, DeclaredMember, find_class, class_named, with_clients, own_method_of, found_in}
 use Rattle.jc_facts.specs.world.Hierarchy.{chain, in_chain, superinterfaces, each, with_interfaces, names_in}
 use Rattle.jc_facts.specs.world.Assignment.{is_interface_of, is_assignable}
-use Rattle.jc_facts.specs.world.Loading.{load_fault, sealed_by}
+use Rattle.jc_facts.specs.world.Loading.{load_fault, sealed_by, excludes}
 use Rattle.jc_facts.specs.world.Lookup.{or_choices, superinterface_choices, first_declared, method_choices, declared_by, if_inheritable, is_concrete, is_maximal, only_or}
 use Rattle.jc_facts.specs.client.Outcome.{outcome, look_up, first_of, use_fault, assignment_ok, receiver_ok}
 use Rattle.jc_facts.specs.client.Clients.{type_in_reach, IsInScope, IsValidClient, is_allowed_name, differ_by_name}
@@ -27,15 +27,14 @@ use Rattle.jc_facts.specs.plan.PlannedNames.{own_name, constructor}
 use Rattle.jc_facts.specs.plan.Planned.{an_interface, user, takes, use_method, act_item, a_class, init_method, abstract_method, calls_captured}
 use Rattle.jc_complete.specs.Completeness.{LinksWhole, Shows}
 use Rattle.jc_facts.proofs.Same.{same_itself, same_is}
-use Rattle.jc_worlds.proofs.Clients.{Fits, find-client}
-use Rattle.jc_sound.proofs.ClientLoads.{interface_taken, superclass_taken}
+use Rattle.jc_worlds.proofs.Clients.{Fits, find-client, client_accessible}
 use Rattle.jc_sound.proofs.Scope.{fits, overrides_none}
 use Rattle.jc_sound.proofs.Reach.{declared_library}
-use Rattle.jc_sound.proofs.Standing.{IsUsable}
+use Rattle.jc_sound.proofs.Standing.{IsUsable, usable_accessible}
 use Rattle.jc_worlds.proofs.ValidFacts.{no_array}
 use Rattle.jc_complete.proofs.PlanGround.{Planned, Ready, letter}
 use Rattle.jc_complete.proofs.PlanValid.{use_takes, plain_valid, with_init}
-use Rattle.jc_complete.proofs.PlanLoads.{lib_find, lib_fault, client_loads, root_side, interfaces_of_client, lib_interfaces}
+use Rattle.jc_complete.proofs.PlanLoads.{lib_find, lib_fault, client_loads, root_side, interfaces_of_client, lib_interfaces, may_extend, may_implement_client}
 use Rattle.jc_complete.proofs.PlanItems.{links_whole, scope_from, calls_above, below_root_loads, root_init_links}
 use Rattle.jc_worlds.proofs.Choices.{is_member_accessible-public, passes_protected_check-public}
 use Rattle.jc_complete.proofs.PlanMeets.{seat_below, StandsCapture, nothing_found, chain_below}
@@ -55,6 +54,7 @@ use Rattle.jc_worlds.proofs.Packages.{allowed_parts, same_package_apart}
 use Rattle.jc_complete.proofs.PlanMethodMadeFinal.{IsMethodText, abstract_valid, init_apart, plain_key}
 use Rattle.jc_complete.proofs.PlanInterfaceMethodLost.{same_back}
 use Rattle.jc_complete.proofs.PlanLookups.{below_init, no_choices, none_declared, none_offered, declared_somewhere, closed_member, text_with_room}
+use Rattle.jc_facts.specs.world.Modules.{OfClients}
 
 module _ (O N : World) (w : Bytes) (r : Ready O N w) (a : Bytes) (b : IsBase O N a) (k : Key) (g : StandsCapture O N a k) where
   abbrev j : Bytes
@@ -180,7 +180,7 @@ module _ (O N : World) (w : Bytes) (r : Ready O N w) (a : Bytes) (b : IsBase O N
   -- ---- one side
 
   module _ (W : World) (p : Planned r.root w W) (v : IsUsable W a) (kind : interface_flag v.class.flags ≡ false) (extensible : final_flag v.class.flags ≡ false) (allowed : is_allowed_name W y ≡ true)
-      (sealed : (e : ClassFacts) → e.name ≡ y → public_flag e.flags ≡ true → sealed_by e v.class.name v.class.permits ≡ false) where
+      (included : excludes W v.class OfClients ≡ false) (sealed : (e : ClassFacts) → e.name ≡ y → public_flag e.flags ≡ true → sealed_by e v.class.name v.class.permits ≡ false) where
     abbrev V : World
     V = with_clients W (J.facts ∷ Y.facts ∷ U.facts ∷ [])
 
@@ -198,8 +198,8 @@ module _ (O N : World) (w : Bytes) (r : Ready O N w) (a : Bytes) (b : IsBase O N
 
     loads_y : load_fault V y ≡ None
     loads_y = client_loads W (J.facts ∷ Y.facts ∷ U.facts ∷ []) f y Y.facts a v.class named_y refl (lib_find W (J.facts ∷ Y.facts ∷ U.facts ∷ []) f a v.class v.is_there) (lib_fault W (J.facts ∷ Y.facts ∷ U.facts ∷ []) f a v.class v.is_there ∙ v.loaded)
-        (superclass_taken Y.facts v.class v.public kind extensible (sealed Y.facts refl refl))
-        (record { class = J.facts; is_there = find_j; loaded = loads_j; taken = interface_taken Y.facts J.facts refl refl refl }, tt) (rw (overrides_none y (chain V a) (init_method ∷ []) (refl, tt)) refl)
+        (may_extend W (J.facts ∷ Y.facts ∷ U.facts ∷ []) f y Y.facts named_y a v kind extensible included (sealed Y.facts refl refl))
+        (record { class = J.facts; is_there = find_j; loaded = loads_j; taken = may_implement_client W (J.facts ∷ Y.facts ∷ U.facts ∷ []) f Y.facts j J.facts named_j refl refl refl }, tt) (rw (overrides_none y (chain V a) (init_method ∷ []) (refl, tt)) refl)
 
     loads_u : load_fault V u ≡ None
     loads_u = below_root_loads W (J.facts ∷ Y.facts ∷ U.facts ∷ []) f r.root r.is_root w p u U.facts named_u refl refl (user_overrides u (takes y) (chain V object_name))
@@ -210,7 +210,7 @@ module _ (O N : World) (w : Bytes) (r : Ready O N w) (a : Bytes) (b : IsBase O N
     -- what a call on Y looks at
     says : outcome V u call ≡ first_of NoSuchMethodError (method_choices V y k) (use_fault V u InvokeVirtual y (Some y) Other)
     unfolding look_up
-    says = access_says V u InvokeVirtual y k (Some y) Y.facts y_plain find_y loads_y refl ∙ rw find_y refl
+    says = access_says V u InvokeVirtual y k (Some y) Y.facts y_plain find_y loads_y (client_accessible W (J.facts ∷ Y.facts ∷ U.facts ∷ []) f y Y.facts named_y refl u) ∙ rw find_y refl
 
     choices_y : method_choices V y k ≡ or_choices (first_declared k (chain W a)) (superinterface_choices V y k)
     unfolding method_choices first_declared found_in or_else
@@ -232,25 +232,25 @@ module _ (O N : World) (w : Bytes) (r : Ready O N w) (a : Bytes) (b : IsBase O N
   VN = with_clients N (J.facts ∷ Y.facts ∷ U.facts ∷ [])
 
   fo : Fits O (J.facts ∷ Y.facts ∷ U.facts ∷ [])
-  fo = f O r.old b.was b.class_o b.not_final_o own.old.allowed_o own.old.sealed_o
+  fo = f O r.old b.was b.class_o b.not_final_o own.old.allowed_o own.old.takes_o own.old.sealed_o
 
   fn : Fits N (J.facts ∷ Y.facts ∷ U.facts ∷ [])
-  fn = f N r.new b.now b.class_n b.not_final_n own.old.allowed_n own.sealed_n
+  fn = f N r.new b.now b.class_n b.not_final_n own.old.allowed_n own.takes_n own.sealed_n
 
   y_o : load_fault VO y ≡ None
-  y_o = loads_y O r.old b.was b.class_o b.not_final_o own.old.allowed_o own.old.sealed_o
+  y_o = loads_y O r.old b.was b.class_o b.not_final_o own.old.allowed_o own.old.takes_o own.old.sealed_o
 
   u_o : load_fault VO u ≡ None
-  u_o = loads_u O r.old b.was b.class_o b.not_final_o own.old.allowed_o own.old.sealed_o
+  u_o = loads_u O r.old b.was b.class_o b.not_final_o own.old.allowed_o own.old.takes_o own.old.sealed_o
 
   u_n : load_fault VN u ≡ None
-  u_n = loads_u N r.new b.now b.class_n b.not_final_n own.old.allowed_n own.sealed_n
+  u_n = loads_u N r.new b.now b.class_n b.not_final_n own.old.allowed_n own.takes_n own.sealed_n
 
   j_o : load_fault VO j ≡ None
-  j_o = loads_j O r.old b.was b.class_o b.not_final_o own.old.allowed_o own.old.sealed_o
+  j_o = loads_j O r.old b.was b.class_o b.not_final_o own.old.allowed_o own.old.takes_o own.old.sealed_o
 
   init_y : outcome VO y (item.Init a (constructor O a)) ≡ None
-  init_y = below_init O (J.facts ∷ Y.facts ∷ U.facts ∷ []) fo y Y.facts a b.was.class named_y refl b.was.is_there b.was.loaded y_o own.old.allowed_o (side_plain r.root w O r.old a b.was.class b.was.is_there) b.was.public b.class_o (constructor O a) ctor
+  init_y = below_init O (J.facts ∷ Y.facts ∷ U.facts ∷ []) fo y Y.facts a b.was.class named_y refl b.was.is_there b.was.loaded y_o own.old.allowed_o (side_plain r.root w O r.old a b.was.class b.was.is_there) (usable_accessible O a b.was y) b.class_o (constructor O a) ctor
 
   -- J's method
   abbrev jm : DeclaredMember
@@ -265,7 +265,7 @@ module _ (O N : World) (w : Bytes) (r : Ready O N w) (a : Bytes) (b : IsBase O N
 
       all_is : declared_by k (superinterfaces VO y) ≡ jm ∷ []
       all_is =
-          ap (declared_by k) (above_y O r.old b.was b.class_o b.not_final_o own.old.allowed_o own.old.sealed_o)
+          ap (declared_by k) (above_y O r.old b.was b.class_o b.not_final_o own.old.allowed_o own.old.takes_o own.old.sealed_o)
           ∙ rw mine (ap (λ ms. jm ∷ ms) (none_declared k (superinterfaces O a) (none_offered O a k unknown.1)))
 
       go : (t : Bool) → only_or (filter is_concrete (cond t (jm ∷ []) [])) (jm ∷ []) ≡ jm ∷ []
@@ -274,18 +274,18 @@ module _ (O N : World) (w : Bytes) (r : Ready O N w) (a : Bytes) (b : IsBase O N
 
   chosen : method_choices VO y k ≡ jm ∷ []
   unfolding or_choices
-  chosen = choices_y O r.old b.was b.class_o b.not_final_o own.old.allowed_o own.old.sealed_o ∙ rw unknown.0 inherited
+  chosen = choices_y O r.old b.was b.class_o b.not_final_o own.old.allowed_o own.old.takes_o own.old.sealed_o ∙ rw unknown.0 inherited
 
   old : outcome VO u call ≡ None
   unfolding first_of use_fault or_else assignment_ok receiver_ok
   old =
       let t : is_assignable VO y y ≡ true = assign_is VO y y y_plain y_plain ∙ or_left (same y y || is_interface_of VO y) (in_chain VO y y) (or_left (same y y) (is_interface_of VO y) (same_itself y)) in
-      says O r.old b.was b.class_o b.not_final_o own.old.allowed_o own.old.sealed_o
+      says O r.old b.was b.class_o b.not_final_o own.old.allowed_o own.old.takes_o own.old.sealed_o
       ∙ ap (λ ms. first_of NoSuchMethodError ms (use_fault VO u InvokeVirtual y (Some y) Other)) chosen
       ∙ rw (is_member_accessible-public VO u y jm refl, t, passes_protected_check-public VO u y jm y refl) refl
 
   reach : type_in_reach VO u y ≡ true
-  reach = in_reach_if VO u y Y.facts y_plain (find_y O r.old b.was b.class_o b.not_final_o own.old.allowed_o own.old.sealed_o) y_o refl
+  reach = in_reach_if VO u y Y.facts y_plain (find_y O r.old b.was b.class_o b.not_final_o own.old.allowed_o own.old.takes_o own.old.sealed_o) y_o (client_accessible O (J.facts ∷ Y.facts ∷ U.facts ∷ []) fo y Y.facts named_y refl u)
 
   -- ---- the new side
 
@@ -307,8 +307,8 @@ module _ (O N : World) (w : Bytes) (r : Ready O N w) (a : Bytes) (b : IsBase O N
   new : outcome VN u call ≡ Some (capture_error N a k)
   unfolding first_of or_choices use_fault or_else
   new =
-      says N r.new b.now b.class_n b.not_final_n own.old.allowed_n own.sealed_n
-      ∙ ap (λ ms. first_of NoSuchMethodError ms (use_fault VN u InvokeVirtual y (Some y) Other)) (choices_y N r.new b.now b.class_n b.not_final_n own.old.allowed_n own.sealed_n ∙ ap (λ o. or_choices o (superinterface_choices VN y k)) found_now.1)
+      says N r.new b.now b.class_n b.not_final_n own.old.allowed_n own.takes_n own.sealed_n
+      ∙ ap (λ ms. first_of NoSuchMethodError ms (use_fault VN u InvokeVirtual y (Some y) Other)) (choices_y N r.new b.now b.class_n b.not_final_n own.old.allowed_n own.takes_n own.sealed_n ∙ ap (λ o. or_choices o (superinterface_choices VN y k)) found_now.1)
       ∙ go (public_flag found_now.0.member.flags) refl found_now.2
       ∙ sym (ap (λ o. Some (cond (some_and (λ m. public_flag m.member.flags) o) IncompatibleClassChangeError IllegalAccessError)) found_now.1)
     where
@@ -337,7 +337,7 @@ module _ (O N : World) (w : Bytes) (r : Ready O N w) (a : Bytes) (b : IsBase O N
         inl refl,
         (
           calls_above VO y 0x0421 a (constructor O a) (j ∷ []) [] [] [] y_o init_y,
-          (calls_above VO u 0x0021 object_name (codes "()V") [] [] (use_method (takes y) ∷ []) (call ∷ []) u_o (init_u O r.old b.was b.class_o b.not_final_o own.old.allowed_o own.old.sealed_o), tt),
+          (calls_above VO u 0x0021 object_name (codes "()V") [] [] (use_method (takes y) ∷ []) (call ∷ []) u_o (init_u O r.old b.was b.class_o b.not_final_o own.old.allowed_o own.old.takes_o own.old.sealed_o), tt),
         ),
       )
 
@@ -348,7 +348,7 @@ module _ (O N : World) (w : Bytes) (r : Ready O N w) (a : Bytes) (b : IsBase O N
       links_whole VO J j_o tt,
       (
         links_whole VO Y y_o ((refl, init_y), tt),
-        (links_whole VO U u_o ((refl, init_u O r.old b.was b.class_o b.not_final_o own.old.allowed_o own.old.sealed_o), ((reach, old), tt)), tt),
+        (links_whole VO U u_o ((refl, init_u O r.old b.was b.class_o b.not_final_o own.old.allowed_o own.old.takes_o own.old.sealed_o), ((reach, old), tt)), tt),
       ),
     );
     spot = U;
@@ -364,5 +364,5 @@ module _ (O N : World) (w : Bytes) (r : Ready O N w) (a : Bytes) (b : IsBase O N
     y_o,
     refl,
     seat_below O (J.facts ∷ Y.facts ∷ U.facts ∷ []) fo y Y.facts a b.was.class named_y refl b.was.is_there b.was.loaded y_o,
-    (jm, subst (λ ms. Contains ms jm) (sym chosen) (Contains-push [] jm), ap (λ cs. names_in cs j) (above_y O r.old b.was b.class_o b.not_final_o own.old.allowed_o own.old.sealed_o) ∙ or_left (same j j) (names_in (superinterfaces O a) j) (same_itself j)),
+    (jm, subst (λ ms. Contains ms jm) (sym chosen) (Contains-push [] jm), ap (λ cs. names_in cs j) (above_y O r.old b.was b.class_o b.not_final_o own.old.allowed_o own.old.takes_o own.old.sealed_o) ∙ or_left (same j j) (names_in (superinterfaces O a) j) (same_itself j)),
   )

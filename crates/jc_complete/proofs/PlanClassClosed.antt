@@ -1,6 +1,6 @@
 -- Rule 2: the client Y, which names the closed class above itself, shows it.
 use Rattle.std.proofs.Common.{◌≡◌, Bool, true, false, cond, List, [], ◌∷◌, refl, sym, ◌∙◌, ap, subst, Some, None, not, ◌&&◌, ◌||◌, ◌⊎◌, inl, inr, codes, Contains, nat_lt, is_none, is_some}
-use Rattle.std.proofs.lemmas.Bool.{and_parts, and_from, both_ways, not-true, or_cases, or_left, or_right}
+use Rattle.std.proofs.lemmas.Bool.{and_parts, and_from, both_ways, not-true, or_cases, or_right}
 use Rattle.std.proofs.lemmas.List.Elements.{All-from_recursion, Contains-push}
 use Rattle.jc_facts.specs.declared.verdict.Spot.TheVariants as spot
 use Rattle.jc_facts.specs.declared.class_facts.ClassFacts.{ClassFacts}
@@ -8,8 +8,8 @@ use Rattle.jc_facts.specs.declared.client.ClientClass.{ClientClass}
 use Rattle.jc_facts.specs.declared.client.Item.TheVariants as item
 use Rattle.jc_facts.specs.declared.key.Key.{Key}
 use Rattle.jc_facts.specs.declared.link_error.LinkError.TheVariants.{IllegalAccessError, IncompatibleClassChangeError}
-use Rattle.jc_facts.specs.Names.{Bytes, same, in_same_package, is_name_among, object_name}
-use Rattle.jc_facts.specs.Flags.{public_flag, interface_flag, final_flag, abstract_flag, module_flag}
+use Rattle.jc_facts.specs.Names.{Bytes, same, is_name_among, object_name}
+use Rattle.jc_facts.specs.Flags.{interface_flag, final_flag, abstract_flag, module_flag}
 use Rattle.jc_facts.specs.Options.{or_else}
 use Rattle.jc_facts.specs.world.Overriding.{overrides_some_final}
 use Rattle.jc_facts.specs.world.World.{World, find_class, class_named, with_clients}
@@ -23,19 +23,18 @@ use Rattle.jc_facts.specs.file.Valid.{IsValidClass}
 use Rattle.jc_facts.specs.client.Clients.{IsInScope, IsValidClient, is_item_of, differ_by_name, seat}
 use Rattle.jc_facts.specs.rule.Collisions.{constant_added, capture_added, final_added}
 use Rattle.jc_facts.specs.client.Meets.{MeetsConstant, MeetsCapture, MeetsFinal, may_name}
-use Rattle.jc_facts.specs.rule.Bases.{is_class_usable, is_steady, became_class, is_kept, is_extendable, is_implementable, is_class_closed, is_base_interface, class_is, has_init, public_or_protected, is_open, leaves_out}
+use Rattle.jc_facts.specs.rule.Bases.{is_class_usable, is_steady, became_class, is_kept, is_extendable, is_implementable, is_class_closed, is_base_interface, class_is, has_init, public_or_protected, is_open, newly_sealed}
 use Rattle.jc_facts.specs.plan.PlannedNames.{closed_name, constructor}
 use Rattle.jc_facts.specs.plan.Planned.{a_class, init_method, names_above}
 use Rattle.jc_lemmas.proofs.Listed.{none, cases}
 use Rattle.jc_complete.specs.Completeness.{LinksWhole, Shows, MeetsNothing}
 use Rattle.jc_facts.proofs.Same.{same_itself, same_is}
-use Rattle.jc_worlds.proofs.Clients.{Fits}
-use Rattle.jc_sound.proofs.ClientLoads.{interface_taken}
+use Rattle.jc_worlds.proofs.Clients.{Fits, client_module}
 use Rattle.jc_sound.proofs.Scope.{fits, overrides_none}
-use Rattle.jc_sound.proofs.Standing.{IsUsable}
+use Rattle.jc_sound.proofs.Standing.{IsUsable, usable_accessible}
 use Rattle.jc_complete.proofs.PlanGround.{Ready, letter}
 use Rattle.jc_complete.proofs.PlanValid.{plain_valid}
-use Rattle.jc_complete.proofs.PlanLoads.{lib_find, lib_fault, client_loads, super_refuses, interface_refuses, root_find, root_loads, root_taken, root_side}
+use Rattle.jc_complete.proofs.PlanLoads.{lib_find, lib_fault, client_loads, super_refuses, interface_refuses, root_find, root_loads, root_side, root_takes, may_implement}
 use Rattle.jc_complete.proofs.PlanItems.{links_whole, scope_from, calls_above, root_init_links}
 use Rattle.jc_complete.proofs.PlanMeets.{meets_nothing_by, no_capture_root, no_final_root, seat_below, final_parts}
 use Rattle.jc_complete.proofs.PlanInterfaces.{names_only}
@@ -46,6 +45,7 @@ use Rattle.jc_complete.proofs.PlanConstructorClosed.{steady_usable}
 use Rattle.jc_complete.proofs.PlanBase.{OldName, IsConstructor, closes, closes_at, test_at, closed_old, closed_new, constructor_is}
 use Rattle.jc_complete.proofs.PlanBelow as below
 use Rattle.jc_complete.proofs.PlanCalls.{plain_flags, no_methods, only_init}
+use Rattle.jc_facts.specs.world.Modules.{OfClients, module_of}
 
 -- ---- parts of the rule
 
@@ -119,9 +119,9 @@ unfolding constant_added
 constant_base O N i k h = (and_parts (is_base_interface O N i) (is_none (field_found O i k)) (and_parts (is_base_interface O N i && is_none (field_found O i k)) (is_some (field_found N i k)) h).0).0
 
 -- a refusal of a public class
-refuses : (c d : ClassFacts) → public_flag d.flags ≡ true → (b : Bool) → b ≡ true → or_else (fault_where (not (is_class_accessible c.name d)) IllegalAccessError) (fault_where b IncompatibleClassChangeError) ≡ Some IncompatibleClassChangeError
+refuses : (W : World) (c d : ClassFacts) → is_class_accessible W c.name d ≡ true → (b : Bool) → b ≡ true → or_else (fault_where (not (is_class_accessible W c.name d)) IllegalAccessError) (fault_where b IncompatibleClassChangeError) ≡ Some IncompatibleClassChangeError
 unfolding or_else
-refuses c d p b e = rw (or_left (public_flag d.flags) (in_same_package c.name d.name) p) (rw e refl)
+refuses W c d p b e = rw p (rw e refl)
 
 module _ (O N : World) (w : Bytes) (r : Ready O N w) (x : Bytes) (g : IsClosed O N x) where
   abbrev y : Bytes
@@ -181,13 +181,16 @@ module _ (O N : World) (w : Bytes) (r : Ready O N w) (x : Bytes) (g : IsClosed O
       three false false s true p f = f refl
       three false false s false p f = absurd (let z : false ≡ true = p in cc)
 
-      refused : (interface_flag d.flags || final_flag d.flags || is_sealed_against d Yf) ≡ true
-      refused = three (final_flag d.flags) (interface_flag d.flags) (is_sealed_against d Yf) (leaves_out O N c.permits d.permits) (subst (λ b. (final_flag d.flags || (interface_flag d.flags && not b) || leaves_out O N c.permits d.permits) ≡ true) i g.closes_it)
-          (λ l. closed_new O N w r x c g.was.is_there 89 refl d g.now.is_there l Yf refl)
+      own_n : module_of N y ≡ OfClients
+      own_n = client_module N cs fn y Yf (below.named O N w r x g.was i not_final y own 0x0021 plain_flags (constructor O x) ctor [] no_methods [] refl)
+
+      refused : (interface_flag d.flags || final_flag d.flags || is_sealed_against N d Yf) ≡ true
+      refused = three (final_flag d.flags) (interface_flag d.flags) (is_sealed_against N d Yf) (newly_sealed O N c d) (subst (λ b. (final_flag d.flags || (interface_flag d.flags && not b) || newly_sealed O N c d) ≡ true) i g.closes_it)
+          (λ l. closed_new O N w r x c g.was.is_there 89 refl d g.now.is_there l Yf refl own_n)
 
       fails : load_fault VN y ≡ Some IncompatibleClassChangeError
       fails = super_refuses N cs fn y Yf x d (below.named O N w r x g.was i not_final y own 0x0021 plain_flags (constructor O x) ctor [] no_methods [] refl) refl (lib_find N cs fn x d g.now.is_there) (lib_fault N cs fn x d g.now.is_there ∙ g.now.loaded)
-          IncompatibleClassChangeError (refuses Yf d g.now.public (interface_flag d.flags || final_flag d.flags || is_sealed_against d Yf) refused) tt
+          IncompatibleClassChangeError (refuses N Yf d (usable_accessible N x g.now y) (interface_flag d.flags || final_flag d.flags || is_sealed_against N d Yf) refused) tt
 
   -- ---- an interface
 
@@ -243,8 +246,8 @@ module _ (O N : World) (w : Bytes) (r : Ready O N w) (x : Bytes) (g : IsClosed O
       over above = overrides_none y above (init_method ∷ []) (refl, tt)
 
       loads_o : load_fault VO y ≡ None
-      loads_o = client_loads O cs fo y Y.facts object_name r.root named refl (root_find O cs fo r.root r.is_root w r.old) (root_loads O cs fo r.root r.is_root w r.old) (root_taken r.root r.is_root Y.facts)
-          (record { class = c; is_there = lib_find O cs fo x c g.was.is_there; loaded = up_o; taken = interface_taken Y.facts c g.was.public i (own.sealed_o Y.facts refl refl) }, tt) (over (chain VO object_name))
+      loads_o = client_loads O cs fo y Y.facts object_name r.root named refl (root_find O cs fo r.root r.is_root w r.old) (root_loads O cs fo r.root r.is_root w r.old) (root_takes O cs fo r.root r.is_root w r.old Y.facts)
+          (record { class = c; is_there = lib_find O cs fo x c g.was.is_there; loaded = up_o; taken = may_implement O cs fo y Y.facts named x g.was i own.takes_o (own.sealed_o Y.facts refl refl) }, tt) (over (chain VO object_name))
 
       init_o : outcome VO y (item.Init object_name (codes "()V")) ≡ None
       init_o = root_init_links O cs fo r.root r.is_root w r.old y
@@ -255,8 +258,8 @@ module _ (O N : World) (w : Bytes) (r : Ready O N w) (x : Bytes) (g : IsClosed O
       still : interface_flag d.flags ≡ true
       still = kept_kind O N x c d g.was.is_there g.now.is_there g.steady i
 
-      leaves : leaves_out O N c.permits d.permits ≡ true
-      leaves = last (final_flag d.flags) (interface_flag d.flags) (leaves_out O N c.permits d.permits) (not_final d still (r.new.valid x d g.now.is_there)) (subst (λ b. (final_flag d.flags || (interface_flag d.flags && not b) || leaves_out O N c.permits d.permits) ≡ true) i g.closes_it)
+      leaves : newly_sealed O N c d ≡ true
+      leaves = last (final_flag d.flags) (interface_flag d.flags) (newly_sealed O N c d) (not_final d still (r.new.valid x d g.now.is_there)) (subst (λ b. (final_flag d.flags || (interface_flag d.flags && not b) || newly_sealed O N c d) ≡ true) i g.closes_it)
         where
           last : (f j t : Bool) → f ≡ false → (f || (j && false) || t) ≡ true → t ≡ true
           last true j t p q = absurd (cc)
@@ -264,9 +267,9 @@ module _ (O N : World) (w : Bytes) (r : Ready O N w) (x : Bytes) (g : IsClosed O
           last false false t p q = q
 
       fails : load_fault VN y ≡ Some IncompatibleClassChangeError
-      fails = interface_refuses N cs fn y Y.facts object_name r.root named refl (root_find N cs fn r.root r.is_root w r.new) (root_loads N cs fn r.root r.is_root w r.new) x d IncompatibleClassChangeError (root_taken r.root r.is_root Y.facts) refl
+      fails = interface_refuses N cs fn y Y.facts object_name r.root named refl (root_find N cs fn r.root r.is_root w r.new) (root_loads N cs fn r.root r.is_root w r.new) x d IncompatibleClassChangeError (root_takes N cs fn r.root r.is_root w r.new Y.facts) refl
           (lib_find N cs fn x d g.now.is_there) (lib_fault N cs fn x d g.now.is_there ∙ g.now.loaded)
-          (refuses Y.facts d g.now.public (not (interface_flag d.flags) || is_sealed_against d Y.facts) (or_right (not (interface_flag d.flags)) (is_sealed_against d Y.facts) (closed_new O N w r x c g.was.is_there 89 refl d g.now.is_there leaves Y.facts refl)))
+          (refuses N Y.facts d (usable_accessible N x g.now y) (not (interface_flag d.flags) || is_sealed_against N d Y.facts) (or_right (not (interface_flag d.flags)) (is_sealed_against N d Y.facts) (closed_new O N w r x c g.was.is_there 89 refl d g.now.is_there leaves Y.facts refl (client_module N cs fn y Y.facts named))))
 
       shows : Shows O N (record { clients = Y ∷ []; name = y; spot = spot.Load }) IncompatibleClassChangeError
       shows = record {

@@ -19,7 +19,7 @@ use Rattle.jc_facts.specs.Options.{or_else, and_then, first_some}
 use Rattle.jc_facts.specs.world.World.{World, DeclaredMember, find_class, class_named, with_clients, found_in, own_field_of, is_client}
 use Rattle.jc_facts.specs.world.Hierarchy.{chain, in_chain}
 use Rattle.jc_facts.specs.world.Assignment.{is_interface_of, is_assignable}
-use Rattle.jc_facts.specs.world.Loading.{load_fault, sealed_by, fault_where}
+use Rattle.jc_facts.specs.world.Loading.{load_fault, sealed_by, fault_where, excludes}
 use Rattle.jc_facts.specs.world.Lookup.{field_found, field_step}
 use Rattle.jc_facts.specs.client.Outcome.{outcome, look_up, use_fault, assignment_ok, receiver_ok, found_or}
 use Rattle.jc_facts.specs.file.Valid.{IsValidClass, field_is_valid}
@@ -31,8 +31,7 @@ use Rattle.jc_facts.specs.plan.PlannedNames.{own_name}
 use Rattle.jc_facts.specs.plan.Planned.{user, takes, use_method, act_item, a_class, init_method, field_class, reads_field}
 use Rattle.jc_complete.specs.Completeness.{LinksWhole, Shows}
 use Rattle.jc_facts.proofs.Same.{same_itself, same_is}
-use Rattle.jc_worlds.proofs.Clients.{Fits, find-client}
-use Rattle.jc_sound.proofs.ClientLoads.{interface_taken, superclass_taken}
+use Rattle.jc_worlds.proofs.Clients.{Fits, find-client, client_accessible}
 use Rattle.jc_worlds.proofs.Loaded.{unroll}
 use Rattle.jc_worlds.proofs.Locality.{field_step-local}
 use Rattle.jc_worlds.proofs.Bare.{bare_field}
@@ -43,7 +42,7 @@ use Rattle.jc_sound.proofs.Standing.{IsUsable}
 use Rattle.jc_worlds.proofs.ValidFacts.{no_array}
 use Rattle.jc_complete.proofs.PlanGround.{Planned, Ready, letter}
 use Rattle.jc_complete.proofs.PlanValid.{use_takes, plain_valid, with_init}
-use Rattle.jc_complete.proofs.PlanLoads.{lib_find, lib_fault, client_loads}
+use Rattle.jc_complete.proofs.PlanLoads.{lib_find, lib_fault, client_loads, may_extend_client, may_implement}
 use Rattle.jc_complete.proofs.PlanItems.{links_whole, scope_from, calls_above, below_root_loads, root_init_links, init_says}
 use Rattle.jc_worlds.proofs.Choices.{is_member_accessible-public, passes_protected_check-public}
 use Rattle.jc_complete.proofs.PlanSeats.{side_name, assign_is, in_reach_if}
@@ -57,6 +56,7 @@ use Rattle.jc_facts.specs.file.Rules.{field_descriptor_fits, field_flags_fit}
 use Rattle.jc_worlds.proofs.FieldActs.{field_found-declared}
 use Rattle.jc_sound.proofs.FieldUse.{IsConstant, interface_fields}
 use Rattle.jc_sound.proofs.Named.{may_name-own}
+use Rattle.jc_facts.specs.world.Modules.{OfClients}
 
 -- ---- a field of the key
 
@@ -208,7 +208,7 @@ module _ (O N : World) (w : Bytes) (r : Ready O N w) (c : Bytes) (b : IsBaseInte
   -- ---- one side
 
   module _ (W : World) (p : Planned r.root w W) (v : IsUsable W c) (kind : interface_flag v.class.flags ≡ true) (allowed : is_allowed_name W y ≡ true)
-      (sealed : (e : ClassFacts) → e.name ≡ y → public_flag e.flags ≡ true → sealed_by e v.class.name v.class.permits ≡ false) where
+      (included : excludes W v.class OfClients ≡ false) (sealed : (e : ClassFacts) → e.name ≡ y → public_flag e.flags ≡ true → sealed_by e v.class.name v.class.permits ≡ false) where
     abbrev V : World
     V = with_clients W (Z.facts ∷ Y.facts ∷ U.facts ∷ [])
 
@@ -225,8 +225,8 @@ module _ (O N : World) (w : Bytes) (r : Ready O N w) (c : Bytes) (b : IsBaseInte
     find_y = find-client W (Z.facts ∷ Y.facts ∷ U.facts ∷ []) f y Y.facts named_y
 
     loads_y : load_fault V y ≡ None
-    loads_y = client_loads W (Z.facts ∷ Y.facts ∷ U.facts ∷ []) f y Y.facts z Z.facts named_y refl find_z loads_z (superclass_taken Y.facts Z.facts refl refl refl refl)
-        (record { class = v.class; is_there = lib_find W (Z.facts ∷ Y.facts ∷ U.facts ∷ []) f c v.class v.is_there; loaded = lib_fault W (Z.facts ∷ Y.facts ∷ U.facts ∷ []) f c v.class v.is_there ∙ v.loaded; taken = interface_taken Y.facts v.class v.public kind (sealed Y.facts refl refl) }, tt)
+    loads_y = client_loads W (Z.facts ∷ Y.facts ∷ U.facts ∷ []) f y Y.facts z Z.facts named_y refl find_z loads_z (may_extend_client W (Z.facts ∷ Y.facts ∷ U.facts ∷ []) f Y.facts z Z.facts named_z refl refl refl refl)
+        (record { class = v.class; is_there = lib_find W (Z.facts ∷ Y.facts ∷ U.facts ∷ []) f c v.class v.is_there; loaded = lib_fault W (Z.facts ∷ Y.facts ∷ U.facts ∷ []) f c v.class v.is_there ∙ v.loaded; taken = may_implement W (Z.facts ∷ Y.facts ∷ U.facts ∷ []) f y Y.facts named_y c v kind included (sealed Y.facts refl refl) }, tt)
         (rw (overrides_none y (chain V z) (init_method ∷ []) (refl, tt)) refl)
 
     loads_u : load_fault V u ≡ None
@@ -239,12 +239,12 @@ module _ (O N : World) (w : Bytes) (r : Ready O N w) (c : Bytes) (b : IsBaseInte
     init_z = root_init_links W (Z.facts ∷ Y.facts ∷ U.facts ∷ []) f r.root r.is_root w p z
 
     init_y : outcome V y (item.Init z (codes "()V")) ≡ None
-    init_y = init_says V y z (codes "()V") Z.facts init_method z_plain find_z loads_z refl refl refl ∙ ap (λ t. fault_where (not t) IllegalAccessError) (is_member_accessible-public V y z (record { owner = z; member = init_method }) refl)
+    init_y = init_says V y z (codes "()V") Z.facts init_method z_plain find_z loads_z (client_accessible W (Z.facts ∷ Y.facts ∷ U.facts ∷ []) f z Z.facts named_z refl y) refl refl ∙ ap (λ t. fault_where (not t) IllegalAccessError) (is_member_accessible-public V y z (record { owner = z; member = init_method }) refl)
 
     -- what a read of Y looks at
     says : outcome V u read ≡ found_or NoSuchFieldError (field_found V y k) (use_fault V u GetField y (Some y) Other)
     unfolding look_up
-    says = access_says V u GetField y k (Some y) Y.facts y_plain find_y loads_y refl
+    says = access_says V u GetField y k (Some y) Y.facts y_plain find_y loads_y (client_accessible W (Z.facts ∷ Y.facts ∷ U.facts ∷ []) f y Y.facts named_y refl u)
 
     -- Z's own field
     field_z : field_found V z k ≡ Some (record { owner = z; member = record { name = k.name; descriptor = k.descriptor; flags = 0x0001 } })
@@ -271,23 +271,23 @@ module _ (O N : World) (w : Bytes) (r : Ready O N w) (c : Bytes) (b : IsBaseInte
   zf = record { owner = z; member = record { name = k.name; descriptor = k.descriptor; flags = 0x0001 } }
 
   z_o : load_fault VO z ≡ None
-  z_o = loads_z O r.old b.was b.kind_o own.old.allowed_o own.old.sealed_o
+  z_o = loads_z O r.old b.was b.kind_o own.old.allowed_o own.old.takes_o own.old.sealed_o
 
   y_o : load_fault VO y ≡ None
-  y_o = loads_y O r.old b.was b.kind_o own.old.allowed_o own.old.sealed_o
+  y_o = loads_y O r.old b.was b.kind_o own.old.allowed_o own.old.takes_o own.old.sealed_o
 
   u_o : load_fault VO u ≡ None
-  u_o = loads_u O r.old b.was b.kind_o own.old.allowed_o own.old.sealed_o
+  u_o = loads_u O r.old b.was b.kind_o own.old.allowed_o own.old.takes_o own.old.sealed_o
 
   chosen : field_found VO y k ≡ Some zf
   unfolding or_else
-  chosen = field_y O r.old b.was b.kind_o own.old.allowed_o own.old.sealed_o ∙ rw (g.unknown, field_z O r.old b.was b.kind_o own.old.allowed_o own.old.sealed_o) refl
+  chosen = field_y O r.old b.was b.kind_o own.old.allowed_o own.old.takes_o own.old.sealed_o ∙ rw (g.unknown, field_z O r.old b.was b.kind_o own.old.allowed_o own.old.takes_o own.old.sealed_o) refl
 
   old : outcome VO u read ≡ None
   unfolding use_fault or_else assignment_ok receiver_ok
   old =
       let t : is_assignable VO y y ≡ true = assign_is VO y y y_plain y_plain ∙ or_left (same y y || is_interface_of VO y) (in_chain VO y y) (or_left (same y y) (is_interface_of VO y) (same_itself y)) in
-      says O r.old b.was b.kind_o own.old.allowed_o own.old.sealed_o
+      says O r.old b.was b.kind_o own.old.allowed_o own.old.takes_o own.old.sealed_o
       ∙ ap (λ o. found_or NoSuchFieldError o (use_fault VO u GetField y (Some y) Other)) chosen
       ∙ rw (is_member_accessible-public VO u y zf refl, t, passes_protected_check-public VO u y zf y refl) refl
 
@@ -298,22 +298,22 @@ module _ (O N : World) (w : Bytes) (r : Ready O N w) (c : Bytes) (b : IsBaseInte
   new : outcome VN u read ≡ Some IncompatibleClassChangeError
   unfolding use_fault or_else
   new =
-      let q : field_found VN y k ≡ Some g.field = field_y N r.new b.now b.kind_n own.old.allowed_n own.sealed_n ∙ rw g.found refl in
-      says N r.new b.now b.kind_n own.old.allowed_n own.sealed_n
+      let q : field_found VN y k ≡ Some g.field = field_y N r.new b.now b.kind_n own.old.allowed_n own.takes_n own.sealed_n ∙ rw g.found refl in
+      says N r.new b.now b.kind_n own.old.allowed_n own.takes_n own.sealed_n
       ∙ ap (λ o. found_or NoSuchFieldError o (use_fault VN u GetField y (Some y) Other)) q
       ∙ rw (is_member_accessible-public VN u y g.field is_constant.public, is_constant.static) refl
 
   reach : type_in_reach VO u y ≡ true
-  reach = in_reach_if VO u y Y.facts y_plain (find_y O r.old b.was b.kind_o own.old.allowed_o own.old.sealed_o) y_o refl
+  reach = in_reach_if VO u y Y.facts y_plain (find_y O r.old b.was b.kind_o own.old.allowed_o own.old.takes_o own.old.sealed_o) y_o (client_accessible O (Z.facts ∷ Y.facts ∷ U.facts ∷ []) (f O r.old b.was b.kind_o own.old.allowed_o own.old.takes_o own.old.sealed_o) y Y.facts named_y refl u)
 
   scope : IsInScope O N (Z ∷ Y ∷ U ∷ [])
   unfolding differ_by_name class_named
   scope = scope_from O N (Z ∷ Y ∷ U ∷ []) (valid_Z, (valid_Y, (valid_U, tt))) (rw (yz, same_back z u zu, same_back y u yu) refl)
       (r.old.free 90 refl, (own.old.allowed_o, (r.old.free 85 refl, tt))) (r.new.free 90 refl, (own.old.allowed_n, (r.new.free 85 refl, tt))) (
-        calls_above VO z 0x0021 object_name (codes "()V") [] (record { name = k.name; descriptor = k.descriptor; flags = 0x0001 } ∷ []) [] [] z_o (init_z O r.old b.was b.kind_o own.old.allowed_o own.old.sealed_o),
+        calls_above VO z 0x0021 object_name (codes "()V") [] (record { name = k.name; descriptor = k.descriptor; flags = 0x0001 } ∷ []) [] [] z_o (init_z O r.old b.was b.kind_o own.old.allowed_o own.old.takes_o own.old.sealed_o),
         (
-          calls_above VO y 0x0021 z (codes "()V") (c ∷ []) [] [] [] y_o (init_y O r.old b.was b.kind_o own.old.allowed_o own.old.sealed_o),
-          (calls_above VO u 0x0021 object_name (codes "()V") [] [] (use_method (takes y) ∷ []) (read ∷ []) u_o (init_u O r.old b.was b.kind_o own.old.allowed_o own.old.sealed_o), tt),
+          calls_above VO y 0x0021 z (codes "()V") (c ∷ []) [] [] [] y_o (init_y O r.old b.was b.kind_o own.old.allowed_o own.old.takes_o own.old.sealed_o),
+          (calls_above VO u 0x0021 object_name (codes "()V") [] [] (use_method (takes y) ∷ []) (read ∷ []) u_o (init_u O r.old b.was b.kind_o own.old.allowed_o own.old.takes_o own.old.sealed_o), tt),
         ),
       )
 
@@ -321,16 +321,16 @@ module _ (O N : World) (w : Bytes) (r : Ready O N w) (c : Bytes) (b : IsBaseInte
   constant_shows = record {
     in_scope = scope;
     links = All-from_recursion (LinksWhole VO) (Z ∷ Y ∷ U ∷ []) (
-      links_whole VO Z z_o ((refl, init_z O r.old b.was b.kind_o own.old.allowed_o own.old.sealed_o), tt),
+      links_whole VO Z z_o ((refl, init_z O r.old b.was b.kind_o own.old.allowed_o own.old.takes_o own.old.sealed_o), tt),
       (
-        links_whole VO Y y_o ((refl, init_y O r.old b.was b.kind_o own.old.allowed_o own.old.sealed_o), tt),
-        (links_whole VO U u_o ((refl, init_u O r.old b.was b.kind_o own.old.allowed_o own.old.sealed_o), ((reach, old), tt)), tt),
+        links_whole VO Y y_o ((refl, init_y O r.old b.was b.kind_o own.old.allowed_o own.old.takes_o own.old.sealed_o), tt),
+        (links_whole VO U u_o ((refl, init_u O r.old b.was b.kind_o own.old.allowed_o own.old.takes_o own.old.sealed_o), ((reach, old), tt)), tt),
       ),
     );
     spot = U;
     is_in = Contains-append_right (Z ∷ Y ∷ []) (U ∷ []) U (Contains-push [] U);
     name = refl;
-    fails = (loads_u N r.new b.now b.kind_n own.old.allowed_n own.sealed_n, (read, refl, new));
+    fails = (loads_u N r.new b.now b.kind_n own.old.allowed_n own.takes_n own.sealed_n, (read, refl, new));
   }
 
   pub constant_meets : MeetsConstant VO (Z ∷ Y ∷ U ∷ []) c k
@@ -339,6 +339,6 @@ module _ (O N : World) (w : Bytes) (r : Ready O N w) (c : Bytes) (b : IsBaseInte
     Y,
     Contains-append_right (Z ∷ []) (Y ∷ U ∷ []) Y (Contains-append_left (Y ∷ []) (U ∷ []) Y (Contains-push [] Y)),
     y_o,
-    may_name-own VO c y Y.facts (find_y O r.old b.was b.kind_o own.old.allowed_o own.old.sealed_o) y_o (rw named_y refl) (or_left (same c c) false (same_itself c)),
-    (zf, chosen, inl (rw (find_z O r.old b.was b.kind_o own.old.allowed_o own.old.sealed_o) refl)),
+    may_name-own VO c y Y.facts (find_y O r.old b.was b.kind_o own.old.allowed_o own.old.takes_o own.old.sealed_o) y_o (rw named_y refl) (or_left (same c c) false (same_itself c)),
+    (zf, chosen, inl (rw (find_z O r.old b.was b.kind_o own.old.allowed_o own.old.takes_o own.old.sealed_o) refl)),
   )

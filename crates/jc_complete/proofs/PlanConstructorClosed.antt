@@ -1,6 +1,6 @@
 -- What calls of initializers give, and rule 5 of new objects: the client U shows it.
 use Rattle.std.proofs.Common.{◌≡◌, Bool, true, false, cond, List, [], ◌∷◌, refl, sym, ◌∙◌, ap, subst, Option, Some, None, not, ◌&&◌, ◌||◌, codes}
-use Rattle.std.proofs.lemmas.Bool.{and_parts, both_ways, not-true, or_left}
+use Rattle.std.proofs.lemmas.Bool.{and_parts, both_ways, not-true}
 use Rattle.jc_desc.specs.Names.{is_init_name, is_clinit_name}
 use Rattle.jc_facts.specs.declared.class_facts.ClassFacts.{ClassFacts}
 use Rattle.jc_facts.specs.declared.class_facts.Member.{Member}
@@ -9,7 +9,7 @@ use Rattle.jc_facts.specs.declared.client.Item.TheVariants as item
 use Rattle.jc_facts.specs.declared.key.Key.{Key}
 use Rattle.jc_facts.specs.declared.link_error.LinkError.{LinkError}
 use Rattle.jc_facts.specs.declared.link_error.LinkError.TheVariants.{IllegalAccessError, NoSuchMethodError, InstantiationError, VerifyError}
-use Rattle.jc_facts.specs.Names.{Bytes, same, in_same_package, object_name}
+use Rattle.jc_facts.specs.Names.{Bytes, same, object_name}
 use Rattle.jc_facts.specs.Flags.{public_flag, protected_flag, interface_flag, abstract_flag, static_flag}
 use Rattle.jc_facts.specs.world.Types.{is_array_text}
 use Rattle.jc_facts.specs.Options.{or_else, and_then, some_and}
@@ -31,7 +31,7 @@ use Rattle.jc_worlds.proofs.Clients.{Fits}
 use Rattle.jc_worlds.proofs.Declared.{IsDeclared, method_choices-declared}
 use Rattle.jc_sound.proofs.MethodLooked.{declared_one_access}
 use Rattle.jc_facts.proofs.Options.{or_else-both}
-use Rattle.jc_sound.proofs.Standing.{IsUsable, usable_parts}
+use Rattle.jc_sound.proofs.Standing.{IsUsable, usable_parts, usable_accessible}
 use Rattle.jc_lemmas.proofs.Bools.{neither_last}
 use Rattle.jc_worlds.proofs.Bare.{bare_chain}
 use Rattle.jc_complete.proofs.PlanGround.{Ready, letter}
@@ -81,7 +81,7 @@ init_key-is k h = ap (λ (n : Bytes). let l : Key = record { name = n; descripto
 abbrev pub new_use : World → Bytes → Bytes → DeclaredMember → Option LinkError
 new_use V x t m = or_else (fault_where (not (is_member_accessible V x t m)) IllegalAccessError) (fault_where (not (passes_protected_check V x t m t)) VerifyError)
 
-pub new_says : (V : World) (x t descriptor : Bytes) (d : ClassFacts) → is_array_text t ≡ false → find_class V t ≡ Some d → load_fault V t ≡ None → is_class_accessible x d ≡ true
+pub new_says : (V : World) (x t descriptor : Bytes) (d : ClassFacts) → is_array_text t ≡ false → find_class V t ≡ Some d → load_fault V t ≡ None → is_class_accessible V x d ≡ true
     → outcome V x (item.New t descriptor) ≡ or_else (fault_where (abstract_flag d.flags || interface_flag d.flags) InstantiationError) (init_fault V t descriptor (new_use V x t))
 unfolding outcome or_else and_then
 new_says V x t descriptor d p e l a = rw (class_links V x t d p e l a, p) (rw e refl)
@@ -182,11 +182,11 @@ module _ (O N : World) (w : Bytes) (r : Ready O N w) where
       loads_n : load_fault VN t ≡ None
       loads_n = lib_fault N cs fn t d both.1.is_there ∙ both.1.loaded
 
-      access_o : is_class_accessible x c ≡ true
-      access_o = or_left (public_flag c.flags) (in_same_package x c.name) both.0.public
+      access_o : is_class_accessible O x c ≡ true
+      access_o = usable_accessible O t both.0 x
 
-      access_n : is_class_accessible x d ≡ true
-      access_n = or_left (public_flag d.flags) (in_same_package x d.name) both.1.public
+      access_n : is_class_accessible N x d ≡ true
+      access_n = usable_accessible N t both.1 x
 
       class_o : outcome VO x (item.Class t) ≡ None
       class_o = class_says VO x t ∙ class_links VO x t c plain find_o loads_o access_o

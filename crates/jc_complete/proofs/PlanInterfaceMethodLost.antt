@@ -21,7 +21,7 @@ use Rattle.jc_facts.specs.Options.{or_else, and_then, first_some}
 use Rattle.jc_facts.specs.world.World.{World, DeclaredMember, find_class, class_named, with_clients, found_in, declared_method}
 use Rattle.jc_facts.specs.world.Hierarchy.{chain, in_chain, superinterfaces, each, with_interfaces}
 use Rattle.jc_facts.specs.world.Assignment.{is_interface_of, is_assignable}
-use Rattle.jc_facts.specs.world.Loading.{load_fault, sealed_by}
+use Rattle.jc_facts.specs.world.Loading.{load_fault, sealed_by, excludes}
 use Rattle.jc_facts.specs.client.Acts.{form_of}
 use Rattle.jc_facts.specs.world.Lookup.{field_found, field_step, if_public_instance, public_method_of_object, or_choices, superinterface_choices, interface_choices}
 use Rattle.jc_facts.specs.client.Outcome.{outcome, look_up, first_of, use_fault, assignment_ok, receiver_ok}
@@ -29,15 +29,14 @@ use Rattle.jc_facts.specs.file.Valid.{IsValidClass}
 use Rattle.jc_facts.specs.client.Clients.{type_in_reach, IsInScope, IsValidClient, is_allowed_name, differ_by_name, seat}
 use Rattle.jc_facts.specs.rule.Collisions.{constant_added, capture_added, final_added}
 use Rattle.jc_facts.specs.client.Meets.{MeetsConstant, MeetsCapture, MeetsFinal, may_name}
-use Rattle.jc_facts.specs.rule.Bases.{is_class_usable, is_steady, is_extendable, is_implementable, is_class_closed, is_base_interface, is_key_of_method, class_is, is_open, permits_some, leaves_out, inherits, offers}
+use Rattle.jc_facts.specs.rule.Bases.{is_class_usable, is_steady, is_extendable, is_implementable, is_class_closed, is_base_interface, is_key_of_method, class_is, is_open, inherits, offers, newly_sealed}
 use Rattle.jc_facts.specs.plan.PlannedNames.{own_name}
 use Rattle.jc_facts.specs.plan.Planned.{an_interface, user, takes, use_method, act_item, calls_inherited}
 use Rattle.jc_lemmas.proofs.Listed.{none, cases, EachOf}
 use Rattle.jc_worlds.specs.Choices.{IsPublicInstance}
 use Rattle.jc_complete.specs.Completeness.{LinksWhole, Shows}
 use Rattle.jc_facts.proofs.Same.{same_itself, same_is}
-use Rattle.jc_worlds.proofs.Clients.{Fits, find-client}
-use Rattle.jc_sound.proofs.ClientLoads.{interface_taken}
+use Rattle.jc_worlds.proofs.Clients.{Fits, find-client, client_accessible}
 use Rattle.std.proofs.lemmas.List.Folds.{list_any-append}
 use Rattle.jc_worlds.proofs.Inherited.{superinterface_choices-public}
 use Rattle.jc_worlds.proofs.Loaded.{unroll}
@@ -55,7 +54,7 @@ use Rattle.jc_lemmas.proofs.Bools.{neither_last, and_false}
 use Rattle.jc_worlds.proofs.ValidFacts.{no_array}
 use Rattle.jc_complete.proofs.PlanGround.{Planned, Ready, letter}
 use Rattle.jc_complete.proofs.PlanValid.{use_takes, plain_valid}
-use Rattle.jc_complete.proofs.PlanLoads.{lib_find, lib_fault, client_loads, root_find, root_loads, root_taken, root_side}
+use Rattle.jc_complete.proofs.PlanLoads.{lib_find, lib_fault, client_loads, root_find, root_loads, root_side, root_takes, may_implement}
 use Rattle.jc_complete.proofs.PlanItems.{links_whole, scope_from, calls_above, below_root_loads, root_init_links}
 use Rattle.jc_worlds.proofs.Choices.{is_member_accessible-public, passes_protected_check-public}
 use Rattle.jc_complete.proofs.PlanMeets.{meets_nothing_by, no_capture_root, no_final_root, seat_below, names_none}
@@ -67,6 +66,7 @@ use Rattle.jc_complete.proofs.PlanConstructorClosed.{steady_usable}
 use Rattle.jc_complete.proofs.PlanBase.{OwnName, own_is, own_other, closes, closes_at, test_at}
 use Rattle.jc_complete.proofs.PlanClassClosed.{kept_kind}
 use Rattle.jc_complete.proofs.PlanActs.{access_says}
+use Rattle.jc_facts.specs.world.Modules.{OfClients}
 
 -- ---- an interface that clients implement with both releases
 
@@ -75,8 +75,8 @@ pub record IsBaseInterface (O N : World) (i : Bytes) : Type 0 where
   pub now : IsUsable N i
   pub kind_o : interface_flag was.class.flags ≡ true
   pub kind_n : interface_flag now.class.flags ≡ true
-  pub opens : permits_some O N was.class.permits ≡ true
-  pub leaves : leaves_out O N was.class.permits now.class.permits ≡ false
+  pub opens : is_open O N was.class ≡ true
+  pub leaves : newly_sealed O N was.class now.class ≡ false
 
 pub base_interface : (O N : World) (i : Bytes) → is_base_interface O N i ≡ true → IsBaseInterface O N i
 unfolding is_base_interface is_implementable is_class_closed
@@ -96,7 +96,7 @@ base_interface O N i h =
       kind_o = z.0;
       kind_n = kept_kind O N i u.0.class u.1.class u.0.is_there u.1.is_there q.1 z.0;
       opens = z.1;
-      leaves = neither_last (final_flag u.1.class.flags || (interface_flag u.1.class.flags && not (interface_flag u.0.class.flags))) (leaves_out O N u.0.class.permits u.1.class.permits) m;
+      leaves = neither_last (final_flag u.1.class.flags || (interface_flag u.1.class.flags && not (interface_flag u.0.class.flags))) (newly_sealed O N u.0.class u.1.class) m;
     }
 
 -- a world of valid clients over a side
@@ -176,7 +176,7 @@ module _ (O N : World) (w : Bytes) (r : Ready O N w) (c : Bytes) (b : IsBaseInte
   -- ---- one side
 
   module _ (W : World) (p : Planned r.root w W) (v : IsUsable W c) (kind : interface_flag v.class.flags ≡ true) (allowed : is_allowed_name W j ≡ true)
-      (sealed : (e : ClassFacts) → e.name ≡ j → public_flag e.flags ≡ true → sealed_by e v.class.name v.class.permits ≡ false) where
+      (included : excludes W v.class OfClients ≡ false) (sealed : (e : ClassFacts) → e.name ≡ j → public_flag e.flags ≡ true → sealed_by e v.class.name v.class.permits ≡ false) where
     abbrev V : World
     V = with_clients W (J.facts ∷ U.facts ∷ [])
 
@@ -184,8 +184,8 @@ module _ (O N : World) (w : Bytes) (r : Ready O N w) (c : Bytes) (b : IsBaseInte
     f = fits W (J ∷ U ∷ []) p.bare (allowed, (p.free 85 refl, tt))
 
     loads_j : load_fault V j ≡ None
-    loads_j = client_loads W (J.facts ∷ U.facts ∷ []) f j J.facts object_name r.root named_j refl (root_find W (J.facts ∷ U.facts ∷ []) f r.root r.is_root w p) (root_loads W (J.facts ∷ U.facts ∷ []) f r.root r.is_root w p) (root_taken r.root r.is_root J.facts)
-        (record { class = v.class; is_there = lib_find W (J.facts ∷ U.facts ∷ []) f c v.class v.is_there; loaded = lib_fault W (J.facts ∷ U.facts ∷ []) f c v.class v.is_there ∙ v.loaded; taken = interface_taken J.facts v.class v.public kind (sealed J.facts refl refl) }, tt) refl
+    loads_j = client_loads W (J.facts ∷ U.facts ∷ []) f j J.facts object_name r.root named_j refl (root_find W (J.facts ∷ U.facts ∷ []) f r.root r.is_root w p) (root_loads W (J.facts ∷ U.facts ∷ []) f r.root r.is_root w p) (root_takes W (J.facts ∷ U.facts ∷ []) f r.root r.is_root w p J.facts)
+        (record { class = v.class; is_there = lib_find W (J.facts ∷ U.facts ∷ []) f c v.class v.is_there; loaded = lib_fault W (J.facts ∷ U.facts ∷ []) f c v.class v.is_there ∙ v.loaded; taken = may_implement W (J.facts ∷ U.facts ∷ []) f j J.facts named_j c v kind included (sealed J.facts refl refl) }, tt) refl
 
     loads_u : load_fault V u ≡ None
     loads_u = below_root_loads W (J.facts ∷ U.facts ∷ []) f r.root r.is_root w p u U.facts named_u refl refl (user_overrides u (takes j) (chain V object_name))
@@ -222,7 +222,7 @@ module _ (O N : World) (w : Bytes) (r : Ready O N w) (c : Bytes) (b : IsBaseInte
         rw i (ap (λ c. first_of NoSuchMethodError (or_choices (or_else (and_then (declared_method k) c) (public_method_of_object V k)) (superinterface_choices V j k)) t) find_j ∙ ap (λ q. first_of NoSuchMethodError (or_choices q (superinterface_choices V j k)) t) m)
 
     says : public_method_of_object W k ≡ None → outcome V u call ≡ first_of NoSuchMethodError (superinterface_choices V j k) (use_fault V u InvokeInterface j (Some j) Other)
-    says o = access_says V u InvokeInterface j k (Some j) J.facts j_plain find_j loads_j refl ∙ looks o (use_fault V u InvokeInterface j (Some j) Other)
+    says o = access_says V u InvokeInterface j k (Some j) J.facts j_plain find_j loads_j (client_accessible W (J.facts ∷ U.facts ∷ []) f j J.facts named_j refl u) ∙ looks o (use_fault V u InvokeInterface j (Some j) Other)
 
     -- where the interface inherits the key, the call links
     links : public_method_of_object W k ≡ None → inherits W c k ≡ true → outcome V u call ≡ None
@@ -256,29 +256,29 @@ module _ (O N : World) (w : Bytes) (r : Ready O N w) (c : Bytes) (b : IsBaseInte
     VN = with_clients N (J.facts ∷ U.facts ∷ [])
 
     fo : Fits O (J.facts ∷ U.facts ∷ [])
-    fo = f O r.old b.was b.kind_o own.old.allowed_o own.old.sealed_o
+    fo = f O r.old b.was b.kind_o own.old.allowed_o own.old.takes_o own.old.sealed_o
 
     j_o : load_fault VO j ≡ None
-    j_o = loads_j O r.old b.was b.kind_o own.old.allowed_o own.old.sealed_o
+    j_o = loads_j O r.old b.was b.kind_o own.old.allowed_o own.old.takes_o own.old.sealed_o
 
     u_o : load_fault VO u ≡ None
-    u_o = loads_u O r.old b.was b.kind_o own.old.allowed_o own.old.sealed_o
+    u_o = loads_u O r.old b.was b.kind_o own.old.allowed_o own.old.takes_o own.old.sealed_o
 
     init_o : outcome VO u (item.Init object_name (codes "()V")) ≡ None
-    init_o = init_u O r.old b.was b.kind_o own.old.allowed_o own.old.sealed_o
+    init_o = init_u O r.old b.was b.kind_o own.old.allowed_o own.old.takes_o own.old.sealed_o
 
     old : outcome VO u call ≡ None
-    old = links O r.old b.was b.kind_o own.old.allowed_o own.old.sealed_o none_o was
+    old = links O r.old b.was b.kind_o own.old.allowed_o own.old.takes_o own.old.sealed_o none_o was
 
     none_n : public_method_of_object N k ≡ None
     unfolding public_method_of_object
     none_n = ap (λ o. and_then if_public_instance (and_then (declared_method k) o)) (r.new.there ∙ sym r.old.there) ∙ none_o
 
     new : outcome VN u call ≡ Some NoSuchMethodError
-    new = misses N r.new b.now b.kind_n own.old.allowed_n own.sealed_n none_n now
+    new = misses N r.new b.now b.kind_n own.old.allowed_n own.takes_n own.sealed_n none_n now
 
     reach : type_in_reach VO u j ≡ true
-    reach = in_reach_if VO u j J.facts j_plain (find_j O r.old b.was b.kind_o own.old.allowed_o own.old.sealed_o) j_o refl
+    reach = in_reach_if VO u j J.facts j_plain (find_j O r.old b.was b.kind_o own.old.allowed_o own.old.takes_o own.old.sealed_o) j_o (client_accessible O (J.facts ∷ U.facts ∷ []) fo j J.facts named_j refl u)
 
     scope : IsInScope O N (J ∷ U ∷ [])
     unfolding differ_by_name class_named
@@ -292,7 +292,7 @@ module _ (O N : World) (w : Bytes) (r : Ready O N w) (c : Bytes) (b : IsBaseInte
       spot = U;
       is_in = Contains-append_right (J ∷ []) (U ∷ []) U (Contains-push [] U);
       name = refl;
-      fails = (loads_u N r.new b.now b.kind_n own.old.allowed_n own.sealed_n, (call, refl, new));
+      fails = (loads_u N r.new b.now b.kind_n own.old.allowed_n own.takes_n own.sealed_n, (call, refl, new));
     }
 
     -- a client is one of the two
@@ -311,7 +311,7 @@ module _ (O N : World) (w : Bytes) (r : Ready O N w) (c : Bytes) (b : IsBaseInte
     fields : (l : Key) → field_found VO j l ≡ or_else (or_else (field_found O c l) None) None
     unfolding field_found field_step or_else first_some and_then found_in
     fields l =
-        let a : field_found VO j l ≡ field_step l (λ y. field_found VO y l) J.facts = unroll VO None None (field_step l) (field_step-local l) j J.facts j_o (find_j O r.old b.was b.kind_o own.old.allowed_o own.old.sealed_o) in
+        let a : field_found VO j l ≡ field_step l (λ y. field_found VO y l) J.facts = unroll VO None None (field_step l) (field_step-local l) j J.facts j_o (find_j O r.old b.was b.kind_o own.old.allowed_o own.old.takes_o own.old.sealed_o) in
         let d : field_found VO object_name l ≡ None = bare_field VO object_name r.root l (root_find O (J.facts ∷ U.facts ∷ []) fo r.root r.is_root w r.old) r.is_root.superclass r.is_root.interfaces r.is_root.fields in
         let e : field_found VO c l ≡ field_found O c l = sym (field_found-side O (J.facts ∷ U.facts ∷ []) fo.bare fo.unused c l (declared_library O (J.facts ∷ U.facts ∷ []) fo c b.was.class b.was.is_there) b.was.loaded) in
         a ∙ rw (e, d) refl

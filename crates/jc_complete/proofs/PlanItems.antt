@@ -9,7 +9,7 @@ use Rattle.jc_facts.specs.declared.client.Item.TheVariants as item
 use Rattle.jc_facts.specs.declared.key.Key.{Key}
 use Rattle.jc_facts.specs.declared.link_error.LinkError.TheVariants.{IllegalAccessError}
 use Rattle.jc_facts.specs.Names.{Bytes, same, object_name}
-use Rattle.jc_facts.specs.Flags.{public_flag, interface_flag}
+use Rattle.jc_facts.specs.Flags.{interface_flag}
 use Rattle.jc_facts.specs.world.Types.{is_array_text}
 use Rattle.jc_facts.specs.Options.{or_else, and_then}
 use Rattle.jc_facts.specs.world.World.{World, find_class, class_named, with_clients, own_method_of, found_in}
@@ -25,18 +25,17 @@ use Rattle.jc_complete.specs.Completeness.{LinksWhole}
 use Rattle.jc_lemmas.proofs.Listed.{EachOf}
 use Rattle.jc_facts.proofs.Same.{same_itself}
 use Rattle.jc_facts.proofs.World.{find-name}
-use Rattle.std.proofs.lemmas.Bool.{or_left}
 use Rattle.jc_worlds.proofs.Clients.{Fits}
 use Rattle.jc_sound.proofs.Context.{named_class}
 use Rattle.jc_worlds.proofs.Unrolled.{chain-unroll}
 use Rattle.jc_complete.proofs.PlanGround.{Root, Planned}
-use Rattle.jc_complete.proofs.PlanLoads.{root_find, root_loads, root_taken, client_loads}
+use Rattle.jc_complete.proofs.PlanLoads.{root_find, root_loads, client_loads, root_takes, root_accessible}
 use Rattle.jc_worlds.proofs.Choices.{is_member_accessible-public}
 
 -- ---- outcomes
 
 -- a class that loads and is accessible
-pub class_links : (V : World) (x t : Bytes) (d : ClassFacts) → is_array_text t ≡ false → find_class V t ≡ Some d → load_fault V t ≡ None → is_class_accessible x d ≡ true → class_step V x t ≡ None
+pub class_links : (V : World) (x t : Bytes) (d : ClassFacts) → is_array_text t ≡ false → find_class V t ≡ Some d → load_fault V t ≡ None → is_class_accessible V x d ≡ true → class_step V x t ≡ None
 unfolding class_step class_fault or_else and_then
 class_links V x t d p e l a = rw (named_class t p) (rw (l, e, a) refl)
 
@@ -46,7 +45,7 @@ unfolding method_choices or_choices first_declared or_else found_in
 own_choice V t d k m e l o = ap (λ cs. or_choices (first_declared k cs) (superinterface_choices V t k)) (chain-unroll V t d e l) ∙ rw o refl
 
 -- the call of an initializer that the named class declares says what access says
-pub init_says : (V : World) (x t descriptor : Bytes) (d : ClassFacts) (m : Member) → is_array_text t ≡ false → find_class V t ≡ Some d → load_fault V t ≡ None → is_class_accessible x d ≡ true → interface_flag d.flags ≡ false
+pub init_says : (V : World) (x t descriptor : Bytes) (d : ClassFacts) (m : Member) → is_array_text t ≡ false → find_class V t ≡ Some d → load_fault V t ≡ None → is_class_accessible V x d ≡ true → interface_flag d.flags ≡ false
     → own_method_of d (init_key descriptor) ≡ Some m → outcome V x (item.Init t descriptor) ≡ fault_where (not (is_member_accessible V x t (record { owner = d.name; member = m }))) IllegalAccessError
 unfolding outcome init_fault look_up first_of or_else
 init_says V x t descriptor d m p e l a i o =
@@ -87,10 +86,10 @@ module _ (W : World) (cs : List ClassFacts) (f : Fits W cs) (root : ClassFacts) 
   -- it loads, where it names nothing else and overrides nothing final
   pub below_root_loads : (x : Bytes) (c : ClassFacts) → class_named cs x ≡ Some c → c.superclass ≡ Some object_name → c.interfaces ≡ [] → (not (interface_flag c.flags) && overrides_some_final c.name c.methods (chain V object_name)) ≡ false
       → load_fault V x ≡ None
-  below_root_loads x c k q is o = client_loads W cs f x c object_name root k q (root_find W cs f root r w p) (root_loads W cs f root r w p) (root_taken root r c) (subst (EachOf _) (sym is) tt) o
+  below_root_loads x c k q is o = client_loads W cs f x c object_name root k q (root_find W cs f root r w p) (root_loads W cs f root r w p) (root_takes W cs f root r w p c) (subst (EachOf _) (sym is) tt) o
 
   -- it calls the initializer
   pub root_init_links : (x : Bytes) → outcome V x (item.Init object_name (codes "()V")) ≡ None
   root_init_links x =
-      init_says V x object_name (codes "()V") root r.init refl (root_find W cs f root r w p) (root_loads W cs f root r w p) (or_left (public_flag root.flags) _ r.public) r.class r.declares
+      init_says V x object_name (codes "()V") root r.init refl (root_find W cs f root r w p) (root_loads W cs f root r w p) (root_accessible W cs f root r w p x) r.class r.declares
       ∙ ap (λ b. fault_where (not b) IllegalAccessError) (is_member_accessible-public V x object_name (record { owner = root.name; member = r.init }) r.init_public)

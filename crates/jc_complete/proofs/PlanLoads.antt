@@ -1,24 +1,28 @@
 -- How planned clients load, and what stands above them.
-use Rattle.std.proofs.Common.{◌≡◌, suc, true, false, List, [], ◌∷◌, ◌++◌, refl, sym, ◌∙◌, ap, subst, Option, Some, None, not, ◌&&◌, arith}
+use Rattle.std.proofs.Common.{◌≡◌, suc, Bool, true, false, List, [], ◌∷◌, ◌++◌, refl, sym, ◌∙◌, ap, subst, Option, Some, None, is_some, not, ◌&&◌, arith}
 use Rattle.jc_facts.specs.declared.class_facts.ClassFacts.{ClassFacts}
 use Rattle.jc_facts.specs.declared.link_error.LinkError.{LinkError}
 use Rattle.jc_facts.specs.declared.link_error.LinkError.TheVariants.{IncompatibleClassChangeError}
 use Rattle.jc_facts.specs.Names.{Bytes, object_name}
-use Rattle.jc_facts.specs.Flags.{interface_flag}
+use Rattle.jc_facts.specs.Flags.{public_flag, interface_flag, final_flag}
 use Rattle.jc_facts.specs.Options.{or_else, first_some, and_then}
 use Rattle.jc_facts.specs.world.World.{World, find_class, size, class_named, with_clients}
 use Rattle.jc_facts.specs.world.Search.{supers, supers_of}
 use Rattle.jc_facts.specs.world.Hierarchy.{chain, superinterfaces, of_super, each, with_interfaces, interfaces_of}
 use Rattle.jc_facts.specs.world.Overriding.{overrides_some_final}
-use Rattle.jc_facts.specs.world.Loading.{load_fault, fault_at, load_step, fault_of_itself, fault_of_superclass, error_of_superclass, fault_of_interface, error_of_interface, fault_where}
+use Rattle.jc_facts.specs.world.Loading.{load_fault, fault_at, load_step, fault_of_itself, fault_of_superclass, error_of_superclass, fault_of_interface, error_of_interface, fault_where, excludes, sealed_by}
 use Rattle.jc_lemmas.proofs.Listed.{EachOf, EachOf-map}
 use Rattle.jc_worlds.proofs.Descent.{descend-found}
 use Rattle.jc_worlds.proofs.Depth.{fault_at-deep}
 use Rattle.jc_facts.proofs.Options.{or_else-both}
 use Rattle.jc_worlds.proofs.Loaded.{all_none}
 use Rattle.jc_worlds.proofs.Sides.{find-library, load_fault-side, chain-side, superinterfaces-side}
-use Rattle.jc_worlds.proofs.Clients.{Fits, find-client}
-use Rattle.jc_sound.proofs.ClientLoads.{superclass_taken}
+use Rattle.jc_worlds.proofs.Clients.{Fits, find-client, own_module, client_accessible}
+use Rattle.jc_sound.proofs.ClientLoads.{superclass_taken, interface_taken}
+use Rattle.jc_sound.proofs.Standing.{IsUsable, usable_accessible}
+use Rattle.jc_worlds.proofs.VisibleFrom.{accessible_visible}
+use Rattle.jc_facts.specs.world.Modules.{OfClients, same_module, module_of}
+use Rattle.jc_facts.specs.world.Access.{is_class_accessible}
 use Rattle.jc_sound.proofs.Reach.{declared_library}
 use Rattle.jc_worlds.proofs.Bare.{bare_loads}
 use Rattle.jc_worlds.proofs.Unrolled.{chain-unroll, superinterfaces-unroll}
@@ -32,8 +36,12 @@ load_fault-own W x c e h =
     sym (fault_at-deep W (suc (size W)) (omega arith) x) ∙ p ∙ ap (λ o. or_else o (fault_of_itself W c)) (all_none (fault_at W (size W)) (supers c) h)
 
 -- java/lang/Object may be the superclass of every class
-pub root_taken : (root : ClassFacts) → Root root → (c : ClassFacts) → error_of_superclass c root ≡ None
-root_taken root r c = superclass_taken c root r.public r.class r.not_final (rw r.permits refl)
+pub shuts_none : (b : Bool) (p : Option (List Bytes)) → p ≡ None → (not b && is_some p) ≡ false
+shuts_none true p e = refl
+shuts_none false p e = ap is_some e
+
+pub root_taken : (W : World) (root : ClassFacts) → Root root → (c : ClassFacts) → is_class_accessible W c.name root ≡ true → error_of_superclass W c root ≡ None
+root_taken W root r c a = superclass_taken W c root a r.class r.not_final (shuts_none (same_module (module_of W c.name) (module_of W root.name)) root.permits r.permits) (rw r.permits refl)
 
 module _ (W : World) (cs : List ClassFacts) (f : Fits W cs) where
   abbrev V : World
@@ -53,6 +61,29 @@ module _ (W : World) (cs : List ClassFacts) (f : Fits W cs) where
   pub lib_interfaces : (s : Bytes) (d : ClassFacts) → find_class W s ≡ Some d → load_fault W s ≡ None → superinterfaces V s ≡ superinterfaces W s
   lib_interfaces s d e h = sym (superinterfaces-side W cs f.bare f.unused s (declared_library W cs f s d e) h)
 
+  -- ---- what a client may name
+
+  -- a class of the side that takes clients
+  takes : (x : Bytes) (c d : ClassFacts) → class_named cs x ≡ Some c → excludes W d OfClients ≡ false → excludes W d (module_of W c.name) ≡ false
+  takes x c d k t = subst (λ m. excludes W d m ≡ false) (sym (own_module W cs f x c k)) t
+
+  pub may_extend : (x : Bytes) (c : ClassFacts) → class_named cs x ≡ Some c → (s : Bytes) (u : IsUsable W s) → interface_flag u.class.flags ≡ false → final_flag u.class.flags ≡ false → excludes W u.class OfClients ≡ false → sealed_by c u.class.name u.class.permits ≡ false
+      → error_of_superclass V c u.class ≡ None
+  may_extend x c k s u i n t p = superclass_taken V c u.class (usable_accessible W s u c.name) i n (takes x c u.class k t) p
+
+  pub may_implement : (x : Bytes) (c : ClassFacts) → class_named cs x ≡ Some c → (s : Bytes) (u : IsUsable W s) → interface_flag u.class.flags ≡ true → excludes W u.class OfClients ≡ false → sealed_by c u.class.name u.class.permits ≡ false
+      → error_of_interface V c u.class ≡ None
+  may_implement x c k s u i t p = interface_taken V c u.class (usable_accessible W s u c.name) i (takes x c u.class k t) p
+
+  -- another client without permitted names
+  pub may_extend_client : (c : ClassFacts) (y : Bytes) (d : ClassFacts) → class_named cs y ≡ Some d → public_flag d.flags ≡ true → interface_flag d.flags ≡ false → final_flag d.flags ≡ false → d.permits ≡ None → error_of_superclass V c d ≡ None
+  may_extend_client c y d k u i n p =
+      superclass_taken V c d (client_accessible W cs f y d k u c.name) i n (shuts_none (same_module (module_of W c.name) (module_of W d.name)) d.permits p) (ap (sealed_by c d.name) p)
+
+  pub may_implement_client : (c : ClassFacts) (y : Bytes) (d : ClassFacts) → class_named cs y ≡ Some d → public_flag d.flags ≡ true → interface_flag d.flags ≡ true → d.permits ≡ None → error_of_interface V c d ≡ None
+  may_implement_client c y d k u i p =
+      interface_taken V c d (client_accessible W cs f y d k u c.name) i (shuts_none (same_module (module_of W c.name) (module_of W d.name)) d.permits p) (ap (sealed_by c d.name) p)
+
   -- ---- a client
 
   -- an interface that the client c may name
@@ -60,7 +91,7 @@ module _ (W : World) (cs : List ClassFacts) (f : Fits W cs) where
     pub class : ClassFacts
     pub is_there : find_class V i ≡ Some class
     pub loaded : load_fault V i ≡ None
-    pub taken : error_of_interface c class ≡ None
+    pub taken : error_of_interface V c class ≡ None
 
   module _ (x : Bytes) (c : ClassFacts) (s : Bytes) (d : ClassFacts) (k : class_named cs x ≡ Some c) (q : c.superclass ≡ Some s) (t : find_class V s ≡ Some d) (l : load_fault V s ≡ None) where
     supers_load : EachOf (λ i. load_fault V i ≡ None) c.interfaces → EachOf (λ y. load_fault V y ≡ None) (supers c)
@@ -71,7 +102,7 @@ module _ (W : World) (cs : List ClassFacts) (f : Fits W cs) where
         go (Some z) e = let w : z ≡ s = cc in (subst (λ y. load_fault V y ≡ None) (sym w) l, h)
 
     -- it loads
-    pub client_loads : error_of_superclass c d ≡ None → EachOf (TakesInterface c) c.interfaces → (not (interface_flag c.flags) && overrides_some_final c.name c.methods (chain V s)) ≡ false → load_fault V x ≡ None
+    pub client_loads : error_of_superclass V c d ≡ None → EachOf (TakesInterface c) c.interfaces → (not (interface_flag c.flags) && overrides_some_final c.name c.methods (chain V s)) ≡ false → load_fault V x ≡ None
     unfolding fault_of_itself fault_of_superclass fault_of_interface and_then
     client_loads e is o = load_fault-own V x c (find-client W cs f x c k) (supers_load (EachOf-map (λ i w. w.loaded) c.interfaces is)) ∙ own
       where
@@ -88,14 +119,14 @@ module _ (W : World) (cs : List ClassFacts) (f : Fits W cs) where
         own = or_else-both (and_then (fault_of_superclass V c) c.superclass) _ above (or_else-both (first_some (fault_of_interface V c) c.interfaces) _ rest finals)
 
     -- its superclass refuses it
-    pub super_refuses : (e : LinkError) → error_of_superclass c d ≡ Some e → EachOf (λ i. load_fault V i ≡ None) c.interfaces → load_fault V x ≡ Some e
+    pub super_refuses : (e : LinkError) → error_of_superclass V c d ≡ Some e → EachOf (λ i. load_fault V i ≡ None) c.interfaces → load_fault V x ≡ Some e
     unfolding fault_of_itself fault_of_superclass and_then or_else
     super_refuses e g is =
         let p : and_then (fault_of_superclass V c) c.superclass ≡ Some e = ap (and_then (fault_of_superclass V c)) q ∙ rw t g in
         load_fault-own V x c (find-client W cs f x c k) (supers_load is) ∙ rw p refl
 
     -- its only interface does
-    pub interface_refuses : (i : Bytes) (b : ClassFacts) (e : LinkError) → error_of_superclass c d ≡ None → c.interfaces ≡ i ∷ [] → find_class V i ≡ Some b → load_fault V i ≡ None → error_of_interface c b ≡ Some e → load_fault V x ≡ Some e
+    pub interface_refuses : (i : Bytes) (b : ClassFacts) (e : LinkError) → error_of_superclass V c d ≡ None → c.interfaces ≡ i ∷ [] → find_class V i ≡ Some b → load_fault V i ≡ None → error_of_interface V c b ≡ Some e → load_fault V x ≡ Some e
     unfolding fault_of_itself fault_of_superclass fault_of_interface first_some and_then or_else
     interface_refuses i b e g is fi li r =
         let p : and_then (fault_of_superclass V c) c.superclass ≡ None = ap (and_then (fault_of_superclass V c)) q ∙ rw t g in
@@ -103,7 +134,7 @@ module _ (W : World) (cs : List ClassFacts) (f : Fits W cs) where
         load_fault-own V x c (find-client W cs f x c k) (supers_load (subst (EachOf (λ i. load_fault V i ≡ None)) (sym is) (li, tt))) ∙ rw (p, n) refl
 
     -- a final method above does
-    pub method_refuses : error_of_superclass c d ≡ None → c.interfaces ≡ [] → interface_flag c.flags ≡ false → overrides_some_final c.name c.methods (chain V s) ≡ true → load_fault V x ≡ Some IncompatibleClassChangeError
+    pub method_refuses : error_of_superclass V c d ≡ None → c.interfaces ≡ [] → interface_flag c.flags ≡ false → overrides_some_final c.name c.methods (chain V s) ≡ true → load_fault V x ≡ Some IncompatibleClassChangeError
     unfolding fault_of_itself fault_of_superclass first_some and_then or_else
     method_refuses g is ci o =
         let p : and_then (fault_of_superclass V c) c.superclass ≡ None = ap (and_then (fault_of_superclass V c)) q ∙ rw t g in
@@ -124,6 +155,12 @@ module _ (W : World) (cs : List ClassFacts) (f : Fits W cs) where
   module _ (root : ClassFacts) (r : Root root) (w : Bytes) (p : Planned root w W) where
     pub root_find : find_class V object_name ≡ Some root
     root_find = lib_find object_name root p.there
+
+    pub root_accessible : (z : Bytes) → is_class_accessible W z root ≡ true
+    root_accessible z = accessible_visible W z object_name root p.there p.visible r.public
+
+    pub root_takes : (c : ClassFacts) → error_of_superclass V c root ≡ None
+    root_takes c = root_taken V root r c (root_accessible c.name)
 
     pub root_side : load_fault W object_name ≡ None
     root_side = bare_loads W object_name root p.there r.superclass r.interfaces

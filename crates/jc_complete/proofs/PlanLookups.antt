@@ -1,6 +1,6 @@
 -- What lookups from planned clients find, and what they may use of it.
 use Rattle.std.proofs.Common.{◌≡◌, ℕ, Bool, true, false, List, [], ◌∷◌, refl, sym, ◌∙◌, ap, subst, Option, Some, None, not, nat_le, ◌+◌, ◌&&◌, ◌||◌, ◌⊎◌, inl, inr}
-use Rattle.std.proofs.lemmas.Bool.{and_parts, both_ways, or_cases, or_left}
+use Rattle.std.proofs.lemmas.Bool.{and_parts, both_ways, or_cases}
 use Rattle.std.specs.List.{list_any}
 use Rattle.jc_desc.specs.Utf8.{is_modified_utf8}
 use Rattle.jc_facts.specs.declared.class_facts.ClassFacts.{ClassFacts}
@@ -27,7 +27,7 @@ use Rattle.jc_lemmas.proofs.Lists.{IsCons, cons_or}
 use Rattle.jc_worlds.proofs.Offers.{choices-some, declared_by-offers}
 use Rattle.jc_complete.proofs.PlanLoads.{lib_find, lib_fault}
 use Rattle.jc_desc.specs.Reading.{slots_of_method}
-use Rattle.jc_facts.specs.world.Access.{is_member_accessible, are_nestmates}
+use Rattle.jc_facts.specs.world.Access.{is_member_accessible, are_nestmates, is_class_accessible}
 use Rattle.jc_facts.specs.file.Rules.{slots_fit_in, method_descriptor_fits, method_flags_fit}
 use Rattle.jc_facts.specs.rule.Collisions.{leaves_room}
 use Rattle.jc_worlds.proofs.Unrolled.{own_chain}
@@ -44,12 +44,12 @@ use Rattle.jc_worlds.proofs.Inherited.{found_all, found_passes}
 -- ---- a client below a class of the side calls its constructor
 
 pub below_init : (W : World) (cs : List ClassFacts) (f : Fits W cs) (x : Bytes) (c : ClassFacts) (s : Bytes) (d : ClassFacts) → class_named cs x ≡ Some c → c.superclass ≡ Some s → find_class W s ≡ Some d → load_fault W s ≡ None → load_fault (with_clients W cs) x ≡ None
-    → is_allowed_name W x ≡ true → is_array_text s ≡ false → public_flag d.flags ≡ true → interface_flag d.flags ≡ false → (descriptor : Bytes) → IsConstructor d descriptor → outcome (with_clients W cs) x (item.Init s descriptor) ≡ None
+    → is_allowed_name W x ≡ true → is_array_text s ≡ false → is_class_accessible W x d ≡ true → interface_flag d.flags ≡ false → (descriptor : Bytes) → IsConstructor d descriptor → outcome (with_clients W cs) x (item.Init s descriptor) ≡ None
 below_init W cs f x c s d k q t h l a p u i descriptor ctor =
     let m : DeclaredMember = record { owner = d.name; member = ctor.method } in
     let o : find_class W d.name ≡ Some d = ap (find_class W) (find-name W s d t) ∙ t in
     let j : in_chain W s d.name ≡ true = subst (λ z. in_chain W s z ≡ true) (sym (find-name W s d t)) (own_chain W s h) in
-    init_says (with_clients W cs) x s descriptor d ctor.method p (lib_find W cs f s d t) (lib_fault W cs f s d t ∙ h) (or_left (public_flag d.flags) (in_same_package x d.name) u) i ctor.declares
+    init_says (with_clients W cs) x s descriptor d ctor.method p (lib_find W cs f s d t) (lib_fault W cs f s d t ∙ h) u i ctor.declares
     ∙ ap (λ b. fault_where (not b) IllegalAccessError) (access_is W cs f x c s d k q t h l a s d t h m d o ∙ open_member W s m ctor.open_to j (own_chain W s h))
 
 -- ---- lookups

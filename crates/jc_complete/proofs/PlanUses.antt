@@ -6,8 +6,7 @@ use Rattle.jc_facts.specs.declared.client.Item.{Item}
 use Rattle.jc_facts.specs.declared.client.Item.TheVariants as item
 use Rattle.jc_facts.specs.declared.link_error.LinkError.{LinkError}
 use Rattle.jc_facts.specs.declared.link_error.LinkError.TheVariants.{VerifyError}
-use Rattle.jc_facts.specs.Names.{Bytes, same, in_same_package, object_name}
-use Rattle.jc_facts.specs.Flags.{public_flag}
+use Rattle.jc_facts.specs.Names.{Bytes, same, object_name}
 use Rattle.jc_facts.specs.world.Types.{is_array_text}
 use Rattle.jc_facts.specs.world.World.{World, find_class, with_clients}
 use Rattle.jc_facts.specs.world.Hierarchy.{in_chain, names_in}
@@ -23,7 +22,7 @@ use Rattle.jc_facts.proofs.Same.{same_is}
 use Rattle.jc_facts.proofs.World.{find-name}
 use Rattle.jc_worlds.proofs.Clients.{Fits}
 use Rattle.jc_worlds.proofs.Unrolled.{own_chain}
-use Rattle.jc_sound.proofs.Standing.{IsUsable, usable_parts}
+use Rattle.jc_sound.proofs.Standing.{IsUsable, usable_parts, usable_accessible}
 use Rattle.jc_sound.proofs.ClassGoneLaw.{breaks}
 use Rattle.jc_worlds.proofs.Bare.{bare_chain, bare_loads}
 use Rattle.jc_complete.proofs.PlanGround.{Planned, Ready, letter}
@@ -116,7 +115,7 @@ module _ (O N : World) (w : Bytes) (r : Ready O N w) where
       pt = side_plain r.root w O r.old t ut.class ut.is_there
 
       reach_of : (y : Bytes) → is_array_text y ≡ false → (u : IsUsable O y) → type_in_reach (with_clients O cs) (letter w 85) y ≡ true
-      reach_of y p u = in_reach_if (with_clients O cs) (letter w 85) y u.class p (lib_find O cs fo y u.class u.is_there) (lib_fault O cs fo y u.class u.is_there ∙ u.loaded) (or_left (public_flag u.class.flags) (in_same_package (letter w 85) u.class.name) u.public)
+      reach_of y p u = in_reach_if (with_clients O cs) (letter w 85) y u.class p (lib_find O cs fo y u.class u.is_there) (lib_fault O cs fo y u.class u.is_there ∙ u.loaded) (usable_accessible O y u (letter w 85))
 
       reach : (type_in_reach (with_clients O cs) (letter w 85) s && type_in_reach (with_clients O cs) (letter w 85) t) ≡ true
       reach = and_from (type_in_reach (with_clients O cs) (letter w 85) s) (type_in_reach (with_clients O cs) (letter w 85) t) (reach_of s ps us) (reach_of t pt ut)
@@ -146,7 +145,7 @@ module _ (O N : World) (w : Bytes) (r : Ready O N w) where
       (none_of_three (same s t) (is_interface_of N t) (in_chain N s t) (cut_differs s t h) h.class h.cut)
 
   abbrev pub root_usable : (W : World) → Planned r.root w W → IsUsable W object_name
-  root_usable W p = record { class = r.root; is_there = p.there; public = r.is_root.public; loaded = bare_loads W object_name r.root p.there r.is_root.superclass r.is_root.interfaces }
+  root_usable W p = record { class = r.root; is_there = p.there; visible = p.visible; public = r.is_root.public; loaded = bare_loads W object_name r.root p.there r.is_root.superclass r.is_root.interfaces }
 
   -- H3. The class is another than java/lang/Object, which was no interface
   pub class_differs : (i : Bytes) → became_class O N i ≡ true → same object_name i ≡ false

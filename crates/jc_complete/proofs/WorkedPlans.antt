@@ -20,6 +20,8 @@ use Rattle.jc_sound.proofs.Examples.{computes, init, key, member, a_class, plain
 use Rattle.jc_sound.proofs.WorkedClients.{p_A, run, run_key, root_is_valid}
 use Rattle.std.proofs.lemmas.List.Elements.{All-from_recursion}
 use Rattle.jc_facts.specs.file.Valid.{IsValidClass}
+use Rattle.jc_facts.specs.world.World.{side}
+use Rattle.jc_facts.proofs.Pairs.{plain_pair}
 use Rattle.jc_complete.specs.Completeness.{CanPlan}
 use Rattle.jc_complete.proofs.PlanRules.{made}
 
@@ -122,17 +124,14 @@ valid_new = record {
   one_of_class = refl;
 }
 
-pub clients_can_be_planned : CanPlan (object ∷ []) (plain p_A ∷ []) (public_class p_A [] (run 2 ∷ []) ∷ [])
+pub clients_can_be_planned : CanPlan (side (object ∷ []) (plain p_A ∷ [])) (side (object ∷ []) (public_class p_A [] (run 2 ∷ []) ∷ []))
 unfolding computes
 clients_can_be_planned = record {
-  root = record {
-    has = record { root = object; is_there = refl; superclass = refl; interfaces = refl; fields = refl; public = refl; class = refl };
-    not_final = refl;
-    permits = refl;
-    init = refl;
-  };
-  platform_valid = All-from_recursion IsValidClass (object ∷ []) (root_is_valid, tt);
-  old_valid = All-from_recursion IsValidClass (plain p_A ∷ []) (valid_old, tt);
-  new_valid = All-from_recursion IsValidClass (public_class p_A [] (run 2 ∷ []) ∷ []) (valid_new, tt);
+  pair = plain_pair (object ∷ []) (plain p_A ∷ []) (public_class p_A [] (run 2 ∷ []) ∷ [])
+      (record { root = object; is_there = refl; superclass = refl; interfaces = refl; fields = refl; public = refl; class = refl })
+      (All-from_recursion IsValidClass (object ∷ []) (root_is_valid, tt))
+      (All-from_recursion IsValidClass (plain p_A ∷ []) (valid_old, tt))
+      (All-from_recursion IsValidClass (public_class p_A [] (run 2 ∷ []) ∷ []) (valid_new, tt));
+  open_root = record { not_final = refl; permits = refl; init = refl };
   few = lit< tt;
 }

@@ -13,11 +13,11 @@ use Rattle.jc_facts.specs.declared.verdict.Spot.TheVariants as spot
 use Rattle.jc_facts.specs.declared.link_error.LinkError.{LinkError}
 use Rattle.jc_facts.specs.Flags.{public_flag, final_flag}
 use Rattle.jc_facts.specs.Options.{some_and}
-use Rattle.jc_facts.specs.world.World.{World, side, with_clients, own_method_of}
+use Rattle.jc_facts.specs.world.World.{World, with_clients, own_method_of}
+use Rattle.jc_facts.specs.world.Pairs.{IsPair}
 use Rattle.jc_facts.specs.world.Loading.{load_fault}
 use Rattle.jc_facts.specs.client.Outcome.{outcome, Links, init_key}
-use Rattle.jc_facts.specs.file.Valid.{IsValidClass}
-use Rattle.jc_facts.specs.client.Clients.{IsInScope, facts_of, is_in_reach, HasRoot, Keeps}
+use Rattle.jc_facts.specs.client.Clients.{IsInScope, facts_of, is_in_reach, Keeps}
 use Rattle.jc_facts.specs.client.Meets.{Meets}
 use Rattle.jc_facts.specs.rule.Findings.{Stands}
 use Rattle.jc_facts.specs.rule.Collisions.{CollisionStands}
@@ -29,20 +29,17 @@ use Rattle.jc_facts.specs.rule.Verdict.{IsVerdict, is_incompatible}
 
 -- ---- of what releases it is said
 
--- clients may extend the platform's java/lang/Object: it isn't final, permits everybody, and has a public initializer without parameters
-pub record HasOpenRoot (platform : List ClassFacts) : Type 0 where
-  pub has : HasRoot platform
-  pub not_final : IsFalse (final_flag has.root.flags)
-  pub permits : has.root.permits ≡ None
-  pub init : IsTrue (some_and (λ m. public_flag m.flags) (own_method_of has.root (init_key (codes "()V"))))
+-- clients may extend the class: it isn't final, permits everybody, and has a public initializer without parameters
+pub record IsOpenRoot (root : ClassFacts) : Type 0 where
+  pub not_final : IsFalse (final_flag root.flags)
+  pub permits : root.permits ≡ None
+  pub init : IsTrue (some_and (λ m. public_flag m.flags) (own_method_of root (init_key (codes "()V"))))
 
--- valid records, a root that clients may extend, and a number of names of at most 64 digits, so that the package's name is short
-pub record CanPlan (platform old new : List ClassFacts) : Type 0 where
-  pub root : HasOpenRoot platform
-  pub platform_valid : All IsValidClass platform
-  pub old_valid : All IsValidClass old
-  pub new_valid : All IsValidClass new
-  pub few : length (mentioned (side platform old) (side platform new)) < 10 ^ 64
+-- two sides of one run, of valid classes, a root that clients may extend, and a number of names of at most 64 digits, so that the package's name is short
+pub record CanPlan (O N : World) : Type 0 where
+  pub pair : IsPair O N
+  pub open_root : IsOpenRoot pair.root.root
+  pub few : length (mentioned O N) < 10 ^ 64
 
 -- ---- what a plan shows
 
@@ -72,14 +69,12 @@ MeetsNothing O N cs = (c : Collision) → CollisionStands O N c → ¬ (Meets (w
 
 -- each finding of this kind is shown by its plan, which meets no collision
 abbrev pub FindingsShown : (Finding → Type 0) → Type 0
-FindingsShown Kind = (platform old new : List ClassFacts) → CanPlan platform old new → (f : Finding) → Kind f → Stands (side platform old) (side platform new) f
-    → let O = side platform old in let N = side platform new in let p = plan O N (fresh_package O N) (cause.Finding f) in
+FindingsShown Kind = (O N : World) → CanPlan O N → (f : Finding) → Kind f → Stands O N f → let p = plan O N (fresh_package O N) (cause.Finding f) in
     Shows O N p f.error × MeetsNothing O N p.clients
 
 -- each collision of this kind is shown by its plan, which meets it
 abbrev pub CollisionsShown : (Collision → Type 0) → Type 0
-CollisionsShown Kind = (platform old new : List ClassFacts) → CanPlan platform old new → (c : Collision) → Kind c → CollisionStands (side platform old) (side platform new) c
-    → let O = side platform old in let N = side platform new in let p = plan O N (fresh_package O N) (cause.Collision c) in
+CollisionsShown Kind = (O N : World) → CanPlan O N → (c : Collision) → Kind c → CollisionStands O N c → let p = plan O N (fresh_package O N) (cause.Collision c) in
     Shows O N p c.error × Meets (with_clients O (facts_of p.clients)) p.clients c
 
 -- ---- whole
@@ -95,9 +90,8 @@ PlannedMeet O N e c = Meets (with_clients O (facts_of (planned O N e))) (planned
 -- For each finding and each collision of the verdict the planned clients are in scope and link whole with the old release, and one spot of
 -- them has the named error with the new. Those of a finding meet no collision of the verdict, and those of a collision meet it.
 abbrev pub Completeness : Type 0
-Completeness = (platform old new : List ClassFacts) (v : Verdict) → CanPlan platform old new → IsVerdict (side platform old) (side platform new) v
-    → let O = side platform old in let N = side platform new in
-    All (λ f. PlannedShow O N (cause.Finding f) f.error × All (λ c. ¬ (PlannedMeet O N (cause.Finding f) c)) v.collisions) v.findings
+Completeness = (O N : World) (v : Verdict) → CanPlan O N → IsVerdict O N v
+    → All (λ f. PlannedShow O N (cause.Finding f) f.error × All (λ c. ¬ (PlannedMeet O N (cause.Finding f) c)) v.collisions) v.findings
     × All (λ c. PlannedShow O N (cause.Collision c) c.error × PlannedMeet O N (cause.Collision c) c) v.collisions
 
 -- a client world in scope that meets no collision of the verdict and isn't kept
@@ -108,6 +102,6 @@ pub record IsBroken (O N : World) (v : Verdict) (cs : List ClientClass) : Type 0
 
 -- The verdict is `incompatible` exactly where there is such a world: soundness and completeness in one.
 abbrev pub VerdictIsExact : Type 0
-VerdictIsExact = (platform old new : List ClassFacts) (v : Verdict) → CanPlan platform old new → IsVerdict (side platform old) (side platform new) v
-    → (IsTrue (is_incompatible v) → (cs : List ClientClass) × IsBroken (side platform old) (side platform new) v cs)
-    × ((cs : List ClientClass) → IsBroken (side platform old) (side platform new) v cs → IsTrue (is_incompatible v))
+VerdictIsExact = (O N : World) (v : Verdict) → CanPlan O N → IsVerdict O N v
+    → (IsTrue (is_incompatible v) → (cs : List ClientClass) × IsBroken O N v cs)
+    × ((cs : List ClientClass) → IsBroken O N v cs → IsTrue (is_incompatible v))

@@ -1,7 +1,7 @@
 -- The number of names that two sides mention, from their counts.
-use Rattle.std.specs.Prelude.{◌≤◌, ◌<◌, ◌+◌, ◌^◌, List, length, All}
+use Rattle.std.specs.Prelude.{◌≤◌, ◌<◌, ◌^◌, length, All}
 use Rattle.jc_facts.specs.declared.class_facts.ClassFacts.{ClassFacts}
-use Rattle.jc_facts.specs.world.World.{side}
+use Rattle.jc_facts.specs.world.World.{World, classes}
 use Rattle.jc_facts.specs.world.Mentioned.{permitted, mentioned}
 
 -- the class names fewer than 2^64 interfaces and permits fewer than 2^64 classes, as every list of the program is shorter
@@ -11,5 +11,5 @@ pub record HasCountedNames (c : ClassFacts) : Type 0 where
 
 -- sides of at most 120,000 such classes mention fewer than 10^64 names
 abbrev pub FewAreMentioned : Type 0
-FewAreMentioned = (platform old new : List ClassFacts) → length platform + length old ≤ 120000 → length platform + length new ≤ 120000
-    → All HasCountedNames platform → All HasCountedNames old → All HasCountedNames new → length (mentioned (side platform old) (side platform new)) < 10 ^ 64
+FewAreMentioned = (O N : World) → length (classes O) ≤ 120000 → length (classes N) ≤ 120000 → All HasCountedNames (classes O) → All HasCountedNames (classes N)
+    → length (mentioned O N) < 10 ^ 64

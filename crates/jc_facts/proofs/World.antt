@@ -58,6 +58,13 @@ class_named-first (c ∷ cs) ds x h = go (same c.name x) h (class_named-first cs
     go true q r = refl
     go false q r = r q
 
+-- what the platform has under a name the world has
+pub find-platform : (W : World) (x : Bytes) → is_some (class_named W.platform x) ≡ true → find_class W x ≡ class_named W.platform x
+unfolding find_class
+find-platform W x h =
+    let first = class_named-first W.platform W.release x h in
+    class_named-first (W.platform ++ W.release) W.clients x (ap is_some first ∙ h) ∙ first
+
 pub class_named-each : (P : ClassFacts → Type 0) (cs : List ClassFacts) (x : Bytes) (c : ClassFacts) → EachOf P cs → class_named cs x ≡ Some c → P c
 unfolding class_named
 class_named-each P [] x c h e = absurd (cc)

@@ -1,4 +1,5 @@
 pub mod World
+pub mod Modules
 pub mod Search
 pub mod Hierarchy
 pub mod Access
@@ -8,3 +9,4 @@ pub mod Lookup
 pub mod Types
 pub mod Assignment
 pub mod Mentioned
+pub mod Pairs

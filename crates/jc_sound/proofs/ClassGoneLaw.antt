@@ -1,6 +1,6 @@
 -- What a class that is gone breaks: each client that could name it can't.
-use Rattle.std.proofs.Common.{◌≡◌, Bool, true, false, List, [], ◌++◌, refl, sym, ◌∙◌, ap, subst, Option, Some, None, not, ◌&&◌, ◌==◌}
-use Rattle.std.proofs.lemmas.Bool.{and_parts, both_ways, not-true, or_left}
+use Rattle.std.proofs.Common.{◌≡◌, Bool, true, false, List, refl, sym, ◌∙◌, ap, subst, Option, Some, None, not, ◌&&◌, ◌==◌}
+use Rattle.std.proofs.lemmas.Bool.{and_parts, both_ways, not-true}
 use Rattle.std.proofs.lemmas.List.Elements.{recursion_from_All}
 use Rattle.jc_facts.specs.declared.class_facts.ClassFacts.{ClassFacts}
 use Rattle.jc_facts.specs.declared.client.ClientClass.{ClientClass}
@@ -12,26 +12,27 @@ use Rattle.jc_facts.specs.declared.key.Key.{Key}
 use Rattle.jc_facts.specs.declared.link_error.LinkError.{LinkError}
 use Rattle.jc_facts.specs.declared.link_error.LinkError.TheVariants.{IllegalAccessError}
 use Rattle.jc_facts.specs.Names.{Bytes, in_same_package}
-use Rattle.jc_facts.specs.Flags.{public_flag}
 use Rattle.jc_facts.specs.world.Types.{is_array_text}
 use Rattle.jc_facts.specs.Options.{or_else, and_then}
-use Rattle.jc_facts.specs.world.World.{World, find_class, class_named, side, with_clients}
+use Rattle.jc_facts.specs.world.World.{World, find_class, class_named, with_clients}
 use Rattle.jc_facts.specs.world.Access.{is_class_accessible}
 use Rattle.jc_facts.specs.world.Loading.{load_fault, fault_where}
 use Rattle.jc_facts.specs.client.Outcome.{outcome, class_fault, class_step}
 use Rattle.jc_facts.specs.client.Clients.{facts_of, is_allowed_name}
 use Rattle.jc_facts.specs.rule.Bases.{is_class_usable}
-use Rattle.jc_facts.specs.file.Valid.{IsValidClass}
 use Rattle.jc_facts.specs.rule.Findings.{Subject, finding_at, finding_by, class_gone, report_where, gone_error, fault_or}
 use Rattle.jc_sound.specs.Findings.{ClassGoneBreaks}
-use Rattle.jc_lemmas.proofs.Listed.{EachOf, EachOf-append}
+use Rattle.jc_lemmas.proofs.Listed.{EachOf}
 use Rattle.jc_lemmas.proofs.Options.{passed, taken}
-use Rattle.jc_facts.proofs.World.{names, find-name, EachOf-class_named, class_named-each}
+use Rattle.jc_facts.proofs.World.{names, find-name, EachOf-class_named}
+use Rattle.jc_facts.proofs.Pairs.{side_valid}
 use Rattle.jc_worlds.proofs.Loaded.{loads-found}
 use Rattle.jc_worlds.proofs.Sides.{find-library, load_fault-side}
-use Rattle.jc_worlds.proofs.Clients.{Fits}
+use Rattle.jc_facts.specs.world.Modules.{is_visible}
+use Rattle.jc_worlds.proofs.Clients.{Fits, client_module}
+use Rattle.jc_worlds.proofs.VisibleFrom.{accessible_parts, visible_from-client}
 use Rattle.jc_worlds.proofs.Packages.{allowed_parts, same_package_apart}
-use Rattle.jc_sound.proofs.Standing.{IsUsable, usable_parts, usable_from}
+use Rattle.jc_sound.proofs.Standing.{IsUsable, usable_parts, usable_from, usable_accessible}
 use Rattle.jc_sound.proofs.Scope.{fits, allowed_names}
 use Rattle.jc_sound.proofs.SoundnessLaws.{client_there}
 use Rattle.jc_worlds.proofs.ValidFacts.{fit_of}
@@ -65,8 +66,8 @@ module _ (O N : World) (cs : List ClassFacts) (fo : Fits O cs) (fn : Fits N cs) 
   VN = with_clients N cs
 
   -- of the class d, where it is there
-  abbrev access : ClassFacts → Option LinkError
-  access d = fault_where (not (is_class_accessible y d)) IllegalAccessError
+  abbrev access : World → ClassFacts → Option LinkError
+  access V d = fault_where (not (is_class_accessible V y d)) IllegalAccessError
 
   u : IsUsable O x
   u = usable_parts O x was
@@ -82,7 +83,7 @@ module _ (O N : World) (cs : List ClassFacts) (fo : Fits O cs) (fn : Fits N cs) 
   unfolding class_step
   named V = rw (named_class x plain) refl
 
-  fault_is : (V : World) (o : Option LinkError) (p : Option ClassFacts) → load_fault V x ≡ o → find_class V x ≡ p → class_fault V y x ≡ or_else o (and_then access p)
+  fault_is : (V : World) (o : Option LinkError) (p : Option ClassFacts) → load_fault V x ≡ o → find_class V x ≡ p → class_fault V y x ≡ or_else o (and_then (access V) p)
   unfolding class_fault
   fault_is V o p l f = rw (l, f) refl
 
@@ -91,7 +92,7 @@ module _ (O N : World) (cs : List ClassFacts) (fo : Fits O cs) (fn : Fits N cs) 
   unfolding or_else and_then
   old =
       named VO ∙ fault_is VO None (Some u.class) (sym (load_fault-side O cs fo.bare fo.unused x library) ∙ u.loaded) (sym (find-library O cs fo.bare x library) ∙ u.is_there)
-      ∙ rw (or_left (public_flag u.class.flags) (in_same_package y u.class.name) u.public) refl
+      ∙ rw (usable_accessible O x u y) refl
 
   new_load : load_fault VN x ≡ load_fault N x
   new_load = sym (load_fault-side N cs fn.bare fn.unused x library)
@@ -101,20 +102,23 @@ module _ (O N : World) (cs : List ClassFacts) (fo : Fits O cs) (fn : Fits N cs) 
   unfolding or_else
   unloaded e h = fault_is VN (Some e) (find_class VN x) (new_load ∙ h) refl ∙ ap (λ o. Some (fault_or IllegalAccessError o)) (sym h)
 
-  -- or isn't public
+  -- or isn't accessible
   hidden : load_fault N x ≡ None → class_fault VN y x ≡ Some (fault_or IllegalAccessError (load_fault N x))
   unfolding or_else and_then
   hidden h =
       let there = loads-found N x h in
       let apart = allowed_parts N y (EachOf-class_named (λ n. is_allowed_name N n ≡ true) cs y c client allowed_n) in
       let other : in_same_package y there.0.name ≡ false = same_package_apart N y x there.0 apart.apart there.1 in
-      let hid : public_flag there.0.flags ≡ false = shown there.0 there.1 (public_flag there.0.flags) refl in
+      let hid : is_class_accessible N y there.0 ≡ false = shut there.0 there.1 other (is_class_accessible N y there.0) refl in
       fault_is VN None (Some there.0) (new_load ∙ h) (sym (find-library N cs fn.bare x library) ∙ there.1)
-      ∙ rw (hid, other) (ap (λ o. Some (fault_or IllegalAccessError o)) (sym h))
+      ∙ rw hid (ap (λ o. Some (fault_or IllegalAccessError o)) (sym h))
     where
-      shown : (d : ClassFacts) → find_class N x ≡ Some d → (b : Bool) → public_flag d.flags ≡ b → b ≡ false
-      shown d f true p = absurd (both_ways (is_class_usable N x) gone (usable_from N x d f p h))
-      shown d f false p = refl
+      shut : (d : ClassFacts) → find_class N x ≡ Some d → in_same_package y d.name ≡ false → (b : Bool) → is_class_accessible N y d ≡ b → b ≡ false
+      shut d f q false a = refl
+      shut d f q true a =
+          let p = accessible_parts N y d q a in
+          let v : is_visible N x ≡ true = subst (λ z. is_visible N z ≡ true) (find-name N x d f) (sym (visible_from-client N y d.name (client_module N cs fn y c client)) ∙ p.0) in
+          absurd (both_ways (is_class_usable N x) gone (usable_from N x d f v p.1 h))
 
   new : class_step VN y x ≡ Some (gone_error N x)
   unfolding gone_error
@@ -130,25 +134,13 @@ module _ (O N : World) (cs : List ClassFacts) (fo : Fits O cs) (fn : Fits N cs) 
 
 -- ---- the law
 
--- each class of a side of valid classes is valid
-valid_side : (platform release : List ClassFacts) → EachOf IsValidClass platform → EachOf IsValidClass release → (x : Bytes) (c : ClassFacts) → find_class (side platform release) x ≡ Some c → IsValidClass c
-unfolding find_class
-valid_side platform release vp vr x c e =
-    class_named-each IsValidClass (platform ++ release ++ []) x c (EachOf-append IsValidClass (platform ++ release) [] (EachOf-append IsValidClass platform release vp vr) tt) e
-
 pub class_gone_breaks : ClassGoneBreaks
 unfolding finding_at class_gone
-class_gone_breaks platform before after vp vo s f is_1 stands cs scope c is_in =
+class_gone_breaks O N old_bare new_bare vp vo s f is_1 stands cs scope c is_in =
     subst (λ (e : LinkError). Broken f.class e) says.2 (subst (λ (x : Bytes). Broken x (gone_error N s.class)) says.1 broken)
   where
-    O : World
-    O = side platform before
-
-    N : World
-    N = side platform after
-
     Broken : Bytes → LinkError → Type 0
-    Broken x e = (outcome (with_clients (side platform before) (facts_of cs)) c.facts.name (item.Class x) ≡ None) × (outcome (with_clients (side platform after) (facts_of cs)) c.facts.name (item.Class x) ≡ Some e)
+    Broken x e = (outcome (with_clients O (facts_of cs)) c.facts.name (item.Class x) ≡ None) × (outcome (with_clients N (facts_of cs)) c.facts.name (item.Class x) ≡ Some e)
 
     says : ((is_class_usable O s.class && not (is_class_usable N s.class)) ≡ true) × (s.class ≡ f.class) × (gone_error N s.class ≡ f.error)
     says = report_where-some (is_class_usable O s.class && not (is_class_usable N s.class)) s ClassRef (gone_error N s.class) f (by_class_gone O N s s.key s.target f is_1 stands)
@@ -159,7 +151,7 @@ class_gone_breaks platform before after vp vo s f is_1 stands cs scope c is_in =
     plain : is_array_text s.class ≡ false
     plain =
         let u = usable_parts O s.class parts.0 in
-        let v = valid_side platform before (recursion_from_All IsValidClass platform vp) (recursion_from_All IsValidClass before vo) s.class u.class u.is_there in
+        let v = side_valid O old_bare vp vo s.class u.class u.is_there in
         subst (λ (z : Bytes). is_array_text z ≡ false) (find-name O s.class u.class u.is_there) (fit_of u.class v).name
 
     allowed_o : EachOf (λ n. is_allowed_name O n ≡ true) (names (facts_of cs))
@@ -171,4 +163,4 @@ class_gone_breaks platform before after vp vo s f is_1 stands cs scope c is_in =
     broken : Broken s.class (gone_error N s.class)
     broken =
         let t = client_there cs c is_in in
-        breaks O N (facts_of cs) (fits O cs refl allowed_o) (fits N cs refl allowed_n) allowed_n c.facts.name t.0 t.1 s.class plain parts.0 (not-true (is_class_usable N s.class) parts.1)
+        breaks O N (facts_of cs) (fits O cs old_bare allowed_o) (fits N cs new_bare allowed_n) allowed_n c.facts.name t.0 t.1 s.class plain parts.0 (not-true (is_class_usable N s.class) parts.1)

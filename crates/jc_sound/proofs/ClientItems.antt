@@ -3,8 +3,7 @@ use Rattle.std.proofs.Common.{lit≤, ◌≡◌, ℕ, zero, suc, Bool, true, fal
 use Rattle.std.proofs.lemmas.Bool.{and_parts, both_ways, and_from, or_cases, or_left, or_right, not-false}
 use Rattle.jc_facts.specs.declared.class_facts.ClassFacts.{ClassFacts}
 use Rattle.jc_facts.specs.declared.link_error.LinkError.TheVariants.{IllegalAccessError}
-use Rattle.jc_facts.specs.Names.{Bytes, same, in_same_package}
-use Rattle.jc_facts.specs.Flags.{public_flag}
+use Rattle.jc_facts.specs.Names.{Bytes, same}
 use Rattle.jc_facts.specs.world.Types.{Element, Primitive, Class, TypeText, type_read}
 use Rattle.jc_facts.specs.world.World.{World, find_class, class_named, with_clients}
 use Rattle.jc_facts.specs.world.Search.{supers, supers_of}
@@ -24,8 +23,10 @@ use Rattle.jc_worlds.proofs.Above.{fault_where-none, chain-each}
 use Rattle.jc_worlds.proofs.Loaded.{loads-found, loads-parts, loads-induction}
 use Rattle.jc_facts.proofs.Options.{or_else-none, or_else-both}
 use Rattle.jc_worlds.proofs.Sides.{find-library, load_fault-side, chain-side}
-use Rattle.jc_worlds.proofs.Clients.{Fits, find-client}
-use Rattle.jc_sound.proofs.Standing.{Quiet, report_where-none, stays_usable, stays_kept, stays_interface, usable_parts}
+use Rattle.jc_worlds.specs.Agreement.{SeeAlike}
+use Rattle.jc_worlds.proofs.VisibleFrom.{same_class_access, clients_alike}
+use Rattle.jc_worlds.proofs.Clients.{Fits, client_module, find-client}
+use Rattle.jc_sound.proofs.Standing.{Quiet, report_where-none, stays_usable, stays_kept, stays_interface, usable_parts, usable_accessible}
 use Rattle.jc_lemmas.proofs.Options.{none_where}
 use Rattle.jc_sound.proofs.ClientLoads.{library_usable, library_loads, super_access}
 use Rattle.jc_worlds.proofs.Unrolled.{in_chain-step, above}
@@ -56,22 +57,22 @@ module _ (O N : World) (cs : List ClassFacts) (fo : Fits O cs) (fn : Fits N cs) 
   unfolding class_fault and_then
   class_fault-kept x c e y f = go (class_named cs y) refl (loads-found VO y (p).0)
     where
-      p : (load_fault VO y ≡ None) × (and_then (λ d. fault_where (not (is_class_accessible x d)) IllegalAccessError) (find_class VO y) ≡ None)
-      p = or_else-none (load_fault VO y) (and_then (λ d. fault_where (not (is_class_accessible x d)) IllegalAccessError) (find_class VO y)) f
+      p : (load_fault VO y ≡ None) × (and_then (λ d. fault_where (not (is_class_accessible VO x d)) IllegalAccessError) (find_class VO y) ≡ None)
+      p = or_else-none (load_fault VO y) (and_then (λ d. fault_where (not (is_class_accessible VO x d)) IllegalAccessError) (find_class VO y)) f
 
-      access : (d : ClassFacts) → find_class VO y ≡ Some d → is_class_accessible x d ≡ true
-      access d t = let q : fault_where (not (is_class_accessible x d)) IllegalAccessError ≡ None = rw t at p.1 in not-false (is_class_accessible x d) (fault_where-none (not (is_class_accessible x d)) IllegalAccessError q)
+      access : (d : ClassFacts) → find_class VO y ≡ Some d → is_class_accessible VO x d ≡ true
+      access d t = let q : fault_where (not (is_class_accessible VO x d)) IllegalAccessError ≡ None = rw t at p.1 in not-false (is_class_accessible VO x d) (fault_where-none (not (is_class_accessible VO x d)) IllegalAccessError q)
 
-      made : (d : ClassFacts) → find_class VN y ≡ Some d → load_fault VN y ≡ None → is_class_accessible x d ≡ true → or_else (load_fault VN y) (and_then (λ d. fault_where (not (is_class_accessible x d)) IllegalAccessError) (find_class VN y)) ≡ None
+      made : (d : ClassFacts) → find_class VN y ≡ Some d → load_fault VN y ≡ None → is_class_accessible VN x d ≡ true → or_else (load_fault VN y) (and_then (λ d. fault_where (not (is_class_accessible VN x d)) IllegalAccessError) (find_class VN y)) ≡ None
       made d t l a = or_else-both (load_fault VN y) _ l (rw t (rw a refl))
 
-      go : (o : Option ClassFacts) → class_named cs y ≡ o → (d : ClassFacts) × (find_class VO y ≡ Some d) → or_else (load_fault VN y) (and_then (λ d. fault_where (not (is_class_accessible x d)) IllegalAccessError) (find_class VN y)) ≡ None
-      go (Some d) k t = made d (find-client N cs fn y d k) (clients_load y d k p.0) (access d (find-client O cs fo y d k))
+      go : (o : Option ClassFacts) → class_named cs y ≡ o → (d : ClassFacts) × (find_class VO y ≡ Some d) → or_else (load_fault VN y) (and_then (λ d. fault_where (not (is_class_accessible VN x d)) IllegalAccessError) (find_class VN y)) ≡ None
+      go (Some d) k t = made d (find-client N cs fn y d k) (clients_load y d k p.0) (sym (same_class_access O N x d (subst (λ z. SeeAlike O N x z) (sym (class_named-name cs y d k)) (clients_alike O N x y (client_module O cs fo x c e) (client_module O cs fo y d k) (client_module N cs fn x c e) (client_module N cs fn y d k)))) ∙ access d (find-client O cs fo y d k))
       go None k t =
           let o = find-library O cs fo.bare y k ∙ t.1 in
           let u = library_usable O N cs fo fn quiet allowed_o allowed_n x c e y t.0 k o p.0 (access t.0 t.1) in
           let n = usable_parts N y (stays_usable O N quiet y u) in
-          made n.class (sym (find-library N cs fn.bare y k) ∙ n.is_there) (library_loads O N cs fo fn quiet allowed_o allowed_n y k u) (or_left (public_flag n.class.flags) (in_same_package x n.class.name) n.public)
+          made n.class (sym (find-library N cs fn.bare y k) ∙ n.is_there) (library_loads O N cs fo fn quiet allowed_o allowed_n y k u) (usable_accessible N y n x)
 
   -- the item that names a class
   pub class_step-kept : (x : Bytes) (c : ClassFacts) → class_named cs x ≡ Some c → (t : Bytes) → class_step VO x t ≡ None → class_step VN x t ≡ None
@@ -91,7 +92,7 @@ module _ (O N : World) (cs : List ClassFacts) (fo : Fits O cs) (fn : Fits N cs) 
     client : {y : Bytes} (c : ClassFacts) → class_named cs y ≡ Some c → IsHeld y
     library : {y : Bytes} → class_named cs y ≡ None → is_class_usable O y ≡ true → IsHeld y
 
-  pub held : (x : Bytes) (c : ClassFacts) → class_named cs x ≡ Some c → (y : Bytes) → load_fault VO y ≡ None → ((d : ClassFacts) → find_class VO y ≡ Some d → is_class_accessible x d ≡ true) → IsHeld y
+  pub held : (x : Bytes) (c : ClassFacts) → class_named cs x ≡ Some c → (y : Bytes) → load_fault VO y ≡ None → ((d : ClassFacts) → find_class VO y ≡ Some d → is_class_accessible VO x d ≡ true) → IsHeld y
   held x c e y h a = go (class_named cs y) refl (loads-found VO y h)
     where
       go : (o : Option ClassFacts) → class_named cs y ≡ o → (d : ClassFacts) × (find_class VO y ≡ Some d) → IsHeld y
@@ -165,17 +166,17 @@ module _ (O N : World) (cs : List ClassFacts) (fo : Fits O cs) (fn : Fits N cs) 
           fn' : find_class VN s ≡ Some c
           fn' = find-client N cs fn s c kc
 
-          parts : EachOf (λ y. load_fault VO y ≡ None) (supers c) × EachOf (λ y. (d : ClassFacts) → find_class VO y ≡ Some d → is_class_accessible c.name d ≡ true) (supers c)
+          parts : EachOf (λ y. load_fault VO y ≡ None) (supers c) × EachOf (λ y. (d : ClassFacts) → find_class VO y ≡ Some d → is_class_accessible VO c.name d ≡ true) (supers c)
           parts = let p = loads-parts VO s c f h in (p.0, super_access VO c p.1)
 
           named : c.name ≡ s
           named = class_named-name cs s c kc
 
           up : (o : Option Bytes) (is : List Bytes) → EachOf (λ y. IsHeld y → in_chain VO y t ≡ true → (in_chain VN y t ≡ true) ⊎ (is_interface_of VN t ≡ true)) (supers_of o is)
-              → EachOf (λ y. load_fault VO y ≡ None) (supers_of o is) → EachOf (λ y. (d : ClassFacts) → find_class VO y ≡ Some d → is_class_accessible c.name d ≡ true) (supers_of o is)
+              → EachOf (λ y. load_fault VO y ≡ None) (supers_of o is) → EachOf (λ y. (d : ClassFacts) → find_class VO y ≡ Some d → is_class_accessible VO c.name d ≡ true) (supers_of o is)
               → above (λ z. in_chain VO z t) o ≡ true → (above (λ z. in_chain VN z t) o ≡ true) ⊎ (is_interface_of VN t ≡ true)
           up None is a b e' g = absurd (cc)
-          up (Some y) is a b e' g = a.0 (held s c kc y b.0 (λ d w. subst (λ z. is_class_accessible z d ≡ true) named (e'.0 d w))) g
+          up (Some y) is a b e' g = a.0 (held s c kc y b.0 (λ d w. subst (λ z. is_class_accessible VO z d ≡ true) named (e'.0 d w))) g
 
           go : (b : Bool) → same c.name t ≡ b → in_chain VO s t ≡ (same c.name t || above (λ z. in_chain VO z t) c.superclass) → in_chain VN s t ≡ (same c.name t || above (λ z. in_chain VN z t) c.superclass)
               → (in_chain VN s t ≡ true) ⊎ (is_interface_of VN t ≡ true)
@@ -212,9 +213,9 @@ module _ (O N : World) (cs : List ClassFacts) (fo : Fits O cs) (fn : Fits N cs) 
   -- what x has in reach
   pub reached : (x : Bytes) (c : ClassFacts) → class_named cs x ≡ Some c → (y : Bytes) → class_in_reach VO x y ≡ true → (load_fault VO y ≡ None) × IsHeld y
   reached x c e y r =
-      let p = and_parts (loads VO y) (some_and (is_class_accessible x) (find_class VO y)) r in
+      let p = and_parts (loads VO y) (some_and (is_class_accessible VO x) (find_class VO y)) r in
       let l : load_fault VO y ≡ None = none_where (load_fault VO y) p.0 in
-      (l, held x c e y l (λ d f. let q : is_class_accessible x d ≡ true = rw f at p.1 in q))
+      (l, held x c e y l (λ d f. let q : is_class_accessible VO x d ≡ true = rw f at p.1 in q))
 
   -- an assignment in reach
   pub is_assignable-kept : (x : Bytes) (c : ClassFacts) → class_named cs x ≡ Some c → (s t : Bytes) → type_in_reach VO x s ≡ true → type_in_reach VO x t ≡ true → is_assignable VO s t ≡ true → is_assignable VN s t ≡ true

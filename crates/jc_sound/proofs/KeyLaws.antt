@@ -1,8 +1,7 @@
 -- The key of a finding or a collision is declared by its class or above it.
 use Rattle.std.proofs.Common.{◌≡◌, Bool, true, not, List, [], ◌∷◌, ◌++◌, refl, ◌∙◌, ap, subst, Option, Some, None, is_some, is_none, ◌&&◌, ◌==◌, ◌⊎◌, inl, inr}
 use Rattle.std.proofs.lemmas.Bool.{and_parts, or_cases, or_left}
-use Rattle.std.specs.List.{All, list_any}
-use Rattle.std.proofs.lemmas.List.Elements.{recursion_from_All}
+use Rattle.std.specs.List.{list_any}
 use Rattle.jc_facts.specs.declared.class_facts.ClassFacts.{ClassFacts}
 use Rattle.jc_facts.specs.declared.class_facts.Member.{Member}
 use Rattle.jc_facts.specs.declared.key.Key.{Key}
@@ -15,22 +14,21 @@ use Rattle.jc_facts.specs.Names.{Bytes, object_name}
 use Rattle.jc_desc.specs.Names.{is_init_name}
 use Rattle.jc_facts.specs.Flags.{public_flag, no_static_flag}
 use Rattle.jc_facts.specs.Options.{and_then, some_and}
-use Rattle.jc_facts.specs.world.World.{World, find_class, side, class_named, DeclaredMember, own_method_of}
+use Rattle.jc_facts.specs.world.World.{World, find_class, DeclaredMember, own_method_of}
+use Rattle.jc_facts.specs.world.Pairs.{IsPair}
 use Rattle.jc_facts.specs.world.Hierarchy.{chain, of_super, superinterfaces}
 use Rattle.jc_facts.specs.world.Loading.{load_fault}
 use Rattle.jc_facts.specs.world.Lookup.{field_found, first_declared, method_choices, public_method_of_object}
 use Rattle.jc_facts.specs.client.Acts.{form_of}
 use Rattle.jc_facts.specs.file.Valid.{IsValidClass}
-use Rattle.jc_facts.specs.client.Clients.{HasRoot}
 use Rattle.jc_facts.specs.rule.Bases.{is_class_usable, is_kept, became_class, is_steady, is_class_closed, is_extendable, is_implementable, is_base_class, is_base_interface, public_or_protected, is_key_of_method, is_open_final, declares_as_final, is_final_in_chain, offers, is_inheritable, itself_and, inherits}
 use Rattle.jc_facts.specs.rule.OpenActs.{act_fault, where_open, closed_act, field_acts, method_acts, first_seat}
 use Rattle.jc_facts.specs.rule.Findings.{Subject, finding_at, finding_by, report, act_finding, first_act, constructor_closed, init_of, had_init, new_error, init_error, finds_overridable, method_made_final, field_closed, method_closed, interface_method_lost}
 use Rattle.jc_facts.specs.rule.Collisions.{collision_at, constant_added, capture_added, final_added, captures, are_none, leaves_room}
 use Rattle.jc_sound.specs.Findings.{declares_key, KeysAreDeclared, CollisionKeysAreDeclared}
 use Rattle.jc_worlds.specs.Hierarchy.{above}
-use Rattle.jc_lemmas.proofs.Listed.{EachOf-append}
 use Rattle.jc_sound.proofs.Standing.{usable_parts}
-use Rattle.jc_facts.proofs.World.{class_named-first, class_named-each}
+use Rattle.jc_facts.proofs.Pairs.{side_valid, old_root, new_root, new_platform_valid}
 use Rattle.jc_worlds.proofs.Bare.{bare_field}
 use Rattle.jc_worlds.proofs.Unrolled.{chain-unroll}
 use Rattle.jc_lemmas.proofs.Lists.{any_left, any_right, any_weaker}
@@ -38,21 +36,6 @@ use Rattle.jc_sound.proofs.Looked.{look_up-takes}
 use Rattle.jc_sound.proofs.UsableLaw.{Needs, none_needs, cond_needs, either_needs, or_else_needs, and_then_needs, findings_are_of_usable}
 use Rattle.jc_lemmas.proofs.Bools.{both_first, both_last, second_of_five, third_of_five}
 use Rattle.jc_sound.proofs.AboveKeys.{test_declares, looked_above, chain_above, from_class}
-
--- ---- the sides
-
-root_at : (platform rest : List ClassFacts) (root : HasRoot platform) → find_class (side platform rest) object_name ≡ Some root.root
-unfolding find_class
-root_at platform rest root =
-    let there : is_some (class_named platform object_name) ≡ true = rw root.is_there refl in
-    class_named-first (platform ++ rest) [] object_name (rw (class_named-first platform rest object_name there, root.is_there) refl) ∙ class_named-first platform rest object_name there ∙ root.is_there
-
-valid_side : (platform rest : List ClassFacts) → All IsValidClass platform → All IsValidClass rest → (x : Bytes) (c : ClassFacts) → find_class (side platform rest) x ≡ Some c → IsValidClass c
-unfolding find_class
-valid_side platform rest p r x c e = class_named-each IsValidClass (platform ++ rest ++ []) x c (EachOf-append IsValidClass (platform ++ rest) [] (EachOf-append IsValidClass platform rest (recursion_from_All IsValidClass platform p) (recursion_from_All IsValidClass rest r)) tt) e
-
-root_field : (platform rest : List ClassFacts) (root : HasRoot platform) (k : Key) → field_found (side platform rest) object_name k ≡ None
-root_field platform rest root k = bare_field (side platform rest) object_name root.root k (root_at platform rest root) root.superclass root.interfaces root.fields
 
 -- ---- parts
 
@@ -141,29 +124,23 @@ base_interface_now O N x h =
 
 -- ---- findings
 
-module _ (platform old new : List ClassFacts) (root : HasRoot platform) (vp : All IsValidClass platform) (vo : All IsValidClass old) (vn : All IsValidClass new) where
-  abbrev O : World
-  O = side platform old
-
-  abbrev N : World
-  N = side platform new
-
+module _ (O N : World) (pair : IsPair O N) where
   -- an act that was open finds the key above the class
-  open_above : (c seat : Bytes) (k : Key) (a : Act) → load_fault (side platform old) c ≡ None → act_fault (side platform old) seat c k a ≡ None → list_any (declares_key k) (above (side platform old) c) ≡ true
+  open_above : (c seat : Bytes) (k : Key) (a : Act) → load_fault O c ≡ None → act_fault O seat c k a ≡ None → list_any (declares_key k) (above O c) ≡ true
   unfolding act_fault
   open_above c seat k a h e =
       let t = look_up-takes O (form_of a) c k _ e in
-      looked_above k O (valid_side platform old vp vo) (root_field platform old root k) (form_of a) c h t.found t.taken
+      looked_above k O (side_valid O pair.run.old_bare pair.platform_valid pair.old_valid) (bare_field O object_name pair.root.root k (old_root O N pair) pair.root.superclass pair.root.interfaces pair.root.fields) (form_of a) c h t.found t.taken
 
   -- on the old side, or on the new
-  of_old : (c : Bytes) (k : Key) → list_any (declares_key k) (above (side platform old) c) ≡ true → list_any (declares_key k) (above (side platform old) c ++ above (side platform new) c) ≡ true
+  of_old : (c : Bytes) (k : Key) → list_any (declares_key k) (above O c) ≡ true → list_any (declares_key k) (above O c ++ above N c) ≡ true
   of_old c k h = any_left (declares_key k) (above O c) (above N c) h
 
-  of_new : (c : Bytes) (k : Key) → list_any (declares_key k) (above (side platform new) c) ≡ true → list_any (declares_key k) (above (side platform old) c ++ above (side platform new) c) ≡ true
+  of_new : (c : Bytes) (k : Key) → list_any (declares_key k) (above N c) ≡ true → list_any (declares_key k) (above O c ++ above N c) ≡ true
   of_new c k h = any_right (declares_key k) (above O c) (above N c) h
 
-  by_key : (s : Subject) (k : Key) → load_fault (side platform old) s.class ≡ None
-      → Needs (list_any (declares_key k) (above (side platform old) s.class ++ above (side platform new) s.class) ≡ true) (finding_by (side platform old) (side platform new) s (Some k) None)
+  by_key : (s : Subject) (k : Key) → load_fault O s.class ≡ None
+      → Needs (list_any (declares_key k) (above O s.class ++ above N s.class) ≡ true) (finding_by O N s (Some k) None)
   unfolding method_made_final field_closed method_closed interface_method_lost constructor_closed
   by_key s k h =
       either_needs P (s.rule == 5) (constructor_closed O N s k) _ (or_else_needs P _ _
@@ -178,25 +155,25 @@ module _ (platform old new : List ClassFacts) (root : HasRoot platform) (vp : Al
       (λ e. of_old s.class k (by_inherits k O s.class h (third_of_five (is_key_of_method k) (is_base_interface O N s.class) (inherits O s.class k) (not (inherits N s.class k)) (is_none (public_method_of_object O k)) e)))) (none_needs Finding P)))))
     where
       P : Type 0
-      P = list_any (declares_key k) (above (side platform old) s.class ++ above (side platform new) s.class) ≡ true
+      P = list_any (declares_key k) (above O s.class ++ above N s.class) ≡ true
 
-      by_act : (a : Act) (seat : Bytes) → act_fault (side platform old) seat s.class k a ≡ None → list_any (declares_key k) (above (side platform old) s.class ++ above (side platform new) s.class) ≡ true
+      by_act : (a : Act) (seat : Bytes) → act_fault O seat s.class k a ≡ None → list_any (declares_key k) (above O s.class ++ above N s.class) ≡ true
       by_act a seat e = of_old s.class k (open_above s.class seat k a h e)
 
 pub keys_are_declared : KeysAreDeclared
 unfolding finding_at Needs
-keys_are_declared platform old new root vp vo vn s k f is e = go s.target (subst (λ o. finding_by (side platform old) (side platform new) s o s.target ≡ Some f) is e)
+keys_are_declared O N pair s k f is e = go s.target (subst (λ o. finding_by O N s o s.target ≡ Some f) is e)
   where
-    loaded : load_fault (side platform old) s.class ≡ None
-    loaded = (usable_parts (side platform old) s.class (findings_are_of_usable (side platform old) (side platform new) s f e)).loaded
+    loaded : load_fault O s.class ≡ None
+    loaded = (usable_parts O s.class (findings_are_of_usable O N s f e)).loaded
 
-    go : (t : Option Bytes) → finding_by (side platform old) (side platform new) s (Some k) t ≡ Some f → list_any (declares_key k) (above (side platform old) s.class ++ above (side platform new) s.class) ≡ true
-    go None q = by_key platform old new root vp vo vn s k loaded f q
+    go : (t : Option Bytes) → finding_by O N s (Some k) t ≡ Some f → list_any (declares_key k) (above O s.class ++ above N s.class) ≡ true
+    go None q = by_key O N pair s k loaded f q
     go (Some t) q = absurd (cc)
 
 pub collision_keys_are_declared : CollisionKeysAreDeclared
 unfolding collision_at constant_added capture_added final_added captures Needs
-collision_keys_are_declared platform old new root vp vo vn rule x k c e =
+collision_keys_are_declared O N pair rule x k c e =
     either_needs P (rule == 10) _ _ (cond_needs P (constant_added O N x k) _ (λ h.
     let a = and_parts (is_base_interface O N x && is_none (field_found O x k)) (is_some (field_found N x k)) h in
     let b = base_interface_now O N x (both_first (is_base_interface O N x) (is_none (field_found O x k)) a.0) in
@@ -209,19 +186,19 @@ collision_keys_are_declared platform old new root vp vo vn rule x k c e =
     (none_needs Collision P)))
     c e
   where
-    O : World
-    O = side platform old
-
-    N : World
-    N = side platform new
-
     P : Type 0
-    P = list_any (declares_key k) (above (side platform new) x) ≡ true
+    P = list_any (declares_key k) (above N x) ≡ true
 
-    constant : load_fault (side platform new) x ≡ None → (o : Option DeclaredMember) → field_found (side platform new) x k ≡ o → is_some o ≡ true → list_any (declares_key k) (above (side platform new) x) ≡ true
+    valid : (y : Bytes) (d : ClassFacts) → find_class N y ≡ Some d → IsValidClass d
+    valid = side_valid N pair.run.new_bare (new_platform_valid O N pair) pair.new_valid
+
+    root_field : field_found N object_name k ≡ None
+    root_field = bare_field N object_name pair.root.root k (new_root O N pair) pair.root.superclass pair.root.interfaces pair.root.fields
+
+    constant : load_fault N x ≡ None → (o : Option DeclaredMember) → field_found N x k ≡ o → is_some o ≡ true → list_any (declares_key k) (above N x) ≡ true
     constant b None q w = absurd (cc)
-    constant b (Some m) q w = from_class k (side platform new) (valid_side platform new vp vn) (root_field platform new root k) x b m q
+    constant b (Some m) q w = from_class k N valid root_field x b m q
 
-    capture : (o : Option DeclaredMember) → first_declared k (chain (side platform new) x) ≡ o → some_and (λ m. not (public_flag m.member.flags && no_static_flag m.member.flags)) o ≡ true → list_any (declares_key k) (above (side platform new) x) ≡ true
+    capture : (o : Option DeclaredMember) → first_declared k (chain N x) ≡ o → some_and (λ m. not (public_flag m.member.flags && no_static_flag m.member.flags)) o ≡ true → list_any (declares_key k) (above N x) ≡ true
     capture None q w = absurd (cc)
-    capture (Some m) q w = chain_above k (side platform new) (valid_side platform new vp vn) (root_field platform new root k) x m q
+    capture (Some m) q w = chain_above k N valid root_field x m q

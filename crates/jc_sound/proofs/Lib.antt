@@ -35,4 +35,5 @@ pub mod ExactLists
 pub mod AboveKeys
 pub mod KeyLaws
 pub mod WorkedVerdict
+pub mod WorkedModules
 pub mod ClassGoneLaw

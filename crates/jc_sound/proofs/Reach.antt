@@ -30,6 +30,7 @@ use Rattle.jc_worlds.proofs.Loaded.{loads-found}
 use Rattle.jc_facts.proofs.Options.{or_else-none}
 use Rattle.jc_worlds.proofs.Clients.{Fits, find-client}
 use Rattle.jc_worlds.proofs.Packages.{allowed_parts, package_apart}
+use Rattle.jc_worlds.proofs.VisibleFrom.{accessible-package}
 use Rattle.jc_sound.proofs.Standing.{stays_usable, usable_parts}
 use Rattle.jc_sound.proofs.OpenActs.{IsSeat}
 use Rattle.jc_sound.proofs.ClientLoads.{library_loads}
@@ -103,7 +104,7 @@ module _ (O N : World) (cs : List ClassFacts) (g : Ground O N cs) (x : Bytes) (c
   unfolding class_step class_fault type_in_reach and_then
   named t s a = record {
     loaded = p.0;
-    reach = ap (text_in_reach VO x) r ∙ and_from (loads VO t) (some_and (is_class_accessible x) (find_class VO t)) (rw p.0 refl) (rw f.1 (access f.0 f.1));
+    reach = ap (text_in_reach VO x) r ∙ and_from (loads VO t) (some_and (is_class_accessible VO x) (find_class VO t)) (rw p.0 refl) (rw f.1 (access f.0 f.1));
     is_held = h;
     now = held_loads t p.0 h;
   }
@@ -114,14 +115,14 @@ module _ (O N : World) (cs : List ClassFacts) (g : Ground O N cs) (x : Bytes) (c
       q : class_fault VO x t ≡ None
       q = subst (λ o. type_fault VO x o ≡ None) r s
 
-      p : (load_fault VO t ≡ None) × (and_then (λ d. fault_where (not (is_class_accessible x d)) IllegalAccessError) (find_class VO t) ≡ None)
-      p = or_else-none (load_fault VO t) (and_then (λ d. fault_where (not (is_class_accessible x d)) IllegalAccessError) (find_class VO t)) q
+      p : (load_fault VO t ≡ None) × (and_then (λ d. fault_where (not (is_class_accessible VO x d)) IllegalAccessError) (find_class VO t) ≡ None)
+      p = or_else-none (load_fault VO t) (and_then (λ d. fault_where (not (is_class_accessible VO x d)) IllegalAccessError) (find_class VO t)) q
 
       f : (d : ClassFacts) × (find_class VO t ≡ Some d)
       f = loads-found VO t p.0
 
-      access : (d : ClassFacts) → find_class VO t ≡ Some d → is_class_accessible x d ≡ true
-      access d e = let w : fault_where (not (is_class_accessible x d)) IllegalAccessError ≡ None = rw e at p.1 in not-false (is_class_accessible x d) (fault_where-none (not (is_class_accessible x d)) IllegalAccessError w)
+      access : (d : ClassFacts) → find_class VO t ≡ Some d → is_class_accessible VO x d ≡ true
+      access d e = let w : fault_where (not (is_class_accessible VO x d)) IllegalAccessError ≡ None = rw e at p.1 in not-false (is_class_accessible VO x d) (fault_where-none (not (is_class_accessible VO x d)) IllegalAccessError w)
 
       h : Held t
       h = held O N cs g.fo g.fn g.quiet g.allowed_o g.allowed_n g.clients_load x c kx t p.0 access
@@ -129,7 +130,7 @@ module _ (O N : World) (cs : List ClassFacts) (g : Ground O N cs) (x : Bytes) (c
   -- x names itself
   pub self_reach : type_in_reach VO x x ≡ true
   unfolding type_in_reach type_read
-  self_reach = rw (subst (λ z. is_array_text z ≡ false) (class_named-name cs x c kx) (fit_of c (g.valid_o x c f)).name) (and_from (loads VO x) (some_and (is_class_accessible x) (find_class VO x)) (rw lx refl) (rw f (or_right (public_flag c.flags) (in_same_package x c.name) (subst (λ z. in_same_package x z ≡ true) (sym (class_named-name cs x c kx)) (same_itself (package_name x))))))
+  self_reach = rw (subst (λ z. is_array_text z ≡ false) (class_named-name cs x c kx) (fit_of c (g.valid_o x c f)).name) (and_from (loads VO x) (some_and (is_class_accessible VO x) (find_class VO x)) (rw lx refl) (rw f (accessible-package VO x c (subst (λ z. in_same_package x z ≡ true) (sym (class_named-name cs x c kx)) (same_itself (package_name x))))))
     where
       f : find_class VO x ≡ Some c
       f = find-client O cs g.fo x c kx

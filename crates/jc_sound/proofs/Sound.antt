@@ -15,7 +15,8 @@ use Rattle.jc_facts.specs.declared.client.Place.{Place}
 use Rattle.jc_facts.specs.Names.{Bytes, same, in_same_package, object_name, key_of}
 use Rattle.jc_desc.specs.Names.{is_init_name, is_clinit_name}
 use Rattle.jc_facts.specs.Flags.{private_flag, no_static_flag, interface_flag}
-use Rattle.jc_facts.specs.world.World.{World, find_class, DeclaredMember, class_named, side, with_clients, own_method_of, is_client}
+use Rattle.jc_facts.specs.world.World.{World, find_class, DeclaredMember, class_named, with_clients, own_method_of, is_client}
+use Rattle.jc_facts.specs.world.Pairs.{IsPair}
 use Rattle.jc_facts.specs.world.Search.{supers, supers_of}
 use Rattle.jc_facts.specs.Options.{and_then, some_and}
 use Rattle.jc_facts.specs.world.Hierarchy.{chain, of_super, in_chain}
@@ -31,15 +32,17 @@ use Rattle.jc_facts.specs.client.Meets.{MeetsConstant, MeetsCapture, MeetsFinal}
 use Rattle.jc_facts.specs.rule.Findings.{finding_at, method_made_final, finds_overridable}
 use Rattle.jc_facts.specs.rule.Bases.{has_init, public_or_protected, is_class_usable, is_base_class, is_final_in_chain, is_key_of_method, is_inheritable}
 use Rattle.jc_facts.specs.rule.Collisions.{constant_added, capture_added, final_added}
-use Rattle.jc_lemmas.proofs.Listed.{EachOf, EachOf-map, EachOf-append, list_all-each}
-use Rattle.jc_facts.proofs.World.{names, find-name, class_named-name, EachOf-class_named, IsOf, class_named-first, class_named-each}
+use Rattle.jc_lemmas.proofs.Listed.{EachOf, EachOf-map, list_all-each}
+use Rattle.jc_facts.proofs.World.{names, find-name, class_named-name, EachOf-class_named, IsOf}
 use Rattle.jc_facts.proofs.Clients.{facts_valid}
+use Rattle.jc_facts.proofs.Pairs.{found_valid, old_root, new_root, new_platform_valid}
 use Rattle.jc_facts.proofs.Same.{same_is, same_itself}
 use Rattle.jc_worlds.proofs.Above.{fault_where-none, chain-each}
 use Rattle.jc_lemmas.proofs.Bools.{neither_first, neither_last}
 use Rattle.jc_worlds.proofs.Loaded.{loads-parts, loads-found}
 use Rattle.jc_facts.proofs.Options.{or_else-none}
 use Rattle.jc_worlds.proofs.Sides.{find-library, chain-side}
+use Rattle.jc_worlds.proofs.VisibleFrom.{platform_visible}
 use Rattle.jc_worlds.proofs.Clients.{Fits, find-client}
 use Rattle.jc_worlds.proofs.Packages.{AllowedParts, allowed_parts, same_package_apart}
 use Rattle.jc_sound.proofs.Standing.{Quiet, report_where-none, stays_usable, usable_parts, usable_from}
@@ -77,50 +80,45 @@ named_clients (d ∷ cs) h = (rw (same_itself d.facts.name) refl, EachOf-map go 
         by false q = e
         by true q = absurd (let z : None ≡ Some c.facts = sym (none (class_named (facts_of cs) d.facts.name) p.0) ∙ ap (class_named (facts_of cs)) (same_is d.facts.name c.facts.name q) ∙ e in cc)
 
-module _ (platform old new : List ClassFacts) (cs : List ClientClass) (root : HasRoot platform)
-    (valid_platform : EachOf IsValidClass platform) (valid_old : EachOf IsValidClass old) (valid_new : EachOf IsValidClass new)
-    (quiet : Quiet (side platform old) (side platform new)) (scope : IsInScope (side platform old) (side platform new) cs) where
-  abbrev O : World
-  O = side platform old
-
-  abbrev N : World
-  N = side platform new
-
+module _ (O N : World) (cs : List ClientClass) (pair : IsPair O N) (quiet : Quiet O N) (scope : IsInScope O N cs) where
   abbrev VO : World
-  VO = with_clients (side platform old) (facts_of cs)
+  VO = with_clients O (facts_of cs)
 
   abbrev VN : World
-  VN = with_clients (side platform new) (facts_of cs)
+  VN = with_clients N (facts_of cs)
 
-  has_root : is_some (class_named platform object_name) ≡ true
-  has_root = rw root.is_there refl
+  abbrev root : HasRoot O.platform
+  root = pair.root
 
-  fo : Fits (side platform old) (facts_of cs)
-  fo = fits_old platform old new cs has_root quiet scope
+  has_root : is_some (class_named O.platform object_name) ≡ true
+  has_root = rw pair.root.is_there refl
 
-  an : EachOf (λ n. is_allowed_name (side platform new) n ≡ true) (names (facts_of cs))
-  an = allowed_new platform old new cs has_root quiet scope
+  fo : Fits O (facts_of cs)
+  fo = fits_old O N cs pair.run has_root quiet scope
 
-  ao : EachOf (λ n. is_allowed_name (side platform old) n ≡ true) (names (facts_of cs))
-  ao = allowed_old platform old new cs has_root quiet scope
+  an : EachOf (λ n. is_allowed_name N n ≡ true) (names (facts_of cs))
+  an = allowed_new O N cs pair.run has_root quiet scope
 
-  fn : Fits (side platform new) (facts_of cs)
-  fn = fits (side platform new) cs refl an
+  ao : EachOf (λ n. is_allowed_name O n ≡ true) (names (facts_of cs))
+  ao = allowed_old O N cs pair.run has_root quiet scope
+
+  fn : Fits N (facts_of cs)
+  fn = fits N cs pair.run.new_bare an
 
   valid_clients : EachOf IsValidClass (facts_of cs)
   valid_clients = facts_valid cs (recursion_from_All IsValidClient cs scope.valid)
 
   valid_o : (x : Bytes) (c : ClassFacts) → find_class VO x ≡ Some c → IsValidClass c
-  unfolding find_class
-  valid_o x c e = class_named-each IsValidClass (platform ++ old ++ facts_of cs) x c (EachOf-append IsValidClass (platform ++ old) (facts_of cs) (EachOf-append IsValidClass platform old valid_platform valid_old) valid_clients) e
+  valid_o = found_valid VO (recursion_from_All IsValidClass O.platform pair.platform_valid) (recursion_from_All IsValidClass O.release pair.old_valid) valid_clients
 
   valid_n : (x : Bytes) (c : ClassFacts) → find_class VN x ≡ Some c → IsValidClass c
-  unfolding find_class
-  valid_n x c e = class_named-each IsValidClass (platform ++ new ++ facts_of cs) x c (EachOf-append IsValidClass (platform ++ new) (facts_of cs) (EachOf-append IsValidClass platform new valid_platform valid_new) valid_clients) e
+  valid_n = found_valid VN (recursion_from_All IsValidClass N.platform (new_platform_valid O N pair)) (recursion_from_All IsValidClass N.release pair.new_valid) valid_clients
 
-  root_at : (rest : List ClassFacts) → find_class (side platform rest) object_name ≡ Some root.root
-  unfolding find_class
-  root_at rest = class_named-first (platform ++ rest) [] object_name (rw (class_named-first platform rest object_name has_root, root.is_there) refl) ∙ class_named-first platform rest object_name has_root ∙ root.is_there
+  root_o : find_class O object_name ≡ Some root.root
+  root_o = old_root O N pair
+
+  root_n : find_class N object_name ≡ Some root.root
+  root_n = new_root O N pair
 
   rooted : (x : Bytes) (c : ClassFacts) → class_named (facts_of cs) x ≡ Some c → (y : Bytes) × (c.superclass ≡ Some y)
   rooted x c e = go c.superclass refl (fit_of c (valid_o x c (find-client O (facts_of cs) fo x c e))).superclass
@@ -130,7 +128,7 @@ module _ (platform old new : List ClassFacts) (cs : List ClientClass) (root : Ha
       go None q v = absurd (
           let a : x ≡ object_name = sym (class_named-name (facts_of cs) x c e) ∙ same_is c.name object_name v in
           let b : find_class O x ≡ None = fo.undeclared x c e in
-          let z : None ≡ Some root.root = sym b ∙ ap (find_class O) a ∙ root_at old in cc)
+          let z : None ≡ Some root.root = sym b ∙ ap (find_class O) a ∙ root_o in cc)
 
   interface_root : (x y : Bytes) (c : ClassFacts) → class_named (facts_of cs) x ≡ Some c → interface_flag c.flags ≡ true → c.superclass ≡ Some y → y ≡ object_name
   interface_root x y c e i s =
@@ -140,10 +138,10 @@ module _ (platform old new : List ClassFacts) (cs : List ClientClass) (root : Ha
       same_is y object_name r
 
   calls : (x y : Bytes) (c d : ClassFacts) → class_named (facts_of cs) x ≡ Some c → interface_flag c.flags ≡ false → c.superclass ≡ Some y → class_named (facts_of cs) y ≡ None → find_class O y ≡ Some d → has_init d public_or_protected ≡ true
-  calls = calls_super platform old new cs has_root quiet scope
+  calls = calls_super O N cs pair.run has_root quiet scope
 
   root_usable : is_class_usable O object_name ≡ true
-  root_usable = usable_from O object_name root.root (root_at old) root.public (bare_loads O object_name root.root (root_at old) root.superclass root.interfaces)
+  root_usable = usable_from O object_name root.root root_o (platform_visible O object_name has_root) root.public (bare_loads O object_name root.root root_o root.superclass root.interfaces)
 
   -- ---- final methods
 
@@ -176,7 +174,7 @@ module _ (platform old new : List ClassFacts) (cs : List ClientClass) (root : Ha
         kind = no (is_interface_of N st.seat) refl;
       }
         where
-          st : SeatOf (side platform old) (side platform new) (facts_of cs) fo fn quiet ao an calls rooted interface_root root_usable s
+          st : SeatOf O N (facts_of cs) fo fn quiet ao an calls rooted interface_root root_usable s
           st = seat_of O N (facts_of cs) fo fn quiet ao an calls rooted interface_root root_usable s ls ns d k
 
           up : in_chain VN s st.seat ≡ true
@@ -194,10 +192,10 @@ module _ (platform old new : List ClassFacts) (cs : List ClientClass) (root : Ha
           let t = loads-found VO s ls in
           let o : find_class O s ≡ Some t.0 = find-library O (facts_of cs) fo.bare s k ∙ t.1 in
           let p = loads-parts VO x c (find-client O (facts_of cs) fo x c e) l in
-          let f : error_of_superclass c t.0 ≡ None = error VO t.0 t.1 (supered p.1) in
+          let f : error_of_superclass VO c t.0 ≡ None = error VO t.0 t.1 (supered p.1) in
           let b = superclass_base O N (facts_of cs) fo fn quiet ao an x c t.0 s e k o ls f (calls x s c t.0 e i q k o) in
           let tn = loads-found VN s ns in
-          let w : interface_flag tn.0.flags ≡ false = (taken_superclass c tn.0 (error VN tn.0 tn.1 g)).class in
+          let w : interface_flag tn.0.flags ≡ false = (taken_superclass VN c tn.0 (error VN tn.0 tn.1 g)).class in
           record {
             seat_name = s;
             is_library = k;
@@ -210,8 +208,8 @@ module _ (platform old new : List ClassFacts) (cs : List ClientClass) (root : Ha
             kind = ap (some_and (λ c. interface_flag c.flags)) (find-library N (facts_of cs) fn.bare s k ∙ tn.1) ∙ w;
           }
         where
-          error : (V : World) (d : ClassFacts) → find_class V s ≡ Some d → fault_of_superclass V c s ≡ None → error_of_superclass c d ≡ None
-          error V d f w = sym (ap (and_then (error_of_superclass c)) f) ∙ w
+          error : (V : World) (d : ClassFacts) → find_class V s ≡ Some d → fault_of_superclass V c s ≡ None → error_of_superclass V c d ≡ None
+          error V d f w = sym (ap (and_then (error_of_superclass V c)) f) ∙ w
 
           supered : fault_of_itself VO c ≡ None → fault_of_superclass VO c s ≡ None
           supered w = sym (ap (and_then (fault_of_superclass VO c)) q) ∙ (or_else-none (and_then (fault_of_superclass VO c) c.superclass) _ w).0
@@ -221,7 +219,7 @@ module _ (platform old new : List ClassFacts) (cs : List ClientClass) (root : Ha
       go None k = of_library k
 
   module _ (q6 : quiet.rules 6 ≡ true)
-      (no_final : (a : Bytes) (k : Key) → final_added (side platform old) (side platform new) a k ≡ true → MeetsFinal (with_clients (side platform old) (facts_of cs)) cs a k → ⊥)
+      (no_final : (a : Bytes) (k : Key) → final_added O N a k ≡ true → MeetsFinal (with_clients O (facts_of cs)) cs a k → ⊥)
       (x s : Bytes) (c : ClassFacts) (e : class_named (facts_of cs) x ≡ Some c) (l : load_fault VO x ≡ None) (i : interface_flag c.flags ≡ false) (q : c.superclass ≡ Some s) (t : IsTail s) where
     seat_is : seat VO x ≡ Some t.seat_name
     unfolding first_library is_client
@@ -308,7 +306,7 @@ module _ (platform old new : List ClassFacts) (cs : List ClientClass) (root : Ha
 
         by : is_inheritable m ≡ true → IsSeat O N t.seat_name → reaches_final (key_of m) (record { owner = c.name; member = m } ∷ []) (chain VN s) ≡ false
         by w (inl r) =
-            let a : chain O t.seat_name ≡ chain N t.seat_name = ap (chain O) r ∙ bare_chain O object_name root.root (root_at old) root.superclass root.interfaces ∙ sym (bare_chain N object_name root.root (root_at new) root.superclass root.interfaces) ∙ sym (ap (chain N) r) in
+            let a : chain O t.seat_name ≡ chain N t.seat_name = ap (chain O) r ∙ bare_chain O object_name root.root root_o root.superclass root.interfaces ∙ sym (bare_chain N object_name root.root root_n root.superclass root.interfaces) ∙ sym (ap (chain N) r) in
             let ch : chain VN s ≡ chain VO s = t.new_classes ∙ ap (λ z. t.below ++ z) (sym a) ∙ sym t.old_classes in
             ap (reaches_final k fm) ch ∙ h
         by w (inr r) =
@@ -334,7 +332,7 @@ module _ (platform old new : List ClassFacts) (cs : List ClientClass) (root : Ha
             let z : reaches_final (key_of m) (record { owner = c.name; member = m } ∷ []) (chain VO s) ≡ false = subst (λ b. (not b && reaches_final (key_of m) (record { owner = c.name; member = m } ∷ []) (chain VO s)) ≡ false) p w in
             rw (p, method_kept m o.0 (ap not p) z, r) refl
 
-  finals_kept : quiet.rules 6 ≡ true → ((a : Bytes) (k : Key) → final_added (side platform old) (side platform new) a k ≡ true → MeetsFinal (with_clients (side platform old) (facts_of cs)) cs a k → ⊥)
+  finals_kept : quiet.rules 6 ≡ true → ((a : Bytes) (k : Key) → final_added O N a k ≡ true → MeetsFinal (with_clients O (facts_of cs)) cs a k → ⊥)
       → (x : Bytes) (c : ClassFacts) → class_named (facts_of cs) x ≡ Some c → load_fault VO x ≡ None → interface_flag c.flags ≡ false → EachOf (λ s. load_fault VN s ≡ None) (supers c) → and_then (fault_of_superclass VN c) c.superclass ≡ None
       → overrides_some_final c.name c.methods (of_super (chain VO) c.superclass) ≡ false → overrides_some_final c.name c.methods (of_super (chain VN) c.superclass) ≡ false
   unfolding and_then
@@ -348,10 +346,10 @@ module _ (platform old new : List ClassFacts) (cs : List ClientClass) (root : Ha
   abbrev pub KeepsLoads : Type 0
   KeepsLoads = (x : Bytes) (c : ClassFacts) → class_named (facts_of cs) x ≡ Some c → load_fault VO x ≡ None → load_fault VN x ≡ None
 
-  pub loads_kept : quiet.rules 6 ≡ true → ((a : Bytes) (k : Key) → final_added (side platform old) (side platform new) a k ≡ true → MeetsFinal (with_clients (side platform old) (facts_of cs)) cs a k → ⊥) → KeepsLoads
-  loads_kept q6 no_final x c e h = clients_load O N (facts_of cs) fo fn quiet ao an calls (same_root platform old new cs has_root quiet scope) (finals_kept q6 no_final) x h c e
+  pub loads_kept : quiet.rules 6 ≡ true → ((a : Bytes) (k : Key) → final_added O N a k ≡ true → MeetsFinal (with_clients O (facts_of cs)) cs a k → ⊥) → KeepsLoads
+  loads_kept q6 no_final x c e h = clients_load O N (facts_of cs) fo fn quiet ao an calls (same_root O N cs pair.run has_root quiet scope) (finals_kept q6 no_final) x h c e
 
-  ground : KeepsLoads → Ground (side platform old) (side platform new) (facts_of cs)
+  ground : KeepsLoads → Ground O N (facts_of cs)
   ground loads = record {
     fo = fo;
     fn = fn;
@@ -365,11 +363,12 @@ module _ (platform old new : List ClassFacts) (cs : List ClientClass) (root : Ha
     valid_o = valid_o;
     valid_n = valid_n;
     root = root.root;
-    root_o = root_at old;
-    root_n = root_at new;
+    root_o = root_o;
+    root_n = root_n;
     root_super = root.superclass;
     root_interfaces = root.interfaces;
     root_fields = root.fields;
+    root_visible = platform_visible O object_name has_root;
     root_public = root.public;
     root_class = root.class;
   }
@@ -407,13 +406,13 @@ module _ (platform old new : List ClassFacts) (cs : List ClientClass) (root : Ha
     init_kept q5 X t d h l w r o = init_item O N (facts_of cs) (ground loads) X.facts.name X.facts (named_client X h) l t d q5 (valid_item X (item.Init t d) h w) o
 
     pub field_kept : quiet.rules 7 ≡ true
-        → ((i : Bytes) (k : Key) → constant_added (side platform old) (side platform new) i k ≡ true → MeetsConstant (with_clients (side platform old) (facts_of cs)) cs i k → ⊥)
+        → ((i : Bytes) (k : Key) → constant_added O N i k ≡ true → MeetsConstant (with_clients O (facts_of cs)) cs i k → ⊥)
         → (X : ClientClass) (act : Act) (t : Bytes) (k : Key) (v : Option Bytes) (place : Place) → form_of act ≡ FieldForm → KeepsItem X (item.Access act t k v place)
     unfolding ground
     field_kept q7 no_constant X act t k v place f h l w r o = field_access O N cs (ground loads) q7 no_constant X h (named_client X h) l act t k v place f w r o
 
     pub invoke_kept : quiet.rules 8 ≡ true → quiet.rules 9 ≡ true
-        → ((a : Bytes) (k : Key) → capture_added (side platform old) (side platform new) a k ≡ true → MeetsCapture (with_clients (side platform old) (facts_of cs)) cs a k → ⊥)
+        → ((a : Bytes) (k : Key) → capture_added O N a k ≡ true → MeetsCapture (with_clients O (facts_of cs)) cs a k → ⊥)
         → (X : ClientClass) (act : Act) (t : Bytes) (k : Key) (v : Option Bytes) (place : Place) → (form_of act ≡ FieldForm → ⊥) → KeepsItem X (item.Access act t k v place)
     unfolding ground
     invoke_kept q8 q9 no_capture X act t k v place f h l w r o = method_access O N cs (ground loads) q8 q9 no_capture X (named_client X h) l act t k v place f (by (form_of act) refl (valid_item X (item.Access act t k v place) h w)) r o
@@ -424,8 +423,8 @@ module _ (platform old new : List ClassFacts) (cs : List ClientClass) (root : Ha
         by InterfaceForm g q = subst (λ z. (is_field_form z || not (is_init_name k.name || is_clinit_name k.name)) ≡ true) g q
 
     pub access_kept : quiet.rules 7 ≡ true → quiet.rules 8 ≡ true → quiet.rules 9 ≡ true
-        → ((i : Bytes) (k : Key) → constant_added (side platform old) (side platform new) i k ≡ true → MeetsConstant (with_clients (side platform old) (facts_of cs)) cs i k → ⊥)
-        → ((a : Bytes) (k : Key) → capture_added (side platform old) (side platform new) a k ≡ true → MeetsCapture (with_clients (side platform old) (facts_of cs)) cs a k → ⊥)
+        → ((i : Bytes) (k : Key) → constant_added O N i k ≡ true → MeetsConstant (with_clients O (facts_of cs)) cs i k → ⊥)
+        → ((a : Bytes) (k : Key) → capture_added O N a k ≡ true → MeetsCapture (with_clients O (facts_of cs)) cs a k → ⊥)
         → (X : ClientClass) (act : Act) (t : Bytes) (k : Key) (v : Option Bytes) (place : Place) → KeepsItem X (item.Access act t k v place)
     access_kept q7 q8 q9 no_constant no_capture X act t k v place = go (form_of act) refl
       where
@@ -436,8 +435,8 @@ module _ (platform old new : List ClassFacts) (cs : List ClientClass) (root : Ha
 
     -- every item, where rules 5, 7, 8 and 9 find nothing
     pub item_kept : quiet.rules 5 ≡ true → quiet.rules 7 ≡ true → quiet.rules 8 ≡ true → quiet.rules 9 ≡ true
-        → ((i : Bytes) (k : Key) → constant_added (side platform old) (side platform new) i k ≡ true → MeetsConstant (with_clients (side platform old) (facts_of cs)) cs i k → ⊥)
-        → ((a : Bytes) (k : Key) → capture_added (side platform old) (side platform new) a k ≡ true → MeetsCapture (with_clients (side platform old) (facts_of cs)) cs a k → ⊥)
+        → ((i : Bytes) (k : Key) → constant_added O N i k ≡ true → MeetsConstant (with_clients O (facts_of cs)) cs i k → ⊥)
+        → ((a : Bytes) (k : Key) → capture_added O N a k ≡ true → MeetsCapture (with_clients O (facts_of cs)) cs a k → ⊥)
         → (X : ClientClass) (i : Item) → KeepsItem X i
     item_kept q5 q7 q8 q9 no_constant no_capture X (item.Class t) = class_kept X t
     item_kept q5 q7 q8 q9 no_constant no_capture X (item.New t d) = new_kept q5 X t d
@@ -447,9 +446,9 @@ module _ (platform old new : List ClassFacts) (cs : List ClientClass) (root : Ha
 
     -- the loads and the items
     pub keeps_all : quiet.rules 5 ≡ true → quiet.rules 7 ≡ true → quiet.rules 8 ≡ true → quiet.rules 9 ≡ true
-        → ((i : Bytes) (k : Key) → constant_added (side platform old) (side platform new) i k ≡ true → MeetsConstant (with_clients (side platform old) (facts_of cs)) cs i k → ⊥)
-        → ((a : Bytes) (k : Key) → capture_added (side platform old) (side platform new) a k ≡ true → MeetsCapture (with_clients (side platform old) (facts_of cs)) cs a k → ⊥)
-        → Keeps (side platform old) (side platform new) cs
+        → ((i : Bytes) (k : Key) → constant_added O N i k ≡ true → MeetsConstant (with_clients O (facts_of cs)) cs i k → ⊥)
+        → ((a : Bytes) (k : Key) → capture_added O N a k ≡ true → MeetsCapture (with_clients O (facts_of cs)) cs a k → ⊥)
+        → Keeps O N cs
     keeps_all q5 q7 q8 q9 no_constant no_capture = record {
       loading = λ c h l. loads c.facts.name c.facts (named_client c h) l;
       uses = λ c i h l w r o. item_kept q5 q7 q8 q9 no_constant no_capture c i h l w r o;

@@ -13,8 +13,7 @@ use Rattle.jc_facts.specs.declared.link_error.LinkError.TheVariants.{Incompatibl
 use Rattle.jc_facts.specs.declared.verdict.Collision.{Collision}
 use Rattle.jc_facts.specs.Names.{Bytes, same}
 use Rattle.jc_desc.specs.Names.{is_init_name, is_clinit_name}
-use Rattle.jc_facts.specs.world.World.{World, class_named, side, with_clients}
-use Rattle.jc_facts.specs.file.Valid.{IsValidClass}
+use Rattle.jc_facts.specs.world.World.{World, class_named, with_clients}
 use Rattle.jc_facts.specs.client.Clients.{facts_of}
 use Rattle.jc_facts.specs.client.Meets.{Meets, MeetsConstant, MeetsCapture, MeetsFinal}
 use Rattle.jc_facts.specs.rule.Bases.{is_inheritable}
@@ -46,25 +45,18 @@ final_is O N a k e = rw e refl
 -- ---- whole
 
 pub rules_keep : SoundnessOfRules
-rules_keep platform old new cs root vp vo vn quiet scope met =
-    let O = side platform old in
-    let N = side platform new in
+rules_keep O N cs pair quiet scope met =
     let W = with_clients O (facts_of cs) in
-    let p = recursion_from_All IsValidClass platform vp in
-    let o = recursion_from_All IsValidClass old vo in
-    let n = recursion_from_All IsValidClass new vn in
     let q = all_quiet O N quiet in
     let final : (a : Bytes) (k : Key) → final_added O N a k ≡ true → MeetsFinal W cs a k → ⊥ = λ a k e m. met (made_collision 12 a k Override IncompatibleClassChangeError) (final_is O N a k e) (inr (inr (refl, m))) in
     let constant : (i : Bytes) (k : Key) → constant_added O N i k ≡ true → MeetsConstant W cs i k → ⊥ = λ i k e m. met (made_collision 10 i k GetField IncompatibleClassChangeError) (constant_is O N i k e) (inl (refl, m)) in
     let capture : (a : Bytes) (k : Key) → capture_added O N a k ≡ true → MeetsCapture W cs a k → ⊥ = λ a k e m. met (made_collision 11 a k InvokeVirtual (capture_error N a k)) (capture_is O N a k e) (inr (inl (refl, m))) in
-    keeps_all platform old new cs root p o n q scope (loads_kept platform old new cs root p o n q scope refl final) refl refl refl refl constant capture
+    keeps_all O N cs pair q scope (loads_kept O N cs pair q scope refl final) refl refl refl refl constant capture
 
 pub keeps : Soundness
-keeps platform old new v cs root vp vo vn verdict empty scope met =
-    let O = side platform old in
-    let N = side platform new in
+keeps O N v cs pair verdict empty scope met =
     let W = with_clients O (facts_of cs) in
-    rules_keep platform old new cs root vp vo vn (empty_means_none O N v verdict empty) scope
+    rules_keep O N cs pair (empty_means_none O N v verdict empty) scope
     (λ c stands. All-contains (λ (c : Collision). Meets W cs c → ⊥) v.collisions c met (verdict.collisions.complete c stands))
 
 -- ---- with fewer rules
@@ -106,32 +98,25 @@ client_there (d ∷ cs) c h = go (same d.facts.name c.facts.name) refl (cases d 
     go false e (inr k) r = r k
 
 pub types_kept : TypesKept
-types_kept platform old new cs root find_nothing scope none_declared = record {
-  loading = λ c h. let t = client_there cs c h in scope_loads platform old new cs root q scope d c.facts.name t.0 t.1;
-  classes = λ c h. let t = client_there cs c h in scope_class platform old new cs root q scope d c.facts.name t.0 t.1;
-  assignments = λ c h. let t = client_there cs c h in scope_assign platform old new cs root q scope d c.facts.name t.0 t.1;
+types_kept O N cs run root find_nothing scope none_declared = record {
+  loading = λ c h. let t = client_there cs c h in scope_loads O N cs run root q scope d c.facts.name t.0 t.1;
+  classes = λ c h. let t = client_there cs c h in scope_class O N cs run root q scope d c.facts.name t.0 t.1;
+  assignments = λ c h. let t = client_there cs c h in scope_assign O N cs run root q scope d c.facts.name t.0 t.1;
 }
   where
-    q : Quiet (side platform old) (side platform new)
-    q = quiet_of (λ r. nat_le r 4) up_to_4 (side platform old) (side platform new) find_nothing
+    q : Quiet O N
+    q = quiet_of (λ r. nat_le r 4) up_to_4 O N find_nothing
 
     d : EachOf (λ (c : ClientClass). DeclaresNone c.facts) cs
     d = declare_none cs none_declared
 
 pub fields_kept : FieldsKept
-fields_kept platform old new cs root vp vo vn find_nothing scope none met c act t k r place is_in loaded form item reach ok =
-    let O = side platform old in
-    let N = side platform new in
+fields_kept O N cs pair find_nothing scope none met c act t k r place is_in loaded form item reach ok =
     let q = quiet_of (λ r. nat_le r 4 || r == 7) (λ n h. or_left (nat_le n 4) (n == 7) (up_to_4 n h)) O N find_nothing in
-    let p = recursion_from_All IsValidClass platform vp in
-    let o = recursion_from_All IsValidClass old vo in
-    let n = recursion_from_All IsValidClass new vn in
-    field_kept platform old new cs root p o n q scope (loads_of platform old new cs root p o n q scope (declare_none cs none)) refl (no_constant O N cs met) c act t k r place form is_in loaded item reach ok
+    field_kept O N cs pair q scope (loads_of O N cs pair q scope (declare_none cs none)) refl (no_constant O N cs met) c act t k r place form is_in loaded item reach ok
 
 pub kept_without_methods : KeptWithoutMethods
-kept_without_methods platform old new cs root vp vo vn find_nothing scope none constant capture =
-    let O = side platform old in
-    let N = side platform new in
+kept_without_methods O N cs pair find_nothing scope none constant capture =
     let q = quiet_of (λ r. not (r == 6)) never_6 O N find_nothing in
-    keeps_without_methods platform old new cs root (recursion_from_All IsValidClass platform vp) (recursion_from_All IsValidClass old vo) (recursion_from_All IsValidClass new vn) q scope (declare_none cs none)
+    keeps_without_methods O N cs pair q scope (declare_none cs none)
     refl refl refl refl (no_constant O N cs constant) (no_capture O N cs capture)

@@ -7,6 +7,9 @@ use Rattle.jc_facts.specs.declared.link_error.LinkError.{LinkError}
 use Rattle.jc_facts.specs.Names.{Bytes}
 use Rattle.jc_facts.specs.Flags.{public_flag}
 use Rattle.jc_facts.specs.world.World.{World, find_class}
+use Rattle.jc_facts.specs.world.Modules.{is_visible}
+use Rattle.jc_facts.specs.world.Access.{is_class_accessible}
+use Rattle.jc_worlds.proofs.VisibleFrom.{accessible_visible}
 use Rattle.jc_facts.specs.Options.{some_and}
 use Rattle.jc_facts.specs.world.Loading.{load_fault, loads}
 use Rattle.jc_facts.specs.world.Assignment.{is_interface_of}
@@ -59,10 +62,11 @@ module _ (O N : World) (quiet : Quiet O N) where
   stays_interface x h i =
       and_not (is_kept O N x && is_interface_of O x) (is_interface_of N x) (never_stopped x) (and_from (is_kept O N x) (is_interface_of O x) (stays_kept x h) i)
 
--- a usable class is there, is public and loads
+-- a usable class is there, is visible and public, and loads
 pub record IsUsable (W : World) (x : Bytes) : Type 0 where
   pub class : ClassFacts
   pub is_there : find_class W x ≡ Some class
+  pub visible : is_visible W x ≡ true
   pub public : public_flag class.flags ≡ true
   pub loaded : load_fault W x ≡ None
 
@@ -77,10 +81,15 @@ class_is-there W test x h = go (find_class W x) h
 pub usable_parts : (W : World) (x : Bytes) → is_class_usable W x ≡ true → IsUsable W x
 unfolding is_class_usable
 usable_parts W x h =
-    let p = and_parts (class_is W (λ c. public_flag c.flags) x) (loads W x) h in
-    let q = class_is-there W (λ c. public_flag c.flags) x p.0 in
-    record { class = q.0; is_there = q.1; public = q.2; loaded = none_where (load_fault W x) p.1 }
+    let p = and_parts (class_is W (λ c. is_visible W x && public_flag c.flags) x) (loads W x) h in
+    let q = class_is-there W (λ c. is_visible W x && public_flag c.flags) x p.0 in
+    let v = and_parts (is_visible W x) (public_flag q.0.flags) q.2 in
+    record { class = q.0; is_there = q.1; visible = v.0; public = v.1; loaded = none_where (load_fault W x) p.1 }
 
-pub usable_from : (W : World) (x : Bytes) (c : ClassFacts) → find_class W x ≡ Some c → public_flag c.flags ≡ true → load_fault W x ≡ None → is_class_usable W x ≡ true
+pub usable_from : (W : World) (x : Bytes) (c : ClassFacts) → find_class W x ≡ Some c → is_visible W x ≡ true → public_flag c.flags ≡ true → load_fault W x ≡ None → is_class_usable W x ≡ true
 unfolding is_class_usable
-usable_from W x c e p l = and_from (class_is W (λ c. public_flag c.flags) x) (loads W x) (rw e p) (rw l refl)
+usable_from W x c e v p l = and_from (class_is W (λ c. is_visible W x && public_flag c.flags) x) (loads W x) (rw e (and_from (is_visible W x) (public_flag c.flags) v p)) (rw l refl)
+
+-- it is accessible from every class
+pub usable_accessible : (W : World) (x : Bytes) (u : IsUsable W x) (z : Bytes) → is_class_accessible W z u.class ≡ true
+usable_accessible W x u z = accessible_visible W z x u.class u.is_there u.visible u.public

@@ -14,6 +14,8 @@ use Rattle.jc_facts.specs.declared.verdict.Verdict.{Verdict}
 use Rattle.jc_facts.specs.Names.{Bytes, same}
 use Rattle.jc_facts.specs.Options.{and_then, some_and}
 use Rattle.jc_facts.specs.world.World.{World, find_class, own_field_of, class_named, with_clients}
+use Rattle.jc_facts.specs.world.Pairs.{IsPair}
+use Rattle.jc_facts.proofs.Pairs.{plain_pair}
 use Rattle.jc_facts.specs.world.Loading.{load_fault}
 use Rattle.jc_facts.specs.file.Valid.{IsValidClass}
 use Rattle.jc_facts.specs.client.Clients.{HasRoot, Keeps, facts_of}
@@ -31,7 +33,7 @@ use Rattle.jc_sound.proofs.SoundnessLaws.{keeps}
 use Rattle.jc_sound.proofs.Examples.{computes, key, member, public_class, plain, object, over}
 use Rattle.jc_sound.proofs.WorkedClients.{p_A, user, root_is_valid, a_client_world_in_scope}
 
-plain_is_valid : IsValidClass (plain p_A)
+pub plain_is_valid : IsValidClass (plain p_A)
 unfolding computes
 plain_is_valid = record {
   name = refl;
@@ -115,18 +117,21 @@ verdict_on_an_unchanged_release = record {
   notes = record { in_order = tt; sound = All-nil (NoteStands one one); complete = λ n s. absurd (no_note n s) };
 }
 
-root : HasRoot (object ∷ [])
+pub root : HasRoot (object ∷ [])
 unfolding computes
 root = record { root = object; is_there = refl; superclass = refl; interfaces = refl; fields = refl; public = refl; class = refl }
+
+one_pair : IsPair one one
+one_pair =
+    plain_pair (object ∷ []) (plain p_A ∷ []) (plain p_A ∷ []) root
+    (All-from_recursion IsValidClass (object ∷ []) (root_is_valid, tt))
+    (All-from_recursion IsValidClass (plain p_A ∷ []) (plain_is_valid, tt))
+    (All-from_recursion IsValidClass (plain p_A ∷ []) (plain_is_valid, tt))
 
 -- soundness at this world
 user_is_kept : Keeps one one (user ∷ [])
 user_is_kept =
-    keeps (object ∷ []) (plain p_A ∷ []) (plain p_A ∷ []) nothing (user ∷ []) root
-    (All-from_recursion IsValidClass (object ∷ []) (root_is_valid, tt))
-    (All-from_recursion IsValidClass (plain p_A ∷ []) (plain_is_valid, tt))
-    (All-from_recursion IsValidClass (plain p_A ∷ []) (plain_is_valid, tt))
-    verdict_on_an_unchanged_release refl a_client_world_in_scope (All-nil (λ c. Meets (with_clients one (facts_of (user ∷ []))) (user ∷ []) c → ⊥))
+    keeps one one nothing (user ∷ []) one_pair verdict_on_an_unchanged_release refl a_client_world_in_scope (All-nil (λ c. Meets (with_clients one (facts_of (user ∷ []))) (user ∷ []) c → ⊥))
 
 -- ---- constants
 

@@ -1,5 +1,5 @@
 -- Laws of findings and of verdicts.
-use Rattle.std.specs.Prelude.{[], ◌≡◌, false, Some, None, ℕ, true, List, Bool, All, is_some, ◌||◌, ◌++◌}
+use Rattle.std.specs.Prelude.{[], ◌≡◌, false, Some, None, ℕ, true, Bool, All, is_some, ◌||◌, ◌++◌}
 use Rattle.std.specs.List.{list_any}
 use Rattle.jc_facts.specs.declared.class_facts.ClassFacts.{ClassFacts}
 use Rattle.jc_facts.specs.declared.key.Key.{Key}
@@ -7,8 +7,8 @@ use Rattle.jc_facts.specs.declared.finding.Finding.{Finding}
 use Rattle.jc_facts.specs.declared.verdict.Collision.{Collision}
 use Rattle.jc_facts.specs.declared.verdict.Verdict.{Verdict}
 use Rattle.jc_facts.specs.Names.{Bytes}
-use Rattle.jc_facts.specs.world.World.{World, find_class, side, own_field_of, own_method_of}
-use Rattle.jc_facts.specs.client.Clients.{HasRoot}
+use Rattle.jc_facts.specs.world.World.{World, find_class, own_field_of, own_method_of}
+use Rattle.jc_facts.specs.world.Pairs.{IsPair}
 use Rattle.jc_facts.specs.file.Valid.{IsValidClass}
 use Rattle.jc_facts.specs.rule.Findings.{Subject, finding_at, subject_of}
 use Rattle.jc_facts.specs.rule.Collisions.{constant_added, capture_added, final_added, collision_at}
@@ -35,15 +35,13 @@ declares_key k c = is_some (own_field_of c k) || is_some (own_method_of c k)
 
 -- the key of a finding is declared by its class or above it, on one of the sides
 abbrev pub KeysAreDeclared : Type 0
-KeysAreDeclared = (platform old new : List ClassFacts) → HasRoot platform → All IsValidClass platform → All IsValidClass old → All IsValidClass new
-    → (s : Subject) (k : Key) (f : Finding) → s.key ≡ Some k → finding_at (side platform old) (side platform new) s ≡ Some f
-    → list_any (declares_key k) (above (side platform old) s.class ++ above (side platform new) s.class) ≡ true
+KeysAreDeclared = (O N : World) → IsPair O N → (s : Subject) (k : Key) (f : Finding) → s.key ≡ Some k → finding_at O N s ≡ Some f
+    → list_any (declares_key k) (above O s.class ++ above N s.class) ≡ true
 
 -- the key of a collision is declared by its class or above it on the new side
 abbrev pub CollisionKeysAreDeclared : Type 0
-CollisionKeysAreDeclared = (platform old new : List ClassFacts) → HasRoot platform → All IsValidClass platform → All IsValidClass old → All IsValidClass new
-    → (rule : ℕ) (x : Bytes) (k : Key) (c : Collision) → collision_at (side platform old) (side platform new) rule x k ≡ Some c
-    → list_any (declares_key k) (above (side platform new) x) ≡ true
+CollisionKeysAreDeclared = (O N : World) → IsPair O N → (rule : ℕ) (x : Bytes) (k : Key) (c : Collision) → collision_at O N rule x k ≡ Some c
+    → list_any (declares_key k) (above N x) ≡ true
 
 -- there is at most one verdict
 abbrev pub VerdictIsOne : Type 0
@@ -61,6 +59,6 @@ NothingBreaksItself = (O : World) → ((x : Bytes) (c : ClassFacts) → find_cla
 
 -- where rule 1 stands on a side of valid classes, each client's naming of the class breaks by the printed error
 abbrev pub ClassGoneBreaks : Type 0
-ClassGoneBreaks = (platform old new : List ClassFacts) → All IsValidClass platform → All IsValidClass old
-    → (s : Subject) (f : Finding) → s.rule ≡ 1 → finding_at (side platform old) (side platform new) s ≡ Some f
-    → BreaksClass (side platform old) (side platform new) f.class f.error
+ClassGoneBreaks = (O N : World) → O.clients ≡ [] → N.clients ≡ [] → All IsValidClass O.platform → All IsValidClass O.release
+    → (s : Subject) (f : Finding) → s.rule ≡ 1 → finding_at O N s ≡ Some f
+    → BreaksClass O N f.class f.error

@@ -1,6 +1,5 @@
 -- Soundness: what the rules find nothing about, clients keep.
 use Rattle.std.specs.Prelude.{ℕ, Bool, true, not, List, [], ◌≡◌, ◌==◌, ◌||◌, nat_le, Option, None, is_some, All, Contains, IsTrue}
-use Rattle.jc_facts.specs.declared.class_facts.ClassFacts.{ClassFacts}
 use Rattle.jc_facts.specs.declared.client.ClientClass.{ClientClass}
 use Rattle.jc_facts.specs.declared.client.Item.TheVariants as item
 use Rattle.jc_facts.specs.declared.client.Place.{Place}
@@ -9,12 +8,12 @@ use Rattle.jc_facts.specs.declared.key.Key.{Key}
 use Rattle.jc_facts.specs.declared.verdict.Collision.{Collision}
 use Rattle.jc_facts.specs.declared.verdict.Verdict.{Verdict}
 use Rattle.jc_facts.specs.Names.{Bytes, object_name}
-use Rattle.jc_facts.specs.world.World.{World, class_named, side, with_clients}
+use Rattle.jc_facts.specs.world.World.{World, class_named, with_clients}
+use Rattle.jc_facts.specs.world.Pairs.{AreOfOneRun, IsPair}
 use Rattle.jc_facts.specs.world.Loading.{load_fault}
 use Rattle.jc_facts.specs.client.Outcome.{outcome}
 use Rattle.jc_facts.specs.client.Acts.{FieldForm, form_of}
-use Rattle.jc_facts.specs.file.Valid.{IsValidClass}
-use Rattle.jc_facts.specs.client.Clients.{IsInScope, facts_of, is_in_reach, HasRoot, Keeps}
+use Rattle.jc_facts.specs.client.Clients.{IsInScope, facts_of, is_in_reach, Keeps}
 use Rattle.jc_facts.specs.client.Meets.{Meets}
 use Rattle.jc_facts.specs.client.Kept.{DeclareNone, KeepsTypes}
 use Rattle.jc_facts.specs.rule.Findings.{Subject, finding_at}
@@ -26,21 +25,13 @@ use Rattle.jc_facts.specs.rule.Verdict.{IsVerdict}
 -- Where the verdict lists no finding, every client world in scope that meets none of its collisions keeps with the new release
 -- each load, and each assignment and use in reach, that held with the old.
 abbrev pub Soundness : Type 0
-Soundness = (platform old new : List ClassFacts) (v : Verdict) (cs : List ClientClass)
-    → HasRoot platform → All IsValidClass platform → All IsValidClass old → All IsValidClass new
-    → IsVerdict (side platform old) (side platform new) v → v.findings ≡ []
-    → IsInScope (side platform old) (side platform new) cs
-    → All (λ c. ¬ (Meets (with_clients (side platform old) (facts_of cs)) cs c)) v.collisions
-    → Keeps (side platform old) (side platform new) cs
+Soundness = (O N : World) (v : Verdict) (cs : List ClientClass) → IsPair O N → IsVerdict O N v → v.findings ≡ []
+    → IsInScope O N cs → All (λ c. ¬ (Meets (with_clients O (facts_of cs)) cs c)) v.collisions → Keeps O N cs
 
 -- The same without a list: no rule stands anywhere, and no collision that stands is met.
 abbrev pub SoundnessOfRules : Type 0
-SoundnessOfRules = (platform old new : List ClassFacts) (cs : List ClientClass)
-    → HasRoot platform → All IsValidClass platform → All IsValidClass old → All IsValidClass new
-    → ((s : Subject) → finding_at (side platform old) (side platform new) s ≡ None)
-    → IsInScope (side platform old) (side platform new) cs
-    → ((c : Collision) → CollisionStands (side platform old) (side platform new) c → ¬ (Meets (with_clients (side platform old) (facts_of cs)) cs c))
-    → Keeps (side platform old) (side platform new) cs
+SoundnessOfRules = (O N : World) (cs : List ClientClass) → IsPair O N → ((s : Subject) → finding_at O N s ≡ None)
+    → IsInScope O N cs → ((c : Collision) → CollisionStands O N c → ¬ (Meets (with_clients O (facts_of cs)) cs c)) → Keeps O N cs
 
 -- ---- with fewer rules
 
@@ -54,30 +45,20 @@ MeetsNone rule O N cs = (c : Collision) → c.rule ≡ rule → CollisionStands 
 
 -- Rules 1 to 4 keep the loads of such clients, the classes that they name and their assignments in reach.
 abbrev pub TypesKept : Type 0
-TypesKept = (platform old new : List ClassFacts) (cs : List ClientClass)
-    → is_some (class_named platform object_name) ≡ true
-    → FindNothing (λ r. nat_le r 4) (side platform old) (side platform new)
-    → IsInScope (side platform old) (side platform new) cs → DeclareNone cs
-    → KeepsTypes (side platform old) (side platform new) cs
+TypesKept = (O N : World) (cs : List ClientClass) → AreOfOneRun O N → is_some (class_named O.platform object_name) ≡ true
+    → FindNothing (λ r. nat_le r 4) O N → IsInScope O N cs → DeclareNone cs → KeepsTypes O N cs
 
 -- With rule 7 they keep the acts on fields too, where no Constant collision is met.
 abbrev pub FieldsKept : Type 0
-FieldsKept = (platform old new : List ClassFacts) (cs : List ClientClass)
-    → HasRoot platform → All IsValidClass platform → All IsValidClass old → All IsValidClass new
-    → FindNothing (λ r. nat_le r 4 || r == 7) (side platform old) (side platform new)
-    → IsInScope (side platform old) (side platform new) cs → DeclareNone cs
-    → MeetsNone 10 (side platform old) (side platform new) cs
-    → let before = with_clients (side platform old) (facts_of cs) in
-    let after = with_clients (side platform new) (facts_of cs) in
+FieldsKept = (O N : World) (cs : List ClientClass) → IsPair O N → FindNothing (λ r. nat_le r 4 || r == 7) O N
+    → IsInScope O N cs → DeclareNone cs → MeetsNone 10 O N cs
+    → let before = with_clients O (facts_of cs) in
+    let after = with_clients N (facts_of cs) in
     (c : ClientClass) (act : Act) (t : Bytes) (k : Key) (r : Option Bytes) (place : Place) → let use_it = item.Access act t k r place in
     Contains cs c → load_fault before c.facts.name ≡ None → form_of act ≡ FieldForm → Contains c.items use_it → IsTrue (is_in_reach before c.facts.name use_it)
     → outcome before c.facts.name use_it ≡ None → outcome after c.facts.name use_it ≡ None
 
 -- All rules but rule 6 keep all loads and items of such clients, where no Constant and no Capture collision is met.
 abbrev pub KeptWithoutMethods : Type 0
-KeptWithoutMethods = (platform old new : List ClassFacts) (cs : List ClientClass)
-    → HasRoot platform → All IsValidClass platform → All IsValidClass old → All IsValidClass new
-    → FindNothing (λ r. not (r == 6)) (side platform old) (side platform new)
-    → IsInScope (side platform old) (side platform new) cs → DeclareNone cs
-    → MeetsNone 10 (side platform old) (side platform new) cs → MeetsNone 11 (side platform old) (side platform new) cs
-    → Keeps (side platform old) (side platform new) cs
+KeptWithoutMethods = (O N : World) (cs : List ClientClass) → IsPair O N → FindNothing (λ r. not (r == 6)) O N
+    → IsInScope O N cs → DeclareNone cs → MeetsNone 10 O N cs → MeetsNone 11 O N cs → Keeps O N cs

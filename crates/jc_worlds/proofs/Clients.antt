@@ -1,8 +1,8 @@
 -- A search from a client goes over the clients above it, and leaves them at the names of library classes.
-use Rattle.std.proofs.Common.{◌≡◌, ℕ, zero, suc, Bool, true, false, cond, List, [], ◌∷◌, ◌++◌, refl, sym, ◌∙◌, Option, Some, None}
+use Rattle.std.proofs.Common.{◌≡◌, ℕ, zero, suc, true, List, [], ◌++◌, refl, sym, ◌∙◌, subst, Option, Some, None}
 use Rattle.jc_facts.specs.declared.class_facts.ClassFacts.{ClassFacts}
 use Rattle.jc_facts.specs.declared.key.Key.{Key}
-use Rattle.jc_facts.specs.Names.{Bytes, same}
+use Rattle.jc_facts.specs.Names.{Bytes}
 use Rattle.jc_facts.specs.world.World.{World, find_class, class_named, size, with_clients}
 use Rattle.jc_facts.specs.world.Search.{descend, supers}
 use Rattle.jc_facts.specs.world.Hierarchy.{chain, chain_step}
@@ -15,6 +15,13 @@ use Rattle.jc_worlds.proofs.Loaded.{loaded-level, loaded-parts, loads_from, unro
 use Rattle.jc_worlds.proofs.Locality.{chain_step-local, field_step-local}
 use Rattle.jc_worlds.proofs.Agree.{search-agree}
 use Rattle.jc_worlds.proofs.Sides.{IsLibrary, sides, load_fault-side}
+pub use Rattle.jc_worlds.proofs.Absent.{class_named-back, class_named-absent}
+use Rattle.std.proofs.lemmas.Bool.{or_right}
+use Rattle.jc_facts.specs.Flags.{public_flag}
+use Rattle.jc_facts.specs.world.Access.{is_class_accessible}
+use Rattle.jc_facts.specs.world.Modules.{OfClients, module_of, in_same_module, is_visible}
+use Rattle.jc_facts.proofs.World.{class_named-name}
+use Rattle.jc_worlds.proofs.VisibleFrom.{outside, accessible_from, visible-clients}
 
 module _ {B : Type 0} (cs : List ClassFacts) (library : Bytes → B) (step : (Bytes → B) → ClassFacts → B) where
   pub over_clients-library : (n : ℕ) (x : Bytes) → class_named cs x ≡ None → over_clients cs library step (suc n) x ≡ library x
@@ -24,24 +31,6 @@ module _ {B : Type 0} (cs : List ClassFacts) (library : Bytes → B) (step : (By
   over_clients-client : (n : ℕ) (x : Bytes) (c : ClassFacts) → class_named cs x ≡ Some c → over_clients cs library step (suc n) x ≡ step (over_clients cs library step n) c
   unfolding over_clients
   over_clients-client n x c e = rw (e, over_clients) refl
-
-pub class_named-back : (cs ds : List ClassFacts) (x : Bytes) → class_named cs x ≡ None → class_named (cs ++ ds) x ≡ class_named ds x
-unfolding class_named
-class_named-back [] ds x h = refl
-class_named-back (c ∷ cs) ds x h = go (same c.name x) h (class_named-back cs ds x)
-  where
-    go : (b : Bool) → cond b (Some c) (class_named cs x) ≡ None → (class_named cs x ≡ None → class_named (cs ++ ds) x ≡ class_named ds x) → cond b (Some c) (class_named (cs ++ ds) x) ≡ class_named ds x
-    go true q r = absurd (cc)
-    go false q r = r q
-
-pub class_named-absent : (cs ds : List ClassFacts) (x : Bytes) → class_named (cs ++ ds) x ≡ None → class_named cs x ≡ None
-unfolding class_named
-class_named-absent [] ds x h = refl
-class_named-absent (c ∷ cs) ds x h = go (same c.name x) h (class_named-absent cs ds x)
-  where
-    go : (b : Bool) → cond b (Some c) (class_named (cs ++ ds) x) ≡ None → (class_named (cs ++ ds) x ≡ None → class_named cs x ≡ None) → cond b (Some c) (class_named cs x) ≡ None
-    go true q r = absurd (cc)
-    go false q r = r q
 
 -- what the clients' names are for the side
 pub record Fits (W : World) (clients : List ClassFacts) : Type 0 where
@@ -54,6 +43,18 @@ pub record Fits (W : World) (clients : List ClassFacts) : Type 0 where
 module _ (W : World) (clients : List ClassFacts) (fits : Fits W clients) where
   abbrev V : World
   V = with_clients W clients
+
+  -- a client is in the module of the clients
+  pub client_module : (x : Bytes) (c : ClassFacts) → class_named clients x ≡ Some c → module_of W x ≡ OfClients
+  client_module x c e = outside W x (fits.undeclared x c e)
+
+  pub own_module : (x : Bytes) (c : ClassFacts) → class_named clients x ≡ Some c → module_of W c.name ≡ OfClients
+  own_module x c e = subst (λ z. module_of W z ≡ OfClients) (sym (class_named-name clients x c e)) (client_module x c e)
+
+  -- so a public one is accessible from every class
+  pub client_accessible : (x : Bytes) (c : ClassFacts) → class_named clients x ≡ Some c → public_flag c.flags ≡ true → (z : Bytes) → is_class_accessible W z c ≡ true
+  client_accessible x c e p z =
+      accessible_from W z c (or_right (in_same_module W z c.name) (is_visible W c.name) (visible-clients W c.name (own_module x c e))) p
 
   pub find-client : (x : Bytes) (c : ClassFacts) → class_named clients x ≡ Some c → find_class V x ≡ Some c
   unfolding find_class
@@ -76,7 +77,7 @@ module _ (W : World) (clients : List ClassFacts) (fits : Fits W clients) where
       go None e r =
           let k : load_fault V x ≡ None = loads_from V (suc n) x h in
           let j : load_fault W x ≡ None = load_fault-side W clients fits.bare fits.unused x e ∙ k in
-          sym (search-agree W V (IsLibrary W clients fits.bare) (sides W clients fits.bare fits.unused) missing deep step local x e j)
+          sym (search-agree W V (IsLibrary W clients fits.bare) (sides W clients fits.bare fits.unused) missing deep step local x e j k)
           ∙ sym (over_clients-library clients library step n x e)
       go (Some c) e r =
           let k : load_fault V x ≡ None = loads_from V (suc n) x h in

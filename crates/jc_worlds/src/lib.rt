@@ -8,6 +8,7 @@ ghost use Rattle.jc_worlds.specs.Loading.{FaultIsOne, LoadsWithSupers, AllAboveL
 ghost use Rattle.jc_worlds.specs.Agreement.{WorldsAgree};
 ghost use Rattle.jc_worlds.specs.Alike.{WorldsLinkAlike, ClientsLinkAsRelease};
 ghost use Rattle.jc_worlds.specs.Sides.{SidesStay};
+ghost use Rattle.jc_worlds.specs.Plain.{PlainWorlds};
 ghost use Rattle.jc_worlds.specs.Choices.{InheritedArePublic, EachChoiceGivesTheSame, EachInitGivesTheSame};
 ghost use Rattle.jc_worlds.specs.Walks.{WalksOverClients, SeatEndsTheClients};
 ghost use Rattle.jc_worlds.specs.Overriding.{WalkIsOverriding, FinalsRefuse};
@@ -37,7 +38,8 @@ pub fn all_above_loads()
     ensures { AllAboveLoads }
 {}
 
-/// Two worlds that agree on a closed set of names agree on loading and on every lookup there.
+/// Two worlds that agree on a closed set of names agree there on every lookup from what loads in both, and on loading where they
+/// agree on modules too (JVMS 5.3.5, 5.4.3).
 pub fn worlds_agree()
     ensures { WorldsAgree }
 {}
@@ -82,12 +84,19 @@ pub fn finals_refuse()
     ensures { FinalsRefuse }
 {}
 
-/// Two worlds that have the same classes give the same load faults and the same outcomes, whatever classes they count as clients.
+/// Two worlds that have the same classes in the same modules give the same load faults and the same outcomes, whatever classes
+/// they count as clients.
 pub fn worlds_link_alike()
     ensures { WorldsLinkAlike }
 {}
 
-/// Clients over a side link as if they stood at the end of the release.
+/// Clients over a side of one module link as if they stood at the end of the release.
 pub fn clients_link_as_release()
     ensures { ClientsLinkAsRelease }
+{}
+
+/// In worlds of one module access, the seal, the bases and the names of planned clients are what they are without the question for
+/// the module of a class (JVMS 5.3.5, 5.4.4).
+pub fn plain_worlds()
+    ensures { PlainWorlds }
 {}

@@ -44,7 +44,7 @@ abbrev pub fault_or : LinkError → Option LinkError → LinkError
 fault_or e None = e
 fault_or e (Some f) = f
 
--- why the class can't be used: its load fault, NoClassDefFoundError where it is absent; else it isn't public
+-- why the class can't be used: its load fault, NoClassDefFoundError where it is absent; else it isn't public, or isn't visible
 unfoldable pub gone_error : World → Bytes → LinkError
 gone_error N x = fault_or IllegalAccessError (load_fault N x)
 

@@ -1,27 +1,51 @@
--- A world: the platform, a release of a library, and clients of both.
+-- A world: the platform, a release of a library, clients of both, and the modules in which their classes lie.
+--     side P R      a side of a run without modules: all classes are in one
+--     modular_side exports P R      a side of a run with modules
 --     classes W      all its classes
 --     find_class W x      the class of this name (JVMS 5.3)
 --     own_field_of c k, own_method_of c k      what the class itself declares (JVMS 4.5, 4.6)
-use Rattle.std.specs.Prelude.{ℕ, Bool, cond, List, [], ◌∷◌, ◌++◌, length, Option, None, Some, is_some}
+use Rattle.std.specs.Prelude.{ℕ, Bool, true, false, cond, List, [], ◌∷◌, ◌++◌, length, Option, None, Some, is_some}
 use Rattle.std.specs.List.{find as first_where}
 use Rattle.jc_facts.specs.declared.class_facts.ClassFacts.{ClassFacts}
 use Rattle.jc_facts.specs.declared.class_facts.Member.{Member}
 use Rattle.jc_facts.specs.declared.key.Key.{Key}
 use Rattle.jc_facts.specs.Names.{Bytes, same, is_key}
 
+-- the modules of a world (JVMS 4.7.25, 5.3.6)
+pub data Modules : Type 0 where
+  -- one, that of the clients, in which all classes are
+  OneModule : Modules
+  -- one of the platform, one of the clients, and one of the release, where there is a list of the packages that it exports;
+  -- a release without such a list is in that of the clients
+  Several : Option (List Bytes) → Modules
+
+-- there are several
+abbrev pub is_modular : Modules → Bool
+is_modular OneModule = false
+is_modular (Several exports) = true
+
 -- a side is a platform with a release; a world is a side with clients, which are of neither
 pub record World : Type 0 where
   pub platform : List ClassFacts
   pub release : List ClassFacts
   pub clients : List ClassFacts
+  pub modules : Modules
 
--- the platform and a release alone
+-- the platform and a release alone, in these modules
+abbrev pub side_in : Modules → List ClassFacts → List ClassFacts → World
+side_in modules platform release = record { platform = platform; release = release; clients = []; modules = modules }
+
+-- the same in one module
 abbrev pub side : List ClassFacts → List ClassFacts → World
-side platform release = record { platform = platform; release = release; clients = [] }
+side platform release = side_in OneModule platform release
+
+-- the same in several, where the release's module exports these packages, or the release has no such list
+abbrev pub modular_side : Option (List Bytes) → List ClassFacts → List ClassFacts → World
+modular_side exports platform release = side_in (Several exports) platform release
 
 -- the side with these clients
 abbrev pub with_clients : World → List ClassFacts → World
-with_clients W clients = record { platform = W.platform; release = W.release; clients = clients }
+with_clients W clients = record { platform = W.platform; release = W.release; clients = clients; modules = W.modules }
 
 -- ---- its classes
 
