@@ -1,5 +1,5 @@
 -- What is open to a seat is accessible from each client that has it.
-use Rattle.std.proofs.Common.{◌≡◌, ◌<◌, ◌≤◌, ℕ, Bool, true, false, not, ◌||◌, List, [], ◌∷◌, ◌++◌, length, refl, sym, ◌∙◌, ap, arith, Option, Some, None}
+use Rattle.std.proofs.Common.{◌≡◌, ◌<◌, ◌≤◌, ℕ, Bool, true, false, not, ◌||◌, ◌&&◌, List, [], ◌∷◌, ◌++◌, length, refl, sym, ◌∙◌, ap, arith, Option, Some, None}
 use Rattle.std.specs.Prelude.{is_some}
 use Rattle.std.specs.List.{All}
 use Rattle.std.proofs.lemmas.List.{length-append}
@@ -11,15 +11,20 @@ use Rattle.jc_facts.specs.Flags.{public_flag}
 use Rattle.jc_facts.specs.world.World.{World, DeclaredMember, find_class, size, class_named, with_clients, is_client}
 use Rattle.jc_facts.specs.world.Hierarchy.{chain, names_in, in_chain}
 use Rattle.jc_facts.specs.world.Loading.{load_fault}
+use Rattle.jc_facts.specs.world.Modules.{OfClients, module_of, is_visible, is_visible_from}
 use Rattle.jc_facts.specs.world.Access.{is_class_accessible, is_member_accessible}
 use Rattle.jc_facts.specs.world.Assignment.{is_assignable, passes_protected_check}
 use Rattle.jc_facts.specs.rule.OpenActs.{is_member_open}
+use Rattle.jc_facts.specs.rule.Bases.{class_is}
+use Rattle.jc_facts.specs.Options.{some_and}
 use Rattle.jc_facts.specs.client.Clients.{is_allowed_name, seat}
 use Rattle.jc_facts.proofs.Same.{same_is}
+use Rattle.jc_lemmas.proofs.Bools.{or_false}
 use Rattle.jc_lemmas.proofs.Listed.{EachOf}
 use Rattle.jc_worlds.proofs.AgreementLaw.{each_name}
 use Rattle.jc_worlds.proofs.Allowed.{unused_from_allowed}
 use Rattle.jc_worlds.proofs.Chains.{in_chain-agree}
+use Rattle.jc_worlds.proofs.VisibleFrom.{outside, visible_from-client}
 use Rattle.jc_worlds.proofs.FieldActs.{member_seat}
 use Rattle.jc_worlds.proofs.Packages.{AllowedParts, allowed_parts, package_apart, same_package_apart}
 use Rattle.jc_worlds.proofs.Sides.{IsLibrary, sides}
@@ -98,15 +103,29 @@ module _ (W : World) (side : IsSide W) (clients : List ClassFacts) (allowed : Al
 
 -- ---- for the answers
 
-pub class_spoken : (W : World) (a y : Bytes) (c d : ClassFacts) (b : Bool) → Some c ≡ find_class W y → find_class W y ≡ Some d → b ≡ public_flag c.flags → b ≡ false → SpeaksForSeat W a (λ V x. is_class_accessible x d) false
-class_spoken W a y c d b f g e h side clients allowed x i l s =
-    let is : c ≡ d = (let q : Some c ≡ Some d = f ∙ g in cc) in
-    sym (ap (λ p. p || in_same_package x d.name) (sym (e ∙ ap (λ z. public_flag z.flags) is) ∙ h) ∙ class-client W side clients allowed x y d g i)
+-- a client is in no package of the side and in the module of the clients, so that the class is accessible from it where it is visible and public
+pub class_spoken : (W : World) (a y : Bytes) (d : ClassFacts) (b : Bool) → find_class W y ≡ Some d → b ≡ (is_visible W d.name && public_flag d.flags) → SpeaksForSeat W a (λ V x. is_class_accessible V x d) b
+class_spoken W a y d b g h side clients allowed x i l s =
+    let m : module_of (with_clients W clients) x ≡ OfClients = outside W x (client_parts W side clients allowed x i).absent in
+    let e : is_visible_from (with_clients W clients) x d.name ≡ is_visible W d.name = visible_from-client (with_clients W clients) x d.name m in
+    h
+    ∙ sym (ap (λ v. (v && public_flag d.flags) || in_same_package x d.name) e
+    ∙ ap (λ v. (is_visible W d.name && public_flag d.flags) || v) (class-client W side clients allowed x y d g i)
+    ∙ or_false (is_visible W d.name && public_flag d.flags))
 
-pub class_inside : (W : World) (x y : Bytes) (c d : ClassFacts) (p b : Bool) → Some c ≡ find_class W y → find_class W y ≡ Some d → p ≡ public_flag c.flags → p ≡ false → b ≡ in_same_package x y → b ≡ is_class_accessible x d
-class_inside W x y c d p b f g e h q =
-    let is : c ≡ d = (let z : Some c ≡ Some d = f ∙ g in cc) in
-    q ∙ ap (in_same_package x) (sym (find-name W y d g)) ∙ sym (ap (λ a. a || in_same_package x d.name) (sym (e ∙ ap (λ z. public_flag z.flags) is) ∙ h))
+-- what is asked of the class named y, of its record
+pub nameable : (W : World) (y : Bytes) (d : ClassFacts) (b : Bool) → find_class W y ≡ Some d → b ≡ class_is W (λ c. is_visible W y && public_flag c.flags) y → b ≡ (is_visible W d.name && public_flag d.flags)
+nameable W y d b f h =
+    h ∙ ap (some_and (λ (c : ClassFacts). is_visible W y && public_flag c.flags)) f ∙ ap (λ (z : Bytes). is_visible W z && public_flag d.flags) (sym (find-name W y d f))
+
+nameable_from : (W : World) (x y : Bytes) (d : ClassFacts) (b : Bool) → find_class W y ≡ Some d → b ≡ class_is W (λ c. is_visible_from W x y && public_flag c.flags) y → b ≡ (is_visible_from W x d.name && public_flag d.flags)
+nameable_from W x y d b f h =
+    h ∙ ap (some_and (λ (c : ClassFacts). is_visible_from W x y && public_flag c.flags)) f ∙ ap (λ (z : Bytes). is_visible_from W x z && public_flag d.flags) (sym (find-name W y d f))
+
+pub class_inside : (W : World) (x y : Bytes) (d : ClassFacts) (b p : Bool) → find_class W y ≡ Some d → b ≡ class_is W (λ c. is_visible_from W x y && public_flag c.flags) y → p ≡ in_same_package x y → (b || p) ≡ is_class_accessible W x d
+class_inside W x y d b p f h q =
+    ap (λ t. t || p) (nameable_from W x y d b f h)
+    ∙ ap (λ t. (is_visible_from W x d.name && public_flag d.flags) || t) (q ∙ ap (in_same_package x) (sym (find-name W y d f)))
 
 pub found_inside : (W : World) (x n : Bytes) (f : Found) (m : DeclaredMember) → IsFound W f m → inside_at W x n (name_at W f.owner) f.flags ≡ is_member_accessible W x n m
 unfolding is_member_accessible

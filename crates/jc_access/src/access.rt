@@ -14,6 +14,7 @@ use crate::names::in_one_package;
 use crate::nests::same_nest;
 use jc_facts::flags::{is_private, is_protected, is_public, is_static};
 use jc_table::ids::{ClassId, Found};
+use jc_table::naming::{is_nameable, is_nameable_from};
 use jc_table::table::Table;
 
 /// Who uses a class or a member.
@@ -26,21 +27,27 @@ pub enum Seat {
     Client(ClassId),
 }
 
-/// Whether the class is accessible: it is public, or of the package of the class of the seat
-/// `Inside` (JVMS 5.4.4). For the seat `Client` the answer is that of each client that loads, has an
-/// allowed name and has this seat.
+// Whether the class is accessible from the other one.
+fn is_accessible_from(table: &Table, class: ClassId, from: ClassId) -> bool
+    requires class { class < size table.now }
+    requires from { from < size table.now }
+    ensures { (d : ClassOf) → find_class table.now (name_at table.now class) ≡ Some d → result ≡ is_class_accessible table.now (name_at table.now from) d }
+{
+    is_nameable_from(table, class, from) || in_one_package(table, from, class)
+}
+
+/// Whether the class is accessible: it is public, and visible from the class of the seat `Inside`; or
+/// it is of that one's package (JVMS 5.4.4). For the seat `Client` the answer is that of each client
+/// that loads, has an allowed name and has this seat.
 pub fn class_access(table: &Table, from: Seat, class: ClassId) -> bool
     requires from { IsSeatOf table.now from }
     requires class { class < size table.now }
     ensures value { (d : ClassOf) → find_class table.now (name_at table.now class) ≡ Some d → result ≡ class_open table.now from d }
-    ensures clients { (d : ClassOf) → find_class table.now (name_at table.now class) ≡ Some d → SpeaksFor table.now from (λ V x. is_class_accessible x d) result }
+    ensures clients { (d : ClassOf) → find_class table.now (name_at table.now class) ≡ Some d → SpeaksFor table.now from (λ V x. is_class_accessible V x d) result }
 {
-    if is_public(table.facts(class).flags) {
-        return true;
-    }
     match from {
-        Seat::Inside(id) => in_one_package(table, id, class),
-        Seat::Client(_) => false,
+        Seat::Inside(id) => is_accessible_from(table, class, id),
+        Seat::Client(_) => is_nameable(table, class),
     }
 }
 

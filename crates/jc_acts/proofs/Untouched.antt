@@ -1,18 +1,19 @@
--- Where no class above x changed or left a chain, lookups from x find the same on both sides, and no act on its members is closed.
+-- Where no class above x changed or left a chain, and x loads on both sides, lookups from x find the same on both, and no act on its members is
+-- closed. That x loads on the new side doesn't follow: the records are the same, but what they name may be visible no more.
 use Rattle.std.proofs.Common.{◌≡◌, Bool, true, false, not, cond, List, [], ◌∷◌, ◌++◌, refl, sym, ◌∙◌, ap, subst, Option, Some, None, is_some, is_none, ◌||◌, ◌&&◌}
 use Rattle.std.specs.List.{list_any, filter, Contains}
 use Rattle.std.proofs.lemmas.Bool.{and_parts, and_from}
-use Rattle.std.proofs.lemmas.List.{append-nil}
-use Rattle.std.proofs.lemmas.List.Elements.{All-from_recursion}
+use Rattle.std.proofs.lemmas.List.Elements.{All-from_recursion, filter-append}
 use Rattle.std.proofs.lemmas.List.Folds.{list_any-append}
 use Rattle.jc_facts.specs.declared.act.Act.{Act}
 use Rattle.jc_facts.specs.declared.class_facts.ClassFacts.{ClassFacts}
 use Rattle.jc_facts.specs.declared.key.Key.{Key}
 use Rattle.jc_facts.specs.declared.link_error.LinkError.{LinkError}
-use Rattle.jc_facts.specs.Names.{Bytes, same, object_name}
+use Rattle.jc_facts.specs.Names.{Bytes, same, object_name, package_name}
 use Rattle.jc_facts.specs.Flags.{interface_flag}
 use Rattle.jc_facts.specs.Options.{some_and}
-use Rattle.jc_facts.specs.world.World.{World, side, classes, find_class, class_named, DeclaredMember}
+use Rattle.jc_facts.specs.world.World.{World, classes, find_class, class_named, DeclaredMember}
+use Rattle.jc_facts.specs.world.Modules.{module_by, module_of, same_module, in_same_module, is_exported, visible_by, is_visible}
 use Rattle.jc_facts.specs.world.Search.{supers, supers_of}
 use Rattle.jc_facts.specs.world.Hierarchy.{chain, each, in_chain, interfaces_of, of_super, superinterfaces, with_interfaces}
 use Rattle.jc_facts.specs.world.Loading.{load_fault, loads}
@@ -25,8 +26,9 @@ use Rattle.jc_facts.proofs.Hierarchy.{any_each}
 use Rattle.jc_facts.proofs.Same.{same_is}
 use Rattle.jc_facts.proofs.World.{find-name}
 use Rattle.jc_lemmas.proofs.Bools.{and_not, imply, neither_first, neither_last, not_true}
+use Rattle.jc_lemmas.proofs.Options.{none_from}
 use Rattle.jc_lemmas.proofs.Listed.{EachOf, EachOf-both, any_passes, each_from, each_of, not_any}
-use Rattle.jc_worlds.specs.Agreement.{AgreeOn, LooksTheSame}
+use Rattle.jc_worlds.specs.Agreement.{AgreeOn, LooksTheSame, ModulesAgreeOn}
 use Rattle.jc_worlds.specs.Hierarchy.{above}
 use Rattle.jc_worlds.proofs.AgreementLaw.{worlds_agree}
 use Rattle.jc_worlds.proofs.Bare.{bare_loads, bare_chain, bare_interfaces, has_root}
@@ -83,12 +85,36 @@ named_kept t y (c ∷ cs) = go (t c.name) refl (same c.name y) refl (named_kept 
         r ∙ ap (λ z. cond z (class_named cs y) None) n ∙ sym (ap (λ z. cond z (Some c) None) n)
     go false e false k r = r
 
+kept-append : (t : Bytes → Bool) (cs ds : List ClassFacts) → kept t (cs ++ ds) ≡ kept t cs ++ kept t ds
+unfolding kept
+kept-append t cs ds = filter-append (λ c. t c.name) cs ds
+
+-- in each of its lists those of these names
 abbrev part : World → (Bytes → Bool) → World
-part W t = side (kept t (classes W)) []
+part W t = record { platform = kept t W.platform; release = kept t W.release; clients = kept t W.clients; modules = W.modules }
+
+classes_part : (W : World) (t : Bytes → Bool) → kept t (classes W) ≡ classes (part W t)
+classes_part W t = kept-append t (W.platform ++ W.release) W.clients ∙ ap (λ cs. cs ++ kept t W.clients) (kept-append t W.platform W.release)
 
 find_part : (W : World) (t : Bytes → Bool) (y : Bytes) → find_class (part W t) y ≡ cond (t y) (find_class W y) None
 unfolding find_class
-find_part W t y = ap (λ cs. class_named cs y) (append-nil (kept t (classes W) ++ []) ∙ append-nil (kept t (classes W))) ∙ named_kept t y (classes W)
+find_part W t y = ap (λ cs. class_named cs y) (sym (classes_part W t)) ∙ named_kept t y (classes W)
+
+module_part : (W : World) (t : Bytes → Bool) (y : Bytes) → t y ≡ true → module_of W y ≡ module_of (part W t) y
+module_part W t y h = ap (λ o. module_by W.modules (is_some o) (is_some (class_named W.release y))) (stays W.platform) ∙ ap (λ o. module_by W.modules (is_some (class_named (kept t W.platform) y)) (is_some o)) (stays W.release)
+  where
+    stays : (cs : List ClassFacts) → class_named cs y ≡ class_named (kept t cs) y
+    stays cs = sym (named_kept t y cs ∙ ap (λ b. cond b (class_named cs y) None) h)
+
+modules_part : (W : World) (t : Bytes → Bool) → ModulesAgreeOn W (part W t) t
+modules_part W t x y h k =
+    let e = module_part W t x h in
+    let f = module_part W t y k in
+    let g = ap (λ m. same_module m (module_of W y)) e ∙ ap (same_module (module_of (part W t) x)) f in
+    record {
+      seen = ap (λ b. b || is_visible W y) g ∙ ap (λ m. in_same_module (part W t) x y || visible_by m (is_exported W.modules (package_name y))) f;
+      together = g;
+    }
 
 -- ---- lookups of each form
 
@@ -106,15 +132,15 @@ unfolding IsField
 other_forms q = subst IsField (sym q) tt
 
 -- what is looked up in worlds that agree
-looked_alike : (V W : World) (test : Bytes → Bool) (agree : AgreeOn V W test) (x : Bytes) → test x ≡ true → test object_name ≡ true → load_fault V x ≡ None → (k : Key) (form : Form) → looked V form x k ≡ looked W form x k
+looked_alike : (V W : World) (test : Bytes → Bool) (agree : AgreeOn V W test) (x : Bytes) → test x ≡ true → test object_name ≡ true → load_fault V x ≡ None → load_fault W x ≡ None → (k : Key) (form : Form) → looked V form x k ≡ looked W form x k
 unfolding looked
-looked_alike V W test agree x i r l k FieldForm = ((worlds_agree V W test agree x i).2 l).field k
-looked_alike V W test agree x i r l k MethodForm =
+looked_alike V W test agree x i r l n k FieldForm = ((worlds_agree V W test agree x i).2 l n).field k
+looked_alike V W test agree x i r l n k MethodForm =
     ap (λ o. cond (some_and (λ (c : ClassFacts). interface_flag c.flags) o) None (head_of (method_choices V x k))) (agree.same x i)
-    ∙ ap (λ ms. cond (is_interface_of W x) None (head_of ms)) (((worlds_agree V W test agree x i).2 l).method k)
-looked_alike V W test agree x i r l k InterfaceForm =
+    ∙ ap (λ ms. cond (is_interface_of W x) None (head_of ms)) (((worlds_agree V W test agree x i).2 l n).method k)
+looked_alike V W test agree x i r l n k InterfaceForm =
     ap (λ o. cond (some_and (λ (c : ClassFacts). interface_flag c.flags) o) (head_of (interface_choices V x k)) None) (agree.same x i)
-    ∙ ap (λ ms. cond (is_interface_of W x) (head_of ms) None) (((worlds_agree V W test agree x i).2 l).interface k (agree.same object_name r))
+    ∙ ap (λ ms. cond (is_interface_of W x) (head_of ms) None) (((worlds_agree V W test agree x i).2 l n).interface k (agree.same object_name r))
 
 -- what is found is declared by a class of the world
 found_owner : (W : World) (form : Form) (x : Bytes) (k : Key) (m : DeclaredMember) → load_fault W x ≡ None → looked W form x k ≡ Some m → is_some (find_class W m.owner) ≡ true
@@ -240,8 +266,9 @@ module _ (W : World) (so : IsSide W) (p : Bytes → Bool) (root : p object_name 
   -- what is found from such a class is declared by such a class
   owner_clear : (x : Bytes) → none_above x ≡ true → (form : Form) (k : Key) (m : DeclaredMember) → looked W form x k ≡ Some m → none_above m.owner ≡ true
   owner_clear x h form k m e =
-      there (none_above m.owner) (sym (ap is_some (find_part W none_above m.owner)) ∙ found_owner (part W none_above) form x k m (sym (worlds_agree W (part W none_above) none_above agree x h).0 ∙ (clear_parts x h).loaded)
-      (sym (looked_alike W (part W none_above) none_above agree x h root_clear (clear_parts x h).loaded k form) ∙ e))
+      let l = (clear_parts x h).loaded in
+      let n : load_fault (part W none_above) x ≡ None = sym ((worlds_agree W (part W none_above) none_above agree x h).0 (modules_part W none_above)) ∙ l in
+      there (none_above m.owner) (sym (ap is_some (find_part W none_above m.owner)) ∙ found_owner (part W none_above) form x k m n (sym (looked_alike W (part W none_above) none_above agree x h root_clear l n k form) ∙ e))
     where
       there : (b : Bool) → is_some (cond b (find_class W m.owner) None) ≡ true → b ≡ true
       there true h = refl
@@ -256,24 +283,27 @@ root_free W so p x l h =
     ap p (sym (same_is r.one.name object_name r.passes))
     ∙ not_any (λ (c : ClassFacts). p c.name) (chain W x) r.one (neither_first (list_any (λ (c : ClassFacts). p c.name) (chain W x)) (list_any (λ (c : ClassFacts). p c.name) (superinterfaces W x)) (sym (list_any-append (λ (c : ClassFacts). p c.name) (chain W x) (superinterfaces W x)) ∙ h)) r.is_in
 
-module _ (s : SidesOf) (are : AreSides s) (x : Bytes) (free : may_be_closed s x ≡ false) (loaded : load_fault s.old x ≡ None) where
+module _ (s : SidesOf) (are : AreSides s) (x : Bytes) (free : may_be_closed s x ≡ false) where
   so : IsSide s.old
   so = are.old_side
 
   abbrev touched : Bytes → Bool
   touched = is_touched s (all_seats s)
 
+  loads_before : load_fault s.old x ≡ None
+  loads_before = none_from (load_fault s.old x) (neither_first (is_some (load_fault s.old x)) (list_any (λ (c : ClassFacts). touched c.name) (above s.old x)) free)
+
   none_touched : list_any (λ (c : ClassFacts). touched c.name) (above s.old x) ≡ false
   none_touched = neither_last (is_some (load_fault s.old x)) (list_any (λ (c : ClassFacts). touched c.name) (above s.old x)) free
 
   root : touched object_name ≡ false
-  root = root_free s.old so touched x loaded none_touched
+  root = root_free s.old so touched x loads_before none_touched
 
   abbrev test : Bytes → Bool
   test = none_above s.old so touched root
 
   it_is : test x ≡ true
-  it_is = clear_from s.old so touched root x loaded none_touched
+  it_is = clear_from s.old so touched root x loads_before none_touched
 
   untouched : (y : Bytes) → test y ≡ true → touched y ≡ false
   untouched y h = own_clear s.old so touched root y (clear_parts s.old so touched root y h)
@@ -284,50 +314,51 @@ module _ (s : SidesOf) (are : AreSides s) (x : Bytes) (free : may_be_closed s x 
     closed = (agree s.old so touched root).closed;
   }
 
-  looks_same : LooksTheSame s.old s.new x
-  looks_same = (worlds_agree s.old s.new test both x it_is).2 loaded
+  module _ (still : load_fault s.new x ≡ None) where
+    looks_same : LooksTheSame s.old s.new x
+    looks_same = (worlds_agree s.old s.new test both x it_is).2 loads_before still
 
-  looked_both : (form : Form) (k : Key) → looked s.old form x k ≡ looked s.new form x k
-  looked_both form k = looked_alike s.old s.new test both x it_is (root_clear s.old so touched root) loaded k form
+    looked_both : (form : Form) (k : Key) → looked s.old form x k ≡ looked s.new form x k
+    looked_both form k = looked_alike s.old s.new test both x it_is (root_clear s.old so touched root) loads_before still k form
 
-  -- such a class stays above a seat
-  stays_above : (a : Bytes) → Contains (all_seats s) a → (y : Bytes) → test y ≡ true → in_chain s.old a y ≡ true → in_chain s.new a y ≡ true
-  stays_above a seat y h =
-      and_not (in_chain s.old a y) (in_chain s.new a y) (not_any (left_chain_of s y) (all_seats s) a (neither_last (is_changed s y) (list_any (left_chain_of s y) (all_seats s)) (untouched y h)) seat)
+    -- such a class stays above a seat
+    stays_above : (a : Bytes) → Contains (all_seats s) a → (y : Bytes) → test y ≡ true → in_chain s.old a y ≡ true → in_chain s.new a y ≡ true
+    stays_above a seat y h =
+        and_not (in_chain s.old a y) (in_chain s.new a y) (not_any (left_chain_of s y) (all_seats s) a (neither_last (is_changed s y) (list_any (left_chain_of s y) (all_seats s)) (untouched y h)) seat)
 
-  -- an act that was open to the seat is open still
-  stays_open : (a : Bytes) → Contains (all_seats s) a → (k : Key) (what : Act) → act_fault s.old a x k what ≡ None → act_fault s.new a x k what ≡ None
-  unfolding act_fault
-  stays_open a seat k what e =
-      let t = look_up-takes s.old (form_of what) x k (use_at s.old a x what) e in
-      let owner = owner_clear s.old so touched root x it_is (form_of what) k t.found t.taken in
-      look_up-from s.new (form_of what) x k (use_at s.new a x what) (record {
-        found = t.found;
-        taken = sym (looked_both (form_of what) k) ∙ t.taken;
-        fine = use_further s.old s.new a a x what t.found (stays_above a seat t.found.owner owner) (stays_above a seat x it_is) t.fine;
-      })
+    -- an act that was open to the seat is open still
+    stays_open : (a : Bytes) → Contains (all_seats s) a → (k : Key) (what : Act) → act_fault s.old a x k what ≡ None → act_fault s.new a x k what ≡ None
+    unfolding act_fault
+    stays_open a seat k what e =
+        let t = look_up-takes s.old (form_of what) x k (use_at s.old a x what) e in
+        let owner = owner_clear s.old so touched root x it_is (form_of what) k t.found t.taken in
+        look_up-from s.new (form_of what) x k (use_at s.new a x what) (record {
+          found = t.found;
+          taken = sym (looked_both (form_of what) k) ∙ t.taken;
+          fine = use_further s.old s.new a a x what t.found (stays_above a seat t.found.owner owner) (stays_above a seat x it_is) t.fine;
+        })
 
-  not_closed : (a : Bytes) → Contains (all_seats s) a → (k : Key) (what : Act) → closed_on s x k what a ≡ None
-  not_closed a seat k what = go (act_fault s.old a x k what) refl
-    where
-      go : (o : Option LinkError) → act_fault s.old a x k what ≡ o → where_open o (act_fault s.new a x k what) ≡ None
-      go None e = stays_open a seat k what e
-      go (Some f) e = refl
+    not_closed : (a : Bytes) → Contains (all_seats s) a → (k : Key) (what : Act) → closed_on s x k what a ≡ None
+    not_closed a seat k what = go (act_fault s.old a x k what) refl
+      where
+        go : (o : Option LinkError) → act_fault s.old a x k what ≡ o → where_open o (act_fault s.new a x k what) ≡ None
+        go None e = stays_open a seat k what e
+        go (Some f) e = refl
 
-  has_none : HasNoneClosed s x
-  has_none k acts = first_closed s so.differ x k acts None (sym (first_none (λ what. first_at (closed_on s x k what) (all_seats s)) acts (each_of (λ what. first_at (closed_on s x k what) (all_seats s) ≡ None) no_seat acts)))
-    where
-      no_seat : (what : Act) → first_at (closed_on s x k what) (all_seats s) ≡ None
-      no_seat what = first_none (closed_on s x k what) (all_seats s) (each_from (λ a. closed_on s x k what a ≡ None) (all_seats s) (λ a c. not_closed a c k what))
+    has_none : HasNoneClosed s x
+    has_none k acts = first_closed s so.differ x k acts None (sym (first_none (λ what. first_at (closed_on s x k what) (all_seats s)) acts (each_of (λ what. first_at (closed_on s x k what) (all_seats s) ≡ None) no_seat acts)))
+      where
+        no_seat : (what : Act) → first_at (closed_on s x k what) (all_seats s) ≡ None
+        no_seat what = first_none (closed_on s x k what) (all_seats s) (each_from (λ a. closed_on s x k what a ≡ None) (all_seats s) (λ a c. not_closed a c k what))
 
 pub none_closed : (s : SidesOf) → AreSides s → (x : Bytes) → may_be_closed s x ≡ false → is_steady s.old s.new x ≡ true → HasNoneClosed s x
-none_closed s are x free steady = has_none s are x free (steady_parts s x steady).both.loads
+none_closed s are x free steady = has_none s are x free (steady_parts s x steady).both.loads_now
 
-pub looks_alike : (s : SidesOf) → AreSides s → (x : Bytes) → may_be_closed s x ≡ false → load_fault s.old x ≡ None → LooksTheSame s.old s.new x
-looks_alike s are x free loaded = looks_same s are x free loaded
+pub looks_alike : (s : SidesOf) → AreSides s → (x : Bytes) → may_be_closed s x ≡ false → load_fault s.new x ≡ None → LooksTheSame s.old s.new x
+looks_alike s are x free still = looks_same s are x free still
 
-pub one_record : (s : SidesOf) → AreSides s → (x : Bytes) → may_be_closed s x ≡ false → load_fault s.old x ≡ None → find_class s.old x ≡ find_class s.new x
-one_record s are x free loaded = (both s are x free loaded).same x (it_is s are x free loaded)
+pub one_record : (s : SidesOf) → AreSides s → (x : Bytes) → may_be_closed s x ≡ false → find_class s.old x ≡ find_class s.new x
+one_record s are x free = (both s are x free).same x (it_is s are x free)
 
 -- a class of the platform is the same, whatever is above it
 pub platform_record : (s : SidesOf) → AreSides s → (x : Bytes) → is_some (class_named s.old.platform x) ≡ true → find_class s.old x ≡ find_class s.new x

@@ -6,6 +6,7 @@ pub mod chains;
 pub mod closed_act;
 mod closing;
 mod commons;
+pub mod laws;
 mod lookup;
 pub mod members;
 mod open;

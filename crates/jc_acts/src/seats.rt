@@ -93,8 +93,10 @@ impl<'a> Seats<'a> {
     }
 
     /// Whether an act on a member of the class may be closed now to a seat that could do it. Where
-    /// neither the class nor any above it changed or left the chain of a seat none is, whatever the key,
-    /// and the class and its chain are the same on both sides.
+    /// neither the class nor any above it changed or left the chain of a seat, the class is the same on
+    /// both sides; and where it loads on the new side too, its chain is, and no act on its members is
+    /// closed, whatever the key. That it loads doesn't follow where there are modules: what it names
+    /// may be visible no more.
     pub fn may_close(&self, _sides: &Sides<'_>, class: &Shared<'_>) -> bool
         requires seats { AreSeats _sides.now self.now }
         requires class { IsShared _sides.now «class».now }

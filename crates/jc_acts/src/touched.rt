@@ -1,5 +1,6 @@
 //! Classes that changed between the two sides, or left the chain of a seat. Where neither a class nor
-//! any above it did, lookups from it find the same on both sides, and stay open to the seats.
+//! any above it did, and it loads on both sides, lookups from it find the same on both, and stay open
+//! to the seats.
 ghost use Rattle.std.specs.Prelude.{◌≡◌, ◌<◌, ◌&&◌, ◌||◌, Bool, cond, length, map, not, set, true, IfOk};
 ghost use Rattle.std.specs.List.{All, list_any};
 ghost use Rattle.jc_facts.specs.Names.{Bytes};

@@ -1,4 +1,4 @@
--- The classes of a platform that load without any release: they load with each.
+-- The classes of a platform that load without any release: they load with each, in however many modules, since the platform is whole in one.
 use Rattle.std.proofs.Common.{◌≡◌, ℕ, ◌<◌, ◌≤◌, Bool, true, false, cond, eqb, List, [], ◌∷◌, ◌++◌, length, get_or, map, take, refl, sym, ◌∙◌, ap, subst, Some, None, arith, length-append}
 use Rattle.std.specs.Prelude.{is_some, IsTrue}
 use Rattle.std.specs.List.{All, Contains}
@@ -15,7 +15,9 @@ use Rattle.jc_facts.specs.world.Loading.{load_fault}
 use Rattle.jc_facts.specs.world.Search.{supers}
 use Rattle.jc_facts.specs.world.World.{World, side, classes, size, find_class, class_named}
 use Rattle.jc_facts.proofs.World.{class_named-first}
+use Rattle.jc_worlds.specs.Agreement.{SeeAlike}
 use Rattle.jc_worlds.proofs.Agree.{Agree, load_fault-agree}
+use Rattle.jc_worlds.proofs.VisibleFrom.{within_platform}
 use Rattle.jc_worlds.proofs.Loaded.{loads-found, loads-parts}
 use Rattle.jc_index.specs.Ids.{name_at, id_of, name_in}
 use Rattle.jc_index.specs.LoadOrder.{AreInLoadOrder, LoadsAfter, LoadInOrder, IsLoadOrder, AreLoads, AreAllLoads}
@@ -50,13 +52,24 @@ agree V = record {
   is_closed = λ x c h e. (loads-parts (side V.platform []) x c e h).0;
 }
 
+-- the platform alone declares it
+declared_alone : (P : List ClassFacts) (x : Bytes) → load_fault (side P []) x ≡ None → is_some (class_named P x) ≡ true
+unfolding find_class
+declared_alone P x h = let f = loads-found (side P []) x h in ap is_some (ap (λ (cs : List ClassFacts). class_named cs x) (sym (alone P)) ∙ f.1)
+
+see_alike : (V : World) (x y : Bytes) → load_fault (side V.platform []) x ≡ None → load_fault (side V.platform []) y ≡ None → SeeAlike (side V.platform []) V x y
+see_alike V x y h k =
+    let a = declared_alone V.platform x h in
+    let b = declared_alone V.platform y k in
+    within_platform (side V.platform []) V x y a b a b
+
 fewer : (V : World) → size (side V.platform []) ≤ size V
 unfolding size
 fewer V = omega (arith, ap length (alone V.platform), length-append V.platform V.release, length-append (V.platform ++ V.release) V.clients)
 
 -- a class that loads in the platform alone loads on each side of it
 pub still-loads : (V : World) (x : Bytes) → load_fault (side V.platform []) x ≡ None → load_fault V x ≡ None
-still-loads V x h = sym (load_fault-agree (side V.platform []) V (λ y. load_fault (side V.platform []) y ≡ None) (agree V) (fewer V) x h) ∙ h
+still-loads V x h = sym (load_fault-agree (side V.platform []) V (λ y. load_fault (side V.platform []) y ≡ None) (agree V) (see_alike V) (fewer V) x h) ∙ h
 
 still-after : (V : World) (before : List Bytes) (x : Bytes) → LoadsAfter (side V.platform []) before x → LoadsAfter V before x
 still-after V before x h = record {

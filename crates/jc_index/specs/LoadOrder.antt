@@ -42,3 +42,7 @@ pub record AreLoads (platform : List ClassFacts) (places : List ℕ) : Type 0 wh
 -- each class of the platform that loads without any release is at one of these places
 abbrev pub AreAllLoads : List ClassFacts → List ℕ → Type 0
 AreAllLoads platform places = (x : Bytes) → load_fault (side platform []) x ≡ None → Contains (map (name_in platform) places) x
+
+-- a class that loads in a platform alone loads in each world over the platform, which may lie in several modules
+abbrev pub PlatformLoadsStay : Type 0
+PlatformLoadsStay = (W : World) (x : Bytes) → load_fault (side W.platform []) x ≡ None → load_fault W x ≡ None

@@ -12,6 +12,7 @@ mod hashed_keys;
 pub mod hierarchy;
 pub mod ids;
 pub mod index;
+pub mod laws;
 pub mod limits;
 pub mod members;
 pub mod mentioned;

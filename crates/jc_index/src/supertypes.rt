@@ -1,10 +1,10 @@
 //! Why a class may not have another one as its superclass or interface (JVMS 5.3.5).
 ghost use Rattle.std.specs.Prelude.{◌≡◌, ◌<◌, ◌||◌, not, Some, IfSome};
-ghost use Rattle.jc_facts.specs.Flags.{interface_flag, final_flag};
-ghost use Rattle.jc_facts.specs.Names.{Bytes, is_name_among};
+ghost use Rattle.jc_facts.specs.Flags.{public_flag, interface_flag, final_flag};
+ghost use Rattle.jc_facts.specs.Names.{Bytes, is_name_among, in_same_package};
 ghost use Rattle.jc_facts.specs.world.World.{size, find_class};
 ghost use Rattle.jc_facts.specs.world.Access.{is_class_accessible};
-ghost use Rattle.jc_facts.specs.world.Loading.{fault_where, is_sealed_against, error_of_superclass, error_of_interface, fault_of_superclass, fault_of_interface};
+ghost use Rattle.jc_facts.specs.world.Loading.{fault_where, sealed_by, is_sealed_against, error_of_superclass, error_of_interface, fault_of_superclass, fault_of_interface};
 ghost use Rattle.jc_facts.specs.Options.{and_then, first_some, or_else};
 ghost use Rattle.jc_index.specs.Ids.{name_at, id_of};
 
@@ -23,18 +23,27 @@ pub fn is_among(names: &[Name], name: &Name) -> bool
     names.contains(name)
 }
 
-/// Whether the class is accessible from the one of this name: it is public, or of its package
-/// (JVMS 5.4.4).
-pub(crate) fn is_accessible(class: &ClassFacts, from: &Name) -> bool
-    ensures { result ≡ is_class_accessible from.now class.now }
+// Whether the class is public, or of the package of the one of this name.
+fn is_public_or_near(class: &ClassFacts, from: &Name) -> bool
+    ensures { result ≡ (public_flag class.now.flags || in_same_package from.now class.now.name) }
 {
     is_public(class.flags) || same_package(from.as_bytes(), class.name.as_bytes())
 }
 
-/// Whether the class has permitted subclasses that leave the other one out: that one isn't public
-/// and is of another package, or isn't among them (JVMS 4.7.31).
-pub(crate) fn is_sealed_to(class: &ClassFacts, below: &ClassFacts) -> bool
-    ensures { result ≡ is_sealed_against class.now below.now }
+/// Whether the class is accessible from the one of this name: it is public, or of its package
+/// (JVMS 5.4.4).
+pub(crate) fn is_accessible(index: &Index, class: &ClassFacts, from: &Name) -> bool
+    ensures { result ≡ is_class_accessible index.now from.now class.now }
+{
+    // A count says that all classes of the side are in one module.
+    let _classes = index.count();
+    is_public_or_near(class, from)
+}
+
+// Whether the class has permitted subclasses that leave the other one out: that one isn't public
+// and is of another package, or isn't among them (JVMS 4.7.31).
+fn leaves_out(class: &ClassFacts, below: &ClassFacts) -> bool
+    ensures { result ≡ sealed_by below.now class.now.name class.now.permits }
 {
     match &class.permits {
         None => false,
@@ -44,6 +53,15 @@ pub(crate) fn is_sealed_to(class: &ClassFacts, below: &ClassFacts) -> bool
             apart || !is_among(names.as_slice(), &below.name)
         }
     }
+}
+
+/// Whether the class is sealed against the other one of its module (JVMS 5.3.5).
+pub(crate) fn is_sealed_to(index: &Index, class: &ClassFacts, below: &ClassFacts) -> bool
+    ensures { result ≡ is_sealed_against index.now class.now below.now }
+{
+    // A count says that all classes of the side are in one module.
+    let _classes = index.count();
+    leaves_out(class, below)
 }
 
 // The error where the class isn't accessible, or is none of the kind that is asked.
@@ -61,39 +79,47 @@ fn supertype_error(accessible: bool, wrong_kind: bool) -> Option<LinkError>
 }
 
 // Whether the class can't be the superclass of the other one, be it accessible or not.
-fn is_no_superclass(class: &ClassFacts, below: &ClassFacts) -> bool
-    ensures { result ≡ (interface_flag class.now.flags || final_flag class.now.flags || is_sealed_against class.now below.now) }
+fn is_no_superclass(index: &Index, class: &ClassFacts, below: &ClassFacts) -> bool
+    ensures { result ≡ (interface_flag class.now.flags || final_flag class.now.flags || is_sealed_against index.now class.now below.now) }
 {
-    is_interface(class.flags) || is_final(class.flags) || is_sealed_to(class, below)
+    is_interface(class.flags) || is_final(class.flags) || is_sealed_to(index, class, below)
 }
 
 // Whether the class can't be an interface of the other one, be it accessible or not.
-fn is_no_interface(class: &ClassFacts, below: &ClassFacts) -> bool
-    ensures { result ≡ (not (interface_flag class.now.flags) || is_sealed_against class.now below.now) }
+fn is_no_interface(index: &Index, class: &ClassFacts, below: &ClassFacts) -> bool
+    ensures { result ≡ (not (interface_flag class.now.flags) || is_sealed_against index.now class.now below.now) }
 {
-    !is_interface(class.flags) || is_sealed_to(class, below)
+    !is_interface(class.flags) || is_sealed_to(index, class, below)
 }
 
 /// Why the class may not have `above` as its superclass: `IllegalAccessError` where it isn't
 /// accessible, then `IncompatibleClassChangeError` where it is an interface, final, or sealed to the
 /// class.
-pub(crate) fn superclass_error(class: &ClassFacts, above: &ClassFacts) -> Option<LinkError>
-    ensures { result ≡ error_of_superclass class.now above.now }
+pub(crate) fn superclass_error(
+    index: &Index,
+    class: &ClassFacts,
+    above: &ClassFacts,
+) -> Option<LinkError>
+    ensures { result ≡ error_of_superclass index.now class.now above.now }
 {
     supertype_error(
-        is_accessible(above, &class.name),
-        is_no_superclass(above, class),
+        is_accessible(index, above, &class.name),
+        is_no_superclass(index, above, class),
     )
 }
 
 /// Why the class may not have `above` as one of its interfaces: `IllegalAccessError` where it isn't
 /// accessible, then `IncompatibleClassChangeError` where it is no interface, or sealed to the class.
-pub(crate) fn interface_error(class: &ClassFacts, above: &ClassFacts) -> Option<LinkError>
-    ensures { result ≡ error_of_interface class.now above.now }
+pub(crate) fn interface_error(
+    index: &Index,
+    class: &ClassFacts,
+    above: &ClassFacts,
+) -> Option<LinkError>
+    ensures { result ≡ error_of_interface index.now class.now above.now }
 {
     supertype_error(
-        is_accessible(above, &class.name),
-        is_no_interface(above, class),
+        is_accessible(index, above, &class.name),
+        is_no_interface(index, above, class),
     )
 }
 
@@ -105,7 +131,7 @@ fn interface_fault(index: &Index, class: &ClassFacts, above: Option<ClassId>) ->
 {
     match above {
         None => None,
-        Some(id) => interface_error(class, index.facts(id)),
+        Some(id) => interface_error(index, class, index.facts(id)),
     }
 }
 
@@ -121,7 +147,7 @@ pub(crate) fn own_superclass_fault(
 {
     match index.superclass(id) {
         None => None,
-        Some(above) => superclass_error(class, index.facts(above)),
+        Some(above) => superclass_error(index, class, index.facts(above)),
     }
 }
 

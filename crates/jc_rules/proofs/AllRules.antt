@@ -14,7 +14,7 @@ use Rattle.jc_facts.specs.declared.verdict.Note.{Note}
 use Rattle.jc_facts.specs.declared.verdict.Note.TheVariants as note
 use Rattle.jc_facts.specs.declared.verdict.Verdict.{Verdict}
 use Rattle.jc_facts.specs.Names.{Bytes}
-use Rattle.jc_facts.specs.world.World.{World, side, with_clients}
+use Rattle.jc_facts.specs.world.World.{World, with_clients}
 use Rattle.jc_facts.specs.client.Clients.{IsInScope, Keeps, facts_of}
 use Rattle.jc_facts.specs.rule.Collisions.{collision_at, CollisionStands}
 use Rattle.jc_facts.specs.rule.Findings.{Subject, finding_at, finding_by, subject_of, Stands}
@@ -27,12 +27,12 @@ use Rattle.jc_facts.specs.rule.Verdict.{IsVerdict}
 use Rattle.jc_sound.proofs.ClassGoneLaw.{class_gone_breaks}
 use Rattle.jc_facts.proofs.InOrder.{exact_same, exact_append}
 use Rattle.jc_sound.proofs.SoundnessLaws.{keeps}
-use Rattle.jc_table.specs.Sides.{IsSide}
 use Rattle.jc_rules.specs.steps.Notes.{NoteIn, IsUnloadable, IsFixed, IsConstantNote}
 use Rattle.jc_rules.proofs.ByRule.{first_rule, next_rule, next_group, all_rules, rule_past, next_past, group_past}
 use Rattle.jc_rules.proofs.NoteUnloadable.{notes_exact}
 use Rattle.jc_sides.specs.Limit.{HasMore, over, beside}
 use Rattle.jc_sides.proofs.Limits.{past_weaker, within_both}
+use Rattle.jc_sides.proofs.Pair.{pair_of}
 use Rattle.jc_sides.specs.SidesOf.{SidesOf, AreSides}
 
 -- ---- which rules there are
@@ -156,32 +156,11 @@ module _ (s : SidesOf) where
 
 -- ---- what they mean
 
--- a side is its platform and its release
-side_of : (W : World) (p : _) → IsSide W → W.platform ≡ p → W ≡ side p W.release
-side_of W p s e = ap (λ cs. record { platform = W.platform; release = W.release; clients = cs }) s.no_clients ∙ ap (λ q. side q W.release) e
-
 module _ (O N : World) (are : AreSides (record { old = O; new = N })) where
-  old_is : O ≡ side O.platform O.release
-  old_is = side_of O O.platform are.old_side refl
-
-  new_is : N ≡ side O.platform N.release
-  new_is = side_of N O.platform are.new_side (sym are.platform)
-
-  abbrev Kept : Verdict → World → World → Type 0
-  Kept v A B = IsVerdict A B v → v.findings ≡ [] → (cs : List ClientClass) → IsInScope A B cs → All (λ c. ¬ (Meets (with_clients A (facts_of cs)) cs c)) v.collisions → Keeps A B cs
-
-  kept : (v : Verdict) → Kept v O N
-  kept v = subst (λ (A : World). Kept v A N) (sym old_is) (subst (λ (B : World). Kept v (side O.platform O.release) B) (sym new_is)
-      (λ verdict e cs scope met. keeps O.platform O.release N.release v cs are.old_side.root are.old_side.platform are.old_side.release are.new_side.release verdict e scope met))
-
   pub nothing_breaks : (v : Verdict) → IsVerdict O N v → v.findings ≡ [] → (cs : List ClientClass) → IsInScope O N cs → All (λ c. ¬ (Meets (with_clients O (facts_of cs)) cs c)) v.collisions → Keeps O N cs
-  nothing_breaks v = kept v
-
-  abbrev Breaks : World → World → Type 0
-  Breaks A B = (s : Subject) (f : Finding) → s.rule ≡ 1 → finding_at A B s ≡ Some f → BreaksClass A B f.«class» f.error
-
-  breaks : Breaks O N
-  breaks = subst (λ (A : World). Breaks A N) (sym old_is) (subst (λ (B : World). Breaks (side O.platform O.release) B) (sym new_is) (class_gone_breaks O.platform O.release N.release are.old_side.platform are.old_side.release))
+  nothing_breaks v is none cs scope met = keeps O N v cs (pair_of (record { old = O; new = N }) are) is none scope met
 
   pub gone_break : (fs : List Finding) → HasExactly finding_order (Stands O N) fs → All (λ f. f.rule ≡ 1 → BreaksClass O N f.«class» f.error) fs
-  gone_break fs h = All-weaker (Stands O N) (λ f. f.rule ≡ 1 → BreaksClass O N f.«class» f.error) (λ f p r. breaks (subject_of f) f r p) fs h.sound
+  gone_break fs h =
+      All-weaker (Stands O N) (λ f. f.rule ≡ 1 → BreaksClass O N f.«class» f.error)
+      (λ f p r. class_gone_breaks O N are.old_side.no_clients are.new_side.no_clients are.old_side.platform are.old_side.release (subject_of f) f r p) fs h.sound

@@ -11,14 +11,19 @@ use Rattle.jc_facts.specs.file.Valid.{IsValidClass}
 use Rattle.jc_facts.specs.rule.Findings.{finding_at, class_closed, report_where}
 use Rattle.jc_facts.specs.Flags.{abstract_flag, final_flag, interface_flag, module_flag}
 use Rattle.jc_facts.specs.Names.{Bytes, is_name_among}
-use Rattle.jc_facts.specs.rule.Bases.{allowed, has_init, is_class_closed, is_kept, is_open, leaves_out, newly_sealed, public_or_protected}
+use Rattle.jc_facts.specs.rule.Bases.{allowed, has_init, is_class_closed, is_kept, is_open, leaves_out, permits_some, newly_sealed, public_or_protected}
 use Rattle.jc_facts.specs.world.World.{World, class_named, find_class}
+use Rattle.jc_facts.specs.world.Modules.{OfClients, module_of, same_module}
+use Rattle.jc_facts.specs.world.Loading.{excludes}
+use Rattle.jc_facts.proofs.World.{find-name}
 use Rattle.jc_acts.proofs.Untouched.{platform_record}
 use Rattle.jc_lemmas.proofs.Listed.{EachOf-map, any_none}
 use Rattle.jc_worlds.proofs.Allowed.{among_each}
+use Rattle.jc_worlds.proofs.VisibleFrom.{platform_module}
 use Rattle.jc_worlds.proofs.Loaded.{loads-found}
 use Rattle.jc_table.proofs.Sides.{side_valid}
 use Rattle.jc_sides.specs.steps.ClientsOf.{closes}
+use Rattle.jc_sides.proofs.Pair.{pair_of}
 use Rattle.jc_sides.specs.BrokenOf.{BrokenOf, broken_if, found}
 use Rattle.jc_sides.specs.Rules.{on_class, class_finding}
 use Rattle.jc_sides.specs.SidesOf.{SidesOf, AreSides}
@@ -50,33 +55,50 @@ none_left_out O N (Some ns) = any_none (λ x. allowed O N x && not (is_name_amon
     listed false b h = refl
 
 -- of an interface, which isn't final, or of a class that isn't
-open_row : (i f h o n r : Bool) → n ≡ false → (not i || (not f && r)) ≡ true → (not (i && not i) && ((not i && not f && h && o) || (i && o)) && (f || (i && not i) || n)) ≡ false
-open_row i f h o true r e v = absurd (cc)
-open_row true true h o false r e v = absurd (cc)
+open_row : (i f h o n r : Bool) → (n ≡ true → o ≡ false) → (not i || (not f && r)) ≡ true → (not (i && not i) && ((not i && not f && h && o) || (i && o)) && (f || (i && not i) || n)) ≡ false
+open_row true true h o n r e v = absurd (cc)
+open_row true false h false n r e v = refl
 open_row true false h true false r e v = refl
-open_row true false h false false r e v = refl
-open_row false true h o false r e v = refl
+open_row true false h true true r e v = absurd (let q : true ≡ false = e refl in cc)
+open_row false true h o n r e v = refl
 open_row false false true true false r e v = refl
-open_row false false true false false r e v = refl
-open_row false false false o false r e v = refl
+open_row false false true true true r e v = absurd (let q : true ≡ false = e refl in cc)
+open_row false false true false n r e v = refl
+open_row false false false o n r e v = refl
 
-closes_none : (s : SidesOf) (c : ClassFacts) → IsValidClass c → closes s c c ≡ false
-closes_none s c v =
+-- what is newly sealed, though its names are the same, has left the clients' module; where its module is the same, it was closed before
+shut_before : (a b l p : Bool) → a ≡ b → l ≡ false → (b || l) ≡ true → (not a && p) ≡ false
+shut_before true b l p e k h = refl
+shut_before false true l p e k h = absurd (cc)
+shut_before false false l p e k h = absurd (let q : false ≡ true = sym k ∙ h in cc)
+
+closes_none : (s : SidesOf) (c : ClassFacts) → IsValidClass c → excludes s.old c OfClients ≡ excludes s.new c OfClients → closes s c c ≡ false
+closes_none s c v e =
     let f = c.flags in
     let plain = and_parts (not (module_flag f) && apart (final_flag f) (abstract_flag f)) (implies (interface_flag f) (not (final_flag f) && (abstract_flag f || nat_lt c.major 50))) v.flags in
-    open_row (interface_flag f) (final_flag f) (has_init c public_or_protected) (is_open s.old s.new c) (newly_sealed s.old s.new c c) (abstract_flag f || nat_lt c.major 50) (none_left_out s.old s.new c.permits) plain.1
+    open_row (interface_flag f) (final_flag f) (has_init c public_or_protected) (is_open s.old s.new c) (newly_sealed s.old s.new c c) (abstract_flag f || nat_lt c.major 50)
+    (shut_before (excludes s.old c OfClients) (excludes s.new c OfClients) (leaves_out s.old s.new c.permits c.permits) (permits_some s.old s.new c.permits) e (none_left_out s.old s.new c.permits)) plain.1
 
-unclosed : (s : SidesOf) → AreSides s → (x : Bytes) → find_class s.old x ≡ find_class s.new x → is_class_closed s.old s.new x ≡ false
-unclosed s are x same = go (is_kept s.old s.new x) refl
+-- a class of the platform is in one module on both sides
+unclosed : (s : SidesOf) → AreSides s → (x : Bytes) → is_some (class_named s.old.platform x) ≡ true → find_class s.old x ≡ find_class s.new x → is_class_closed s.old s.new x ≡ false
+unclosed s are x there same = go (is_kept s.old s.new x) refl
   where
+    there_now : is_some (class_named s.new.platform x) ≡ true
+    there_now = ap (λ cs. is_some (class_named cs x)) (sym are.platform) ∙ there
+
+    one_module : module_of s.old x ≡ module_of s.new x
+    one_module = platform_module s.old s.new x (pair_of s are).run.kind there there_now
+
     go : (b : Bool) → is_kept s.old s.new x ≡ b → is_class_closed s.old s.new x ≡ false
     go false k = closed_unkept s x k
     go true k =
         let t = loads-found s.old x (kept_parts s x k).loads in
-        closes_by s x t.0 t.0 k (sym t.1) (sym t.1 ∙ same) ∙ closes_none s t.0 (side_valid s.old are.old_side x t.0 t.1)
+        let n : x ≡ t.0.name = sym (find-name s.old x t.0 t.1) in
+        let e : excludes s.old t.0 OfClients ≡ excludes s.new t.0 OfClients = ap (λ m. not (same_module OfClients m) && is_some t.0.permits) (sym (ap (module_of s.old) n) ∙ one_module ∙ ap (module_of s.new) n) in
+        closes_by s x t.0 t.0 k (sym t.1) (sym t.1 ∙ same) ∙ closes_none s t.0 (side_valid s.old are.old_side x t.0 t.1) e
 
 pub of_platform : (s : SidesOf) → AreSides s → (x : Bytes) → is_some (class_named s.old.platform x) ≡ true → None ≡ class_finding 2 s x
-of_platform s are x h = sym (closed_is s x ∙ ap (λ b. report_where b (on_class 2 x) (act_on s x) IncompatibleClassChangeError) (unclosed s are x (platform_record s are x h)))
+of_platform s are x h = sym (closed_is s x ∙ ap (λ b. report_where b (on_class 2 x) (act_on s x) IncompatibleClassChangeError) (unclosed s are x h (platform_record s are x h)))
 
 -- ---- a class that is kept
 

@@ -48,7 +48,7 @@ impl ClassRule for ClassClosed {
         sides: &Sides<'_>,
         id: ClassId,
     ) -> Result<Option<BrokenAct<'_>>, AllocError> {
-        // A class of the platform is the same on both sides.
+        // A class of the platform is the same on both sides, in one module.
         if sides.old.in_platform(id) {
             return Ok(None);
         }

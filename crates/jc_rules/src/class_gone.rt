@@ -6,7 +6,6 @@ ghost use Rattle.jc_table.specs.Ids.{name_at};
 ghost use Rattle.jc_rules.specs.steps.Classes.{why_unusable};
 
 use jc_facts::act::Act;
-use jc_facts::flags::is_public;
 use jc_facts::link_error::LinkError;
 use jc_facts::rule_numbers::CLASS_GONE;
 use jc_sides::broken::{BrokenAct, broken_where};
@@ -14,6 +13,7 @@ use jc_sides::class_rule::ClassRule;
 use jc_sides::kept::is_usable;
 use jc_sides::sides::Sides;
 use jc_table::ids::ClassId;
+use jc_table::naming::is_nameable;
 use std::alloc::{AllocError, Global};
 
 // Why clients can't use the class of the old side on the new side; none where they can.
@@ -27,7 +27,7 @@ fn unusable(sides: &Sides<'_>, id: ClassId) -> Option<LinkError>
     if let Some(error) = sides.new.fault_at(after) {
         return Some(error);
     }
-    if is_public(sides.new.facts(after).flags) {
+    if is_nameable(sides.new, after) {
         None
     } else {
         Some(LinkError::IllegalAccessError)

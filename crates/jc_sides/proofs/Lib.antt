@@ -13,5 +13,6 @@ mod ByItems
 pub mod Limits
 pub mod ItemRules
 pub mod BaseParts
+pub mod Pair
 pub mod Seen
 mod Permitted

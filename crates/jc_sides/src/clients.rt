@@ -7,7 +7,9 @@ ghost use Rattle.jc_facts.specs.client.Clients.{is_allowed_name};
 ghost use Rattle.jc_facts.specs.Flags.{final_flag, interface_flag};
 ghost use Rattle.jc_facts.specs.Names.{is_name_among, is_init_name};
 ghost use Rattle.jc_facts.specs.world.World.{find_class};
-ghost use Rattle.jc_facts.specs.rule.Bases.{allowed, permits_some, has_init, public_or_protected, leaves_out, is_kept, became_class, is_steady, is_class_closed, is_base_class, is_base_interface};
+ghost use Rattle.jc_facts.specs.world.Modules.{OfClients, same_module, module_of};
+ghost use Rattle.jc_facts.specs.world.Loading.{excludes};
+ghost use Rattle.jc_facts.specs.rule.Bases.{allowed, permits_some, is_open, has_init, public_or_protected, leaves_out, is_kept, became_class, is_steady, is_class_closed, is_base_class, is_base_interface};
 ghost use Rattle.jc_sides.specs.steps.ClientsOf.{becomes_class, could_extend, could_implement, shuts_out, closes, stays_superclass, stays_interface};
 ghost use Rattle.jc_sides.specs.SharedOf.{IsShared, name_of};
 
@@ -71,6 +73,24 @@ fn permits_one(sides: &Sides<'_>, names: &[Name]) -> bool
     ensures { result ≡ list_any (allowed sides.now.old sides.now.new) names.now }
 {
     names.iter().any(|name| is_allowed_on_both(sides, name))
+}
+
+// Whether the class of this name, where there is one, is in the module of the clients; a client is.
+fn is_of_clients(table: &Table, name: &Name) -> bool
+    ensures { result ≡ same_module OfClients (module_of table.now name.now) }
+{
+    match table.get(name.as_bytes()) {
+        None => true,
+        Some(id) => table.is_of_clients(id),
+    }
+}
+
+/// Whether the class excludes all clients: it has permitted names, and is in another module than
+/// they are (JVMS 5.3.5).
+pub fn excludes_clients(table: &Table, class: &ClassFacts) -> bool
+    ensures { result ≡ excludes table.now class.now OfClients }
+{
+    class.permits.is_some() && !is_of_clients(table, &class.name)
 }
 
 // Whether the names, where there are any, let in some client.
@@ -146,6 +166,13 @@ fn seals_off(
     }
 }
 
+// Whether some client may name the class above itself, as far as its permitted names go.
+fn is_open(sides: &Sides<'_>, class: &ClassFacts) -> bool
+    ensures { result ≡ is_open sides.now.old sides.now.new class.now }
+{
+    !excludes_clients(sides.old, class) && permits(sides, &class.permits)
+}
+
 /// Whether the method is an instance initializer that subclasses can call: it is public or
 /// protected (JVMS 2.9.1).
 pub fn is_open_init(method: &Member) -> bool
@@ -169,14 +196,14 @@ fn could_extend(sides: &Sides<'_>, class: &ClassFacts) -> bool
     !is_interface(class.flags)
         && !is_final(class.flags)
         && has_open_init(class)
-        && permits(sides, &class.permits)
+        && is_open(sides, class)
 }
 
 // Whether clients could implement a usable interface of this record.
 fn could_implement(sides: &Sides<'_>, class: &ClassFacts) -> bool
     ensures { result ≡ could_implement sides.now class.now }
 {
-    is_interface(class.flags) && permits(sides, &class.permits)
+    is_interface(class.flags) && is_open(sides, class)
 }
 
 // Whether clients could name a usable class of this record above themselves.
@@ -203,6 +230,9 @@ fn shuts_out(
     ensures { IfOk result (λ shuts. shuts ≡ shuts_out sides.now before.now after.now) }
 {
     if is_barred(before, after) {
+        return Ok(true);
+    }
+    if excludes_clients(sides.new, after) {
         return Ok(true);
     }
     seals_off(alloc, sides, &before.permits, &after.permits)

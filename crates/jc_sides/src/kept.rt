@@ -7,17 +7,17 @@ ghost use Rattle.jc_sides.specs.SharedOf.{IsWhere};
 
 use crate::shared::Shared;
 use crate::sides::Sides;
-use jc_facts::flags::is_public;
 use jc_table::ids::ClassId;
+use jc_table::naming::is_nameable;
 use jc_table::table::Table;
 
-/// Whether clients can use the class: it is public and loads (JVMS 5.3.5, 5.4.4).
+/// Whether clients can use the class: it is visible and public, and it loads (JVMS 5.3.5, 5.4.4).
 #[tactic(auto, unfolding(jc_facts::specs::rule::Bases::is_class_usable))]
 pub fn is_usable(table: &Table, id: ClassId) -> bool
     requires { id < size table.now }
     ensures { result ≡ is_class_usable table.now (name_at table.now id) }
 {
-    is_public(table.facts(id).flags) && table.fault_at(id).is_none()
+    is_nameable(table, id) && table.fault_at(id).is_none()
 }
 
 /// The class of this number on the old side, if it is kept: clients could use it and still can.

@@ -3,6 +3,7 @@
 
 pub mod by_number;
 pub mod keys;
+pub mod naming;
 pub mod table;
 
 pub use jc_index::{ids, members, name_set, packages, plain, platform, root, search, supertypes};

@@ -7,6 +7,7 @@ ghost use Rattle.jc_facts.specs.declared.key.Key.{Key};
 ghost use Rattle.jc_facts.specs.Names.{same};
 ghost use Rattle.jc_facts.specs.client.Clients.{differ_by_name, is_named_above};
 ghost use Rattle.jc_facts.specs.world.World.{side, size, classes, find_class, class_named};
+ghost use Rattle.jc_facts.specs.world.Modules.{OfClients, same_module, module_of, is_visible, is_visible_from};
 ghost use Rattle.jc_facts.specs.world.Mentioned.{all_mentions};
 ghost use Rattle.jc_facts.specs.world.Hierarchy.{in_chain, is_superinterface};
 ghost use Rattle.jc_facts.specs.world.Loading.{load_fault};
@@ -269,6 +270,38 @@ impl Table {
         ensures { result ≡ in_chain self.now (name_at self.now id) (name_at self.now of) }
     {
         self.hierarchy.has_super(id, of)
+    }
+
+    /// Whether the class is visible: classes of every module may name it, where it is public (JVMS
+    /// 5.4.4). The classes of a table are in one module, so each is.
+    pub fn is_visible(&self, id: ClassId) -> bool
+        requires { id < size self.now }
+        ensures { result ≡ is_visible self.now (name_at self.now id) }
+    {
+        // A count says that there is one module.
+        let _classes = self.count();
+        true
+    }
+
+    /// Whether the class is visible from the other one: that one's module may name it, where it is
+    /// public (JVMS 5.4.4). The classes of a table are in one module, so each is.
+    pub fn is_visible_from(&self, id: ClassId, from: ClassId) -> bool
+        requires class { id < size self.now }
+        requires from { from < size self.now }
+        ensures { result ≡ is_visible_from self.now (name_at self.now from) (name_at self.now id) }
+    {
+        let _classes = self.count();
+        true
+    }
+
+    /// Whether the class is in the module of the clients (JVMS 5.3.6). The classes of a table are in
+    /// one module, which is theirs.
+    pub fn is_of_clients(&self, id: ClassId) -> bool
+        requires { id < size self.now }
+        ensures { result ≡ same_module OfClients (module_of self.now (name_at self.now id)) }
+    {
+        let _classes = self.count();
+        true
     }
 
     /// Whether the class is one of the platform's.

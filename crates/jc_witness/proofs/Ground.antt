@@ -6,7 +6,7 @@ use Rattle.jc_facts.specs.declared.class_facts.ClassFacts.{ClassFacts}
 use Rattle.jc_facts.specs.Names.{object_name}
 use Rattle.jc_facts.specs.Flags.{public_flag, final_flag, interface_flag}
 use Rattle.jc_facts.specs.Options.{some_where}
-use Rattle.jc_facts.specs.world.World.{World, side, class_named}
+use Rattle.jc_facts.specs.world.World.{World, class_named}
 use Rattle.jc_facts.specs.world.Mentioned.{mentioned}
 use Rattle.jc_lemmas.proofs.Bools.{neither_first, neither_last}
 use Rattle.jc_lemmas.proofs.Options.{none_from, cond-none}
@@ -14,17 +14,13 @@ use Rattle.jc_facts.proofs.Options.{or_else-none}
 use Rattle.jc_index.specs.declared.root.RootPart.TheVariants as parts
 use Rattle.jc_table.specs.Root.{flags_are_wrong, declares_public_init, faulty_part, root_by, fault_of_root}
 use Rattle.jc_table.specs.Sides.{IsSide}
-use Rattle.jc_complete.specs.Completeness.{HasOpenRoot, CanPlan}
+use Rattle.jc_complete.specs.Completeness.{IsOpenRoot, CanPlan}
 use Rattle.jc_bodies.specs.Files.{CanWrite}
 use Rattle.jc_sides.specs.SidesOf.{SidesOf}
+use Rattle.jc_sides.proofs.Pair.{pair_of}
 use Rattle.jc_witness.specs.Ground.{IsGround, HasShortSide}
 
 -- ---- the root
-
-record IsOpenRoot (c : ClassFacts) : Type 0 where
-  not_final : final_flag c.flags ≡ false
-  permits : c.permits ≡ None
-  init : declares_public_init c ≡ true
 
 root_parts : (c : ClassFacts) → faulty_part c ≡ None → IsOpenRoot c
 unfolding faulty_part
@@ -46,35 +42,15 @@ unfolding fault_of_root
 is_open platform c there e = root_parts c (let f : root_by (Some c) ≡ None = sym (ap root_by there) ∙ e in f)
 
 -- clients may extend the root of a side
-pub open_root : (W : World) → IsSide W → HasOpenRoot W.platform
-open_root W s =
-    let r = is_open W.platform s.root.root s.root.is_there s.root_passes in
-    record { has = s.root; not_final = r.not_final; permits = r.permits; init = r.init }
+root_is_open : (W : World) (s : IsSide W) → IsOpenRoot s.root.root
+root_is_open W s = is_open W.platform s.root.root s.root.is_there s.root_passes
 
 -- ---- the sides
 
-pub old_is : (s : SidesOf) → IsGround s → s.old ≡ side s.old.platform s.old.release
-old_is s g = ap (λ cs. record { platform = s.old.platform; release = s.old.release; clients = cs }) g.sides.old_side.no_clients
-
-pub new_is : (s : SidesOf) → IsGround s → s.new ≡ side s.old.platform s.new.release
-new_is s g = ap (λ cs. record { platform = s.new.platform; release = s.new.release; clients = cs }) g.sides.new_side.no_clients ∙ ap (λ p. side p s.new.release) (sym g.sides.platform)
-
-few : (s : SidesOf) → IsGround s → length (mentioned (side s.old.platform s.old.release) (side s.old.platform s.new.release)) < 10 ^ 64
-few s g =
-    let is : length (mentioned s.old s.new) ≡ length (mentioned (side s.old.platform s.old.release) (side s.old.platform s.new.release)) =
-    ap (λ W. length (mentioned W s.new)) (old_is s g) ∙ ap (λ W. length (mentioned (side s.old.platform s.old.release) W)) (new_is s g) in
-    omega (arith, is, g.few)
-
 -- clients can be planned
-pub can_plan : (s : SidesOf) → IsGround s → CanPlan s.old.platform s.old.release s.new.release
-can_plan s g = record {
-  root = open_root s.old g.sides.old_side;
-  platform_valid = g.sides.old_side.platform;
-  old_valid = g.sides.old_side.release;
-  new_valid = g.sides.new_side.release;
-  few = few s g;
-}
+can_plan : (s : SidesOf) → IsGround s → CanPlan s.old s.new
+can_plan s g = record { pair = pair_of s g.sides; open_root = root_is_open s.old g.sides.old_side; few = omega (arith, g.few) }
 
 -- and their class files written, where names are short
-pub can_write : (s : SidesOf) → IsGround s → HasShortSide s.old → HasShortSide s.new → CanWrite s.old.platform s.old.release s.new.release
+pub can_write : (s : SidesOf) → IsGround s → HasShortSide s.old → HasShortSide s.new → CanWrite s.old s.new
 can_write s g old new = record { plan = can_plan s g; platform_short = old.platform; old_short = old.release; new_short = new.release }

@@ -19,7 +19,7 @@ use Rattle.jc_facts.specs.plan.PlannedBodies.{planned_files}
 use Rattle.jc_facts.specs.rule.Collisions.{CollisionStands}
 use Rattle.jc_facts.specs.rule.Findings.{Stands}
 use Rattle.jc_facts.specs.rule.Verdict.{IsVerdict}
-use Rattle.jc_facts.specs.world.World.{World, side, with_clients}
+use Rattle.jc_facts.specs.world.World.{World, with_clients}
 use Rattle.jc_facts.proofs.Same.{same_is}
 use Rattle.jc_lemmas.proofs.Listed.{EachOf, each_from}
 use Rattle.jc_complete.specs.Completeness.{FailsBy, PlannedMeet}
@@ -31,7 +31,7 @@ use Rattle.jc_witness.specs.declared.witness.WitnessFile.{WitnessFile}
 use Rattle.jc_witness.specs.Ground.{HasShortSide, IsGround}
 use Rattle.jc_witness.specs.Witnesses.{HasCause, StandsInVerdict, error_of, written_file, witness_files, AreReadAs, FailsAt, FailAtSpots, IsWitness, IsWitnessOf, MeetsOnly}
 use Rattle.jc_witness.specs.steps.RowOf.{IsReady, IsRowOf, CanBeWritten, class_of_file, files_of_row, in_order}
-use Rattle.jc_witness.proofs.Ground.{can_write, old_is, new_is}
+use Rattle.jc_witness.proofs.Ground.{can_write}
 use Rattle.jc_witness.proofs.Sorted.{one_of_name}
 
 -- ---- of files and clients in their places
@@ -110,38 +110,28 @@ has : (O N : World) (e : Cause) (v : Verdict) → StandsInVerdict O N e → IsVe
 has O N (cause.Finding f) v s is = is.findings.complete f (finding_stands O N f s)
 has O N (cause.Collision c) v s is = is.collisions.complete c (All-contains (CollisionStands O N) s.verdict.collisions c s.is.collisions.sound s.has)
 
-module _ (platform old new : List ClassFacts) (can : CanWrite platform old new) where
-  shown : (e : Cause) → StandsInVerdict (side platform old) (side platform new) e → FilesShow (side platform old) (side platform new) e (error_of e)
+module _ (O N : World) (can : CanWrite O N) where
+  shown : (e : Cause) → StandsInVerdict O N e → FilesShow O N e (error_of e)
   shown (cause.Finding f) s =
-      (All-contains (λ f. FilesShow (side platform old) (side platform new) (cause.Finding f) f.error × All (λ c. PlannedMeet (side platform old) (side platform new) (cause.Finding f) c → ⊥) s.verdict.collisions) s.verdict.findings f
-      (each_has_its_files platform old new s.verdict can s.is).0 s.has).0
+      (All-contains (λ f. FilesShow O N (cause.Finding f) f.error × All (λ c. PlannedMeet O N (cause.Finding f) c → ⊥) s.verdict.collisions) s.verdict.findings f
+      (each_has_its_files O N s.verdict can s.is).0 s.has).0
   shown (cause.Collision c) s =
-      (All-contains (λ c. FilesShow (side platform old) (side platform new) (cause.Collision c) c.error × PlannedMeet (side platform old) (side platform new) (cause.Collision c) c) s.verdict.collisions c
-      (each_has_its_files platform old new s.verdict can s.is).1 s.has).0
+      (All-contains (λ c. FilesShow O N (cause.Collision c) c.error × PlannedMeet O N (cause.Collision c) c) s.verdict.collisions c
+      (each_has_its_files O N s.verdict can s.is).1 s.has).0
 
-  met : (e : Cause) (v : Verdict) → IsVerdict (side platform old) (side platform new) v → HasCause v e → MeetsOnly (side platform old) e v (planned (side platform old) (side platform new) e)
+  met : (e : Cause) (v : Verdict) → IsVerdict O N v → HasCause v e → MeetsOnly O e v (planned O N e)
   met (cause.Finding f) v is k =
-      (All-contains (λ f. FilesShow (side platform old) (side platform new) (cause.Finding f) f.error × All (λ c. PlannedMeet (side platform old) (side platform new) (cause.Finding f) c → ⊥) v.collisions) v.findings f
-      (each_has_its_files platform old new v can is).0 k).1
+      (All-contains (λ f. FilesShow O N (cause.Finding f) f.error × All (λ c. PlannedMeet O N (cause.Finding f) c → ⊥) v.collisions) v.findings f
+      (each_has_its_files O N v can is).0 k).1
   met (cause.Collision c) v is k =
-      (All-contains (λ c. FilesShow (side platform old) (side platform new) (cause.Collision c) c.error × PlannedMeet (side platform old) (side platform new) (cause.Collision c) c) v.collisions c
-      (each_has_its_files platform old new v can is).1 k).1
-
-  shown_on : (O N : World) (e : Cause) → O ≡ side platform old → N ≡ side platform new → StandsInVerdict O N e → FilesShow O N e (error_of e)
-  shown_on O N e o n =
-      subst (λ (V : World). StandsInVerdict V N e → FilesShow V N e (error_of e)) (sym o)
-      (subst (λ (W : World). StandsInVerdict (side platform old) W e → FilesShow (side platform old) W e (error_of e)) (sym n) (shown e))
-
-  met_on : (O N : World) (e : Cause) (v : Verdict) → O ≡ side platform old → N ≡ side platform new → IsVerdict O N v → HasCause v e → MeetsOnly O e v (planned O N e)
-  met_on O N e v o n =
-      subst (λ (V : World). IsVerdict V N v → HasCause v e → MeetsOnly V e v (planned V N e)) (sym o)
-      (subst (λ (W : World). IsVerdict (side platform old) W v → HasCause v e → MeetsOnly (side platform old) e v (planned (side platform old) W e)) (sym n) (met e v))
+      (All-contains (λ c. FilesShow O N (cause.Collision c) c.error × PlannedMeet O N (cause.Collision c) c) v.collisions c
+      (each_has_its_files O N v can is).1 k).1
 
 -- ---- over two sides on which clients can be planned
 
 module _ (s : SidesOf) (g : IsGround s) (old : HasShortSide s.old) (new : HasShortSide s.new) (e : Cause) (k : StandsInVerdict s.old s.new e) (r : Row) (is : IsRowOf s e r) where
   show : FilesShow s.old s.new e (error_of e)
-  show = shown_on s.old.platform s.old.release s.new.release (can_write s g old new) s.old s.new e (old_is s g) (new_is s g) k
+  show = shown s.old s.new (can_write s g old new) e k
 
   pub can_be_written : CanBeWritten r
   can_be_written = let p = ready s.old s.new e (error_of e) show in subst CanBeWritten (sym is) (record { differ = p.0; ready = p.1 })
@@ -150,7 +140,7 @@ module _ (s : SidesOf) (g : IsGround s) (old : HasShortSide s.old) (new : HasSho
   witnessed fs q = record {
     files = files;
     shows = subst (λ (xs : List WitnessFile). IsWitness s.old s.new (error_of e) xs (planned s.old s.new e)) (sym files) (is_witness s.old s.new e (error_of e) show);
-    meets = λ v j. met_on s.old.platform s.old.release s.new.release (can_write s g old new) s.old s.new e v (old_is s g) (new_is s g) j (has s.old s.new e v k j);
+    meets = λ v j. met s.old s.new (can_write s g old new) e v j (has s.old s.new e v k j);
   }
     where
       files : fs ≡ witness_files s.old s.new e

@@ -10,8 +10,8 @@ facts-requires c = subst (λ (o : Option ℕ). IfSome o (λ id. id < size c.args
 
 pub returns-in-None : goal.returns-in-None
 unfolding fault_of_interface
-returns-in-None c = λ x e. sym (none-named c.args.index.now (error_of_interface c.args.class.now) x (sym e ∙ c.in-None.is))
+returns-in-None c = λ x e. sym (none-named c.args.index.now (error_of_interface c.args.index.now c.args.class.now) x (sym e ∙ c.in-None.is))
 
 pub returns-in-Some : goal.returns-in-Some
 unfolding fault_of_interface
-returns-in-Some c = λ x e. c.interface_error.ensures ∙ sym (one-named c.args.index.now (error_of_interface c.args.class.now) x c.in-Some.id c.facts.result.now (sym e ∙ c.in-Some.is) c.facts.ensures)
+returns-in-Some c = λ x e. c.interface_error.ensures ∙ sym (one-named c.args.index.now (error_of_interface c.args.index.now c.args.class.now) x c.in-Some.id c.facts.result.now (sym e ∙ c.in-Some.is) c.facts.ensures)

@@ -11,11 +11,11 @@ unfolding fault_of_superclass
 returns-in-None c =
     let W = c.args.index.now in
     let e : and_then (id_of W) c.args.class.now.superclass ≡ None = sym (c.in-None.ensures.value ∙ superclass_is W (name_at W c.args.id) c.args.class.now c.requires.at) in
-    sym (none-super W (error_of_superclass c.args.class.now) c.args.class.now.superclass e)
+    sym (none-super W (error_of_superclass W c.args.class.now) c.args.class.now.superclass e)
 
 pub returns-in-Some : goal.returns-in-Some
 unfolding fault_of_superclass
 returns-in-Some c =
     let W = c.args.index.now in
     let e : and_then (id_of W) c.args.class.now.superclass ≡ Some c.in-Some.above = sym (c.in-Some.ensures.value ∙ superclass_is W (name_at W c.args.id) c.args.class.now c.requires.at) in
-    c.superclass_error.ensures ∙ sym (one-super W (error_of_superclass c.args.class.now) c.args.class.now.superclass c.in-Some.above c.facts.result.now e c.facts.ensures)
+    c.superclass_error.ensures ∙ sym (one-super W (error_of_superclass W c.args.class.now) c.args.class.now.superclass c.in-Some.above c.facts.result.now e c.facts.ensures)

@@ -26,7 +26,7 @@ returns-then-not-may_close c =
     subst (λ (fs : List Finding). HasExactly finding_order (OfChain c.args.sides.now (name_at c.args.sides.now.old c.args.id)) fs) (sym c.new-then-not-may_close.ensures.items)
     (subst (λ (y : Bytes). HasExactly finding_order (OfChain c.args.sides.now y) []) c.in-Some.ensures.1
     (same_chain c.args.sides.now x (looks_alike c.args.sides.now c.requires.seats.sides x (sym c.may_close.ensures ∙ c.if-not-may_close.true)
-    (kept_parts c.args.sides.now x (subst (λ (y : Bytes). is_kept c.args.sides.now.old c.args.sides.now.new y ≡ true) (sym c.in-Some.ensures.1) c.in-Some.ensures.0)).loads).chain))
+    (kept_parts c.args.sides.now x (subst (λ (y : Bytes). is_kept c.args.sides.now.old c.args.sides.now.new y ≡ true) (sym c.in-Some.ensures.1) c.in-Some.ensures.0)).loads_now).chain))
 
 pub returns-then-not-has_lost : goal.returns-then-not-has_lost
 returns-then-not-has_lost c =

@@ -11,4 +11,4 @@ returns-then-may_close c = of_methods c.args.sides.now (name_of c.args.class.now
 pub returns-else-may_close : goal.returns-else-may_close
 returns-else-may_close c =
     of_none c.args.sides.now (name_of c.args.class.now) c.requires.covered
-    (looks_alike c.args.sides.now c.requires.sides (name_of c.args.class.now) (sym c.may_close.ensures ∙ c.if-may_close.false) (base_interface_parts c.args.sides.now (name_of c.args.class.now) c.requires.covered).both.loads)
+    (looks_alike c.args.sides.now c.requires.sides (name_of c.args.class.now) (sym c.may_close.ensures ∙ c.if-may_close.false) (base_interface_parts c.args.sides.now (name_of c.args.class.now) c.requires.covered).both.loads_now)
