@@ -31,7 +31,7 @@ use Rattle.jc_trees.specs.FirstTree.{IsFirstUnread}
 use Rattle.jc_trees.specs.declared.trees_error.TreesError.{TreesError}
 use Rattle.jc_trees.specs.declared.trees_error.TreesError.TheVariants as trees_errors
 use Rattle.jc_commands.specs.Causes.{HasCause, StopsCommand}
-use Rattle.jc_commands.specs.Check.{CheckRecords, mismatch_of, puts_below}
+use Rattle.jc_commands.specs.Check.{CheckRecords, mismatch_of, report_of, puts_below}
 use Rattle.jc_trees.specs.ClassFiles.{Told}
 use Rattle.jc_commands.specs.Command.{CommandOf, CheckOf, LinkOf, CheckCommand, LinkCommand, trees_of, asked_of}
 use Rattle.jc_commands.specs.Link.{LinkRecords, refusal_of, AreOutcomesOf}
@@ -124,7 +124,7 @@ module _ (command : CommandOf) (c : Change TreesState) where
   cause_refused (stops.BadRoot p) says h = h
   cause_refused (stops.Overlap t x) says h = h
   cause_refused (stops.ClientName x p) says h = h
-  cause_refused stops.TooManyFindings says h = h
+  cause_refused (stops.TooMany part) says h = h
   cause_refused (stops.Usage usage) says h = absurd says
   cause_refused (stops.Unread t f) says h = absurd says
   cause_refused (stops.ReadFault t) says h = absurd says
@@ -144,7 +144,7 @@ module _ (command : CommandOf) (c : Change TreesState) where
       by_stop (stops.BadRoot p) h k = k
       by_stop (stops.Overlap t x) h k = k
       by_stop (stops.ClientName x p) h k = k
-      by_stop stops.TooManyFindings h k = k
+      by_stop (stops.TooMany part) h k = k
       by_stop (stops.Usage usage) h k = absurd h
 
 -- the trees that were read, one by one
@@ -165,20 +165,20 @@ module _ (check : CheckOf) (c : Change TreesState) (wanted : List TreeOf) (wante
   cause_comparing stop (inr h) = cause_memory (CheckCommand check) c stop h
 
   pub verdict_reported : (made : Comparison) (report : Report) → IsComparison (facts_of platform) (facts_of old) (facts_of new) made → HasToShow check.witness made.old made.new made.verdict report.body
-      → TellsOf (CheckCommand check) made.verdict report → IsReportOf (CheckCommand check) c.before report
+      → TellsOf (CheckCommand check) (report_of made.verdict) report → IsReportOf (CheckCommand check) c.before report
   verdict_reported made report is shown tells = record {
-    of = made.verdict;
+    of = report_of made.verdict;
     tells = tells;
     dir_is = show_dir check.witness made.old made.new made.verdict report.body shown;
     can_show = can_show_any (facts_of platform) (facts_of old) (facts_of new) made is check.witness report.body shown;
-    is_report = λ files told. (checked files told, is.verdict, puts_are);
+    is_report = λ files told. (checked files told, record { verdict = is.verdict }, puts_are);
     upholds = λ files told. record {
       records = checked files told;
-      verdict = is.verdict;
+      parts = record { verdict = is.verdict };
       kept = is.kept;
-      broken = some_broken (facts_of platform) (facts_of old) (facts_of new) made.verdict is.can is.verdict.exact;
+      broken = some_broken (side (facts_of platform) (facts_of old)) (side (facts_of platform) (facts_of new)) made.verdict is.can is.verdict.exact;
       breaks = is.breaks;
-      shown = each_shown (facts_of platform) (facts_of old) (facts_of new) made.verdict is.can is.verdict.exact;
+      shown = each_shown (side (facts_of platform) (facts_of old)) (side (facts_of platform) (facts_of new)) made.verdict is.can is.verdict.exact;
       puts_are = puts_are;
     };
   }

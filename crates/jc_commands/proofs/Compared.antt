@@ -32,9 +32,8 @@ use Rattle.jc_commands.specs.declared.body.Body.TheVariants as bodies
 use Rattle.jc_commands.specs.declared.comparison.Comparison.{Comparison}
 use Rattle.jc_commands.specs.declared.shown.Shown.{Shown}
 use Rattle.jc_commands.specs.steps.Check.{IsComparison}
-use Rattle.jc_commands.specs.ReportValue.{HasToShow, CanShowAny, dir_in, puts_in}
+use Rattle.jc_commands.specs.ReportValue.{HasToShow, IsShownIn, CanShowAll, CanShowAny, dir_shown, dir_in, puts_shown, puts_in}
 use Rattle.jc_commands.specs.Shown.{CanShow}
-use Rattle.jc_commands.proofs.Bodies.{bare_dir, bare_puts, bare_can}
 
 -- ---- the two sides
 
@@ -43,7 +42,7 @@ short_side platform release p r = record { platform = p; release = r }
 
 -- clients of two sides of one platform can be planned, and their class files written
 pub sides_can_write : (O N : World) (m n : ℕ) → IsSide O → IsSide N → O.platform ≡ N.platform → m ≡ length (all_mentions (classes O)) → m < 2 ^ 63 → n ≡ length (all_mentions (classes N)) → n < 2 ^ 63
-    → HasShortSide O → HasShortSide N → CanWrite O.platform O.release N.release
+    → HasShortSide O → HasShortSide N → CanWrite O N
 sides_can_write O N m n old new same old_count old_small new_count new_small old_short new_short =
     can_write (record { old = O; new = N })
     (record {
@@ -62,16 +61,10 @@ some_holds : {A : Type 0} (xs : List A) → xs ≢ [] → IsTrue (holds_some xs)
 some_holds [] h = absurd (h refl)
 some_holds (x ∷ xs) h = refl
 
-module _ (platform old new : List ClassFacts) (v : Verdict) (can : CanWrite platform old new) (is : IsVerdict (side platform old) (side platform new) v) where
-  abbrev O : World
-  O = side platform old
-
-  abbrev N : World
-  N = side platform new
-
+module _ (O N : World) (v : Verdict) (can : CanWrite O N) (is : IsVerdict O N v) where
   -- a client world in scope that meets none of the collisions isn't kept
   pub some_broken : v.findings ≢ [] → (cs : List ClientClass) × IsBroken O N v cs
-  some_broken some = (verdict_is_exact platform old new v can.plan is).0 (some_holds v.findings some)
+  some_broken some = (verdict_is_exact O N v can.plan is).0 (some_holds v.findings some)
 
   finding_shown : (f : Finding) → FilesShow O N (cause.Finding f) f.error × All (λ c. ¬ (PlannedMeet O N (cause.Finding f) c)) v.collisions → IsShown O N (cause.Finding f)
   finding_shown f h = record {
@@ -86,7 +79,7 @@ module _ (platform old new : List ClassFacts) (v : Verdict) (can : CanWrite plat
   -- the witness files of each finding and each collision show it
   pub each_shown : All (IsShown O N) (causes_of v)
   each_shown =
-      let law = each_has_its_files platform old new v can is in
+      let law = each_has_its_files O N v can is in
       All-from_recursion (IsShown O N) (causes_of v) (EachOf-append (IsShown O N) (map cause.Finding v.findings) (map cause.Collision v.collisions)
       (each_mapped (IsShown O N) cause.Finding v.findings (EachOf-map finding_shown v.findings
       (recursion_from_All (λ f. FilesShow O N (cause.Finding f) f.error × All (λ c. ¬ (PlannedMeet O N (cause.Finding f) c)) v.collisions) v.findings law.0)))
@@ -95,39 +88,50 @@ module _ (platform old new : List ClassFacts) (v : Verdict) (can : CanWrite plat
 
 -- ---- what is to be shown
 
+shown_dir : (dir : Option Bytes) (O N : World) (shown : Option Shown) → IsShownIn dir O N shown → dir_shown shown ≡ dir
+shown_dir None O N None h = refl
+shown_dir (Some d) O N (Some of) h = ap Some h.0
+shown_dir None O N (Some of) h = absurd h
+shown_dir (Some d) O N None h = absurd h
+
 pub show_dir : (dir : Option Bytes) (O N : World) (v : Verdict) (body : Body) → HasToShow dir O N v body → dir_in body ≡ dir
-show_dir None O N v body h = bare_dir body h
-show_dir (Some d) O N v (bodies.Bytes bytes) h = absurd h
-show_dir (Some d) O N v (bodies.Verdict json w) h = absurd h
-show_dir (Some d) O N v (bodies.Shown json of) h = ap Some h.0
+show_dir dir O N v (bodies.Bytes bytes) h = absurd h
+show_dir dir O N v (bodies.Check check) h = shown_dir dir O N check.shown h.1
+
+shown_puts : (dir : Option Bytes) (O N : World) (v : Verdict) (shown : Option Shown) → IsShownIn dir O N shown → puts_shown v shown ≡ puts_below dir O N v
+shown_puts None O N v None h = refl
+shown_puts (Some d) O N v (Some of) h =
+    ap (λ (x : Bytes). witness_puts x of.old of.new v) h.0 ∙ ap (λ (W : World). witness_puts d W of.new v) h.1 ∙ ap (λ (W : World). witness_puts d O W v) h.2
+shown_puts None O N v (Some of) h = absurd h
+shown_puts (Some d) O N v None h = absurd h
 
 pub show_puts : (dir : Option Bytes) (O N : World) (v : Verdict) (body : Body) → HasToShow dir O N v body → puts_in body ≡ puts_below dir O N v
-show_puts None O N v body h = bare_puts body h
-show_puts (Some d) O N v (bodies.Bytes bytes) h = absurd h
-show_puts (Some d) O N v (bodies.Verdict json w) h = absurd h
-show_puts (Some d) O N v (bodies.Shown json of) h =
-    ap (λ (x : Bytes). witness_puts x of.old of.new of.verdict) h.0 ∙ ap (λ (W : World). witness_puts d W of.new of.verdict) h.1 ∙ ap (λ (W : World). witness_puts d O W of.verdict) h.2
-    ∙ ap (λ (w : Verdict). witness_puts d O N w) h.3
+show_puts dir O N v (bodies.Bytes bytes) h = absurd h
+show_puts dir O N v (bodies.Check check) h = shown_puts dir O N check.verdict check.shown h.1 ∙ ap (λ (w : Verdict). puts_below dir O N w) h.0
 
 module _ (platform old new : List ClassFacts) (c : Comparison) (is : IsComparison platform old new c) where
-  can_show : (of : Shown) → of.old ≡ c.old → of.new ≡ c.new → of.verdict ≡ c.verdict → CanShow of
-  can_show of o n v = record {
+  can_show : (of : Shown) (v : Verdict) → of.old ≡ c.old → of.new ≡ c.new → v ≡ c.verdict → CanShow of v
+  can_show of v o n e = record {
     platform = ap (λ (W : World). W.platform) (o ∙ is.old_is) ∙ sym (ap (λ (W : World). W.platform) (n ∙ is.new_is));
     verdict =
-        subst (λ (W : World). IsVerdict W of.new of.verdict) (sym (o ∙ is.old_is))
-        (subst (λ (W : World). IsVerdict (side platform old) W of.verdict) (sym (n ∙ is.new_is))
-        (subst (λ (w : Verdict). IsVerdict (side platform old) (side platform new) w) (sym v) is.verdict.exact));
-    few = rw v is.verdict.few;
+        subst (λ (W : World). IsVerdict W of.new v) (sym (o ∙ is.old_is))
+        (subst (λ (W : World). IsVerdict (side platform old) W v) (sym (n ∙ is.new_is))
+        (subst (λ (w : Verdict). IsVerdict (side platform old) (side platform new) w) (sym e) is.verdict.exact));
+    few = rw e is.verdict.few;
     old_names = subst HasShortSide (sym (o ∙ is.old_is)) (short_side platform old is.can.platform_short is.can.old_short);
     new_names = subst HasShortSide (sym (n ∙ is.new_is)) (short_side platform new is.can.platform_short is.can.new_short);
     shown =
-        subst (λ (W : World). All (IsShown W of.new) (causes_of of.verdict)) (sym (o ∙ is.old_is))
-        (subst (λ (W : World). All (IsShown (side platform old) W) (causes_of of.verdict)) (sym (n ∙ is.new_is))
-        (subst (λ (w : Verdict). All (IsShown (side platform old) (side platform new)) (causes_of w)) (sym v) (each_shown platform old new c.verdict is.can is.verdict.exact)));
+        subst (λ (W : World). All (IsShown W of.new) (causes_of v)) (sym (o ∙ is.old_is))
+        (subst (λ (W : World). All (IsShown (side platform old) W) (causes_of v)) (sym (n ∙ is.new_is))
+        (subst (λ (w : Verdict). All (IsShown (side platform old) (side platform new)) (causes_of w)) (sym e) (each_shown (side platform old) (side platform new) c.verdict is.can is.verdict.exact)));
   }
 
+  can_show_all : (dir : Option Bytes) (v : Verdict) (shown : Option Shown) → v ≡ c.verdict → IsShownIn dir c.old c.new shown → CanShowAll v shown
+  can_show_all None v None e h = tt
+  can_show_all (Some d) v (Some of) e h = can_show of v h.1 h.2 e
+  can_show_all None v (Some of) e h = absurd h
+  can_show_all (Some d) v None e h = absurd h
+
   pub can_show_any : (dir : Option Bytes) (body : Body) → HasToShow dir c.old c.new c.verdict body → CanShowAny body
-  can_show_any None body h = bare_can body h
-  can_show_any (Some d) (bodies.Bytes bytes) h = absurd h
-  can_show_any (Some d) (bodies.Verdict json w) h = absurd h
-  can_show_any (Some d) (bodies.Shown json of) h = can_show of h.1 h.2 h.3
+  can_show_any dir (bodies.Bytes bytes) h = absurd h
+  can_show_any dir (bodies.Check check) h = can_show_all dir check.verdict check.shown h.0 h.1

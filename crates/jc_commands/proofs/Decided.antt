@@ -22,13 +22,14 @@ use Rattle.jc_gate.specs.Gates.{GateOf}
 use Rattle.jc_words.specs.declared.usage.Usage.{Usage}
 use Rattle.jc_commands.specs.Causes.{IsRefused, IsAccepted}
 use Rattle.jc_trees.specs.FirstTree.{IsFirstUnread}
-use Rattle.jc_commands.specs.Check.{CheckRecords, mismatch_of}
+use Rattle.jc_commands.specs.Check.{CheckRecords, mismatch_of, report_of}
 use Rattle.jc_trees.specs.ClassFiles.{IsClassIn, AreRecords, without_code}
 use Rattle.jc_commands.specs.Command.{CommandOf, CheckOf, CheckCommand, LinkCommand, MakeCommand, trees_of, asked_of}
 use Rattle.jc_commands.specs.Link.{refusal_of}
 use Rattle.jc_commands.specs.Reports.{RecordsOf, ReportOf, Refuses, Accepts, IsReportOn}
 use Rattle.jc_trees.specs.Tree.{TreeOf}
 use Rattle.jc_commands.specs.declared.limits.TheConstants.{MAX_FINDINGS}
+use Rattle.jc_commands.specs.declared.stop.Part.TheVariants as parts
 use Rattle.jc_commands.specs.declared.stop.Stop.{Stop}
 use Rattle.jc_commands.specs.declared.stop.Stop.TheVariants as stops
 use Rattle.jc_trees.specs.ReadTrees.{AreClassesOf}
@@ -80,7 +81,7 @@ decided : (files : List FileOf) (command : CommandOf) (r : RecordsOf files comma
 decided files (CheckCommand check) r = by_records (mismatch_of r.platform r.old r.new) refl
   where
     by_count : mismatch_of r.platform r.old r.new ≡ None → (v : Verdict) → IsVerdict (side r.platform r.old) (side r.platform r.new) v → (b : Bool) → nat_lt MAX_FINDINGS (count_of v) ≡ b → Decided files (CheckCommand check) r
-    by_count fits v is true e = inr (stops.TooManyFindings, inr (refl, record { fits = fits; verdict = v; exact = is; many = ltb-true MAX_FINDINGS (count_of v) e }))
+    by_count fits v is true e = inr (stops.TooMany parts.Findings, inr (refl, record { fits = fits; verdict = v; exact = is; many = ltb-true MAX_FINDINGS (count_of v) e }))
     by_count fits v is false e = inl (record {
       fits = fits;
       few = λ w k. subst (λ (x : Verdict). count_of x ≤ MAX_FINDINGS) (verdict_is_one (side r.platform r.old) (side r.platform r.new) v w is k) (ltb-false MAX_FINDINGS (count_of v) e);
@@ -98,7 +99,7 @@ decided files (LinkCommand link) r = by_records (refusal_of r.platform r.release
 
 -- what is accepted has a report
 pub accepted_report : (files : List FileOf) (command : CommandOf) (r : RecordsOf files command) → Accepts files command r → (report : ReportOf command) × IsReportOn files command r report
-accepted_report files (CheckCommand check) r a = let v = verdict_on files check r a.fits in (v.0, record { fits = a.fits; exact = v.1; few = a.few v.0 v.1 })
+accepted_report files (CheckCommand check) r a = let v = verdict_on files check r a.fits in (report_of v.0, record { verdict = record { fits = a.fits; exact = v.1; few = a.few v.0 v.1 } })
 accepted_report files (LinkCommand link) r a = (outcomes (side r.platform r.release) r.clients, record { fits = a; exact = refl })
 accepted_report files (MakeCommand n) r a = made_verdict n r
 
@@ -116,7 +117,7 @@ module _ (gates : List GateOf) (words : List Bytes) (files : List FileOf) where
     refused_for (stops.BadRoot p) says h = by_command (stops.BadRoot p) h
     refused_for (stops.Overlap t x) says h = by_command (stops.Overlap t x) h
     refused_for (stops.ClientName x p) says h = by_command (stops.ClientName x p) h
-    refused_for stops.TooManyFindings says h = by_command stops.TooManyFindings h
+    refused_for (stops.TooMany part) says h = by_command (stops.TooMany part) h
     refused_for (stops.Usage usage) says h = absurd says
     refused_for (stops.Unread t f) says h = absurd says
     refused_for (stops.ReadFault t) says h = absurd says

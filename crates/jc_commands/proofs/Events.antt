@@ -46,7 +46,7 @@ module _ (files : List FileOf) (command : CommandOf) where
   event (stops.BadRoot p) h = at_records h.0 h.1
   event (stops.Overlap t x) h = at_records h.0 h.1
   event (stops.ClientName x p) h = at_records h.0 h.1
-  event stops.TooManyFindings h = at_records h.0 h.1
+  event (stops.TooMany part) h = at_records h.0 h.1
   event (stops.ReadFault t) h = at_records h.0 h.1
   event stops.Memory h = at_records h.0 h.1
 
@@ -91,7 +91,7 @@ refusal gates words files (stops.Unread t p) h = to_command gates words files (s
 refusal gates words files (stops.BadRoot p) h = to_command gates words files (stops.BadRoot p) h
 refusal gates words files (stops.Overlap t x) h = to_command gates words files (stops.Overlap t x) h
 refusal gates words files (stops.ClientName x p) h = to_command gates words files (stops.ClientName x p) h
-refusal gates words files stops.TooManyFindings h = to_command gates words files stops.TooManyFindings h
+refusal gates words files (stops.TooMany part) h = to_command gates words files (stops.TooMany part) h
 refusal gates words files (stops.ReadFault t) h = to_command gates words files (stops.ReadFault t) h
 refusal gates words files stops.Memory h = to_command gates words files stops.Memory h
 
@@ -126,6 +126,12 @@ told_to (CheckCommand check) content files told P h = h files told
 told_to (LinkCommand link) content files told P h = h files told
 told_to (MakeCommand n) content files told P h = h files
 
+-- what holds of the files has a part that holds of them
+pub told_weaker : (command : CommandOf) (content : Option (List FileOf)) (P Q : List FileOf → Type 0) → ((files : List FileOf) → P files → Q files) → ToldTo command content P → ToldTo command content Q
+told_weaker (CheckCommand check) content P Q f h = λ files told. f files (h files told)
+told_weaker (LinkCommand link) content P Q f h = λ files told. f files (h files told)
+told_weaker (MakeCommand n) content P Q f h = λ files. f files (h files)
+
 -- a cause that the words and the files alone decide, or a failed call, or want of memory
 data Kind (gates : List GateOf) (words : List Bytes) (files : List FileOf) (stop : Stop) : Type 0 where
   decided : IsRefused gates words files stop → Kind gates words files stop
@@ -142,7 +148,7 @@ kind_of gates words c files told (stops.Unread t p) h = decided (ok_told (asked_
 kind_of gates words c files told (stops.BadRoot p) h = decided (ok_told (asked_of gates words) _ _ (λ command k. told_to command c.before.content files told (λ f. IsRefusedTo command f (stops.BadRoot p)) k) h)
 kind_of gates words c files told (stops.Overlap t x) h = decided (ok_told (asked_of gates words) _ _ (λ command k. told_to command c.before.content files told (λ f. IsRefusedTo command f (stops.Overlap t x)) k) h)
 kind_of gates words c files told (stops.ClientName x p) h = decided (ok_told (asked_of gates words) _ _ (λ command k. told_to command c.before.content files told (λ f. IsRefusedTo command f (stops.ClientName x p)) k) h)
-kind_of gates words c files told stops.TooManyFindings h = decided (ok_told (asked_of gates words) _ _ (λ command k. told_to command c.before.content files told (λ f. IsRefusedTo command f stops.TooManyFindings) k) h)
+kind_of gates words c files told (stops.TooMany part) h = decided (ok_told (asked_of gates words) _ _ (λ command k. told_to command c.before.content files told (λ f. IsRefusedTo command f (stops.TooMany part)) k) h)
 kind_of gates words c files told (stops.ReadFault t) h = failed refl
 kind_of gates words c files told stops.Memory h = no_memory refl
 

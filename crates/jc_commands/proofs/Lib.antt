@@ -7,6 +7,7 @@ pub mod PathsApart
 pub mod CausesPut
 pub mod Bodies
 pub mod Compared
+pub mod ShownFrom
 pub mod Causes
 pub mod Declarations
 pub mod Subjects

@@ -21,7 +21,7 @@ use Rattle.jc_sound.proofs.VerdictLaw.{verdict_is_one}
 use Rattle.jc_link.specs.Refusals.{refused_client}
 use Rattle.jc_table.specs.Root.{fault_of_root}
 use Rattle.jc_table.specs.Sides.{overlap_of}
-use Rattle.jc_commands.specs.Check.{CheckRecords, IsUnfit, mismatch_of}
+use Rattle.jc_commands.specs.Check.{CheckRecords, IsUnfit, mismatch_of, report_of}
 use Rattle.jc_trees.specs.ClassFiles.{path_of, items_in, IsClassIn, AreClasses, AreRecords, without_code}
 use Rattle.jc_commands.specs.Command.{CommandOf, CheckOf, LinkOf, CheckCommand, LinkCommand, MakeCommand, trees_of}
 use Rattle.jc_commands.specs.Link.{LinkRecords, refusal_of, client_name}
@@ -143,7 +143,7 @@ abbrev pub IsOfRecords : Stop → Type 0
 IsOfRecords (stops.BadRoot part) = Unit {0}
 IsOfRecords (stops.Overlap name x) = Unit {0}
 IsOfRecords (stops.ClientName x part) = Unit {0}
-IsOfRecords stops.TooManyFindings = Unit {0}
+IsOfRecords (stops.TooMany part) = Unit {0}
 IsOfRecords _ = ⊥
 
 pub unfit_says : (platform old new : List ClassFacts) (stop : Stop) → IsUnfit platform old new stop → IsOfRecords stop
@@ -191,9 +191,9 @@ accepted_or_refused files (MakeCommand n) r s stop a h = h
 
 -- what has a report is accepted
 pub report_accepted : (files : List FileOf) (command : CommandOf) (r : RecordsOf files command) (report : ReportOf command) → IsReportOn files command r report → Accepts files command r
-report_accepted files (CheckCommand check) r v h = record {
-  fits = h.fits;
-  few = λ w k. subst (λ (x : Verdict). count_of x ≤ MAX_FINDINGS) (verdict_is_one (side r.platform r.old) (side r.platform r.new) v w h.exact k) h.few;
+report_accepted files (CheckCommand check) r report h = record {
+  fits = h.verdict.fits;
+  few = λ w k. subst (λ (x : Verdict). count_of x ≤ MAX_FINDINGS) (verdict_is_one (side r.platform r.old) (side r.platform r.new) report.verdict w h.verdict.exact k) h.verdict.few;
 }
 report_accepted files (LinkCommand link) r list h = h.fits
 report_accepted files (MakeCommand n) r v h = tt
@@ -201,6 +201,6 @@ report_accepted files (MakeCommand n) r v h = tt
 -- and has one
 pub one_report_of : (files : List FileOf) (command : CommandOf) (r s : RecordsOf files command) (a b : ReportOf command) → IsReportOn files command r a → IsReportOn files command s b → a ≡ b
 one_report_of files (CheckCommand check) r s a b h k =
-    verdict_is_one (side r.platform r.old) (side r.platform r.new) a b h.exact (same_check files check (λ p o n. IsVerdict (side p o) (side p n) b) r s k.exact)
+    ap report_of (verdict_is_one (side r.platform r.old) (side r.platform r.new) a.verdict b.verdict h.verdict.exact (same_check files check (λ p o n. IsVerdict (side p o) (side p n) b.verdict) r s k.verdict.exact))
 one_report_of files (LinkCommand link) r s a b h k = h.exact ∙ sym (same_link files link (λ p q cs. b ≡ outcomes (side p q) cs) r s k.exact)
 one_report_of files (MakeCommand n) r s a b h k = verdict_is_one (old_made n) (new_made n) a b h k

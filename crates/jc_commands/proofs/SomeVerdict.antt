@@ -34,6 +34,8 @@ use Rattle.jc_facts.specs.file.Valid.{IsValidClass}
 use Rattle.jc_facts.specs.rule.Verdict.{IsVerdict}
 use Rattle.jc_facts.specs.rule.Bases.{is_class_usable, is_kept}
 use Rattle.jc_facts.specs.world.World.{World, side, classes, own_field_of, own_method_of}
+use Rattle.jc_facts.specs.world.Pairs.{IsPair}
+use Rattle.jc_facts.proofs.Pairs.{plain_pair}
 use Rattle.jc_lemmas.proofs.Listed.{EachOf, EachOf-map, EachOf-append}
 use Rattle.jc_worlds.specs.Hierarchy.{above}
 use Rattle.jc_sound.proofs.ExactLists.{exact_list}
@@ -226,6 +228,9 @@ module _ (platform old new : List ClassFacts) (root : HasRoot platform) (vp : Al
   abbrev N : World
   N = side platform new
 
+  pair : IsPair O N
+  pair = plain_pair platform old new root vp vo vn
+
   of_old : (c : ClassFacts) → Contains (classes O) c → Contains (classes O ++ classes N) c
   of_old c m = Contains-append_left (classes O) (classes N) c m
 
@@ -242,7 +247,7 @@ module _ (platform old new : List ClassFacts) (root : HasRoot platform) (vp : Al
   unfolding finding_at Needs
   finding_covered f e =
       covered O N (subject_of f) (finding_rule O N (subject_of f) f.key f.target f e) (usable_name f.«class» (findings_are_of_usable O N (subject_of f) f e))
-      (none_or (keys O N) f.key (λ k is. some_key k (classes O ++ classes N) (above O f.«class» ++ above N f.«class») (all_above f.«class») (keys_are_declared platform old new root vp vo vn (subject_of f) k f is e)))
+      (none_or (keys O N) f.key (λ k is. some_key k (classes O ++ classes N) (above O f.«class» ++ above N f.«class») (all_above f.«class») (keys_are_declared O N pair (subject_of f) k f is e)))
       (none_or (names O N) f.target (λ t is. usable_name t (target_usable O N (subject_of f) f.key t f (subst (λ o. finding_by O N (subject_of f) f.key o ≡ Some f) is e))))
 
   abbrev findings : List Finding
@@ -256,7 +261,7 @@ module _ (platform old new : List ClassFacts) (root : HasRoot platform) (vp : Al
   collision_covered c e =
       covered O N (collision_subject c) (collision_rule O N c.rule c.«class» c.key c e) (usable_name c.«class» (collisions_are_of_usable O N c.rule c.«class» c.key c e))
       (none_or (keys O N) (Some c.key) (λ k is. let same : c.key ≡ k = cc in subst (Contains (keys O N)) same
-      (some_key c.key (classes O ++ classes N) (above N c.«class») (EachOf-map of_new (above N c.«class») (above_in N c.«class»)) (collision_keys_are_declared platform old new root vp vo vn c.rule c.«class» c.key c e))))
+      (some_key c.key (classes O ++ classes N) (above N c.«class») (EachOf-map of_new (above N c.«class») (above_in N c.«class»)) (collision_keys_are_declared O N pair c.rule c.«class» c.key c e))))
       (none_or (names O N) None (λ t is. absurd (let clash : None ≡ Some t = is in cc)))
 
   abbrev collisions : List Collision

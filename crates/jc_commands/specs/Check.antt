@@ -1,5 +1,5 @@
 -- A check of two releases: what it reads, why that is refused, and its verdict.
-use Rattle.std.specs.Prelude.{◌≡◌, ◌≢◌, ◌≤◌, ◌<◌, ◌⊎◌, List, [], Bool, Option, Some, None, option_map, if◌then◌else◌}
+use Rattle.std.specs.Prelude.{◌≡◌, ◌≢◌, ◌≤◌, ◌<◌, ◌⊎◌, ℕ, ◌+◌, List, [], ◌∷◌, ◌++◌, map, Bool, Option, Some, None, option_map, if◌then◌else◌}
 use Rattle.std.specs.List.{All}
 use Rattle.jc_base.specs.Outside.{FileOf}
 use Rattle.jc_base.specs.States.{FolderState, Change}
@@ -20,13 +20,15 @@ use Rattle.jc_report.specs.Json.{json_of}
 use Rattle.jc_table.specs.Root.{fault_of_root}
 use Rattle.jc_table.specs.Sides.{overlap_of}
 use Rattle.jc_complete.specs.Completeness.{IsBroken}
-use Rattle.jc_witness.specs.Witnesses.{IsWitnessOf, witness_files}
+use Rattle.jc_witness.specs.declared.witness.WitnessFile.{WitnessFile}
+use Rattle.jc_witness.specs.Witnesses.{IsWitness, IsWitnessOf, MeetsOnly, error_of, witness_files}
 use Rattle.jc_trees.specs.ClassFiles.{AreRecords}
 use Rattle.jc_commands.specs.Command.{CheckOf}
 use Rattle.jc_trees.specs.Tree.{tree_at}
-use Rattle.jc_commands.specs.Witness.{PutFile, PutsFiles, causes_of, witness_puts}
+use Rattle.jc_commands.specs.Witness.{PutFile, PutsFiles, put_file, causes_of, witness_puts}
 use Rattle.jc_commands.specs.declared.limits.TheConstants.{MAX_FINDINGS}
 use Rattle.jc_trees.specs.declared.tree.TreeName.TheVariants as names
+use Rattle.jc_commands.specs.declared.stop.Part.TheVariants as parts
 use Rattle.jc_commands.specs.declared.stop.Stop.{Stop}
 use Rattle.jc_commands.specs.declared.stop.Stop.TheVariants as stops
 
@@ -65,7 +67,7 @@ pub record HasTooMany (platform old new : List ClassFacts) : Type 0 where
 
 -- the records are refused, and this is the first cause
 abbrev pub IsUnfit : List ClassFacts → List ClassFacts → List ClassFacts → Stop → Type 0
-IsUnfit platform old new stop = (mismatch_of platform old new ≡ Some stop) ⊎ ((stop ≡ stops.TooManyFindings) × HasTooMany platform old new)
+IsUnfit platform old new stop = (mismatch_of platform old new ≡ Some stop) ⊎ ((stop ≡ stops.TooMany parts.Findings) × HasTooMany platform old new)
 
 -- no cause to refuse them stands
 pub record IsFit (platform old new : List ClassFacts) : Type 0 where
@@ -79,6 +81,30 @@ pub record IsVerdictOn (platform old new : List ClassFacts) (v : Verdict) : Type
   pub fits : mismatch_of platform old new ≡ None
   pub exact : IsVerdict (side platform old) (side platform new) v
   pub few : count_of v ≤ MAX_FINDINGS
+
+-- ---- the report
+
+-- what a check reports, part by part
+pub record CheckReport : Type 0 where
+  pub verdict : Verdict
+
+-- the report with these parts
+abbrev pub report_of : Verdict → CheckReport
+report_of v = record { verdict = v }
+
+-- what each part of it is on these records, where nothing refuses them
+pub record IsCheckReport {files : List FileOf} {check : CheckOf} (records : CheckRecords files check) (report : CheckReport) : Type 0 where
+  pub verdict : IsVerdictOn records.platform records.old records.new report.verdict
+
+-- the bytes of a verdict: its JSON where that is asked for, and else its text
+abbrev pub verdict_bytes : Bool → Verdict → Bytes
+verdict_bytes json v = if json then json_of v else text_of v
+
+-- the bytes of a report: those of its parts, in this order
+abbrev pub check_bytes : Bool → CheckReport → Bytes
+check_bytes json report = verdict_bytes json report.verdict
+
+-- ---- what the verdict says of clients
 
 -- the clients meet none of the collisions with the old side
 abbrev pub MeetsNone : World → List ClientClass → List Collision → Type 0
@@ -102,11 +128,7 @@ pub record IsIncompatible (files : List FileOf) (check : CheckOf) (v : Verdict) 
   pub broken : (cs : List ClientClass) × IsBroken (old_side records) (new_side records) v cs
   pub breaks : All (λ f. f.rule ≡ 1 → BreaksClass (old_side records) (new_side records) f.class f.error) v.findings
 
--- its bytes: its JSON where that is asked for, and else its text
-abbrev pub verdict_bytes : Bool → Verdict → Bytes
-verdict_bytes json v = if json then json_of v else text_of v
-
--- ---- the witnesses
+-- ---- the witnesses, as they are planned and written
 
 -- the witness files of the verdict, where they are asked for
 abbrev pub puts_below : Option Bytes → World → World → Verdict → List PutFile
@@ -118,9 +140,32 @@ puts_below (Some dir) O N v = witness_puts dir O N v
 abbrev pub IsShown : World → World → Cause → Type 0
 IsShown O N e = IsWitnessOf O N e (witness_files O N e)
 
--- the folder holds the witness files of the verdict, every other path is as before, and they show each finding and each collision
-pub record IsWitnessed (files : List FileOf) (check : CheckOf) (v : Verdict) (dir : Bytes) (folder : Change FolderState) : Type 0 where
+-- ---- the witnesses, however they are planned and written
+
+-- the files are read as a client world in scope that links whole with the old side, and of which one spot has with the new one the error of the
+-- cause. Of the verdict's collisions that of a finding meets none, and that of a collision meets it
+pub record Shows (O N : World) (v : Verdict) (e : Cause) (fs : List WitnessFile) : Type 0 where
+  pub clients : List ClientClass
+  pub witness : IsWitness O N (error_of e) fs clients
+  pub meets : MeetsOnly O e v clients
+
+-- the files below the path are, for each of the causes, whose numbers go on from this one, some that show it
+abbrev pub ShowEach : Bytes → World → World → Verdict → ℕ → List Cause → List PutFile → Type 0
+ShowEach dir O N v n [] puts = puts ≡ []
+ShowEach dir O N v n (e ∷ es) puts =
+    (fs : List WitnessFile) × (rest : List PutFile) × (puts ≡ map (put_file dir n) fs ++ rest) × Shows O N v e fs × ShowEach dir O N v (n + 1) es rest
+
+-- each part of the report is what it has to be on the records, and each finding and each collision is shown by some class files, whether they are put
+-- anywhere or not
+pub record IsBorneOut (files : List FileOf) (check : CheckOf) (report : CheckReport) : Type 0 where
+  pub records : CheckRecords files check
+  pub parts : IsCheckReport records report
+  pub shown : All (λ e. (fs : List WitnessFile) × Shows (old_side records) (new_side records) report.verdict e fs) (causes_of report.verdict)
+
+-- the folder holds below the path files that show each finding and each collision of the verdict, and every other path is as before
+pub record HoldsClients (files : List FileOf) (check : CheckOf) (v : Verdict) (dir : Bytes) (folder : Change FolderState) : Type 0 where
   pub records : CheckRecords files check
   pub verdict : IsVerdictOn records.platform records.old records.new v
-  pub put : PutsFiles folder (witness_puts dir (old_side records) (new_side records) v)
-  pub shown : All (IsShown (old_side records) (new_side records)) (causes_of v)
+  pub puts : List PutFile
+  pub put : PutsFiles folder puts
+  pub shown : ShowEach dir (old_side records) (new_side records) v 1 (causes_of v) puts

@@ -11,7 +11,7 @@ use Rattle.jc_facts.specs.Names.{Bytes}
 use Rattle.jc_facts.specs.world.World.{World}
 use Rattle.jc_gate.specs.Gates.{GateOf, all_pass}
 use Rattle.jc_complete.specs.Completeness.{IsBroken}
-use Rattle.jc_commands.specs.Check.{CheckRecords, IsVerdictOn, IsShown, MeetsNone, old_side, new_side, verdict_bytes, puts_below}
+use Rattle.jc_commands.specs.Check.{CheckRecords, CheckReport, IsCheckReport, IsShown, MeetsNone, old_side, new_side, report_of, check_bytes, puts_below}
 use Rattle.jc_trees.specs.ClassFiles.{Told}
 use Rattle.jc_commands.specs.Command.{CommandOf, CheckOf, CheckCommand, LinkCommand, MakeCommand, witness_dir, asked_of}
 use Rattle.jc_commands.specs.Make.{IsSize}
@@ -21,6 +21,8 @@ use Rattle.jc_commands.specs.declared.report.Report.{Report}
 use Rattle.jc_commands.specs.declared.report.Condition.{Condition}
 use Rattle.jc_commands.specs.declared.report.Condition.TheVariants as conditions
 use Rattle.jc_commands.specs.declared.body.Body.{Body}
+use Rattle.jc_commands.specs.declared.body.CheckBody.{CheckBody}
+use Rattle.jc_commands.specs.declared.shown.Shown.{Shown}
 use Rattle.jc_commands.specs.declared.body.Body.TheVariants as bodies
 use Rattle.jc_commands.specs.declared.status.TheConstants.{PASSED, NOT_PASSED}
 use Rattle.jc_commands.specs.Shown.{CanShow}
@@ -36,38 +38,57 @@ passes_by gates (conditions.ByGates names rules) = all_pass gates (map (λ name.
 
 -- ---- what is put
 
+-- the report of a check, part by part
+abbrev pub report_in : CheckBody → CheckReport
+report_in check = report_of check.verdict
+
 -- the bytes that are put
 abbrev pub bytes_in : Body → Bytes
 bytes_in (bodies.Bytes bytes) = bytes.items
-bytes_in (bodies.Verdict json v) = verdict_bytes json v
-bytes_in (bodies.Shown json of) = verdict_bytes json of.verdict
+bytes_in (bodies.Check check) = check_bytes check.json (report_in check)
 
--- nothing is shown
+-- the witness files are made of these sides, where there is a path for them
+abbrev pub IsShownIn : Option Bytes → World → World → Option Shown → Type 0
+IsShownIn None O N None = Unit {0}
+IsShownIn (Some dir) O N (Some of) = (of.dir.now ≡ dir) × (of.old ≡ O) × (of.new ≡ N)
+IsShownIn _ O N _ = ⊥
+
+-- it is the report of a check, whose witness files are made of these sides
+abbrev pub HasToShow : Option Bytes → World → World → Verdict → Body → Type 0
+HasToShow dir O N v (bodies.Bytes bytes) = ⊥
+HasToShow dir O N v (bodies.Check check) = (check.verdict ≡ v) × IsShownIn dir O N check.shown
+
+-- it is that of no check
 abbrev pub IsBare : Body → Type 0
 IsBare (bodies.Bytes bytes) = Unit {0}
-IsBare (bodies.Verdict json v) = Unit {0}
-IsBare (bodies.Shown json of) = ⊥
+IsBare (bodies.Check check) = ⊥
 
--- what is shown is the verdict on these sides, where there is a path for its witness files
-abbrev pub HasToShow : Option Bytes → World → World → Verdict → Body → Type 0
-HasToShow None O N v body = IsBare body
-HasToShow (Some dir) O N v (bodies.Shown json of) = (of.dir.now ≡ dir) × (of.old ≡ O) × (of.new ≡ N) × (of.verdict ≡ v)
-HasToShow (Some dir) O N v _ = ⊥
+-- the verdict can be shown
+abbrev pub CanShowAll : Verdict → Option Shown → Type 0
+CanShowAll v None = Unit {0}
+CanShowAll v (Some of) = CanShow of v
 
--- what is shown can be
 abbrev pub CanShowAny : Body → Type 0
-CanShowAny (bodies.Shown json of) = CanShow of
-CanShowAny _ = Unit {0}
+CanShowAny (bodies.Bytes bytes) = Unit {0}
+CanShowAny (bodies.Check check) = CanShowAll check.verdict check.shown
 
 -- where its witness files are put
+abbrev pub dir_shown : Option Shown → Option Bytes
+dir_shown None = None
+dir_shown (Some of) = Some of.dir.now
+
 abbrev pub dir_in : Body → Option Bytes
-dir_in (bodies.Shown json of) = Some of.dir.now
-dir_in _ = None
+dir_in (bodies.Bytes bytes) = None
+dir_in (bodies.Check check) = dir_shown check.shown
 
 -- its witness files
+abbrev pub puts_shown : Verdict → Option Shown → List PutFile
+puts_shown v None = []
+puts_shown v (Some of) = witness_puts of.dir.now of.old of.new v
+
 abbrev pub puts_in : Body → List PutFile
-puts_in (bodies.Shown json of) = witness_puts of.dir.now of.old of.new of.verdict
-puts_in _ = []
+puts_in (bodies.Bytes bytes) = []
+puts_in (bodies.Check check) = puts_shown check.verdict check.shown
 
 -- ---- the report
 
@@ -81,20 +102,20 @@ pub record TellsOf (command : CommandOf) (of : ReportOf command) (report : Repor
   pub text : bytes_in report.body ≡ bytes_of command of
   pub answer : (gates : List GateOf) → passes_by gates report.condition ≡ passes gates command of
 
--- what is promised of a check's verdict and of its witness files
-pub record IsChecked (files : List FileOf) (check : CheckOf) (v : Verdict) (puts : List PutFile) : Type 0 where
+-- what is promised of a check's report, of its verdict and of its witness files
+pub record IsChecked (files : List FileOf) (check : CheckOf) (report : CheckReport) (puts : List PutFile) : Type 0 where
   pub records : CheckRecords files check
-  pub verdict : IsVerdictOn records.platform records.old records.new v
-  pub kept : v.findings ≡ [] → (cs : List ClientClass) → IsInScope (old_side records) (new_side records) cs → MeetsNone (old_side records) cs v.collisions
+  pub parts : IsCheckReport records report
+  pub kept : report.verdict.findings ≡ [] → (cs : List ClientClass) → IsInScope (old_side records) (new_side records) cs → MeetsNone (old_side records) cs report.verdict.collisions
       → Keeps (old_side records) (new_side records) cs
-  pub broken : v.findings ≢ [] → (cs : List ClientClass) × IsBroken (old_side records) (new_side records) v cs
-  pub breaks : All (λ f. f.rule ≡ 1 → BreaksClass (old_side records) (new_side records) f.class f.error) v.findings
-  pub shown : All (IsShown (old_side records) (new_side records)) (causes_of v)
-  pub puts_are : puts ≡ puts_below check.witness (old_side records) (new_side records) v
+  pub broken : report.verdict.findings ≢ [] → (cs : List ClientClass) × IsBroken (old_side records) (new_side records) report.verdict cs
+  pub breaks : All (λ f. f.rule ≡ 1 → BreaksClass (old_side records) (new_side records) f.class f.error) report.verdict.findings
+  pub shown : All (IsShown (old_side records) (new_side records)) (causes_of report.verdict)
+  pub puts_are : puts ≡ puts_below check.witness (old_side records) (new_side records) report.verdict
 
 -- what a command promises beside its report
 abbrev pub Upholds : Option (List FileOf) → (command : CommandOf) → ReportOf command → List PutFile → Type 0
-Upholds content (CheckCommand check) v puts = Told content (λ files. IsChecked files check v puts)
+Upholds content (CheckCommand check) report puts = Told content (λ files. IsChecked files check report puts)
 Upholds content (LinkCommand link) list puts = Unit {0}
 Upholds content (MakeCommand n) v puts = Unit {0}
 

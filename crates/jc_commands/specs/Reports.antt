@@ -8,7 +8,7 @@ use Rattle.jc_facts.specs.client.Linked.{are_all_ok}
 use Rattle.jc_facts.specs.print.LinkText.{link_text_of}
 use Rattle.jc_facts.specs.print.MadeText.{made_text_of}
 use Rattle.jc_gate.specs.Gates.{GateOf, all_pass}
-use Rattle.jc_commands.specs.Check.{CheckRecords, IsUnfit, IsFit, IsVerdictOn, old_side, new_side, verdict_bytes, puts_below}
+use Rattle.jc_commands.specs.Check.{CheckRecords, CheckReport, IsUnfit, IsFit, IsCheckReport, old_side, new_side, check_bytes, puts_below}
 use Rattle.jc_trees.specs.ClassFiles.{Told}
 use Rattle.jc_commands.specs.Command.{CommandOf, CheckCommand, LinkCommand, MakeCommand}
 use Rattle.jc_commands.specs.Link.{LinkRecords, refusal_of, AreOutcomesOf}
@@ -44,15 +44,15 @@ Accepts files (MakeCommand n) r = Unit {0}
 
 -- ---- the report
 
--- what is reported: of a check its verdict, of the linking of clients its outcomes, of generated releases the verdict on them
+-- what is reported: of a check its parts, of the linking of clients its outcomes, of generated releases the verdict on them
 abbrev pub ReportOf : CommandOf → Type 0
-ReportOf (CheckCommand check) = Verdict
+ReportOf (CheckCommand check) = CheckReport
 ReportOf (LinkCommand link) = List Outcome
 ReportOf (MakeCommand n) = Verdict
 
 -- the report on these records, where nothing refuses them
 abbrev pub IsReportOn : (files : List FileOf) → (command : CommandOf) → RecordsOf files command → ReportOf command → Type 0
-IsReportOn files (CheckCommand check) r v = IsVerdictOn r.platform r.old r.new v
+IsReportOn files (CheckCommand check) r report = IsCheckReport r report
 IsReportOn files (LinkCommand link) r list = AreOutcomesOf r.platform r.release r.clients list
 IsReportOn files (MakeCommand n) r v = IsVerdictOnMade n v
 
@@ -63,18 +63,18 @@ rules_of v = map (λ f. f.rule) v.findings ++ map (λ c. c.rule) v.collisions
 -- whether what was asked is so: of a check, each gate that it names passes, once it has seen those rules; of a link, each outcome is Ok; of generated
 -- releases nothing is asked
 abbrev pub passes : List GateOf → (command : CommandOf) → ReportOf command → Bool
-passes gates (CheckCommand check) v = all_pass gates check.gates (rules_of v)
+passes gates (CheckCommand check) report = all_pass gates check.gates (rules_of report.verdict)
 passes gates (LinkCommand link) list = are_all_ok list
 passes gates (MakeCommand n) v = true
 
 -- the bytes that are put
 abbrev pub bytes_of : (command : CommandOf) → ReportOf command → Bytes
-bytes_of (CheckCommand check) v = verdict_bytes check.json v
+bytes_of (CheckCommand check) report = check_bytes check.json report
 bytes_of (LinkCommand link) list = link_text_of list
 bytes_of (MakeCommand n) v = made_text_of n v
 
 -- the witness files that are put before them: those of the verdict, where a check asks for them
 abbrev pub puts_of : (files : List FileOf) → (command : CommandOf) → RecordsOf files command → ReportOf command → List PutFile
-puts_of files (CheckCommand check) r v = puts_below check.witness (old_side r) (new_side r) v
+puts_of files (CheckCommand check) r report = puts_below check.witness (old_side r) (new_side r) report.verdict
 puts_of files (LinkCommand link) r list = []
 puts_of files (MakeCommand n) r v = []

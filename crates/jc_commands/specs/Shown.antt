@@ -1,6 +1,7 @@
 -- What is shown by witnesses.
 use Rattle.std.specs.Prelude.{◌≡◌, ◌≤◌}
 use Rattle.std.specs.List.{All}
+use Rattle.jc_facts.specs.declared.verdict.Verdict.{Verdict}
 use Rattle.jc_facts.specs.rule.Verdict.{IsVerdict, count_of}
 use Rattle.jc_witness.specs.Ground.{HasShortSide}
 use Rattle.jc_witness.specs.Witnesses.{IsWitnessOf, witness_files}
@@ -10,10 +11,10 @@ use Rattle.jc_commands.specs.declared.shown.Shown.{Shown}
 
 -- the verdict is that on the two sides, which have one platform and short names, it has at most as many findings and collisions as the limit,
 -- and the witness of each shows it
-pub record CanShow (of : Shown) : Type 0 where
+pub record CanShow (of : Shown) (v : Verdict) : Type 0 where
   pub platform : of.old.platform ≡ of.new.platform
-  pub verdict : IsVerdict of.old of.new of.verdict
-  pub few : count_of of.verdict ≤ MAX_FINDINGS
+  pub verdict : IsVerdict of.old of.new v
+  pub few : count_of v ≤ MAX_FINDINGS
   pub old_names : HasShortSide of.old
   pub new_names : HasShortSide of.new
-  pub shown : All (λ e. IsWitnessOf of.old of.new e (witness_files of.old of.new e)) (causes_of of.verdict)
+  pub shown : All (λ e. IsWitnessOf of.old of.new e (witness_files of.old of.new e)) (causes_of v)

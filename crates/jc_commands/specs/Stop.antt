@@ -19,6 +19,8 @@ use Rattle.jc_trees.specs.declared.file_fault.FileFault.{FileFault}
 use Rattle.jc_trees.specs.declared.file_fault.FileFault.TheVariants as faults
 use Rattle.jc_trees.specs.declared.file_fault.TreeFault.{TreeFault}
 use Rattle.jc_trees.specs.declared.file_fault.TreeFault.TheVariants as tree_faults
+use Rattle.jc_commands.specs.declared.stop.Part.{Part}
+use Rattle.jc_commands.specs.declared.stop.Part.TheVariants as report_parts
 use Rattle.jc_commands.specs.declared.stop.Stop.{Stop}
 use Rattle.jc_commands.specs.declared.stop.Stop.TheVariants as stops
 
@@ -81,13 +83,17 @@ usage_words usages.Words = codes "words"
 usage_words (usages.UnknownGate name) = codes "unknown gate " ++ printed name
 usage_words (usages.Number word) = codes "number " ++ printed word
 
+-- the part of a report that has more items than its limit
+abbrev pub report_part_name : Part → Bytes
+report_part_name report_parts.Findings = codes "findings"
+
 abbrev pub line_of : Stop → Bytes
 line_of (stops.Usage usage) = codes "jcompat: usage: " ++ usage_words usage ++ codes "\n"
 line_of (stops.Unread tree fault) = codes "jcompat: " ++ tree_words tree ++ codes ": " ++ unread_words fault ++ codes "\n"
 line_of (stops.BadRoot part) = codes "jcompat: platform: bad root " ++ part_name part ++ codes "\n"
 line_of (stops.Overlap tree name) = codes "jcompat: " ++ tree_words tree ++ codes ": overlap " ++ printed name ++ codes "\n"
 line_of (stops.ClientName name part) = codes "jcompat: client: name " ++ printed name ++ codes " " ++ client_part_name part ++ codes "\n"
-line_of stops.TooManyFindings = codes "jcompat: limit findings\n"
+line_of (stops.TooMany part) = codes "jcompat: limit " ++ report_part_name part ++ codes "\n"
 line_of (stops.ReadFault tree) = codes "jcompat: " ++ tree_words tree ++ codes ": read fault\n"
 line_of stops.Memory = []
 
@@ -109,6 +115,6 @@ status_of (stops.Unread tree fault) = tree_status fault
 status_of (stops.BadRoot part) = BAD_INPUT
 status_of (stops.Overlap tree name) = BAD_INPUT
 status_of (stops.ClientName name part) = BAD_INPUT
-status_of stops.TooManyFindings = LIMIT
+status_of (stops.TooMany part) = LIMIT
 status_of (stops.ReadFault tree) = READ_FAULT
 status_of stops.Memory = NO_MEMORY

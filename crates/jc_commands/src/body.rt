@@ -2,14 +2,21 @@
 use crate::shown::Shown;
 use jc_facts::verdict::Verdict;
 
-/// What is put of a command. A verdict is put as JSON or as text, and stays what it is until then: its
-/// text, which can be much longer than itself, never stands whole.
+/// What is put of a command.
 #[derive(Drop)]
 pub enum Body<'a> {
     /// These bytes.
     Bytes(Vec<u8>),
-    /// The JSON of a verdict where it is asked for, and else its text.
-    Verdict { json: bool, verdict: Verdict },
-    /// The same, after the witness files that show it.
-    Shown { json: bool, of: Shown<'a> },
+    /// The report of a check.
+    Check(CheckBody<'a>),
+}
+
+/// What is put of a check: the parts of its report in their order, as JSON where that is asked for and
+/// else as text, and before them the witness files of its verdict where those are asked for. A part
+/// stays what it is until then: its text, which can be much longer than itself, never stands whole.
+#[derive(Drop)]
+pub struct CheckBody<'a> {
+    pub json: bool,
+    pub verdict: Verdict,
+    pub shown: Option<Shown<'a>>,
 }

@@ -54,7 +54,7 @@ fn compared(
 /// # Errors
 ///
 /// `Stop::Unread` or `ReadFault` where a tree isn't read, `BadRoot` or `Overlap` where the trees don't make
-/// two sides, `TooManyFindings` where the verdict is over the limit, and `Memory` where memory runs out.
+/// two sides, `TooMany` where the verdict is over the limit, and `Memory` where memory runs out.
 pub fn check<'a, T: Trees>(
     alloc: Global,
     check: &Check<'a>,

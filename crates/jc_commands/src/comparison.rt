@@ -13,7 +13,7 @@ ghost use Rattle.jc_commands.specs.steps.Check.{IsComparison, StopsComparing, St
 ghost use Rattle.jc_trees.specs.ClassLists.{IsRecordList};
 
 use crate::limits::MAX_FINDINGS;
-use crate::stop::Stop;
+use crate::stop::{Part, Stop};
 use jc_facts::class_facts::ClassFacts;
 use jc_facts::verdict::Verdict;
 use jc_rules::compare::compare_within;
@@ -56,7 +56,7 @@ impl Sides {
         requires short_new { HasShortSide new }
         ensures old { result.old ≡ old }
         ensures new { result.new ≡ new }
-        ensures can { CanWrite old.platform old.release new.release }
+        ensures can { CanWrite result.old result.new }
     {
         // Counts say what always holds of a table.
         let _old_size = old.count();
@@ -80,7 +80,7 @@ fn sides_over(
     ensures old { IfOk result (λ s. s.old ≡ side platform.now old.items) }
     ensures new { IfOk result (λ s. s.new ≡ side platform.now new.items) }
     ensures fits { IfOk result (λ s. mismatch_of platform.now old.items new.items ≡ None) }
-    ensures can { IfOk result (λ s. CanWrite platform.now old.items new.items) }
+    ensures can { IfOk result (λ s. CanWrite s.old s.new) }
     ensures stopped { IfErr result (StopsMatching platform.now old.items new.items) }
 {
     let old = match Table::over(alloc, platform, old) {
@@ -111,7 +111,7 @@ pub fn both_sides(
     ensures old { IfOk result (λ s. s.old ≡ side platform.items old.items) }
     ensures new { IfOk result (λ s. s.new ≡ side platform.items new.items) }
     ensures fits { IfOk result (λ s. mismatch_of platform.items old.items new.items ≡ None) }
-    ensures can { IfOk result (λ s. CanWrite platform.items old.items new.items) }
+    ensures can { IfOk result (λ s. CanWrite s.old s.new) }
     ensures stopped { IfErr result (StopsMatching platform.items old.items new.items) }
 {
     let Ok(platform) = Platform::new(alloc, platform) else {
@@ -134,7 +134,7 @@ fn counted(alloc: Global, old: &Table, new: &Table) -> Result<Verdict, Stop>
 {
     match compare_within(alloc, old, new, MAX_FINDINGS) {
         Ok(Some(verdict)) => Ok(verdict),
-        Ok(None) => Err(Stop::TooManyFindings),
+        Ok(None) => Err(Stop::TooMany(Part::Findings)),
         Err(_) => Err(Stop::Memory),
     }
 }
@@ -144,7 +144,7 @@ impl Comparison {
     ///
     /// # Errors
     ///
-    /// Those of `both_sides`; and `Stop::TooManyFindings` where the verdict is over the limit.
+    /// Those of `both_sides`; and `Stop::TooMany` where the verdict is over the limit.
     pub fn of_records(
         alloc: Global,
         platform: Vec<ClassFacts>,

@@ -2,15 +2,15 @@
 ghost use Rattle.std.specs.Prelude.{◌≡◌, ◌≢◌, ◌≤◌, ◌⊎◌, List, ℕ, None, Some, OnOk, OnErr, IsErrOf, map};
 ghost use Rattle.jc_base.specs.States.{change};
 ghost use Rattle.jc_gate.specs.Gates.{gate_of};
-ghost use Rattle.jc_commands.specs.Check.{verdict_bytes};
+ghost use Rattle.jc_commands.specs.Check.{verdict_bytes, check_bytes};
 ghost use Rattle.jc_commands.specs.Outputs.{PutsAll, PutsFront, HasPutFault, HasFolderFault, IsUntouched};
 ghost use Rattle.jc_commands.specs.Stop.{line_of, status_of};
 ghost use Rattle.jc_commands.specs.Witness.{PutsFiles, PutsSome};
-ghost use Rattle.jc_commands.specs.ReportValue.{CanShowAny, bytes_in, dir_in, puts_in, passes_by, status_by};
+ghost use Rattle.jc_commands.specs.ReportValue.{CanShowAll, CanShowAny, report_in, bytes_in, dir_shown, dir_in, puts_shown, puts_in, passes_by, status_by};
 ghost use Rattle.jc_commands.specs.Putting.{IsPutWith, IsPutAfter, IsCutBefore};
 ghost use Rattle.jc_commands.specs.declared.stop.Stop.{Stop};
 
-use crate::body::Body;
+use crate::body::{Body, CheckBody};
 use crate::put_witnesses::put_witnesses;
 use crate::report::Report;
 use crate::status::{NO_MEMORY, WRITE_FAULT};
@@ -19,7 +19,7 @@ use jc_base::folder::{Folder, FolderError};
 use jc_base::sink::{Sink, SinkError};
 use jc_facts::verdict::Verdict;
 use jc_gate::gate::Gate;
-use jc_report::json::json;
+use jc_report::json::put_json;
 use jc_report::put_lines::put_lines;
 use jc_report::put_text::put_text;
 use std::alloc::Global;
@@ -36,16 +36,26 @@ fn put_verdict<O: Sink>(
     ensures never_falls { (O.state out.old).faults ≤ (O.state out.new).faults }
     ensures cause { IsErrOf result SinkError.Fault → HasPutFault (change O.state out.old out.new) }
 {
-    if !as_json {
-        return match put_text(alloc, verdict, out) {
+    if as_json {
+        return match put_json(alloc, verdict, out) {
             Ok(()) => Ok(()),
             Err(error) => Err(error),
         };
     }
-    let Ok(bytes) = json(alloc, verdict) else {
-        return Err(SinkError::Memory);
-    };
-    match put_lines(bytes.as_slice(), out) {
+    match put_text(alloc, verdict, out) {
+        Ok(()) => Ok(()),
+        Err(error) => Err(error),
+    }
+}
+
+// Puts the parts of a check's report, in their order.
+fn put_check<O: Sink>(alloc: Global, body: &CheckBody<'_>, out: &mut O) -> Result<(), SinkError>
+    ensures ok { OnOk result (PutsAll (change O.state out.old out.new) (check_bytes body.now.json (report_in body.now))) }
+    ensures err { OnErr result (PutsFront (change O.state out.old out.new) (check_bytes body.now.json (report_in body.now))) }
+    ensures never_falls { (O.state out.old).faults ≤ (O.state out.new).faults }
+    ensures cause { IsErrOf result SinkError.Fault → HasPutFault (change O.state out.old out.new) }
+{
+    match put_verdict(alloc, body.json, &body.verdict, out) {
         Ok(()) => Ok(()),
         Err(error) => Err(error),
     }
@@ -63,11 +73,29 @@ fn put_body<O: Sink>(alloc: Global, body: &Body<'_>, out: &mut O) -> Result<(), 
             Ok(()) => Ok(()),
             Err(error) => Err(error),
         },
-        Body::Verdict { json, verdict } => match put_verdict(alloc, *json, verdict, out) {
+        Body::Check(check) => match put_check(alloc, check, out) {
             Ok(()) => Ok(()),
             Err(error) => Err(error),
         },
-        Body::Shown { json, of } => match put_verdict(alloc, *json, &of.verdict, out) {
+    }
+}
+
+// Puts the witness files of a check's verdict, where they are asked for.
+fn put_asked<F: Folder>(
+    alloc: Global,
+    check: &CheckBody<'_>,
+    folder: &mut F,
+) -> Result<(), FolderError>
+    requires { CanShowAll check.now.verdict check.now.shown }
+    ensures whole { OnOk result (PutsFiles (change F.state folder.old folder.new) (puts_shown check.now.verdict check.now.shown)) }
+    ensures some { OnErr result (PutsSome (change F.state folder.old folder.new) (puts_shown check.now.verdict check.now.shown)) }
+    ensures asked_for { OnErr result ((path : List ℕ) × (dir_shown check.now.shown ≡ Some path)) }
+    ensures untouched { dir_shown check.now.shown ≡ None → IsUntouched (change F.state folder.old folder.new) }
+    ensures cause { IsErrOf result FolderError.Fault → HasFolderFault (change F.state folder.old folder.new) }
+{
+    match &check.shown {
+        None => Ok(()),
+        Some(shown) => match put_witnesses(alloc, shown, &check.verdict, folder) {
             Ok(()) => Ok(()),
             Err(error) => Err(error),
         },
@@ -85,8 +113,7 @@ fn put_shown<F: Folder>(alloc: Global, body: &Body<'_>, folder: &mut F) -> Resul
 {
     match body {
         Body::Bytes(_) => Ok(()),
-        Body::Verdict { .. } => Ok(()),
-        Body::Shown { of, .. } => match put_witnesses(alloc, of, folder) {
+        Body::Check(check) => match put_asked(alloc, check, folder) {
             Ok(()) => Ok(()),
             Err(error) => Err(error),
         },

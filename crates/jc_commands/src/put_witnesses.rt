@@ -13,6 +13,7 @@ ghost use Rattle.jc_commands.specs.Shown.{CanShow};
 use crate::shown::Shown;
 use crate::witness_path::witness_path;
 use jc_base::folder::{Folder, FolderError};
+use jc_facts::verdict::Verdict;
 use jc_witness::planner::Planner;
 use jc_witness::witness::WitnessFile;
 use jc_witness::witnessed::Witnessed;
@@ -122,29 +123,30 @@ fn put_all<F: Folder>(
     alloc: Global,
     planner: &Planner<'_>,
     of: &Shown<'_>,
+    verdict: &Verdict,
     folder: &mut F,
 ) -> Result<(), FolderError>
-    requires can { CanShow of.now }
+    requires can { CanShow of.now verdict.now }
     requires sides { planner.now ≡ record { old = of.now.old; new = of.now.new } }
-    ensures whole { OnOk result (IsPutWhole (witness_puts of.now.dir.now of.now.old of.now.new of.now.verdict) (change F.state folder.old folder.new)) }
-    ensures part { OnErr result (IsPutInPart (witness_puts of.now.dir.now of.now.old of.now.new of.now.verdict) (change F.state folder.old folder.new)) }
+    ensures whole { OnOk result (IsPutWhole (witness_puts of.now.dir.now of.now.old of.now.new verdict.now) (change F.state folder.old folder.new)) }
+    ensures part { OnErr result (IsPutInPart (witness_puts of.now.dir.now of.now.old of.now.new verdict.now) (change F.state folder.old folder.new)) }
     ensures never_falls { (F.state folder.old).faults ≤ (F.state folder.new).faults }
     ensures cause { IsErrOf result FolderError.Fault → Rose (F.state folder.old).faults (F.state folder.new).faults }
 {
-    let findings = of.verdict.findings.as_slice();
+    let findings = verdict.findings.as_slice();
     match put_causes(alloc, of.dir, 1, planner, findings, folder) {
         Ok(()) => {}
         Err(error) => return Err(error),
     }
     let next = findings.len() + 1;
-    let collisions = of.verdict.collisions.as_slice();
+    let collisions = verdict.collisions.as_slice();
     match put_causes(alloc, of.dir, next, planner, collisions, folder) {
         Ok(()) => Ok(()),
         Err(error) => Err(error),
     }
 }
 
-/// Puts the witness of each finding and of each collision into the folder, in their order, numbered
+/// Puts the witness of each finding and of each collision of the verdict into the folder, in their order, numbered
 /// from 1: each class file at `DIR/NNNNNN/NAME.class`, in byte order of names. At an error a front of
 /// the files stands, and the path of the next one may hold anything. All other paths stay as they
 /// were.
@@ -155,18 +157,19 @@ fn put_all<F: Folder>(
 pub fn put_witnesses<F: Folder>(
     alloc: Global,
     of: &Shown<'_>,
+    verdict: &Verdict,
     folder: &mut F,
 ) -> Result<(), FolderError>
-    requires { CanShow of.now }
-    ensures whole { OnOk result (PutsFiles (change F.state folder.old folder.new) (witness_puts of.now.dir.now of.now.old of.now.new of.now.verdict)) }
-    ensures some { OnErr result (PutsSome (change F.state folder.old folder.new) (witness_puts of.now.dir.now of.now.old of.now.new of.now.verdict)) }
+    requires { CanShow of.now verdict.now }
+    ensures whole { OnOk result (PutsFiles (change F.state folder.old folder.new) (witness_puts of.now.dir.now of.now.old of.now.new verdict.now)) }
+    ensures some { OnErr result (PutsSome (change F.state folder.old folder.new) (witness_puts of.now.dir.now of.now.old of.now.new verdict.now)) }
     ensures never_falls { (F.state folder.old).faults ≤ (F.state folder.new).faults }
     ensures cause { IsErrOf result FolderError.Fault → Rose (F.state folder.old).faults (F.state folder.new).faults }
 {
     let Ok(planner) = Planner::new(alloc, &of.old, &of.new) else {
         return Err(FolderError::Memory);
     };
-    match put_all(alloc, &planner, of, folder) {
+    match put_all(alloc, &planner, of, verdict, folder) {
         Ok(()) => Ok(()),
         Err(error) => Err(error),
     }

@@ -3,13 +3,13 @@ ghost use Rattle.std.specs.Prelude.{◌≡◌, ◌++◌, IfOk, OnOk, map};
 ghost use Rattle.std.specs.Option.{option_map};
 ghost use Rattle.jc_facts.specs.client.Linked.{are_all_ok};
 ghost use Rattle.jc_words.specs.CommandView.{check_of};
-ghost use Rattle.jc_commands.specs.Check.{verdict_bytes};
+ghost use Rattle.jc_commands.specs.Check.{report_of, check_bytes};
 ghost use Rattle.jc_commands.specs.Command.{LinkOf, CheckCommand, LinkCommand, MakeCommand};
 ghost use Rattle.jc_gate.specs.Gates.{gate_of};
 ghost use Rattle.jc_commands.specs.Reports.{rules_of as rules_in};
-ghost use Rattle.jc_commands.specs.ReportValue.{TellsOf, HasToShow, IsBare, bytes_in, passes_by, status_by};
+ghost use Rattle.jc_commands.specs.ReportValue.{TellsOf, HasToShow, IsShownIn, IsBare, bytes_in, passes_by, status_by};
 
-use crate::body::Body;
+use crate::body::{Body, CheckBody};
 use crate::comparison::Comparison;
 use crate::shown::Shown;
 use crate::status::{NOT_PASSED, PASSED};
@@ -20,6 +20,7 @@ use jc_gate::ask::all_pass;
 use jc_gate::gate::Gate;
 use jc_report::link_text::link_text;
 use jc_report::made_text::made_text;
+use jc_table::table::Table;
 use jc_words::check::Check;
 use std::alloc::{AllocError, Global};
 
@@ -68,25 +69,28 @@ fn push_rules(rules: &mut Vec<u8>, collisions: &[Collision]) -> Result<(), Alloc
     Ok(())
 }
 
-// What is put of a comparison: its verdict, which is shown where there is a folder for that. Else the
-// tables are dropped.
+// What the witnesses are made of, where there is a folder for them. Else the tables are dropped.
+fn shown_in(dir: Option<&str>, old: Table, new: Table) -> Option<Shown<'_>>
+    ensures { IsShownIn (option_map (λ d. d.now) dir.entry) old new result }
+{
+    match dir {
+        Some(dir) => Some(Shown { dir, old, new }),
+        None => None,
+    }
+}
+
+// What is put of a comparison: its verdict, with what its witnesses are made of.
 fn body_of(comparison: Comparison, json: bool, dir: Option<&str>) -> Body<'_>
-    ensures bytes { bytes_in result ≡ verdict_bytes json comparison.verdict }
+    ensures bytes { bytes_in result ≡ check_bytes json (report_of comparison.verdict) }
     ensures shown { HasToShow (option_map (λ d. d.now) dir.entry) comparison.old comparison.new comparison.verdict result }
 {
     let Comparison { old, new, verdict } = comparison;
-    match dir {
-        Some(dir) => Body::Shown {
-            json,
-            of: Shown {
-                dir,
-                old,
-                new,
-                verdict,
-            },
-        },
-        None => Body::Verdict { json, verdict },
-    }
+    let shown = shown_in(dir, old, new);
+    Body::Check(CheckBody {
+        json,
+        verdict,
+        shown,
+    })
 }
 
 // Whether each outcome is Ok.
@@ -97,8 +101,9 @@ fn are_ok(outcomes: &[Outcome]) -> bool
 }
 
 impl<'a> Report<'a> {
-    /// The text or JSON of a comparison's verdict, as the check asks, which passes by the gates that the
-    /// check names. It is shown by witness files where the check has a folder for them.
+    /// The report of a check, as text or as JSON, as the check asks: the verdict of the comparison. It passes
+    /// by the gates that the check names, and is shown by witness files where the check has a folder for
+    /// them.
     ///
     /// # Errors
     ///
@@ -108,7 +113,7 @@ impl<'a> Report<'a> {
         comparison: Comparison,
         check: &Check<'a>,
     ) -> Result<Report<'a>, AllocError>
-        ensures tells { IfOk result (TellsOf (CheckCommand (check_of check.now)) comparison.verdict) }
+        ensures tells { IfOk result (TellsOf (CheckCommand (check_of check.now)) (report_of comparison.verdict)) }
         ensures shown { IfOk result (λ report. HasToShow (check_of check.now).witness comparison.old comparison.new comparison.verdict report.body) }
     {
         let names = check.gate_names(alloc)?;

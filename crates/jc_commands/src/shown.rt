@@ -1,14 +1,12 @@
 //! What witnesses are to show.
-use jc_facts::verdict::Verdict;
 use jc_table::table::Table;
 
-/// A verdict whose witnesses are asked for: the folder that they are put into, the platform with the
-/// old release and with the new one, and what was found.
+/// What the witnesses of a verdict are made of, where they are asked for: the folder that they are put
+/// into, and the platform with the old release and with the new one.
 pub struct Shown<'a> {
     pub dir: &'a str,
     pub old: Table,
     pub new: Table,
-    pub verdict: Verdict,
 }
 
 // One call at each exit of a function that owns it, where a derived drop is written out.
@@ -18,7 +16,6 @@ impl Drop for Shown<'_> {
             dir: _,
             old: _,
             new: _,
-            verdict: _,
         } = self;
     }
 }

@@ -2,7 +2,7 @@
 ghost use Rattle.std.specs.Prelude.{◌≡◌, ◌++◌, codes, IfOk, OnOk};
 ghost use Rattle.jc_facts.specs.print.Text.{printed};
 ghost use Rattle.jc_trees.specs.Tree.{tree_words};
-ghost use Rattle.jc_commands.specs.Stop.{reason_name as name_of, code_reason_name as name_of_code_reason, part_name as part_name_of, client_part_name as name_of_client_part, file_words, unread_words, usage_words, line_of, file_status as file_status_of, tree_status as tree_status_of, status_of};
+ghost use Rattle.jc_commands.specs.Stop.{reason_name as name_of, code_reason_name as name_of_code_reason, part_name as part_name_of, client_part_name as name_of_client_part, report_part_name as name_of_part, file_words, unread_words, usage_words, line_of, file_status as file_status_of, tree_status as tree_status_of, status_of};
 
 use crate::status::{BAD_INPUT, LIMIT, NO_MEMORY, READ_FAULT, USAGE};
 use jc_base::name::Name;
@@ -15,6 +15,13 @@ use jc_trees::file_fault::{FileFault, TreeFault};
 use jc_trees::tree::TreeName;
 use jc_words::usage::Usage;
 use std::alloc::{AllocError, Global};
+
+/// The part of a report that can have too many items.
+#[derive(Clone, Copy, Debug)]
+pub enum Part {
+    /// Its findings and collisions.
+    Findings,
+}
 
 /// Why there is no report.
 #[derive(Debug, Drop)]
@@ -29,8 +36,8 @@ pub enum Stop {
     Overlap(TreeName, Name),
     /// The platform and the release don't allow a client of this name.
     ClientName(Name, ClientPart),
-    /// There are more findings and collisions than the limit.
-    TooManyFindings,
+    /// This part of the report has more items than the limit.
+    TooMany(Part),
     /// A call on the tree failed.
     ReadFault(TreeName),
     /// There was no memory.
@@ -108,6 +115,14 @@ fn client_part_name(part: ClientPart) -> &'static str
         ClientPart::Package => "package",
         ClientPart::Length => "length",
         ClientPart::Encoding => "encoding",
+    }
+}
+
+fn report_part_name(part: Part) -> &'static str
+    ensures { result.now ≡ name_of_part part }
+{
+    match part {
+        Part::Findings => "findings",
     }
 }
 
@@ -202,6 +217,16 @@ fn client_name_line(alloc: Global, name: &Name, part: ClientPart) -> Result<Vec<
     Ok(line)
 }
 
+// The line on a part of the report that has too many items.
+fn too_many_line(alloc: Global, part: Part) -> Result<Vec<u8>, AllocError>
+    ensures { IfOk result (λ line. line.items ≡ codes "jcompat: limit " ++ name_of_part part ++ codes "\n") }
+{
+    let mut line = Vec::from_slice(alloc, b"jcompat: limit ")?;
+    line.extend_from_slice(report_part_name(part).as_bytes())?;
+    line.push(b'\n')?;
+    Ok(line)
+}
+
 fn usage_line(alloc: Global, usage: &Usage) -> Result<Vec<u8>, AllocError>
     ensures { IfOk result (λ line. line.items ≡ codes "jcompat: usage: " ++ usage_words usage.now ++ codes "\n") }
 {
@@ -235,7 +260,7 @@ impl Stop {
             Stop::Usage(_) => USAGE,
             Stop::Unread(_, fault) => tree_status(fault),
             Stop::BadRoot(_) | Stop::Overlap(..) | Stop::ClientName(..) => BAD_INPUT,
-            Stop::TooManyFindings => LIMIT,
+            Stop::TooMany(_) => LIMIT,
             Stop::ReadFault(_) => READ_FAULT,
             Stop::Memory => NO_MEMORY,
         }
@@ -251,7 +276,7 @@ impl Stop {
             Stop::BadRoot(part) => bad_root_line(alloc, *part),
             Stop::Overlap(tree, name) => overlap_line(alloc, *tree, name),
             Stop::ClientName(name, part) => client_name_line(alloc, name, *part),
-            Stop::TooManyFindings => Vec::from_slice(alloc, b"jcompat: limit findings\n"),
+            Stop::TooMany(part) => too_many_line(alloc, *part),
             Stop::ReadFault(tree) => tree_line(alloc, *tree, b": read fault\n"),
             Stop::Memory => Ok(Vec::new(alloc)),
         }

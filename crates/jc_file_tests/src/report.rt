@@ -1,12 +1,14 @@
 //! The printed forms of verdicts.
 use jc_base::items::Items;
 use jc_base::name::Name;
+use jc_base::sure_sink::SureSink;
 use jc_facts::act::Act;
 use jc_facts::finding::Finding;
 use jc_facts::key::Key;
 use jc_facts::link_error::LinkError;
 use jc_facts::verdict::{Collision, Note, Verdict};
 use jc_report::json::json;
+use jc_report::put_listing::put_listing;
 use jc_report::text::text;
 use std::alloc::Global;
 use std::process::Abort;
@@ -280,4 +282,27 @@ fn prints_the_last_line_alone(rt: HostRuntime) {
     };
     let line = "compatible: 0 findings, 0 collisions, 0 notes\n";
     assert!(rt; has_text(&rt, rt.alloc(), &verdict, line));
+}
+
+const NOTES_TEXT: &str = "note unloadable old p/X ClassCircularityError
+note unloadable new p/Y NoClassDefFoundError
+note constant p/A f:I
+";
+
+const NOTES_JSON: &str =
+    r#"{"warnings":[{"class":"p/X","detail":"ClassCircularityError","kind":"unloadable","member":null,"side":"old"},{"class":"p/Y","detail":"NoClassDefFoundError","kind":"unloadable","member":null,"side":"new"},{"class":"p/A","detail":null,"kind":"constant","member":"f:I","side":null}]}
+"#;
+
+// The listing of all notes, below a key of its own.
+fn listed(rt: &impl Abort, alloc: Global, as_json: bool, want: &str) -> bool {
+    let notes = notes(rt, alloc);
+    let mut sink = SureSink::new(alloc);
+    put_listing(alloc, as_json, "warnings", notes.as_slice(), &mut sink).expect(rt, "put");
+    sink.bytes() == want.as_bytes()
+}
+
+#[test]
+fn lists_items_as_lines_or_below_one_key(rt: HostRuntime) {
+    assert!(rt; listed(&rt, rt.alloc(), false, NOTES_TEXT));
+    assert!(rt; listed(&rt, rt.alloc(), true, NOTES_JSON));
 }

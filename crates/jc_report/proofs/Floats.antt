@@ -1,5 +1,6 @@
 -- The JSON of a verdict has no float.
 use Rattle.std.proofs.Common.{◌≡◌, ◌||◌, ◌+◌, ℕ, Bool, true, false, List, [], ◌∷◌, Option, Some, None, refl, length}
+use Rattle.serde_json.specs.Data.{Data}
 use Rattle.serde_json.specs.View.{items_of}
 use Rattle.serde_json.specs.Written.{has_float, items_have_float}
 use Rattle.jc_facts.specs.declared.key.Key.{Key}
@@ -9,9 +10,10 @@ use Rattle.jc_facts.specs.declared.verdict.Note.{Note}
 use Rattle.jc_facts.specs.declared.verdict.Note.TheVariants as notes
 use Rattle.jc_facts.specs.declared.verdict.Verdict.{Verdict}
 use Rattle.jc_facts.specs.Names.{Bytes}
-use Rattle.jc_report.specs.Json.{name_or_null, member_or_null, finding_json, collision_json, note_json, findings_json, collisions_json, notes_json, verdict_json}
+use Rattle.jc_report.specs.Json.{name_or_null, member_or_null, finding_json, collision_json, note_json, verdict_json}
+use Rattle.jc_report.specs.Listing.{values_from}
 
-either : (a b : Bool) → a ≡ false → b ≡ false → (a || b) ≡ false
+pub either : (a b : Bool) → a ≡ false → b ≡ false → (a || b) ≡ false
 either true b x y = x
 either false b x y = y
 
@@ -23,27 +25,26 @@ member_plain : (k : Option Key) (x : Option Bytes) → has_float (member_or_null
 member_plain None x = name_plain x
 member_plain (Some k) x = refl
 
-finding_plain : (n : ℕ) (f : Finding) → has_float (finding_json n f) ≡ false
+pub finding_plain : (n : ℕ) (f : Finding) → has_float (finding_json n f) ≡ false
 finding_plain n f = rw (member_plain f.key f.target, name_plain f.seat) refl
 
 collision_plain : (n : ℕ) (c : Collision) → has_float (collision_json n c) ≡ false
 collision_plain n c = refl
 
-note_plain : (n : Note) → has_float (note_json n) ≡ false
+pub note_plain : (n : Note) → has_float (note_json n) ≡ false
 note_plain (notes.Unloadable old x e) = refl
 note_plain (notes.Fixed x k) = refl
 
-findings_plain : (n : ℕ) (fs : List Finding) → items_have_float (items_of (findings_json n fs)) ≡ false
-findings_plain n [] = refl
-findings_plain n (f ∷ fs) = either _ _ (finding_plain n f) (findings_plain (n + 1) fs)
-
-collisions_plain : (n : ℕ) (cs : List Collision) → items_have_float (items_of (collisions_json n cs)) ≡ false
-collisions_plain n [] = refl
-collisions_plain n (c ∷ cs) = either _ _ (collision_plain n c) (collisions_plain (n + 1) cs)
-
-notes_plain : (ns : List Note) → items_have_float (items_of (notes_json ns)) ≡ false
-notes_plain [] = refl
-notes_plain (n ∷ ns) = either _ _ (note_plain n) (notes_plain ns)
+-- the objects of items
+pub each_plain : {A : Type 0} (shaped : A → ℕ → Data) → ((x : A) (n : ℕ) → has_float (shaped x n) ≡ false) → (n : ℕ) (xs : List A) → items_have_float (items_of (values_from shaped n xs)) ≡ false
+each_plain shaped h n [] = refl
+each_plain shaped h n (x ∷ xs) = either _ _ (h x n) (each_plain shaped h (n + 1) xs)
 
 pub verdict_plain : (v : Verdict) → has_float (verdict_json v) ≡ false
-verdict_plain v = rw (collisions_plain (length v.findings + 1) v.collisions, findings_plain 1 v.findings, notes_plain v.notes) refl
+verdict_plain v =
+    rw (
+      each_plain (λ c n. collision_json n c) (λ c n. collision_plain n c) (length v.findings + 1) v.collisions,
+      each_plain (λ f n. finding_json n f) (λ f n. finding_plain n f) 1 v.findings,
+      each_plain (λ (note : Note) (n : ℕ). note_json note) (λ note n. note_plain note) 0 v.notes,
+    )
+    refl

@@ -8,7 +8,7 @@ use Rattle.jc_facts.specs.declared.verdict.Note.{Note}
 use Rattle.jc_facts.specs.declared.verdict.Verdict.{Verdict}
 use Rattle.jc_facts.specs.Names.{Bytes}
 use Rattle.jc_facts.specs.print.Text.{line_of_finding, lines_of_findings, line_of_collision, lines_of_collisions, line_of_note, lines_of_notes, last_line_of, text_of}
-use Rattle.jc_report.specs.steps.Lines.{lines_from}
+use Rattle.jc_report.specs.Listing.{lines_from}
 use Rattle.jc_report.proofs.Puts.{IsPut, put_nothing, put_more, put_failed, put_all, put_last_failed}
 
 -- ---- lines
@@ -45,16 +45,16 @@ note_lines n [] = refl
 note_lines n (x ∷ ns) = ap (λ (t : Bytes). line_of_note x ++ t) (note_lines (n + 1) ns)
 
 module _ (v : Verdict) where
-  abbrev findings : Bytes
+  abbrev pub findings : Bytes
   findings = lines_from (λ f m. line_of_finding m f) 1 v.findings
 
-  abbrev collisions : Bytes
+  abbrev pub collisions : Bytes
   collisions = lines_from (λ c m. line_of_collision m c) (length v.findings + 1) v.collisions
 
-  abbrev notes : Bytes
+  abbrev pub notes : Bytes
   notes = lines_from (λ (note : Note) m. line_of_note note) 0 v.notes
 
-  abbrev last : Bytes
+  abbrev pub last : Bytes
   last = last_line_of v
 
   parts : text_of v ≡ findings ++ (collisions ++ (notes ++ last))
@@ -65,6 +65,10 @@ module _ (v : Verdict) where
       ∙ ap (λ (t : Bytes). t ++ (lines_of_collisions (length v.findings + 1) v.collisions ++ (lines_of_notes v.notes ++ last))) (sym (finding_lines 1 v.findings))
       ∙ ap (λ (t : Bytes). findings ++ (t ++ (lines_of_notes v.notes ++ last))) (sym (collision_lines (length v.findings + 1) v.collisions))
       ∙ ap (λ (t : Bytes). findings ++ (collisions ++ (t ++ last))) (sym (note_lines 0 v.notes))
+
+  -- the text that is made in the order of its lines
+  pub joined : ((findings ++ collisions) ++ notes) ++ last ≡ text_of v
+  joined = append_assoc (findings ++ collisions) notes last ∙ append_assoc findings collisions (notes ++ last) ∙ sym parts
 
   module _ (a b : Taken) where
     start : IsPut a a (findings ++ (collisions ++ (notes ++ last))) (text_of v)

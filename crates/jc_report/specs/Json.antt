@@ -1,8 +1,7 @@
 -- The JSON of a verdict, as bytes: which members each object has, in the byte order of their keys, by what `serde_json` means by a text.
-use Rattle.std.specs.Prelude.{ℕ, List, [], ◌∷◌, ◌++◌, ◌+◌, length, Option, Some, None, codes}
-use Rattle.serde_json.specs.Data.{Data, null, number, unsigned, string, array, object, Members, no_members, member as one_member}
+use Rattle.std.specs.Prelude.{ℕ, List, [], ◌∷◌, ◌+◌, length, Option, Some, None, codes}
+use Rattle.serde_json.specs.Data.{Data, null, number, unsigned, string, array, object}
 use Rattle.serde_json.specs.View.{items_of}
-use Rattle.serde_json.specs.Written.{compact_text}
 use Rattle.jc_facts.specs.declared.key.Key.{Key}
 use Rattle.jc_facts.specs.declared.act.Act.{Act}
 use Rattle.jc_facts.specs.declared.link_error.LinkError.{LinkError}
@@ -13,11 +12,7 @@ use Rattle.jc_facts.specs.declared.verdict.Note.TheVariants as notes
 use Rattle.jc_facts.specs.declared.verdict.Verdict.{Verdict}
 use Rattle.jc_facts.specs.Names.{Bytes}
 use Rattle.jc_facts.specs.print.Text.{printed, printed_key, rule_name, word_of_act, name_of_error, word_of_side, verdict_word}
-
--- members, each a key and a value
-abbrev pub members_of : List (Bytes × Data) → Members
-members_of [] = no_members
-members_of (m ∷ ms) = one_member m.0 m.1 (members_of ms)
+use Rattle.jc_report.specs.Listing.{members_of, values_from, json_line}
 
 -- a name, or null where there is none
 abbrev pub name_or_null : Option Bytes → Data
@@ -60,20 +55,6 @@ abbrev pub note_json : Note → Data
 note_json (notes.Unloadable old x e) = note_with x (string (name_of_error e)) (codes "unloadable") null (string (word_of_side old))
 note_json (notes.Fixed x k) = note_with x null (codes "constant") (string (printed_key k)) null
 
--- findings, numbered from a first number on
-abbrev pub findings_json : ℕ → List Finding → List Data
-findings_json n [] = []
-findings_json n (f ∷ fs) = finding_json n f ∷ findings_json (n + 1) fs
-
--- collisions, numbered from a first number on
-abbrev pub collisions_json : ℕ → List Collision → List Data
-collisions_json n [] = []
-collisions_json n (c ∷ cs) = collision_json n c ∷ collisions_json (n + 1) cs
-
-abbrev pub notes_json : List Note → List Data
-notes_json [] = []
-notes_json (n ∷ ns) = note_json n ∷ notes_json ns
-
 abbrev pub verdict_with : List Data → List Data → List Data → Bytes → Data
 verdict_with collisions findings ns word = object (members_of (
     (codes "collisions", array (items_of collisions)) ∷
@@ -83,8 +64,10 @@ verdict_with collisions findings ns word = object (members_of (
 
 -- a verdict. The numbers of the collisions go on after those of the findings
 abbrev pub verdict_json : Verdict → Data
-verdict_json v = verdict_with (collisions_json (length v.findings + 1) v.collisions) (findings_json 1 v.findings) (notes_json v.notes) (verdict_word v.findings)
+verdict_json v =
+    verdict_with (values_from (λ c n. collision_json n c) (length v.findings + 1) v.collisions) (values_from (λ f n. finding_json n f) 1 v.findings) (values_from (λ note n. note_json note) 0 v.notes)
+    (verdict_word v.findings)
 
--- the text without spaces, and a line end
+-- its text, as a line
 unfoldable pub json_of : Verdict → Bytes
-json_of v = compact_text (verdict_json v) ++ codes "\n"
+json_of v = json_line (verdict_json v)

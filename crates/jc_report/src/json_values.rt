@@ -1,9 +1,9 @@
 //! The JSON of findings, collisions and notes.
-ghost use Rattle.std.specs.Prelude.{◌≡◌, ◌+◌, IfOk, map, length};
+ghost use Rattle.std.specs.Prelude.{◌≡◌, IfOk};
 ghost use Rattle.serde_json.specs.Data.{string};
 ghost use Rattle.serde_json.specs.View.{view};
 ghost use Rattle.jc_facts.specs.print.Text.{printed, printed_key};
-ghost use Rattle.jc_report.specs.Json.{name_or_null, member_or_null, finding_json, collision_json, note_with, note_json, findings_json, collisions_json, notes_json};
+ghost use Rattle.jc_report.specs.Json.{name_or_null, member_or_null, finding_json, collision_json, note_with, note_json};
 
 use crate::printed::{push_key, push_printed};
 use crate::printed_words::{act_word, error_name, rule_text, side_word};
@@ -48,7 +48,12 @@ fn member_value(alloc: Global, finding: &Finding) -> Result<Value, AllocError>
     }
 }
 
-fn finding_value(alloc: Global, number: usize, finding: &Finding) -> Result<Value, AllocError>
+/// The object of a finding of this number.
+///
+/// # Errors
+///
+/// `AllocError` where memory runs out.
+pub fn finding_value(alloc: Global, number: usize, finding: &Finding) -> Result<Value, AllocError>
     ensures { IfOk result (λ v. view v ≡ finding_json number finding.now) }
 {
     json!(in alloc; {
@@ -62,7 +67,16 @@ fn finding_value(alloc: Global, number: usize, finding: &Finding) -> Result<Valu
     })
 }
 
-fn collision_value(alloc: Global, number: usize, collision: &Collision) -> Result<Value, AllocError>
+/// The object of a collision of this number.
+///
+/// # Errors
+///
+/// `AllocError` where memory runs out.
+pub fn collision_value(
+    alloc: Global,
+    number: usize,
+    collision: &Collision,
+) -> Result<Value, AllocError>
     ensures { IfOk result (λ v. view v ≡ collision_json number collision.now) }
 {
     json!(in alloc; {
@@ -76,7 +90,12 @@ fn collision_value(alloc: Global, number: usize, collision: &Collision) -> Resul
     })
 }
 
-fn note_value(alloc: Global, note: &Note) -> Result<Value, AllocError>
+/// The object of a note.
+///
+/// # Errors
+///
+/// `AllocError` where memory runs out.
+pub fn note_value(alloc: Global, note: &Note) -> Result<Value, AllocError>
     ensures { IfOk result (λ v. view v ≡ note_json note.now) }
 {
     match note {
@@ -95,53 +114,4 @@ fn note_value(alloc: Global, note: &Note) -> Result<Value, AllocError>
             "side": null
         }),
     }
-}
-
-/// The findings, numbered from 1.
-///
-/// # Errors
-///
-/// `AllocError` where memory runs out.
-pub fn finding_values(alloc: Global, findings: &[Finding]) -> Result<Vec<Value>, AllocError>
-    ensures { IfOk result (λ values. map view values.items ≡ findings_json 1 findings.now) }
-{
-    let mut values = Vec::new(alloc);
-    for (i, finding) in findings.iter().enumerate() {
-        values.push(finding_value(alloc, i + 1, finding)?)?;
-    }
-    Ok(values)
-}
-
-/// The collisions, numbered from the number after those of the findings.
-///
-/// # Errors
-///
-/// `AllocError` where memory runs out.
-pub fn collision_values(
-    alloc: Global,
-    findings: &[Finding],
-    collisions: &[Collision],
-) -> Result<Vec<Value>, AllocError>
-    ensures { IfOk result (λ values. map view values.items ≡ collisions_json (length findings.now + 1) collisions.now) }
-{
-    let mut values = Vec::new(alloc);
-    for (i, collision) in collisions.iter().enumerate() {
-        values.push(collision_value(alloc, findings.len() + i + 1, collision)?)?;
-    }
-    Ok(values)
-}
-
-/// The notes.
-///
-/// # Errors
-///
-/// `AllocError` where memory runs out.
-pub fn note_values(alloc: Global, notes: &[Note]) -> Result<Vec<Value>, AllocError>
-    ensures { IfOk result (λ values. map view values.items ≡ notes_json notes.now) }
-{
-    let mut values = Vec::new(alloc);
-    for note in notes {
-        values.push(note_value(alloc, note)?)?;
-    }
-    Ok(values)
 }

@@ -1,15 +1,18 @@
 //! The printed forms of verdicts and of outcomes.
 #![tactic(auto)]
 
+pub mod entries;
+pub mod entry;
 pub mod json;
+mod json_line;
 mod json_values;
 pub mod laws;
-mod line;
 mod lines;
 pub mod link_text;
 pub mod made_text;
 pub mod printed;
 mod printed_words;
 pub mod put_lines;
+pub mod put_listing;
 pub mod put_text;
 pub mod text;

@@ -1,6 +1,6 @@
-//! The lines of a verdict.
-ghost use Rattle.std.specs.Prelude.{◌≡◌, ◌++◌, ◌+◌, ◌<◌, ◌^◌, codes, length, OnOk, IfOk};
-ghost use Rattle.jc_facts.specs.print.Text.{printed, printed_key, printed_member, word_of_side, name_of_error, line_of_finding, lines_of_findings, line_of_collision, lines_of_collisions, line_of_note, lines_of_notes};
+//! The lines of findings, collisions and notes.
+ghost use Rattle.std.specs.Prelude.{◌≡◌, ◌++◌, codes, OnOk, IfOk};
+ghost use Rattle.jc_facts.specs.print.Text.{printed, printed_key, printed_member, word_of_side, name_of_error, line_of_finding, line_of_collision, line_of_note};
 
 use crate::printed::{push_decimal, push_key, push_name, push_printed};
 use crate::printed_words::{act_word, error_name, rule_text, side_word};
@@ -47,22 +47,6 @@ pub fn finding_line(alloc: Global, number: usize, finding: &Finding) -> Result<V
     Ok(line)
 }
 
-/// The lines of the findings, numbered from 1.
-///
-/// # Errors
-///
-/// `AllocError` where memory runs out.
-pub fn finding_lines(alloc: Global, findings: &[Finding]) -> Result<Vec<u8>, AllocError>
-    ensures { IfOk result (λ text. text.items ≡ lines_of_findings 1 findings.now) }
-{
-    let mut text = Vec::new(alloc);
-    for (i, finding) in findings.iter().enumerate() {
-        let line = finding_line(alloc, i + 1, finding)?;
-        text.extend_from_slice(line.as_slice())?;
-    }
-    Ok(text)
-}
-
 /// The line of a collision of this number, its line end with it.
 ///
 /// # Errors
@@ -90,26 +74,6 @@ pub fn collision_line(
     line.extend_from_slice(error_name(collision.error).as_bytes())?;
     line.extend_from_slice(b"\n")?;
     Ok(line)
-}
-
-/// The lines of the collisions, numbered from the number after those of the findings.
-///
-/// # Errors
-///
-/// `AllocError` where memory runs out.
-pub fn collision_lines(
-    alloc: Global,
-    findings: &[Finding],
-    collisions: &[Collision],
-) -> Result<Vec<u8>, AllocError>
-    ensures { IfOk result (λ text. text.items ≡ lines_of_collisions (length findings.now + 1) collisions.now) }
-{
-    let mut text = Vec::new(alloc);
-    for (i, collision) in collisions.iter().enumerate() {
-        let line = collision_line(alloc, findings.len() + i + 1, collision)?;
-        text.extend_from_slice(line.as_slice())?;
-    }
-    Ok(text)
 }
 
 // The line of a class that doesn't load, its line end with it.
@@ -156,20 +120,4 @@ pub fn note_line(alloc: Global, note: &Note) -> Result<Vec<u8>, AllocError>
         Note::Unloadable { old, class, error } => unloadable_line(alloc, *old, class, *error),
         Note::Fixed { class, key } => constant_line(alloc, class, key),
     }
-}
-
-/// The lines of the notes.
-///
-/// # Errors
-///
-/// `AllocError` where memory runs out.
-pub fn note_lines(alloc: Global, notes: &[Note]) -> Result<Vec<u8>, AllocError>
-    ensures { IfOk result (λ text. text.items ≡ lines_of_notes notes.now) }
-{
-    let mut text = Vec::new(alloc);
-    for note in notes {
-        let line = note_line(alloc, note)?;
-        text.extend_from_slice(line.as_slice())?;
-    }
-    Ok(text)
 }

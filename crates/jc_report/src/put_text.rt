@@ -3,23 +3,23 @@ ghost use Rattle.std.specs.Prelude.{◌≤◌, ◌<◌, ◌+◌, ◌^◌, length
 ghost use Rattle.jc_base.specs.Causes.{Rose};
 ghost use Rattle.jc_base.specs.Outside.{TakesAll, TakesFront};
 ghost use Rattle.jc_facts.specs.print.Text.{last_line_of, text_of};
-ghost use Rattle.jc_report.specs.steps.Lines.{lines_from};
+ghost use Rattle.jc_report.specs.Listing.{lines_from};
 
-use crate::line::Line;
+use crate::entry::Entry;
 use crate::text::last_line;
 use jc_base::sink::{Sink, SinkError};
 use jc_facts::verdict::Verdict;
 use std::alloc::Global;
 
 // Puts the line of an item that has this number.
-fn put_line<O: Sink, L: Line>(
+fn put_line<O: Sink, E: Entry>(
     alloc: Global,
     number: usize,
-    item: &L,
+    item: &E,
     out: &mut O,
 ) -> Result<(), SinkError>
-    ensures ok { OnOk result (TakesAll (O.state out.old).taken (O.state out.new).taken (L.printed item.now number)) }
-    ensures err { OnErr result (TakesFront (O.state out.old).taken (O.state out.new).taken (L.printed item.now number)) }
+    ensures ok { OnOk result (TakesAll (O.state out.old).taken (O.state out.new).taken (E.printed item.now number)) }
+    ensures err { OnErr result (TakesFront (O.state out.old).taken (O.state out.new).taken (E.printed item.now number)) }
     ensures never_falls { (O.state out.old).faults ≤ (O.state out.new).faults }
     ensures cause { IsErrOf result SinkError.Fault → Rose (O.state out.old).faults (O.state out.new).faults }
 {
@@ -32,16 +32,20 @@ fn put_line<O: Sink, L: Line>(
     }
 }
 
-// Puts the lines of the items, whose numbers go on from this one. Each is made, put and dropped.
-fn put_each<O: Sink, L: Line>(
+/// Puts the lines of the items, whose numbers go on from this one. Each is made, put and dropped.
+///
+/// # Errors
+///
+/// `SinkError::Fault` where a put failed, and `SinkError::Memory` where memory runs out.
+pub(crate) fn put_each<O: Sink, E: Entry>(
     alloc: Global,
     first: usize,
-    items: &[L],
+    items: &[E],
     out: &mut O,
 ) -> Result<(), SinkError>
     requires { first + length items.now < 2 ^ 64 }
-    ensures ok { OnOk result (TakesAll (O.state out.old).taken (O.state out.new).taken (lines_from L.printed first items.now)) }
-    ensures err { OnErr result (TakesFront (O.state out.old).taken (O.state out.new).taken (lines_from L.printed first items.now)) }
+    ensures ok { OnOk result (TakesAll (O.state out.old).taken (O.state out.new).taken (lines_from E.printed first items.now)) }
+    ensures err { OnErr result (TakesFront (O.state out.old).taken (O.state out.new).taken (lines_from E.printed first items.now)) }
     ensures never_falls { (O.state out.old).faults ≤ (O.state out.new).faults }
     ensures cause { IsErrOf result SinkError.Fault → Rose (O.state out.old).faults (O.state out.new).faults }
 {

@@ -3,7 +3,7 @@ ghost use Rattle.std.specs.Prelude.{◌≡◌, ◌++◌, codes, length, IfOk};
 ghost use Rattle.std.specs.Fmt.{decimal};
 ghost use Rattle.jc_facts.specs.print.Text.{last_line_of, text_of};
 
-use crate::lines::{collision_lines, finding_lines, note_lines};
+use crate::entries::lines;
 use crate::printed::push_decimal;
 use crate::printed_words::verdict_word;
 use jc_facts::verdict::Verdict;
@@ -33,15 +33,14 @@ pub(crate) fn last_line(alloc: Global, verdict: &Verdict) -> Result<Vec<u8>, All
 /// # Errors
 ///
 /// `AllocError` where memory runs out.
-#[tactic(auto, unfolding(jc_facts::specs::print::Text::text_of))]
 pub fn text(alloc: Global, verdict: &Verdict) -> Result<Vec<u8>, AllocError>
     ensures exact { IfOk result (λ text. text.items ≡ text_of verdict.now) }
 {
     let findings = verdict.findings.as_slice();
-    let mut text = finding_lines(alloc, findings)?;
-    let collisions = collision_lines(alloc, findings, verdict.collisions.as_slice())?;
+    let mut text = lines(alloc, 1, findings)?;
+    let collisions = lines(alloc, findings.len() + 1, verdict.collisions.as_slice())?;
     text.extend_from_slice(collisions.as_slice())?;
-    let notes = note_lines(alloc, verdict.notes.as_slice())?;
+    let notes = lines(alloc, 0, verdict.notes.as_slice())?;
     text.extend_from_slice(notes.as_slice())?;
     let last = last_line(alloc, verdict)?;
     text.extend_from_slice(last.as_slice())?;

@@ -3,7 +3,6 @@ use Rattle.std.proofs.Common.{◌≡◌, ◌≢◌, ◌≤◌, ◌⊎◌, ◌==�
 use Rattle.std.specs.Prelude.{Result, Ok, IfOk}
 use Rattle.jc_base.specs.Outside.{FileOf}
 use Rattle.jc_base.specs.States.{TreesState}
-use Rattle.jc_facts.specs.declared.verdict.Verdict.{Verdict}
 use Rattle.jc_facts.specs.Names.{Bytes}
 use Rattle.jc_trees.specs.declared.file_fault.FileFault.{FileFault}
 use Rattle.jc_trees.specs.declared.file_fault.FileFault.TheVariants as faults
@@ -14,17 +13,18 @@ use Rattle.jc_commands.specs.declared.stop.Stop.{Stop}
 use Rattle.jc_commands.specs.declared.stop.Stop.TheVariants as stops
 use Rattle.jc_commands.specs.Causes.{HasCause, HasFailed}
 use Rattle.jc_commands.specs.Outputs.{IsQuiet, IsUntouched, PutsAll, PutsFront}
-use Rattle.jcompat.specs.Answers.{Ran, Answers, Due, due_bytes, Puts, PutsWitnesses, IsStopped, CutsWitnesses, CutsReport, CutsRefusal, OfFiles}
-use Rattle.jc_commands.specs.Check.{IsCompatible, IsIncompatible, IsWitnessed, verdict_bytes, old_side, new_side, puts_below}
+use Rattle.jcompat.specs.Answers.{Ran, Answers, Due, due_bytes, Puts, IsStopped, CutsWitnesses, CutsReport, CutsRefusal, Planned, IsPut, Leaves, OfFiles}
+use Rattle.jc_commands.specs.Check.{CheckReport, IsCompatible, IsIncompatible, IsBorneOut, HoldsClients, check_bytes, old_side, new_side, puts_below}
 use Rattle.jc_trees.specs.ClassFiles.{Told}
 use Rattle.jc_commands.specs.Command.{CommandOf, CheckOf, CheckCommand, LinkCommand, MakeCommand, witness_dir, asked}
 use Rattle.jc_commands.specs.Reports.{RecordsOf, IsReportOn, puts_of}
 use Rattle.jc_commands.specs.Stop.{line_of, file_status, status_of}
-use Rattle.jc_commands.specs.Witness.{PutsFiles}
+use Rattle.jc_commands.specs.Witness.{PutsFiles, PutsSome, causes_of, witness_puts}
 use Rattle.jc_commands.specs.ReportValue.{IsChecked, IsReportOf, Reports, bytes_in, dir_in, puts_in, passes_by, status_by}
 use Rattle.jc_commands.specs.Putting.{IsPutWith, IsPutAfter, IsCutBefore}
 use Rattle.jc_commands.proofs.Asked.{asked_without}
-use Rattle.jc_commands.proofs.Events.{told_to, not_refused, reported_accepted, refused_status, accepted_status}
+use Rattle.jc_commands.proofs.ShownFrom.{files_show_each, each_has_clients}
+use Rattle.jc_commands.proofs.Events.{told_to, told_weaker, not_refused, reported_accepted, refused_status, accepted_status}
 use Rattle.jc_trees.proofs.Results.{same_ok}
 
 -- a status isn't two numbers
@@ -51,9 +51,9 @@ if_ok {A} {E} r x P e h = subst (λ (s : Result A E). IfOk s P) e h
 
 -- what a check's report upholds
 record Upheld (content : Option (List FileOf)) (check : CheckOf) (report : Report) : Type 0 where
-  of : Verdict
+  of : CheckReport
   checked : Told content (λ files. IsChecked files check of (puts_in report.body))
-  text : bytes_in report.body ≡ verdict_bytes check.json of
+  text : bytes_in report.body ≡ check_bytes check.json of
 
 same_check : (c d : CheckOf) → CheckCommand c ≡ CheckCommand d → c ≡ d
 same_check c d e = cc
@@ -68,7 +68,7 @@ upheld : (trees : TreesState) (report : Report) (check : CheckOf) (command : Com
 upheld trees report check (CheckCommand c) e is = record {
   of = is.of;
   checked = subst (λ (d : CheckOf). Told trees.content (λ files. IsChecked files d is.of (puts_in report.body))) (same_check c check e) is.upholds;
-  text = subst (λ (d : CheckOf). bytes_in report.body ≡ verdict_bytes d.json is.of) (same_check c check e) is.tells.text;
+  text = subst (λ (d : CheckOf). bytes_in report.body ≡ check_bytes d.json is.of) (same_check c check e) is.tells.text;
 }
 upheld trees report check (LinkCommand l) e is = no_link l check e
 upheld trees report check (MakeCommand n) e is = no_make n check e
@@ -76,46 +76,61 @@ upheld trees report check (MakeCommand n) e is = no_make n check e
 module _ (r : Ran) (report : Report) (is : Reports r.gates r.words r.trees.before report)
     (put : IsPutAfter (puts_in report.body) r.folder (bytes_in report.body) (status_by (passes_by r.gates report.condition)) r.out r.status ⊎ IsCutBefore (dir_in report.body) (puts_in report.body) r.folder r.out r.status)
     (untouched : dir_in report.body ≡ None → IsUntouched r.folder) (quiet : IsQuiet r.err) (same : r.trees.after.content ≡ r.trees.before.content) where
+  abbrev reported : List FileOf → Type 0
+  reported files = (records : RecordsOf files is.command) × IsReportOn files is.command records is.is.of × (puts_in report.body ≡ puts_of files is.command records is.is.of)
+
   abbrev due : Due r
-  due = record { command = is.command; asked_for = is.asked_for; report = is.is.of; witnesses = puts_in report.body; is_report = is.is.is_report }
+  due = record { command = is.command; asked_for = is.asked_for; report = is.is.of; is_report = told_weaker is.command r.trees.before.content reported _ (λ files h. (h.0, h.1)) is.is.is_report }
+
+  abbrev planned : Planned r
+  planned = record { due = due; puts = puts_in report.body; planned = is.is.is_report }
 
   abbrev passed_by : Bool
   passed_by = passes_by r.gates report.condition
 
-  abbrev reported : List FileOf → Type 0
-  reported files = (records : RecordsOf files is.command) × IsReportOn files is.command records is.is.of × (puts_in report.body ≡ puts_of files is.command records is.is.of)
-
   -- what was put with status 0, and with status 1
   record IsWhole : Type 0 where
     puts : (bytes : Bytes) → bytes_in report.body ≡ bytes → Puts r bytes
-    witnesses : PutsWitnesses r due
+    witnesses : PutsFiles r.folder (puts_in report.body)
+
+  data Cut : Type 0 where
+    in_witnesses : CutsWitnesses r due → PutsSome r.folder (puts_in report.body) → Cut
+    in_report : CutsReport r due → PutsFiles r.folder (puts_in report.body) → Cut
+
+  without_files : Cut → CutsWitnesses r due ⊎ CutsReport r due
+  without_files (in_witnesses c some) = inl c
+  without_files (in_report c whole) = inr c
+
+  with_files : Cut → (CutsWitnesses r due × PutsSome r.folder (puts_in report.body)) ⊎ (CutsReport r due × PutsFiles r.folder (puts_in report.body))
+  with_files (in_witnesses c some) = inl (c, some)
+  with_files (in_report c whole) = inr (c, whole)
 
   data Case : Type 0 where
     passed : passed_by ≡ true → r.status ≡ PASSED → IsWhole → Case
     not_passed : passed_by ≡ false → r.status ≡ NOT_PASSED → IsWhole → Case
-    cut : (r.status ≡ WRITE_FAULT) ⊎ (r.status ≡ NO_MEMORY) → CutsWitnesses r due ⊎ CutsReport r due → Case
+    cut : (r.status ≡ WRITE_FAULT) ⊎ (r.status ≡ NO_MEMORY) → Cut → Case
 
   module _ (after : IsPutAfter (puts_in report.body) r.folder (bytes_in report.body) (status_by passed_by) r.out r.status) where
     whole : r.status ≡ status_by passed_by → r.status ≢ NO_MEMORY → IsWhole
     whole s apart = record { puts = λ bytes text. record { output = subst (PutsAll r.out) text (after.put.whole s apart); errors = quiet }; witnesses = after.witnesses }
 
     in_time : (r.status ≡ WRITE_FAULT) ⊎ (r.status ≡ NO_MEMORY) → CutsReport r due
-    in_time h = record { folder = after.witnesses; output = subst (PutsFront r.out) is.is.tells.text (after.put.cut h); errors = quiet; cause = after.put.cause }
+    in_time h = record { output = subst (PutsFront r.out) is.is.tells.text (after.put.cut h); errors = quiet; cause = after.put.cause }
 
     by_status : (b : Bool) → passed_by ≡ b → (r.status ≡ status_by passed_by) ⊎ (r.status ≡ WRITE_FAULT) ⊎ (r.status ≡ NO_MEMORY) → Case
     by_status true e (inl s) = let zero : r.status ≡ PASSED = s ∙ ap status_by e in passed e zero (whole s (λ six. clash r.status 0 6 zero six refl))
     by_status false e (inl s) = let one : r.status ≡ NOT_PASSED = s ∙ ap status_by e in not_passed e one (whole s (λ six. clash r.status 1 6 one six refl))
-    by_status b e (inr h) = cut h (inr (in_time h))
+    by_status b e (inr h) = cut h (in_report (in_time h) after.witnesses)
 
   before_time : IsCutBefore (dir_in report.body) (puts_in report.body) r.folder r.out r.status → CutsWitnesses r due
-  before_time k = record { asked_for = (k.asked_for.0, sym is.is.dir_is ∙ k.asked_for.1); folder = k.witnesses; output = k.output; errors = quiet; cause = k.cause }
+  before_time k = record { asked_for = (k.asked_for.0, sym is.is.dir_is ∙ k.asked_for.1); output = k.output; errors = quiet; cause = k.cause }
 
   the_case : Case
   the_case = go put
     where
       go : IsPutAfter (puts_in report.body) r.folder (bytes_in report.body) (status_by passed_by) r.out r.status ⊎ IsCutBefore (dir_in report.body) (puts_in report.body) r.folder r.out r.status → Case
       go (inl after) = by_status after passed_by refl after.put.known
-      go (inr k) = cut k.known (inl (before_time k))
+      go (inr k) = cut k.known (in_witnesses (before_time k) k.witnesses)
 
   never : {P : Type 0} (n : ℕ) → (0 == n) ≡ false → (1 == n) ≡ false → (5 == n) ≡ false → (6 == n) ≡ false → r.status ≡ n → P
   never {P} n e f g h s = go the_case
@@ -140,7 +155,7 @@ module _ (r : Ran) (report : Report) (is : Reports r.gates r.words r.trees.befor
   is_not_passed one (not_passed p s d) = (p, d)
   is_not_passed one (cut k d) = cut_clash r.status 1 k one refl refl
 
-  is_cut : (n : ℕ) → (0 == n) ≡ false → (1 == n) ≡ false → r.status ≡ n → Case → CutsWitnesses r due ⊎ CutsReport r due
+  is_cut : (n : ℕ) → (0 == n) ≡ false → (1 == n) ≡ false → r.status ≡ n → Case → Cut
   is_cut n e f s (passed p zero d) = clash r.status 0 n zero s e
   is_cut n e f s (not_passed p one d) = clash r.status 1 n one s f
   is_cut n e f s (cut k d) = d
@@ -152,30 +167,51 @@ module _ (r : Ran) (report : Report) (is : Reports r.gates r.words r.trees.befor
     up : Upheld r.trees.before.content check report
     up = upheld r.trees.before report check is.command (same_ok (asked r.words) is.command (CheckCommand check) words_ask e) is.is
 
-    checked : IsWhole → (v : Verdict) × Puts r (verdict_bytes check.json v) × (v.findings ≡ [] → OfFiles r (λ files. IsCompatible files check v)) × (v.findings ≢ [] → OfFiles r (λ files. IsIncompatible files check v))
+    checked : IsWhole → (report : CheckReport) × Puts r (check_bytes check.json report) × (report.verdict.findings ≡ [] → OfFiles r (λ files. IsCompatible files check report.verdict))
+        × (report.verdict.findings ≢ [] → OfFiles r (λ files. IsIncompatible files check report.verdict)) × OfFiles r (λ files. IsBorneOut files check report)
     checked p = (
       up.of,
-      p.puts (verdict_bytes check.json up.of) up.text,
-      λ none files told. let c = up.checked files told in record { records = c.records; verdict = c.verdict; none = none; keeps = c.kept none },
-      λ some files told. let c = up.checked files told in record { records = c.records; verdict = c.verdict; some = some; broken = c.broken some; breaks = c.breaks },
+      p.puts (check_bytes check.json up.of) up.text,
+      λ none files told. let c = up.checked files told in record { records = c.records; verdict = c.parts.verdict; none = none; keeps = c.kept none },
+      λ some files told. let c = up.checked files told in record { records = c.records; verdict = c.parts.verdict; some = some; broken = c.broken some; breaks = c.breaks },
+      λ files told.
+          let c = up.checked files told in
+          record {
+            records = c.records;
+            parts = c.parts;
+            shown = each_has_clients (old_side c.records) (new_side c.records) up.of.verdict c.parts.verdict.exact (causes_of up.of.verdict) c.shown;
+          },
     )
 
-    witnessed : (dir : Bytes) → check.witness ≡ Some dir → IsWhole → (v : Verdict) × OfFiles r (λ files. IsWitnessed files check v dir r.folder) × Puts r (verdict_bytes check.json v)
+    witnessed : (dir : Bytes) → check.witness ≡ Some dir → IsWhole
+        → (report : CheckReport) × OfFiles r (λ files. HoldsClients files check report.verdict dir r.folder) × Puts r (check_bytes check.json report)
     witnessed dir below p = (
       up.of,
       λ files told.
           let c = up.checked files told in record {
             records = c.records;
-            verdict = c.verdict;
-            put = subst (PutsFiles r.folder) (c.puts_are ∙ ap (λ d. puts_below d (old_side c.records) (new_side c.records) up.of) below) p.witnesses;
-            shown = c.shown;
+            verdict = c.parts.verdict;
+            puts = witness_puts dir (old_side c.records) (new_side c.records) up.of.verdict;
+            put = subst (PutsFiles r.folder) (c.puts_are ∙ ap (λ d. puts_below d (old_side c.records) (new_side c.records) up.of.verdict) below) p.witnesses;
+            shown = files_show_each (old_side c.records) (new_side c.records) up.of.verdict c.parts.verdict.exact dir 1 (causes_of up.of.verdict) c.shown;
           },
-      p.puts (verdict_bytes check.json up.of) up.text,
+      p.puts (check_bytes check.json up.of) up.text,
     )
 
   has_whole : (r.status ≡ PASSED) ⊎ (r.status ≡ NOT_PASSED) → IsWhole
   has_whole (inl zero) = (is_passed zero the_case).1
   has_whole (inr one) = (is_not_passed one the_case).1
+
+  is_put : (r.status ≡ PASSED) ⊎ (r.status ≡ NOT_PASSED) → IsPut r due
+  is_put (inl zero) = let p = is_passed zero the_case in record { answer = zero ∙ sym (ap status_by (sym (is.is.tells.answer r.gates) ∙ p.0)); put = p.1.puts (due_bytes due) is.is.tells.text }
+  is_put (inr one) = let p = is_not_passed one the_case in record { answer = one ∙ sym (ap status_by (sym (is.is.tells.answer r.gates) ∙ p.0)); put = p.1.puts (due_bytes due) is.is.tells.text }
+
+  the_cut : (r.status ≡ WRITE_FAULT) ⊎ (r.status ≡ NO_MEMORY) → Cut
+  the_cut (inl five) = is_cut 5 refl refl five the_case
+  the_cut (inr six) = is_cut 6 refl refl six the_case
+
+  leaves : Leaves r
+  leaves = record { answered = λ answered. (planned, is_put answered, (has_whole answered).witnesses); cut = λ h. inl (planned, with_files (the_cut h)) }
 
   accepted : Case → (r.status ≡ PASSED) ⊎ (r.status ≡ NOT_PASSED) ⊎ HasFailed r.status
   accepted (passed p zero d) = inl zero
@@ -186,8 +222,8 @@ module _ (r : Ran) (report : Report) (is : Reports r.gates r.words r.trees.befor
   pub report_answers : Answers r
   report_answers = record {
     known = known the_case;
-    passed = λ zero. let p = is_passed zero the_case in (due, sym (is.is.tells.answer r.gates) ∙ p.0, p.1.puts (due_bytes due) is.is.tells.text, p.1.witnesses);
-    not_passed = λ one. let p = is_not_passed one the_case in (due, sym (is.is.tells.answer r.gates) ∙ p.0, p.1.puts (due_bytes due) is.is.tells.text, p.1.witnesses);
+    passed = λ zero. let p = is_passed zero the_case in (due, sym (is.is.tells.answer r.gates) ∙ p.0, p.1.puts (due_bytes due) is.is.tells.text);
+    not_passed = λ one. let p = is_not_passed one the_case in (due, sym (is.is.tells.answer r.gates) ∙ p.0, p.1.puts (due_bytes due) is.is.tells.text);
     checked = λ answered check e. checked check e (has_whole answered);
     witnessed = λ answered check e dir below. witnessed check e dir below (has_whole answered);
     unwitnessed = λ none. untouched (is.is.dir_is ∙ if_ok (asked r.words) is.command (λ command. witness_dir command ≡ None) words_ask none);
@@ -195,8 +231,9 @@ module _ (r : Ran) (report : Report) (is : Reports r.gates r.words r.trees.befor
     bad_input = never 3 refl refl refl refl;
     read_fault = never 4 refl refl refl refl;
     limit = never 7 refl refl refl refl;
-    write_fault = λ five. inl (due, is_cut 5 refl refl five the_case);
-    no_memory = λ six. inl (due, is_cut 6 refl refl six the_case);
+    write_fault = λ five. inl (due, without_files (is_cut 5 refl refl five the_case));
+    no_memory = λ six. inl (due, without_files (is_cut 6 refl refl six the_case));
+    left = leaves;
     refused = λ files told stop h.
         let of = told_to is.command r.trees.before.content files told reported is.is.is_report in
         absurd (not_refused r.gates r.words files stop (reported_accepted r.gates r.words files is.command is.asked_for of.0 is.is.of of.1) h);
@@ -234,7 +271,7 @@ statuses (stops.Unread name (tree_faults.File path fault)) = file_statuses fault
 statuses (stops.BadRoot part) = is_status 3 (omega arith) refl refl refl
 statuses (stops.Overlap name x) = is_status 3 (omega arith) refl refl refl
 statuses (stops.ClientName x part) = is_status 3 (omega arith) refl refl refl
-statuses stops.TooManyFindings = is_status 7 (omega arith) refl refl refl
+statuses (stops.TooMany part) = is_status 7 (omega arith) refl refl refl
 statuses (stops.ReadFault name) = is_status 4 (omega arith) refl refl refl
 statuses stops.Memory = is_status 6 (omega arith) refl refl refl
 
@@ -280,6 +317,7 @@ module _ (r : Ran) (stop : Stop) (cause : HasCause r.gates r.words r.trees stop)
     limit = refuses 7 refl refl put.known;
     write_fault = λ five. inr (stop, cuts (inl five));
     no_memory = λ six. inr (stop, cuts (inr six));
+    left = record { answered = no_answer; cut = λ h. inr (stop, cuts h) };
     refused = λ files told. refused_status r.gates r.words r.trees files told stop cause r.status put.known;
     accepted = λ files told. accepted_status r.gates r.words r.trees files told stop cause r.status put.known;
     content = same;

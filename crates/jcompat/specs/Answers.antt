@@ -2,14 +2,14 @@
 use Rattle.std.specs.Prelude.{◌≡◌, ◌≢◌, ◌≤◌, ◌⊎◌, ℕ, List, [], Some, None, Ok, IfOk, Bool, true, false}
 use Rattle.jc_base.specs.Outside.{FileOf}
 use Rattle.jc_base.specs.States.{TreesState, SinkState, FolderState, Change}
-use Rattle.jc_facts.specs.declared.verdict.Verdict.{Verdict}
 use Rattle.jc_facts.specs.Names.{Bytes}
 use Rattle.jc_gate.specs.Gates.{GateOf}
 use Rattle.jc_commands.specs.Causes.{HasCause, IsRefused, IsAccepted, HasFailed}
-use Rattle.jc_commands.specs.Check.{IsCompatible, IsIncompatible, IsWitnessed, verdict_bytes}
+use Rattle.jc_commands.specs.Check.{CheckReport, IsCompatible, IsIncompatible, IsBorneOut, HoldsClients, check_bytes}
 use Rattle.jc_trees.specs.ClassFiles.{Told}
 use Rattle.jc_commands.specs.Command.{CommandOf, CheckOf, CheckCommand, witness_dir, asked, asked_of}
 use Rattle.jc_commands.specs.Outputs.{IsQuiet, PutsAll, PutsFront, HasPutFault, IsUntouched, HasFolderFault}
+use Rattle.jc_commands.specs.ReportValue.{status_by}
 use Rattle.jc_commands.specs.Reports.{ToldTo, RecordsOf, ReportOf, IsReportOn, passes, bytes_of, puts_of}
 use Rattle.jc_commands.specs.Stop.{line_of, status_of}
 use Rattle.jc_commands.specs.Witness.{PutFile, PutsFiles, PutsSome}
@@ -34,13 +34,12 @@ ran gates words trees out err folder status = record { gates = gates; words = wo
 abbrev pub OfFiles : Ran → (List FileOf → Type 0) → Type 0
 OfFiles r = Told r.trees.before.content
 
--- the report that was due: that of the command that the words ask for, on the records of its trees, with the witness files that are put before it
+-- the report that was due: that of the command that the words ask for, on the records of its trees
 pub record Due (r : Ran) : Type 0 where
   pub command : CommandOf
   pub asked_for : asked_of r.gates r.words ≡ Ok command
   pub report : ReportOf command
-  pub witnesses : List PutFile
-  pub is_report : ToldTo command r.trees.before.content (λ files. (records : RecordsOf files command) × IsReportOn files command records report × (witnesses ≡ puts_of files command records report))
+  pub is_report : ToldTo command r.trees.before.content (λ files. (records : RecordsOf files command) × IsReportOn files command records report)
 
 -- whether what was asked is so, by the report that was due
 abbrev pub has_passed : {r : Ran} → Due r → Bool
@@ -49,10 +48,6 @@ has_passed {r} due = passes r.gates due.command due.report
 -- the bytes of the report that was due
 abbrev pub due_bytes : {r : Ran} → Due r → Bytes
 due_bytes due = bytes_of due.command due.report
-
--- the witness files of the report that was due stand whole, and every other path is as before
-abbrev pub PutsWitnesses : (r : Ran) → Due r → Type 0
-PutsWitnesses r due = PutsFiles r.folder due.witnesses
 
 -- the bytes were put to the output whole, and nothing to the error stream
 pub record Puts (r : Ran) (bytes : Bytes) : Type 0 where
@@ -68,19 +63,16 @@ pub record IsStopped (r : Ran) : Type 0 where
   pub errors : PutsAll r.err (line_of stop)
   pub folder : IsUntouched r.folder
 
--- a report was due with witness files: the first of them stand whole, the next one's path may hold anything, and every other path is as before;
--- nothing was put to the output or to the error stream; a failed put was one into the folder
+-- a report was due with witness files, not all of which were put: nothing was put to the output or to the error stream; a failed put was one into
+-- the folder
 pub record CutsWitnesses (r : Ran) (due : Due r) : Type 0 where
   pub asked_for : (dir : Bytes) × (witness_dir due.command ≡ Some dir)
-  pub folder : PutsSome r.folder due.witnesses
   pub output : IsQuiet r.out
   pub errors : IsQuiet r.err
   pub cause : r.status ≡ WRITE_FAULT → HasFolderFault r.folder
 
--- a report was due: its witness files stand whole, a front of its bytes was put, and nothing to the error stream; a failed put was one on the
--- output
+-- a report was due: a front of its bytes was put, and nothing to the error stream; a failed put was one on the output
 pub record CutsReport (r : Ran) (due : Due r) : Type 0 where
-  pub folder : PutsWitnesses r due
   pub output : PutsFront r.out (due_bytes due)
   pub errors : IsQuiet r.err
   pub cause : r.status ≡ WRITE_FAULT → HasPutFault r.out
@@ -99,23 +91,47 @@ pub record CutsRefusal (r : Ran) (stop : Stop) : Type 0 where
 abbrev pub IsCutShort : Ran → Type 0
 IsCutShort r = ((due : Due r) × (CutsWitnesses r due ⊎ CutsReport r due)) ⊎ ((stop : Stop) × CutsRefusal r stop)
 
+-- ---- the folder
+
+-- the report that was due, with the witness files that are planned for it
+pub record Planned (r : Ran) : Type 0 where
+  pub due : Due r
+  pub puts : List PutFile
+  pub planned : ToldTo due.command r.trees.before.content (λ files. (records : RecordsOf files due.command) × IsReportOn files due.command records due.report × (puts ≡ puts_of files due.command records due.report))
+
+-- the report that was due was put whole, and the status says whether what was asked is so by it
+pub record IsPut (r : Ran) (due : Due r) : Type 0 where
+  pub answer : r.status ≡ status_by (has_passed due)
+  pub put : Puts r (due_bytes due)
+
+-- what the folder holds of the planned witness files. Where the report was put, they stand whole; where a put failed or there was no memory, they
+-- stand whole if all were put, and else the first of them stand whole and the next one's path may hold anything. Every other path is as before
+pub record Leaves (r : Ran) : Type 0 where
+  pub answered : (r.status ≡ PASSED) ⊎ (r.status ≡ NOT_PASSED) → (p : Planned r) × IsPut r p.due × PutsFiles r.folder p.puts
+  pub cut : (r.status ≡ WRITE_FAULT) ⊎ (r.status ≡ NO_MEMORY)
+      → ((p : Planned r) × ((CutsWitnesses r p.due × PutsSome r.folder p.puts) ⊎ (CutsReport r p.due × PutsFiles r.folder p.puts))) ⊎ ((stop : Stop) × CutsRefusal r stop)
+
+-- ---- the contract
+
 -- what is promised of a run
 pub record Answers (r : Ran) : Type 0 where
   pub known : r.status ≤ LIMIT
-  -- what was asked is so, by the report that was due, which was put, with its witness files
-  pub passed : r.status ≡ PASSED → (due : Due r) × (has_passed due ≡ true) × Puts r (due_bytes due) × PutsWitnesses r due
-  -- it isn't so, by the report that was due, which was put, with its witness files
-  pub not_passed : r.status ≡ NOT_PASSED → (due : Due r) × (has_passed due ≡ false) × Puts r (due_bytes due) × PutsWitnesses r due
-  -- of a check: what was put is the verdict. Where it has no finding, each client world in scope that meets none of its collisions keeps what
+  -- what was asked is so, by the report that was due, which was put
+  pub passed : r.status ≡ PASSED → (due : Due r) × (has_passed due ≡ true) × Puts r (due_bytes due)
+  -- it isn't so, by the report that was due, which was put
+  pub not_passed : r.status ≡ NOT_PASSED → (due : Due r) × (has_passed due ≡ false) × Puts r (due_bytes due)
+  -- of a check: what was put is its report, part by part. Where the verdict has no finding, each client world in scope that meets none of its collisions keeps what
   -- held with the old release. Where it has one, some client world in scope that meets none of its collisions isn't kept, and whoever names a class
-  -- that is gone has the error of its finding
+  -- that is gone has the error of its finding. Each part is what it has to be on the records, and for each finding and each collision in what was put there are class files that are read as a client
+  -- world in scope, which links whole with the old release, and of which one spot has with the new release the error that was put; those of a finding
+  -- meet none of the collisions, and those of a collision meet it
   pub checked : (r.status ≡ PASSED) ⊎ (r.status ≡ NOT_PASSED) → (check : CheckOf) → asked r.words ≡ Ok (CheckCommand check)
-      → (v : Verdict) × Puts r (verdict_bytes check.json v) × (v.findings ≡ [] → OfFiles r (λ files. IsCompatible files check v)) × (v.findings ≢ [] → OfFiles r (λ files. IsIncompatible files check v))
-  -- of a check that asks for witnesses: below the path there are class files for each finding and each collision in what was put, and every other
-  -- path is as before. They are a client world in scope that links whole with the old release, and of which one spot has with the new release the
-  -- error that was put; those of a finding meet none of the collisions, and those of a collision meet it
+      → (report : CheckReport) × Puts r (check_bytes check.json report) × (report.verdict.findings ≡ [] → OfFiles r (λ files. IsCompatible files check report.verdict))
+      × (report.verdict.findings ≢ [] → OfFiles r (λ files. IsIncompatible files check report.verdict)) × OfFiles r (λ files. IsBorneOut files check report)
+  -- of a check that asks for witnesses: below the path such class files stand for each finding and each collision, by its number, and every other path
+  -- is as before
   pub witnessed : (r.status ≡ PASSED) ⊎ (r.status ≡ NOT_PASSED) → (check : CheckOf) → asked r.words ≡ Ok (CheckCommand check) → (dir : Bytes) → check.witness ≡ Some dir
-      → (v : Verdict) × OfFiles r (λ files. IsWitnessed files check v dir r.folder) × Puts r (verdict_bytes check.json v)
+      → (report : CheckReport) × OfFiles r (λ files. HoldsClients files check report.verdict dir r.folder) × Puts r (check_bytes check.json report)
   -- where no witnesses are asked for, nothing was put into the folder
   pub unwitnessed : IfOk (asked r.words) (λ command. witness_dir command ≡ None) → IsUntouched r.folder
   -- the words ask for nothing
@@ -131,6 +147,8 @@ pub record Answers (r : Ran) : Type 0 where
   pub write_fault : r.status ≡ WRITE_FAULT → IsCutShort r
   -- there was no memory
   pub no_memory : r.status ≡ NO_MEMORY → IsCutShort r
+  -- the witness files are the planned ones, and which of them the folder holds whatever the status
+  pub left : Leaves r
   -- what is refused has the status of its first cause, and what isn't has a report, unless a call failed or there was no memory
   pub refused : OfFiles r (λ files. (stop : Stop) → IsRefused r.gates r.words files stop → (r.status ≡ status_of stop) ⊎ HasFailed r.status)
   pub accepted : OfFiles r (λ files. IsAccepted r.gates r.words files → (r.status ≡ PASSED) ⊎ (r.status ≡ NOT_PASSED) ⊎ HasFailed r.status)

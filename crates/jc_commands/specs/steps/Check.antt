@@ -15,6 +15,7 @@ use Rattle.jc_commands.specs.Check.{IsUnfit, IsVerdictOn, MeetsNone, mismatch_of
 use Rattle.jc_commands.specs.declared.comparison.Comparison.{Comparison}
 use Rattle.jc_commands.specs.declared.limits.TheConstants.{MAX_FINDINGS}
 use Rattle.jc_trees.specs.declared.tree.TreeName.{TreeName}
+use Rattle.jc_commands.specs.declared.stop.Part.TheVariants as parts
 use Rattle.jc_commands.specs.declared.stop.Stop.{Stop}
 use Rattle.jc_commands.specs.declared.stop.Stop.TheVariants as stops
 
@@ -22,7 +23,7 @@ use Rattle.jc_commands.specs.declared.stop.Stop.TheVariants as stops
 pub record IsComparison (platform old new : List ClassFacts) (c : Comparison) : Type 0 where
   pub old_is : c.old ≡ side platform old
   pub new_is : c.new ≡ side platform new
-  pub can : CanWrite platform old new
+  pub can : CanWrite (side platform old) (side platform new)
   pub verdict : IsVerdictOn platform old new c.verdict
   pub kept : c.verdict.findings ≡ [] → (cs : List ClientClass) → IsInScope (side platform old) (side platform new) cs → MeetsNone (side platform old) cs c.verdict.collisions
       → Keeps (side platform old) (side platform new) cs
@@ -38,7 +39,7 @@ StopsComparing platform old new stop = IsUnfit platform old new stop ⊎ (stop �
 
 -- why the verdict on the sides isn't printed
 abbrev pub StopsCounting : World → World → Stop → Type 0
-StopsCounting O N stop = ((stop ≡ stops.TooManyFindings) × ((v : Verdict) → IsVerdict O N v → MAX_FINDINGS < count_of v)) ⊎ (stop ≡ stops.Memory)
+StopsCounting O N stop = ((stop ≡ stops.TooMany parts.Findings) × ((v : Verdict) → IsVerdict O N v → MAX_FINDINGS < count_of v)) ⊎ (stop ≡ stops.Memory)
 
 -- how a table that isn't built stops the comparison
 abbrev pub unfit_by : TreeName → TableError → Stop
