@@ -1,0 +1,6 @@
+pub mod Trees
+pub mod Grammar
+pub mod Rule
+pub mod Reading
+pub mod Views
+pub mod steps

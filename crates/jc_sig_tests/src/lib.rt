@@ -1,0 +1,7 @@
+//! Tests of generic signatures.
+#![tactic(auto)]
+
+#[cfg(test)]
+mod texts;
+#[cfg(test)]
+mod trees;
