@@ -21,10 +21,10 @@ import javax.tools.ToolProvider;
  *
  * <p>Each folder of RULES has the Java sources of an old and a new release and of a client, which is compiled against the old one.
  * <code>app.Main</code> of the client is run beside each release, by the <code>java</code> of this machine. With the old one it ends well. With
- * the new one it ends with the error that the file <code>message</code> has and the file <code>report</code> names; where the file
- * <code>prints</code> stands in the place of <code>message</code>, it ends well with both and prints that. Where PROGRAM is given, its report
- * of the two releases is the file <code>report</code>. Sources in <code>needs</code> are there when the new release is compiled, file by file,
- * and not when the client is run.
+ * the new one it ends with the error that the file <code>message</code> has and, unless it is a verdict alone, the file <code>report</code>
+ * names; where the file <code>prints</code> stands in the place of <code>message</code>, it ends well with both and prints that. Where PROGRAM
+ * is given, its report of the two releases is the file <code>report</code>. Sources in <code>needs</code> are there when the new release is
+ * compiled, file by file, and not when the client is run.
  *
  * <p>PAGE links each folder, and each line of a block of it is a line of these files. There is a line of output for each folder, in the order
  * of the rules, and a last one with the numbers. The status is 1 where something isn't so.
@@ -70,12 +70,12 @@ public final class ReplayClients {
         System.exit(faults.isEmpty() ? 0 : 1);
     }
 
-    /** The folders of the examples, in the order of their first rules. */
+    /** The folders of the examples, in the order of their rules; those whose report has none come first. */
     private static List<Path> examples(Path rules) throws IOException {
         Map<String, Path> byRule = new TreeMap<>();
         try (Stream<Path> folders = Files.list(rules)) {
             for (Path folder : (Iterable<Path>) folders::iterator) {
-                byRule.put(rules(folder).get(0) + " " + folder.getFileName(), folder);
+                byRule.put(String.join(" ", rules(folder)) + " " + folder.getFileName(), folder);
             }
         }
         return new ArrayList<>(byRule.values());
@@ -96,7 +96,8 @@ public final class ReplayClients {
             if (!program.isEmpty()) {
                 built.compareReport(platform, program);
             }
-            return "ok " + String.join(" ", rules(example)) + " " + example.getFileName() + ": " + said;
+            String rules = rules(example).isEmpty() ? "no finding" : String.join(" ", rules(example));
+            return "ok " + rules + " " + example.getFileName() + ": " + said;
         } catch (Fault fault) {
             return "FAILED " + example.getFileName() + ": " + fault.getMessage();
         } catch (IOException failure) {
@@ -203,7 +204,7 @@ public final class ReplayClients {
             String thread = "Exception in thread \"main\" ";
             same("with the new release it ends with", judged(thread + wanted), judged(found));
             String error = wanted.split(":")[0].replace("java.lang.", " ");
-            if (Files.readAllLines(sources.resolve("report")).stream().noneMatch(line -> line.endsWith(error))) {
+            if (!rules(sources).isEmpty() && Files.readAllLines(sources.resolve("report")).stream().noneMatch(line -> line.endsWith(error))) {
                 throw new Fault("no line of the report has the error" + error);
             }
             return found.substring(thread.length());

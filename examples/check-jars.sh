@@ -1,9 +1,10 @@
 #!/bin/sh
-# Tries tools/check-jars on jars made of the examples: examples/check-jars.sh, from any folder.
+# Tries tools/check-jars on jars made of the examples, and of a small library below: examples/check-jars.sh, from any folder.
 #
-# Over jars it has to say what the program says over the folders that they are made of, with the same status; what it refuses has to have
-# the status 70 and its line, and its cache holds nothing but the platform afterwards. There is a line for each try. The status is 1 where
-# one fails. Without unzip, or a JDK of version 9 to 17 on the path, nothing is tried, which is said, and the status is 0.
+# What it keeps of a report has to be what the program says over the folders that the jars are made of, with the same status; what it prints
+# has to hold all lines of that, folded or not; what it refuses has to have the status 70 and its line, and its cache holds nothing but the
+# platform, and the compiled JarReport, afterwards. There is a line for each try. The status is 1 where one fails. Without unzip, or a JDK of
+# version 9 to 21 on the path, nothing is tried, which is said, and the status is 0; without dpkg-deb no packages are.
 set -eu
 
 cd "$(dirname "$0")/.."
@@ -18,8 +19,9 @@ command -v jar >/dev/null || skip 'jar of a JDK is not on the path'
 command -v jimage >/dev/null || skip 'jimage of a JDK is not on the path'
 # as "17.0.15"
 version=$(jimage --version)
-[ "${version%%[!0-9]*}" -le 17 ] || skip "the JDK is version $version, and jcompat reads class files up to Java 17"
+[ "${version%%[!0-9]*}" -le 21 ] || skip "the JDK is version $version, and jcompat reads class files up to Java 21"
 
+top=$PWD
 made=$(mktemp -d)
 trap 'rm -rf "$made"' EXIT
 unset JAVA_HOME
@@ -32,22 +34,59 @@ try() {
     line=$3
     shift 3
     status=0
-    (cd "$made" && "$OLDPWD/tools/check-jars" "$@") >"$made/out" 2>"$made/err" || status=$?
-    if [ "$status" -eq "$wanted" ] && cat "$made/out" "$made/err" | grep -q "^$line"; then
+    (cd "$made" && "$top/tools/check-jars" "$@") >"$made/out" 2>"$made/err" || status=$?
+    if [ "$status" -eq "$wanted" ] && says "$line"; then
         printf 'check-jars: %s: ok\n' "$name"
     else
-        printf 'check-jars: %s: status %s, and not %s, or no line "%s"\n' "$name" "$status" "$wanted" "$line"
-        cat "$made/out" "$made/err"
-        exit 1
+        wrong "status $status, and not $wanted, or no line \"$line\""
     fi
 }
 
-# same WORD..: the last try printed what the program prints over the folders, and over the platform that check-jars keeps
+wrong() {
+    printf 'check-jars: %s: %s\n' "$name" "$1"
+    cat "$made/out" "$made/err"
+    exit 1
+}
+
+# says LINE: one of the lines of the last try begins so
+says() {
+    cat "$made/out" "$made/err" | grep -q "^$1"
+}
+
+# too LINE..: lines of the last try begin so too
+too() {
+    for line in "$@"; do
+        says "$line" || wrong "no line \"$line\""
+    done
+}
+
+# same FILE WORD..: the file is what the program prints with the words over the folders, and over the platform that check-jars keeps
 same() {
+    file=$made/$1
+    shift
     for platform in "$XDG_CACHE_HOME"/jcompat/jdk-*/platform; do
         ./jcompat check --platform "$platform" --old examples/old --new examples/new "$@" >"$made/folders" || [ $? -eq 1 ]
     done
-    cmp "$made/folders" "$made/out"
+    cmp "$made/folders" "$file"
+}
+
+# folded REPORT: each line that was printed stands in the report, and those of it that weren't are as many as the printed ones say
+folded() {
+    awk '
+        FNR == NR { line[$0]; all += /^[0-9]/; next }
+        /^[0-9]+ collisions on members/ { hidden += $1; next }
+        /^note unloadable (old|new): / || /^in / || /^ / { next }
+        { text = $0; if (sub(/ \(and .*\)$/, "", text)) { n = split(substr($0, length(text)), word, " "); for (i = 1; i <= n; i++) hidden += word[i] + 0 } }
+        !(text in line) { print "not in the report: " text; wrong = 1 }
+        text ~ /^[0-9]/ { shown++ }
+        END { if (shown + hidden != all) { print shown " shown and " hidden " folded of " all; wrong = 1 } exit wrong }' "$1" "$made/out" ||
+        wrong 'the report has other lines'
+}
+
+# library SIDE: a jar of the library whose sources stand below the folder of the side
+library() {
+    find "$made/$1" -name '*.java' -exec javac -d "$made/$1-classes" {} +
+    jar --create --file "$made/$1.jar" -C "$made/$1-classes" .
 }
 
 for side in old new client; do
@@ -56,24 +95,156 @@ done
 jar --create --file "$made/versions.jar" -C examples/old . --release 9 -C examples/old shapes/Square.class 2>"$made/err"
 jar --create --file "$made/texts.jar" -C examples/src .
 printf 'no jar\n' >"$made/text.jar"
+mkdir "$made/empty"
 
-try 'two releases' 1 '1 H1 shapes/Square' old.jar new.jar
-same
+try 'two releases' 1 '1 H1 shapes/Square' old.jar new.jar --report report
+same report
+folded "$made/report"
+too 'in shapes: 1 H1, 1 H2, 1 H3, 1 H4, 1 H5, 1 H6, 1 H7, 4 H8, 1 H9, 1 Constant, 1 Capture, 1 Final' 'incompatible: 12 findings, 3 collisions, 1 notes'
 try 'options of jcompat' 1 '{' old.jar new.jar -- --json
-same --json
+same out --json
 try 'one release' 0 'compatible: 0 findings' old.jar old.jar
-try 'a library that lacks' 0 'note unloadable old gallery/Dot' client.jar client.jar
-try 'a library that is there' 0 'compatible: 0 findings, 0 collisions, 0 notes' client.jar client.jar --with old.jar
-try 'a release that is also a library' 3 'jcompat: old: overlap shapes/Brush' old.jar new.jar --with old.jar
+try 'the version' 0 'jcompat 0\.' --version
+try 'folders' 1 '15 Final shapes/Canvas' "$top/examples/old" "$top/examples/new" --report report
+same report
+try 'a library that lacks' 0 "check-jars: 1 of 3 classes of the old release weren't compared" client.jar client.jar
+too 'note unloadable old gallery/Dot' '       1  shapes/Circle$' 'check-jars: 1 of these 1 are in: --with new.jar$'
+try 'a library that lacks, where all has to be compared' 71 'note unloadable old gallery/Dot' client.jar client.jar --whole
+try 'the same as JSON' 71 '{"collisions":\[\]' client.jar client.jar --whole -- --json
+try 'a library that is there' 0 'compatible: 0 findings, 0 collisions, 0 notes' client.jar client.jar --with old.jar --whole
+try 'a release that is also a library' 1 'check-jars: 10 classes (as shapes/Brush) of the libraries left out: the old release has the same' old.jar new.jar --with old.jar
 try 'a multi-release jar' 0 'check-jars: versions.jar is a multi-release jar' old.jar versions.jar
 try 'no class file' 70 'check-jars: texts.jar has no class file' texts.jar new.jar
+try 'an empty folder' 70 'check-jars: empty has no class file' empty new.jar
 try 'no jar' 70 "check-jars: text.jar isn't a jar" old.jar text.jar
 try 'no file' 70 'check-jars: there is no file gone.jar' gone.jar new.jar
 try 'one jar' 70 'check-jars: two jars are needed' old.jar
+try 'a witness that cannot be written' 5 'check-jars: writing failed' old.jar new.jar -- --witness old.jar
+
+# classes that the JDK has too, files that are no class files, and classes elsewhere than at the places of their names
+cp -R examples/old "$made/odd"
+mkdir -p "$made/odd/java/util" "$made/odd/tmpl" "$made/newer/shapes"
+for platform in "$XDG_CACHE_HOME"/jcompat/jdk-*/platform; do
+    cp "$platform/java/util/Map.class" "$made/odd/java/util"
+done
+jar --create --file "$made/jdk.jar" -C "$made/odd" .
+try 'a class that the JDK has too' 0 'check-jars: the class java/util/Map of the old release left out: the JDK has the same' jdk.jar old.jar
+printf 'class $name {}\n' >"$made/odd/tmpl/A.class"
+jar --create --file "$made/odd.jar" -C "$made/odd" .
+try 'a file that is no class file' 3 "check-jars: tmpl/A.class of the old release isn't a class file, whatever its name: leave it out by --without 'tmpl/A.class'" odd.jar old.jar
+try 'a file that is left out' 0 "check-jars: --without 'tmpl/\*' leaves out 1 class file" odd.jar old.jar --without 'tmpl/*'
+try 'all is left out' 70 'check-jars: --without leaves nothing' old.jar new.jar --without '*'
+jar --create --file "$made/below.jar" -C examples old
+try 'classes elsewhere' 3 'check-jars: old/shapes/[A-Z][a-z]*.class of the new release stands elsewhere than its name' old.jar below.jar
+# a class file for Java 22
+cp examples/old/shapes/Square.class "$made/newer/shapes"
+printf '\102' | dd of="$made/newer/shapes/Square.class" bs=1 seek=7 conv=notrunc 2>"$made/err"
+jar --create --file "$made/newer.jar" -C "$made/newer" .
+try 'a newer class file' 3 'check-jars: shapes/Square.class of the new release is for Java 22, and jcompat reads class files up to Java 21' old.jar newer.jar
+
+# applications: a jar of Spring Boot, and a web archive, with a library inside
+for inside in BOOT-INF WEB-INF; do
+    mkdir -p "$made/$inside/$inside/lib" "$made/$inside/loader"
+    cp -R examples/client "$made/$inside/$inside/classes"
+    cp "$made/old.jar" "$made/$inside/$inside/lib"
+done
+cp examples/old/shapes/Square.class "$made/BOOT-INF/loader"
+jar --create --file "$made/boot.jar" -C "$made/BOOT-INF" .
+jar --create --file "$made/web.war" -C "$made/WEB-INF" .
+try 'a jar of Spring Boot' 0 'check-jars: boot.jar: the classes below BOOT-INF/classes are compared, and the 1 outside' boot.jar boot.jar --whole
+too 'compatible: 0 findings, 0 collisions, 0 notes'
+try 'a web archive' 0 'compatible: 0 findings, 0 collisions, 0 notes' web.war WEB-INF --whole
+
+# a library whose subclasses repeat what breaks
+mkdir -p "$made/one/lib" "$made/two/lib"
+for side in one two; do
+    cat >"$made/$side/lib/Text.java" <<'END'
+package lib;
+
+public class Text {
+    public static class Line extends Text {
+    }
+
+    public static class Last extends Line {
+    }
+
+    public static class Failure extends RuntimeException {
+    }
+
+    public static class Other {
+        public String max(Number number) {
+            return "";
+        }
+    }
+
+    public String max(Number number) {
+        return "";
+    }
+
+    public void put(java.util.Date date) {
+    }
+
+    public int size;
+}
+END
+done
+sed -i 's/max(Number/max(Object/; s/java.util.Date/java.sql.Date/; s/RuntimeException/Exception/; s/int size;/final int size = other().hashCode();\n    Runnable other() { return () -> { }; }\n    private void draw(Line line) { }/' "$made/two/lib/Text.java"
+library one
+library two
+try 'lines of subclasses' 1 '2 H7 lib/Text size:I putfield java/lang/Object IllegalAccessError (and through 2 subclasses)$' one.jar two.jar --report report
+folded "$made/report"
+too '1 H4 lib/Text$Failure java/lang/RuntimeException assign - VerifyError (and 2 lines on the JDK.s classes)$' \
+    '[0-9]* H8 lib/Text max(Ljava/lang/Number;)Ljava/lang/String; invokevirtual java/lang/Object NoSuchMethodError (and through 2 subclasses)$' \
+    '[0-9]* H8 lib/Text$Other max(Ljava/lang/Number;)Ljava/lang/String; invokevirtual java/lang/Object NoSuchMethodError$' \
+    '[0-9]* Capture lib/Text draw(Llib/Text$Line;)V invokevirtual - IllegalAccessError (and through 2 subclasses)$' \
+    '3 collisions on members with a \$ in their name'
+try 'lines in words' 1 '    method String Text.max(Number) is gone; there is String max(Object)$' one.jar two.jar --explain
+folded "$made/report"
+too '    text.max((Number) null);$' '    method void Text.put(java.util.Date) is gone; there is void put(java.sql.Date)$' '    field int Text.size is final now$' '    text.size = 0;$' '    class Text.Failure no longer has the superclass RuntimeException$'
+
+# breaks that are meant
+cat >"$made/accepted" <<'END'
+# the next release counts anew
+H7 lib/Text size:I putfield java/lang/Object IllegalAccessError   # is counted once
+H4 lib/Text$Failure *
+H8 lib/Gone *
+H8 lib/Text put
+END
+try 'breaks that are meant' 1 'check-jars: line 4 of the accepted breaks accepts nothing: H8 lib/Gone \*$' one.jar two.jar --accepted accepted --report report
+too 'check-jars: line 5 of the accepted breaks accepts nothing: H8 lib/Text put$' 'check-jars: accepted: 1 to 6$' 'incompatible: ' 'check-jars: 7 findings and 9 collisions are left'
+says '[0-9]* H7' && wrong 'an accepted line was printed'
+sed -n 's/^[0-9]* //p' "$made/report" >"$made/accepted"
+try 'all breaks' 0 'check-jars: 0 findings and 0 collisions are left; what is promised' one.jar two.jar --accepted accepted
+grep '^H' "$made/accepted" >"$made/findings"
+try 'breaks, and a gate' 1 'check-jars: 0 findings and 9 collisions are left' one.jar two.jar --accepted findings -- --gate=links,collisions
+try 'breaks, as JSON' 0 '{"collisions":\[{' one.jar two.jar --accepted findings -- --json
+try 'no file of breaks' 70 'check-jars: gone, which has' one.jar two.jar --accepted gone
+
+# packages: a jar that has a version in its name, and needs another one of its package, and one without classes
+package() {
+    mkdir -p "$made/package$1/usr/share/java" "$made/package$1/DEBIAN"
+    printf 'Package: libshapes-java\nVersion: %s\nArchitecture: all\nMaintainer: nobody <nobody@example.org>\nDescription: shapes\n' "$1" >"$made/package$1/DEBIAN/control"
+    cp "$made/client.jar" "$made/package$1/usr/share/java/gallery-$1.jar"
+    cp "$made/$2.jar" "$made/package$1/usr/share/java/shapes.jar"
+    cp "$made/texts.jar" "$made/package$1/usr/share/java"
+    dpkg-deb --root-owner-group --build "$made/package$1" "$made/shapes-$1.deb" >"$made/err"
+}
+if command -v dpkg-deb >/dev/null; then
+    package 1.0 old
+    package 1.1 new
+    try 'two packages' 1 'status  findings collisions  not compared  jar' shapes-1.0.deb shapes-1.1.deb --whole --report reports
+    too '     0         0          0             0  gallery$' '     1        12          3             0  shapes$' '     -  .*texts: has no class file$' '1 H1 shapes/Square'
+    same reports/shapes
+    rm "$made/package1.1/usr/share/java/shapes.jar"
+    dpkg-deb --root-owner-group --build "$made/package1.1" "$made/shapes-1.1.deb" >"$made/err"
+    try 'a jar that is gone' 70 '    70 .*shapes: only in the old package$' shapes-1.0.deb shapes-1.1.deb
+else
+    printf 'check-jars: two packages: skipped: dpkg-deb is not on the path\n'
+fi
 
 for left in "$XDG_CACHE_HOME"/jcompat/*; do
     case $left in
-    */jdk-*) ;;
+    */jdk-* | */report-*) ;;
     *) printf 'check-jars: left behind: %s\n' "$left" && exit 1 ;;
     esac
 done

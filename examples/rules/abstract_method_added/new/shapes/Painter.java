@@ -1,0 +1,7 @@
+package shapes;
+
+public interface Painter {
+    void paint();
+
+    void clean();
+}

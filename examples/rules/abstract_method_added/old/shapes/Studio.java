@@ -1,0 +1,10 @@
+package shapes;
+
+public class Studio {
+    public Studio() {
+    }
+
+    public void open(Painter painter) {
+        painter.paint();
+    }
+}

@@ -1,0 +1,7 @@
+package shapes;
+
+public interface Brush {
+    default void clean() {
+        System.out.println("cleaned");
+    }
+}

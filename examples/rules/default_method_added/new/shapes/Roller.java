@@ -1,0 +1,7 @@
+package shapes;
+
+public interface Roller {
+    default void clean() {
+        System.out.println("rolled");
+    }
+}
