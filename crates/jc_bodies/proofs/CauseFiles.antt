@@ -1,20 +1,28 @@
 -- The class files of each finding and each collision that stands.
-use Rattle.std.proofs.Common.{◌≡◌, true, not, ◌&&◌, List, refl, sym, ap, subst, lit≤}
+use Rattle.std.proofs.Common.{◌≡◌, Bool, true, false, cond, not, ◌&&◌, List, [], ◌∷◌, ◌++◌, Option, Some, None, refl, sym, ap, subst, lit≤, arith, Contains, ◌⊎◌, inl, inr}
 use Rattle.std.proofs.lemmas.Bool.{and_parts}
+use Rattle.std.proofs.lemmas.List.{length-append}
+use Rattle.std.proofs.lemmas.List.Elements.{Contains-append_cases}
+use Rattle.jc_facts.specs.declared.member_act.MemberAct.{MemberAct}
+use Rattle.jc_facts.specs.declared.act.Act.{Act}
+use Rattle.jc_facts.specs.declared.key.Key.{Key}
+use Rattle.jc_facts.specs.declared.link_error.LinkError.{LinkError}
+use Rattle.jc_facts.specs.declared.link_error.LinkError.TheVariants.{VerifyError}
 use Rattle.jc_facts.specs.declared.class_facts.ClassFacts.{ClassFacts}
 use Rattle.jc_facts.specs.declared.finding.Finding.{Finding}
 use Rattle.jc_facts.specs.declared.verdict.Collision.{Collision}
 use Rattle.jc_facts.specs.declared.verdict.Cause.TheVariants as cause
 use Rattle.jc_facts.specs.rule.Collisions.{CollisionStands}
-use Rattle.jc_facts.specs.rule.Findings.{Stands, subject_of, finds_overridable}
-use Rattle.jc_facts.specs.Names.{Bytes, object_name}
+use Rattle.jc_facts.specs.rule.Findings.{Stands, subject_of, takes_part, finds_overridable}
+use Rattle.jc_facts.specs.rule.Exposed.{acts_on}
+use Rattle.jc_facts.specs.Names.{Bytes, same, object_name}
 use Rattle.jc_facts.specs.rule.OpenActs.{field_acts, method_acts}
-use Rattle.jc_facts.specs.rule.Bases.{is_class_usable, is_key_of_method, is_base_class, is_final_in_chain}
+use Rattle.jc_facts.specs.rule.Bases.{is_class_usable, is_kept, is_key_of_method, is_base_class, is_final_in_chain}
 use Rattle.jc_facts.specs.world.World.{World, with_clients}
 use Rattle.jc_facts.specs.plan.PlannedNames.{fresh_package}
-use Rattle.jc_facts.specs.plan.Planned.{plan}
-use Rattle.jc_facts.specs.plan.PlannedBodies.{plan_bodies}
-use Rattle.jc_lemmas.proofs.Listed.{each_in, EachOf}
+use Rattle.jc_facts.specs.plan.Planned.{acts_exposing, assigns_exposed, assigns_from, plan}
+use Rattle.jc_facts.specs.plan.PlannedBodies.{exposed_bodies, assigns_bodies, plan_bodies}
+use Rattle.jc_lemmas.proofs.Listed.{each_in, none, EachOf, EachOf-map, EachOf-append}
 use Rattle.jc_complete.specs.Completeness.{Shows}
 use Rattle.jc_complete.proofs.CompletenessWhole.{finding_shown, collision_shown}
 use Rattle.jc_complete.proofs.PlanBase.{base_parts}
@@ -24,14 +32,18 @@ use Rattle.jc_complete.proofs.PlanGround.{Ready}
 use Rattle.jc_complete.proofs.PlanInterfaceMethodLost.{base_interface}
 use Rattle.jc_complete.proofs.PlanMeets.{capture_parts, final_parts}
 use Rattle.jc_complete.proofs.PlanReady.{ready_of}
-use Rattle.jc_complete.proofs.PlanRules.{of_each_rule, ConstructorClosed, by_new, by_init, by_class_gone, by_class_closed, by_interface_became_class, by_superclass_lost, by_constructor_closed, by_method_made_final, by_field_closed, by_method_closed, by_interface_method_lost}
-use Rattle.jc_complete.proofs.PlanUses.{class_differs, cut_parts, cut_differs}
+use Rattle.jc_complete.proofs.PlanRules.{TakePart, of_each_rule, ConstructorClosed, by_new, by_init, by_class_gone, by_class_closed, by_interface_became_class, by_superclass_lost, by_constructor_closed, by_method_made_final, by_field_closed, by_method_closed, by_interface_method_lost}
+use Rattle.jc_complete.proofs.PlanUses.{root_usable, kept_usable, became_parts, class_differs, cut_parts}
+use Rattle.jc_complete.proofs.PlanExposed.{IsPart, part_usable, part_of}
 use Rattle.jc_sound.proofs.Standing.{IsUsable, usable_parts}
-use Rattle.jc_sound.proofs.UsableLaw.{findings_are_of_usable}
+use Rattle.jc_sound.proofs.UsableLaw.{findings_are_of_loaded}
+use Rattle.jc_worlds.proofs.Loaded.{loads-found}
+use Rattle.jc_lemmas.proofs.Options.{none_where}
+use Rattle.jc_facts.specs.world.Loading.{load_fault}
 use Rattle.jc_bodies.specs.Files.{CanWrite}
 use Rattle.jc_bodies.proofs.Entries.{IsNamed, IsShortKey}
 use Rattle.jc_bodies.proofs.Linking.{IsSound, named_there, is_instruction}
-use Rattle.jc_bodies.proofs.RowFiles.{AreWritten, names_class_files, names_above_files, assigns_files, makes_object_files, calls_constructor_files, overrides_files, acts_files, inherited_files, reads_files, captured_files}
+use Rattle.jc_bodies.proofs.RowFiles.{AreWritten, names_class_files, names_above_files, assigns_files, behind_files, makes_object_files, calls_constructor_files, overrides_files, acts_files, inherited_files, reads_files, captured_files}
 use Rattle.jc_bodies.proofs.ShortKeys.{finding_key, collision_key}
 use Rattle.jc_bodies.proofs.SoundWorlds.{IsGood, sound_clients, sound_old}
 
@@ -70,7 +82,7 @@ module _ (O N : World) (can : CanWrite O N) where
   shown f s = (finding_shown O N can.plan f refl s).0
 
   class_named : (f : Finding) → Stands O N f → IsNamed f.«class»
-  class_named f s = usable_named f.«class» (findings_are_of_usable O N (subject_of f) f s)
+  class_named f s = let c = loads-found O f.«class» (none_where (load_fault O f.«class») (findings_are_of_loaded O N (subject_of f) f s)) in named_there O (sound_old O N can) f.«class» c.0 c.1
 
   class_gone : (f : Finding) → f.rule ≡ 1 → Stands O N f → Written f
   unfolding plan plan_bodies
@@ -80,18 +92,73 @@ module _ (O N : World) (can : CanWrite O N) where
   unfolding plan plan_bodies
   class_closed f e s = let g = by_class_closed O N f e s in subst Writes g.is (names_above_files O N w sound f.«class» _ (class_named f s)) (shown f s)
 
+  -- ---- assignments
+
+  -- an act that the rules look at is an instruction
+  instruction_on : (k : Key) (what : Act) → Contains (acts_on k) what → is_instruction what ≡ true
+  instruction_on k what i = either (Contains-append_cases field_acts (cond (is_key_of_method k) method_acts []) what i)
+    where
+      of_method : (b : Bool) → Contains (cond b method_acts []) what → is_instruction what ≡ true
+      of_method true j = each_in (λ a. is_instruction a ≡ true) method_acts what instructions_on_methods j
+      of_method false j = absurd (none what j)
+
+      either : Contains field_acts what ⊎ Contains (cond (is_key_of_method k) method_acts []) what → is_instruction what ≡ true
+      either (inl j) = each_in (λ a. is_instruction a ≡ true) field_acts what instructions_on_fields j
+      either (inr j) = of_method (is_key_of_method k) j
+
+  part_named : (a x : Bytes) → IsPart O a x → IsNamed x
+  part_named a x p = named_there O (sound_old O N can) x p.reached.class p.reached.is_there
+
+  -- with a seat
+  exposed_written : (s t a : Bytes) → IsPart O a s → IsPart O a t → same s t ≡ false → (e : LinkError) → Shows O N (assigns_exposed O N w s t a) e → AreWritten (assigns_exposed O N w s t a).clients (exposed_bodies O s t a ∷ [])
+  exposed_written s t a p q d e =
+      behind_files O N w sound (acts_exposing O a s ++ acts_exposing O a t) s t a e (let l = length-append (acts_exposing O a s) (acts_exposing O a t) in omega (arith, l, p.few, q.few))
+      (EachOf-append (λ (m : MemberAct). is_instruction m.act ≡ true) (acts_exposing O a s) (acts_exposing O a t) (instructions s p) (instructions t q))
+      (EachOf-append (λ (m : MemberAct). IsNamed m.«class») (acts_exposing O a s) (acts_exposing O a t) (classes s p) (classes t q)) (part_named a s p) (part_named a t q) d
+    where
+      instructions : (x : Bytes) → IsPart O a x → EachOf (λ (m : MemberAct). is_instruction m.act ≡ true) (acts_exposing O a x)
+      instructions x h = EachOf-map (λ m i. instruction_on m.key m.act i) (acts_exposing O a x) h.listed
+
+      classes : (x : Bytes) → IsPart O a x → EachOf (λ (m : MemberAct). IsNamed m.«class») (acts_exposing O a x)
+      classes x h = EachOf-map (λ m o. usable_named_by m.«class» o.«class») (acts_exposing O a x) h.opened
+
+  -- the names of kept classes, or with a seat who takes part
+  abbrev Parts : Bytes → Bytes → Option Bytes → Type 0
+  Parts s t None = IsNamed s × IsNamed t
+  Parts s t (Some a) = IsPart O a s × IsPart O a t
+
+  assigned : (s t : Bytes) → same s t ≡ false → (a : Option Bytes) → Parts s t a → (e : LinkError) → Shows O N (assigns_from O N w s t a) e → AreWritten (assigns_from O N w s t a).clients (assigns_bodies O s t a ∷ [])
+  assigned s t d None p e = assigns_files O N w sound s t e p.0 p.1 d
+  assigned s t d (Some a) p e = exposed_written s t a p.0 p.1 d e
+
+  kept_named : (x : Bytes) → is_kept O N x ≡ true → IsNamed x
+  kept_named x k = usable_named_by x (kept_usable O N x k).0
+
+  interface_parts : (i : Bytes) (a : Option Bytes) → TakePart O N (i ∷ []) a → Parts object_name i a
+  interface_parts i None k = (record { name = refl; size = lit≤ tt }, kept_named i (and_parts (is_kept O N i) true k).0)
+  interface_parts i (Some a) k = (part_usable O a object_name (root_usable O N w r O r.old), part_of O N r.old.valid a i (and_parts (takes_part O N a i) true k.1).0)
+
+  both_parts : (x t : Bytes) (a : Option Bytes) → TakePart O N (x ∷ t ∷ []) a → Parts x t a
+  both_parts x t None k =
+      let p = and_parts (is_kept O N x) (is_kept O N t && true) k in
+      (kept_named x p.0, kept_named t (and_parts (is_kept O N t) true p.1).0)
+  both_parts x t (Some a) k =
+      let p = and_parts (takes_part O N a x) (takes_part O N a t && true) k.1 in
+      (part_of O N r.old.valid a x p.0, part_of O N r.old.valid a t (and_parts (takes_part O N a t) true p.1).0)
+
   interface_became_class : (f : Finding) → f.rule ≡ 3 → Stands O N f → Written f
   unfolding plan plan_bodies
   interface_became_class f e s =
       let g = by_interface_became_class O N f e s in
-      subst Writes g.is (assigns_files O N w sound object_name f.«class» _ (record { name = refl; size = lit≤ tt }) (class_named f s) (class_differs O N w r f.«class» g.stands)) (shown f s)
+      let was = (became_parts O N f.«class» g.stands).0 in
+      subst Writes g.is (assigned object_name f.«class» (class_differs O N w r f.«class» was) g.seat (interface_parts f.«class» g.seat g.parts) VerifyError) (shown f s)
 
   superclass_lost : (f : Finding) → f.rule ≡ 4 → Stands O N f → Written f
   unfolding plan plan_bodies
   superclass_lost f e s =
       let g = by_superclass_lost O N f e s in
       let cut = cut_parts O N f.«class» g.target g.stands in
-      subst Writes g.is (assigns_files O N w sound f.«class» g.target _ (class_named f s) (usable_named_by g.target cut.target_was) (cut_differs O N w r f.«class» g.target cut)) (shown f s)
+      subst Writes g.is (assigned f.«class» g.target cut.differs g.seat (both_parts f.«class» g.target g.seat g.parts) VerifyError) (shown f s)
 
   constructor_closed : (f : Finding) → f.rule ≡ 5 → Stands O N f → Written f
   unfolding plan plan_bodies

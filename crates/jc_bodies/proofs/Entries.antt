@@ -1,5 +1,5 @@
 -- Constructors and members that a body may name: what the pool entries of the body are asked for.
-use Rattle.std.proofs.Common.{◌≡◌, ◌≤◌, ℕ, Bool, true, false, cond, not, ◌&&◌, ◌||◌, List, [], ◌∷◌, ◌++◌, length, Option, Some, None, refl, ap, ◌∙◌, arith, nat_eq, lit≤}
+use Rattle.std.proofs.Common.{◌≡◌, ◌≤◌, ℕ, ◌+◌, ◌*◌, Bool, true, false, cond, not, ◌&&◌, ◌||◌, List, [], ◌∷◌, ◌++◌, length, Option, Some, None, refl, ap, ◌∙◌, arith, nat_eq, lit≤}
 use Rattle.std.specs.List.{list_all}
 use Rattle.std.proofs.lemmas.Bool.{and_parts, and_from, le-leb, or_right}
 use Rattle.std.proofs.lemmas.List.{length-append}
@@ -8,7 +8,9 @@ use Rattle.jc_desc.specs.Pool.{describes_field, describes_method, names_any_memb
 use Rattle.jc_desc.specs.Reading.{method_of}
 use Rattle.jc_desc.specs.Types.{Basic, byte, char, double as double_type, float as float_type, int as int_type, long as long_type, short, boolean, class as class_basic, TypeOf, slots_of_basic, slots_of_type, slots_of}
 use Rattle.jc_desc.specs.Utf8.{is_modified_utf8}
+use Rattle.jc_facts.specs.declared.member_act.MemberAct.{MemberAct}
 use Rattle.jc_facts.specs.declared.act.Act.{Act}
+use Rattle.jc_facts.specs.declared.blueprint.Slot.TheVariants as kinds
 use Rattle.jc_facts.specs.declared.blueprint.Step.{Step}
 use Rattle.jc_facts.specs.declared.blueprint.Step.TheVariants as steps
 use Rattle.jc_facts.specs.declared.key.Key.{Key}
@@ -17,8 +19,9 @@ use Rattle.jc_facts.specs.Names.{Bytes}
 use Rattle.jc_facts.specs.file.Valid.{is_valid_name}
 use Rattle.jc_facts.specs.written.PoolEntries.{PoolEntry, class, member, is_good, use_is_good}
 use Rattle.jc_facts.specs.written.Bodies.{tag_of_act, init_name, step_needs, steps_needs}
-use Rattle.jc_facts.specs.plan.PlannedBodies.{basic_zero, zero_step, zeros, params_of, taken_by, given_by, pops_of, first_local, init_steps, cast_steps, turn_steps, make_steps, act_steps}
+use Rattle.jc_facts.specs.plan.PlannedBodies.{basic_zero, zero_step, zeros, params_of, taken_by, given_by, pops_of, init_steps, cast_steps, turn_steps, make_steps, acting_steps, act_steps, exposed_steps}
 use Rattle.jc_facts.proofs.Same.{same_itself}
+use Rattle.jc_lemmas.proofs.Listed.{EachOf}
 use Rattle.jc_bodies.proofs.RowTypes.{IsAbove, IsUsable}
 use Rattle.jc_bodies.proofs.Keys.{IsMethodKey, IsFieldKey}
 use Rattle.jc_bodies.proofs.Limits.{is_short}
@@ -177,39 +180,68 @@ pub record IsActed (what : Act) (c : Bytes) (k : Key) : Type 0 where
   pub short : IsShortKey k
   pub few : length (zeros (taken_by what k.descriptor)) ≤ 255
 
-pops_need : (o : Option TypeOf) → steps_needs (pops_of o ++ steps.Return None ∷ []) ≡ []
-pops_need None = refl
-pops_need (Some t) = go (nat_eq (slots_of_type t) 2)
+pops_need : (o : Option TypeOf) (rest : List Step) → steps_needs (pops_of o ++ rest) ≡ steps_needs rest
+pops_need None rest = refl
+pops_need (Some t) rest = go (nat_eq (slots_of_type t) 2)
   where
-    go : (b : Bool) → steps_needs (cond b steps.Pop2 steps.Pop ∷ steps.Return None ∷ []) ≡ []
+    go : (b : Bool) → steps_needs (cond b steps.Pop2 steps.Pop ∷ rest) ≡ steps_needs rest
     go true = refl
     go false = refl
 
-pops_few : (o : Option TypeOf) → length (pops_of o ++ steps.Return None ∷ []) ≤ 2
-pops_few None = lit≤ tt
-pops_few (Some t) = lit≤ tt
+pops_few : (o : Option TypeOf) (rest : List Step) → length (pops_of o ++ rest) ≤ 1 + length rest
+pops_few None rest = omega arith
+pops_few (Some t) rest = omega arith
 
-pub act_fine : (what : Act) (c : Bytes) (k : Key) → IsActed what c k → IsFine (act_steps what c k)
-act_fine what c k h = go (is_act_on_static what)
+-- what is asked of the entries of instructions, and how many these are
+pub record HasEntries (n : ℕ) (ss : List Step) : Type 0 where
+  pub good : list_all is_good (steps_needs ss) ≡ true
+  pub short : list_all is_short (steps_needs ss) ≡ true
+  pub few : length ss ≤ n
+
+-- an act before others
+acting_entries : (l n : ℕ) (what : Act) (c : Bytes) (k : Key) (rest : List Step) → IsActed what c k → HasEntries n rest → HasEntries (n + 258) (acting_steps l what c k rest)
+acting_entries l n what c k rest h e = go (is_act_on_static what)
   where
-    last : List Step
-    last = steps.Member what c k ∷ (pops_of (given_by what k.descriptor) ++ steps.Return None ∷ [])
+    tail : List Step
+    tail = steps.Member what c k ∷ (pops_of (given_by what k.descriptor) ++ rest)
 
     ts : List TypeOf
     ts = taken_by what k.descriptor
 
-    entries : (p : PoolEntry → Bool) → p (member (tag_of_act what) c k.name k.descriptor) ≡ true → list_all p (steps_needs (zeros ts ++ last)) ≡ true
-    entries p q = behind_zeros p ts last (rw (pops_need (given_by what k.descriptor), q) refl)
+    entries : (p : PoolEntry → Bool) → p (member (tag_of_act what) c k.name k.descriptor) ≡ true → list_all p (steps_needs rest) ≡ true → list_all p (steps_needs (zeros ts ++ tail)) ≡ true
+    entries p q r = behind_zeros p ts tail (rw (pops_need (given_by what k.descriptor) rest, q) r)
 
-    good : list_all is_good (steps_needs (zeros ts ++ last)) ≡ true
-    good = entries is_good (member_good (tag_of_act what) c k h.class.name h.text h.spelled h.pair h.used)
+    good : list_all is_good (steps_needs (zeros ts ++ tail)) ≡ true
+    good = entries is_good (member_good (tag_of_act what) c k h.class.name h.text h.spelled h.pair h.used) e.good
 
-    short : list_all is_short (steps_needs (zeros ts ++ last)) ≡ true
-    short = entries is_short (member_short (tag_of_act what) c k (short_name c h.class) h.short)
+    short : list_all is_short (steps_needs (zeros ts ++ tail)) ≡ true
+    short = entries is_short (member_short (tag_of_act what) c k (short_name c h.class) h.short) e.short
 
-    few : length (zeros ts ++ last) ≤ 258
-    few = omega (arith, length-append (zeros ts) last, h.few, pops_few (given_by what k.descriptor))
+    few : length (zeros ts ++ tail) ≤ n + 257
+    few = let l = length-append (zeros ts) tail in let p = pops_few (given_by what k.descriptor) rest in omega (arith, l, p, h.few, e.few)
 
-    go : (b : Bool) → IsFine (cond b [] (first_local ∷ []) ++ (zeros ts ++ last))
+    go : (b : Bool) → HasEntries (n + 258) (cond b [] (steps.Load kinds.Ref l ∷ []) ++ (zeros ts ++ tail))
     go true = record { good = good; short = short; few = omega (arith, few) }
     go false = record { good = good; short = short; few = omega (arith, few) }
+
+pub act_fine : (what : Act) (c : Bytes) (k : Key) → IsActed what c k → IsFine (act_steps what c k)
+act_fine what c k h =
+    let e = acting_entries 0 1 what c k (steps.Return None ∷ []) h (record { good = refl; short = refl; few = lit≤ tt }) in
+    record { good = e.good; short = e.short; few = omega (arith, e.few) }
+
+-- ---- exposing acts
+
+abbrev pub AreActed : List MemberAct → Type 0
+AreActed ms = EachOf (λ (m : MemberAct). IsActed m.act m.«class» m.key) ms
+
+exposed_entries : (l : ℕ) (ms : List MemberAct) → AreActed ms → HasEntries (2 + 258 * length ms) (exposed_steps l ms)
+exposed_entries l [] h = record { good = refl; short = refl; few = lit≤ tt }
+exposed_entries l (m ∷ ms) h = go (is_act_on_static m.act) (λ k. exposed_entries k ms h.1)
+  where
+    go : (b : Bool) → ((k : ℕ) → HasEntries (2 + 258 * length ms) (exposed_steps k ms)) → HasEntries (2 + 258 * length (m ∷ ms)) (acting_steps l m.act m.«class» m.key (exposed_steps (cond b l (l + 1)) ms))
+    go b more =
+        let e = acting_entries l (2 + 258 * length ms) m.act m.«class» m.key (exposed_steps (cond b l (l + 1)) ms) h.0 (more (cond b l (l + 1))) in
+        record { good = e.good; short = e.short; few = omega (arith, e.few) }
+
+pub exposed_fine : (ms : List MemberAct) → length ms ≤ 2 → AreActed ms → IsFine (exposed_steps 0 ms)
+exposed_fine ms l h = let e = exposed_entries 0 ms h in record { good = e.good; short = e.short; few = omega (arith, e.few, l) }

@@ -6,6 +6,7 @@ pub mod UseBodies
 pub mod Rows
 pub mod ActBodies
 pub mod AllRows
+pub mod ExposedBodies
 pub mod Written
 pub mod Keys
 pub mod Entries

@@ -1,9 +1,11 @@
 -- The class files of each row of planned clients, from what the row shows.
-use Rattle.std.proofs.Common.{◌≡◌, ◌≤◌, ◌+◌, Bool, true, false, cond, ◌&&◌, List, [], ◌∷◌, length, Some, None, refl, arith, lit≤, codes}
-use Rattle.std.proofs.lemmas.Bool.{le-leb}
+use Rattle.std.proofs.Common.{◌≡◌, ◌≤◌, ◌+◌, ◌*◌, Bool, true, false, cond, ◌&&◌, List, [], ◌∷◌, ◌++◌, length, map, Some, None, refl, arith, lit≤, codes}
+use Rattle.std.specs.List.{list_all}
+use Rattle.std.proofs.lemmas.Bool.{and_parts, and_from, le-leb}
 use Rattle.std.proofs.lemmas.List.{length-append}
 use Rattle.std.proofs.lemmas.List.Elements.{recursion_from_All}
 use Rattle.jc_desc.specs.Types.{type_text, types_text}
+use Rattle.jc_facts.specs.declared.member_act.MemberAct.{MemberAct}
 use Rattle.jc_facts.specs.declared.act.Act.{Act}
 use Rattle.jc_facts.specs.declared.act.Act.TheVariants as acts
 use Rattle.jc_facts.specs.declared.class_facts.ClassFacts.{ClassFacts}
@@ -18,21 +20,23 @@ use Rattle.jc_facts.specs.client.Acts.{form_of, is_act_on_static}
 use Rattle.jc_facts.specs.Flags.{public_flag}
 use Rattle.jc_facts.specs.Options.{some_and}
 use Rattle.jc_facts.specs.world.Assignment.{is_interface_of}
-use Rattle.jc_facts.specs.client.Clients.{IsValidClient, is_allowed_name, is_in_reach, facts_of}
+use Rattle.jc_facts.specs.client.Clients.{IsValidClient, is_allowed_name, is_in_reach, is_item_of, facts_of}
 use Rattle.jc_facts.specs.Names.{Bytes, same, object_name}
 use Rattle.jc_facts.specs.client.Outcome.{outcome}
+use Rattle.jc_facts.specs.file.Valid.{is_valid_name}
 use Rattle.jc_facts.specs.world.World.{World, with_clients}
-use Rattle.jc_facts.specs.plan.Planned.{Plan, class_type, takes_nothing, takes, turns, use_method, a_class, user, field_class, abstract_method, an_interface, found_by, act_item, names_class, names_above, assigns, makes_object, calls_constructor, overrides_method, receiver_for, acts_from, calls_inherited, reads_field, calls_captured}
+use Rattle.jc_facts.specs.plan.Planned.{Plan, class_type, takes_nothing, takes, turns, turns_behind, receiver_exposed, receivers_exposed, item_exposed, assigns_behind, use_method, a_class, user, field_class, abstract_method, an_interface, found_by, act_item, names_class, names_above, assigns, makes_object, calls_constructor, overrides_method, receiver_for, acts_from, calls_inherited, reads_field, calls_captured}
 use Rattle.jc_facts.specs.plan.PlannedNames.{in_package, own_name, closed_name, constructor}
-use Rattle.jc_facts.specs.plan.PlannedBodies.{Bodies, init_body, object_init, cast_steps, turn_steps, make_steps, act_steps, user_bodies, above_bodies, overrides_bodies, acts_bodies, inherited_bodies, reads_bodies, captured_bodies}
+use Rattle.jc_facts.specs.plan.PlannedBodies.{Bodies, body_of, exposed_steps, init_body, object_init, cast_steps, turn_steps, make_steps, act_steps, user_bodies, above_bodies, overrides_bodies, acts_bodies, inherited_bodies, reads_bodies, captured_bodies}
 use Rattle.jc_complete.specs.Completeness.{LinksWhole, Shows}
-use Rattle.jc_lemmas.proofs.Listed.{EachOf, EachOf-map}
+use Rattle.jc_lemmas.proofs.Listed.{EachOf, EachOf-map, EachOf-append}
 use Rattle.jc_bodies.proofs.RowTypes.{IsTypedAs, AreTypedAs}
 use Rattle.jc_bodies.proofs.AllRows.{names_class_row, assigns_row, makes_object_row, calls_constructor_row, overrides_row, acts_from_row, calls_inherited_row, reads_field_row, calls_captured_row}
 use Rattle.jc_bodies.proofs.ClassFiles.{IsHead, plain_head, head_of, class_file, abstract_file, using_file, interface_file, abstract_interface_file, object_constructor, user_file}
-use Rattle.jc_bodies.proofs.Entries.{IsNamed, short_name, class_name_of, IsShortKey, IsConstructor, constructor_above, IsActed, cast_fine, turn_fine, make_fine, act_fine}
+use Rattle.jc_bodies.proofs.Entries.{IsNamed, short_name, class_name_of, IsShortKey, IsConstructor, constructor_above, IsActed, AreActed, cast_fine, turn_fine, make_fine, act_fine, exposed_fine}
 use Rattle.jc_bodies.proofs.Linking.{IsSound, init_links, new_links, is_instruction, access_links}
-use Rattle.jc_bodies.proofs.Rows.{class_typed, object_above}
+use Rattle.jc_bodies.proofs.Rows.{class_typed, using_typed, object_above}
+use Rattle.jc_bodies.proofs.ExposedBodies.{exposed_body}
 use Rattle.jc_bodies.proofs.SoundWorlds.{IsGood, allowed_length, HasShortMembers, clients_good}
 use Rattle.jc_bodies.proofs.Written.{IsWritten, is_short_text}
 
@@ -59,6 +63,29 @@ takes_short x h = le-leb (length (takes x)) 65535 (omega (arith, takes_length x,
 turns_short : (s t : Bytes) → length s ≤ 4090 → length t ≤ 4090 → is_short_text (turns s t) ≡ true
 turns_short s t h k = le-leb (length (turns s t)) 65535 (omega (arith, turns_length s t, h, k))
 
+types_most : (xs : List Bytes) → EachOf IsNamed xs → length (types_text (map class_type xs)) ≤ 4092 * length xs
+types_most [] h = omega arith
+types_most (x ∷ xs) h =
+    let l = length-append (type_text (class_type x)) (types_text (map class_type xs)) in
+    let k = type_length x in
+    let m = types_most xs h.1 in
+    omega (arith, l, k, m, h.0.size)
+
+-- of a few parameters
+behind_short : (rs : List Bytes) (s t : Bytes) → EachOf IsNamed rs → IsNamed s → IsNamed t → length rs ≤ 2 → is_short_text (turns_behind rs s t) ≡ true
+behind_short rs s t h m n few =
+    let xs : List Bytes = rs ++ s ∷ [] in
+    let each : EachOf IsNamed xs = EachOf-append IsNamed rs (s ∷ []) h (m, tt) in
+    let a = length-append (types_text (map class_type xs)) (41 ∷ type_text (class_type t)) in
+    let b = types_most xs each in
+    let c = length-append rs (s ∷ []) in
+    let d = type_length t in
+    le-leb (length (turns_behind rs s t)) 65535 (omega (arith, a, b, c, d, few, n.size))
+
+all_valid : (rs : List Bytes) (s : Bytes) → EachOf IsNamed rs → IsNamed s → list_all is_valid_name (rs ++ s ∷ []) ≡ true
+all_valid [] s h m = rw m.name refl
+all_valid (x ∷ xs) s h m = and_from (is_valid_name x) (list_all is_valid_name (xs ++ s ∷ [])) h.0.name (all_valid xs s h.1 m)
+
 -- ---- what a plan shows of its clients
 
 -- the items of the client link
@@ -66,7 +93,7 @@ abbrev Link : World → ClientClass → Type 0
 Link V c = EachOf (λ i. outcome V c.facts.name i ≡ None) c.items
 
 links_of : (V : World) (c : ClientClass) → LinksWhole V c → Link V c
-links_of V c h = EachOf-map (λ i k. k.1) c.items (recursion_from_All (λ i. (is_in_reach V c.facts.name i ≡ true) × (outcome V c.facts.name i ≡ None)) c.items h.1)
+links_of V c h = EachOf-map (λ i k. k.1) c.items (recursion_from_All (λ i. (is_in_reach V c.facts.name c.items i ≡ true) × (outcome V c.facts.name i ≡ None)) c.items h.1)
 
 record AreLinked (O : World) (cs : List ClientClass) : Type 0 where
   valid : EachOf IsValidClient cs
@@ -110,6 +137,92 @@ module _ (O N : World) (w : Bytes) (sound : (cs : List ClassFacts) → EachOf Is
             (assigns_row w a b (class_name_of a m.name) (class_name_of b n.name) d).0,
         tt,
       )
+
+  -- ---- Y, to which classes are exposed
+
+  -- what the acts of a client that link may name
+  acted_each : (V : World) → IsSound V → (y : Bytes) (c : ClassFacts) (ms : List MemberAct) (rest : List Item) → EachOf (λ (m : MemberAct). is_instruction m.act ≡ true) ms → list_all (is_item_of c) (map (item_exposed O y) ms ++ rest) ≡ true
+      → EachOf (λ i. outcome V y i ≡ None) (map (item_exposed O y) ms ++ rest) → AreActed ms
+  acted_each V q y c [] rest i v h = tt
+  acted_each V q y c (m ∷ ms) rest i v h =
+      let p = and_parts (is_item_of c (item_exposed O y m)) (list_all (is_item_of c) (map (item_exposed O y) ms ++ rest)) v in
+      (access_links V q y m.«class» m.key (cond (is_act_on_static m.act) None (Some (receiver_exposed O y m))) Other m.act i.0 p.0 h.0, acted_each V q y c ms rest i.1 p.1 h.1)
+
+  receivers_are_named : (y : Bytes) (ms : List MemberAct) → IsNamed y → EachOf (λ (m : MemberAct). IsNamed m.«class») ms → EachOf IsNamed (receivers_exposed O y ms)
+  receivers_are_named y [] n h = tt
+  receivers_are_named y (m ∷ ms) n h = go (is_act_on_static m.act) (receivers_are_named y ms n h.1)
+    where
+      one : IsNamed (receiver_exposed O y m)
+      one = pick (some_and (λ m. public_flag m.member.flags) (found_by O (form_of m.act) m.«class» m.key))
+        where
+          pick : (b : Bool) → IsNamed (cond b m.«class» y)
+          pick true = h.0
+          pick false = n
+
+      go : (b : Bool) → EachOf IsNamed (receivers_exposed O y ms) → EachOf IsNamed (cond b (receivers_exposed O y ms) (receiver_exposed O y m ∷ receivers_exposed O y ms))
+      go true k = k
+      go false k = (one, k)
+
+  receivers_few : (y : Bytes) (ms : List MemberAct) → length (receivers_exposed O y ms) ≤ length ms
+  receivers_few y [] = omega arith
+  receivers_few y (m ∷ ms) = go (is_act_on_static m.act) (receivers_few y ms)
+    where
+      go : (b : Bool) → length (receivers_exposed O y ms) ≤ length ms → length (cond b (receivers_exposed O y ms) (receiver_exposed O y m ∷ receivers_exposed O y ms)) ≤ length (m ∷ ms)
+      go true l = omega (arith, l)
+      go false l = omega (arith, l)
+
+  pub behind_files : (acts : List MemberAct) (s t a : Bytes) (e : LinkError) → length acts ≤ 2 → EachOf (λ (m : MemberAct). is_instruction m.act ≡ true) acts → EachOf (λ (m : MemberAct). IsNamed m.«class») acts → IsNamed s → IsNamed t → same s t ≡ false → Shows O N (assigns_behind O N w acts s t a) e
+      → AreWritten (assigns_behind O N w acts s t a).clients ((init_body a (constructor O a) ∷ body_of (exposed_steps 0 acts) ∷ []) ∷ [])
+  behind_files acts s t a e few instructions of_classes ns nt differ shown = (
+    using_file y 0x0021 a d [] [] (plain_head y 0x0021 (short_name y own) refl) i u (exposed_steps 0 acts) found u_short (exposed_fine acts few acted) v.facts
+        (using_typed y 0x0021 a d [] [] (constructor_above a d i) u (exposed_steps 0 acts) found (exposed_body O y client.facts acts s t (EachOf-map (λ m k. k.usable) acts acted) (all_valid rs s names ns) (class_name_of t nt.name) differ)),
+    tt,
+  )
+    where
+      h : AreLinked O (assigns_behind O N w acts s t a).clients
+      h = shown_linked O N (assigns_behind O N w acts s t a) e shown
+
+      y : Bytes
+      y = own_name O N (in_package w (codes "Y")) a
+
+      d : Bytes
+      d = constructor O a
+
+      rs : List Bytes
+      rs = receivers_exposed O y acts
+
+      u : Bytes
+      u = turns_behind rs s t
+
+      found : List Item
+      found = map (item_exposed O y) acts ++ item.Assign s t ∷ []
+
+      client : ClientClass
+      client = a_class y 0x0021 a d [] [] (use_method u ∷ []) found
+
+      v : IsValidClient client
+      v = h.valid.0
+
+      own : IsNamed y
+      own = own_named O client v h.allowed.0
+
+      links : Link (with_clients O (client.facts ∷ [])) client
+      links = h.link.0
+
+      names : EachOf IsNamed rs
+      names = receivers_are_named y acts own of_classes
+
+      u_short : is_short_text u ≡ true
+      u_short = behind_short rs s t names ns nt (let l = receivers_few y acts in omega (arith, l, few))
+
+      sound_world : IsSound (with_clients O (client.facts ∷ []))
+      sound_world = world (client ∷ []) h ((refl, rw u_short refl), tt)
+
+      i : IsConstructor a d
+      i = init_links (with_clients O (client.facts ∷ [])) sound_world y a d links.0
+
+      acted : AreActed acts
+      acted = acted_each (with_clients O (client.facts ∷ [])) sound_world y client.facts acts (item.Assign s t ∷ []) instructions (and_parts (is_item_of client.facts (item.Init a d)) (list_all (is_item_of client.facts) found) v.items).1 links.1
 
   pub makes_object_files : (c d : Bytes) (e : LinkError) → Shows O N (makes_object w c d) e → AreWritten (makes_object w c d).clients (user_bodies (make_steps c d) ∷ [])
   makes_object_files c d e s =

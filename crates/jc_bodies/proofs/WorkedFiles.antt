@@ -5,20 +5,23 @@ use Rattle.std.proofs.lemmas.List.Elements.{All-from_recursion}
 use Rattle.jc_facts.specs.declared.act.Act.TheVariants as act
 use Rattle.jc_facts.specs.declared.blueprint.Blueprint.{Blueprint}
 use Rattle.jc_facts.specs.declared.blueprint.Slot.TheVariants as kinds
+use Rattle.jc_facts.specs.declared.blueprint.Primitive.TheVariants as prims
 use Rattle.jc_facts.specs.declared.blueprint.Step.TheVariants as steps
 use Rattle.jc_facts.specs.declared.class_facts.ClassFacts.{ClassFacts}
-use Rattle.jc_facts.specs.declared.link_error.LinkError.TheVariants.{IllegalAccessError}
+use Rattle.jc_facts.specs.declared.link_error.LinkError.TheVariants.{IllegalAccessError, VerifyError}
 use Rattle.jc_facts.specs.declared.verdict.Cause.{Cause}
 use Rattle.jc_facts.specs.declared.verdict.Cause.TheVariants as cause
 use Rattle.jc_facts.specs.ByName.{placed, by_name}
 use Rattle.jc_facts.specs.rule.Collisions.{made_collision}
-use Rattle.jc_facts.specs.Names.{object_name}
+use Rattle.jc_facts.specs.declared.key.Key.{Key}
+use Rattle.jc_facts.specs.Names.{Bytes, object_name}
 use Rattle.jc_facts.specs.plan.Planned.{plan}
 use Rattle.jc_facts.specs.plan.PlannedBodies.{Bodies, body_of, plan_bodies, planned_files}
 use Rattle.jc_facts.specs.plan.PlannedNames.{first_unused, least_name, constructors}
 use Rattle.jc_facts.specs.world.World.{side}
 use Rattle.jc_facts.specs.written.PoolEntries.{entries_bytes}
 use Rattle.jc_facts.specs.written.Written.{pool_of_plan, written}
+use Rattle.jc_complete.proofs.PlanRules.{made}
 use Rattle.jc_complete.proofs.WorkedPlans.{clients_can_be_planned}
 use Rattle.jc_sound.proofs.Examples.{computes, init, member, a_class, plain, public_class, over, object}
 use Rattle.jc_lemmas.proofs.Listed.{EachOf}
@@ -53,6 +56,31 @@ interface_is_written : written J
     ++ (6 ∷ 1 ∷ 0 ∷ 2 ∷ 0 ∷ 4 ∷ 0 ∷ 0 ∷ 0 ∷ 0 ∷ 0 ∷ 1 ∷ 4 ∷ 1 ∷ 0 ∷ 5 ∷ 0 ∷ 6 ∷ 0 ∷ 0 ∷ 0 ∷ 0 ∷ [])
 unfolding written pool_of_plan entries_bytes
 interface_is_written = refl
+
+-- ---- hidden classes
+
+abbrev hidden_class : Bytes → Bytes → ClassFacts
+hidden_class x above = a_class x 0x0020 (Some above) [] [] (init 1 ∷ [])
+
+abbrev both_key : Key
+both_key = record { name = codes "f"; descriptor = codes "(JLp/B;[Lp/S;)D" }
+
+abbrev exposes_both : ClassFacts
+exposes_both = a_class p_A 0x0021 (Some object_name) [] [] (init 1 ∷ member both_key.name both_key.descriptor 4 ∷ [])
+
+-- a protected instance method of p/A exposes p/S and p/B, of which p/S is gone: Y takes it twice, each time on a receiver of its own, pops the
+-- two places of the result, and returns its last parameter
+exposed_files_are_planned : planned_files (over (hidden_class (codes "p/B") object_name ∷ hidden_class (codes "p/S") (codes "p/B") ∷ exposes_both ∷ []))
+    (over (hidden_class (codes "p/B") object_name ∷ exposes_both ∷ []))
+    (cause.Finding (made 4 (codes "p/S") None (Some (codes "p/B")) act.Assignment (Some p_A) VerifyError))
+    ≡ file (a_class (codes "w0/Y") 0x0021 (Some p_A) [] [] (init 1 ∷ member (codes "use") (codes "(Lw0/Y;Lw0/Y;Lp/S;)Lp/B;") 9 ∷ []))
+    (body_of (steps.Load kinds.Ref 0 ∷ steps.Construct p_A (codes "()V") ∷ steps.Return None ∷ [])
+    ∷ body_of (steps.Load kinds.Ref 0 ∷ steps.Zero prims.Long ∷ steps.Null ∷ steps.Null ∷ steps.Member act.InvokeVirtual p_A both_key ∷ steps.Pop2
+    ∷ steps.Load kinds.Ref 1 ∷ steps.Zero prims.Long ∷ steps.Null ∷ steps.Null ∷ steps.Member act.InvokeVirtual p_A both_key ∷ steps.Pop2
+    ∷ steps.Load kinds.Ref 2 ∷ steps.Return (Some kinds.Ref) ∷ []) ∷ [])
+    ∷ []
+unfolding computes plan plan_bodies by_name placed first_unused least_name constructors digits
+exposed_files_are_planned = refl
 
 -- ---- the premises can be met
 

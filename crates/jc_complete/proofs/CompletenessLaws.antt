@@ -1,24 +1,28 @@
 -- The laws of completeness, rule by rule.
-use Rattle.std.proofs.Common.{◌≡◌, refl, subst, is_none, not, ◌&&◌, inl, inr}
+use Rattle.std.proofs.Common.{◌≡◌, true, false, [], ◌∷◌, refl, subst, Option, Some, None, is_none, not, ◌&&◌, inl, inr}
 use Rattle.std.proofs.lemmas.Bool.{and_parts, not-true}
 use Rattle.jc_facts.specs.declared.finding.Finding.{Finding}
 use Rattle.jc_facts.specs.declared.verdict.Cause.TheVariants as cause
-use Rattle.jc_facts.specs.Names.{Bytes}
+use Rattle.jc_facts.specs.declared.link_error.LinkError.TheVariants.{VerifyError}
+use Rattle.jc_facts.specs.Names.{Bytes, object_name}
 use Rattle.jc_facts.specs.world.World.{World, with_clients}
 use Rattle.jc_facts.specs.declared.verdict.Collision.{Collision}
 use Rattle.jc_facts.specs.client.Clients.{facts_of}
 use Rattle.jc_facts.specs.client.Meets.{Meets}
 use Rattle.jc_facts.specs.world.Lookup.{public_method_of_object}
-use Rattle.jc_facts.specs.rule.Bases.{is_class_usable, is_key_of_method, is_base_class, is_base_interface, is_final_in_chain, inherits}
-use Rattle.jc_facts.specs.rule.Findings.{finds_overridable}
+use Rattle.jc_facts.specs.world.Assignment.{is_interface_of}
+use Rattle.jc_facts.specs.rule.Bases.{is_class_usable, is_kept, is_key_of_method, is_base_class, is_base_interface, is_final_in_chain, inherits}
+use Rattle.jc_facts.specs.rule.Findings.{takes_part, finds_overridable}
 use Rattle.jc_facts.specs.plan.PlannedNames.{fresh_package}
-use Rattle.jc_facts.specs.plan.Planned.{plan}
+use Rattle.jc_facts.specs.plan.Planned.{assigns_from, plan}
 use Rattle.jc_complete.specs.Completeness.{FindingsShown, CollisionsShown, Shows}
 use Rattle.jc_lemmas.proofs.Options.{none_where}
 use Rattle.jc_complete.proofs.PlanGround.{Ready}
 use Rattle.jc_complete.proofs.PlanReady.{ready_of}
-use Rattle.jc_complete.proofs.PlanRules.{ConstructorClosed, by_new, by_init, by_class_gone, by_class_closed, by_interface_became_class, by_superclass_lost, by_constructor_closed, by_method_made_final, by_field_closed, by_method_closed, by_interface_method_lost}
-use Rattle.jc_complete.proofs.PlanUses.{ShowsAlone, class_gone_is_shown, interface_became_class_is_shown, cut_parts, superclass_lost_is_shown}
+use Rattle.jc_complete.proofs.PlanRules.{TakePart, ConstructorClosed, by_new, by_init, by_class_gone, by_class_closed, by_interface_became_class, by_superclass_lost, by_constructor_closed, by_method_made_final, by_field_closed, by_method_closed, by_interface_method_lost}
+use Rattle.jc_complete.proofs.PlanUses.{ShowsAlone, root_usable, class_gone_is_shown, became_parts, became_assigns, interface_became_class_is_shown, IsCut, cut_parts, cut_assigns, superclass_lost_is_shown}
+use Rattle.jc_complete.proofs.PlanActs.{seat_base}
+use Rattle.jc_complete.proofs.PlanExposed.{part_usable, part_of, assigns_are_exposed}
 use Rattle.jc_complete.proofs.PlanConstructorClosed.{new_is_shown}
 use Rattle.jc_complete.proofs.PlanCalls.{call_is_shown}
 use Rattle.jc_complete.proofs.PlanClassClosed.{class_closed_is_shown}
@@ -47,15 +51,33 @@ pub interface_became_class_shown : FindingsShown (λ f. f.rule ≡ 3)
 unfolding plan
 interface_became_class_shown O N c f e s =
     let w = fresh_package O N in
+    let r = ready_of O N c in
     let g = by_interface_became_class O N f e s in
-    subst (ShowsIt O N w) g.is (interface_became_class_is_shown O N w (ready_of O N c) f.«class» g.stands)
+    let p = became_parts O N f.«class» g.stands in
+    subst (ShowsIt O N w) g.is (go O N w r f.«class» p.0 p.1 g.seat g.parts)
+  where
+    go : (O N : World) (w : Bytes) (r : Ready O N w) (i : Bytes) → is_interface_of O i ≡ true → is_interface_of N i ≡ false → (a : Option Bytes) → TakePart O N (i ∷ []) a → ShowsAlone O N (assigns_from O N w object_name i a) VerifyError
+    go O N w r i was now None k = interface_became_class_is_shown O N w r i was now (and_parts (is_kept O N i) true k).0
+    go O N w r i was now (Some a) k =
+        let c = became_assigns O N w r i was now in
+        assigns_are_exposed O N w r a (seat_base O N w r a k.0) object_name i (part_usable O a object_name (root_usable O N w r O r.old)) (part_of O N r.old.valid a i (and_parts (takes_part O N a i) true k.1).0) c.0 c.1
 
 pub superclass_lost_shown : FindingsShown (λ f. f.rule ≡ 4)
 unfolding plan
 superclass_lost_shown O N c f e s =
     let w = fresh_package O N in
+    let r = ready_of O N c in
     let g = by_superclass_lost O N f e s in
-    subst (ShowsIt O N w) g.is (superclass_lost_is_shown O N w (ready_of O N c) f.«class» g.target (cut_parts O N f.«class» g.target g.stands))
+    subst (ShowsIt O N w) g.is (go O N w r f.«class» g.target (cut_parts O N f.«class» g.target g.stands) g.seat g.parts)
+  where
+    go : (O N : World) (w : Bytes) (r : Ready O N w) (x t : Bytes) → IsCut O N x t → (a : Option Bytes) → TakePart O N (x ∷ t ∷ []) a → ShowsAlone O N (assigns_from O N w x t a) VerifyError
+    go O N w r x t h None k =
+        let p = and_parts (is_kept O N x) (is_kept O N t && true) k in
+        superclass_lost_is_shown O N w r x t h p.0 (and_parts (is_kept O N t) true p.1).0
+    go O N w r x t h (Some a) k =
+        let p = and_parts (takes_part O N a x) (takes_part O N a t && true) k.1 in
+        let c = cut_assigns O N w r x t h in
+        assigns_are_exposed O N w r a (seat_base O N w r a k.0) x t (part_of O N r.old.valid a x p.0) (part_of O N r.old.valid a t (and_parts (takes_part O N a t) true p.1).0) c.0 c.1
 
 pub constructor_closed_shown : FindingsShown (λ f. f.rule ≡ 5)
 unfolding plan

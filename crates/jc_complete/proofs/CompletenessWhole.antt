@@ -95,7 +95,7 @@ not_kept O N p e s k = go p.spot s.fails
     go spot.Load f = let z : None ≡ Some e = sym (k.loading s.spot s.is_in whole.0) ∙ f in cc
     go (spot.Item n) f =
         let i = contained s.spot.items n f.1.0 f.1.1 in
-        let l = All-contains (λ i. (is_in_reach (with_clients O (facts_of p.clients)) s.spot.facts.name i ≡ true) × (outcome (with_clients O (facts_of p.clients)) s.spot.facts.name i ≡ None)) s.spot.items f.1.0 whole.1 i in
+        let l = All-contains (λ i. (is_in_reach (with_clients O (facts_of p.clients)) s.spot.facts.name s.spot.items i ≡ true) × (outcome (with_clients O (facts_of p.clients)) s.spot.facts.name i ≡ None)) s.spot.items f.1.0 whole.1 i in
         let z : None ≡ Some e = sym (k.uses s.spot f.1.0 s.is_in whole.0 i l.0 l.1) ∙ f.1.2 in cc
 
 pub verdict_is_exact : VerdictIsExact

@@ -16,7 +16,9 @@ pub mod PlanBelow
 pub mod PlanCalls
 pub mod PlanInterfaces
 pub mod PlanActs
+pub mod PlanOpenActs
 pub mod PlanSeatActs
+pub mod PlanExposed
 pub mod PlanSeatRules
 pub mod PlanCollisions
 pub mod PlanLookups

@@ -1,5 +1,5 @@
 -- Two worlds with the same classes, in another order: all that linking asks is the same.
-use Rattle.std.proofs.Common.{◌≡◌, ℕ, zero, suc, Bool, cond, List, [], ◌∷◌, ◌++◌, refl, ◌∙◌, ap, Option, Some, None, is_none, not, ◌&&◌}
+use Rattle.std.proofs.Common.{◌≡◌, ℕ, zero, suc, Bool, cond, List, [], ◌∷◌, ◌++◌, refl, ◌∙◌, ap, Option, Some, None, is_none, not, ◌&&◌, ◌||◌}
 use mathlib.Core.Path.{fun_ext}
 use Rattle.std.specs.List.{list_any, filter}
 use Rattle.jc_facts.specs.declared.class_facts.ClassFacts.{ClassFacts}
@@ -23,11 +23,12 @@ use Rattle.jc_facts.specs.world.Assignment.{is_assignable, assign_to, is_element
 use Rattle.jc_facts.specs.client.Acts.{Form, FieldForm, MethodForm, InterfaceForm, form_of}
 use Rattle.jc_facts.specs.world.Loading.{load_fault, load_step, fault_of_itself, fault_of_superclass, fault_of_interface, error_of_superclass, error_of_interface, fault_where}
 use Rattle.jc_facts.specs.world.Lookup.{field_found, field_step, first_declared, declared_by, is_concrete, only_or, superinterface_choices, or_choices, method_choices, if_public_instance, public_method_of_object, interface_choices}
-use Rattle.jc_facts.specs.client.Outcome.{array_fault, outcome, class_step, class_fault, type_fault, element_fault, look_up, first_of, found_or, use_fault, assignment_ok, receiver_ok, is_direct_super, init_fault, init_key, instantiation_fault}
-use Rattle.jc_facts.specs.client.Clients.{is_in_reach, type_in_reach, text_in_reach, element_in_reach, seat, first_library}
+use Rattle.jc_facts.specs.client.Outcome.{array_fault, listed, may_find, outcome, class_step, class_fault, type_fault, element_fault, look_up, first_of, found_or, use_fault, assignment_ok, receiver_ok, is_direct_super, init_fault, init_key, instantiation_fault}
+use Rattle.jc_facts.specs.client.Clients.{is_in_reach, type_in_reach, text_in_reach, element_in_reach, class_in_reach, opens_members, is_opening, opens, seat, first_library}
 use Rattle.jc_facts.specs.client.Meets.{may_name}
 use Rattle.jc_worlds.specs.Alike.{AreModulesAlike}
 use Rattle.jc_worlds.proofs.VisibleFrom.{same_superclass, same_interface, same_class_access}
+use Rattle.jc_desc.specs.Classes.{descriptor_names}
 
 module _ (V W : World) (found : (x : Bytes) → find_class V x ≡ find_class W x) (count : size V ≡ size W) (clients : (x : Bytes) → is_client V x ≡ is_client W x) (modules : AreModulesAlike V W) where
   search_same : {B : Type 0} (missing deep : B) (step : (Bytes → B) → ClassFacts → B) (n : ℕ) (x : Bytes) → descend V missing deep step n x ≡ descend W missing deep step n x
@@ -207,25 +208,60 @@ module _ (V W : World) (found : (x : Bytes) → find_class V x ≡ find_class W 
 
   -- ---- reach, seats and names
 
-  type_same : (x t : Bytes) → type_in_reach V x t ≡ type_in_reach W x t
-  unfolding type_in_reach
-  type_same x t = go (type_read t)
-    where
-      by : (a : Element) → element_in_reach V x a ≡ element_in_reach W x a
-      by (Primitive p) = refl
-      by (Class c) = ap (λ (g : ClassFacts → Bool). is_none (load_fault V c) && some_and g (find_class V c)) (access_same x) ∙ ap (λ (g : Bytes → Option LinkError). is_none (g c) && some_and (is_class_accessible W x) (find_class V c)) fault_same ∙ ap (λ o. is_none (load_fault W c) && some_and (is_class_accessible W x) o) (found c)
+  may_find_same : (f : Form) (c : Bytes) (k : Key) → may_find V f c k ≡ may_find W f c k
+  may_find_same FieldForm c k = ap listed (field_same c k)
+  may_find_same MethodForm c k = method_same c k
+  may_find_same InterfaceForm c k = interface_same c k
 
-      go : (o : Option TypeText) → text_in_reach V x o ≡ text_in_reach W x o
+  opens_members_same : (x d : Bytes) → opens_members V x d ≡ opens_members W x d
+  opens_members_same x d =
+      ap (λ (g : ClassFacts → Bool). not (is_client V d) && (some_and g (find_class V d) || not (is_interface_of V d))) (access_same x) ∙ rw (clients d, found d) refl
+
+  opening_same : (x : Bytes) (i : Item) → is_opening V x i ≡ is_opening W x i
+  unfolding is_opening
+  opening_same x (item.Class t) = refl
+  opening_same x (item.New t d) = refl
+  opening_same x (item.Init t d) = refl
+  opening_same x (item.Access act t k r place) =
+      let f : (λ (m : DeclaredMember). opens_members V x m.owner) ≡ (λ m. opens_members W x m.owner) = fun_ext (λ m. opens_members_same x m.owner) in
+      rw (outcome_same x (item.Access act t k r place), clients t, may_find_same (form_of act) t k)
+      (ap (λ (g : DeclaredMember → Bool). is_none (outcome W x (item.Access act t k r place)) && (not (is_client W t) || list_any g (may_find W (form_of act) t k))) f)
+  opening_same x (item.Assign s t) = refl
+
+  opens_same : (x c : Bytes) (i : Item) → opens V x c i ≡ opens W x c i
+  opens_same x c (item.Class t) = refl
+  opens_same x c (item.New t d) = refl
+  opens_same x c (item.Init t d) = refl
+  opens_same x c (item.Access act t k r place) = ap (λ b. b && descriptor_names k.descriptor c) (opening_same x (item.Access act t k r place))
+  opens_same x c (item.Assign s t) = refl
+
+  type_same : (x : Bytes) (items : List Item) (t : Bytes) → type_in_reach V x items t ≡ type_in_reach W x items t
+  unfolding type_in_reach
+  type_same x items t = go (type_read t)
+    where
+      class_same_reach : (c : Bytes) → class_in_reach V x items c ≡ class_in_reach W x items c
+      class_same_reach c =
+          let f : opens V x c ≡ opens W x c = fun_ext (opens_same x c) in
+          ap (λ (g : ClassFacts → Bool). is_none (load_fault V c) && (some_and g (find_class V c) || list_any (opens V x c) items)) (access_same x)
+          ∙ ap (λ (g : Bytes → Option LinkError). is_none (g c) && (some_and (is_class_accessible W x) (find_class V c) || list_any (opens V x c) items)) fault_same
+          ∙ ap (λ o. is_none (load_fault W c) && (some_and (is_class_accessible W x) o || list_any (opens V x c) items)) (found c)
+          ∙ ap (λ (g : Item → Bool). is_none (load_fault W c) && (some_and (is_class_accessible W x) (find_class W c) || list_any g items)) f
+
+      by : (a : Element) → element_in_reach V x items a ≡ element_in_reach W x items a
+      by (Primitive p) = refl
+      by (Class c) = class_same_reach c
+
+      go : (o : Option TypeText) → text_in_reach V x items o ≡ text_in_reach W x items o
       go None = refl
       go (Some a) = by a.element
 
-  pub reach_same : (x : Bytes) (i : Item) → is_in_reach V x i ≡ is_in_reach W x i
-  reach_same x (item.Class t) = refl
-  reach_same x (item.New t d) = refl
-  reach_same x (item.Init t d) = refl
-  reach_same x (item.Access act t k None place) = refl
-  reach_same x (item.Access act t k (Some s) place) = type_same x s
-  reach_same x (item.Assign s t) = rw (type_same x s, type_same x t) refl
+  pub reach_same : (x : Bytes) (items : List Item) (i : Item) → is_in_reach V x items i ≡ is_in_reach W x items i
+  reach_same x items (item.Class t) = refl
+  reach_same x items (item.New t d) = refl
+  reach_same x items (item.Init t d) = refl
+  reach_same x items (item.Access act t k None place) = refl
+  reach_same x items (item.Access act t k (Some s) place) = type_same x items s
+  reach_same x items (item.Assign s t) = rw (type_same x items s, type_same x items t) refl
 
   library_same : (cs : List ClassFacts) → first_library V cs ≡ first_library W cs
   unfolding first_library

@@ -136,7 +136,7 @@ module _ (O N : World) (w : Bytes) (r : Ready O N w) (a : Bytes) (u : IsUsable O
     scope = scope_from O N (Y ∷ []) (valid, tt) refl (own.allowed_o, tt) (own.allowed_n, tt) (calls_above VO y flags a descriptor [] [] ms items loads_o init_o, tt)
 
     -- its load fails
-    pub load_shows : EachOf (ItemLinks VO y) items → (e : LinkError) → load_fault VN y ≡ Some e → Shows O N (record { clients = Y ∷ []; name = y; spot = spot.Load }) e
+    pub load_shows : EachOf (ItemLinks VO y Y.items) items → (e : LinkError) → load_fault VN y ≡ Some e → Shows O N (record { clients = Y ∷ []; name = y; spot = spot.Load }) e
     load_shows h e fails = record {
       in_scope = scope;
       links = All-from_recursion (LinksWhole VO) (Y ∷ []) (links_whole VO Y loads_o ((refl, init_o), h), tt);
@@ -147,7 +147,7 @@ module _ (O N : World) (w : Bytes) (r : Ready O N w) (a : Bytes) (u : IsUsable O
     }
 
     -- an item fails
-    pub item_shows : EachOf (ItemLinks VO y) items → load_fault VN y ≡ None → (n : ℕ) (i : Item) (e : LinkError) → slice_get (item.Init a descriptor ∷ items) n ≡ Some i → outcome VN y i ≡ Some e
+    pub item_shows : EachOf (ItemLinks VO y Y.items) items → load_fault VN y ≡ None → (n : ℕ) (i : Item) (e : LinkError) → slice_get (item.Init a descriptor ∷ items) n ≡ Some i → outcome VN y i ≡ Some e
         → Shows O N (record { clients = Y ∷ []; name = y; spot = spot.Item n }) e
     item_shows h l n i e at fails = record {
       in_scope = scope;

@@ -284,8 +284,8 @@ module _ (O N : World) (w : Bytes) (r : Ready O N w) (a : Bytes) (b : IsBase O N
       ∙ ap (λ ms. first_of NoSuchMethodError ms (use_fault VO u InvokeVirtual y (Some y) Other)) chosen
       ∙ rw (is_member_accessible-public VO u y jm refl, t, passes_protected_check-public VO u y jm y refl) refl
 
-  reach : type_in_reach VO u y ≡ true
-  reach = in_reach_if VO u y Y.facts y_plain (find_y O r.old b.was b.class_o b.not_final_o own.old.allowed_o own.old.takes_o own.old.sealed_o) y_o (client_accessible O (J.facts ∷ Y.facts ∷ U.facts ∷ []) fo y Y.facts named_y refl u)
+  reach : type_in_reach VO u U.items y ≡ true
+  reach = in_reach_if VO u U.items y Y.facts y_plain (find_y O r.old b.was b.class_o b.not_final_o own.old.allowed_o own.old.takes_o own.old.sealed_o) y_o (client_accessible O (J.facts ∷ Y.facts ∷ U.facts ∷ []) fo y Y.facts named_y refl u)
 
   -- ---- the new side
 

@@ -303,8 +303,8 @@ module _ (O N : World) (w : Bytes) (r : Ready O N w) (c : Bytes) (b : IsBaseInte
       ∙ ap (λ o. found_or NoSuchFieldError o (use_fault VN u GetField y (Some y) Other)) q
       ∙ rw (is_member_accessible-public VN u y g.field is_constant.public, is_constant.static) refl
 
-  reach : type_in_reach VO u y ≡ true
-  reach = in_reach_if VO u y Y.facts y_plain (find_y O r.old b.was b.kind_o own.old.allowed_o own.old.takes_o own.old.sealed_o) y_o (client_accessible O (Z.facts ∷ Y.facts ∷ U.facts ∷ []) (f O r.old b.was b.kind_o own.old.allowed_o own.old.takes_o own.old.sealed_o) y Y.facts named_y refl u)
+  reach : type_in_reach VO u U.items y ≡ true
+  reach = in_reach_if VO u U.items y Y.facts y_plain (find_y O r.old b.was b.kind_o own.old.allowed_o own.old.takes_o own.old.sealed_o) y_o (client_accessible O (Z.facts ∷ Y.facts ∷ U.facts ∷ []) (f O r.old b.was b.kind_o own.old.allowed_o own.old.takes_o own.old.sealed_o) y Y.facts named_y refl u)
 
   scope : IsInScope O N (Z ∷ Y ∷ U ∷ [])
   unfolding differ_by_name class_named

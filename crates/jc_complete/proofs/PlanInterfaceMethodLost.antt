@@ -277,8 +277,8 @@ module _ (O N : World) (w : Bytes) (r : Ready O N w) (c : Bytes) (b : IsBaseInte
     new : outcome VN u call ≡ Some NoSuchMethodError
     new = misses N r.new b.now b.kind_n own.old.allowed_n own.takes_n own.sealed_n none_n now
 
-    reach : type_in_reach VO u j ≡ true
-    reach = in_reach_if VO u j J.facts j_plain (find_j O r.old b.was b.kind_o own.old.allowed_o own.old.takes_o own.old.sealed_o) j_o (client_accessible O (J.facts ∷ U.facts ∷ []) fo j J.facts named_j refl u)
+    reach : type_in_reach VO u U.items j ≡ true
+    reach = in_reach_if VO u U.items j J.facts j_plain (find_j O r.old b.was b.kind_o own.old.allowed_o own.old.takes_o own.old.sealed_o) j_o (client_accessible O (J.facts ∷ U.facts ∷ []) fo j J.facts named_j refl u)
 
     scope : IsInScope O N (J ∷ U ∷ [])
     unfolding differ_by_name class_named

@@ -70,12 +70,12 @@ pub calls_above : (V : World) (name : Bytes) (flags : ℕ) (above descriptor : B
 calls_above V name flags above descriptor interfaces fields methods items l o =
     inr (rw l refl, (above, descriptor, refl, Contains-append_left (item.Init above descriptor ∷ []) items (item.Init above descriptor) (Contains-push [] (item.Init above descriptor)), o))
 
--- an item that links
-abbrev pub ItemLinks : World → Bytes → Item → Type 0
-ItemLinks V x i = (is_in_reach V x i ≡ true) × (outcome V x i ≡ None)
+-- an item of the class x, which has these items, links
+abbrev pub ItemLinks : World → Bytes → List Item → Item → Type 0
+ItemLinks V x items i = (is_in_reach V x items i ≡ true) × (outcome V x i ≡ None)
 
-pub links_whole : (V : World) (c : ClientClass) → load_fault V c.facts.name ≡ None → EachOf (ItemLinks V c.facts.name) c.items → LinksWhole V c
-links_whole V c l h = (l, All-from_recursion (ItemLinks V c.facts.name) c.items h)
+pub links_whole : (V : World) (c : ClientClass) → load_fault V c.facts.name ≡ None → EachOf (ItemLinks V c.facts.name c.items) c.items → LinksWhole V c
+links_whole V c l h = (l, All-from_recursion (ItemLinks V c.facts.name c.items) c.items h)
 
 -- ---- a class below java/lang/Object
 

@@ -1,6 +1,7 @@
 -- What a finding that stands says, rule by rule.
 use Rattle.std.proofs.Common.{◌≡◌, ℕ, Bool, true, false, cond, List, [], ◌∷◌, refl, sym, subst, Option, Some, None, not, ◌&&◌, ◌==◌, ◌⊎◌, inl, inr, is_some, is_none, Contains}
 use Rattle.std.proofs.lemmas.Bool.{and_parts}
+use Rattle.std.specs.List.{list_all}
 use Rattle.std.proofs.lemmas.Map.Views.{exact_unsigned_eq}
 use Rattle.std.proofs.lemmas.List.Elements.{Contains-push, Contains-append_left, Contains-append_right}
 use Rattle.jc_facts.specs.declared.act.Act.{Act}
@@ -9,15 +10,15 @@ use Rattle.jc_facts.specs.declared.finding.Finding.{Finding}
 use Rattle.jc_facts.specs.declared.key.Key.{Key}
 use Rattle.jc_facts.specs.declared.link_error.LinkError.{LinkError}
 use Rattle.jc_facts.specs.declared.link_error.LinkError.TheVariants.{IncompatibleClassChangeError, VerifyError, NoSuchMethodError}
-use Rattle.jc_facts.specs.Names.{Bytes, object_name}
+use Rattle.jc_facts.specs.Names.{Bytes, same, object_name}
 use Rattle.jc_facts.specs.Options.{and_then}
 use Rattle.jc_facts.specs.world.World.{World, classes}
 use Rattle.jc_facts.specs.world.Hierarchy.{in_chain}
 use Rattle.jc_facts.specs.world.Lookup.{public_method_of_object}
 use Rattle.jc_facts.specs.world.Assignment.{is_interface_of}
-use Rattle.jc_facts.specs.rule.Bases.{is_class_usable, is_kept, is_steady, became_class, is_class_closed, is_base_class, is_base_interface, is_key_of_method, is_final_in_chain, inherits}
+use Rattle.jc_facts.specs.rule.Bases.{is_class_usable, is_kept, is_steady, is_class_closed, is_base_class, is_base_interface, is_key_of_method, is_final_in_chain, inherits}
 use Rattle.jc_facts.specs.rule.OpenActs.{field_acts, method_acts, closed_act, first_seat, least}
-use Rattle.jc_facts.specs.rule.Findings.{Subject, report, report_where, gone_error, new_broken, init_broken, act_finding, first_act, finds_overridable, class_gone, class_closed, interface_became_class, superclass_lost, constructor_closed, method_made_final, field_closed, method_closed, interface_method_lost, finding_by, finding_at, Stands, subject_of}
+use Rattle.jc_facts.specs.rule.Findings.{Subject, report, report_where, takes_part, assign_finding, gone_error, new_broken, init_broken, act_finding, first_act, finds_overridable, class_gone, class_closed, interface_became_class, superclass_lost, constructor_closed, method_made_final, field_closed, method_closed, interface_method_lost, finding_by, finding_at, Stands, subject_of}
 use Rattle.jc_facts.proofs.Options.{or_else-cases}
 use Rattle.jc_sound.proofs.OpenActs.{least-passes}
 
@@ -39,6 +40,15 @@ Of O N n f = finding_by O N (on n f.«class» f.key f.target) f.key f.target ≡
 of_rule : (O N : World) (n : ℕ) (f : Finding) → f.rule ≡ n → Stands O N f → Of O N n f
 unfolding finding_at
 of_rule O N n f e h = subst (λ n. Of O N n f) e h
+
+-- java/lang/Object or a base class
+abbrev pub IsSeat : World → World → Bytes → Type 0
+IsSeat O N s = (s ≡ object_name) ⊎ (is_base_class O N s ≡ true)
+
+-- of a finding on an assignment: the classes are kept, or there is a seat, and each of them is kept or exposed to it
+abbrev pub TakePart : World → World → List Bytes → Option Bytes → Type 0
+TakePart O N xs None = list_all (is_kept O N) xs ≡ true
+TakePart O N xs (Some a) = IsSeat O N a × (list_all (takes_part O N a) xs ≡ true)
 
 module _ (O N : World) (f : Finding) where
   abbrev x : Bytes
@@ -78,24 +88,60 @@ module _ (O N : World) (f : Finding) where
       go (Some k) None q = absurd (let z : None ≡ Some f = q in cc)
       go (Some k) (Some t) q = absurd (let z : None ≡ Some f = q in cc)
 
+  -- the first seat that passes is one, and passes
+  first_seat-is : (test : Bytes → Bool) (s : Bytes) → first_seat O N test ≡ Some s → IsSeat O N s × (test s ≡ true)
+  first_seat-is test s e = go (test object_name) refl e
+    where
+      go : (b : Bool) → test object_name ≡ b → cond b (Some object_name) (least (λ a. is_base_class O N a && test a) (classes O)) ≡ Some s → IsSeat O N s × (test s ≡ true)
+      go true p q = let k : object_name ≡ s = cc in (inl (sym k), subst (λ z. test z ≡ true) k p)
+      go false p q = let w = and_parts (is_base_class O N s) (test s) (least-passes (λ a. is_base_class O N a && test a) (classes O) s q) in (inr w.0, w.1)
+
+  -- a finding on an assignment
+  assigned : (n : ℕ) (t : Option Bytes) (xs : List Bytes) → assign_finding O N (on n x None t) xs ≡ Some f → (s : Option Bytes) × TakePart O N xs s × (made n x None t act.Assignment s VerifyError ≡ f)
+  unfolding assign_finding and_then
+  assigned n t xs h = go (list_all (is_kept O N) xs) refl h
+    where
+      with_seat : (o : Option Bytes) → first_seat O N (λ a. list_all (takes_part O N a) xs) ≡ o → and_then (λ a. report (on n x None t) act.Assignment (Some a) VerifyError) o ≡ Some f
+          → (s : Option Bytes) × TakePart O N xs s × (made n x None t act.Assignment s VerifyError ≡ f)
+      with_seat None e q = absurd (let z : None ≡ Some f = q in cc)
+      with_seat (Some a) e q = (Some a, first_seat-is (λ a. list_all (takes_part O N a) xs) a e, let w : made n x None t act.Assignment (Some a) VerifyError ≡ f = cc in w)
+
+      go : (b : Bool) → list_all (is_kept O N) xs ≡ b
+          → cond b (report (on n x None t) act.Assignment None VerifyError) (and_then (λ a. report (on n x None t) act.Assignment (Some a) VerifyError) (first_seat O N (λ a. list_all (takes_part O N a) xs))) ≡ Some f
+          → (s : Option Bytes) × TakePart O N xs s × (made n x None t act.Assignment s VerifyError ≡ f)
+      go true e q = (None, e, let w : made n x None t act.Assignment None VerifyError ≡ f = cc in w)
+      go false e q = with_seat (first_seat O N (λ a. list_all (takes_part O N a) xs)) refl q
+
+  -- what is found where a test holds
+  found_where : (b : Bool) (o : Option Finding) → cond b o None ≡ Some f → (b ≡ true) × (o ≡ Some f)
+  found_where true o h = (refl, h)
+  found_where false o h = absurd (cc)
+
   pub record InterfaceBecameClass : Type 0 where
-    pub stands : became_class O N x ≡ true
-    pub is : made 3 x None None act.Assignment None VerifyError ≡ f
+    pub stands : (is_interface_of O x && not (is_interface_of N x)) ≡ true
+    pub seat : Option Bytes
+    pub parts : TakePart O N (x ∷ []) seat
+    pub is : made 3 x None None act.Assignment seat VerifyError ≡ f
 
   pub by_interface_became_class : f.rule ≡ 3 → Stands O N f → InterfaceBecameClass
   unfolding interface_became_class
   by_interface_became_class e h = go f.key f.target (of_rule O N 3 f e h)
     where
       go : (k : Option Key) (t : Option Bytes) → By 3 k t → InterfaceBecameClass
-      go None None q = let w = reported (became_class O N x) 3 x None None act.Assignment VerifyError f q in record { stands = w.0; is = w.1 }
+      go None None q =
+          let w = found_where (is_interface_of O x && not (is_interface_of N x)) (assign_finding O N (on 3 x None None) (x ∷ [])) q in
+          let p = assigned 3 None (x ∷ []) w.1 in
+          record { stands = w.0; seat = p.0; parts = p.1; is = p.2 }
       go None (Some t) q = absurd (let z : None ≡ Some f = q in cc)
       go (Some k) None q = absurd (let z : None ≡ Some f = q in cc)
       go (Some k) (Some t) q = absurd (let z : None ≡ Some f = q in cc)
 
   pub record SuperclassLost : Type 0 where
     pub target : Bytes
-    pub stands : (is_kept O N x && is_kept O N target && in_chain O x target && not (in_chain N x target) && not (is_interface_of N target)) ≡ true
-    pub is : made 4 x None (Some target) act.Assignment None VerifyError ≡ f
+    pub stands : (not (same x target) && in_chain O x target && not (in_chain N x target) && not (is_interface_of N target)) ≡ true
+    pub seat : Option Bytes
+    pub parts : TakePart O N (x ∷ target ∷ []) seat
+    pub is : made 4 x None (Some target) act.Assignment seat VerifyError ≡ f
 
   pub by_superclass_lost : f.rule ≡ 4 → Stands O N f → SuperclassLost
   unfolding superclass_lost
@@ -103,7 +149,10 @@ module _ (O N : World) (f : Finding) where
     where
       go : (k : Option Key) (t : Option Bytes) → By 4 k t → SuperclassLost
       go None None q = absurd (let z : None ≡ Some f = q in cc)
-      go None (Some t) q = let w = reported (is_kept O N x && is_kept O N t && in_chain O x t && not (in_chain N x t) && not (is_interface_of N t)) 4 x None (Some t) act.Assignment VerifyError f q in record { target = t; stands = w.0; is = w.1 }
+      go None (Some t) q =
+          let w = found_where (not (same x t) && in_chain O x t && not (in_chain N x t) && not (is_interface_of N t)) (assign_finding O N (on 4 x None (Some t)) (x ∷ t ∷ [])) q in
+          let p = assigned 4 (Some t) (x ∷ t ∷ []) w.1 in
+          record { target = t; stands = w.0; seat = p.0; parts = p.1; is = p.2 }
       go (Some k) None q = absurd (let z : None ≡ Some f = q in cc)
       go (Some k) (Some t) q = absurd (let z : None ≡ Some f = q in cc)
 
@@ -151,17 +200,10 @@ module _ (O N : World) (f : Finding) where
     pub act : Act
     pub listed : Contains acts act
     pub seat : Bytes
-    pub is_seat : (seat ≡ object_name) ⊎ (is_base_class O N seat ≡ true)
+    pub is_seat : IsSeat O N seat
     pub error : LinkError
     pub closed : closed_act O N x k act seat ≡ Some error
     pub is : made n x (Some k) None act (Some seat) error ≡ f
-
-  first_seat-is : (test : Bytes → Bool) (s : Bytes) → first_seat O N test ≡ Some s → (s ≡ object_name) ⊎ (is_base_class O N s ≡ true)
-  first_seat-is test s e = go (test object_name) e
-    where
-      go : (b : Bool) → cond b (Some object_name) (least (λ a. is_base_class O N a && test a) (classes O)) ≡ Some s → (s ≡ object_name) ⊎ (is_base_class O N s ≡ true)
-      go true q = inl (let k : object_name ≡ s = cc in sym k)
-      go false q = inr (and_parts (is_base_class O N s) (test s) (least-passes (λ a. is_base_class O N a && test a) (classes O) s q)).0
 
   act_told : (n : ℕ) (k : Key) (a : Act) → act_finding O N (on n x (Some k) None) k a ≡ Some f → ClosedAct n k (a ∷ [])
   unfolding act_finding and_then
@@ -170,7 +212,7 @@ module _ (O N : World) (f : Finding) where
       go : (o : Option Bytes) → first_seat O N (λ seat. is_some (closed_act O N x k a seat)) ≡ o → and_then (λ seat. and_then (report (on n x (Some k) None) a (Some seat)) (closed_act O N x k a seat)) o ≡ Some f → ClosedAct n k (a ∷ [])
       go None e q = absurd (cc)
       go (Some s) e q = let w = told n (Some k) a (Some s) (closed_act O N x k a s) q in
-          record { act = a; listed = Contains-push [] a; seat = s; is_seat = first_seat-is (λ seat. is_some (closed_act O N x k a seat)) s e; error = w.0; closed = w.1; is = w.2 }
+          record { act = a; listed = Contains-push [] a; seat = s; is_seat = (first_seat-is (λ seat. is_some (closed_act O N x k a seat)) s e).0; error = w.0; closed = w.1; is = w.2 }
 
   first_told : (n : ℕ) (k : Key) (acts : List Act) → first_act O N (on n x (Some k) None) k acts ≡ Some f → ClosedAct n k acts
   unfolding first_act
@@ -180,10 +222,6 @@ module _ (O N : World) (f : Finding) where
       go : (act_finding O N (on n x (Some k) None) k a ≡ Some f) ⊎ (first_act O N (on n x (Some k) None) k rest ≡ Some f) → (first_act O N (on n x (Some k) None) k rest ≡ Some f → ClosedAct n k rest) → ClosedAct n k (a ∷ rest)
       go (inl q) r = let c = act_told n k a q in record { act = c.act; listed = Contains-append_left (a ∷ []) rest c.act c.listed; seat = c.seat; is_seat = c.is_seat; error = c.error; closed = c.closed; is = c.is }
       go (inr q) r = let c = r q in record { act = c.act; listed = Contains-append_right (a ∷ []) rest c.act c.listed; seat = c.seat; is_seat = c.is_seat; error = c.error; closed = c.closed; is = c.is }
-
-  allowed_where : (b : Bool) (o : Option Finding) → cond b o None ≡ Some f → (b ≡ true) × (o ≡ Some f)
-  allowed_where true o h = (refl, h)
-  allowed_where false o h = absurd (cc)
 
   pub record FieldClosed : Type 0 where
     pub key : Key
@@ -197,7 +235,7 @@ module _ (O N : World) (f : Finding) where
       go : (k : Option Key) (t : Option Bytes) → By 7 k t → FieldClosed
       go None None q = absurd (let z : None ≡ Some f = q in cc)
       go None (Some t) q = absurd (let z : None ≡ Some f = q in cc)
-      go (Some k) None q = let w = allowed_where (is_steady O N x) (first_act O N (on 7 x (Some k) None) k field_acts) q in record { key = k; steady = w.0; acts = first_told 7 k field_acts w.1 }
+      go (Some k) None q = let w = found_where (is_steady O N x) (first_act O N (on 7 x (Some k) None) k field_acts) q in record { key = k; steady = w.0; acts = first_told 7 k field_acts w.1 }
       go (Some k) (Some t) q = absurd (let z : None ≡ Some f = q in cc)
 
   pub record MethodClosed : Type 0 where
@@ -214,7 +252,7 @@ module _ (O N : World) (f : Finding) where
       go None None q = absurd (let z : None ≡ Some f = q in cc)
       go None (Some t) q = absurd (let z : None ≡ Some f = q in cc)
       go (Some k) None q =
-          let w = allowed_where (is_key_of_method k && is_steady O N x) (first_act O N (on 8 x (Some k) None) k method_acts) q in
+          let w = found_where (is_key_of_method k && is_steady O N x) (first_act O N (on 8 x (Some k) None) k method_acts) q in
           let p = and_parts (is_key_of_method k) (is_steady O N x) w.0 in
           record { key = k; is_key = p.0; steady = p.1; acts = first_told 8 k method_acts w.1 }
       go (Some k) (Some t) q = absurd (let z : None ≡ Some f = q in cc)

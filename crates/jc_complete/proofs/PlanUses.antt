@@ -14,14 +14,13 @@ use Rattle.jc_facts.specs.world.Assignment.{is_assignable, is_class_assignable, 
 use Rattle.jc_facts.specs.world.Loading.{fault_where}
 use Rattle.jc_facts.specs.client.Outcome.{outcome}
 use Rattle.jc_facts.specs.client.Clients.{type_in_reach}
-use Rattle.jc_facts.specs.rule.Bases.{is_class_usable, is_kept, became_class}
+use Rattle.jc_facts.specs.rule.Bases.{is_class_usable, is_kept}
 use Rattle.jc_facts.specs.rule.Findings.{gone_error}
 use Rattle.jc_facts.specs.plan.Planned.{Plan, names_class, assigns, takes, turns}
 use Rattle.jc_complete.specs.Completeness.{Shows, MeetsNothing}
 use Rattle.jc_facts.proofs.Same.{same_is}
 use Rattle.jc_facts.proofs.World.{find-name}
 use Rattle.jc_worlds.proofs.Clients.{Fits}
-use Rattle.jc_worlds.proofs.Unrolled.{own_chain}
 use Rattle.jc_sound.proofs.Standing.{IsUsable, usable_parts, usable_accessible}
 use Rattle.jc_sound.proofs.ClassGoneLaw.{breaks}
 use Rattle.jc_worlds.proofs.Bare.{bare_chain, bare_loads}
@@ -41,29 +40,27 @@ assign_side W cs f s t u v =
     let a : find_class (with_clients W cs) t ≡ find_class W t = lib_find W cs f t v.class v.is_there ∙ sym v.is_there in
     rw (a, lib_chain W cs f s u.class u.is_there u.loaded) refl
 
-kept_usable : (O N : World) (x : Bytes) → is_kept O N x ≡ true → IsUsable O x × IsUsable N x
+pub kept_usable : (O N : World) (x : Bytes) → is_kept O N x ≡ true → IsUsable O x × IsUsable N x
 unfolding is_kept
 kept_usable O N x h = let p = and_parts (is_class_usable O x) (is_class_usable N x) h in (usable_parts O x p.0, usable_parts N x p.1)
 
 -- what rule 4 says: t left the chain of s, and is no interface
 pub record IsCut (O N : World) (s t : Bytes) : Type 0 where
-  pub was : IsUsable O s
-  pub now : IsUsable N s
-  pub target_was : IsUsable O t
-  pub target_now : IsUsable N t
+  pub differs : same s t ≡ false
   pub chain : in_chain O s t ≡ true
   pub cut : in_chain N s t ≡ false
   pub class : is_interface_of N t ≡ false
 
-pub cut_parts : (O N : World) (s t : Bytes) → (is_kept O N s && is_kept O N t && in_chain O s t && not (in_chain N s t) && not (is_interface_of N t)) ≡ true → IsCut O N s t
+pub cut_parts : (O N : World) (s t : Bytes) → (not (same s t) && in_chain O s t && not (in_chain N s t) && not (is_interface_of N t)) ≡ true → IsCut O N s t
 cut_parts O N s t h =
-    let a = and_parts (is_kept O N s && is_kept O N t && in_chain O s t && not (in_chain N s t)) (not (is_interface_of N t)) h in
-    let b = and_parts (is_kept O N s && is_kept O N t && in_chain O s t) (not (in_chain N s t)) a.0 in
-    let c = and_parts (is_kept O N s && is_kept O N t) (in_chain O s t) b.0 in
-    let d = and_parts (is_kept O N s) (is_kept O N t) c.0 in
-    let us = kept_usable O N s d.0 in
-    let ut = kept_usable O N t d.1 in
-    record { was = us.0; now = us.1; target_was = ut.0; target_now = ut.1; chain = c.1; cut = not-true (in_chain N s t) b.1; class = not-true (is_interface_of N t) a.1 }
+    let a = and_parts (not (same s t) && in_chain O s t && not (in_chain N s t)) (not (is_interface_of N t)) h in
+    let b = and_parts (not (same s t) && in_chain O s t) (not (in_chain N s t)) a.0 in
+    let c = and_parts (not (same s t)) (in_chain O s t) b.0 in
+    record { differs = not-true (same s t) c.0; chain = c.1; cut = not-true (in_chain N s t) b.1; class = not-true (is_interface_of N t) a.1 }
+
+-- what rule 3 says: i was an interface and isn't one
+pub became_parts : (O N : World) (i : Bytes) → (is_interface_of O i && not (is_interface_of N i)) ≡ true → (is_interface_of O i ≡ true) × (is_interface_of N i ≡ false)
+became_parts O N i h = let p = and_parts (is_interface_of O i) (not (is_interface_of N i)) h in (p.0, not-true (is_interface_of N i) p.1)
 
 module _ (O N : World) (w : Bytes) (r : Ready O N w) where
   -- H1
@@ -114,11 +111,11 @@ module _ (O N : World) (w : Bytes) (r : Ready O N w) where
       pt : is_array_text t ≡ false
       pt = side_plain r.root w O r.old t ut.class ut.is_there
 
-      reach_of : (y : Bytes) → is_array_text y ≡ false → (u : IsUsable O y) → type_in_reach (with_clients O cs) (letter w 85) y ≡ true
-      reach_of y p u = in_reach_if (with_clients O cs) (letter w 85) y u.class p (lib_find O cs fo y u.class u.is_there) (lib_fault O cs fo y u.class u.is_there ∙ u.loaded) (usable_accessible O y u (letter w 85))
+      reach_of : (y : Bytes) → is_array_text y ≡ false → (u : IsUsable O y) → type_in_reach (with_clients O cs) (letter w 85) (user.U O N w r d fit items refl).items y ≡ true
+      reach_of y p u = in_reach_if (with_clients O cs) (letter w 85) (user.U O N w r d fit items refl).items y u.class p (lib_find O cs fo y u.class u.is_there) (lib_fault O cs fo y u.class u.is_there ∙ u.loaded) (usable_accessible O y u (letter w 85))
 
-      reach : (type_in_reach (with_clients O cs) (letter w 85) s && type_in_reach (with_clients O cs) (letter w 85) t) ≡ true
-      reach = and_from (type_in_reach (with_clients O cs) (letter w 85) s) (type_in_reach (with_clients O cs) (letter w 85) t) (reach_of s ps us) (reach_of t pt ut)
+      reach : (type_in_reach (with_clients O cs) (letter w 85) (user.U O N w r d fit items refl).items s && type_in_reach (with_clients O cs) (letter w 85) (user.U O N w r d fit items refl).items t) ≡ true
+      reach = and_from (type_in_reach (with_clients O cs) (letter w 85) (user.U O N w r d fit items refl).items s) (type_in_reach (with_clients O cs) (letter w 85) (user.U O N w r d fit items refl).items t) (reach_of s ps us) (reach_of t pt ut)
 
       old : fault_where (not (is_assignable (with_clients O cs) s t)) VerifyError ≡ None
       old = rw (assign_is (with_clients O cs) s t ps pt ∙ assign_side O cs fo s t us ut ∙ was) refl
@@ -126,49 +123,48 @@ module _ (O N : World) (w : Bytes) (r : Ready O N w) where
       new : fault_where (not (is_assignable (with_clients N cs) s t)) VerifyError ≡ Some VerifyError
       new = rw (assign_is (with_clients N cs) s t ps pt ∙ assign_side N cs fn s t ns nt ∙ now) refl
 
-  none_of_three : (a b c : Bool) → a ≡ false → b ≡ false → c ≡ false → (a || b || c) ≡ false
+  pub none_of_three : (a b c : Bool) → a ≡ false → b ≡ false → c ≡ false → (a || b || c) ≡ false
   none_of_three true b c p q s = absurd (cc)
   none_of_three false true c p q s = absurd (cc)
   none_of_three false false c p q s = s
 
-  -- H4. What left the chain isn't the class itself
-  pub cut_differs : (s t : Bytes) → IsCut O N s t → same s t ≡ false
-  cut_differs s t h = go (same s t) refl
-    where
-      go : (b : Bool) → same s t ≡ b → b ≡ false
-      go false p = refl
-      go true p = absurd (both_ways (in_chain N s t) h.cut (subst (λ z. in_chain N s z ≡ true) (same_is s t p) (own_chain N s h.now.loaded)))
+  -- an s was assignable to t, and isn't
+  pub cut_assigns : (s t : Bytes) → IsCut O N s t → (is_class_assignable O s t ≡ true) × (is_class_assignable N s t ≡ false)
+  cut_assigns s t h = (or_right (same s t || is_interface_of O t) (in_chain O s t) h.chain, none_of_three (same s t) (is_interface_of N t) (in_chain N s t) h.differs h.class h.cut)
 
-  pub superclass_lost_is_shown : (s t : Bytes) → IsCut O N s t → ShowsAlone O N (assigns w s t) VerifyError
-  superclass_lost_is_shown s t h =
-      assign_is_shown s t h.was h.target_was h.now h.target_now (or_right (same s t || is_interface_of O t) (in_chain O s t) h.chain)
-      (none_of_three (same s t) (is_interface_of N t) (in_chain N s t) (cut_differs s t h) h.class h.cut)
+  -- H4
+  pub superclass_lost_is_shown : (s t : Bytes) → IsCut O N s t → is_kept O N s ≡ true → is_kept O N t ≡ true → ShowsAlone O N (assigns w s t) VerifyError
+  superclass_lost_is_shown s t h a b =
+      let us = kept_usable O N s a in
+      let ut = kept_usable O N t b in
+      let c = cut_assigns s t h in
+      assign_is_shown s t us.0 ut.0 us.1 ut.1 c.0 c.1
 
   abbrev pub root_usable : (W : World) → Planned r.root w W → IsUsable W object_name
   root_usable W p = record { class = r.root; is_there = p.there; visible = p.visible; public = r.is_root.public; loaded = bare_loads W object_name r.root p.there r.is_root.superclass r.is_root.interfaces }
 
   -- H3. The class is another than java/lang/Object, which was no interface
-  pub class_differs : (i : Bytes) → became_class O N i ≡ true → same object_name i ≡ false
-  unfolding became_class
-  class_differs i h =
-      let a = and_parts (is_kept O N i && is_interface_of O i) (not (is_interface_of N i)) h in
-      go (same object_name i) refl (and_parts (is_kept O N i) (is_interface_of O i) a.0).1
+  pub class_differs : (i : Bytes) → is_interface_of O i ≡ true → same object_name i ≡ false
+  class_differs i h = go (same object_name i) refl
     where
-      go : (b : Bool) → same object_name i ≡ b → is_interface_of O i ≡ true → b ≡ false
-      go false p q = refl
-      go true p q = absurd (both_ways (is_interface_of O object_name) (rw r.old.there r.is_root.class) (subst (λ z. is_interface_of O z ≡ true) (sym (same_is object_name i p)) q))
+      go : (b : Bool) → same object_name i ≡ b → b ≡ false
+      go false p = refl
+      go true p = absurd (both_ways (is_interface_of O object_name) (rw r.old.there r.is_root.class) (subst (λ z. is_interface_of O z ≡ true) (sym (same_is object_name i p)) h))
 
-  pub interface_became_class_is_shown : (i : Bytes) → became_class O N i ≡ true → ShowsAlone O N (assigns w object_name i) VerifyError
-  unfolding became_class
-  interface_became_class_is_shown i h =
-      let a = and_parts (is_kept O N i && is_interface_of O i) (not (is_interface_of N i)) h in
-      let b = and_parts (is_kept O N i) (is_interface_of O i) a.0 in
-      let u = kept_usable O N i b.0 in
-      let o = class_differs i h in
-      assign_is_shown object_name i (root_usable O r.old) u.0 (root_usable N r.new) u.1 (or_left (same object_name i || is_interface_of O i) (in_chain O object_name i) (or_right (same object_name i) (is_interface_of O i) b.1))
-      (none_of_three (same object_name i) (is_interface_of N i) (in_chain N object_name i) o (not-true (is_interface_of N i) a.1) (only_root o))
+  -- java/lang/Object was assignable to the interface, and isn't
+  pub became_assigns : (i : Bytes) → is_interface_of O i ≡ true → is_interface_of N i ≡ false → (is_class_assignable O object_name i ≡ true) × (is_class_assignable N object_name i ≡ false)
+  became_assigns i was now = (
+    or_left (same object_name i || is_interface_of O i) (in_chain O object_name i) (or_right (same object_name i) (is_interface_of O i) was),
+    none_of_three (same object_name i) (is_interface_of N i) (in_chain N object_name i) (class_differs i was) now (only_root (class_differs i was)),
+  )
     where
       only_root : same object_name i ≡ false → in_chain N object_name i ≡ false
       only_root o =
           ap (λ cs. names_in cs i) (bare_chain N object_name r.root r.new.there r.is_root.superclass r.is_root.interfaces)
           ∙ ap (λ n. same n i || false) (find-name N object_name r.root r.new.there) ∙ rw o refl
+
+  pub interface_became_class_is_shown : (i : Bytes) → is_interface_of O i ≡ true → is_interface_of N i ≡ false → is_kept O N i ≡ true → ShowsAlone O N (assigns w object_name i) VerifyError
+  interface_became_class_is_shown i was now k =
+      let u = kept_usable O N i k in
+      let c = became_assigns i was now in
+      assign_is_shown object_name i (root_usable O r.old) u.0 (root_usable N r.new) u.1 c.0 c.1

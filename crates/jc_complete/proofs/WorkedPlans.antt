@@ -1,5 +1,5 @@
 -- Worked examples of planned clients.
-use Rattle.std.proofs.Common.{◌≡◌, List, [], ◌∷◌, refl, Some, None, codes, lit<}
+use Rattle.std.proofs.Common.{◌≡◌, true, false, List, [], ◌∷◌, map, refl, Some, None, codes, lit<}
 use Rattle.std.specs.Fmt.{digits}
 use Rattle.jc_facts.specs.declared.class_facts.ClassFacts.{ClassFacts}
 use Rattle.jc_facts.specs.declared.client.ClientClass.{ClientClass}
@@ -9,9 +9,13 @@ use Rattle.jc_facts.specs.declared.client.Item.{Item}
 use Rattle.jc_facts.specs.declared.client.Item.TheVariants as item
 use Rattle.jc_facts.specs.declared.client.Place.TheVariants.{Other}
 use Rattle.jc_facts.specs.declared.act.Act.TheVariants as act
-use Rattle.jc_facts.specs.declared.link_error.LinkError.TheVariants.{IllegalAccessError, NoSuchMethodError, NoSuchFieldError, NoClassDefFoundError, IncompatibleClassChangeError}
+use Rattle.jc_facts.specs.declared.link_error.LinkError.TheVariants.{IllegalAccessError, NoSuchMethodError, NoSuchFieldError, NoClassDefFoundError, IncompatibleClassChangeError, VerifyError}
 use Rattle.jc_facts.specs.declared.verdict.Cause.TheVariants as cause
 use Rattle.jc_facts.specs.Names.{Bytes, object_name}
+use Rattle.jc_facts.specs.world.World.{World, with_clients}
+use Rattle.jc_facts.specs.world.Loading.{load_fault}
+use Rattle.jc_facts.specs.client.Outcome.{outcome}
+use Rattle.jc_facts.specs.client.Clients.{is_in_reach}
 use Rattle.jc_facts.specs.rule.Collisions.{made_collision}
 use Rattle.jc_facts.specs.plan.PlannedNames.{first_unused, least_name, constructors}
 use Rattle.jc_facts.specs.plan.Planned.{plan, planned}
@@ -79,6 +83,79 @@ inherited_call_is_planned : planned (over (sealed_with_run ∷ [])) (over (seale
     ∷ U (codes "w0/U") (codes "(Lb/X;)V") (item.Access act.InvokeInterface (codes "b/X") run_key (Some (codes "b/X")) Other ∷ []) ∷ []
 unfolding computes plan by_name placed first_unused least_name constructors digits
 inherited_call_is_planned = simp (ascii (codes "b/X") (lit< tt, (lit< tt, (lit< tt, tt)))) refl
+
+-- ---- hidden classes
+
+-- p/A with public static methods of these keys
+abbrev with_statics : List Key → ClassFacts
+with_statics ks = a_class p_A 0x0021 (Some object_name) [] [] (init 1 ∷ map (λ (k : Key). member k.name k.descriptor 9) ks)
+
+-- a class that isn't public
+abbrev hidden_class : Bytes → Bytes → ClassFacts
+hidden_class x above = a_class x 0x0020 (Some above) [] [] (init 1 ∷ [])
+
+abbrev s_key : Key
+s_key = key (codes "s") (codes "()Lp/S;")
+
+abbrev b_key : Key
+b_key = key (codes "b") (codes "(Lp/B;)V")
+
+-- Y below this class, with a method `use` of this descriptor and these items
+abbrev Y : Bytes → Bytes → List Item → ClientClass
+Y a descriptor is = client (a_class (codes "w0/Y") 0x0021 (Some a) [] [] (init 1 ∷ member (codes "use") descriptor 9 ∷ [])) (item.Init a (codes "()V") ∷ is)
+
+-- p/S below p/B, and then no more; two static methods of p/A expose them
+hidden_superclass_is_planned : planned (over (hidden_class (codes "p/B") object_name ∷ hidden_class (codes "p/S") (codes "p/B") ∷ with_statics (s_key ∷ b_key ∷ []) ∷ []))
+    (over (hidden_class (codes "p/B") object_name ∷ hidden_class (codes "p/S") object_name ∷ with_statics (s_key ∷ b_key ∷ []) ∷ []))
+    (cause.Finding (made 4 (codes "p/S") None (Some (codes "p/B")) act.Assignment (Some object_name) VerifyError))
+    ≡ Y object_name (codes "(Lp/S;)Lp/B;") (item.Access act.InvokeStatic p_A s_key None Other ∷ item.Access act.InvokeStatic p_A b_key None Other ∷ item.Assign (codes "p/S") (codes "p/B") ∷ []) ∷ []
+unfolding computes plan by_name placed first_unused least_name constructors digits
+hidden_superclass_is_planned = refl
+
+-- what `link` tells of them: the assignment is in reach by the two acts, is Ok with the old release, and isn't with the new
+abbrev Y_of_superclass : ClientClass
+Y_of_superclass = Y object_name (codes "(Lp/S;)Lp/B;") (item.Access act.InvokeStatic p_A s_key None Other ∷ item.Access act.InvokeStatic p_A b_key None Other ∷ item.Assign (codes "p/S") (codes "p/B") ∷ [])
+
+abbrev superclass_stood : World
+superclass_stood = with_clients (over (hidden_class (codes "p/B") object_name ∷ hidden_class (codes "p/S") (codes "p/B") ∷ with_statics (s_key ∷ b_key ∷ []) ∷ [])) (Y_of_superclass.facts ∷ [])
+
+abbrev superclass_left : World
+superclass_left = with_clients (over (hidden_class (codes "p/B") object_name ∷ hidden_class (codes "p/S") object_name ∷ with_statics (s_key ∷ b_key ∷ []) ∷ [])) (Y_of_superclass.facts ∷ [])
+
+hidden_superclass_is_linked : (load_fault superclass_stood (codes "w0/Y") ≡ None)
+    × (outcome superclass_stood (codes "w0/Y") (item.Init object_name (codes "()V")) ≡ None)
+    × (outcome superclass_stood (codes "w0/Y") (item.Access act.InvokeStatic p_A s_key None Other) ≡ None)
+    × (outcome superclass_stood (codes "w0/Y") (item.Access act.InvokeStatic p_A b_key None Other) ≡ None)
+    × (outcome superclass_stood (codes "w0/Y") (item.Assign (codes "p/S") (codes "p/B")) ≡ None)
+    × (is_in_reach superclass_stood (codes "w0/Y") Y_of_superclass.items (item.Assign (codes "p/S") (codes "p/B")) ≡ true)
+    × (is_in_reach superclass_stood (codes "w0/Y") [] (item.Assign (codes "p/S") (codes "p/B")) ≡ false)
+    × (outcome superclass_left (codes "w0/Y") (item.Assign (codes "p/S") (codes "p/B")) ≡ Some VerifyError)
+unfolding computes
+hidden_superclass_is_linked = (refl, refl, refl, refl, refl, refl, refl, refl)
+
+abbrev i_key : Key
+i_key = key (codes "i") (codes "()Lp/I;")
+
+-- the interface p/I, and then a class
+hidden_interface_is_planned : planned (over (a_class (codes "p/I") 0x0600 (Some object_name) [] [] [] ∷ with_statics (i_key ∷ []) ∷ [])) (over (hidden_class (codes "p/I") object_name ∷ with_statics (i_key ∷ []) ∷ []))
+    (cause.Finding (made 3 (codes "p/I") None None act.Assignment (Some object_name) VerifyError))
+    ≡ Y object_name (codes "(Ljava/lang/Object;)Lp/I;") (item.Access act.InvokeStatic p_A i_key None Other ∷ item.Assign object_name (codes "p/I") ∷ []) ∷ []
+unfolding computes plan by_name placed first_unused least_name constructors digits
+hidden_interface_is_planned = refl
+
+-- a protected instance method of p/A that exposes both, and p/S gone: below the seat p/A, with two receivers
+abbrev both_key : Key
+both_key = key (codes "f") (codes "(JLp/B;[Lp/S;)D")
+
+abbrev exposes_both : ClassFacts
+exposes_both = a_class p_A 0x0021 (Some object_name) [] [] (init 1 ∷ member both_key.name both_key.descriptor 4 ∷ [])
+
+exposed_twice_is_planned : planned (over (hidden_class (codes "p/B") object_name ∷ hidden_class (codes "p/S") (codes "p/B") ∷ exposes_both ∷ []))
+    (over (hidden_class (codes "p/B") object_name ∷ exposes_both ∷ []))
+    (cause.Finding (made 4 (codes "p/S") None (Some (codes "p/B")) act.Assignment (Some p_A) VerifyError))
+    ≡ Y p_A (codes "(Lw0/Y;Lw0/Y;Lp/S;)Lp/B;") (item.Access act.InvokeVirtual p_A both_key (Some (codes "w0/Y")) Other ∷ item.Access act.InvokeVirtual p_A both_key (Some (codes "w0/Y")) Other ∷ item.Assign (codes "p/S") (codes "p/B") ∷ []) ∷ []
+unfolding computes plan by_name placed first_unused least_name constructors digits
+exposed_twice_is_planned = refl
 
 -- ---- the premises can be met
 

@@ -45,7 +45,7 @@ pub record CanPlan (O N : World) : Type 0 where
 
 -- the client loads, and all its items are in reach and Ok
 abbrev pub LinksWhole : World → ClientClass → Type 0
-LinksWhole W c = (load_fault W c.facts.name ≡ None) × All (λ i. IsTrue (is_in_reach W c.facts.name i) × Links W c.facts.name i) c.items
+LinksWhole W c = (load_fault W c.facts.name ≡ None) × All (λ i. IsTrue (is_in_reach W c.facts.name c.items i) × Links W c.facts.name i) c.items
 
 -- the load of the client has this error, or the client loads and its item of the number has it
 abbrev pub FailsBy : World → ClientClass → Spot → LinkError → Type 0

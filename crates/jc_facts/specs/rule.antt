@@ -1,3 +1,4 @@
+pub mod Exposed
 pub mod Findings
 pub mod Collisions
 pub mod Notes
@@ -5,3 +6,5 @@ pub mod Orders
 pub mod Verdict
 pub mod Bases
 pub mod OpenActs
+pub mod Selection
+pub mod Warnings

@@ -124,7 +124,12 @@ fn is_value(value: &Constant) -> bool
     }
 }
 
-fn member_keys<'a>(alloc: Global, members: &'a [Member]) -> Result<Vec<KeyRef<'a>>, AllocError>
+/// The keys of the members, in their order.
+///
+/// # Errors
+///
+/// `AllocError` where memory runs out.
+pub fn member_keys<'a>(alloc: Global, members: &'a [Member]) -> Result<Vec<KeyRef<'a>>, AllocError>
     ensures { IfOk result (λ keys. keys.items ≡ keys_of members.now) }
 {
     let mut keys = Vec::new(alloc);

@@ -1,7 +1,9 @@
 -- Where no finding stands, what clients name and assign with the old release they can with the new one.
-use Rattle.std.proofs.Common.{lit≤, ◌≡◌, ℕ, zero, suc, Bool, true, false, List, [], ◌∷◌, refl, sym, ◌∙◌, ap, subst, Option, Some, None, not, ◌||◌, ◌&&◌, ◌⊎◌, inl, inr}
-use Rattle.std.proofs.lemmas.Bool.{and_parts, both_ways, and_from, or_cases, or_left, or_right, not-false}
+use Rattle.std.proofs.Common.{◌≡◌, ℕ, zero, suc, Bool, true, false, List, [], ◌∷◌, refl, sym, ◌∙◌, ap, subst, Option, Some, None, not, ◌||◌, ◌⊎◌, inl, inr}
+use Rattle.std.specs.List.{list_any}
+use Rattle.std.proofs.lemmas.Bool.{and_parts, or_cases, or_left, or_right, not-false}
 use Rattle.jc_facts.specs.declared.class_facts.ClassFacts.{ClassFacts}
+use Rattle.jc_facts.specs.declared.client.Item.{Item}
 use Rattle.jc_facts.specs.declared.link_error.LinkError.TheVariants.{IllegalAccessError}
 use Rattle.jc_facts.specs.Names.{Bytes, same}
 use Rattle.jc_facts.specs.world.Types.{Element, Primitive, Class, TypeText, type_read}
@@ -13,9 +15,10 @@ use Rattle.jc_facts.specs.world.Access.{is_class_accessible}
 use Rattle.jc_facts.specs.world.Loading.{load_fault, loads, fault_where}
 use Rattle.jc_facts.specs.world.Assignment.{is_interface_of, is_class_assignable, is_element_assignable, assign_to, assign_types, is_assignable}
 use Rattle.jc_facts.specs.client.Outcome.{class_fault, element_fault, type_fault, class_step}
-use Rattle.jc_facts.specs.client.Clients.{is_allowed_name, class_in_reach, element_in_reach, text_in_reach, type_in_reach}
-use Rattle.jc_facts.specs.rule.Findings.{finding_at, superclass_lost}
+use Rattle.jc_facts.specs.client.Clients.{is_allowed_name, opens, class_in_reach, element_in_reach, text_in_reach, type_in_reach, receiver_in_reach}
+use Rattle.jc_facts.specs.rule.Findings.{takes_part}
 use Rattle.jc_facts.specs.rule.Bases.{is_class_usable, is_kept}
+use Rattle.jc_facts.specs.rule.Exposed.{is_exposed}
 use Rattle.jc_lemmas.proofs.Listed.{EachOf}
 use Rattle.jc_facts.proofs.World.{names, find-name, class_named-name, IsOf}
 use Rattle.jc_facts.proofs.Same.{same_is}
@@ -26,10 +29,12 @@ use Rattle.jc_worlds.proofs.Sides.{find-library, load_fault-side, chain-side}
 use Rattle.jc_worlds.specs.Agreement.{SeeAlike}
 use Rattle.jc_worlds.proofs.VisibleFrom.{same_class_access, clients_alike}
 use Rattle.jc_worlds.proofs.Clients.{Fits, client_module, find-client}
-use Rattle.jc_sound.proofs.Standing.{Quiet, report_where-none, stays_usable, stays_kept, stays_interface, usable_parts, usable_accessible}
+use Rattle.jc_sound.proofs.Standing.{Quiet, stays_usable, stays_kept, usable_parts, usable_accessible}
+use Rattle.jc_sound.proofs.OpenActs.{IsSeat}
+use Rattle.jc_sound.proofs.Assigned.{part_interface, part_chain, in_chain-same}
 use Rattle.jc_lemmas.proofs.Options.{none_where}
 use Rattle.jc_sound.proofs.ClientLoads.{library_usable, library_loads, super_access}
-use Rattle.jc_worlds.proofs.Unrolled.{in_chain-step, above}
+use Rattle.jc_worlds.proofs.Unrolled.{in_chain-step, own_chain, above}
 
 -- a class of the list has the name
 in_list : (W : World) (cs : List ClassFacts) (y : Bytes) → EachOf (IsOf W) cs → names_in cs y ≡ true → (c : ClassFacts) × (find_class W y ≡ Some c)
@@ -99,142 +104,199 @@ module _ (O N : World) (cs : List ClassFacts) (fo : Fits O cs) (fn : Fits N cs) 
       go (Some d) k t = client d k
       go None k t = library k (library_usable O N cs fo fn quiet allowed_o allowed_n x c e y t.0 k (find-library O cs fo.bare y k ∙ t.1) h (a t.0 t.1))
 
-  pub interface-kept : (y : Bytes) → IsHeld y → is_interface_of VO y ≡ true → is_interface_of VN y ≡ true
-  interface-kept y (client d k) i = let o = find-client O cs fo y d k in let n = find-client N cs fn y d k in rw n (rw o at i)
-  interface-kept y (library k u) i =
-      let j : is_interface_of O y ≡ true = rw (find-library O cs fo.bare y k) i in
-      let g : is_interface_of N y ≡ true = stays_interface O N quiet y u j in
-      rw (← find-library N cs fn.bare y k) g
+  -- ---- assignments, where a is the seat of the client that makes them
 
-  -- among library classes
-  library_chain : (s t : Bytes) → class_named cs s ≡ None → is_class_usable O s ≡ true → class_named cs t ≡ None → is_class_usable O t ≡ true → in_chain O s t ≡ true → (in_chain N s t ≡ true) ⊎ (is_interface_of N t ≡ true)
-  unfolding finding_at superclass_lost
-  library_chain s t ks us kt ut i = go (in_chain N s t) refl (is_interface_of N t) refl
-    where
-      b : (is_kept O N s && is_kept O N t && in_chain O s t && not (in_chain N s t) && not (is_interface_of N t)) ≡ false
-      b = report_where-none _ _ _ _ (quiet.none (record { rule = 4; class = s; key = None; target = Some t }) (quiet.first 4 (lit≤ tt)))
+  module _ (a : Bytes) (is_seat : IsSeat O N a) where
+    -- a client, or a library class that is kept, or hidden and exposed to the seat
+    pub data TakesPart : Bytes → Type 0 where
+      of_client : {y : Bytes} (c : ClassFacts) → class_named cs y ≡ Some c → TakesPart y
+      of_library : {y : Bytes} → class_named cs y ≡ None → takes_part O N a y ≡ true → TakesPart y
 
-      all : (p q : Bool) → in_chain N s t ≡ p → is_interface_of N t ≡ q → (p ≡ false) → (q ≡ false) → ⊥
-      all p q e f g h = both_ways _ b (and_from (is_kept O N s && is_kept O N t && in_chain O s t && not (in_chain N s t)) (not (is_interface_of N t))
-          (and_from (is_kept O N s && is_kept O N t && in_chain O s t) (not (in_chain N s t)) (and_from (is_kept O N s && is_kept O N t) (in_chain O s t) (and_from (is_kept O N s) (is_kept O N t) (stays_kept O N quiet s us) (stays_kept O N quiet t ut)) i) (rw (e ∙ g) refl))
-          (rw (f ∙ h) refl))
+    pub held_part : (y : Bytes) → IsHeld y → TakesPart y
+    held_part y (client c k) = of_client c k
+    held_part y (library k u) = of_library k (or_left (is_kept O N y) (is_exposed O a y) (stays_kept O N quiet y u))
 
-      go : (p : Bool) → in_chain N s t ≡ p → (q : Bool) → is_interface_of N t ≡ q → (in_chain N s t ≡ true) ⊎ (is_interface_of N t ≡ true)
-      go true e q f = inl e
-      go false e true f = inr f
-      go false e false f = absurd (all false false e f refl refl)
+    pub interface-kept : (y : Bytes) → TakesPart y → is_interface_of VO y ≡ true → is_interface_of VN y ≡ true
+    interface-kept y (of_client d k) i = let o = find-client O cs fo y d k in let n = find-client N cs fn y d k in rw n (rw o at i)
+    interface-kept y (of_library k p) i =
+        let j : is_interface_of O y ≡ true = rw (find-library O cs fo.bare y k) i in
+        let g : is_interface_of N y ≡ true = part_interface O N quiet a is_seat y p j in
+        rw (← find-library N cs fn.bare y k) g
 
-  -- who stands in a chain with the old release does so with the new one, or is an interface now
-  unfoldable pub Stays : Bytes → Bytes → Type 0
-  Stays t s = (in_chain VN s t ≡ true) ⊎ (is_interface_of VN t ≡ true)
+    -- who stands in a chain with the old release does so with the new one, or is an interface now
+    unfoldable pub Stays : Bytes → Bytes → Type 0
+    Stays t s = (in_chain VN s t ≡ true) ⊎ (is_interface_of VN t ≡ true)
 
-  library_stays : (s t : Bytes) → class_named cs s ≡ None → is_class_usable O s ≡ true → load_fault VO s ≡ None → IsHeld t → in_chain VO s t ≡ true → Stays t s
-  unfolding Stays
-  library_stays s t k u h d i = go d
-    where
-      lo : load_fault O s ≡ None
-      lo = load_fault-side O cs fo.bare fo.unused s k ∙ h
+    -- in that of a library class, also of one that doesn't load with the new release
+    library_stays : (s t : Bytes) → class_named cs s ≡ None → takes_part O N a s ≡ true → load_fault VO s ≡ None → TakesPart t → same s t ≡ false → in_chain VO s t ≡ true → Stays t s
+    unfolding Stays
+    library_stays s t k p h d n i = go d
+      where
+        lo : load_fault O s ≡ None
+        lo = load_fault-side O cs fo.bare fo.unused s k ∙ h
 
-      co : in_chain O s t ≡ true
-      co = ap (λ cs. names_in cs t) (chain-side O cs fo.bare fo.unused s k lo) ∙ i
+        co : in_chain O s t ≡ true
+        co = ap (λ cs. names_in cs t) (chain-side O cs fo.bare fo.unused s k lo) ∙ i
 
-      ln : load_fault N s ≡ None
-      ln = (usable_parts N s (stays_usable O N quiet s u)).loaded
+        go : TakesPart t → (in_chain VN s t ≡ true) ⊎ (is_interface_of VN t ≡ true)
+        go (of_client c e) = absurd (let w = chain-names O s t lo co in let q : find_class O t ≡ None = fo.undeclared t c e in let r : Some w.0 ≡ None = sym w.1 ∙ q in cc)
+        go (of_library kt q) = by (part_chain O N quiet a is_seat s t p q n co)
+          where
+            by : (in_chain N s t ≡ true) ⊎ (is_interface_of N t ≡ true) → (in_chain VN s t ≡ true) ⊎ (is_interface_of VN t ≡ true)
+            by (inl w) = inl (sym (in_chain-same N cs fn.bare fn.unused s t k) ∙ w)
+            by (inr w) = inr (let f = find-library N cs fn.bare t kt in rw (← f) w)
 
-      go : IsHeld t → (in_chain VN s t ≡ true) ⊎ (is_interface_of VN t ≡ true)
-      go (client c e) = absurd (let w = chain-names O s t lo co in let q : find_class O t ≡ None = fo.undeclared t c e in let r : Some w.0 ≡ None = sym w.1 ∙ q in cc)
-      go (library kt ut) = by (library_chain s t k u kt ut co)
+    -- in that of one that is usable, itself among them
+    usable_stays : (s t : Bytes) → class_named cs s ≡ None → is_class_usable O s ≡ true → load_fault VO s ≡ None → TakesPart t → in_chain VO s t ≡ true → Stays t s
+    unfolding Stays
+    usable_stays s t k u h d i = go (same s t) refl
+      where
+        ln : load_fault N s ≡ None
+        ln = (usable_parts N s (stays_usable O N quiet s u)).loaded
+
+        go : (b : Bool) → same s t ≡ b → (in_chain VN s t ≡ true) ⊎ (is_interface_of VN t ≡ true)
+        go true e = inl (sym (in_chain-same N cs fn.bare fn.unused s t k) ∙ subst (λ z. in_chain N s z ≡ true) (same_is s t e) (own_chain N s ln))
+        go false e = library_stays s t k (or_left (is_kept O N s) (is_exposed O a s) (stays_kept O N quiet s u)) h d e i
+
+    pub chain-kept : (t : Bytes) → TakesPart t → (s : Bytes) → load_fault VO s ≡ None → IsHeld s → in_chain VO s t ≡ true → Stays t s
+    unfolding Stays
+    chain-kept t d = loads-induction VO (λ s. IsHeld s → in_chain VO s t ≡ true → Stays t s) (λ s c f h r k i. by s c f h r k i)
+      where
+        through_client : (s : Bytes) (c e : ClassFacts) → find_class VO s ≡ Some c → load_fault VO s ≡ None → EachOf (λ y. IsHeld y → in_chain VO y t ≡ true → (in_chain VN y t ≡ true) ⊎ (is_interface_of VN t ≡ true)) (supers c)
+            → class_named cs s ≡ Some e → c ≡ e → in_chain VO s t ≡ true → (in_chain VN s t ≡ true) ⊎ (is_interface_of VN t ≡ true)
+        through_client s c e f h r k q i = go (same c.name t) refl (in_chain-step VO s t c h f) (in_chain-step VN s t c ln fn')
+          where
+            kc : class_named cs s ≡ Some c
+            kc = subst (λ z. class_named cs s ≡ Some z) (sym q) k
+
+            ln : load_fault VN s ≡ None
+            ln = clients_load s c kc h
+
+            fn' : find_class VN s ≡ Some c
+            fn' = find-client N cs fn s c kc
+
+            parts : EachOf (λ y. load_fault VO y ≡ None) (supers c) × EachOf (λ y. (d : ClassFacts) → find_class VO y ≡ Some d → is_class_accessible VO c.name d ≡ true) (supers c)
+            parts = let p = loads-parts VO s c f h in (p.0, super_access VO c p.1)
+
+            named : c.name ≡ s
+            named = class_named-name cs s c kc
+
+            up : (o : Option Bytes) (is : List Bytes) → EachOf (λ y. IsHeld y → in_chain VO y t ≡ true → (in_chain VN y t ≡ true) ⊎ (is_interface_of VN t ≡ true)) (supers_of o is)
+                → EachOf (λ y. load_fault VO y ≡ None) (supers_of o is) → EachOf (λ y. (d : ClassFacts) → find_class VO y ≡ Some d → is_class_accessible VO c.name d ≡ true) (supers_of o is)
+                → above (λ z. in_chain VO z t) o ≡ true → (above (λ z. in_chain VN z t) o ≡ true) ⊎ (is_interface_of VN t ≡ true)
+            up None is a b e' g = absurd (cc)
+            up (Some y) is a b e' g = a.0 (held s c kc y b.0 (λ d w. subst (λ z. is_class_accessible VO z d ≡ true) named (e'.0 d w))) g
+
+            go : (b : Bool) → same c.name t ≡ b → in_chain VO s t ≡ (same c.name t || above (λ z. in_chain VO z t) c.superclass) → in_chain VN s t ≡ (same c.name t || above (λ z. in_chain VN z t) c.superclass)
+                → (in_chain VN s t ≡ true) ⊎ (is_interface_of VN t ≡ true)
+            go true p u v = inl (v ∙ or_left (same c.name t) (above (λ z. in_chain VN z t) c.superclass) p)
+            go false p u v = pick (up c.superclass c.interfaces r parts.0 parts.1 (let w : (false || above (λ z. in_chain VO z t) c.superclass) ≡ true = subst (λ b. (b || above (λ z. in_chain VO z t) c.superclass) ≡ true) p (sym u ∙ i) in w))
+              where
+                pick : (above (λ z. in_chain VN z t) c.superclass ≡ true) ⊎ (is_interface_of VN t ≡ true) → (in_chain VN s t ≡ true) ⊎ (is_interface_of VN t ≡ true)
+                pick (inl w) = inl (v ∙ or_right (same c.name t) (above (λ z. in_chain VN z t) c.superclass) w)
+                pick (inr w) = inr w
+
+        by : (s : Bytes) (c : ClassFacts) → find_class VO s ≡ Some c → load_fault VO s ≡ None → EachOf (λ y. IsHeld y → in_chain VO y t ≡ true → (in_chain VN y t ≡ true) ⊎ (is_interface_of VN t ≡ true)) (supers c)
+            → IsHeld s → in_chain VO s t ≡ true → (in_chain VN s t ≡ true) ⊎ (is_interface_of VN t ≡ true)
+        by s c f h r (client e k) i =
+            let q : c ≡ e = let w : Some c ≡ Some e = sym f ∙ find-client O cs fo s e k in cc in
+            through_client s c e f h r k q i
+        by s c f h r (library k u) i = usable_stays s t k u h d i
+
+    pub assign_class-kept : (s t : Bytes) → load_fault VO s ≡ None → TakesPart s → TakesPart t → is_class_assignable VO s t ≡ true → is_class_assignable VN s t ≡ true
+    unfolding Stays
+    assign_class-kept s t h ks kt q = same_one (same s t) refl
+      where
+        stay : (in_chain VN s t ≡ true) ⊎ (is_interface_of VN t ≡ true) → is_class_assignable VN s t ≡ true
+        stay (inl p) = or_right (same s t || is_interface_of VN t) (in_chain VN s t) p
+        stay (inr p) = or_left (same s t || is_interface_of VN t) (in_chain VN s t) (or_right (same s t) (is_interface_of VN t) p)
+
+        above : TakesPart s → same s t ≡ false → in_chain VO s t ≡ true → is_class_assignable VN s t ≡ true
+        above (of_client c k) n p = stay (chain-kept t kt s h (client c k) p)
+        above (of_library k w) n p = stay (library_stays s t k w h kt n p)
+
+        other : same s t ≡ false → (is_interface_of VO t ≡ true) ⊎ (in_chain VO s t ≡ true) → is_class_assignable VN s t ≡ true
+        other n (inl p) = stay (inr (interface-kept t kt p))
+        other n (inr p) = above ks n p
+
+        same_one : (b : Bool) → same s t ≡ b → is_class_assignable VN s t ≡ true
+        same_one true e = or_left (same s t || is_interface_of VN t) (in_chain VN s t) (or_left (same s t) (is_interface_of VN t) e)
+        same_one false e = other e (or_cases (is_interface_of VO t) (in_chain VO s t) (subst (λ b. (b || is_interface_of VO t || in_chain VO s t) ≡ true) e q))
+
+    -- ---- types
+
+    -- the class that an element type names loads with the old release and takes part
+    abbrev pub PartElement : Element → Type 0
+    PartElement (Primitive p) = Unit {0}
+    PartElement (Class y) = (load_fault VO y ≡ None) × TakesPart y
+
+    abbrev pub PartText : Option TypeText → Type 0
+    PartText None = Unit {0}
+    PartText (Some t) = PartElement t.element
+
+    -- the same of a type
+    abbrev pub PartType : Bytes → Type 0
+    PartType t = PartText (type_read t)
+
+    -- an assignment between such types
+    pub is_assignable-kept : (s t : Bytes) → PartType s → PartType t → is_assignable VO s t ≡ true → is_assignable VN s t ≡ true
+    unfolding is_assignable assign_to
+    is_assignable-kept s t ps pt h = go (type_read s) (type_read t) ps pt h
+      where
+        by_element : (p q : Element) → PartElement p → PartElement q → is_element_assignable VO p q ≡ true → is_element_assignable VN p q ≡ true
+        by_element (Primitive p) (Primitive q) u v h = h
+        by_element (Class p) (Class q) u v h = assign_class-kept p q u.0 u.1 v.1 h
+        by_element (Class p) (Primitive q) u v h = h
+        by_element (Primitive p) (Class q) u v h = h
+
+        at_dims : (d f : ℕ) (p q : Element) → PartElement p → PartElement q → assign_to VO d p f q ≡ true → assign_to VN d p f q ≡ true
+        at_dims zero zero p q u v h = by_element p q u v h
+        at_dims zero (suc f) p q u v h = h
+        at_dims (suc d) zero p q u v h = h
+        at_dims (suc d) (suc f) p q u v h = at_dims d f p q u v h
+
+        go : (o m : Option TypeText) → PartText o → PartText m → assign_types VO o m ≡ true → assign_types VN o m ≡ true
+        go None m u v h = absurd (cc)
+        go (Some p) None u v h = absurd (cc)
+        go (Some p) (Some q) u v h = at_dims p.dims q.dims p.element q.element u v h
+
+    -- ---- what a client has in reach
+
+    -- the library classes that an item of x opens and that aren't usable are exposed to the seat
+    abbrev pub OpensExposed : Bytes → List Item → Type 0
+    OpensExposed x items = (y : Bytes) → class_named cs y ≡ None → load_fault VO y ≡ None → is_class_usable O y ≡ false → list_any (opens VO x y) items ≡ true → is_exposed O a y ≡ true
+
+    module _ (x : Bytes) (c : ClassFacts) (kx : class_named cs x ≡ Some c) (items : List Item) (exposed : OpensExposed x items) where
+      reached : (y : Bytes) → class_in_reach VO x items y ≡ true → (load_fault VO y ≡ None) × TakesPart y
+      reached y r =
+          let p = and_parts (loads VO y) (some_and (is_class_accessible VO x) (find_class VO y) || list_any (opens VO x y) items) r in
+          let l : load_fault VO y ≡ None = none_where (load_fault VO y) p.0 in
+          (l, by l (or_cases (some_and (is_class_accessible VO x) (find_class VO y)) (list_any (opens VO x y) items) p.1))
         where
-          by : (in_chain N s t ≡ true) ⊎ (is_interface_of N t ≡ true) → (in_chain VN s t ≡ true) ⊎ (is_interface_of VN t ≡ true)
-          by (inl p) = inl (ap (λ cs. names_in cs t) (sym (chain-side N cs fn.bare fn.unused s k ln)) ∙ p)
-          by (inr p) = inr (let f = find-library N cs fn.bare t kt in rw (← f) p)
+          library_part : class_named cs y ≡ None → load_fault VO y ≡ None → list_any (opens VO x y) items ≡ true → (b : Bool) → is_class_usable O y ≡ b → TakesPart y
+          library_part k l o true u = held_part y (library k u)
+          library_part k l o false u = of_library k (or_right (is_kept O N y) (is_exposed O a y) (exposed y k l u o))
 
-  pub chain-kept : (t : Bytes) → IsHeld t → (s : Bytes) → load_fault VO s ≡ None → IsHeld s → in_chain VO s t ≡ true → Stays t s
-  unfolding Stays
-  chain-kept t d = loads-induction VO (λ s. IsHeld s → in_chain VO s t ≡ true → Stays t s) (λ s c f h r k i. by s c f h r k i)
-    where
-      of_client : (s : Bytes) (c e : ClassFacts) → find_class VO s ≡ Some c → load_fault VO s ≡ None → EachOf (λ y. IsHeld y → in_chain VO y t ≡ true → (in_chain VN y t ≡ true) ⊎ (is_interface_of VN t ≡ true)) (supers c)
-          → class_named cs s ≡ Some e → c ≡ e → in_chain VO s t ≡ true → (in_chain VN s t ≡ true) ⊎ (is_interface_of VN t ≡ true)
-      of_client s c e f h r k q i = go (same c.name t) refl (in_chain-step VO s t c h f) (in_chain-step VN s t c ln fn')
+          opened : load_fault VO y ≡ None → list_any (opens VO x y) items ≡ true → (o : Option ClassFacts) → class_named cs y ≡ o → TakesPart y
+          opened l o (Some d) k = of_client d k
+          opened l o None k = library_part k l o (is_class_usable O y) refl
+
+          by : load_fault VO y ≡ None → (some_and (is_class_accessible VO x) (find_class VO y) ≡ true) ⊎ (list_any (opens VO x y) items ≡ true) → TakesPart y
+          by l (inl q) = held_part y (held x c kx y l (λ d f. let w : is_class_accessible VO x d ≡ true = rw f at q in w))
+          by l (inr q) = opened l q (class_named cs y) refl
+
+      pub reached_type : (t : Bytes) → type_in_reach VO x items t ≡ true → PartType t
+      unfolding type_in_reach
+      reached_type t r = go (type_read t) r
         where
-          kc : class_named cs s ≡ Some c
-          kc = subst (λ z. class_named cs s ≡ Some z) (sym q) k
+          by : (e : Element) → element_in_reach VO x items e ≡ true → PartElement e
+          by (Primitive p) h = tt
+          by (Class y) h = reached y h
 
-          ln : load_fault VN s ≡ None
-          ln = clients_load s c kc h
+          go : (o : Option TypeText) → text_in_reach VO x items o ≡ true → PartText o
+          go None h = tt
+          go (Some t) h = by t.element h
 
-          fn' : find_class VN s ≡ Some c
-          fn' = find-client N cs fn s c kc
-
-          parts : EachOf (λ y. load_fault VO y ≡ None) (supers c) × EachOf (λ y. (d : ClassFacts) → find_class VO y ≡ Some d → is_class_accessible VO c.name d ≡ true) (supers c)
-          parts = let p = loads-parts VO s c f h in (p.0, super_access VO c p.1)
-
-          named : c.name ≡ s
-          named = class_named-name cs s c kc
-
-          up : (o : Option Bytes) (is : List Bytes) → EachOf (λ y. IsHeld y → in_chain VO y t ≡ true → (in_chain VN y t ≡ true) ⊎ (is_interface_of VN t ≡ true)) (supers_of o is)
-              → EachOf (λ y. load_fault VO y ≡ None) (supers_of o is) → EachOf (λ y. (d : ClassFacts) → find_class VO y ≡ Some d → is_class_accessible VO c.name d ≡ true) (supers_of o is)
-              → above (λ z. in_chain VO z t) o ≡ true → (above (λ z. in_chain VN z t) o ≡ true) ⊎ (is_interface_of VN t ≡ true)
-          up None is a b e' g = absurd (cc)
-          up (Some y) is a b e' g = a.0 (held s c kc y b.0 (λ d w. subst (λ z. is_class_accessible VO z d ≡ true) named (e'.0 d w))) g
-
-          go : (b : Bool) → same c.name t ≡ b → in_chain VO s t ≡ (same c.name t || above (λ z. in_chain VO z t) c.superclass) → in_chain VN s t ≡ (same c.name t || above (λ z. in_chain VN z t) c.superclass)
-              → (in_chain VN s t ≡ true) ⊎ (is_interface_of VN t ≡ true)
-          go true p u v = inl (v ∙ or_left (same c.name t) (above (λ z. in_chain VN z t) c.superclass) p)
-          go false p u v = pick (up c.superclass c.interfaces r parts.0 parts.1 (let w : (false || above (λ z. in_chain VO z t) c.superclass) ≡ true = subst (λ b. (b || above (λ z. in_chain VO z t) c.superclass) ≡ true) p (sym u ∙ i) in w))
-            where
-              pick : (above (λ z. in_chain VN z t) c.superclass ≡ true) ⊎ (is_interface_of VN t ≡ true) → (in_chain VN s t ≡ true) ⊎ (is_interface_of VN t ≡ true)
-              pick (inl w) = inl (v ∙ or_right (same c.name t) (above (λ z. in_chain VN z t) c.superclass) w)
-              pick (inr w) = inr w
-
-      by : (s : Bytes) (c : ClassFacts) → find_class VO s ≡ Some c → load_fault VO s ≡ None → EachOf (λ y. IsHeld y → in_chain VO y t ≡ true → (in_chain VN y t ≡ true) ⊎ (is_interface_of VN t ≡ true)) (supers c)
-          → IsHeld s → in_chain VO s t ≡ true → (in_chain VN s t ≡ true) ⊎ (is_interface_of VN t ≡ true)
-      by s c f h r (client e k) i =
-          let q : c ≡ e = let w : Some c ≡ Some e = sym f ∙ find-client O cs fo s e k in cc in
-          of_client s c e f h r k q i
-      by s c f h r (library k u) i = library_stays s t k u h d i
-
-  pub assign_class-kept : (s t : Bytes) → load_fault VO s ≡ None → IsHeld s → IsHeld t → is_class_assignable VO s t ≡ true → is_class_assignable VN s t ≡ true
-  unfolding Stays
-  assign_class-kept s t h ks kt a = first (or_cases (same s t || is_interface_of VO t) (in_chain VO s t) a)
-    where
-      stay : (in_chain VN s t ≡ true) ⊎ (is_interface_of VN t ≡ true) → is_class_assignable VN s t ≡ true
-      stay (inl p) = or_right (same s t || is_interface_of VN t) (in_chain VN s t) p
-      stay (inr p) = or_left (same s t || is_interface_of VN t) (in_chain VN s t) (or_right (same s t) (is_interface_of VN t) p)
-
-      second : (same s t ≡ true) ⊎ (is_interface_of VO t ≡ true) → is_class_assignable VN s t ≡ true
-      second (inl p) = or_left (same s t || is_interface_of VN t) (in_chain VN s t) (or_left (same s t) (is_interface_of VN t) p)
-      second (inr p) = stay (inr (interface-kept t kt p))
-
-      first : ((same s t || is_interface_of VO t) ≡ true) ⊎ (in_chain VO s t ≡ true) → is_class_assignable VN s t ≡ true
-      first (inl p) = second (or_cases (same s t) (is_interface_of VO t) p)
-      first (inr p) = stay (chain-kept t kt s h ks p)
-
-  -- what x has in reach
-  pub reached : (x : Bytes) (c : ClassFacts) → class_named cs x ≡ Some c → (y : Bytes) → class_in_reach VO x y ≡ true → (load_fault VO y ≡ None) × IsHeld y
-  reached x c e y r =
-      let p = and_parts (loads VO y) (some_and (is_class_accessible VO x) (find_class VO y)) r in
-      let l : load_fault VO y ≡ None = none_where (load_fault VO y) p.0 in
-      (l, held x c e y l (λ d f. let q : is_class_accessible VO x d ≡ true = rw f at p.1 in q))
-
-  -- an assignment in reach
-  pub is_assignable-kept : (x : Bytes) (c : ClassFacts) → class_named cs x ≡ Some c → (s t : Bytes) → type_in_reach VO x s ≡ true → type_in_reach VO x t ≡ true → is_assignable VO s t ≡ true → is_assignable VN s t ≡ true
-  unfolding type_in_reach is_assignable assign_to
-  is_assignable-kept x c e s t rs rt a = go (type_read s) (type_read t) rs rt a
-    where
-      by_element : (p q : Element) → element_in_reach VO x p ≡ true → element_in_reach VO x q ≡ true → is_element_assignable VO p q ≡ true → is_element_assignable VN p q ≡ true
-      by_element (Primitive p) (Primitive q) u v h = h
-      by_element (Class p) (Class q) u v h = let w = reached x c e p u in assign_class-kept p q w.0 w.1 (reached x c e q v).1 h
-      by_element (Class p) (Primitive q) u v h = h
-      by_element (Primitive p) (Class q) u v h = h
-
-      at_dims : (d f : ℕ) (p q : Element) → element_in_reach VO x p ≡ true → element_in_reach VO x q ≡ true → assign_to VO d p f q ≡ true → assign_to VN d p f q ≡ true
-      at_dims zero zero p q u v h = by_element p q u v h
-      at_dims zero (suc f) p q u v h = h
-      at_dims (suc d) zero p q u v h = h
-      at_dims (suc d) (suc f) p q u v h = at_dims d f p q u v h
-
-      go : (o m : Option TypeText) → text_in_reach VO x o ≡ true → text_in_reach VO x m ≡ true → assign_types VO o m ≡ true → assign_types VN o m ≡ true
-      go None m u v h = absurd (cc)
-      go (Some p) None u v h = absurd (cc)
-      go (Some p) (Some q) u v h = at_dims p.dims q.dims p.element q.element u v h
+      pub reached_receiver : (r : Option Bytes) → receiver_in_reach VO x items r ≡ true → (t : Bytes) → r ≡ Some t → PartType t
+      reached_receiver None h t e = absurd (cc)
+      reached_receiver (Some z) h t e = let q : z ≡ t = cc in subst PartType q (reached_type z h)

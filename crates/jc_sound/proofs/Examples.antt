@@ -5,12 +5,14 @@ use Rattle.std.proofs.Common.{ℕ, Bool, true, false, cond, List, [], ◌∷◌,
 use Rattle.std.specs.List.{filter_map, list_any, AllByRecursion}
 use Rattle.std.specs.Str.{is_utf8}
 use Rattle.std.proofs.lemmas.Str.{is_utf8-from_IsUtf8, IsUtf8-from_ascii}
+use Rattle.jc_desc.specs.Classes.{descriptor_names}
 use Rattle.jc_desc.specs.Reading.{class_from, basic_from, type_from, field_of, params_from, result_of, method_of, slots_of_method}
 use Rattle.jc_facts.specs.declared.class_facts.ClassFacts.{ClassFacts}
 use Rattle.jc_facts.specs.declared.class_facts.Member.{Member}
 use Rattle.jc_facts.specs.declared.key.Key.{Key}
 use Rattle.jc_facts.specs.declared.finding.Finding.{Finding}
 use Rattle.jc_facts.specs.declared.act.Act.{Act}
+use Rattle.jc_facts.specs.declared.act.Act.TheVariants.{Assignment}
 use Rattle.jc_facts.specs.declared.link_error.LinkError.{LinkError}
 use Rattle.jc_facts.specs.declared.verdict.Collision.{Collision}
 use Rattle.jc_facts.specs.declared.verdict.Note.{Note}
@@ -27,10 +29,11 @@ use Rattle.jc_facts.specs.world.Loading.{fault_of_superclass, fault_of_interface
 use Rattle.jc_facts.specs.world.Lookup.{field_step, field_found, first_declared, if_inheritable, declared_by, only_or, superinterface_choices, or_choices, method_choices, if_public_instance, public_method_of_object, interface_choices}
 use Rattle.jc_facts.specs.world.Assignment.{assign_to, is_assignable, passes_protected_check}
 use Rattle.jc_facts.specs.client.Outcome.{class_fault, class_step, first_of, look_up, is_direct_super, receiver_ok, assignment_ok, use_fault, init_fault, outcome}
-use Rattle.jc_facts.specs.client.Clients.{is_allowed_name, differ_by_name, type_in_reach, first_library}
+use Rattle.jc_facts.specs.client.Clients.{is_opening, is_allowed_name, differ_by_name, type_in_reach, first_library}
 use Rattle.jc_facts.specs.rule.Bases.{is_class_usable, is_kept, became_class, is_steady, is_extendable, is_implementable, is_class_closed, is_base_class, is_base_interface, is_final_in_chain, inherits}
 use Rattle.jc_facts.specs.rule.OpenActs.{act_fault, least}
-use Rattle.jc_facts.specs.rule.Findings.{Subject, gone_error, act_finding, first_act, class_gone, class_closed, interface_became_class, superclass_lost, constructor_closed, method_made_final, field_closed, method_closed, interface_method_lost, finding_at}
+use Rattle.jc_facts.specs.rule.Exposed.{is_hidden, references, open_act, exposes, is_exposed, first_by, exposing_act}
+use Rattle.jc_facts.specs.rule.Findings.{Subject, gone_error, act_finding, first_act, assign_finding, class_gone, class_closed, interface_became_class, superclass_lost, constructor_closed, method_made_final, field_closed, method_closed, interface_method_lost, finding_at}
 use Rattle.jc_facts.specs.rule.Collisions.{constant_added, captures, capture_added, final_added, collision_at}
 use Rattle.jc_facts.specs.rule.Notes.{has_lost_constant}
 
@@ -41,7 +44,7 @@ unfolding class_from basic_from type_from field_of params_from result_of method_
     field_step field_found first_declared if_inheritable declared_by only_or superinterface_choices or_choices method_choices if_public_instance public_method_of_object interface_choices assign_to is_assignable passes_protected_check
     class_fault class_step first_of look_up is_direct_super receiver_ok assignment_ok use_fault init_fault outcome is_allowed_name differ_by_name type_in_reach first_library
     is_class_usable is_kept became_class is_steady is_extendable is_implementable is_class_closed is_base_class is_base_interface is_final_in_chain inherits act_fault least
-    gone_error act_finding first_act class_gone class_closed interface_became_class superclass_lost constructor_closed method_made_final field_closed method_closed interface_method_lost finding_at constant_added captures capture_added final_added collision_at has_lost_constant
+    descriptor_names is_opening is_hidden references open_act exposes is_exposed first_by exposing_act assign_finding gone_error act_finding first_act class_gone class_closed interface_became_class superclass_lost constructor_closed method_made_final field_closed method_closed interface_method_lost finding_at constant_added captures capture_added final_added collision_at has_lost_constant
 computes = 0
 
 -- ---- classes
@@ -190,6 +193,10 @@ finding_of r x k a e = record { rule = r; class = x; key = Some k; target = None
 
 abbrev pub finding_from : ℕ → Bytes → Key → Act → Bytes → LinkError → Finding
 finding_from r x k a s e = record { rule = r; class = x; key = Some k; target = None; act = a; seat = Some s; error = e }
+
+-- those on assignments in which a hidden class takes part
+abbrev pub exposed_finding : ℕ → Bytes → Option Bytes → Bytes → LinkError → Finding
+exposed_finding r x t s e = record { rule = r; class = x; key = None; target = t; act = Assignment; seat = Some s; error = e }
 
 -- these findings, these collisions and these notes, and no others
 abbrev pub Finds : World → World → List Finding → List Collision → List Note → Type 0

@@ -27,13 +27,14 @@ use Rattle.jc_facts.specs.rule.Findings.{Subject, finding_at, finding_by, report
 use Rattle.jc_facts.specs.rule.Collisions.{collision_at, constant_added, capture_added, final_added, captures, are_none, leaves_room}
 use Rattle.jc_sound.specs.Findings.{declares_key, KeysAreDeclared, CollisionKeysAreDeclared}
 use Rattle.jc_worlds.specs.Hierarchy.{above}
+use Rattle.jc_lemmas.proofs.Options.{none_where}
 use Rattle.jc_sound.proofs.Standing.{usable_parts}
 use Rattle.jc_facts.proofs.Pairs.{side_valid, old_root, new_root, new_platform_valid}
 use Rattle.jc_worlds.proofs.Bare.{bare_field}
 use Rattle.jc_worlds.proofs.Unrolled.{chain-unroll}
 use Rattle.jc_lemmas.proofs.Lists.{any_left, any_right, any_weaker}
 use Rattle.jc_sound.proofs.Looked.{look_up-takes}
-use Rattle.jc_sound.proofs.UsableLaw.{Needs, none_needs, cond_needs, either_needs, or_else_needs, and_then_needs, findings_are_of_usable}
+use Rattle.jc_sound.proofs.UsableLaw.{Needs, none_needs, cond_needs, either_needs, or_else_needs, and_then_needs, findings_are_of_loaded}
 use Rattle.jc_lemmas.proofs.Bools.{both_first, both_last, second_of_five, third_of_five}
 use Rattle.jc_sound.proofs.AboveKeys.{test_declares, looked_above, chain_above, from_class}
 
@@ -126,7 +127,7 @@ base_interface_now O N x h =
 
 module _ (O N : World) (pair : IsPair O N) where
   -- an act that was open finds the key above the class
-  open_above : (c seat : Bytes) (k : Key) (a : Act) → load_fault O c ≡ None → act_fault O seat c k a ≡ None → list_any (declares_key k) (above O c) ≡ true
+  pub open_above : (c seat : Bytes) (k : Key) (a : Act) → load_fault O c ≡ None → act_fault O seat c k a ≡ None → list_any (declares_key k) (above O c) ≡ true
   unfolding act_fault
   open_above c seat k a h e =
       let t = look_up-takes O (form_of a) c k _ e in
@@ -165,7 +166,7 @@ unfolding finding_at Needs
 keys_are_declared O N pair s k f is e = go s.target (subst (λ o. finding_by O N s o s.target ≡ Some f) is e)
   where
     loaded : load_fault O s.class ≡ None
-    loaded = (usable_parts O s.class (findings_are_of_usable O N s f e)).loaded
+    loaded = none_where (load_fault O s.class) (findings_are_of_loaded O N s f e)
 
     go : (t : Option Bytes) → finding_by O N s (Some k) t ≡ Some f → list_any (declares_key k) (above O s.class ++ above N s.class) ≡ true
     go None q = by_key O N pair s k loaded f q

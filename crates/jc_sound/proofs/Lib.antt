@@ -2,6 +2,7 @@ pub mod Standing
 pub mod Inits
 pub mod FieldWalk
 pub mod OpenActs
+pub mod Assigned
 pub mod ClientLoads
 pub mod ClientItems
 pub mod Scope
@@ -19,6 +20,7 @@ pub mod FieldClient
 pub mod MethodLooked
 pub mod MethodSets
 pub mod MethodClient
+pub mod Opening
 pub mod NewInit
 pub mod FinalsKept
 pub mod Sound
@@ -29,11 +31,14 @@ pub mod WorkedExamples
 pub mod WorkedClients
 pub mod FindingLaws
 pub mod SoundnessLaws
+pub mod Sight
+pub mod ReachInSight
 pub mod VerdictLaw
 pub mod UsableLaw
 pub mod ExactLists
 pub mod AboveKeys
 pub mod KeyLaws
+pub mod ExposedAbove
 pub mod WorkedVerdict
 pub mod WorkedModules
 pub mod ClassGoneLaw

@@ -1,40 +1,38 @@
 -- What a client names, and what the library classes it names or stands under give its uses.
 use Rattle.std.proofs.Common.{◌≡◌, Bool, true, false, cond, List, refl, sym, ◌∙◌, ap, subst, Option, Some, None, not, ◌||◌, ◌⊎◌, inl, inr}
-use Rattle.std.proofs.lemmas.Bool.{and_from, or_cases, or_left, or_right, not-false}
+use Rattle.std.proofs.lemmas.Bool.{or_cases, or_left, or_right, not-false}
 use Rattle.jc_facts.specs.declared.class_facts.ClassFacts.{ClassFacts}
 use Rattle.jc_facts.specs.declared.act.Act.{Act}
 use Rattle.jc_facts.specs.declared.act.Act.TheVariants.{InvokeSpecial, InvokeSpecialInterface}
 use Rattle.jc_facts.specs.declared.key.Key.{Key}
 use Rattle.jc_facts.specs.declared.client.Place.{Place}
-use Rattle.jc_facts.specs.declared.client.Item.TheVariants as item
 use Rattle.jc_facts.specs.declared.link_error.LinkError.TheVariants.{IllegalAccessError}
-use Rattle.jc_facts.specs.Names.{Bytes, same, in_same_package, package_name, is_name_among}
+use Rattle.jc_facts.specs.Names.{Bytes, same, package_name, is_name_among}
 use Rattle.jc_facts.specs.Flags.{public_flag, protected_flag}
 use Rattle.jc_facts.specs.world.Types.{Class, type_read, is_array_text}
 use Rattle.jc_facts.specs.world.World.{World, find_class, DeclaredMember, class_named, with_clients}
-use Rattle.jc_facts.specs.Options.{and_then, some_and}
+use Rattle.jc_facts.specs.Options.{and_then}
 use Rattle.jc_facts.specs.world.Hierarchy.{in_chain}
 use Rattle.jc_facts.specs.world.Access.{is_class_accessible}
-use Rattle.jc_facts.specs.world.Loading.{load_fault, loads, fault_where}
-use Rattle.jc_facts.specs.world.Assignment.{is_interface_of}
+use Rattle.jc_facts.specs.world.Loading.{load_fault, fault_where}
+use Rattle.jc_facts.specs.world.Assignment.{is_interface_of, is_assignable}
 use Rattle.jc_facts.specs.client.Acts.{MethodForm, InterfaceForm, form_of, is_special}
 use Rattle.jc_facts.specs.client.Outcome.{class_fault, class_step, type_fault, is_direct_super}
-use Rattle.jc_facts.specs.client.Clients.{is_in_reach, type_in_reach, text_in_reach, is_allowed_name}
+use Rattle.jc_facts.specs.client.Clients.{type_in_reach, is_allowed_name}
 use Rattle.jc_facts.specs.world.Lookup.{method_choices, interface_choices}
 use Rattle.jc_facts.specs.rule.OpenActs.{act_fault}
 use Rattle.jc_worlds.proofs.ValidFacts.{fit_of}
 use Rattle.jc_facts.proofs.World.{find-name, class_named-name, EachOf-class_named}
-use Rattle.jc_facts.proofs.Same.{same_is, same_itself}
+use Rattle.jc_facts.proofs.Same.{same_is}
 use Rattle.jc_worlds.proofs.Above.{fault_where-none}
 use Rattle.jc_worlds.proofs.Loaded.{loads-found}
 use Rattle.jc_facts.proofs.Options.{or_else-none}
 use Rattle.jc_worlds.proofs.Clients.{Fits, find-client}
 use Rattle.jc_worlds.proofs.Packages.{allowed_parts, package_apart}
-use Rattle.jc_worlds.proofs.VisibleFrom.{accessible-package}
 use Rattle.jc_sound.proofs.Standing.{stays_usable, usable_parts}
 use Rattle.jc_sound.proofs.OpenActs.{IsSeat}
 use Rattle.jc_sound.proofs.ClientLoads.{library_loads}
-use Rattle.jc_sound.proofs.ClientItems.{chain-names, IsHeld, client, library, held, chain-kept, Stays, is_assignable-kept}
+use Rattle.jc_sound.proofs.ClientItems.{chain-names, IsHeld, client, library, held, held_part, chain-kept, Stays, PartText, PartType, is_assignable-kept}
 use Rattle.jc_sound.proofs.Seats.{SeatOf}
 use Rattle.jc_sound.proofs.Ground.{Ground, root_usable, seat_at, no_client, client_chain}
 use Rattle.jc_worlds.proofs.Bare.{has_root}
@@ -90,11 +88,25 @@ module _ (O N : World) (cs : List ClassFacts) (g : Ground O N cs) (x : Bytes) (c
   pub x_loads : load_fault VN x ≡ None
   x_loads = g.clients_load x c kx lx
 
+  pub seat_x : Seat x
+  seat_x = seat_at O N cs g x c kx lx
+
+  -- of the types that x assigns
+  abbrev pub Part : Bytes → Type 0
+  Part t = PartType O N cs g.fo g.fn g.quiet g.allowed_o g.allowed_n g.clients_load seat_x.seat seat_x.is_seat t
+
+  pub named_part : (t : Bytes) → is_array_text t ≡ false → load_fault VO t ≡ None → Held t → Part t
+  named_part t a l h = subst (PartText O N cs g.fo g.fn g.quiet g.allowed_o g.allowed_n g.clients_load seat_x.seat seat_x.is_seat) (sym (named_class t a)) (l, held_part O N cs g.fo g.fn g.quiet g.allowed_o g.allowed_n g.clients_load seat_x.seat seat_x.is_seat t h)
+
+  -- x names itself
+  self_part : Part x
+  self_part = named_part x (subst (λ z. is_array_text z ≡ false) (class_named-name cs x c kx) (fit_of c (g.valid_o x c (find-client O cs g.fo x c kx))).name) lx (client c kx)
+
   pub record IsNamed (t : Bytes) : Type 0 where
     pub loaded : load_fault VO t ≡ None
-    pub reach : type_in_reach VO x t ≡ true
     pub is_held : Held t
     pub now : load_fault VN t ≡ None
+    pub part : Part t
 
   pub held_loads : (t : Bytes) → load_fault VO t ≡ None → Held t → load_fault VN t ≡ None
   held_loads t l (client d k) = g.clients_load t d k l
@@ -104,9 +116,9 @@ module _ (O N : World) (cs : List ClassFacts) (g : Ground O N cs) (x : Bytes) (c
   unfolding class_step class_fault type_in_reach and_then
   named t s a = record {
     loaded = p.0;
-    reach = ap (text_in_reach VO x) r ∙ and_from (loads VO t) (some_and (is_class_accessible VO x) (find_class VO t)) (rw p.0 refl) (rw f.1 (access f.0 f.1));
     is_held = h;
     now = held_loads t p.0 h;
+    part = named_part t a p.0 h;
   }
     where
       r : type_read t ≡ Some (record { dims = 0; element = Class t })
@@ -127,14 +139,6 @@ module _ (O N : World) (cs : List ClassFacts) (g : Ground O N cs) (x : Bytes) (c
       h : Held t
       h = held O N cs g.fo g.fn g.quiet g.allowed_o g.allowed_n g.clients_load x c kx t p.0 access
 
-  -- x names itself
-  pub self_reach : type_in_reach VO x x ≡ true
-  unfolding type_in_reach type_read
-  self_reach = rw (subst (λ z. is_array_text z ≡ false) (class_named-name cs x c kx) (fit_of c (g.valid_o x c f)).name) (and_from (loads VO x) (some_and (is_class_accessible VO x) (find_class VO x)) (rw lx refl) (rw f (accessible-package VO x c (subst (λ z. in_same_package x z ≡ true) (sym (class_named-name cs x c kx)) (same_itself (package_name x))))))
-    where
-      f : find_class VO x ≡ Some c
-      f = find-client O cs g.fo x c kx
-
   pub direct_super : (t : Bytes) → IsNamed t → (is_interface_of VN t ≡ false) ⊎ (is_interface_of VO t ≡ true) → is_direct_super VO x t ≡ true → is_direct_super VN x t ≡ true
   unfolding is_direct_super Stays
   direct_super t n i d = go (or_cases (in_chain VO x t) (at (find_class VO x)) d)
@@ -148,29 +152,23 @@ module _ (O N : World) (cs : List ClassFacts) (g : Ground O N cs) (x : Bytes) (c
       by (inr j) p (inr q) = let e : x ≡ t = interface_itself VO t j x lx p in subst (λ z. in_chain VN x z ≡ true) e (own_chain VN x x_loads)
 
       go : (in_chain VO x t ≡ true) ⊎ (at (find_class VO x) ≡ true) → (in_chain VN x t || at (find_class VN x)) ≡ true
-      go (inl p) = or_left (in_chain VN x t) (at (find_class VN x)) (by i p (chain-kept O N cs g.fo g.fn g.quiet g.allowed_o g.allowed_n g.clients_load t n.is_held x lx (client c kx) p))
+      go (inl p) = or_left (in_chain VN x t) (at (find_class VN x)) (by i p (chain-kept O N cs g.fo g.fn g.quiet g.allowed_o g.allowed_n g.clients_load seat_x.seat seat_x.is_seat t
+          (held_part O N cs g.fo g.fn g.quiet g.allowed_o g.allowed_n g.clients_load seat_x.seat seat_x.is_seat t n.is_held) x lx (client c kx) p))
       go (inr p) = or_right (in_chain VN x t) (at (find_class VN x)) (ap at (find-client N cs g.fn x c kx) ∙ ap at (sym (find-client O cs g.fo x c kx)) ∙ p)
 
-  pub holds : (act : Act) (t : Bytes) (k : Key) (r : Option Bytes) (place : Place) → is_in_reach VO x (item.Access act t k r place) ≡ true → IsNamed t → (form_of act ≡ InterfaceForm → is_interface_of VO t ≡ true) → Holds O N cs g x act t r place
-  holds act t k r place reach n is_if = record {
-    receiver = λ s e a. is_assignable-kept O N cs g.fo g.fn g.quiet g.allowed_o g.allowed_n g.clients_load x c kx s t (by r reach s e) n.reach a;
-    self = λ s e a. is_assignable-kept O N cs g.fo g.fn g.quiet g.allowed_o g.allowed_n g.clients_load x c kx s x (by r reach s e) self_reach a;
+  pub holds : (act : Act) (t : Bytes) (r : Option Bytes) (place : Place) → ((s : Bytes) → r ≡ Some s → Part s) → IsNamed t → (form_of act ≡ InterfaceForm → is_interface_of VO t ≡ true) → Holds O N cs g x act t r place
+  holds act t r place parts n is_if = record {
+    receiver = λ s e a. assigns s t (parts s e) n.part a;
+    self = λ s e a. assigns s x (parts s e) self_part a;
     direct = λ s ni d. direct_super t n (kind (special_form act s) ni) d;
   }
     where
-      in_it : Option Bytes → Bool
-      in_it r = elim r [ None ↦ true | Some s ↦ type_in_reach VO x s ]
-
-      by : (r : Option Bytes) → in_it r ≡ true → (s : Bytes) → r ≡ Some s → type_in_reach VO x s ≡ true
-      by None h s e = absurd (cc)
-      by (Some z) h s e = let q : z ≡ s = cc in subst (λ w. type_in_reach VO x w ≡ true) q h
+      assigns : (s t : Bytes) → Part s → Part t → is_assignable VO s t ≡ true → is_assignable VN s t ≡ true
+      assigns = is_assignable-kept O N cs g.fo g.fn g.quiet g.allowed_o g.allowed_n g.clients_load seat_x.seat seat_x.is_seat
 
       kind : (form_of act ≡ MethodForm) ⊎ (form_of act ≡ InterfaceForm) → (form_of act ≡ MethodForm → is_interface_of VN t ≡ false) → (is_interface_of VN t ≡ false) ⊎ (is_interface_of VO t ≡ true)
       kind (inl p) ni = inl (ni p)
       kind (inr p) ni = inr (is_if p)
-
-  pub seat_x : Seat x
-  seat_x = seat_at O N cs g x c kx lx
 
   -- an owner of the side
   pub owner_apart : (y : Bytes) (d : ClassFacts) → find_class O y ≡ Some d → (package_name x ≡ package_name y → ⊥)

@@ -40,7 +40,7 @@ use Rattle.jc_facts.specs.world.Assignment.{is_assignable}
 use Rattle.jc_facts.specs.declared.link_error.LinkError.TheVariants.{VerifyError}
 use Rattle.jc_worlds.proofs.Above.{fault_where-none}
 use Rattle.jc_sound.proofs.ClientLoads.{clients_load}
-use Rattle.jc_sound.proofs.ClientItems.{class_step-kept, is_assignable-kept}
+use Rattle.jc_sound.proofs.ClientItems.{class_step-kept, PartType, reached_type, is_assignable-kept}
 
 -- the client whose record is found
 pub record IsClientOf (cs : List ClientClass) (c : ClassFacts) : Type 0 where
@@ -184,12 +184,15 @@ module _ (O N : World) (cs : List ClientClass) (run : AreOfOneRun O N) (root : i
     scope_class x c e t o = class_step-kept O N (facts_of cs) fits_old new_allowed_fits quiet allowed_old allowed_new scope_loads x c e t o
 
     -- each assignment in reach
-    pub scope_assign : (x : Bytes) (c : ClassFacts) → class_named (facts_of cs) x ≡ Some c → (s t : Bytes) → is_in_reach VO x (item.Assign s t) ≡ true
+    pub scope_assign : (x : Bytes) (c : ClassFacts) → class_named (facts_of cs) x ≡ Some c → (s t : Bytes) → is_in_reach VO x [] (item.Assign s t) ≡ true
         → outcome VO x (item.Assign s t) ≡ None → outcome (with_clients N (facts_of cs)) x (item.Assign s t) ≡ None
     unfolding outcome
     scope_assign x c e s t r o =
-        let p = and_parts (type_in_reach VO x s) (type_in_reach VO x t) r in
+        let p = and_parts (type_in_reach VO x [] s) (type_in_reach VO x [] t) r in
         let a : is_assignable VO s t ≡ true = not-false (is_assignable VO s t) (fault_where-none (not (is_assignable VO s t)) VerifyError o) in
         let b : is_assignable (with_clients N (facts_of cs)) s t ≡ true =
-        is_assignable-kept O N (facts_of cs) fits_old new_allowed_fits quiet allowed_old allowed_new scope_loads x c e s t p.0 p.1 a in
+        is_assignable-kept O N (facts_of cs) fits_old new_allowed_fits quiet allowed_old allowed_new scope_loads object_name (inl refl) s t (part s p.0) (part t p.1) a in
         rw b refl
+      where
+        part : (t : Bytes) → type_in_reach VO x [] t ≡ true → PartType O N (facts_of cs) fits_old new_allowed_fits quiet allowed_old allowed_new scope_loads object_name (inl refl) t
+        part = reached_type O N (facts_of cs) fits_old new_allowed_fits quiet allowed_old allowed_new scope_loads object_name (inl refl) x c e [] (λ y k l u o. absurd (cc))

@@ -48,16 +48,18 @@ use Rattle.jc_worlds.proofs.Packages.{AllowedParts, allowed_parts, same_package_
 use Rattle.jc_sound.proofs.Standing.{Quiet, report_where-none, stays_usable, usable_parts, usable_from}
 use Rattle.jc_sound.proofs.OpenActs.{IsSeat, at_key}
 use Rattle.jc_sound.proofs.ClientLoads.{clients_load, superclass_base, taken_superclass}
-use Rattle.jc_sound.proofs.ClientItems.{class_step-kept, is_assignable-kept}
+use Rattle.jc_sound.proofs.ClientItems.{class_step-kept, OpensExposed, reached_type, reached_receiver, is_assignable-kept}
 use Rattle.jc_sound.proofs.Scope.{IsClientOf, client_of, fits, allowed_old, allowed_new, fits_old, calls_super, same_root}
 use Rattle.jc_sound.proofs.Seats.{SeatOf, seat_of}
-use Rattle.jc_sound.proofs.Ground.{Ground}
+use Rattle.jc_sound.proofs.Ground.{Ground, root_usable as root_usable_of}
 use Rattle.jc_worlds.proofs.Bare.{bare_loads, bare_chain}
 use Rattle.jc_sound.proofs.Context.{interface_itself}
 use Rattle.jc_worlds.proofs.Unrolled.{own_chain, chain-unroll}
 use Rattle.jc_sound.proofs.FinalsKept.{meets-free, library-meets, client-meets, IsApart, own_of}
 use Rattle.jc_sound.proofs.FieldClient.{field_access}
 use Rattle.jc_sound.proofs.MethodClient.{method_access, first_library-below}
+use Rattle.jc_sound.proofs.Reach.{Part as PartOf, seat_x}
+use Rattle.jc_sound.proofs.Opening.{opens_exposed}
 use Rattle.jc_sound.proofs.NewInit.{new_item, init_item}
 
 -- each client is the one of its name
@@ -349,7 +351,7 @@ module _ (O N : World) (cs : List ClientClass) (pair : IsPair O N) (quiet : Quie
   pub loads_kept : quiet.rules 6 ≡ true → ((a : Bytes) (k : Key) → final_added O N a k ≡ true → MeetsFinal (with_clients O (facts_of cs)) cs a k → ⊥) → KeepsLoads
   loads_kept q6 no_final x c e h = clients_load O N (facts_of cs) fo fn quiet ao an calls (same_root O N cs pair.run has_root quiet scope) (finals_kept q6 no_final) x h c e
 
-  ground : KeepsLoads → Ground O N (facts_of cs)
+  pub ground : KeepsLoads → Ground O N (facts_of cs)
   ground loads = record {
     fo = fo;
     fn = fn;
@@ -373,28 +375,38 @@ module _ (O N : World) (cs : List ClientClass) (pair : IsPair O N) (quiet : Quie
     root_class = root.class;
   }
 
-  named_client : (X : ClientClass) → Contains cs X → class_named (facts_of cs) X.facts.name ≡ Some X.facts
+  pub named_client : (X : ClientClass) → Contains cs X → class_named (facts_of cs) X.facts.name ≡ Some X.facts
   named_client X h = All-contains (λ (c : ClientClass). class_named (facts_of cs) c.facts.name ≡ Some c.facts) cs X (All-from_recursion (λ (c : ClientClass). class_named (facts_of cs) c.facts.name ≡ Some c.facts) cs (named_clients cs scope.differ)) h
 
-  valid_item : (X : ClientClass) (i : Item) → Contains cs X → Contains X.items i → is_item_of X.facts i ≡ true
+  pub valid_item : (X : ClientClass) (i : Item) → Contains cs X → Contains X.items i → is_item_of X.facts i ≡ true
   valid_item X i h w = All-contains (λ i. is_item_of X.facts i ≡ true) X.items i (All-from_recursion (λ i. is_item_of X.facts i ≡ true) X.items (list_all-each (is_item_of X.facts) X.items (All-contains IsValidClient cs X scope.valid h).items)) w
 
   -- ---- items, from the loads of the clients and from what the rules of each kind of item find
 
-  abbrev pub KeepsItem : ClientClass → Item → Type 0
-  KeepsItem X i = Contains cs X → load_fault VO X.facts.name ≡ None → Contains X.items i → is_in_reach VO X.facts.name i ≡ true → outcome VO X.facts.name i ≡ None → outcome VN X.facts.name i ≡ None
-
   module _ (loads : KeepsLoads) where
+    -- each class that the type names takes part, for the seat of the client
+    abbrev pub Part : (X : ClientClass) → Contains cs X → load_fault VO X.facts.name ≡ None → Bytes → Type 0
+    Part X h l = PartOf O N (facts_of cs) (ground loads) X.facts.name X.facts (named_client X h) l
+
+    -- so does each that the item's receiver and the types of an assignment name
+    abbrev pub PartItem : (X : ClientClass) → Contains cs X → load_fault VO X.facts.name ≡ None → Item → Type 0
+    PartItem X h l (item.Access act t k r place) = (s : Bytes) → r ≡ Some s → Part X h l s
+    PartItem X h l (item.Assign s t) = Part X h l s × Part X h l t
+    PartItem X h l i = Unit {0}
+
+    abbrev pub KeepsItem : ClientClass → Item → Type 0
+    KeepsItem X i = (h : Contains cs X) (l : load_fault VO X.facts.name ≡ None) → Contains X.items i → PartItem X h l i → outcome VO X.facts.name i ≡ None → outcome VN X.facts.name i ≡ None
+
     pub class_kept : (X : ClientClass) (t : Bytes) → KeepsItem X (item.Class t)
     unfolding outcome
     class_kept X t h l w r o = class_step-kept O N (facts_of cs) fo fn quiet ao an loads X.facts.name X.facts (named_client X h) t o
 
     pub assign_kept : (X : ClientClass) (s t : Bytes) → KeepsItem X (item.Assign s t)
-    unfolding outcome
+    unfolding outcome ground
     assign_kept X s t h l w r o =
-        let p = and_parts (type_in_reach VO X.facts.name s) (type_in_reach VO X.facts.name t) r in
+        let seat = seat_x O N (facts_of cs) (ground loads) X.facts.name X.facts (named_client X h) l in
         let a : is_assignable VO s t ≡ true = not-false (is_assignable VO s t) (fault_where-none (not (is_assignable VO s t)) VerifyError o) in
-        let b : is_assignable VN s t ≡ true = is_assignable-kept O N (facts_of cs) fo fn quiet ao an loads X.facts.name X.facts (named_client X h) s t p.0 p.1 a in
+        let b : is_assignable VN s t ≡ true = is_assignable-kept O N (facts_of cs) fo fn quiet ao an loads seat.seat seat.is_seat s t r.0 r.1 a in
         rw b refl
 
     pub new_kept : quiet.rules 5 ≡ true → (X : ClientClass) (t d : Bytes) → KeepsItem X (item.New t d)
@@ -444,6 +456,27 @@ module _ (O N : World) (cs : List ClientClass) (pair : IsPair O N) (quiet : Quie
     item_kept q5 q7 q8 q9 no_constant no_capture X (item.Access act t k v place) = access_kept q7 q8 q9 no_constant no_capture X act t k v place
     item_kept q5 q7 q8 q9 no_constant no_capture X (item.Assign s t) = assign_kept X s t
 
+    -- what an item of a client has in reach takes part
+    pub reached_part : (X : ClientClass) (h : Contains cs X) (l : load_fault VO X.facts.name ≡ None) (i : Item) → is_in_reach VO X.facts.name X.items i ≡ true → PartItem X h l i
+    unfolding ground
+    reached_part X h l i = go i
+      where
+        st : SeatOf O N (facts_of cs) fo fn quiet ao an calls rooted interface_root (root_usable_of O N (facts_of cs) (ground loads)) X.facts.name
+        st = seat_x O N (facts_of cs) (ground loads) X.facts.name X.facts (named_client X h) l
+
+        exposed : OpensExposed O N (facts_of cs) fo fn quiet ao an loads st.seat st.is_seat X.facts.name X.items
+        exposed = opens_exposed O N cs (ground loads) X (named_client X h) l (λ i w. valid_item X i h w)
+
+        part : (t : Bytes) → type_in_reach VO X.facts.name X.items t ≡ true → Part X h l t
+        part = reached_type O N (facts_of cs) fo fn quiet ao an loads st.seat st.is_seat X.facts.name X.facts (named_client X h) X.items exposed
+
+        go : (i : Item) → is_in_reach VO X.facts.name X.items i ≡ true → PartItem X h l i
+        go (item.Access act t k r place) w = reached_receiver O N (facts_of cs) fo fn quiet ao an loads st.seat st.is_seat X.facts.name X.facts (named_client X h) X.items exposed r w
+        go (item.Assign s t) w = let p = and_parts (type_in_reach VO X.facts.name X.items s) (type_in_reach VO X.facts.name X.items t) w in (part s p.0, part t p.1)
+        go (item.Class t) w = tt
+        go (item.New t d) w = tt
+        go (item.Init t d) w = tt
+
     -- the loads and the items
     pub keeps_all : quiet.rules 5 ≡ true → quiet.rules 7 ≡ true → quiet.rules 8 ≡ true → quiet.rules 9 ≡ true
         → ((i : Bytes) (k : Key) → constant_added O N i k ≡ true → MeetsConstant (with_clients O (facts_of cs)) cs i k → ⊥)
@@ -451,5 +484,5 @@ module _ (O N : World) (cs : List ClientClass) (pair : IsPair O N) (quiet : Quie
         → Keeps O N cs
     keeps_all q5 q7 q8 q9 no_constant no_capture = record {
       loading = λ c h l. loads c.facts.name c.facts (named_client c h) l;
-      uses = λ c i h l w r o. item_kept q5 q7 q8 q9 no_constant no_capture c i h l w r o;
+      uses = λ c i h l w r o. item_kept q5 q7 q8 q9 no_constant no_capture c i h l w (reached_part c h l i r) o;
     }

@@ -24,21 +24,22 @@ use Rattle.jc_lemmas.proofs.Listed.{none, cases, EachOf, EachOf-map}
 use Rattle.jc_facts.proofs.Same.{same_itself}
 use Rattle.jc_sound.proofs.Standing.{Quiet, all_quiet}
 use Rattle.jc_sound.proofs.Scope.{DeclaresNone, scope_loads, scope_class, scope_assign}
-use Rattle.jc_sound.proofs.Sound.{loads_kept, keeps_all, field_kept}
+use Rattle.jc_facts.specs.declared.client.Item.TheVariants as item
+use Rattle.jc_sound.proofs.Sound.{loads_kept, keeps_all, reached_part, field_kept}
 use Rattle.jc_sound.proofs.Staged.{loads_of, keeps_without_methods}
 use Rattle.jc_sound.proofs.FindingLaws.{empty_means_none}
 
 -- ---- a collision that stands, of each kind
 
-constant_is : (O N : World) (i : Bytes) (k : Key) → constant_added O N i k ≡ true → CollisionStands O N (made_collision 10 i k GetField IncompatibleClassChangeError)
+pub constant_is : (O N : World) (i : Bytes) (k : Key) → constant_added O N i k ≡ true → CollisionStands O N (made_collision 10 i k GetField IncompatibleClassChangeError)
 unfolding collision_at
 constant_is O N i k e = rw e refl
 
-capture_is : (O N : World) (a : Bytes) (k : Key) → capture_added O N a k ≡ true → CollisionStands O N (made_collision 11 a k InvokeVirtual (capture_error N a k))
+pub capture_is : (O N : World) (a : Bytes) (k : Key) → capture_added O N a k ≡ true → CollisionStands O N (made_collision 11 a k InvokeVirtual (capture_error N a k))
 unfolding collision_at
 capture_is O N a k e = rw e refl
 
-final_is : (O N : World) (a : Bytes) (k : Key) → final_added O N a k ≡ true → CollisionStands O N (made_collision 12 a k Override IncompatibleClassChangeError)
+pub final_is : (O N : World) (a : Bytes) (k : Key) → final_added O N a k ≡ true → CollisionStands O N (made_collision 12 a k Override IncompatibleClassChangeError)
 unfolding collision_at
 final_is O N a k e = rw e refl
 
@@ -111,9 +112,11 @@ types_kept O N cs run root find_nothing scope none_declared = record {
     d = declare_none cs none_declared
 
 pub fields_kept : FieldsKept
-fields_kept O N cs pair find_nothing scope none met c act t k r place is_in loaded form item reach ok =
+fields_kept O N cs pair find_nothing scope none met c act t k r place is_in loaded form there reach ok =
     let q = quiet_of (λ r. nat_le r 4 || r == 7) (λ n h. or_left (nat_le n 4) (n == 7) (up_to_4 n h)) O N find_nothing in
-    field_kept O N cs pair q scope (loads_of O N cs pair q scope (declare_none cs none)) refl (no_constant O N cs met) c act t k r place form is_in loaded item reach ok
+    let loads = loads_of O N cs pair q scope (declare_none cs none) in
+    field_kept O N cs pair q scope loads refl (no_constant O N cs met) c act t k r place form is_in loaded there
+    (reached_part O N cs pair q scope loads c is_in loaded (item.Access act t k r place) reach) ok
 
 pub kept_without_methods : KeptWithoutMethods
 kept_without_methods O N cs pair find_nothing scope none constant capture =

@@ -1,20 +1,29 @@
 -- What a finding or a collision stands on: its class was usable, and its key is declared above it.
-use Rattle.std.proofs.Common.{◌≡◌, Bool, true, false, not, cond, refl, Option, Some, None, is_some, is_none, ◌||◌, ◌&&◌, ◌==◌}
-use Rattle.std.proofs.lemmas.Bool.{and_parts}
+use Rattle.std.proofs.Common.{◌≡◌, Bool, true, false, not, cond, List, [], ◌∷◌, refl, Option, Some, None, is_some, is_none, ◌||◌, ◌&&◌, ◌==◌, ◌⊎◌, inl, inr}
+use Rattle.std.specs.List.{list_any, list_all}
+use Rattle.std.proofs.lemmas.Bool.{and_parts, or_cases}
 use Rattle.jc_facts.specs.declared.key.Key.{Key}
 use Rattle.jc_facts.specs.declared.finding.Finding.{Finding}
+use Rattle.jc_facts.specs.declared.act.Act.TheVariants.{Assignment}
 use Rattle.jc_facts.specs.declared.link_error.LinkError.{LinkError}
-use Rattle.jc_facts.specs.Names.{Bytes}
+use Rattle.jc_facts.specs.declared.link_error.LinkError.TheVariants.{VerifyError}
+use Rattle.jc_facts.specs.Names.{Bytes, same}
+use Rattle.jc_facts.specs.Flags.{public_flag}
 use Rattle.jc_facts.specs.Options.{or_else, and_then}
+use Rattle.jc_facts.specs.world.Modules.{is_visible}
 use Rattle.jc_facts.specs.world.World.{World}
-use Rattle.jc_facts.specs.rule.Bases.{is_class_usable, is_kept, became_class, is_steady, is_class_closed, is_extendable, is_implementable, is_base_class, is_base_interface, is_key_of_method, is_final_in_chain, inherits}
-use Rattle.jc_facts.specs.rule.Findings.{Subject, finding_at, finding_by, finds_overridable, constructor_closed, new_error, init_error, had_init, class_gone, class_closed, interface_became_class, superclass_lost, method_made_final, field_closed, method_closed, interface_method_lost}
+use Rattle.jc_facts.specs.rule.Bases.{class_is, is_class_usable, is_kept, became_class, is_steady, is_class_closed, is_extendable, is_implementable, is_base_class, is_base_interface, is_key_of_method, is_final_in_chain, inherits}
+use Rattle.jc_facts.specs.rule.Findings.{Subject, finding_at, finding_by, finds_overridable, constructor_closed, new_error, init_error, had_init, report, takes_part, assign_finding, class_gone, class_closed, interface_became_class, superclass_lost, method_made_final, field_closed, method_closed, interface_method_lost}
 use Rattle.jc_facts.specs.rule.Collisions.{constant_added, capture_added, final_added, collision_at, captures, leaves_room, are_none}
+use Rattle.jc_facts.specs.rule.OpenActs.{first_seat}
+use Rattle.jc_facts.specs.rule.Exposed.{is_hidden, references, exposes, is_exposed}
 use Rattle.jc_facts.specs.world.Hierarchy.{in_chain}
+use Rattle.jc_facts.specs.world.Loading.{loads}
 use Rattle.jc_facts.specs.world.Assignment.{is_interface_of}
 use Rattle.jc_facts.specs.world.Lookup.{field_found, method_choices, public_method_of_object}
-use Rattle.jc_sound.specs.Findings.{FindingsAreOfUsable, CollisionsAreOfUsable}
-use Rattle.jc_lemmas.proofs.Bools.{both_first, both_last, first_of_five, second_of_five}
+use Rattle.jc_sound.specs.Findings.{FindingsAreOfLoaded, CollisionsAreOfUsable}
+use Rattle.jc_lemmas.proofs.Bools.{both_first, both_last, second_of_five}
+use Rattle.jc_sound.proofs.OpenActs.{first_seat-passes}
 
 module _ (O N : World) (x : Bytes) where
   of_kept : is_kept O N x ≡ true → is_class_usable O x ≡ true
@@ -32,10 +41,6 @@ module _ (O N : World) (x : Bytes) where
   of_base_interface : is_base_interface O N x ≡ true → is_class_usable O x ≡ true
   unfolding is_base_interface
   of_base_interface h = let p = and_parts (is_implementable O N x && is_steady O N x) (not (is_class_closed O N x)) h in let q = and_parts (is_implementable O N x) (is_steady O N x) p.0 in of_steady q.1
-
-  of_became : became_class O N x ≡ true → is_class_usable O x ≡ true
-  unfolding became_class
-  of_became h = let p = and_parts (is_kept O N x && _) (not _) h in let q = and_parts (is_kept O N x) _ p.0 in of_kept q.0
 
   of_closed : is_class_closed O N x ≡ true → is_class_usable O x ≡ true
   unfolding is_class_closed
@@ -70,38 +75,62 @@ module _ {X : Type 0} (P : Type 0) where
   and_then_needs g true o h f e = h refl
   and_then_needs g false o h f e = absurd (cc)
 
-by_needs : (O N : World) (s : Subject) (k : Option Key) (t : Option Bytes) → Needs (is_class_usable O s.class ≡ true) (finding_by O N s k t)
+of_usable : (O : World) (x : Bytes) → is_class_usable O x ≡ true → loads O x ≡ true
+unfolding is_class_usable
+of_usable O x h = both_last (class_is O (λ c. is_visible O x && public_flag c.flags) x) (loads O x) h
+
+of_part : (O N : World) (a x : Bytes) → takes_part O N a x ≡ true → loads O x ≡ true
+unfolding is_exposed is_hidden
+of_part O N a x h = go (or_cases (is_kept O N x) (is_hidden O x && list_any (exposes O a x) (references O)) h)
+  where
+    go : (is_kept O N x ≡ true) ⊎ ((is_hidden O x && list_any (exposes O a x) (references O)) ≡ true) → loads O x ≡ true
+    go (inl k) = of_usable O x (of_kept O N x k)
+    go (inr k) = both_first (loads O x) (not (is_class_usable O x)) (both_first (loads O x && not (is_class_usable O x)) (list_any (exposes O a x) (references O)) k)
+
+assign_needs : (O N : World) (s : Subject) (xs : List Bytes) → Needs (loads O s.class ≡ true) (assign_finding O N s (s.class ∷ xs))
+unfolding assign_finding Needs and_then
+assign_needs O N s xs f e = go (list_all (is_kept O N) (s.class ∷ xs)) refl (first_seat O N test) refl e
+  where
+    test : Bytes → Bool
+    test a = list_all (takes_part O N a) (s.class ∷ xs)
+
+    go : (b : Bool) → list_all (is_kept O N) (s.class ∷ xs) ≡ b → (o : Option Bytes) → first_seat O N test ≡ o → cond b (report s Assignment None VerifyError) (and_then (λ a. report s Assignment (Some a) VerifyError) o) ≡ Some f → loads O s.class ≡ true
+    go true h o q w = of_usable O s.class (of_kept O N s.class (both_first (is_kept O N s.class) (list_all (is_kept O N) xs) h))
+    go false h (Some a) q w = of_part O N a s.class (both_first (takes_part O N a s.class) (list_all (takes_part O N a) xs) (first_seat-passes O N test a q))
+    go false h None q w = absurd (cc)
+
+by_needs : (O N : World) (s : Subject) (k : Option Key) (t : Option Bytes) → Needs (loads O s.class ≡ true) (finding_by O N s k t)
 unfolding class_gone class_closed interface_became_class superclass_lost method_made_final field_closed method_closed interface_method_lost constructor_closed
 by_needs O N s None None =
-    either_needs P (s.rule == 1) (class_gone O N s) _ (cond_needs P _ _ (λ h. both_first (is_class_usable O s.class) (not (is_class_usable N s.class)) h))
-    (either_needs P (s.rule == 2) (class_closed O N s) _ (cond_needs P _ _ (λ h. of_closed O N s.class h))
-    (either_needs P (s.rule == 3) (interface_became_class O N s) None (cond_needs P _ _ (λ h. of_became O N s.class h)) (none_needs _ P)))
+    either_needs P (s.rule == 1) (class_gone O N s) _ (cond_needs P _ _ (λ h. of_usable O s.class (both_first (is_class_usable O s.class) (not (is_class_usable N s.class)) h)))
+    (either_needs P (s.rule == 2) (class_closed O N s) _ (cond_needs P _ _ (λ h. of_usable O s.class (of_closed O N s.class h)))
+    (either_needs P (s.rule == 3) (interface_became_class O N s) None (either_needs P (is_interface_of O s.class && not (is_interface_of N s.class)) _ None (assign_needs O N s []) (none_needs _ P)) (none_needs _ P)))
   where
     P : Type 0
-    P = is_class_usable O s.class ≡ true
+    P = loads O s.class ≡ true
 by_needs O N s None (Some t) =
     either_needs P (s.rule == 4) (superclass_lost O N s t) None
-    (cond_needs P (is_kept O N s.class && is_kept O N t && in_chain O s.class t && not (in_chain N s.class t) && not (is_interface_of N t)) _ (λ h. of_kept O N s.class (first_of_five (is_kept O N s.class) (is_kept O N t) (in_chain O s.class t) (not (in_chain N s.class t)) (not (is_interface_of N t)) h)))
+    (either_needs P (not (same s.class t) && in_chain O s.class t && not (in_chain N s.class t) && not (is_interface_of N t)) _ None (assign_needs O N s (t ∷ [])) (none_needs _ P))
     (none_needs _ P)
   where
     P : Type 0
-    P = is_class_usable O s.class ≡ true
+    P = loads O s.class ≡ true
 by_needs O N s (Some k) None =
     either_needs P (s.rule == 5) (constructor_closed O N s k) _ (or_else_needs P _ _
-    (and_then_needs P _ _ (new_error N s.class k) (λ h. of_steady O N s.class (both_first (is_steady O N s.class) _ (both_first (is_steady O N s.class && _) (had_init O s.class k _) h))))
-    (and_then_needs P _ _ (init_error N s.class k) (λ h. of_base O N s.class (both_first (is_base_class O N s.class) _ h))))
-    (either_needs P (s.rule == 6) (method_made_final O N s k) _ (cond_needs P (is_key_of_method k && is_base_class O N s.class && is_final_in_chain N s.class k && not (is_final_in_chain O s.class k) && finds_overridable O s.class k) _ (λ h. of_base O N s.class (second_of_five (is_key_of_method k) (is_base_class O N s.class) (is_final_in_chain N s.class k) (not (is_final_in_chain O s.class k)) (finds_overridable O s.class k) h)))
-    (either_needs P (s.rule == 7) (field_closed O N s k) _ (cond_needs P _ _ (λ h. of_steady O N s.class h))
-    (either_needs P (s.rule == 8) (method_closed O N s k) _ (cond_needs P _ _ (λ h. of_steady O N s.class (both_last (is_key_of_method k) (is_steady O N s.class) h)))
-    (either_needs P (s.rule == 9) (interface_method_lost O N s k) None (cond_needs P (is_key_of_method k && is_base_interface O N s.class && inherits O s.class k && not (inherits N s.class k) && is_none (public_method_of_object O k)) _ (λ h. of_base_interface O N s.class (second_of_five (is_key_of_method k) (is_base_interface O N s.class) (inherits O s.class k) (not (inherits N s.class k)) (is_none (public_method_of_object O k)) h))) (none_needs _ P)))))
+    (and_then_needs P _ _ (new_error N s.class k) (λ h. of_usable O s.class (of_steady O N s.class (both_first (is_steady O N s.class) _ (both_first (is_steady O N s.class && _) (had_init O s.class k _) h)))))
+    (and_then_needs P _ _ (init_error N s.class k) (λ h. of_usable O s.class (of_base O N s.class (both_first (is_base_class O N s.class) _ h)))))
+    (either_needs P (s.rule == 6) (method_made_final O N s k) _ (cond_needs P (is_key_of_method k && is_base_class O N s.class && is_final_in_chain N s.class k && not (is_final_in_chain O s.class k) && finds_overridable O s.class k) _ (λ h. of_usable O s.class (of_base O N s.class (second_of_five (is_key_of_method k) (is_base_class O N s.class) (is_final_in_chain N s.class k) (not (is_final_in_chain O s.class k)) (finds_overridable O s.class k) h))))
+    (either_needs P (s.rule == 7) (field_closed O N s k) _ (cond_needs P _ _ (λ h. of_usable O s.class (of_steady O N s.class h)))
+    (either_needs P (s.rule == 8) (method_closed O N s k) _ (cond_needs P _ _ (λ h. of_usable O s.class (of_steady O N s.class (both_last (is_key_of_method k) (is_steady O N s.class) h))))
+    (either_needs P (s.rule == 9) (interface_method_lost O N s k) None (cond_needs P (is_key_of_method k && is_base_interface O N s.class && inherits O s.class k && not (inherits N s.class k) && is_none (public_method_of_object O k)) _ (λ h. of_usable O s.class (of_base_interface O N s.class (second_of_five (is_key_of_method k) (is_base_interface O N s.class) (inherits O s.class k) (not (inherits N s.class k)) (is_none (public_method_of_object O k)) h)))) (none_needs _ P)))))
   where
     P : Type 0
-    P = is_class_usable O s.class ≡ true
-by_needs O N s (Some k) (Some t) = none_needs Finding (is_class_usable O s.class ≡ true)
+    P = loads O s.class ≡ true
+by_needs O N s (Some k) (Some t) = none_needs Finding (loads O s.class ≡ true)
 
-pub findings_are_of_usable : FindingsAreOfUsable
+pub findings_are_of_loaded : FindingsAreOfLoaded
 unfolding finding_at Needs
-findings_are_of_usable O N s f e = by_needs O N s s.key s.target f e
+findings_are_of_loaded O N s f e = by_needs O N s s.key s.target f e
 
 pub collisions_are_of_usable : CollisionsAreOfUsable
 unfolding collision_at constant_added capture_added final_added Needs

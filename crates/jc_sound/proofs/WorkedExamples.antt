@@ -8,9 +8,9 @@ use Rattle.jc_facts.specs.declared.act.Act.TheVariants.{ClassRef, Extend, Implem
 use Rattle.jc_facts.specs.declared.link_error.LinkError.TheVariants.{NoClassDefFoundError, ClassCircularityError, IllegalAccessError, IncompatibleClassChangeError, NoSuchFieldError, NoSuchMethodError, VerifyError}
 use Rattle.jc_facts.specs.declared.verdict.Note.TheVariants.{Unloadable}
 use Rattle.jc_facts.specs.Names.{Bytes, object_name}
-use Rattle.jc_facts.specs.world.World.{World, side}
+use Rattle.jc_facts.specs.world.World.{World, Several, side, side_in}
 use Rattle.jc_facts.specs.rule.Collisions.{made_collision}
-use Rattle.jc_sound.proofs.Examples.{computes, member, init, key, a_class, extending, public_class, plain, public_interface, sealed_interface, over, finding, finding_to, finding_of, finding_from, Finds, ascii}
+use Rattle.jc_sound.proofs.Examples.{computes, object, member, init, key, a_class, extending, public_class, plain, public_interface, sealed_interface, over, finding, finding_to, finding_of, finding_from, exposed_finding, Finds, ascii}
 
 abbrev p_A : Bytes
 p_A = codes "p/A"
@@ -147,6 +147,63 @@ interface_became_a_class : Finds (over (public_interface p_I [] [] [] ∷ [])) (
     (finding 3 p_I Assignment VerifyError ∷ []) [] []
 unfolding computes
 interface_became_a_class = (refl, refl, refl)
+
+-- p/A exposes the hidden class p/S, whose superclass left its chain
+abbrev hidden_class : Bytes → Bytes → ClassFacts
+hidden_class x y = a_class x 0x20 (Some y) [] [] (init 1 ∷ [])
+
+abbrev exposes_S : ClassFacts
+exposes_S = public_class p_A [] (member (codes "s") (codes "()Lp/S;") 9 ∷ member (codes "b") (codes "(Lp/B;)V") 9 ∷ [])
+
+hidden_superclass_left : Finds (over (hidden_class p_B object_name ∷ hidden_class p_S p_B ∷ exposes_S ∷ [])) (over (hidden_class p_B object_name ∷ hidden_class p_S object_name ∷ exposes_S ∷ []))
+    (exposed_finding 4 p_S (Some p_B) object_name VerifyError ∷ []) [] []
+unfolding computes
+hidden_superclass_left = (refl, refl, refl)
+
+abbrev exposes_I : ClassFacts
+exposes_I = public_class p_A [] (member (codes "i") (codes "()Lp/I;") 9 ∷ [])
+
+hidden_interface_became_a_class : Finds (over (a_class p_I 0x600 (Some object_name) [] [] [] ∷ exposes_I ∷ [])) (over (hidden_class p_I object_name ∷ exposes_I ∷ []))
+    (exposed_finding 3 p_I None object_name VerifyError ∷ []) [] []
+unfolding computes
+hidden_interface_became_a_class = (refl, refl, refl)
+
+-- p/A exposes the hidden class p/S by an array of it, and p/S is gone: its chain is empty now, so it has left java/lang/Object too
+abbrev with_arrays : ℕ → ClassFacts
+with_arrays flags = public_class p_A [] (member (codes "s") (codes "()[[Lp/S;") flags ∷ [])
+
+hidden_class_gone : Finds (over (hidden_class p_S object_name ∷ with_arrays 9 ∷ [])) (over (with_arrays 9 ∷ [])) (exposed_finding 4 p_S (Some object_name) object_name VerifyError ∷ []) [] []
+unfolding computes
+hidden_class_gone = (refl, refl, refl)
+
+-- by a method that only its package can call
+closed_member : Finds (over (hidden_class p_S object_name ∷ with_arrays 8 ∷ [])) (over (with_arrays 8 ∷ [])) [] [] []
+unfolding computes
+closed_member = (refl, refl, refl)
+
+-- the release is a module that exports p alone, so the public classes q/B and q/S are hidden; p/A exposes them, and q/S has another superclass now
+abbrev modular : List Bytes → List ClassFacts → World
+modular exports release = side_in (Several (Some exports)) (object ∷ []) release
+
+abbrev q_B : Bytes
+q_B = codes "q/B"
+
+abbrev q_S : Bytes
+q_S = codes "q/S"
+
+abbrev exposes_q_S : ClassFacts
+exposes_q_S = public_class p_A [] (member (codes "s") (codes "()Lq/S;") 9 ∷ member (codes "b") (codes "(Lq/B;)V") 9 ∷ [])
+
+unexported_superclass_left : Finds (modular (codes "p" ∷ []) (plain q_B ∷ extending q_S q_B [] [] ∷ exposes_q_S ∷ [])) (modular (codes "p" ∷ []) (plain q_B ∷ plain q_S ∷ exposes_q_S ∷ []))
+    (exposed_finding 4 q_S (Some q_B) object_name VerifyError ∷ []) [] []
+unfolding computes
+unexported_superclass_left = (refl, refl, refl)
+
+-- the package isn't exported any more
+export_lost : Finds (modular (codes "p" ∷ codes "q" ∷ []) (plain q_S ∷ plain p_A ∷ [])) (modular (codes "p" ∷ []) (plain q_S ∷ plain p_A ∷ []))
+    (finding 1 q_S ClassRef IllegalAccessError ∷ []) [] []
+unfolding computes
+export_lost = (refl, refl, refl)
 
 field_made_final : Finds (over (public_class p_A (f_I 1 ∷ []) [] ∷ [])) (over (public_class p_A (f_I 0x11 ∷ []) [] ∷ []))
     (finding_from 7 p_A f_key PutField object_name IllegalAccessError ∷ []) [] []

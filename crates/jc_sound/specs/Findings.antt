@@ -9,6 +9,7 @@ use Rattle.jc_facts.specs.declared.verdict.Verdict.{Verdict}
 use Rattle.jc_facts.specs.Names.{Bytes}
 use Rattle.jc_facts.specs.world.World.{World, find_class, own_field_of, own_method_of}
 use Rattle.jc_facts.specs.world.Pairs.{IsPair}
+use Rattle.jc_facts.specs.world.Loading.{loads}
 use Rattle.jc_facts.specs.file.Valid.{IsValidClass}
 use Rattle.jc_facts.specs.rule.Findings.{Subject, finding_at, subject_of}
 use Rattle.jc_facts.specs.rule.Collisions.{constant_added, capture_added, final_added, collision_at}
@@ -21,11 +22,11 @@ use Rattle.jc_worlds.specs.Hierarchy.{above}
 abbrev pub FindingIsOnItsSubject : Type 0
 FindingIsOnItsSubject = (O N : World) (s : Subject) (f : Finding) → finding_at O N s ≡ Some f → subject_of f ≡ s
 
--- the class of a finding was usable on the old side
-abbrev pub FindingsAreOfUsable : Type 0
-FindingsAreOfUsable = (O N : World) (s : Subject) (f : Finding) → finding_at O N s ≡ Some f → is_class_usable O s.class ≡ true
+-- the class of a finding loads with the old side
+abbrev pub FindingsAreOfLoaded : Type 0
+FindingsAreOfLoaded = (O N : World) (s : Subject) (f : Finding) → finding_at O N s ≡ Some f → loads O s.class ≡ true
 
--- and so was the class of a collision
+-- the class of a collision was usable on the old side
 abbrev pub CollisionsAreOfUsable : Type 0
 CollisionsAreOfUsable = (O N : World) (rule : ℕ) (x : Bytes) (k : Key) (c : Collision) → collision_at O N rule x k ≡ Some c → is_class_usable O x ≡ true
 

@@ -1,2 +1,4 @@
 pub mod Findings
 pub mod Soundness
+pub mod Sight
+pub mod ExposedAbove

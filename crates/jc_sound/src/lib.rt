@@ -3,7 +3,9 @@
 //! Each law is the contract of a function that does nothing.
 #![tactic(auto)]
 
-ghost use Rattle.jc_sound.specs.Findings.{FindingIsOnItsSubject, FindingsAreOfUsable, CollisionsAreOfUsable, KeysAreDeclared, CollisionKeysAreDeclared, VerdictIsOne, EmptyMeansNone, NothingBreaksItself, ClassGoneBreaks};
+ghost use Rattle.jc_sound.specs.Findings.{FindingIsOnItsSubject, FindingsAreOfLoaded, CollisionsAreOfUsable, KeysAreDeclared, CollisionKeysAreDeclared, VerdictIsOne, EmptyMeansNone, NothingBreaksItself, ClassGoneBreaks};
+ghost use Rattle.jc_sound.specs.ExposedAbove.{ExposedByKeysAbove};
+ghost use Rattle.jc_sound.specs.Sight.{ReachIsInSight, SoundnessInSight};
 ghost use Rattle.jc_sound.specs.Soundness.{Soundness, SoundnessOfRules, TypesKept, FieldsKept, KeptWithoutMethods};
 
 /// There is at most one finding for each rule, class and key or target.
@@ -11,9 +13,9 @@ pub fn finding_is_on_its_subject()
     ensures { FindingIsOnItsSubject }
 {}
 
-/// The class of a finding was usable on the old side.
-pub fn findings_are_of_usable()
-    ensures { FindingsAreOfUsable }
+/// The class of a finding loads with the old side.
+pub fn findings_are_of_loaded()
+    ensures { FindingsAreOfLoaded }
 {}
 
 /// The class of a collision was usable on the old side.
@@ -61,6 +63,17 @@ pub fn rules_keep()
     ensures { SoundnessOfRules }
 {}
 
+/// Soundness of each item in sight of its client: each class that its types name loads, and the client may name it, or it is itself a client,
+/// or it is hidden and members expose it to the client's seat, whatever other items the client has.
+pub fn keeps_in_sight()
+    ensures { SoundnessInSight }
+{}
+
+/// What is in reach of a client is in sight of it, so that soundness in sight says more than soundness.
+pub fn reach_is_in_sight()
+    ensures { ReachIsInSight }
+{}
+
 /// Rules 1 to 4 keep loading, named classes and assignments of clients that declare no method to override by.
 pub fn types_kept()
     ensures { TypesKept }
@@ -74,4 +87,9 @@ pub fn fields_kept()
 /// All rules but rule 6 keep everything for such clients.
 pub fn kept_without_methods()
     ensures { KeptWithoutMethods }
+{}
+
+/// What exposes a hidden class is found among the keys that a usable class and those above it declare.
+pub fn exposed_by_keys_above()
+    ensures { ExposedByKeysAbove }
 {}

@@ -27,7 +27,7 @@ module _ (W : World) (clients : List ClassFacts) (bare : W.clients ≡ []) where
       class_named-front (W.platform ++ W.release) W.clients x (rw (bare, class_named) refl)
       ∙ sym (class_named-front (W.platform ++ W.release) clients x h)
 
-  size-grows : size W ≤ size V
+  pub size-grows : size W ≤ size V
   unfolding size
   size-grows = rw bare (omega (arith, length-append (W.platform ++ W.release) [], length-append (W.platform ++ W.release) clients))
 

@@ -58,7 +58,7 @@ outside W x h =
     let other : class_named W.release x ≡ None = sym (class_named-back W.platform W.release x one) ∙ two in
     rw (one, other) (with_clients_by W.modules)
 
--- what is in the module of the clients is visible, so that to a client what is visible is visible from there, and nothing else
+-- what is in the module of the clients is visible, so that from a client what is visible is visible from there, and nothing else
 clients_see : (m : Module) (e : Bool) → (same_module OfClients m || visible_by m e) ≡ visible_by m e
 clients_see OfPlatform e = refl
 clients_see OfRelease e = refl

@@ -4,8 +4,10 @@
 --     planned_for O N e      these clients and their spot
 -- U uses a class or calls a method. Y stands below the class in question, Z above Y, and J is an interface. Each row states the items that
 -- the bodies type to, in order: first the call of the superclass's initializer, then what the method `use` does. PlannedBodies has the bodies.
-use Rattle.std.specs.Prelude.{ℕ, Bool, true, false, cond, List, [], ◌∷◌, Option, None, Some, ◌==◌, codes}
+use Rattle.std.specs.Prelude.{ℕ, Bool, true, false, cond, List, [], ◌∷◌, ◌++◌, length, map, Option, None, Some, ◌==◌, ◌+◌, codes}
+use Rattle.std.specs.List.{cons_option}
 use Rattle.jc_desc.specs.Types.{class, TypeOf, method_text}
+use Rattle.jc_facts.specs.declared.member_act.MemberAct.{MemberAct}
 use Rattle.jc_facts.specs.declared.class_facts.Member.{Member}
 use Rattle.jc_facts.specs.declared.client.ClientClass.{ClientClass}
 use Rattle.jc_facts.specs.declared.client.Item.{Item}
@@ -27,6 +29,7 @@ use Rattle.jc_facts.specs.client.Acts.{Form, FieldForm, MethodForm, InterfaceFor
 use Rattle.jc_facts.specs.world.Lookup.{field_found, method_choices, interface_choices}
 use Rattle.jc_facts.specs.world.Assignment.{is_interface_of}
 use Rattle.jc_facts.specs.Options.{some_and}
+use Rattle.jc_facts.specs.rule.Exposed.{is_hidden, exposing_act}
 use Rattle.jc_facts.specs.ByName.{by_name}
 use Rattle.jc_facts.specs.plan.PlannedNames.{in_package, fresh_package, own_name, closed_name, constructor}
 
@@ -76,6 +79,10 @@ takes x = method_text (record { params = class_type x ∷ []; result = None })
 abbrev pub turns : Bytes → Bytes → Bytes
 turns s t = method_text (record { params = class_type s ∷ []; result = Some (class_type t) })
 
+-- the descriptor that takes an object of each of these classes and then an s, and returns a t
+abbrev pub turns_behind : List Bytes → Bytes → Bytes → Bytes
+turns_behind rs s t = method_text (record { params = map class_type (rs ++ s ∷ []); result = Some (class_type t) })
+
 -- public static use, of this descriptor
 abbrev pub use_method : Bytes → Member
 use_method descriptor = record { name = codes "use"; descriptor = descriptor; flags = 0x0009 }
@@ -118,7 +125,7 @@ names_above O N w c =
     let client = cond (is_interface_of O c) (a_class y 0x0021 object_name (codes "()V") (c ∷ []) [] [] []) (a_class y 0x0021 c (constructor O c) [] [] [] []) in
     record { clients = client ∷ []; name = y; spot = spot.Load }
 
--- H3, with java/lang/Object for s and the interface for t, and H4. U returns an s as a t; the item Assign fails
+-- H3, with java/lang/Object for s and the interface for t, and H4, without a seat. U returns an s as a t; the item Assign fails
 abbrev pub assigns : Bytes → Bytes → Bytes → Plan
 assigns w s t = record { clients = user w (turns s t) (item.Assign s t ∷ []) ∷ []; name = in_package w (codes "U"); spot = spot.Item 1 }
 
@@ -161,6 +168,44 @@ acts_from O N w c k what a =
     let descriptor = cond (is_act_on_static what) takes_nothing (takes r) in
     let i = act_item what c k (cond (is_act_on_static what) None (Some r)) in
     record { clients = a_class y 0x0021 a (constructor O a) [] [] (use_method descriptor ∷ []) (i ∷ []) ∷ []; name = y; spot = spot.Item 1 }
+
+-- ---- assignments of hidden classes, which members expose to clients
+
+-- the act that exposes the class x to the clients of the seat a, where it is hidden
+abbrev pub acts_exposing : World → Bytes → Bytes → List MemberAct
+acts_exposing O a x = cond (is_hidden O x) (cons_option (exposing_act O a x) []) []
+
+-- the receiver that an exposing act of the client y takes, and the receivers of several
+abbrev pub receiver_exposed : World → Bytes → MemberAct → Bytes
+receiver_exposed O y s = receiver_for O s.act s.«class» s.key y
+
+abbrev pub receivers_exposed : World → Bytes → List MemberAct → List Bytes
+receivers_exposed O y [] = []
+receivers_exposed O y (s ∷ ss) = cond (is_act_on_static s.act) (receivers_exposed O y ss) (receiver_exposed O y s ∷ receivers_exposed O y ss)
+
+-- the item of an exposing act
+abbrev pub item_exposed : World → Bytes → MemberAct → Item
+item_exposed O y s = act_item s.act s.«class» s.key (cond (is_act_on_static s.act) None (Some (receiver_exposed O y s)))
+
+-- Y extends the seat a, takes each of these acts, and then returns an s as a t; its last item, the Assign, fails
+abbrev pub assigns_behind : World → World → Bytes → List MemberAct → Bytes → Bytes → Bytes → Plan
+assigns_behind O N w acts s t a =
+    let y = own_name O N (in_package w (codes "Y")) a in
+    let d = turns_behind (receivers_exposed O y acts) s t in
+    record {
+      clients = a_class y 0x0021 a (constructor O a) [] [] (use_method d ∷ []) (map (item_exposed O y) acts ++ item.Assign s t ∷ []) ∷ [];
+      name = y;
+      spot = spot.Item (length acts + 1);
+    }
+
+-- H3 and H4 with a seat: those of s and t that are hidden are exposed first, s before t
+abbrev pub assigns_exposed : World → World → Bytes → Bytes → Bytes → Bytes → Plan
+assigns_exposed O N w s t a = assigns_behind O N w (acts_exposing O a s ++ acts_exposing O a t) s t a
+
+-- H3 and H4, with a seat or without
+abbrev pub assigns_from : World → World → Bytes → Bytes → Bytes → Option Bytes → Plan
+assigns_from O N w s t None = assigns w s t
+assigns_from O N w s t (Some a) = assigns_exposed O N w s t a
 
 -- H9. J extends the interface, and U calls the key on J; the item Access of U fails
 abbrev pub calls_inherited : World → World → Bytes → Bytes → Key → Plan
@@ -209,8 +254,8 @@ member_plan O N w f k None =
 
 -- of a finding with this key and this target: of a rule on classes alone, H4, or a rule on members
 abbrev pub finding_plan : World → World → Bytes → Finding → Option Key → Option Bytes → Plan
-finding_plan O N w f None None = cond (f.rule == 1) (names_class w f.«class») (cond (f.rule == 2) (names_above O N w f.«class») (assigns w object_name f.«class»))
-finding_plan O N w f None (Some t) = assigns w f.«class» t
+finding_plan O N w f None None = cond (f.rule == 1) (names_class w f.«class») (cond (f.rule == 2) (names_above O N w f.«class») (assigns_from O N w object_name f.«class» f.seat))
+finding_plan O N w f None (Some t) = assigns_from O N w f.«class» t f.seat
 finding_plan O N w f (Some k) None = member_plan O N w f k f.seat
 finding_plan O N w f (Some k) (Some t) = no_plan
 

@@ -1,9 +1,10 @@
 -- The bodies of the planned clients' methods, and the class files to be written.
 --     plan_bodies O N w e      for each client of the plan of this cause, a body or none for each of its methods
 --     planned_files O N e      the class files of the planned clients, in the same order
-use Rattle.std.specs.Prelude.{ℕ, cond, codes, List, [], ◌∷◌, ◌++◌, Option, None, Some, ◌==◌, if◌then◌else◌}
+use Rattle.std.specs.Prelude.{ℕ, ◌+◌, cond, codes, List, [], ◌∷◌, ◌++◌, Option, None, Some, ◌==◌, if◌then◌else◌}
 use Rattle.jc_desc.specs.Types.{Basic, double, float, long, class, TypeOf, Method, slots_of_type}
 use Rattle.jc_desc.specs.Reading.{field_of, method_of}
+use Rattle.jc_facts.specs.declared.member_act.MemberAct.{MemberAct}
 use Rattle.jc_facts.specs.declared.act.Act.{Act}
 use Rattle.jc_facts.specs.declared.act.Act.TheVariants as acts
 use Rattle.jc_facts.specs.declared.blueprint.Blueprint.{Blueprint}
@@ -23,7 +24,7 @@ use Rattle.jc_facts.specs.world.Assignment.{is_interface_of}
 use Rattle.jc_facts.specs.Names.{Bytes, object_name}
 use Rattle.jc_facts.specs.world.World.{World}
 use Rattle.jc_facts.specs.ByName.{by_name}
-use Rattle.jc_facts.specs.plan.Planned.{takes_nothing, is_new_object, plan}
+use Rattle.jc_facts.specs.plan.Planned.{takes_nothing, is_new_object, acts_exposing, plan}
 use Rattle.jc_facts.specs.plan.PlannedNames.{constructor, fresh_package, own_name, in_package}
 
 -- a body or none for each method of a class
@@ -119,11 +120,21 @@ turn_steps = first_local ∷ steps.Return (Some kinds.Ref) ∷ []
 abbrev pub make_steps : Bytes → Bytes → List Step
 make_steps c d = steps.New c ∷ steps.Dup ∷ (zeros (params_of (method_of d)) ++ steps.Construct c d ∷ steps.Pop ∷ steps.Return None ∷ [])
 
--- the parameter as receiver where the act isn't static, zeros and nulls, the act on class and key, and its result popped
+-- the parameter of this number as receiver where the act isn't static, zeros and nulls, the act on class and key, its result popped,
+-- and then these
+abbrev pub acting_steps : ℕ → Act → Bytes → Key → List Step → List Step
+acting_steps n what c k rest =
+    cond (is_act_on_static what) [] (steps.Load kinds.Ref n ∷ [])
+    ++ (zeros (taken_by what k.descriptor) ++ steps.Member what c k ∷ (pops_of (given_by what k.descriptor) ++ rest))
+
+-- an act alone
 abbrev pub act_steps : Act → Bytes → Key → List Step
-act_steps what c k =
-    cond (is_act_on_static what) [] (first_local ∷ [])
-    ++ (zeros (taken_by what k.descriptor) ++ steps.Member what c k ∷ (pops_of (given_by what k.descriptor) ++ steps.Return None ∷ []))
+act_steps what c k = acting_steps 0 what c k (steps.Return None ∷ [])
+
+-- exposing acts, whose receivers are the parameters from number n on, and the parameter behind them returned
+abbrev pub exposed_steps : ℕ → List MemberAct → List Step
+exposed_steps n [] = steps.Load kinds.Ref n ∷ steps.Return (Some kinds.Ref) ∷ []
+exposed_steps n (s ∷ ss) = acting_steps n s.act s.«class» s.key (exposed_steps (cond (is_act_on_static s.act) n (n + 1)) ss)
 
 -- ---- the rows
 
@@ -140,6 +151,14 @@ overrides_bodies O c = init_body c (constructor O c) ∷ None ∷ []
 
 abbrev pub acts_bodies : World → Bytes → Key → Act → Bytes → Bodies
 acts_bodies O c k what a = init_body a (constructor O a) ∷ body_of (act_steps what c k) ∷ []
+
+abbrev pub exposed_bodies : World → Bytes → Bytes → Bytes → Bodies
+exposed_bodies O s t a = init_body a (constructor O a) ∷ body_of (exposed_steps 0 (acts_exposing O a s ++ acts_exposing O a t)) ∷ []
+
+-- of U, or of Y where there is a seat
+abbrev pub assigns_bodies : World → Bytes → Bytes → Option Bytes → Bodies
+assigns_bodies O s t None = user_bodies turn_steps
+assigns_bodies O s t (Some a) = exposed_bodies O s t a
 
 -- of J, which has no method of its own, and of U
 abbrev pub inherited_bodies : World → World → Bytes → Bytes → Key → List Bodies
@@ -162,8 +181,8 @@ member_bodies O N w f k None =
     (cond (f.rule == 6) (overrides_bodies O f.«class» ∷ []) (inherited_bodies O N w f.«class» k))
 
 abbrev pub finding_bodies : World → World → Bytes → Finding → Option Key → Option Bytes → List Bodies
-finding_bodies O N w f None None = cond (f.rule == 1) (user_bodies (cast_steps f.«class») ∷ []) (cond (f.rule == 2) (above_bodies O f.«class» ∷ []) (user_bodies turn_steps ∷ []))
-finding_bodies O N w f None (Some t) = user_bodies turn_steps ∷ []
+finding_bodies O N w f None None = cond (f.rule == 1) (user_bodies (cast_steps f.«class») ∷ []) (cond (f.rule == 2) (above_bodies O f.«class» ∷ []) (assigns_bodies O object_name f.«class» f.seat ∷ []))
+finding_bodies O N w f None (Some t) = assigns_bodies O f.«class» t f.seat ∷ []
 finding_bodies O N w f (Some k) None = member_bodies O N w f k f.seat
 finding_bodies O N w f (Some k) (Some t) = []
 

@@ -2,6 +2,7 @@
 --     finding_at O N s      the finding of a rule on a subject, none where the rule does not stand there
 --     Stands O N f      f is the finding on its subject
 use Rattle.std.specs.Prelude.{ℕ, Bool, false, not, cond, List, [], ◌∷◌, Option, None, Some, is_some, is_none, ◌==◌, ◌||◌, ◌&&◌, ◌≡◌}
+use Rattle.std.specs.List.{list_all}
 use Rattle.jc_facts.specs.declared.class_facts.Member.{Member}
 use Rattle.jc_facts.specs.declared.key.Key.{Key}
 use Rattle.jc_facts.specs.declared.act.Act.{Act}
@@ -10,7 +11,7 @@ use Rattle.jc_facts.specs.declared.finding.Finding.{Finding}
 use Rattle.jc_facts.specs.declared.rule_numbers.TheConstants.{CLASS_GONE, CLASS_CLOSED, INTERFACE_BECAME_CLASS, SUPERCLASS_LOST, CONSTRUCTOR_CLOSED, METHOD_MADE_FINAL, FIELD_CLOSED, METHOD_CLOSED, INTERFACE_METHOD_LOST}
 use Rattle.jc_facts.specs.declared.link_error.LinkError.{LinkError}
 use Rattle.jc_facts.specs.declared.link_error.LinkError.TheVariants.{IllegalAccessError, IncompatibleClassChangeError, NoSuchMethodError, InstantiationError, VerifyError}
-use Rattle.jc_facts.specs.Names.{Bytes}
+use Rattle.jc_facts.specs.Names.{Bytes, same}
 use Rattle.jc_desc.specs.Names.{is_init_name}
 use Rattle.jc_facts.specs.Flags.{public_flag, no_static_flag, interface_flag, abstract_flag}
 use Rattle.jc_facts.specs.Options.{or_else, and_then, some_and}
@@ -19,8 +20,9 @@ use Rattle.jc_facts.specs.world.Hierarchy.{in_chain}
 use Rattle.jc_facts.specs.world.Loading.{load_fault, fault_where}
 use Rattle.jc_facts.specs.world.Lookup.{method_choices, public_method_of_object}
 use Rattle.jc_facts.specs.world.Assignment.{is_interface_of}
-use Rattle.jc_facts.specs.rule.Bases.{class_is, is_class_usable, is_kept, became_class, is_steady, public_or_protected, is_class_closed, is_base_class, is_base_interface, is_key_of_method, is_final_in_chain, inherits}
+use Rattle.jc_facts.specs.rule.Bases.{class_is, is_class_usable, is_kept, is_steady, public_or_protected, is_class_closed, is_base_class, is_base_interface, is_key_of_method, is_final_in_chain, inherits}
 use Rattle.jc_facts.specs.rule.OpenActs.{closed_act, first_seat, field_acts, method_acts}
+use Rattle.jc_facts.specs.rule.Exposed.{is_exposed}
 
 -- a rule, and the class and the key or the target of which it speaks
 pub record Subject : Type 0 where
@@ -90,6 +92,18 @@ unfoldable pub first_act : World → World → Subject → Key → List Act → 
 first_act O N s k [] = None
 first_act O N s k (a ∷ rest) = or_else (act_finding O N s k a) (first_act O N s k rest)
 
+-- ---- assignment
+
+-- the class is kept, or it is hidden and a member exposes it to the clients of the seat a
+abbrev pub takes_part : World → World → Bytes → Bytes → Bool
+takes_part O N a x = is_kept O N x || is_exposed O a x
+
+-- the finding on an assignment in which these classes take part: of kept ones without a seat, else with the first seat to which each of them
+-- that is hidden is exposed
+unfoldable pub assign_finding : World → World → Subject → List Bytes → Option Finding
+assign_finding O N s xs = cond (list_all (is_kept O N) xs) (report s act.Assignment None VerifyError)
+    (and_then (λ a. report s act.Assignment (Some a) VerifyError) (first_seat O N (λ a. list_all (takes_part O N a) xs)))
+
 -- ---- overriding
 
 -- the first of the list is there and passes
@@ -111,13 +125,14 @@ class_gone O N s = report_where (is_class_usable O s.class && not (is_class_usab
 unfoldable pub class_closed : World → World → Subject → Option Finding
 class_closed O N s = report_where (is_class_closed O N s.class) s (cond (is_interface_of O s.class) act.Implement act.Extend) IncompatibleClassChangeError
 
--- a kept class was an interface and isn't one
+-- a class that is kept, or hidden and exposed, was an interface and isn't one on the new side, where a hidden one may be absent
 unfoldable pub interface_became_class : World → World → Subject → Option Finding
-interface_became_class O N s = report_where (became_class O N s.class) s act.Assignment VerifyError
+interface_became_class O N s = cond (is_interface_of O s.class && not (is_interface_of N s.class)) (assign_finding O N s (s.class ∷ [])) None
 
--- a kept class has the kept class t in its old chain and not in its new one, and t isn't an interface now
+-- a class has another one, t, in its old chain and not in its new one, and t isn't an interface now; each is kept, or hidden and exposed
 unfoldable pub superclass_lost : World → World → Subject → Bytes → Option Finding
-superclass_lost O N s t = report_where (is_kept O N s.class && is_kept O N t && in_chain O s.class t && not (in_chain N s.class t) && not (is_interface_of N t)) s act.Assignment VerifyError
+superclass_lost O N s t = cond (not (same s.class t) && in_chain O s.class t && not (in_chain N s.class t) && not (is_interface_of N t))
+    (assign_finding O N s (s.class ∷ t ∷ [])) None
 
 -- an initializer of a steady class can't be used by `new` now, or one of a base class by its subclasses
 unfoldable pub constructor_closed : World → World → Subject → Key → Option Finding

@@ -1,0 +1,8 @@
+pub mod Parts
+pub mod Walked
+pub mod Concrete
+pub mod ChainKinds
+pub mod Goods
+pub mod Selected
+pub mod SelectionLaw
+pub mod WorkedWarnings
