@@ -1,17 +1,18 @@
 pub mod SeatChains
-mod SameRecords
+pub mod SameRecords
 mod Changed
-mod SetFlags
+pub mod SetFlags
 mod SetAbove
 mod UsedAt
-mod Firsts
+pub mod Firsts
 mod LookedUp
 mod Steps
 mod Upwards
 mod Narrowed
 mod BothLooked
 mod Roots
-mod Losses
+pub mod Losses
+pub mod LostChains
 pub mod Untouched
 mod Beside
 mod Wider

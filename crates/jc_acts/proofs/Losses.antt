@@ -31,7 +31,7 @@ module _ (W : World) (y : Bytes) where
           by false q None k = absurd (let z : false ≡ true = k in cc)
           by false q (Some s) k = r s k
 
-chain_there : (W : World) (x y : Bytes) → in_chain W x y ≡ true → is_some (find_class W y) ≡ true
+pub chain_there : (W : World) (x y : Bytes) → in_chain W x y ≡ true → is_some (find_class W y) ≡ true
 unfolding chain
 chain_there W x y h = up_there W y (size W) x h
 

@@ -1,5 +1,5 @@
 -- Records are equal exactly where the test of them passes.
-use Rattle.std.proofs.Common.{◌≡◌, ◌==◌, ◌&&◌, Bool, true, refl, ap, subst, Option, Some, None}
+use Rattle.std.proofs.Common.{◌≡◌, ◌==◌, ◌&&◌, Bool, true, List, refl, ap, subst, Option, Some, None}
 use Rattle.std.specs.Cmp.Lexicographic.{pointwise, pointwise_decides}
 use Rattle.std.specs.Option.{option_eq}
 use Rattle.std.proofs.lemmas.Bool.{and_parts, and_from, eqb-true, eq-eqb}
@@ -70,6 +70,10 @@ members = tells same_member is itself
     itself m =
         and_from (same m.name m.name && same m.descriptor m.descriptor) (m.flags == m.flags) (and_from (same m.name m.name) (same m.descriptor m.descriptor) ((names m.name m.name).1 refl) ((names m.descriptor m.descriptor).1 refl))
         (eq-eqb m.flags m.flags refl)
+
+-- members that are the same one by one are one list
+pub same_members : (ms ns : List Member) → pointwise same_member ms ns ≡ true → ms ≡ ns
+same_members ms ns h = (lists same_member members ms ns).0 h
 
 values : Tells same_constant
 values = tells same_constant is itself

@@ -1,8 +1,8 @@
 -- Where no class above x changed or left a chain, and x loads on both sides, lookups from x find the same on both, and no act on its members is
 -- closed. That x loads on the new side doesn't follow: the records are the same, but what they name may be visible no more.
-use Rattle.std.proofs.Common.{◌≡◌, Bool, true, false, not, cond, List, [], ◌∷◌, ◌++◌, refl, sym, ◌∙◌, ap, subst, Option, Some, None, is_some, is_none, ◌||◌, ◌&&◌}
+use Rattle.std.proofs.Common.{◌≡◌, Bool, true, false, not, cond, List, [], ◌∷◌, ◌++◌, refl, sym, ◌∙◌, ap, subst, Option, Some, None, is_some, is_none, ◌||◌, ◌&&◌, ◌⊎◌, inl, inr}
 use Rattle.std.specs.List.{list_any, filter, Contains}
-use Rattle.std.proofs.lemmas.Bool.{and_parts, and_from}
+use Rattle.std.proofs.lemmas.Bool.{and_parts, and_from, or_cases}
 use Rattle.std.proofs.lemmas.List.Elements.{All-from_recursion, filter-append}
 use Rattle.std.proofs.lemmas.List.Folds.{list_any-append}
 use Rattle.jc_facts.specs.declared.act.Act.{Act}
@@ -15,7 +15,7 @@ use Rattle.jc_facts.specs.Options.{some_and}
 use Rattle.jc_facts.specs.world.World.{World, classes, find_class, class_named, DeclaredMember}
 use Rattle.jc_facts.specs.world.Modules.{module_by, module_of, same_module, in_same_module, is_exported, visible_by, is_visible}
 use Rattle.jc_facts.specs.world.Search.{supers, supers_of}
-use Rattle.jc_facts.specs.world.Hierarchy.{chain, each, in_chain, interfaces_of, of_super, superinterfaces, with_interfaces}
+use Rattle.jc_facts.specs.world.Hierarchy.{chain, each, in_chain, interfaces_of, of_super, superinterfaces, with_interfaces, is_superinterface, names_in}
 use Rattle.jc_facts.specs.world.Loading.{load_fault, loads}
 use Rattle.jc_facts.specs.world.Lookup.{method_choices, interface_choices}
 use Rattle.jc_facts.specs.world.Assignment.{is_interface_of}
@@ -23,16 +23,17 @@ use Rattle.jc_facts.specs.client.Acts.{Form, FieldForm, MethodForm, InterfaceFor
 use Rattle.jc_facts.specs.rule.OpenActs.{act_fault, where_open}
 use Rattle.jc_facts.specs.rule.Bases.{is_steady}
 use Rattle.jc_facts.proofs.Hierarchy.{any_each}
-use Rattle.jc_facts.proofs.Same.{same_is}
+use Rattle.jc_facts.proofs.Same.{same_is, same_itself}
 use Rattle.jc_facts.proofs.World.{find-name}
 use Rattle.jc_lemmas.proofs.Bools.{and_not, imply, neither_first, neither_last, not_true}
 use Rattle.jc_lemmas.proofs.Options.{none_from}
-use Rattle.jc_lemmas.proofs.Listed.{EachOf, EachOf-both, any_passes, each_from, each_of, not_any}
+use Rattle.jc_lemmas.proofs.Listed.{EachOf, EachOf-both, any_has, any_none, any_passes, each_from, each_of, not_any}
 use Rattle.jc_worlds.specs.Agreement.{AgreeOn, LooksTheSame, ModulesAgreeOn}
 use Rattle.jc_worlds.specs.Hierarchy.{above}
 use Rattle.jc_worlds.proofs.AgreementLaw.{worlds_agree}
 use Rattle.jc_worlds.proofs.Bare.{bare_loads, bare_chain, bare_interfaces, has_root}
 use Rattle.jc_worlds.proofs.FieldActs.{field_found-declared}
+use Rattle.jc_worlds.proofs.Leads.{passes_on}
 use Rattle.jc_worlds.proofs.Loaded.{loads-parts, loads-found}
 use Rattle.jc_worlds.proofs.Locality.{of_interfaces}
 use Rattle.jc_worlds.proofs.Unrolled.{with_interfaces-unroll}
@@ -40,6 +41,7 @@ use Rattle.jc_worlds.proofs.ValidFacts.{superclass_fits, fit_of}
 use Rattle.jc_sound.proofs.MethodLooked.{looked-declared}
 use Rattle.jc_sound.proofs.Looked.{looked, head_of, look_up-takes, look_up-from}
 use Rattle.jc_table.specs.Sides.{IsSide}
+use Rattle.jc_index.proofs.Strictly.{above_good}
 use Rattle.jc_field.proofs.Declared.{kinds}
 use Rattle.jc_table.proofs.Sides.{root_at, side_valid}
 use Rattle.jc_table.proofs.Numbers.{is_none-None}
@@ -314,6 +316,20 @@ module _ (s : SidesOf) (are : AreSides s) (x : Bytes) (free : may_be_closed s x 
     closed = (agree s.old so touched root).closed;
   }
 
+  -- an interface above it has no class above itself that changed or left a chain
+  interface_above : (y : Bytes) → is_superinterface s.old x y ≡ true → test y ≡ true
+  interface_above y h =
+      let g = above_good s.old x y loads_before h in
+      interface_clear s.old so touched root y g.0 g.1 (any_none (λ (c : ClassFacts). touched c.name) (with_interfaces s.old y) (each_from (λ (c : ClassFacts). touched c.name ≡ false) (with_interfaces s.old y) (λ d k.
+      let led : names_in (with_interfaces s.old y) d.name ≡ true = any_has (λ (c : ClassFacts). same c.name d.name) (with_interfaces s.old y) d k (same_itself d.name) in
+      let p = any_passes (λ (c : ClassFacts). same c.name d.name) (superinterfaces s.old x) (passes_on s.old x loads_before y d.name h led) in
+      ap touched (sym (same_is p.one.name d.name p.passes))
+      ∙ not_any (λ (c : ClassFacts). touched c.name) (superinterfaces s.old x) p.one (neither_last (list_any (λ (c : ClassFacts). touched c.name) (chain s.old x)) (list_any (λ (c : ClassFacts). touched c.name) (superinterfaces s.old x))
+      (sym (list_any-append (λ (c : ClassFacts). touched c.name) (chain s.old x) (superinterfaces s.old x)) ∙ none_touched)) p.is_in)))
+
+  above_same : (y : Bytes) → test y ≡ true → load_fault s.new y ≡ None → superinterfaces s.old y ≡ superinterfaces s.new y
+  above_same y h l = ((worlds_agree s.old s.new test both y h).2 (clear_parts s.old so touched root y h).loaded l).superinterfaces
+
   module _ (still : load_fault s.new x ≡ None) where
     looks_same : LooksTheSame s.old s.new x
     looks_same = (worlds_agree s.old s.new test both x it_is).2 loads_before still
@@ -363,3 +379,14 @@ one_record s are x free = (both s are x free).same x (it_is s are x free)
 -- a class of the platform is the same, whatever is above it
 pub platform_record : (s : SidesOf) → AreSides s → (x : Bytes) → is_some (class_named s.old.platform x) ≡ true → find_class s.old x ≡ find_class s.new x
 platform_record s are x h = same_found s x (sym (platform_same s are.platform x h))
+
+-- the class and each interface above it have the same superinterfaces on both sides
+pub above_alike : (s : SidesOf) → AreSides s → (x : Bytes) → may_be_closed s x ≡ false → load_fault s.new x ≡ None → (y : Bytes) → (same x y || is_superinterface s.old x y) ≡ true → superinterfaces s.old y ≡ superinterfaces s.new y
+above_alike s are x free still y h = go (or_cases (same x y) (is_superinterface s.old x y) h)
+  where
+    looks : superinterfaces s.old x ≡ superinterfaces s.new x
+    looks = (looks_same s are x free still).superinterfaces
+
+    go : (same x y ≡ true) ⊎ (is_superinterface s.old x y ≡ true) → superinterfaces s.old y ≡ superinterfaces s.new y
+    go (inl e) = subst (λ z. superinterfaces s.old z ≡ superinterfaces s.new z) (same_is x y e) looks
+    go (inr e) = above_same s are x free y (interface_above s are x free y e) (above_good s.new x y still (sym (ap (λ cs. names_in cs y) looks) ∙ e)).0

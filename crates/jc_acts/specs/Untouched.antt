@@ -1,5 +1,5 @@
 -- What holds of a class where neither it nor any above it changed or left the chain of a seat.
-use Rattle.std.specs.Prelude.{◌≡◌, Bool, true, false, None}
+use Rattle.std.specs.Prelude.{◌≡◌, true, false, None}
 use Rattle.jc_facts.specs.Names.{Bytes}
 use Rattle.jc_facts.specs.rule.Bases.{is_steady}
 use Rattle.jc_facts.specs.world.Loading.{load_fault}

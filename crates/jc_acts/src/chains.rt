@@ -63,9 +63,9 @@ pub(crate) fn is_met_or_above(table: &Table, class: ClassId, met: bool, name: &N
     met || has_above(table, class, name)
 }
 
-// Whether a class of the chain of the one class isn't in that of the other, by name. Mostly each
-// class stands as far up in the other chain, or one further, so that it is looked for there first.
-fn lacks_any(old: &Table, new: &Table, class: ClassId, other: ClassId) -> bool
+/// Whether a class of the chain of the one class isn't in that of the other, by name. Mostly each
+/// class stands as far up in the other chain, or one further, so that it is looked for there first.
+pub(crate) fn lacks_any(old: &Table, new: &Table, class: ClassId, other: ClassId) -> bool
     requires class { class < size old.now }
     requires other { other < size new.now }
     ensures { result ≡ list_any (λ c. not (in_chain new.now (name_at new.now other) c.name)) (chain old.now (name_at old.now class)) }
@@ -89,7 +89,7 @@ fn lacks_any(old: &Table, new: &Table, class: ClassId, other: ClassId) -> bool
 
 /// Whether a class of the class's chain on the old side isn't in its chain on the new side
 /// (JVMS 4.1). Where both chains have the same names, it takes time in proportion to their length.
-pub fn has_lost(sides: &Sides<'_>, class: &Shared<'_>) -> bool
+pub(crate) fn has_lost(sides: &Sides<'_>, class: &Shared<'_>) -> bool
     requires { IsShared sides.now «class».now }
     ensures { result ≡ loses_class sides.now (name_of «class».now) }
 {

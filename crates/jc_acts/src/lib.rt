@@ -2,12 +2,13 @@
 #![tactic(auto)]
 
 mod asked;
-pub mod chains;
+mod chains;
 pub mod closed_act;
 mod closing;
 mod commons;
 pub mod laws;
-mod lookup;
+pub mod lookup;
+pub mod lost;
 pub mod members;
 mod open;
 pub mod plain;

@@ -27,8 +27,15 @@ use jc_sides::sides::Sides;
 use jc_table::ids::ClassId;
 use jc_table::table::Table;
 
-// The error of the act on one side, for clients with the seat.
-fn fault_on(table: &Table, seat: ClassId, class: ClassId, key: &Key, act: Act) -> Option<LinkError>
+/// The error of the act on one side, for clients with the seat (JVMS 5.4.3, 5.4.4, 6.5); none where it is
+/// open to them.
+pub fn fault_on(
+    table: &Table,
+    seat: ClassId,
+    class: ClassId,
+    key: &Key,
+    act: Act,
+) -> Option<LinkError>
     requires side { IsSide table.now }
     requires seat { seat < size table.now }
     requires class { class < size table.now }

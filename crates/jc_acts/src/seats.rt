@@ -49,11 +49,14 @@ fn root<'a>(sides: &Sides<'a>) -> Shared<'a>
 }
 
 impl<'a> Seats<'a> {
-    ghost use Rattle.std.specs.Prelude.{◌≡◌, IfOk};
+    ghost use Rattle.std.specs.List.{All};
+    ghost use Rattle.std.specs.Prelude.{◌≡◌, ◌<◌, IfOk, map};
     ghost use Rattle.jc_facts.specs.rule.Bases.{is_base_class};
+    ghost use Rattle.jc_facts.specs.world.World.{size};
+    ghost use Rattle.jc_table.specs.Ids.{name_at};
     ghost use Rattle.jc_sides.specs.SharedOf.{AreThose, IsShared, name_of};
     ghost use Rattle.jc_sides.specs.SidesOf.{SidesOf};
-    ghost use Rattle.jc_acts.specs.Seats.{AreSeats, may_be_closed};
+    ghost use Rattle.jc_acts.specs.Seats.{AreSeats, all_seats, may_be_closed};
 
     /// The seats that these base classes make, with `java/lang/Object`.
     ///
@@ -82,6 +85,13 @@ impl<'a> Seats<'a> {
         })
     }
 
+    /// All of them: `java/lang/Object`, and then the base classes in byte order.
+    pub fn as_slice(&self) -> &[Shared<'a>]
+        ensures { (s : SidesOf) → AreSeats s self.now → (map name_of result.now ≡ all_seats s) × All (IsShared s) result.now }
+    {
+        self.all.as_slice()
+    }
+
     /// The base classes.
     pub fn bases(&self) -> &[Shared<'a>]
         ensures { (s : SidesOf) → AreSeats s self.now → AreThose (is_base_class s.old s.new) s result.now }
@@ -103,5 +113,14 @@ impl<'a> Seats<'a> {
         ensures { result ≡ may_be_closed _sides.now (name_of «class».now) }
     {
         self.closing[class.old.number() as usize]
+    }
+
+    /// The same of a class of the old side, which the new side may not have.
+    pub fn may_close_at(&self, _sides: &Sides<'_>, id: ClassId) -> bool
+        requires seats { AreSeats _sides.now self.now }
+        requires class { id < size _sides.now.old }
+        ensures { result ≡ may_be_closed _sides.now (name_at _sides.now.old id) }
+    {
+        self.closing[id.number() as usize]
     }
 }

@@ -48,8 +48,8 @@ fn changed(alloc: Global, sides: &Sides<'_>) -> Result<Vec<bool>, AllocError>
     Ok(flags)
 }
 
-// Sets the flag, where the test passed.
-fn set_where(flags: &mut Vec<bool>, n: usize, passes: bool)
+/// Sets the flag, where the test passed.
+pub(crate) fn set_where(flags: &mut Vec<bool>, n: usize, passes: bool)
     requires { n < length flags.old.items }
     ensures { flags.new.items ≡ cond passes (set flags.old.items n true) flags.old.items }
 {
@@ -68,9 +68,15 @@ fn is_set_or_above(table: &Table, other: ClassId, set: bool, met: bool, name: &N
     set || is_met_or_above(table, other, met, name)
 }
 
-// Sets the flags of the classes of the one chain that aren't in the other, by name. A class whose flag
-// is set isn't looked for; others mostly stand as far up in the other chain, or one further.
-fn set_left(old: &Table, new: &Table, flags: &mut Vec<bool>, class: ClassId, other: ClassId)
+/// Sets the flags of the classes of the one chain that aren't in the other, by name. A class whose flag
+/// is set isn't looked for; others mostly stand as far up in the other chain, or one further.
+pub(crate) fn set_left(
+    old: &Table,
+    new: &Table,
+    flags: &mut Vec<bool>,
+    class: ClassId,
+    other: ClassId,
+)
     requires class { class < size old.now }
     requires other { other < size new.now }
     requires flags { length flags.old.items ≡ size old.now }

@@ -19,6 +19,7 @@ use Rattle.jc_lemmas.proofs.Listed.{EachOf, EachOf-both, each_in, any_has, any_p
 use Rattle.jc_lemmas.proofs.Lists.{any_left, any_right, any_cases}
 use Rattle.jc_worlds.proofs.Above.{named_interface, named_interfaces, superinterfaces-each}
 use Rattle.jc_worlds.proofs.Interfaces.{above_is_one_step}
+use Rattle.jc_worlds.proofs.Leads.{passes_on}
 use Rattle.jc_worlds.proofs.Loaded.{loads-parts, loads-found, loads-induction}
 use Rattle.jc_worlds.proofs.Locality.{of_interfaces}
 use Rattle.jc_worlds.proofs.Offers.{superinterfaces-interface}
@@ -46,55 +47,6 @@ module _ (W : World) where
       subst IsGood (same_is p.one.name y p.passes)
       (each_in (λ c. IsGood c.name) (superinterfaces W x) p.one
       (superinterfaces-each W (λ c. IsGood c.name) (λ z c f l i. let n : z ≡ c.name = sym (find-name W z c f) in (subst (λ w. load_fault W w ≡ None) n l, subst (λ w. is_interface_of W w ≡ true) n (ap (some_and (λ d. interface_flag d.flags)) f ∙ i))) x h) p.is_in)
-
-  -- ---- what interfaces lead to
-
-  abbrev pub Leads : Bytes → Type 0
-  Leads x = (y z : Bytes) → names_in (with_interfaces W x) y ≡ true → names_in (with_interfaces W y) z ≡ true → names_in (with_interfaces W x) z ≡ true
-
-  pub leads_further : (x : Bytes) → load_fault W x ≡ None → Leads x
-  leads_further = loads-induction W Leads step
-    where
-      step : (x : Bytes) (c : ClassFacts) → find_class W x ≡ Some c → load_fault W x ≡ None → EachOf Leads (supers c) → Leads x
-      step x c f h r y z a b = go (or_cases (same c.name y) (list_any (λ i. names_in (with_interfaces W i) y) c.interfaces) (sym ((above_is_one_step W x y c f).1) ∙ a))
-        where
-          go : (same c.name y ≡ true) ⊎ (list_any (λ i. names_in (with_interfaces W i) y) c.interfaces ≡ true) → names_in (with_interfaces W x) z ≡ true
-          go (inl e) = subst (λ w. names_in (with_interfaces W w) z ≡ true) (sym (same_is c.name y e) ∙ find-name W x c f) b
-          go (inr e) =
-              let p = any_passes (λ i. names_in (with_interfaces W i) y) c.interfaces e in
-              let t : names_in (with_interfaces W p.one) z ≡ true = each_in Leads c.interfaces p.one (of_interfaces Leads c.superclass c.interfaces r) p.is_in y z p.passes b in
-              (above_is_one_step W x z c f).1 ∙ or_right (same c.name z) (list_any (λ i. names_in (with_interfaces W i) z) c.interfaces) (any_has (λ i. names_in (with_interfaces W i) z) c.interfaces p.one p.is_in t)
-
-  -- from a superinterface further up
-  abbrev pub Passes : Bytes → Type 0
-  Passes x = (y z : Bytes) → is_superinterface W x y ≡ true → names_in (with_interfaces W y) z ≡ true → is_superinterface W x z ≡ true
-
-  pub passes_on : (x : Bytes) → load_fault W x ≡ None → Passes x
-  unfolding interfaces_of superinterfaces
-  passes_on = loads-induction W Passes step
-    where
-      step : (x : Bytes) (c : ClassFacts) → find_class W x ≡ Some c → load_fault W x ≡ None → EachOf Passes (supers c) → Passes x
-      step x c f h r y z a b = ap (λ cs. names_in cs z) u ∙ go (any_cases (λ d. same d.name y) own up (sym (ap (λ cs. names_in cs y) u) ∙ a))
-        where
-          own : List ClassFacts
-          own = each (with_interfaces W) c.interfaces
-
-          up : List ClassFacts
-          up = interfaces_of W (of_super (chain W) c.superclass)
-
-          u : superinterfaces W x ≡ own ++ up
-          u = superinterfaces-unroll W x c f h
-
-          further : (s : Option Bytes) (is : List Bytes) → EachOf Passes (supers_of s is) → names_in (interfaces_of W (of_super (chain W) s)) y ≡ true → names_in (interfaces_of W (of_super (chain W) s)) z ≡ true
-          further None is p e = absurd (let clash : false ≡ true = e in cc)
-          further (Some s) is p e = p.0 y z e b
-
-          go : (names_in own y ≡ true) ⊎ (names_in up y ≡ true) → names_in (own ++ up) z ≡ true
-          go (inl e) =
-              let p = any_passes (λ i. names_in (with_interfaces W i) y) c.interfaces (sym (names_in-each (with_interfaces W) c.interfaces y) ∙ e) in
-              let t : names_in (with_interfaces W p.one) z ≡ true = leads_further p.one (each_in IsGood c.interfaces p.one (named_good x c f h) p.is_in).0 y z p.passes b in
-              any_left (λ d. same d.name z) own up (names_in-each (with_interfaces W) c.interfaces z ∙ any_has (λ i. names_in (with_interfaces W i) z) c.interfaces p.one p.is_in t)
-          go (inr e) = any_right (λ d. same d.name z) own up (further c.superclass c.interfaces r e)
 
   -- an interface that the class names
   pub named_above : (x i : Bytes) (c : ClassFacts) → find_class W x ≡ Some c → load_fault W x ≡ None → Contains c.interfaces i → (z : Bytes) → names_in (with_interfaces W i) z ≡ true → is_superinterface W x z ≡ true
@@ -135,7 +87,7 @@ module _ (W : World) where
         ap (λ cs. names_in cs z) (interface_leads y t.0 t.1 g.0 t.2) ∙ or_right (same t.0.name z) (is_superinterface W y z) e
 
     pub transitive : (x y z : Bytes) → load_fault W x ≡ None → is_superinterface W x y ≡ true → is_superinterface W y z ≡ true → is_superinterface W x z ≡ true
-    transitive x y z h a b = passes_on x h y z a (led_to y z (above_good x y h a) b)
+    transitive x y z h a b = passes_on W x h y z a (led_to y z (above_good x y h a) b)
 
     -- no interface stands above itself
     abbrev pub NoCircle : Bytes → Type 0
@@ -162,7 +114,7 @@ module _ (W : World) where
                     more g.1 (subst (λ w. is_superinterface W w w ≡ true) m e)
                 go (inr q) =
                     let own : names_in (with_interfaces W z) z ≡ true = ap (λ cs. names_in cs z) (interface_leads z (interface_facts z g).0 (interface_facts z g).1 g.0 (interface_facts z g).2) ∙ or_left (same (interface_facts z g).0.name z) (is_superinterface W z z) (ap (λ w. same w z) (find-name W z (interface_facts z g).0 (interface_facts z g).1) ∙ same_itself z) in
-                    more g.1 (passes_on z g.0 y z q (led_to y z (h, k) (named_above y z c f h n z own)))
+                    more g.1 (passes_on W z g.0 y z q (led_to y z (h, k) (named_above y z c f h n z own)))
 
     -- ---- of which others stand below
 

@@ -3,6 +3,9 @@ mod FinalMethods
 mod ClassGone
 mod ClassClosed
 mod InterfaceBecameClass
+mod Assignments
+mod ChainLost
+mod LostFlags
 mod ConstructorClosed
 mod MethodMadeFinal
 mod NewlyFinal
@@ -20,3 +23,4 @@ mod SuperclassLost
 mod ByRule
 mod AllRules
 mod Limited
+mod OldNumbers

@@ -1,30 +1,23 @@
 -- What the rule on superclasses that left the chain finds.
-use Rattle.std.proofs.Common.{◌≡◌, ◌<◌, ◌≤◌, ◌+◌, ◌==◌, ℕ, zero, suc, Bool, true, false, List, [], ◌∷◌, ◌++◌, length, get_or, take, arith, refl, sym, ◌∙◌, ap, subst, Option, Some, None, not, map, ◌&&◌, nat_lt, is_some, ◌⊎◌, inl, inr}
+use Rattle.std.proofs.Common.{◌≡◌, ◌<◌, ◌≤◌, ◌+◌, ◌==◌, ℕ, zero, suc, Bool, true, false, cond, List, [], ◌∷◌, ◌++◌, length, get_or, take, arith, refl, sym, ◌∙◌, ap, subst, Option, Some, None, not, map, ◌&&◌, nat_lt, ◌⊎◌, inl, inr}
 use Rattle.std.specs.BTreeSet as sorted
 use Rattle.std.specs.Ordering.{nat_cmp}
 use Rattle.std.specs.List.{Contains, filter_map, cons_option}
-use Rattle.std.proofs.lemmas.Bool.{and_parts, both_ways, lt-ltb, ltb-true}
+use Rattle.std.proofs.lemmas.Bool.{and_parts, both_ways, ltb-true}
 use Rattle.std.specs.declared.cmp.Ordering.TheVariants.{Less}
 use Rattle.std.proofs.lemmas.Cmp.{nat_cmp_total}
 use Rattle.std.proofs.lemmas.List.{map-append}
 use Rattle.std.proofs.lemmas.List.Elements.{filter_map-append, Contains-append_right}
 use Rattle.std.proofs.lemmas.Map.Lookups.{exact_unsigned}
 use Rattle.std.proofs.lemmas.Map.Views.{btree_set_contains_iff}
-use Rattle.jc_facts.specs.declared.act.Act.TheVariants.{Assignment}
-use Rattle.jc_facts.specs.declared.class_facts.ClassFacts.{ClassFacts}
 use Rattle.jc_facts.specs.declared.finding.Finding.{Finding}
-use Rattle.jc_facts.specs.declared.link_error.LinkError.TheVariants.{VerifyError}
-use Rattle.jc_facts.specs.Names.{Bytes}
-use Rattle.jc_facts.specs.Flags.{interface_flag}
-use Rattle.jc_facts.specs.world.World.{World, find_class, size}
-use Rattle.jc_facts.specs.world.Hierarchy.{chain, in_chain, names_in}
+use Rattle.jc_facts.specs.Names.{Bytes, same}
+use Rattle.jc_facts.specs.world.World.{World, size}
+use Rattle.jc_facts.specs.world.Hierarchy.{in_chain}
 use Rattle.jc_facts.specs.world.Assignment.{is_interface_of}
-use Rattle.jc_facts.specs.rule.Bases.{is_class_usable, is_kept}
-use Rattle.jc_facts.specs.rule.Findings.{Subject, finding_at, finding_by, subject_of, superclass_lost, report_where}
+use Rattle.jc_facts.specs.rule.Findings.{Subject, finding_at, finding_by, subject_of, assign_finding}
 use Rattle.jc_facts.specs.rule.Orders.{finding_order}
 use Rattle.jc_facts.specs.Exactly.{HasExactly, Rises}
-use Rattle.jc_sound.proofs.Standing.{usable_parts}
-use Rattle.jc_sound.proofs.ClassGoneLaw.{report_where-some}
 use Rattle.jc_facts.specs.Exactly.{Before, NamesRise}
 use Rattle.jc_facts.proofs.Exact.{Gives}
 use Rattle.jc_lemmas.proofs.Listed.{EachOf, here, there, none, cases, each_from}
@@ -38,14 +31,15 @@ use Rattle.std.proofs.lemmas.Map.Keys.{below_from_sorted}
 use Rattle.jc_facts.specs.declared.key.Key.{Key}
 use Rattle.jc_facts.specs.Options.{some_where}
 use Rattle.jc_sound.proofs.FindingLaws.{finding_is_on_its_subject}
-use Rattle.jc_rules.specs.steps.Chains.{HasChain, on_target, target_finding, has_left_chain, OfChain}
-use Rattle.jc_sides.specs.BrokenOf.{BrokenOf, broken_if, found}
+use Rattle.jc_rules.specs.steps.Chains.{HasChain, on_target, target_finding, OfChain}
+use Rattle.jc_rules.specs.steps.Losses.{loses, may_take_part}
+use Rattle.jc_rules.proofs.Assignments.{aside}
+use Rattle.jc_rules.proofs.ChainLost.{set_has, target_is}
 use Rattle.jc_sides.specs.Rules.{IsFinding}
-use Rattle.jc_sides.specs.SharedOf.{SharedOf, IsShared, name_of}
 use Rattle.jc_sides.specs.SidesOf.{SidesOf, AreSides}
-use Rattle.jc_sides.proofs.BrokenActs.{found_where}
 use Rattle.jc_sides.proofs.Subjects.{subject_order, ordered_as, same_name, subject_is, finding_class_before, class_in}
 use Rattle.jc_acts.specs.Seats.{loses_class}
+use Rattle.jc_acts.proofs.Losses.{chain_there}
 use Rattle.jc_acts.proofs.SeatChains.{keeps}
 use Rattle.jc_lemmas.proofs.Options.{passed}
 use Rattle.jc_facts.proofs.Options.{some_where-is}
@@ -76,72 +70,34 @@ to_chain s x t f h =
 target_before : (x t u : Bytes) → Before t u → subject_order (on_target x t) (on_target x u) ≡ Less
 target_before x t u h = rw (same_name x, h) refl
 
--- ---- a class of the old chain
+-- ---- what a finding says
 
-module _ (s : SidesOf) (x t : Bytes) where
-  pub left_unkept : is_kept s.old s.new t ≡ false → has_left_chain s x t ≡ false
-  left_unkept h = rw h refl
+taken_where : (b : Bool) (o : Option Finding) (f : Finding) → cond b o None ≡ Some f → (b ≡ true) × (o ≡ Some f)
+taken_where true o f h = (refl, h)
+taken_where false o f h = absurd (cc)
 
-  pub left_still : is_kept s.old s.new t ≡ true → in_chain s.new x t ≡ true → has_left_chain s x t ≡ false
-  left_still k h = rw (k, h) refl
+-- of the two
+pub record SaysLost (s : SidesOf) (x t : Bytes) (f : Finding) : Type 0 where
+  pub was : in_chain s.old x t ≡ true
+  pub left : not (in_chain s.new x t) ≡ true
+  pub found : assign_finding s.old s.new (on_target x t) (x ∷ t ∷ []) ≡ Some f
 
-  pub left_of : (d : ClassFacts) → is_kept s.old s.new t ≡ true → in_chain s.new x t ≡ false → Some d ≡ find_class s.new t → has_left_chain s x t ≡ not (interface_flag d.flags)
-  left_of d k h f = rw (k, h, ← f) refl
-
--- the set has the class where the chain has
-pub chain_has : (N : World) (x t : Bytes) (chain : sorted.BTreeSet ℕ) (k : ℕ) → HasChain N x chain → k < size N → name_at N k ≡ t → sorted.contains nat_cmp chain k ≡ in_chain N x t
-chain_has N x t chain k h l n = h.has k ∙ ap (λ (b : Bool). b && in_chain N x (name_at N k)) (lt-ltb k (size N) l) ∙ ap (in_chain N x) n
-
--- whether the set has a class that both sides have; k is its number
-pub chain_holds : (s : SidesOf) (x : Bytes) (b : SharedOf) (chain : sorted.BTreeSet ℕ) (k : ℕ) (r : Bool) → IsShared s b → k ≡ b.new → HasChain s.new x chain → r ≡ sorted.contains nat_cmp chain k → r ≡ in_chain s.new x (name_of b)
-chain_holds s x b chain k r shared e h q = q ∙ ap (sorted.contains nat_cmp chain) e ∙ chain_has s.new x (name_of b) chain b.new h shared.new_below shared.new_name
-
--- ---- the finding
-
-target_is : (s : SidesOf) (x t : Bytes) → target_finding s x t ≡ report_where (is_kept s.old s.new x && is_kept s.old s.new t && in_chain s.old x t && not (in_chain s.new x t) && not (is_interface_of s.new t)) (on_target x t) Assignment VerifyError
-unfolding target_finding finding_at superclass_lost
-target_is s x t = refl
-
-four : (a b c d e : Bool) → a ≡ true → c ≡ true → (a && b && c && d && e) ≡ (b && d && e)
-four true true true d e h k = refl
-four true false true d e h k = refl
-four false b c d e h k = absurd (cc)
-four true b false d e h k = absurd (cc)
-
-pub target_of : (s : SidesOf) (x t : Bytes) → is_kept s.old s.new x ≡ true → in_chain s.old x t ≡ true → target_finding s x t ≡ report_where (has_left_chain s x t) (on_target x t) Assignment VerifyError
-target_of s x t k w = target_is s x t ∙ ap (λ (b : Bool). report_where b (on_target x t) Assignment VerifyError) (four (is_kept s.old s.new x) (is_kept s.old s.new t) (in_chain s.old x t) (not (in_chain s.new x t)) (not (is_interface_of s.new t)) k w)
-
--- a superclass that isn't kept has left no chain
-pub unkept_target : (s : SidesOf) (x t : Bytes) → is_kept s.old s.new x ≡ true → in_chain s.old x t ≡ true → is_kept s.old s.new t ≡ false → None ≡ target_finding s x t
-unkept_target s x t k w h = sym (target_of s x t k w ∙ ap (λ b. report_where b (on_target x t) Assignment VerifyError) (left_unkept s x t h))
-
--- y and z are the superclass under its own names
-pub left : (s : SidesOf) (x t y z : Bytes) (b : Bool) (said : Option BrokenOf) (o : Option Finding) → is_kept s.old s.new x ≡ true → in_chain s.old x t ≡ true → y ≡ t → z ≡ y → b ≡ has_left_chain s x y → said ≡ broken_if b Assignment VerifyError
-    → o ≡ found (on_target x z) said → o ≡ target_finding s x t
-left s x t y z b said o k w n m e q r =
-    r ∙ ap (found (on_target x z)) q ∙ found_where (on_target x z) b Assignment VerifyError ∙ ap (λ (u : Bytes). report_where b (on_target x u) Assignment VerifyError) m ∙ ap (λ p. report_where p (on_target x y) Assignment VerifyError) e
-    ∙ ap (λ (u : Bytes). report_where (has_left_chain s x u) (on_target x u) Assignment VerifyError) n ∙ sym (target_of s x t k w)
-
--- what the finding says of the two
-target_says : (s : SidesOf) (x t : Bytes) (f : Finding) → target_finding s x t ≡ Some f → (is_kept s.old s.new x ≡ true) × (is_kept s.old s.new t ≡ true) × (in_chain s.old x t ≡ true)
+pub target_says : (s : SidesOf) (x t : Bytes) (f : Finding) → target_finding s x t ≡ Some f → SaysLost s x t f
 target_says s x t f h =
-    let w = report_where-some _ (on_target x t) Assignment VerifyError f (sym (target_is s x t) ∙ h) in
-    let a = and_parts (is_kept s.old s.new x && is_kept s.old s.new t && in_chain s.old x t && not (in_chain s.new x t)) (not (is_interface_of s.new t)) w.0 in
-    let b = and_parts (is_kept s.old s.new x && is_kept s.old s.new t && in_chain s.old x t) (not (in_chain s.new x t)) a.0 in
-    let c = and_parts (is_kept s.old s.new x && is_kept s.old s.new t) (in_chain s.old x t) b.0 in
-    let d = and_parts (is_kept s.old s.new x) (is_kept s.old s.new t) c.0 in
-    (d.0, d.1, c.1)
+    let w = taken_where (not (same x t) && in_chain s.old x t && not (in_chain s.new x t) && not (is_interface_of s.new t)) (assign_finding s.old s.new (on_target x t) (x ∷ t ∷ [])) f (sym (target_is s x t) ∙ h) in
+    let a = and_parts (not (same x t) && in_chain s.old x t && not (in_chain s.new x t)) (not (is_interface_of s.new t)) w.0 in
+    let b = and_parts (not (same x t) && in_chain s.old x t) (not (in_chain s.new x t)) a.0 in
+    record { was = (and_parts (not (same x t)) (in_chain s.old x t) b.0).1; left = b.1; found = w.1 }
 
--- the superclass isn't in the new chain
-target_left : (s : SidesOf) (x t : Bytes) (f : Finding) → target_finding s x t ≡ Some f → not (in_chain s.new x t) ≡ true
-target_left s x t f h =
-    let w = report_where-some _ (on_target x t) Assignment VerifyError f (sym (target_is s x t) ∙ h) in
-    let a = and_parts (is_kept s.old s.new x && is_kept s.old s.new t && in_chain s.old x t && not (in_chain s.new x t)) (not (is_interface_of s.new t)) w.0 in
-    (and_parts (is_kept s.old s.new x && is_kept s.old s.new t && in_chain s.old x t) (not (in_chain s.new x t)) a.0).1
-
--- a class that isn't kept has left no chain
-pub unkept_chain : (s : SidesOf) (x : Bytes) → is_kept s.old s.new x ≡ false → HasExactly finding_order (OfChain s x) []
-unkept_chain s x h = exact_none finding_order (OfChain s x) (λ f p. let w = of_chain s x f p in both_ways (is_kept s.old s.new x) h (target_says s x w.0 f w.1).0)
+-- a class that is neither kept nor hidden has no finding
+aside_chain : (s : SidesOf) (x : Bytes) → may_take_part s x ≡ false → HasExactly finding_order (OfChain s x) []
+aside_chain s x h = exact_none finding_order (OfChain s x) none_found
+  where
+    none_found : (f : Finding) → OfChain s x f → ⊥
+    none_found f p =
+        let w = of_chain s x f p in
+        let z : None ≡ Some f = sym (aside s (on_target x w.0) x w.0 h) ∙ (target_says s x w.0 f w.1).found in
+        cc
 
 -- nothing is found of a chain that nothing has left
 still_whole : (s : SidesOf) (x : Bytes) → ((t : Bytes) → in_chain s.old x t ≡ true → in_chain s.new x t ≡ true) → HasExactly finding_order (OfChain s x) []
@@ -150,15 +106,20 @@ still_whole s x h = exact_none finding_order (OfChain s x) still
     still : (f : Finding) → OfChain s x f → ⊥
     still f p =
         let w = of_chain s x f p in
-        let stays : in_chain s.new x w.0 ≡ true = h w.0 (target_says s x w.0 f w.1).2 in
-        both_ways (not (in_chain s.new x w.0)) (ap not stays) (target_left s x w.0 f w.1)
+        let says = target_says s x w.0 f w.1 in
+        let stays : in_chain s.new x w.0 ≡ true = h w.0 says.was in
+        both_ways (not (in_chain s.new x w.0)) (ap not stays) says.left
 
-pub whole_chain : (s : SidesOf) (x : Bytes) → loses_class s x ≡ false → HasExactly finding_order (OfChain s x) []
+whole_chain : (s : SidesOf) (x : Bytes) → loses_class s x ≡ false → HasExactly finding_order (OfChain s x) []
 whole_chain s x h = still_whole s x (keeps s x h)
 
--- nor of one that is the same on both sides
-pub same_chain : (s : SidesOf) (x : Bytes) → chain s.old x ≡ chain s.new x → HasExactly finding_order (OfChain s x) []
-same_chain s x h = still_whole s x (λ t i. ap (λ (cs : List ClassFacts). names_in cs t) (sym h) ∙ i)
+-- nor of a class that doesn't lose
+pub lossless_chain : (s : SidesOf) (x : Bytes) → loses s x ≡ false → HasExactly finding_order (OfChain s x) []
+lossless_chain s x h = go (may_take_part s x) refl h
+  where
+    go : (b : Bool) → may_take_part s x ≡ b → (b && loses_class s x) ≡ false → HasExactly finding_order (OfChain s x) []
+    go false e p = aside_chain s x e
+    go true e p = whole_chain s x p
 
 -- ---- rising numbers have rising names
 
@@ -221,22 +182,14 @@ in_map O (q ∷ ks) k c = go (cases q ks k c) (in_map O ks k)
     go (inl is) r = subst (λ n. Contains (name_at O q ∷ map (name_at O) ks) (name_at O n)) is (here (name_at O q) (map (name_at O) ks))
     go (inr d) r = there (name_at O k) (name_at O q) (map (name_at O) ks) (r d)
 
--- a usable class is there
-usable_found : (W : World) (x : Bytes) → is_class_usable W x ≡ true → is_some (find_class W x) ≡ true
-usable_found W x h = ap is_some (usable_parts W x h).is_there
-
 -- the set has each class of the chain
-in_set : (O : World) (x t : Bytes) (chain : sorted.BTreeSet ℕ) → HasChain O x chain → is_class_usable O t ≡ true → in_chain O x t ≡ true → Contains (map (name_at O) chain.keys) t
-in_set O x t chain h u i =
-    let k = number_of O t (usable_found O t u) in
+in_set : (O : World) (x t : Bytes) (chain : sorted.BTreeSet ℕ) → HasChain O x chain → in_chain O x t ≡ true → Contains (map (name_at O) chain.keys) t
+in_set O x t chain h i =
+    let k = number_of O t (chain_there O x t i) in
     let b : k.0 < size O = (id_of-Some O t k.0 k.1).0 in
     let n : name_at O k.0 ≡ t = (id_of-Some O t k.0 k.1).1 in
-    let c : sorted.contains nat_cmp chain k.0 ≡ true = chain_has O x t chain k.0 h b n ∙ i in
+    let c : sorted.contains nat_cmp chain k.0 ≡ true = set_has O x t chain k.0 h b n ∙ i in
     subst (Contains (map (name_at O) chain.keys)) n (in_map O chain.keys k.0 ((btree_set_contains_iff nat_cmp_total exact_unsigned chain k.0).0 c))
-
-was_usable : (s : SidesOf) (x : Bytes) → is_kept s.old s.new x ≡ true → is_class_usable s.old x ≡ true
-unfolding is_kept
-was_usable s x h = (and_parts (is_class_usable s.old x) (is_class_usable s.new x) h).0
 
 -- what is found of all
 pub chain_exact : (s : SidesOf) → IsSide s.old → (x : Bytes) (chain : sorted.BTreeSet ℕ) → HasChain s.old x chain → HasExactly finding_order (OfChain s x) (filter_map (target_finding s x) (map (name_at s.old) chain.keys))
@@ -251,8 +204,7 @@ chain_exact s side x chain h =
     complete : (f : Finding) → OfChain s x f → Gives (target_finding s x) (map (name_at s.old) chain.keys) f
     complete f p =
         let t = of_chain s x f p in
-        let q = target_says s x t.0 f t.1 in
-        record { place = t.0; is_in = in_set s.old x t.0 chain h (was_usable s t.0 q.1) q.2; gives = t.1 }
+        record { place = t.0; is_in = in_set s.old x t.0 chain h (target_says s x t.0 f t.1).was; gives = t.1 }
 
 -- ---- of all classes
 

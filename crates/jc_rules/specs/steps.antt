@@ -2,6 +2,7 @@
 pub mod Chains
 pub mod Classes
 pub mod Constructors
+pub mod Losses
 pub mod Methods
 pub mod Notes
 pub mod Own

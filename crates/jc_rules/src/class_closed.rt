@@ -36,6 +36,8 @@ pub struct ClassClosed;
 impl ClassRule for ClassClosed {
     ghost rule = { CLASS_CLOSED };
 
+    ghost ready = { λ r s. Unit {0} };
+
     ghost alone = { record { not_4 = refl; not_5 = refl; not_6 = refl; not_7 = refl; not_8 = refl; not_9 = refl } };
 
     fn number(&self) -> u8 {

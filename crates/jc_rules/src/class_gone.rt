@@ -40,6 +40,8 @@ pub struct ClassGone;
 impl ClassRule for ClassGone {
     ghost rule = { CLASS_GONE };
 
+    ghost ready = { λ r s. Unit {0} };
+
     ghost alone = { record { not_4 = refl; not_5 = refl; not_6 = refl; not_7 = refl; not_8 = refl; not_9 = refl } };
 
     fn number(&self) -> u8 {

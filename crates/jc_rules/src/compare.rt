@@ -10,6 +10,7 @@ ghost use Rattle.jc_facts.specs.rule.Verdict.{IsVerdict};
 ghost use Rattle.jc_facts.specs.rule.Bases.{is_steady, is_base_interface};
 ghost use Rattle.jc_rules.specs.Verdicts.{IsVerdictWithin, KeepsAll, BreaksEach};
 ghost use Rattle.jc_rules.specs.steps.Classes.{OfRules};
+ghost use Rattle.jc_rules.specs.steps.Losses.{AreLosses};
 ghost use Rattle.jc_rules.specs.steps.Within.{IsLimited};
 ghost use Rattle.jc_sides.specs.Limit.{IsWithin};
 ghost use Rattle.jc_sides.specs.Numbering.{IsTranslation};
@@ -25,6 +26,7 @@ use crate::field_closed::FieldClosed;
 use crate::final_added::FinalAdded;
 use crate::interface_became_class::InterfaceBecameClass;
 use crate::interface_method_lost::InterfaceMethodLost;
+use crate::losses::Losses;
 use crate::method_closed::MethodClosed;
 use crate::method_made_final::MethodMadeFinal;
 use crate::note_constant::note_constant;
@@ -52,9 +54,11 @@ fn findings_on_classes(
     alloc: Global,
     sides: &Sides<'_>,
     seats: &Seats<'_>,
+    losses: &Losses,
     most: Option<usize>,
 ) -> Result<Option<Vec<Finding>>, AllocError>
-    requires { AreSeats sides.now seats.now }
+    requires seats { AreSeats sides.now seats.now }
+    requires losses { AreLosses sides.now losses.now }
     ensures { IfOk result (λ found. IsWithin finding_order (OfRules 1 5 sides.now) most (option_map (λ fs. fs.items) found)) }
 {
     let Some(mut findings) = by_class(alloc, sides, &ClassGone, most)? else {
@@ -66,12 +70,13 @@ fn findings_on_classes(
     };
     findings.append(&mut closed)?;
     let room = left(most, findings.len());
-    let Some(mut became_class) = by_class(alloc, sides, &InterfaceBecameClass, room)? else {
+    let rule = InterfaceBecameClass { seats, losses };
+    let Some(mut became_class) = by_class(alloc, sides, &rule, room)? else {
         return Ok(None);
     };
     findings.append(&mut became_class)?;
     let room = left(most, findings.len());
-    let Some(mut superclasses) = superclass_lost(alloc, sides, seats, room)? else {
+    let Some(mut superclasses) = superclass_lost(alloc, sides, seats, losses, room)? else {
         return Ok(None);
     };
     findings.append(&mut superclasses)?;
@@ -160,17 +165,19 @@ fn findings(
     sides: &Sides<'_>,
     translation: &Translation,
     seats: &Seats<'_>,
+    losses: &Losses,
     steady: &[Shared<'_>],
     interfaces: &[Shared<'_>],
     most: Option<usize>,
 ) -> Result<Option<Vec<Finding>>, AllocError>
     requires seats { AreSeats sides.now seats.now }
+    requires losses { AreLosses sides.now losses.now }
     requires steady { AreThose (is_steady sides.now.old sides.now.new) sides.now steady.now }
     requires interfaces { AreThose (is_base_interface sides.now.old sides.now.new) sides.now interfaces.now }
     requires translation { IsTranslation sides.now translation.now }
     ensures { IfOk result (λ found. IsWithin finding_order (Stands sides.now.old sides.now.new) most (option_map (λ fs. fs.items) found)) }
 {
-    let Some(mut findings) = findings_on_classes(alloc, sides, seats, most)? else {
+    let Some(mut findings) = findings_on_classes(alloc, sides, seats, losses, most)? else {
         return Ok(None);
     };
     let room = left(most, findings.len());
@@ -259,11 +266,13 @@ fn limited(
     let interfaces = base_interfaces(alloc, sides)?;
     let seats = Seats::new(alloc, sides, base_classes(alloc, sides)?)?;
     let translation = Translation::new(alloc, sides)?;
+    let losses = Losses::new(alloc, sides, &seats)?;
     let found = findings(
         alloc,
         sides,
         &translation,
         &seats,
+        &losses,
         steady.as_slice(),
         interfaces.as_slice(),
         most,

@@ -1,23 +1,54 @@
-//! The rule on interfaces that became classes.
-ghost use Rattle.std.specs.Prelude.{refl};
+//! The rule on interfaces that are none any more.
+ghost use Rattle.std.specs.Prelude.{◌≡◌, ◌<◌, refl};
+ghost use Rattle.jc_acts.specs.Seats.{AreSeats};
 ghost use Rattle.jc_facts.specs.declared.rule_numbers.TheConstants.{INTERFACE_BECAME_CLASS};
+ghost use Rattle.jc_facts.specs.world.World.{size};
+ghost use Rattle.jc_rules.specs.steps.Losses.{AreLosses, was_interface};
+ghost use Rattle.jc_table.specs.Ids.{name_at};
 
+use crate::assigned::assigned_by;
+use crate::losses::Losses;
+use jc_acts::seats::Seats;
 use jc_facts::act::Act;
+use jc_facts::flags::is_interface;
 use jc_facts::link_error::LinkError;
 use jc_facts::rule_numbers::INTERFACE_BECAME_CLASS;
-use jc_sides::broken::{BrokenAct, broken_where};
+use jc_sides::broken::BrokenAct;
 use jc_sides::class_rule::ClassRule;
-use jc_sides::clients::became_class;
 use jc_sides::kept::kept;
 use jc_sides::sides::Sides;
 use jc_table::ids::ClassId;
 use std::alloc::{AllocError, Global};
 
-/// Kept interfaces that became classes (JVMS 4.10.1.2).
-pub struct InterfaceBecameClass;
+/// Whether the class of the old side was an interface and is none on the new side, where it may be
+/// absent.
+pub fn is_no_interface_now(sides: &Sides<'_>, id: ClassId) -> bool
+    requires { id < size sides.now.old }
+    ensures { result ≡ was_interface sides.now (name_at sides.now.old id) }
+{
+    if !is_interface(sides.old.facts(id).flags) {
+        return false;
+    }
+    match sides.new_id(id) {
+        Some(after) => !is_interface(sides.new.facts(after).flags),
+        None => true,
+    }
+}
 
-impl ClassRule for InterfaceBecameClass {
+/// Interfaces that clients could use, or that members expose to them, and that are none any more
+/// (JVMS 4.10.1.2).
+#[derive(Drop)]
+pub struct InterfaceBecameClass<'a, 'b> {
+    /// The seats of clients.
+    pub seats: &'b Seats<'a>,
+    /// What was lost, with the members that expose hidden classes.
+    pub losses: &'b Losses,
+}
+
+impl<'a, 'b> ClassRule for InterfaceBecameClass<'a, 'b> {
     ghost rule = { INTERFACE_BECAME_CLASS };
+
+    ghost ready = { λ r s. AreSeats s r.seats.now × AreLosses s r.losses.now };
 
     ghost alone = { record { not_4 = refl; not_5 = refl; not_6 = refl; not_7 = refl; not_8 = refl; not_9 = refl } };
 
@@ -31,14 +62,17 @@ impl ClassRule for InterfaceBecameClass {
         sides: &Sides<'_>,
         id: ClassId,
     ) -> Result<Option<BrokenAct<'_>>, AllocError> {
-        // A class of the platform is the same on both sides.
-        if sides.old.in_platform(id) {
+        if !is_no_interface_now(sides, id) {
             return Ok(None);
         }
-        let Some(class) = kept(sides, id) else {
-            return Ok(None);
-        };
-        let became = became_class(sides, &class);
-        Ok(broken_where(became, Act::Assignment, LinkError::VerifyError))
+        if kept(sides, id).is_some() {
+            return Ok(Some(BrokenAct {
+                act: Act::Assignment,
+                seat: None,
+                error: LinkError::VerifyError,
+            }));
+        }
+        let broken = assigned_by(sides, self.seats, &self.losses.exposed, &[id]);
+        Ok(broken)
     }
 }

@@ -1,6 +1,8 @@
 //! The rules that compare two releases of a library.
 #![tactic(auto)]
 
+mod assigned;
+pub mod bases;
 mod capture_added;
 mod class_closed;
 mod class_gone;
@@ -12,6 +14,7 @@ mod final_added;
 mod final_methods;
 mod interface_became_class;
 mod interface_method_lost;
+mod losses;
 mod method_closed;
 mod method_made_final;
 mod newly_final;

@@ -5,28 +5,21 @@ ghost use Rattle.jc_facts.specs.world.Hierarchy.{in_chain};
 ghost use Rattle.jc_facts.specs.Names.{Bytes};
 ghost use Rattle.jc_facts.specs.rule.Orders.{finding_order};
 ghost use Rattle.jc_facts.specs.Exactly.{HasExactly};
-ghost use Rattle.jc_facts.specs.rule.Bases.{is_kept};
 ghost use Rattle.jc_facts.specs.world.World.{size};
 ghost use Rattle.jc_rules.specs.steps.Chains.{HasChain, target_finding, has_left_chain, OfChain};
+ghost use Rattle.jc_rules.specs.steps.Losses.{AreLosses, loses};
 ghost use Rattle.jc_sides.specs.Limit.{IsWithin};
 ghost use Rattle.jc_sides.specs.Rules.{IsFinding};
-ghost use Rattle.jc_sides.specs.SharedOf.{IsShared, name_of};
-ghost use Rattle.jc_sides.specs.SidesOf.{AreSides};
 ghost use Rattle.jc_table.specs.Ids.{name_at};
 
-use jc_acts::chains::has_lost;
+use crate::assigned::assigned;
+use crate::losses::Losses;
 use jc_acts::seats::Seats;
-use jc_base::name::Name;
-use jc_facts::act::Act;
 use jc_facts::finding::Finding;
 use jc_facts::flags::is_interface;
-use jc_facts::link_error::LinkError;
 use jc_facts::rule_numbers::SUPERCLASS_LOST;
-use jc_sides::broken::broken_where;
 use jc_sides::found::{finding, push_some};
-use jc_sides::kept::kept;
 use jc_sides::limit::is_over;
-use jc_sides::shared::{Shared, after};
 use jc_sides::sides::Sides;
 use jc_table::ids::ClassId;
 use jc_table::table::Table;
@@ -50,101 +43,124 @@ fn chain_of(alloc: Global, table: &Table, id: ClassId) -> Result<BTreeSet<ClassI
     Ok(chain)
 }
 
-// Whether the kept class isn't in the new chain, and is no interface.
-fn has_left(sides: &Sides<'_>, target: &Shared<'_>, chain: &BTreeSet<ClassId>) -> bool
-    requires shared { IsShared sides.now target.now }
-    requires kept { IsTrue (is_kept sides.now.old sides.now.new (name_of target.now)) }
-    ensures { (x : Bytes) → HasChain sides.now.new x chain.now → result ≡ has_left_chain sides.now x (name_of target.now) }
+// The classes of the chain that the class of the old side has on the new one: none where it is absent.
+fn chain_after(
+    alloc: Global,
+    sides: &Sides<'_>,
+    id: ClassId,
+) -> Result<BTreeSet<ClassId>, AllocError>
+    requires { id < size sides.now.old }
+    ensures { IfOk result (HasChain sides.now.new (name_at sides.now.old id)) }
 {
-    !chain.contains(&target.new) && !is_interface(after(sides, target).flags)
+    let Some(after) = sides.new_id(id) else {
+        return Ok(BTreeSet::new(alloc));
+    };
+    let chain = chain_of(alloc, sides.new, after)?;
+    Ok(chain)
 }
 
-// The finding of a kept class and a class of its old chain, if that has left the chain.
+// Whether the class of the old side isn't in the new chain, and is no interface of the new side.
+fn has_left(sides: &Sides<'_>, target: ClassId, chain: &BTreeSet<ClassId>) -> bool
+    requires { target < size sides.now.old }
+    ensures { (x : Bytes) → HasChain sides.now.new x chain.now → result ≡ has_left_chain sides.now x (name_at sides.now.old target) }
+{
+    match sides.new_id(target) {
+        Some(after) => !chain.contains(&after) && !is_interface(sides.new.facts(after).flags),
+        None => true,
+    }
+}
+
+// The finding of a class that has lost some of its chain and a class of its old chain, if that has left
+// the chain.
 fn on_target(
     alloc: Global,
     sides: &Sides<'_>,
-    class: &Name,
-    id: ClassId,
+    seats: &Seats<'_>,
+    losses: &Losses,
+    class: ClassId,
+    target: ClassId,
     chain: &BTreeSet<ClassId>,
 ) -> Result<Option<Finding>, AllocError>
-    requires kept { IsTrue (is_kept sides.now.old sides.now.new «class».now) }
-    requires below { id < size sides.now.old }
-    requires was { IsTrue (in_chain sides.now.old «class».now (name_at sides.now.old id)) }
-    requires chain { HasChain sides.now.new «class».now chain.now }
-    ensures { IfOk result (λ found. found ≡ target_finding sides.now «class».now (name_at sides.now.old id)) }
+    requires seats { AreSeats sides.now seats.now }
+    requires losses { AreLosses sides.now losses.now }
+    requires class { «class» < size sides.now.old }
+    requires loses { IsTrue (loses sides.now (name_at sides.now.old «class»)) }
+    requires target { target < size sides.now.old }
+    requires was { IsTrue (in_chain sides.now.old (name_at sides.now.old «class») (name_at sides.now.old target)) }
+    requires chain { HasChain sides.now.new (name_at sides.now.old «class») chain.now }
+    ensures { IfOk result (λ found. found ≡ target_finding sides.now (name_at sides.now.old «class») (name_at sides.now.old target)) }
 {
-    let Some(target) = kept(sides, id) else {
+    if class == target {
         return Ok(None);
-    };
-    let left = has_left(sides, &target, chain);
-    let broken = broken_where(left, Act::Assignment, LinkError::VerifyError);
-    let found = finding(
-        alloc,
-        SUPERCLASS_LOST,
-        class,
-        None,
-        Some(target.name),
-        broken,
-    )?;
+    }
+    if !has_left(sides, target, chain) {
+        return Ok(None);
+    }
+    let broken = assigned(sides, seats, &losses.exposed, class, target);
+    let name = &sides.old.facts(class).name;
+    let above = &sides.old.facts(target).name;
+    let found = finding(alloc, SUPERCLASS_LOST, name, None, Some(above), broken)?;
     Ok(found)
 }
 
-// What has left the chain of a kept class, of those in its old chain, in byte order of names.
+// What has left the chain of a class that has lost some of it, of those in its old chain, in byte order
+// of names.
 fn on_chain(
     alloc: Global,
     sides: &Sides<'_>,
-    class: &Name,
+    seats: &Seats<'_>,
+    losses: &Losses,
+    class: ClassId,
     before: &BTreeSet<ClassId>,
     after: &BTreeSet<ClassId>,
 ) -> Result<Vec<Finding>, AllocError>
-    requires sides { AreSides sides.now }
-    requires kept { IsTrue (is_kept sides.now.old sides.now.new «class».now) }
-    requires before { HasChain sides.now.old «class».now before.now }
-    requires after { HasChain sides.now.new «class».now after.now }
-    ensures { IfOk result (λ found. HasExactly finding_order (OfChain sides.now «class».now) found.items) }
+    requires seats { AreSeats sides.now seats.now }
+    requires losses { AreLosses sides.now losses.now }
+    requires class { «class» < size sides.now.old }
+    requires loses { IsTrue (loses sides.now (name_at sides.now.old «class»)) }
+    requires before { HasChain sides.now.old (name_at sides.now.old «class») before.now }
+    requires after { HasChain sides.now.new (name_at sides.now.old «class») after.now }
+    ensures { IfOk result (λ found. HasExactly finding_order (OfChain sides.now (name_at sides.now.old «class»)) found.items) }
 {
     let mut findings = Vec::new(alloc);
     for target in before {
         push_some(
             &mut findings,
-            on_target(alloc, sides, class, *target, after)?,
+            on_target(alloc, sides, seats, losses, class, *target, after)?,
         )?;
     }
     Ok(findings)
 }
 
-// What has left the chain of the class, in byte order of names. Nothing has where neither the class nor
-// any above it changed.
+// What has left the chain of the class, in byte order of names. Nothing has of one that is neither kept
+// nor hidden, or has lost none of its chain.
 fn on_class(
     alloc: Global,
     sides: &Sides<'_>,
     seats: &Seats<'_>,
-    id: ClassId,
+    losses: &Losses,
+    class: ClassId,
 ) -> Result<Vec<Finding>, AllocError>
     requires seats { AreSeats sides.now seats.now }
-    requires class { id < size sides.now.old }
-    ensures { IfOk result (λ found. HasExactly finding_order (OfChain sides.now (name_at sides.now.old id)) found.items) }
+    requires losses { AreLosses sides.now losses.now }
+    requires class { «class» < size sides.now.old }
+    ensures { IfOk result (λ found. HasExactly finding_order (OfChain sides.now (name_at sides.now.old «class»)) found.items) }
 {
-    let Some(class) = kept(sides, id) else {
-        return Ok(Vec::new(alloc));
-    };
-    if !seats.may_close(sides, &class) {
+    if !losses.has_lost(sides, class) {
         return Ok(Vec::new(alloc));
     }
-    if !has_lost(sides, &class) {
-        return Ok(Vec::new(alloc));
-    }
-    let before = chain_of(alloc, sides.old, class.old)?;
-    let after = chain_of(alloc, sides.new, class.new)?;
-    let found = on_chain(alloc, sides, class.name, &before, &after)?;
+    let before = chain_of(alloc, sides.old, class)?;
+    let after = chain_after(alloc, sides, class)?;
+    let found = on_chain(alloc, sides, seats, losses, class, &before, &after)?;
     Ok(found)
 }
 
-/// Kept superclasses that left the chain of a kept class and are no interfaces (JVMS 4.10.1.2), in
-/// byte order of the names of the class and of the superclass. A class takes time in proportion to
-/// the lengths of its two chains, but for the logarithm of a look-up, and hardly any where neither it
-/// nor any above it changed. None where there are more than the limit allows; no more are made then
-/// than what one class adds past it.
+/// Superclasses that left the chain of a class and are no interfaces (JVMS 4.10.1.2), where each of
+/// the two is kept, or hidden and exposed by members, in byte order of the names of the class and of
+/// the superclass. A class that lost some of its chain takes time in proportion to the lengths of its
+/// two chains, but for the logarithm of a look-up and for the seats that are asked of hidden ones; any
+/// other takes hardly any. None where there are more than the limit allows; no more are made then than
+/// what one class adds past it.
 ///
 /// # Errors
 ///
@@ -153,15 +169,17 @@ pub fn superclass_lost(
     alloc: Global,
     sides: &Sides<'_>,
     seats: &Seats<'_>,
+    losses: &Losses,
     most: Option<usize>,
 ) -> Result<Option<Vec<Finding>>, AllocError>
-    requires { AreSeats sides.now seats.now }
+    requires seats { AreSeats sides.now seats.now }
+    requires losses { AreLosses sides.now losses.now }
     ensures { IfOk result (λ found. IsWithin finding_order (IsFinding 4 sides.now) most (option_map (λ fs. fs.items) found)) }
 {
     let mut findings = Vec::new(alloc);
     for n in 0..sides.old.count() {
         let id = sides.old.id(n).unwrap();
-        findings.append(&mut on_class(alloc, sides, seats, id)?)?;
+        findings.append(&mut on_class(alloc, sides, seats, losses, id)?)?;
         if is_over(findings.len(), most) {
             return Ok(None);
         }

@@ -4,12 +4,12 @@ pub mod Subjects
 pub mod ByClass
 pub mod BrokenActs
 pub mod KeySets
-mod MadeKeys
+pub mod MadeKeys
 mod FinalKeys
 mod TranslatedKeys
 pub mod MemberKeys
 mod TestedClasses
-mod ByItems
+pub mod ByItems
 pub mod Limits
 pub mod ItemRules
 pub mod BaseParts

@@ -267,8 +267,12 @@ fn listed(alloc: Global, set: &BTreeSet<Key>) -> Result<Vec<Key>, AllocError>
     Ok(keys)
 }
 
-// The keys, each once, in their order.
-fn in_order(alloc: Global, keys: Vec<Key>) -> Result<Vec<Key>, AllocError>
+/// The keys, each once, in their order.
+///
+/// # Errors
+///
+/// `AllocError` where memory runs out.
+pub fn in_order(alloc: Global, keys: Vec<Key>) -> Result<Vec<Key>, AllocError>
     ensures { IfOk result (λ sorted. AreInOrder keys.items sorted.items) }
 {
     let set = set_of(alloc, keys)?;

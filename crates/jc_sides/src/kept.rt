@@ -1,7 +1,8 @@
-//! Classes that clients could use and still can.
+//! Classes that clients can use, could use and still can, or can only meet through members.
 ghost use Rattle.std.specs.Prelude.{◌≡◌, ◌<◌};
 ghost use Rattle.jc_facts.specs.world.World.{size};
 ghost use Rattle.jc_facts.specs.rule.Bases.{is_class_usable, is_kept};
+ghost use Rattle.jc_facts.specs.rule.Exposed.{is_hidden};
 ghost use Rattle.jc_table.specs.Ids.{name_at};
 ghost use Rattle.jc_sides.specs.SharedOf.{IsWhere};
 
@@ -18,6 +19,16 @@ pub fn is_usable(table: &Table, id: ClassId) -> bool
     ensures { result ≡ is_class_usable table.now (name_at table.now id) }
 {
     is_nameable(table, id) && table.fault_at(id).is_none()
+}
+
+/// Whether clients can't use the class, which loads: it isn't visible or isn't public (JVMS 5.4.4).
+/// They can hold its objects all the same, where a member that they use gives or takes one.
+#[tactic(auto, unfolding(jc_facts::specs::rule::Exposed::is_hidden))]
+pub fn is_hidden_class(table: &Table, id: ClassId) -> bool
+    requires { id < size table.now }
+    ensures { result ≡ is_hidden table.now (name_at table.now id) }
+{
+    table.fault_at(id).is_none() && !is_usable(table, id)
 }
 
 /// The class of this number on the old side, if it is kept: clients could use it and still can.

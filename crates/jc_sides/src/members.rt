@@ -43,8 +43,12 @@ pub enum Members {
     NewFinals,
 }
 
-// Adds the member's key, if it is wanted.
-fn push_if(
+/// Adds the member's key, if it is wanted.
+///
+/// # Errors
+///
+/// `AllocError` where memory runs out.
+pub fn push_if(
     alloc: Global,
     keys: &mut Vec<Key>,
     member: &Member,

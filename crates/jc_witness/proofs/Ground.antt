@@ -1,5 +1,5 @@
 -- What always holds of the two sides of a comparison is enough for the laws of completeness.
-use Rattle.std.proofs.Common.{◌≡◌, ◌<◌, ◌^◌, true, false, not, ◌||◌, ◌==◌, List, length, sym, ◌∙◌, ap, Some, None, arith}
+use Rattle.std.proofs.Common.{◌≡◌, false, not, ◌||◌, ◌==◌, List, length, sym, ◌∙◌, ap, Some, None, arith}
 use Rattle.std.specs.Prelude.{is_some}
 use Rattle.std.proofs.lemmas.Bool.{not-false}
 use Rattle.jc_facts.specs.declared.class_facts.ClassFacts.{ClassFacts}
@@ -7,7 +7,6 @@ use Rattle.jc_facts.specs.Names.{object_name}
 use Rattle.jc_facts.specs.Flags.{public_flag, final_flag, interface_flag}
 use Rattle.jc_facts.specs.Options.{some_where}
 use Rattle.jc_facts.specs.world.World.{World, class_named}
-use Rattle.jc_facts.specs.world.Mentioned.{mentioned}
 use Rattle.jc_lemmas.proofs.Bools.{neither_first, neither_last}
 use Rattle.jc_lemmas.proofs.Options.{none_from, cond-none}
 use Rattle.jc_facts.proofs.Options.{or_else-none}
@@ -48,7 +47,7 @@ root_is_open W s = is_open W.platform s.root.root s.root.is_there s.root_passes
 -- ---- the sides
 
 -- clients can be planned
-can_plan : (s : SidesOf) → IsGround s → CanPlan s.old s.new
+pub can_plan : (s : SidesOf) → IsGround s → CanPlan s.old s.new
 can_plan s g = record { pair = pair_of s g.sides; open_root = root_is_open s.old g.sides.old_side; few = omega (arith, g.few) }
 
 -- and their class files written, where names are short

@@ -1,5 +1,8 @@
 mod LowestOfNames
 pub mod Refers
+pub mod CanExpose
+mod ExposedParts
+mod HiddenActs
 mod Packages
 pub mod Ground
 mod ClassesByName

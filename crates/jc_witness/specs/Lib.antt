@@ -1,4 +1,5 @@
 pub mod Ground
 pub mod PlannerFields
+pub mod Exposing
 pub mod Witnesses
 pub mod steps

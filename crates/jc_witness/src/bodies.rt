@@ -1,12 +1,12 @@
 //! Bodies of the methods of planned clients (JVMS 6.5).
-ghost use Rattle.std.specs.Prelude.{◌≡◌, ◌∷◌, ◌++◌, [], IfOk, OnOk, if◌then◌else◌};
+ghost use Rattle.std.specs.Prelude.{◌≡◌, ◌≤◌, ◌<◌, ◌+◌, ◌∷◌, ◌++◌, [], length, IfOk, OnOk, if◌then◌else◌};
 ghost use Rattle.jc_desc.specs.Slots.{slots_of_result};
 ghost use Rattle.jc_desc.specs.Reading.{method_of};
 ghost use Rattle.jc_desc.specs.Views.{basic, type_view, views};
 ghost use Rattle.jc_facts.specs.declared.blueprint.Slot.TheVariants as kinds;
 ghost use Rattle.jc_facts.specs.declared.blueprint.Step.TheVariants as instruction;
 ghost use Rattle.jc_facts.specs.client.Acts.{is_act_on_static};
-ghost use Rattle.jc_facts.specs.plan.PlannedBodies.{act_steps, basic_zero, cast_steps, first_local, given_by, init_steps, make_steps, params_of, pops_of, taken_by, turn_steps, zero_step, zeros};
+ghost use Rattle.jc_facts.specs.plan.PlannedBodies.{act_steps, acting_steps, basic_zero, cast_steps, given_by, init_steps, make_steps, params_of, pops_of, exposed_steps, taken_by, turn_steps, zero_step, zeros};
 
 use jc_base::name::Name;
 use jc_desc::field::{Base, FieldType, field_type};
@@ -14,6 +14,7 @@ use jc_desc::method::{field_slots, method_type, returned_slots};
 use jc_facts::act::Act;
 use jc_facts::blueprint::{Primitive, Slot, Step};
 use jc_facts::key::Key;
+use jc_facts::member_act::MemberAct;
 use std::alloc::{AllocError, Global};
 
 fn base_zero(base: Base<'_>) -> Step
@@ -130,13 +131,13 @@ pub(crate) fn make_object(
     Ok(steps)
 }
 
-// The receiver, where the act takes one.
-fn push_receiver(steps: &mut Vec<Step>, act: Act) -> Result<(), AllocError>
-    ensures { OnOk result (steps.new.items ≡ steps.old.items ++ (if is_act_on_static act then [] else (first_local ∷ []))) }
+// The parameter of this number as the receiver, where the act takes one.
+fn push_receiver(steps: &mut Vec<Step>, act: Act, number: u16) -> Result<(), AllocError>
+    ensures { OnOk result (steps.new.items ≡ steps.old.items ++ (if is_act_on_static act then [] else (instruction.Load kinds.Ref number ∷ []))) }
 {
     match act {
         Act::GetStatic | Act::PutStatic | Act::InvokeStatic | Act::InvokeStaticInterface => Ok(()),
-        _ => Ok(steps.push(Step::Load(Slot::Ref, 0))?),
+        _ => Ok(steps.push(Step::Load(Slot::Ref, number))?),
     }
 }
 
@@ -181,6 +182,24 @@ fn push_pop(steps: &mut Vec<Step>, act: Act, descriptor: &[u8]) -> Result<(), Al
     }
 }
 
+// The act on the class and the key is done, with the parameter of this number as receiver where it
+// takes one, and its result is popped.
+fn push_act(
+    alloc: Global,
+    steps: &mut Vec<Step>,
+    number: u16,
+    act: Act,
+    class: &Name,
+    key: &Key,
+) -> Result<(), AllocError>
+    ensures { OnOk result (steps.new.items ≡ steps.old.items ++ acting_steps number act class.now key.now []) }
+{
+    push_receiver(steps, act, number)?;
+    push_taken(alloc, steps, act, key.descriptor.as_bytes())?;
+    steps.push(Step::Member(act, class.copy(alloc)?, key.copy(alloc)?))?;
+    push_pop(steps, act, key.descriptor.as_bytes())
+}
+
 /// The act on the class and the key is done, with the parameter as receiver where it takes one.
 pub(crate) fn act_on(
     alloc: Global,
@@ -191,10 +210,43 @@ pub(crate) fn act_on(
     ensures { IfOk result (λ steps. steps.items ≡ act_steps act class.now key.now) }
 {
     let mut steps = Vec::new(alloc);
-    push_receiver(&mut steps, act)?;
-    push_taken(alloc, &mut steps, act, key.descriptor.as_bytes())?;
-    steps.push(Step::Member(act, class.copy(alloc)?, key.copy(alloc)?))?;
-    push_pop(&mut steps, act, key.descriptor.as_bytes())?;
+    push_act(alloc, &mut steps, 0, act, class, key)?;
     steps.push(Step::Return(None))?;
+    Ok(steps)
+}
+
+// The number of the parameter behind the receiver of the act.
+fn behind_receiver(act: Act, number: u16) -> u16
+    requires { number < 65535 }
+    ensures { result ≡ (if is_act_on_static act then number else number + 1) }
+{
+    if act.is_on_static() {
+        number
+    } else {
+        number + 1
+    }
+}
+
+/// The acts are done, with the parameters as receivers in order, and the parameter behind them is
+/// returned.
+pub(crate) fn expose_and_return(alloc: Global, acts: &[MemberAct]) -> Result<Vec<Step>, AllocError>
+    requires { length acts.now ≤ 254 }
+    ensures { IfOk result (λ steps. steps.items ≡ exposed_steps 0 acts.now) }
+{
+    let mut steps = Vec::new(alloc);
+    let mut number: u16 = 0;
+    for exposed in acts {
+        push_act(
+            alloc,
+            &mut steps,
+            number,
+            exposed.act,
+            &exposed.class,
+            &exposed.key,
+        )?;
+        number = behind_receiver(exposed.act, number);
+    }
+    steps.push(Step::Load(Slot::Ref, number))?;
+    steps.push(Step::Return(Some(Slot::Ref)))?;
     Ok(steps)
 }

@@ -7,6 +7,8 @@ mod classes;
 mod collision_rows;
 mod constructor;
 mod draft;
+mod exposed_rows;
+mod exposing;
 mod lowest;
 mod member_rows;
 mod package;

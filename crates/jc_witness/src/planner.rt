@@ -1,18 +1,22 @@
 //! The names and constructors of planned clients.
-ghost use Rattle.std.specs.Prelude.{◌≡◌, IfOk};
+ghost use Rattle.std.specs.Prelude.{◌≡◌, [], None, IfOk};
+ghost use Rattle.std.specs.List.{cons_option};
 ghost use Rattle.jc_facts.specs.world.Assignment.{is_interface_of};
-ghost use Rattle.jc_facts.specs.plan.Planned.{receiver_for};
+ghost use Rattle.jc_facts.specs.world.Loading.{load_fault};
+ghost use Rattle.jc_facts.specs.plan.Planned.{acts_exposing, receiver_for};
 ghost use Rattle.jc_facts.specs.plan.PlannedNames.{in_package, fresh_package, own_name, closed_name, constructor};
 ghost use Rattle.jc_witness.specs.Ground.{IsGround, CanRefer};
 
 use crate::classes::is_interface;
 use crate::constructor::constructor_of;
+use crate::exposing::exposing;
 use crate::package::{fresh, name_in};
 use crate::permitted::{missing_of, permitted_of};
 use crate::receiver::finds_public;
 use jc_base::name::Name;
 use jc_facts::act::Act;
 use jc_facts::key::Key;
+use jc_facts::member_act::MemberAct;
 use jc_sides::sides::Sides;
 use jc_table::table::Table;
 use std::alloc::{AllocError, Global};
@@ -116,6 +120,19 @@ impl<'a> Planner<'a> {
         ensures { result ≡ is_interface_of self.now.old «class».now }
     {
         is_interface(self.sides.old, class)
+    }
+
+    // The act that exposes the class to clients of the seat, where it is hidden on the old side.
+    pub(crate) fn exposing(
+        &self,
+        alloc: Global,
+        seat: &Name,
+        class: &Name,
+    ) -> Result<Option<MemberAct>, AllocError>
+        requires { load_fault self.now.old seat.now ≡ None }
+        ensures { IfOk result (λ act. cons_option act [] ≡ acts_exposing self.now.old seat.now «class».now) }
+    {
+        exposing(alloc, self.sides.old, seat, class)
     }
 
     // The class of the receiver of an act on a member of the class, for a client of this name: the

@@ -4,10 +4,14 @@ ghost use Rattle.jc_facts.specs.declared.verdict.Cause.TheVariants as cause;
 ghost use Rattle.jc_facts.specs.plan.Planned.{finding_plan, member_plan};
 ghost use Rattle.jc_facts.specs.plan.PlannedBodies.{finding_bodies, member_bodies};
 ghost use Rattle.jc_facts.specs.rule.Findings.{Stands};
+ghost use Rattle.jc_facts.specs.Names.{object_name};
+ghost use Rattle.jc_witness.specs.Ground.{IsGround};
+ghost use Rattle.jc_witness.specs.Exposing.{CanExpose};
 ghost use Rattle.jc_witness.specs.steps.RowOf.{package_of, row_of, IsRowOf};
 
-use crate::class_rows::{assigning, extending, naming};
+use crate::class_rows::{extending, naming};
 use crate::collision_rows::{capturing, reading};
+use crate::exposed_rows::assigning_from;
 use crate::member_rows::{acting, constructing, inheriting, making, overriding};
 use crate::planner::Planner;
 use crate::row::Row;
@@ -23,12 +27,19 @@ use std::alloc::{AllocError, Global};
 
 // Of a rule on classes alone.
 fn class_row(alloc: Global, planner: &Planner<'_>, finding: &Finding) -> Result<Row, AllocError>
+    requires { CanExpose planner.now.old finding.now.seat object_name finding.now.class }
     ensures { IfOk result (λ row. row ≡ row_of (finding_plan planner.now.old planner.now.new (package_of planner.now) finding.now None None) (finding_bodies planner.now.old planner.now.new (package_of planner.now) finding.now None None)) }
 {
     match finding.rule {
         CLASS_GONE => naming(alloc, planner, &finding.class),
         CLASS_CLOSED => extending(alloc, planner, &finding.class),
-        _ => assigning(alloc, planner, &root_name(alloc)?, &finding.class),
+        _ => assigning_from(
+            alloc,
+            planner,
+            &root_name(alloc)?,
+            &finding.class,
+            &finding.seat,
+        ),
     }
 }
 
@@ -70,12 +81,19 @@ fn member_row(
 
 // Of a finding with this key and this target. None that stands has both.
 fn row_by_parts(alloc: Global, planner: &Planner<'_>, finding: &Finding) -> Result<Row, AllocError>
-    requires { Stands planner.now.old planner.now.new finding.now }
+    requires stands { Stands planner.now.old planner.now.new finding.now }
+    requires ground { IsGround planner.now }
     ensures { IfOk result (λ row. row ≡ row_of (finding_plan planner.now.old planner.now.new (package_of planner.now) finding.now finding.now.key finding.now.target) (finding_bodies planner.now.old planner.now.new (package_of planner.now) finding.now finding.now.key finding.now.target)) }
 {
     match (&finding.key, &finding.target) {
         (None, None) => class_row(alloc, planner, finding),
-        (None, Some(target)) => assigning(alloc, planner, &finding.class, target),
+        (None, Some(target)) => assigning_from(
+            alloc,
+            planner,
+            &finding.class,
+            target,
+            &finding.seat,
+        ),
         (Some(key), None) => member_row(alloc, planner, finding, key),
         (Some(_), Some(_)) => Row::none(alloc),
     }
@@ -88,7 +106,8 @@ pub(crate) fn finding_row(
     planner: &Planner<'_>,
     finding: &Finding,
 ) -> Result<Row, AllocError>
-    requires { Stands planner.now.old planner.now.new finding.now }
+    requires stands { Stands planner.now.old planner.now.new finding.now }
+    requires ground { IsGround planner.now }
     ensures { IfOk result (λ row. IsRowOf planner.now (cause.Finding finding.now) row) }
 {
     row_by_parts(alloc, planner, finding)

@@ -1,8 +1,8 @@
 //! The names and descriptors of which planned clients are made (JVMS 4.2.1, 4.3.3).
-ghost use Rattle.std.specs.Prelude.{◌≡◌, ◌++◌, IfOk, OnOk};
-ghost use Rattle.jc_desc.specs.Types.{type_text};
+ghost use Rattle.std.specs.Prelude.{◌≡◌, ◌++◌, map, IfOk, OnOk};
+ghost use Rattle.jc_desc.specs.Types.{type_text, types_text};
 ghost use Rattle.jc_facts.specs.Names.{object_name};
-ghost use Rattle.jc_facts.specs.plan.Planned.{class_type, takes, takes_nothing, turns};
+ghost use Rattle.jc_facts.specs.plan.Planned.{class_type, takes, takes_nothing, turns, turns_behind};
 
 use jc_base::name::Name;
 use std::alloc::{AllocError, Global};
@@ -36,6 +36,35 @@ pub(crate) fn with_parameter(alloc: Global, class: &Name) -> Result<Name, AllocE
     let mut bytes = Vec::from_slice(alloc, b"(")?;
     push_class(&mut bytes, class)?;
     bytes.extend_from_slice(b")V")?;
+    Name::from_bytes(alloc, bytes.as_slice())
+}
+
+// The types of these classes.
+fn push_classes(bytes: &mut Vec<u8>, classes: &[Name]) -> Result<(), AllocError>
+    ensures { OnOk result (bytes.new.items ≡ bytes.old.items ++ types_text (map class_type classes.now)) }
+{
+    for class in classes {
+        push_class(bytes, class)?;
+    }
+    Ok(())
+}
+
+/// The descriptor of a method that takes objects of these classes and then one of another class, and
+/// returns one of a third.
+#[tactic(auto, using(crate::proofs::ExposedParts::turns_parts))]
+pub(crate) fn from_behind(
+    alloc: Global,
+    before: &[Name],
+    from: &Name,
+    to: &Name,
+) -> Result<Name, AllocError>
+    ensures { IfOk result (λ descriptor. descriptor ≡ turns_behind before.now from.now to.now) }
+{
+    let mut bytes = Vec::from_slice(alloc, b"(")?;
+    push_classes(&mut bytes, before)?;
+    push_class(&mut bytes, from)?;
+    bytes.push(b')')?;
+    push_class(&mut bytes, to)?;
     Name::from_bytes(alloc, bytes.as_slice())
 }
 

@@ -7,7 +7,6 @@ use Rattle.jc_facts.specs.world.Assignment.{is_interface_of}
 use Rattle.jc_facts.specs.rule.Findings.{Subject, finding_at}
 use Rattle.jc_facts.specs.world.Hierarchy.{in_chain}
 use Rattle.jc_facts.specs.Names.{Bytes}
-use Rattle.jc_facts.specs.rule.Bases.{is_kept}
 use Rattle.jc_facts.specs.world.World.{World, size}
 use Rattle.jc_sides.specs.Rules.{IsFinding, IsOf}
 use Rattle.jc_sides.specs.SidesOf.{SidesOf}
@@ -26,9 +25,9 @@ on_target x t = record { rule = 4; «class» = x; key = None; target = Some t }
 unfoldable pub target_finding : SidesOf → Bytes → Bytes → Option Finding
 target_finding s x t = finding_at s.old s.new (on_target x t)
 
--- the kept class t isn't in the new chain of x, and is no interface
+-- t isn't in the new chain of x, and is no interface of the new side
 abbrev pub has_left_chain : SidesOf → Bytes → Bytes → Bool
-has_left_chain s x t = is_kept s.old s.new t && not (in_chain s.new x t) && not (is_interface_of s.new t)
+has_left_chain s x t = not (in_chain s.new x t) && not (is_interface_of s.new t)
 
 -- the finding stands, and is that a superclass has left the chain of the class x
 abbrev pub OfChain : SidesOf → Bytes → Finding → Type 0

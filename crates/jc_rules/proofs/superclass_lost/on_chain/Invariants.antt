@@ -6,4 +6,4 @@ use Rattle.jc_rules.proofs.superclass_lost.on_chain.Given as goal
 
 abbrev pub invariant-loop-target : goal.invariant-loop-target
 invariant-loop-target l = (front : List ℕ) × (l.fn.before.keys ≡ front ++ l.target-iterator)
-    × (l.findings.items ≡ filter_map (target_finding l.sides l.class) (map (name_at l.sides.old) front))
+    × (l.findings.items ≡ filter_map (target_finding l.sides (name_at l.sides.old l.class)) (map (name_at l.sides.old) front))

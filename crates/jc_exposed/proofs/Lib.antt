@@ -1,0 +1,10 @@
+mod OpenMembers
+mod NamedClasses
+mod GivenNamings
+mod OwnNamings
+mod FoundMembers
+mod AboveFinds
+mod AddedRows
+mod AllNames
+mod SeatStarts
+mod FirstThrough

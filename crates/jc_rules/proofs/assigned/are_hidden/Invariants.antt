@@ -1,0 +1,8 @@
+use Rattle.std.proofs.Common.{◌≡◌, drop}
+use Rattle.std.specs.List.{list_all}
+use Rattle.jc_facts.specs.rule.Exposed.{is_hidden}
+use Rattle.jc_table.specs.Ids.{name_at}
+use Rattle.jc_rules.proofs.assigned.are_hidden.Given as goal
+
+abbrev pub invariant-loop-id : goal.invariant-loop-id
+invariant-loop-id l = list_all (λ id. is_hidden l.table (name_at l.table id)) (drop l.id-index l.ids) ≡ list_all (λ id. is_hidden l.table (name_at l.table id)) l.ids

@@ -1,0 +1,7 @@
+use Rattle.std.proofs.Common.{◌≡◌, map, take}
+use Rattle.jc_table.specs.Ids.{names}
+use Rattle.jc_rules.specs.steps.Losses.{matters}
+use Rattle.jc_rules.proofs.losses.wanted.Given as goal
+
+abbrev pub invariant-loop-n : goal.invariant-loop-n
+invariant-loop-n l = l.flags.items ≡ map (matters l.sides) (take l.n (names l.sides.old))

@@ -1,0 +1,169 @@
+//! Classes that lost some of their chain, and the members that expose those that are hidden.
+ghost use Rattle.std.specs.Prelude.{◌≡◌, ◌<◌, ◌&&◌, IfOk, length};
+ghost use Rattle.jc_acts.specs.Seats.{AreSeats};
+ghost use Rattle.jc_acts.specs.Touched.{AreFlags, AreSet, left_chain_of};
+ghost use Rattle.jc_facts.specs.world.World.{size};
+ghost use Rattle.jc_rules.specs.steps.Losses.{may_take_part, loses, is_lost, was_interface, changed_place, matters};
+ghost use Rattle.jc_table.specs.Ids.{name_at};
+
+use crate::interface_became_class::is_no_interface_now;
+use jc_acts::lost::{loses_any, set_lost};
+use jc_acts::seats::Seats;
+use jc_exposed::exposed::Exposed;
+use jc_sides::kept::{is_hidden_class, kept};
+use jc_sides::sides::Sides;
+use jc_table::ids::ClassId;
+use std::alloc::{AllocError, Global};
+
+/// Which classes lost some of their chain, and which members expose hidden classes, where a rule may
+/// ask for that.
+#[derive(Drop)]
+pub struct Losses {
+    // For each class of the old side, whether it is kept or hidden and has lost a class of its chain.
+    losing: Vec<bool>,
+    pub(crate) exposed: Exposed,
+}
+
+impl Losses {
+    ghost use Rattle.std.specs.Prelude.{◌≡◌, ◌<◌, IfOk};
+    ghost use Rattle.jc_acts.specs.Seats.{AreSeats};
+    ghost use Rattle.jc_facts.specs.world.World.{size};
+    ghost use Rattle.jc_rules.specs.steps.Losses.{AreLosses, loses};
+    ghost use Rattle.jc_table.specs.Ids.{name_at};
+
+    /// What was lost between the two sides. Members are looked at only where a hidden class was an
+    /// interface and isn't one any more, or lost some of its chain, or was lost by a class that is kept
+    /// or hidden.
+    ///
+    /// # Errors
+    ///
+    /// `AllocError` where memory runs out.
+    pub fn new(alloc: Global, sides: &Sides<'_>, seats: &Seats<'_>) -> Result<Losses, AllocError>
+        requires { AreSeats sides.now seats.now }
+        ensures { IfOk result (λ losses. AreLosses sides.now losses) }
+    {
+        let losing = losing(alloc, sides, seats)?;
+        let wanted = wanted(alloc, sides, losing.as_slice())?;
+        let exposed = Exposed::new(alloc, sides, seats, wanted)?;
+        Ok(Losses { losing, exposed })
+    }
+
+    /// Whether the class is kept or hidden, and a class of its old chain isn't in its new one.
+    pub fn has_lost(&self, _sides: &Sides<'_>, id: ClassId) -> bool
+        requires losses { AreLosses _sides.now self.now }
+        requires class { id < size _sides.now.old }
+        ensures { result ≡ loses _sides.now (name_at _sides.now.old id) }
+    {
+        self.losing[id.number() as usize]
+    }
+}
+
+// Whether the class is kept or hidden.
+fn takes_part(sides: &Sides<'_>, id: ClassId) -> bool
+    requires { id < size sides.now.old }
+    ensures { result ≡ may_take_part sides.now (name_at sides.now.old id) }
+{
+    if kept(sides, id).is_some() {
+        return true;
+    }
+    is_hidden_class(sides.old, id)
+}
+
+// Whether it is, and has lost a class of its chain.
+fn is_losing(sides: &Sides<'_>, seats: &Seats<'_>, id: ClassId) -> bool
+    requires seats { AreSeats sides.now seats.now }
+    requires class { id < size sides.now.old }
+    ensures { result ≡ loses sides.now (name_at sides.now.old id) }
+{
+    takes_part(sides, id) && loses_any(sides, seats, id)
+}
+
+// The same of each class.
+fn losing(alloc: Global, sides: &Sides<'_>, seats: &Seats<'_>) -> Result<Vec<bool>, AllocError>
+    requires { AreSeats sides.now seats.now }
+    ensures { IfOk result (λ flags. AreFlags sides.now.old (loses sides.now) flags.items) }
+{
+    let mut flags = Vec::new(alloc);
+    for n in 0..sides.old.count() {
+        let id = sides.old.id(n).unwrap();
+        flags.push(is_losing(sides, seats, id))?;
+    }
+    Ok(flags)
+}
+
+// ---- hidden classes that matter
+
+// For each class, whether it was an interface and isn't one of the new side.
+fn former_interfaces(alloc: Global, sides: &Sides<'_>) -> Result<Vec<bool>, AllocError>
+    ensures { IfOk result (λ flags. AreFlags sides.now.old (was_interface sides.now) flags.items) }
+{
+    let mut flags = Vec::new(alloc);
+    for n in 0..sides.old.count() {
+        let id = sides.old.id(n).unwrap();
+        flags.push(is_no_interface_now(sides, id))?;
+    }
+    Ok(flags)
+}
+
+// Sets the flags of those that the class has lost, if it loses.
+fn set_lost_by(sides: &Sides<'_>, losing: &[bool], flags: &mut Vec<bool>, id: ClassId)
+    requires losing { AreFlags sides.now.old (loses sides.now) losing.now }
+    requires class { id < size sides.now.old }
+    requires flags { length flags.old.items ≡ size sides.now.old }
+    ensures { AreSet sides.now.old (λ y. loses sides.now (name_at sides.now.old id) && left_chain_of sides.now y (name_at sides.now.old id)) flags.old.items flags.new.items }
+{
+    if losing[id.number() as usize] {
+        set_lost(sides, flags, id);
+    }
+}
+
+// Sets the flags of those that some class has lost.
+fn set_lost_by_any(sides: &Sides<'_>, losing: &[bool], flags: &mut Vec<bool>)
+    requires losing { AreFlags sides.now.old (loses sides.now) losing.now }
+    requires flags { length flags.old.items ≡ size sides.now.old }
+    ensures { AreSet sides.now.old (is_lost sides.now) flags.old.items flags.new.items }
+{
+    for n in 0..sides.old.count() {
+        let id = sides.old.id(n).unwrap();
+        set_lost_by(sides, losing, flags, id);
+    }
+}
+
+// For each class, whether it was an interface and isn't one, or a class that is kept or hidden has lost
+// it.
+fn moved(alloc: Global, sides: &Sides<'_>, losing: &[bool]) -> Result<Vec<bool>, AllocError>
+    requires { AreFlags sides.now.old (loses sides.now) losing.now }
+    ensures { IfOk result (λ flags. AreFlags sides.now.old (changed_place sides.now) flags.items) }
+{
+    let mut flags = former_interfaces(alloc, sides)?;
+    set_lost_by_any(sides, losing, &mut flags);
+    Ok(flags)
+}
+
+// Whether a rule may ask to whom members expose the class.
+fn is_asked(sides: &Sides<'_>, losing: &[bool], moved: &[bool], id: ClassId) -> bool
+    requires losing { AreFlags sides.now.old (loses sides.now) losing.now }
+    requires moved { AreFlags sides.now.old (changed_place sides.now) moved.now }
+    requires class { id < size sides.now.old }
+    ensures { result ≡ matters sides.now (name_at sides.now.old id) }
+{
+    if !is_hidden_class(sides.old, id) {
+        return false;
+    }
+    let n = id.number() as usize;
+    moved[n] || losing[n]
+}
+
+// The same of each class.
+fn wanted(alloc: Global, sides: &Sides<'_>, losing: &[bool]) -> Result<Vec<bool>, AllocError>
+    requires { AreFlags sides.now.old (loses sides.now) losing.now }
+    ensures { IfOk result (λ flags. AreFlags sides.now.old (matters sides.now) flags.items) }
+{
+    let moved = moved(alloc, sides, losing)?;
+    let mut flags = Vec::new(alloc);
+    for n in 0..sides.old.count() {
+        let id = sides.old.id(n).unwrap();
+        flags.push(is_asked(sides, losing, moved.as_slice(), id))?;
+    }
+    Ok(flags)
+}

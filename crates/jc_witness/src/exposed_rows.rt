@@ -1,0 +1,109 @@
+//! Planned clients for assignments of hidden classes, which members expose to them.
+ghost use Rattle.std.specs.Prelude.{◌≡◌, ◌≤◌, ◌++◌, ◌∷◌, [], None, length, IfOk};
+ghost use Rattle.std.specs.List.{All};
+ghost use Rattle.jc_facts.specs.declared.member_act.MemberAct.{MemberAct};
+ghost use Rattle.jc_facts.specs.world.Loading.{load_fault};
+ghost use Rattle.jc_facts.specs.plan.Planned.{acts_exposing, assigns_behind, assigns_from, receivers_exposed};
+ghost use Rattle.jc_facts.specs.plan.PlannedBodies.{assigns_bodies, body_of, init_body, exposed_steps};
+ghost use Rattle.jc_facts.specs.plan.PlannedNames.{constructor};
+ghost use Rattle.jc_witness.specs.Ground.{CanRefer};
+ghost use Rattle.jc_witness.specs.Exposing.{CanExpose};
+ghost use Rattle.jc_witness.specs.steps.RowOf.{package_of, row_of};
+
+use crate::bodies::expose_and_return;
+use crate::class_rows::assigning;
+use crate::draft::{Draft, PUBLIC_CLASS, body};
+use crate::planner::Planner;
+use crate::row::{Row, static_use};
+use crate::texts::from_behind;
+use jc_base::name::Name;
+use jc_facts::member_act::MemberAct;
+use jc_facts::verdict::Spot;
+use jc_sides::found::push_some;
+use std::alloc::{AllocError, Global};
+
+// The receivers that the acts of a client of this name take.
+fn receivers(
+    alloc: Global,
+    planner: &Planner<'_>,
+    acts: &[MemberAct],
+    own: &Name,
+) -> Result<Vec<Name>, AllocError>
+    requires { All (λ (s : MemberAct). CanRefer planner.now.old s.act s.«class» s.key) acts.now }
+    ensures { IfOk result (λ names. names.items ≡ receivers_exposed planner.now.old own.now acts.now) }
+{
+    let mut names = Vec::new(alloc);
+    for exposed in acts {
+        if !exposed.act.is_on_static() {
+            let receiver = planner.receiver(exposed.act, &exposed.class, &exposed.key, own);
+            names.push(receiver.copy(alloc)?)?;
+        }
+    }
+    Ok(names)
+}
+
+// The acts that expose the one class and the other to clients of the seat, where these are hidden.
+fn exposing_both(
+    alloc: Global,
+    planner: &Planner<'_>,
+    seat: &Name,
+    from: &Name,
+    to: &Name,
+) -> Result<Vec<MemberAct>, AllocError>
+    requires { load_fault planner.now.old seat.now ≡ None }
+    ensures { IfOk result (λ acts. acts.items ≡ acts_exposing planner.now.old seat.now from.now ++ acts_exposing planner.now.old seat.now to.now) }
+{
+    let mut acts = Vec::new(alloc);
+    push_some(&mut acts, planner.exposing(alloc, seat, from)?)?;
+    push_some(&mut acts, planner.exposing(alloc, seat, to)?)?;
+    Ok(acts)
+}
+
+// A class extends the seat, takes these acts, and returns an object of one class as one of another.
+fn assigning_behind(
+    alloc: Global,
+    planner: &Planner<'_>,
+    acts: &[MemberAct],
+    from: &Name,
+    to: &Name,
+    seat: &Name,
+) -> Result<Row, AllocError>
+    requires few { length acts.now ≤ 254 }
+    requires refers { All (λ (s : MemberAct). CanRefer planner.now.old s.act s.«class» s.key) acts.now }
+    ensures { IfOk result (λ row. row ≡ row_of (assigns_behind planner.now.old planner.now.new (package_of planner.now) acts.now from.now to.now seat.now) ((init_body seat.now (constructor planner.now.old seat.now) ∷ body_of (exposed_steps 0 acts.now) ∷ []) ∷ [])) }
+{
+    let name = planner.own_name(alloc, b"Y", seat)?;
+    let before = receivers(alloc, planner, acts, &name)?;
+    let descriptor = from_behind(alloc, before.as_slice(), from, to)?;
+    let above = seat.copy(alloc)?;
+    let constructor = planner.constructor(seat);
+    let draft = Draft::class(alloc, name, PUBLIC_CLASS, above, constructor)?;
+    let steps = expose_and_return(alloc, acts)?;
+    let draft = draft.method(static_use(alloc, descriptor)?, body(steps))?;
+    Row::one(
+        alloc,
+        draft.finish(alloc),
+        Spot::Item(acts.len() as u32 + 1),
+    )
+}
+
+/// A class returns an object of one class as one of another: one without a seat where it may name
+/// both, and else one below the seat to whose clients members expose those that are hidden.
+pub(crate) fn assigning_from(
+    alloc: Global,
+    planner: &Planner<'_>,
+    from: &Name,
+    to: &Name,
+    seat: &Option<Name>,
+) -> Result<Row, AllocError>
+    requires { CanExpose planner.now.old seat.now from.now to.now }
+    ensures { IfOk result (λ row. row ≡ row_of (assigns_from planner.now.old planner.now.new (package_of planner.now) from.now to.now seat.now) (assigns_bodies planner.now.old from.now to.now seat.now ∷ [])) }
+{
+    match seat {
+        None => assigning(alloc, planner, from, to),
+        Some(seat) => {
+            let acts = exposing_both(alloc, planner, seat, from, to)?;
+            assigning_behind(alloc, planner, acts.as_slice(), from, to, seat)
+        }
+    }
+}
