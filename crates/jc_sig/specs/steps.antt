@@ -1,1 +1,3 @@
 pub mod Dots
+pub mod Changes
+pub mod OnRecords

@@ -2,6 +2,8 @@
 #![tactic(auto)]
 
 #[cfg(test)]
+mod notes;
+#[cfg(test)]
 mod texts;
 #[cfg(test)]
 mod trees;

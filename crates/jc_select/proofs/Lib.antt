@@ -1,0 +1,12 @@
+mod Answered
+mod AskedKeys
+mod ChainKeys
+mod Chains
+mod ChangedKeys
+mod Collected
+mod Compared
+mod StillAgree
+mod Unchanged
+pub mod KindsWarned
+pub mod Limited
+pub mod WarnedKeys

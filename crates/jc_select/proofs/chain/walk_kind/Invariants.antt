@@ -1,0 +1,13 @@
+use Rattle.std.proofs.Common.{◌≡◌, ◌<◌, ◌-◌}
+use Rattle.std.specs.Prelude.{IfSome}
+use Rattle.jc_facts.specs.world.World.{size}
+use Rattle.jc_facts.specs.world.Hierarchy.{chain}
+use Rattle.jc_table.specs.Ids.{name_at}
+use Rattle.jc_facts.specs.rule.Selection.{first_kind}
+use Rattle.jc_select.specs.steps.Kinds.{kind_from}
+use Rattle.jc_select.proofs.chain.walk_kind.Given as goal
+
+abbrev pub invariant-loop-done : goal.invariant-loop-done
+invariant-loop-done l =
+    IfSome l.next (λ id. id < size l.table)
+    × (first_kind l.key (chain l.table (name_at l.table l.fn.class)) ≡ kind_from l.table l.key (size l.table - l.done) l.next)

@@ -1,0 +1,23 @@
+use Rattle.std.proofs.Common.{◌≡◌, ◌<◌, ◌≤◌, List, length, get_or, ap, ◌∙◌, ◌&&◌, arith}
+use Rattle.jc_facts.specs.declared.class_facts.Member.{Member}
+use Rattle.jc_facts.specs.Names.{is_key, key_of}
+use Rattle.jc_select.specs.steps.Changes.{differs}
+use Rattle.jc_sides.proofs.KeySets.{adds_none, put_member, adds_all}
+use Rattle.jc_select.proofs.changes.add_changed.Goals as goal
+
+pub loop-method-init : goal.loop-method-init
+loop-method-init c = adds_none c.args.keys.now.items
+
+pub loop-method-preserved : goal.loop-method-preserved
+loop-method-preserved c =
+    let here : c.as_slice-method-items.result.now ≡ c.args.class.now.methods = c.as_slice-method-items.ensures in
+    let within : c.loop-method.method-index < length c.args.class.now.methods = omega (arith, ap (λ (xs : List Member). length xs) here) in
+    put_member (λ m. differs c.args.sides.now c.args.before c.args.now (key_of m)) c.args.class.now.methods c.loop-method.method-index c.method-item.result c.differs-wanted.result _ _ _ within
+    (c.method-item.is ∙ ap (λ (xs : List Member). get_or xs c.loop-method.method-index c.method-item.result) here) (c.differs-wanted.ensures ∙ ap (differs c.args.sides.now c.args.before c.args.now) c.in_ok-key.ensures)
+    c.loop-method.invariant c.in_ok-push_if.ensures
+
+pub returns : goal.returns
+returns c =
+    let here : c.as_slice-method-items.result.now ≡ c.args.class.now.methods = c.as_slice-method-items.ensures in
+    let end : length c.args.class.now.methods ≤ c.loop-method.method-index = omega (arith, ap (λ (xs : List Member). length xs) here) in
+    adds_all (λ q m. differs c.args.sides.now c.args.before c.args.now (key_of m) && is_key q m) c.args.class.now.methods c.loop-method.method-index c.args.keys.now.items c.loop-method.keys.items end c.loop-method.invariant
