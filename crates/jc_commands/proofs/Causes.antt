@@ -1,6 +1,6 @@
 -- Why a command has no report, and what it comes to.
-use Rattle.std.proofs.Common.{◌≡◌, inl, inr, List, [], ◌∷◌, Option, Some, None, refl, sym, ap, subst, ◌∙◌}
-use Rattle.std.specs.Prelude.{Ok, IsOkAnd}
+use Rattle.std.proofs.Common.{◌≡◌, ◌≤◌, Bool, inl, inr, List, [], ◌∷◌, map, Option, Some, None, refl, sym, ap, subst, ◌∙◌}
+use Rattle.std.specs.Prelude.{Ok, IsOkAnd, option_map}
 use Rattle.std.specs.List.{All, AllByRecursion}
 use Rattle.std.proofs.lemmas.List.Elements.{recursion_from_All}
 use Rattle.jc_base.specs.Outside.{FileOf}
@@ -8,10 +8,13 @@ use Rattle.jc_base.specs.States.{TreesState, Change}
 use Rattle.jc_facts.specs.declared.class_facts.ClassFacts.{ClassFacts}
 use Rattle.jc_facts.specs.declared.client.ClientClass.{ClientClass}
 use Rattle.jc_facts.specs.declared.outcome.Outcome.{Outcome}
+use Rattle.jc_facts.specs.declared.verdict.Verdict.{Verdict}
 use Rattle.jc_facts.specs.Names.{Bytes}
 use Rattle.jc_facts.specs.Options.{or_else}
 use Rattle.jc_facts.specs.client.Clients.{facts_of}
+use Rattle.jc_facts.specs.rule.Verdict.{IsVerdict, count_of}
 use Rattle.jc_facts.specs.world.World.{World, side}
+use Rattle.jc_sound.proofs.VerdictLaw.{verdict_is_one}
 use Rattle.jc_gate.specs.Gates.{GateOf}
 use Rattle.jc_link.specs.Refusals.{RefusesLink, MayLink}
 use Rattle.jc_link.specs.declared.refusal.LinkRefusal.{LinkRefusal}
@@ -31,13 +34,15 @@ use Rattle.jc_trees.specs.FirstTree.{IsFirstUnread}
 use Rattle.jc_trees.specs.declared.trees_error.TreesError.{TreesError}
 use Rattle.jc_trees.specs.declared.trees_error.TreesError.TheVariants as trees_errors
 use Rattle.jc_commands.specs.Causes.{HasCause, StopsCommand}
-use Rattle.jc_commands.specs.Check.{CheckRecords, mismatch_of, report_of, puts_below}
+use Rattle.jc_commands.specs.Check.{CheckRecords, is_apart, over_findings, over_warnings, mismatch_of, report_of, puts_below}
 use Rattle.jc_trees.specs.ClassFiles.{Told}
-use Rattle.jc_commands.specs.Command.{CommandOf, CheckOf, LinkOf, CheckCommand, LinkCommand, trees_of, asked_of}
+use Rattle.jc_commands.specs.Command.{CommandOf, CheckOf, LinkOf, HistoryOf, CheckCommand, LinkCommand, HistoryCommand, trees_of, asked_of}
+use Rattle.jc_commands.specs.History.{HistoryRecords}
+use Rattle.jc_commands.specs.steps.History.{IsJudged, StopsJudging}
 use Rattle.jc_commands.specs.Link.{LinkRecords, refusal_of, AreOutcomesOf}
 use Rattle.jc_commands.specs.Reports.{ToldTo, RecordsOf, Refuses}
 use Rattle.jc_trees.specs.Tree.{TreeOf}
-use Rattle.jc_commands.specs.steps.Check.{IsComparison, StopsComparing, StopsCounting, StopsMatching, unfit_by}
+use Rattle.jc_commands.specs.steps.Check.{IsComparison, StopsComparing, StopsCounting, StopsMatching, StopsWarning, unfit_by}
 use Rattle.jc_commands.specs.steps.Trees.{stop_by_trees}
 use Rattle.jc_commands.specs.steps.Link.{StopsLinking, stop_by_refusal}
 use Rattle.jc_trees.specs.ClassLists.{IsClassList, IsRecordList}
@@ -46,8 +51,9 @@ use Rattle.jc_commands.specs.ReportValue.{TellsOf, HasToShow, IsBare, puts_in, I
 use Rattle.jc_commands.proofs.Bodies.{bare_dir, bare_puts, bare_can}
 use Rattle.jc_commands.proofs.Compared.{some_broken, each_shown, show_dir, show_puts, can_show_any}
 use Rattle.jc_commands.proofs.Events.{for_ok}
-use Rattle.jc_commands.proofs.Records.{check_records, link_records, first_none, unmapped, IsOfRecords, unfit_says, refusal_says}
-use Rattle.jc_commands.proofs.SomeVerdict.{some_verdict}
+use Rattle.jc_commands.proofs.Records.{check_records, link_records, history_records, first_none, unmapped, IsOfRecords, unfit_says, refusal_says, unfit_row_says}
+use Rattle.jc_commands.proofs.SomeVerdict.{some_verdict, some_warnings}
+use Rattle.jc_commands.specs.declared.limits.TheConstants.{MAX_FINDINGS}
 
 -- ---- why comparing stopped
 
@@ -67,9 +73,9 @@ unfit_new platform old new (errors.Overlap name) root apart h = inl (rw (root, a
 unfit_new platform old new errors.Memory root apart h = inr refl
 
 -- either isn't
-pub unmatched : (platform old new : List ClassFacts) (stop : Stop) → StopsMatching platform old new stop → StopsComparing platform old new stop
-unmatched platform old new stop (inl h) = inl (inl h)
-unmatched platform old new stop (inr h) = inr h
+pub unmatched : (platform old new : List ClassFacts) (stop : Stop) → StopsMatching platform old new stop → (warn : Bool) → StopsComparing warn platform old new stop
+unmatched platform old new stop (inl h) warn = inl (is_apart h)
+unmatched platform old new stop (inr h) warn = inr h
 
 -- both are
 pub releases_fit : (platform old new : List ClassFacts) → fault_of_root platform ≡ None → overlap_of platform old ≡ None → overlap_of platform new ≡ None → mismatch_of platform old new ≡ None
@@ -78,12 +84,27 @@ releases_fit platform old new root apart besides = rw (root, apart, besides) ref
 
 -- their verdict has too many findings
 pub unfit_counting : (platform old new : List ClassFacts) (stop : Stop) → IsRecordList platform → IsRecordList old → IsRecordList new → mismatch_of platform old new ≡ None → StopsCounting (side platform old) (side platform new) stop
-    → StopsComparing platform old new stop
-unfit_counting platform old new stop ps os ns fits (inl (is, many)) =
+    → (warn : Bool) → StopsComparing warn platform old new stop
+unfit_counting platform old new stop ps os ns fits (inl (is, many)) warn =
     let root : fault_of_root platform ≡ None = unmapped stops.BadRoot (fault_of_root platform) (first_none _ _ fits) in
     let v = some_verdict platform old new (has_root platform (sym root)) ps.valid os.valid ns.valid in
-    inl (inr (is, record { fits = fits; verdict = v.0; exact = v.1; many = many v.0 v.1 }))
-unfit_counting platform old new stop ps os ns fits (inr h) = inr h
+    inl (over_findings is (record { fits = fits; verdict = v.0; exact = v.1; many = many v.0 v.1 }))
+unfit_counting platform old new stop ps os ns fits (inr h) warn = inr h
+
+-- there are too many warnings on them, and not too many findings
+pub unfit_warning : (platform old new : List ClassFacts) (stop : Stop) → IsRecordList platform → IsRecordList old → IsRecordList new → mismatch_of platform old new ≡ None
+    → (v : Verdict) → IsVerdict (side platform old) (side platform new) v → count_of v ≤ MAX_FINDINGS → (warn : Bool) → StopsWarning warn (side platform old) (side platform new) stop → StopsComparing warn platform old new stop
+unfit_warning platform old new stop ps os ns fits v is few warn (inl (asked, named, many)) =
+    let root : fault_of_root platform ≡ None = unmapped stops.BadRoot (fault_of_root platform) (first_none _ _ fits) in
+    let ws = some_warnings platform old new (has_root platform (sym root)) ps.valid os.valid ns.valid in
+    inl (over_warnings asked named (record {
+      fits = fits;
+      few = λ w k. subst (λ (x : Verdict). count_of x ≤ MAX_FINDINGS) (verdict_is_one (side platform old) (side platform new) v w is k) few;
+      warnings = ws.0;
+      exact = ws.1;
+      many = many ws.0 ws.1;
+    }))
+unfit_warning platform old new stop ps os ns fits v is few warn (inr h) = inr h
 
 -- ---- why linking stopped
 
@@ -160,24 +181,25 @@ module _ (check : CheckOf) (c : Change TreesState) (wanted : List TreeOf) (wante
   checked files told =
       check_records files check platform old new (told_classes c.before.content wanted (trees_of (CheckCommand check)) all (platform ∷ old ∷ new ∷ []) wanted_is all_is read files told)
 
-  pub cause_comparing : (stop : Stop) → StopsComparing (facts_of platform) (facts_of old) (facts_of new) stop → StopsCommand (CheckCommand check) c stop
-  cause_comparing stop (inl h) = cause_refused (CheckCommand check) c stop (unfit_says (facts_of platform) (facts_of old) (facts_of new) stop h) (λ files told. (checked files told, h))
+  pub cause_comparing : (stop : Stop) → StopsComparing check.warn (facts_of platform) (facts_of old) (facts_of new) stop → StopsCommand (CheckCommand check) c stop
+  cause_comparing stop (inl h) = cause_refused (CheckCommand check) c stop (unfit_says check.warn (facts_of platform) (facts_of old) (facts_of new) stop h) (λ files told. (checked files told, h))
   cause_comparing stop (inr h) = cause_memory (CheckCommand check) c stop h
 
-  pub verdict_reported : (made : Comparison) (report : Report) → IsComparison (facts_of platform) (facts_of old) (facts_of new) made → HasToShow check.witness made.old made.new made.verdict report.body
-      → TellsOf (CheckCommand check) (report_of made.verdict) report → IsReportOf (CheckCommand check) c.before report
+  pub verdict_reported : (made : Comparison) (report : Report) → IsComparison check.warn (facts_of platform) (facts_of old) (facts_of new) made → HasToShow check.witness made.old made.new made.verdict report.body
+      → TellsOf (CheckCommand check) (report_of made.verdict (option_map (λ ws. ws.items) made.warnings)) report → IsReportOf (CheckCommand check) c.before report
   verdict_reported made report is shown tells = record {
-    of = report_of made.verdict;
+    of = report_of made.verdict (option_map (λ ws. ws.items) made.warnings);
     tells = tells;
     dir_is = show_dir check.witness made.old made.new made.verdict report.body shown;
-    can_show = can_show_any (facts_of platform) (facts_of old) (facts_of new) made is check.witness report.body shown;
-    is_report = λ files told. (checked files told, record { verdict = is.verdict }, puts_are);
+    can_show = can_show_any check.warn (facts_of platform) (facts_of old) (facts_of new) made is check.witness report.body shown;
+    is_report = λ files told. (checked files told, record { verdict = is.verdict; warnings = is.warned }, puts_are);
     upholds = λ files told. record {
       records = checked files told;
-      parts = record { verdict = is.verdict };
+      parts = record { verdict = is.verdict; warnings = is.warned };
       kept = is.kept;
       broken = some_broken (side (facts_of platform) (facts_of old)) (side (facts_of platform) (facts_of new)) made.verdict is.can is.verdict.exact;
       breaks = is.breaks;
+      answered = is.answered;
       shown = each_shown (side (facts_of platform) (facts_of old)) (side (facts_of platform) (facts_of new)) made.verdict is.can is.verdict.exact;
       puts_are = puts_are;
     };
@@ -210,4 +232,27 @@ module _ (link : LinkOf) (c : Change TreesState) (wanted : List TreeOf) (wanted_
     can_show = bare_can report.body none;
     is_report = λ files told. (given files told, exact, bare_puts report.body none);
     upholds = tt;
+  }
+
+-- ---- a row of releases
+
+module _ (history : HistoryOf) (c : Change TreesState) (wanted : List TreeOf) (wanted_is : wanted ≡ trees_of (HistoryCommand history))
+    (all : List (List ClientClass)) (platform : List ClientClass) (releases : List (List ClientClass)) (all_is : all ≡ platform ∷ releases) (read : Told c.before.content (λ files. AreClassesOf files wanted all)) where
+  abbrev rowed : (files : List FileOf) → c.before.content ≡ Some files → HistoryRecords files history
+  rowed files told =
+      history_records files history platform releases (told_classes c.before.content wanted (trees_of (HistoryCommand history)) all (platform ∷ releases) wanted_is all_is read files told)
+
+  pub cause_judging : (stop : Stop) → StopsJudging (facts_of platform) (map facts_of releases) stop → StopsCommand (HistoryCommand history) c stop
+  cause_judging stop (inl h) = cause_refused (HistoryCommand history) c stop (unfit_row_says (facts_of platform) (map facts_of releases) stop h) (λ files told. (rowed files told, h))
+  cause_judging stop (inr h) = cause_memory (HistoryCommand history) c stop h
+
+  pub row_reported : (vs : List Verdict) (report : Report) → IsJudged (facts_of platform) (map facts_of releases) vs → IsBare report.body → TellsOf (HistoryCommand history) vs report
+      → IsReportOf (HistoryCommand history) c.before report
+  row_reported vs report is none tells = record {
+    of = vs;
+    tells = tells;
+    dir_is = bare_dir report.body none;
+    can_show = bare_can report.body none;
+    is_report = λ files told. (rowed files told, is.verdicts, bare_puts report.body none);
+    upholds = λ files told. record { records = rowed files told; verdicts = is.verdicts; keeps = is.keeps };
   }

@@ -1,5 +1,5 @@
 -- What a comparison gives beside its verdict: clients that show it.
-use Rattle.std.proofs.Common.{◌≡◌, ◌≢◌, ◌<◌, ◌^◌, ℕ, List, [], ◌∷◌, map, length, Option, Some, None, refl, sym, ap, subst, ◌∙◌, arith, length-append}
+use Rattle.std.proofs.Common.{◌≡◌, ◌≢◌, ◌<◌, ◌^◌, ℕ, Bool, List, [], ◌∷◌, map, length, Option, Some, None, refl, sym, ap, subst, ◌∙◌, arith, length-append}
 use Rattle.std.specs.Prelude.{IsTrue}
 use Rattle.std.specs.List.{All}
 use Rattle.std.proofs.lemmas.List.Elements.{All-from_recursion, recursion_from_All}
@@ -96,6 +96,7 @@ shown_dir (Some d) O N None h = absurd h
 
 pub show_dir : (dir : Option Bytes) (O N : World) (v : Verdict) (body : Body) → HasToShow dir O N v body → dir_in body ≡ dir
 show_dir dir O N v (bodies.Bytes bytes) h = absurd h
+show_dir dir O N v (bodies.Row vs) h = absurd h
 show_dir dir O N v (bodies.Check check) h = shown_dir dir O N check.shown h.1
 
 shown_puts : (dir : Option Bytes) (O N : World) (v : Verdict) (shown : Option Shown) → IsShownIn dir O N shown → puts_shown v shown ≡ puts_below dir O N v
@@ -107,9 +108,10 @@ shown_puts (Some d) O N v None h = absurd h
 
 pub show_puts : (dir : Option Bytes) (O N : World) (v : Verdict) (body : Body) → HasToShow dir O N v body → puts_in body ≡ puts_below dir O N v
 show_puts dir O N v (bodies.Bytes bytes) h = absurd h
+show_puts dir O N v (bodies.Row vs) h = absurd h
 show_puts dir O N v (bodies.Check check) h = shown_puts dir O N check.verdict check.shown h.1 ∙ ap (λ (w : Verdict). puts_below dir O N w) h.0
 
-module _ (platform old new : List ClassFacts) (c : Comparison) (is : IsComparison platform old new c) where
+module _ (warn : Bool) (platform old new : List ClassFacts) (c : Comparison) (is : IsComparison warn platform old new c) where
   can_show : (of : Shown) (v : Verdict) → of.old ≡ c.old → of.new ≡ c.new → v ≡ c.verdict → CanShow of v
   can_show of v o n e = record {
     platform = ap (λ (W : World). W.platform) (o ∙ is.old_is) ∙ sym (ap (λ (W : World). W.platform) (n ∙ is.new_is));
@@ -134,4 +136,5 @@ module _ (platform old new : List ClassFacts) (c : Comparison) (is : IsCompariso
 
   pub can_show_any : (dir : Option Bytes) (body : Body) → HasToShow dir c.old c.new c.verdict body → CanShowAny body
   can_show_any dir (bodies.Bytes bytes) h = absurd h
+  can_show_any dir (bodies.Row vs) h = absurd h
   can_show_any dir (bodies.Check check) h = can_show_all dir check.verdict check.shown h.0 h.1

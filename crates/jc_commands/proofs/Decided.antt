@@ -1,34 +1,40 @@
 -- Any words and files are refused or accepted.
-use Rattle.std.proofs.Common.{◌≡◌, ◌≤◌, ◌⊎◌, inl, inr, Bool, true, false, List, [], ◌∷◌, Option, Some, None, refl, sym, subst}
-use Rattle.std.specs.Prelude.{IsOkAnd, Result, Ok, Err, nat_lt}
-use Rattle.std.specs.List.{All}
+use Rattle.std.proofs.Common.{◌∙◌, ◌≡◌, ◌≤◌, ◌⊎◌, inl, inr, Bool, true, false, List, [], ◌∷◌, length, Option, Some, None, refl, sym, subst}
+use Rattle.std.specs.Prelude.{IsOkAnd, IsTrue, Result, Ok, Err, nat_lt}
+use Rattle.std.specs.List.{All, AllZip}
 use Rattle.std.proofs.lemmas.Bool.{ltb-true, ltb-false}
 use Rattle.std.proofs.lemmas.List.Elements.{All-from_recursion, recursion_from_All}
 use Rattle.jc_base.specs.Outside.{FileOf}
 use Rattle.jc_facts.specs.declared.class_facts.ClassFacts.{ClassFacts}
 use Rattle.jc_facts.specs.declared.client.ClientClass.{ClientClass}
 use Rattle.jc_facts.specs.declared.verdict.Verdict.{Verdict}
+use Rattle.jc_facts.specs.declared.warning.Warning.{Warning}
 use Rattle.jc_facts.specs.client.Linked.{outcomes}
 use Rattle.jc_facts.specs.Names.{Bytes}
 use Rattle.jc_facts.specs.file.Valid.{IsValidClass}
 use Rattle.jc_facts.specs.rule.Verdict.{IsVerdict, count_of}
-use Rattle.jc_facts.specs.world.World.{side}
+use Rattle.jc_facts.specs.rule.Warnings.{AreWarnings}
+use Rattle.jc_facts.specs.world.World.{World, side}
 use Rattle.jc_lemmas.proofs.Listed.{EachOf}
 use Rattle.jc_facts.proofs.ReadLists.{read_valid}
 use Rattle.jc_sound.proofs.VerdictLaw.{verdict_is_one}
+use Rattle.jc_select.proofs.Limited.{warnings_are_one}
 use Rattle.jc_table.proofs.Roots.{has_root}
 use Rattle.jc_table.specs.Root.{fault_of_root}
 use Rattle.jc_gate.specs.Gates.{GateOf}
 use Rattle.jc_words.specs.declared.usage.Usage.{Usage}
 use Rattle.jc_commands.specs.Causes.{IsRefused, IsAccepted}
 use Rattle.jc_trees.specs.FirstTree.{IsFirstUnread}
-use Rattle.jc_commands.specs.Check.{CheckRecords, mismatch_of, report_of}
+use Rattle.jc_commands.specs.Check.{CheckRecords, is_apart, over_findings, over_warnings, AreWarned, mismatch_of, report_of}
 use Rattle.jc_trees.specs.ClassFiles.{IsClassIn, AreRecords, without_code}
-use Rattle.jc_commands.specs.Command.{CommandOf, CheckOf, CheckCommand, LinkCommand, MakeCommand, trees_of, asked_of}
+use Rattle.jc_commands.specs.Command.{CommandOf, CheckOf, HistoryOf, CheckCommand, LinkCommand, MakeCommand, HistoryCommand, release_trees, trees_of, asked_of}
+use Rattle.jc_commands.specs.History.{HistoryRecords, row_of, mismatch_of_row}
+use Rattle.jc_history.specs.Row.{Step, steps_of, AreVerdicts}
+use Rattle.jc_history.proofs.RowVerdicts.{all_few}
 use Rattle.jc_commands.specs.Link.{refusal_of}
 use Rattle.jc_commands.specs.Reports.{RecordsOf, ReportOf, Refuses, Accepts, IsReportOn}
 use Rattle.jc_trees.specs.Tree.{TreeOf}
-use Rattle.jc_commands.specs.declared.limits.TheConstants.{MAX_FINDINGS}
+use Rattle.jc_commands.specs.declared.limits.TheConstants.{MAX_FINDINGS, MAX_WARNINGS}
 use Rattle.jc_commands.specs.declared.stop.Part.TheVariants as parts
 use Rattle.jc_commands.specs.declared.stop.Stop.{Stop}
 use Rattle.jc_commands.specs.declared.stop.Stop.TheVariants as stops
@@ -36,9 +42,10 @@ use Rattle.jc_trees.specs.ReadTrees.{AreClassesOf}
 use Rattle.jc_commands.specs.ReportValue.{IsSized}
 use Rattle.jc_commands.proofs.Asked.{is_sized}
 use Rattle.jc_commands.proofs.Events.{for_ok}
-use Rattle.jc_commands.proofs.Records.{check_records, link_records, first_none, unmapped, IsOfRecords, refuses_says}
+use Rattle.jc_commands.proofs.Records.{check_records, link_records, history_records, first_none, unmapped, IsOfRecords, refuses_says}
+use Rattle.jc_commands.proofs.RowVerdicts.{some_row, few_or_many}
 use Rattle.jc_commands.proofs.Releases.{made_verdict}
-use Rattle.jc_commands.proofs.SomeVerdict.{some_verdict}
+use Rattle.jc_commands.proofs.SomeVerdict.{some_verdict, some_warnings}
 use Rattle.jc_trees.proofs.SomeTrees.{TreesAreRead, some_trees}
 
 -- ---- the records
@@ -56,6 +63,8 @@ records_from files (LinkCommand link) sized (p ∷ []) h = absurd h.1
 records_from files (LinkCommand link) sized (p ∷ r ∷ []) h = absurd h.1.1
 records_from files (LinkCommand link) sized (p ∷ r ∷ cs ∷ m ∷ more) h = absurd h.1.1.1
 records_from files (MakeCommand n) sized all h = sized
+records_from files (HistoryCommand c) sized (p ∷ rs) h = history_records files c p rs h
+records_from files (HistoryCommand c) sized [] h = absurd h
 
 class_valid : (files : List FileOf) (tree : TreeOf) (c : ClassFacts) → IsClassIn files tree (record { facts = c; items = [] }) → IsValidClass c
 class_valid files tree c i = read_valid i.bytes c i.is_read.facts.reads
@@ -74,23 +83,64 @@ verdict_on files check s fits =
     let root : fault_of_root s.platform ≡ None = unmapped stops.BadRoot (fault_of_root s.platform) (first_none _ _ fits) in
     some_verdict s.platform s.old s.new (has_root s.platform (sym root)) (valid_records files _ s.platform s.platform_is) (valid_records files _ s.old s.old_is) (valid_records files _ s.new s.new_is)
 
+-- and there are warnings on them
+warnings_on : (files : List FileOf) (check : CheckOf) (s : CheckRecords files check) → mismatch_of s.platform s.old s.new ≡ None → (ws : List Warning) × AreWarnings (side s.platform s.old) (side s.platform s.new) ws
+warnings_on files check s fits =
+    let root : fault_of_root s.platform ≡ None = unmapped stops.BadRoot (fault_of_root s.platform) (first_none _ _ fits) in
+    some_warnings s.platform s.old s.new (has_root s.platform (sym root)) (valid_records files _ s.platform s.platform_is) (valid_records files _ s.old s.old_is) (valid_records files _ s.new s.new_is)
+
+-- those that are reported
+warned_on : (warn : Bool) (O N : World) (ws : List Warning) → AreWarnings O N ws → (IsTrue warn → (vs : List Warning) → AreWarnings O N vs → length vs ≤ MAX_WARNINGS) → (o : Option (List Warning)) × AreWarned warn O N o
+warned_on false O N ws is few = (None, tt)
+warned_on true O N ws is few = (Some ws, (is, few refl ws is))
+
+valid_releases : (files : List FileOf) (trees : List TreeOf) (releases : List (List ClassFacts)) → AllZip (AreRecords files) trees releases → EachOf (All IsValidClass) releases
+valid_releases files [] [] h = tt
+valid_releases files [] (r ∷ rs) h = absurd h
+valid_releases files (t ∷ trees) [] h = absurd h
+valid_releases files (t ∷ trees) (r ∷ rs) h = (valid_records files t r h.0, valid_releases files trees rs h.1)
+
+-- each two neighbours have a verdict
+verdicts_on : (files : List FileOf) (h : HistoryOf) (s : HistoryRecords files h) → mismatch_of_row s.platform s.releases ≡ None → (vs : List Verdict) × AreVerdicts (steps_of (row_of s.platform s.releases)) vs
+verdicts_on files h s fits =
+    let root : fault_of_root s.platform ≡ None = unmapped stops.BadRoot (fault_of_root s.platform) (first_none _ _ fits) in
+    some_row s.platform s.releases (has_root s.platform (sym root)) (valid_records files _ s.platform s.platform_is) (valid_releases files (release_trees 1 h.releases) s.releases s.releases_are)
+
 abbrev Decided : (files : List FileOf) (command : CommandOf) → RecordsOf files command → Type 0
 Decided files command r = Accepts files command r ⊎ ((stop : Stop) × Refuses files command r stop)
 
 decided : (files : List FileOf) (command : CommandOf) (r : RecordsOf files command) → Decided files command r
 decided files (CheckCommand check) r = by_records (mismatch_of r.platform r.old r.new) refl
   where
+    by_warnings : mismatch_of r.platform r.old r.new ≡ None → ((w : Verdict) → IsVerdict (side r.platform r.old) (side r.platform r.new) w → count_of w ≤ MAX_FINDINGS) → (b : Bool) → check.warn ≡ b
+        → (ws : List Warning) × AreWarnings (side r.platform r.old) (side r.platform r.new) ws → Decided files (CheckCommand check) r
+    by_warnings fits few false e ws = inl (record { fits = fits; few = few; few_warnings = λ w. absurd (let clash : false ≡ true = sym e ∙ w in cc) })
+    by_warnings fits few true e (ws, is) = by_length (nat_lt MAX_WARNINGS (length ws)) refl
+      where
+        by_length : (b : Bool) → nat_lt MAX_WARNINGS (length ws) ≡ b → Decided files (CheckCommand check) r
+        by_length true q = inr (stops.TooMany parts.Warnings, over_warnings e refl (record { fits = fits; few = few; warnings = ws; exact = is; many = ltb-true MAX_WARNINGS (length ws) q }))
+        by_length false q = inl (record {
+          fits = fits;
+          few = few;
+          few_warnings = λ w vs k. subst (λ (xs : List Warning). length xs ≤ MAX_WARNINGS) (warnings_are_one (side r.platform r.old) (side r.platform r.new) ws vs is k) (ltb-false MAX_WARNINGS (length ws) q);
+        })
+
     by_count : mismatch_of r.platform r.old r.new ≡ None → (v : Verdict) → IsVerdict (side r.platform r.old) (side r.platform r.new) v → (b : Bool) → nat_lt MAX_FINDINGS (count_of v) ≡ b → Decided files (CheckCommand check) r
-    by_count fits v is true e = inr (stops.TooMany parts.Findings, inr (refl, record { fits = fits; verdict = v; exact = is; many = ltb-true MAX_FINDINGS (count_of v) e }))
-    by_count fits v is false e = inl (record {
-      fits = fits;
-      few = λ w k. subst (λ (x : Verdict). count_of x ≤ MAX_FINDINGS) (verdict_is_one (side r.platform r.old) (side r.platform r.new) v w is k) (ltb-false MAX_FINDINGS (count_of v) e);
-    })
+    by_count fits v is true e = inr (stops.TooMany parts.Findings, over_findings refl (record { fits = fits; verdict = v; exact = is; many = ltb-true MAX_FINDINGS (count_of v) e }))
+    by_count fits v is false e = by_warnings fits few check.warn refl (warnings_on files check r fits)
+      where
+        few : (w : Verdict) → IsVerdict (side r.platform r.old) (side r.platform r.new) w → count_of w ≤ MAX_FINDINGS
+        few w k = subst (λ (x : Verdict). count_of x ≤ MAX_FINDINGS) (verdict_is_one (side r.platform r.old) (side r.platform r.new) v w is k) (ltb-false MAX_FINDINGS (count_of v) e)
 
     by_records : (o : Option Stop) → mismatch_of r.platform r.old r.new ≡ o → Decided files (CheckCommand check) r
     by_records None e = let v = verdict_on files check r e in by_count e v.0 v.1 (nat_lt MAX_FINDINGS (count_of v.0)) refl
-    by_records (Some stop) e = inr (stop, inl e)
+    by_records (Some stop) e = inr (stop, is_apart e)
 decided files (MakeCommand n) r = inl tt
+decided files (HistoryCommand c) r = by_records (mismatch_of_row r.platform r.releases) refl
+  where
+    by_records : (o : Option Stop) → mismatch_of_row r.platform r.releases ≡ o → Decided files (HistoryCommand c) r
+    by_records None e = let vs = verdicts_on files c r e in few_or_many r.platform r.releases e vs.0 vs.1
+    by_records (Some stop) e = inr (stop, inl e)
 decided files (LinkCommand link) r = by_records (refusal_of r.platform r.release r.clients) refl
   where
     by_records : (o : Option Stop) → refusal_of r.platform r.release r.clients ≡ o → Decided files (LinkCommand link) r
@@ -99,9 +149,16 @@ decided files (LinkCommand link) r = by_records (refusal_of r.platform r.release
 
 -- what is accepted has a report
 pub accepted_report : (files : List FileOf) (command : CommandOf) (r : RecordsOf files command) → Accepts files command r → (report : ReportOf command) × IsReportOn files command r report
-accepted_report files (CheckCommand check) r a = let v = verdict_on files check r a.fits in (report_of v.0, record { verdict = record { fits = a.fits; exact = v.1; few = a.few v.0 v.1 } })
+accepted_report files (CheckCommand check) r a =
+    let v = verdict_on files check r a.fits in
+    let ws = warnings_on files check r a.fits in
+    let o = warned_on check.warn (side r.platform r.old) (side r.platform r.new) ws.0 ws.1 a.few_warnings in
+    (report_of v.0 o.0, record { verdict = record { fits = a.fits; exact = v.1; few = a.few v.0 v.1 }; warnings = o.1 })
 accepted_report files (LinkCommand link) r a = (outcomes (side r.platform r.release) r.clients, record { fits = a; exact = refl })
 accepted_report files (MakeCommand n) r a = made_verdict n r
+accepted_report files (HistoryCommand c) r a =
+    let vs = verdicts_on files c r a.fits in
+    (vs.0, record { fits = a.fits; exact = vs.1; few = all_few MAX_FINDINGS (steps_of (row_of r.platform r.releases)) vs.0 vs.1 a.few })
 
 -- ---- words and files
 

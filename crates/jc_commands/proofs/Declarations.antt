@@ -132,6 +132,18 @@ module _ (W : World) where
       (each-all (Contains (classes W)) (with_interfaces W) c.interfaces (each_of _ (λ y. interfaces_in (size W) y) c.interfaces))
       (all_interfaces_in cs)
 
+  pub chain_all : (x : Bytes) → EachOf (Contains (classes W)) (chain W x)
+  unfolding chain
+  chain_all x = chain_in (size W) x
+
+  pub with_all : (x : Bytes) → EachOf (Contains (classes W)) (with_interfaces W x)
+  unfolding with_interfaces
+  with_all x = interfaces_in (size W) x
+
+  pub super_all : (x : Bytes) → EachOf (Contains (classes W)) (superinterfaces W x)
+  unfolding superinterfaces
+  super_all x = all_interfaces_in (chain W x)
+
   -- who stands above a class is one of them
   pub above_in : (x : Bytes) → EachOf (Contains (classes W)) (above W x)
   unfolding chain superinterfaces

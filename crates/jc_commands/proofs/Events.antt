@@ -1,5 +1,5 @@
 -- The first event: there is at most one refusal, and none where there is a report.
-use Rattle.std.proofs.Common.{◌≡◌, ◌⊎◌, inl, inr, ℕ, List, Option, Some, refl, sym, ap, subst, ◌∙◌}
+use Rattle.std.proofs.Common.{◌≡◌, ◌⊎◌, inl, inr, ℕ, List, [], ◌∷◌, Option, Some, refl, sym, ap, subst, ◌∙◌}
 use Rattle.std.specs.Prelude.{Result, Ok, Err, IsOkAnd}
 use Rattle.jc_base.specs.Outside.{FileOf}
 use Rattle.jc_base.specs.States.{TreesState, Change}
@@ -8,8 +8,13 @@ use Rattle.jc_gate.specs.Gates.{GateOf}
 use Rattle.jc_words.specs.declared.usage.Usage.{Usage}
 use Rattle.jc_commands.specs.Causes.{IsRefusedTo, IsRefused, IsAccepted, HasCause, HasFailed}
 use Rattle.jc_trees.specs.FirstTree.{IsFirstUnread}
-use Rattle.jc_commands.specs.Command.{CommandOf, CheckCommand, LinkCommand, MakeCommand, trees_of, asked_of}
+use Rattle.jc_commands.specs.Command.{CommandOf, CheckCommand, LinkCommand, MakeCommand, HistoryCommand, trees_of, asked_of}
 use Rattle.jc_commands.specs.Reports.{ToldTo, RecordsOf, ReportOf, Refuses, Accepts, IsReportOn}
+use Rattle.jc_commands.specs.Command.{release_trees}
+use Rattle.jc_facts.specs.declared.class_facts.ClassFacts.{ClassFacts}
+use Rattle.jc_trees.specs.ClassFiles.{AreRecords}
+use Rattle.jc_trees.specs.Tree.{TreeOf}
+use Rattle.std.specs.List.{AllZip}
 use Rattle.jc_commands.specs.Stop.{status_of}
 use Rattle.jc_trees.specs.declared.file_fault.TreeFault.{TreeFault}
 use Rattle.jc_commands.specs.declared.status.TheConstants.{PASSED, NOT_PASSED, READ_FAULT, WRITE_FAULT, NO_MEMORY}
@@ -23,11 +28,17 @@ use Rattle.jc_commands.specs.steps.Trees.{stop_by_trees}
 
 -- ---- the trees of a command
 
+clean_releases : (files : List FileOf) (trees : List TreeOf) (releases : List (List ClassFacts)) → AllZip (AreRecords files) trees releases → AreClean files trees
+clean_releases files [] releases h = tt
+clean_releases files (t ∷ trees) [] h = absurd h
+clean_releases files (t ∷ trees) (r ∷ rs) h = (h.0.clean, clean_releases files trees rs h.1)
+
 -- a command that has records has trees that are read
 clean_records : (files : List FileOf) (command : CommandOf) → RecordsOf files command → AreClean files (trees_of command)
 clean_records files (CheckCommand check) r = (r.platform_is.clean, (r.old_is.clean, (r.new_is.clean, tt)))
 clean_records files (LinkCommand link) r = (r.platform_is.clean, (r.release_is.clean, (r.clients_are.clean, tt)))
 clean_records files (MakeCommand n) r = tt
+clean_records files (HistoryCommand h) r = (r.platform_is.clean, clean_releases files (release_trees 1 h.releases) r.releases r.releases_are)
 
 -- ---- a command
 
@@ -125,12 +136,14 @@ pub told_to : (command : CommandOf) (content : Option (List FileOf)) (files : Li
 told_to (CheckCommand check) content files told P h = h files told
 told_to (LinkCommand link) content files told P h = h files told
 told_to (MakeCommand n) content files told P h = h files
+told_to (HistoryCommand c) content files told P h = h files told
 
 -- what holds of the files has a part that holds of them
 pub told_weaker : (command : CommandOf) (content : Option (List FileOf)) (P Q : List FileOf → Type 0) → ((files : List FileOf) → P files → Q files) → ToldTo command content P → ToldTo command content Q
 told_weaker (CheckCommand check) content P Q f h = λ files told. f files (h files told)
 told_weaker (LinkCommand link) content P Q f h = λ files told. f files (h files told)
 told_weaker (MakeCommand n) content P Q f h = λ files. f files (h files)
+told_weaker (HistoryCommand row) content P Q f h = λ files told. f files (h files told)
 
 -- a cause that the words and the files alone decide, or a failed call, or want of memory
 data Kind (gates : List GateOf) (words : List Bytes) (files : List FileOf) (stop : Stop) : Type 0 where

@@ -5,6 +5,7 @@ pub mod FilesPut
 pub mod WitnessPaths
 pub mod PathsApart
 pub mod CausesPut
+pub mod PartsPut
 pub mod Bodies
 pub mod Compared
 pub mod ShownFrom
@@ -13,4 +14,8 @@ pub mod Declarations
 pub mod Subjects
 pub mod SomeVerdict
 pub mod Releases
+pub mod RulesTell
+pub mod StepSaid
+pub mod RowVerdicts
+pub mod RowJudged
 pub mod Decided

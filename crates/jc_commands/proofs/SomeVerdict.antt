@@ -17,37 +17,48 @@ use Rattle.jc_facts.specs.declared.verdict.Collision.{Collision}
 use Rattle.jc_facts.specs.declared.verdict.Note.{Note}
 use Rattle.jc_facts.specs.declared.verdict.Note.TheVariants as note
 use Rattle.jc_facts.specs.declared.verdict.Verdict.{Verdict}
+use Rattle.jc_facts.specs.declared.warning.Warning.{Warning}
+use Rattle.jc_facts.specs.declared.warning.WarnKind.{WarnKind}
 use Rattle.jc_facts.specs.world.Assignment.{is_interface_of}
 use Rattle.jc_facts.specs.client.Clients.{HasRoot}
 use Rattle.jc_facts.specs.rule.Collisions.{CollisionStands, collision_at, made_collision}
 use Rattle.jc_facts.specs.rule.Findings.{Subject, Stands, finding_at, finding_by, subject_of, superclass_lost}
 use Rattle.jc_facts.specs.Flags.{static_flag, final_flag}
-use Rattle.jc_facts.specs.world.Hierarchy.{in_chain}
+use Rattle.jc_facts.specs.world.Hierarchy.{chain, in_chain, superinterfaces, with_interfaces}
 use Rattle.jc_facts.specs.KeyOrder.{key_cmp}
 use Rattle.jc_facts.specs.world.Loading.{load_fault}
-use Rattle.jc_facts.specs.Names.{Bytes}
+use Rattle.jc_facts.specs.Names.{Bytes, same}
 use Rattle.jc_facts.specs.rule.Notes.{NoteStands, in_release, has_lost_constant, has_static_final, value_of_constant, is_same_constant}
 use Rattle.jc_facts.specs.Options.{and_then, some_and, some_where}
 use Rattle.jc_facts.specs.rule.Orders.{finding_order, collision_order, note_order, group_of, noted_class, noted_key}
 use Rattle.jc_facts.specs.Exactly.{name_order, HasExactly}
 use Rattle.jc_facts.specs.file.Valid.{IsValidClass}
 use Rattle.jc_facts.specs.rule.Verdict.{IsVerdict}
+use Rattle.jc_facts.specs.rule.Warnings.{AreWarnings, WarningStands, interfaces_from, is_base, warning_at, warning_order}
+use Rattle.jc_select.specs.steps.Warned.{warning_of}
+use Rattle.jc_select.proofs.KindsWarned.{warned_parts}
+use Rattle.jc_select.proofs.WarnedKeys.{from_both, warned_declared}
+use Rattle.jc_sides.proofs.ItemRules.{kept_where}
+use Rattle.jc_sides.proofs.NamedAbove.{base_unkept}
 use Rattle.jc_facts.specs.rule.Bases.{is_class_usable, is_kept}
-use Rattle.jc_facts.specs.world.World.{World, side, classes, own_field_of, own_method_of}
+use Rattle.jc_facts.specs.world.World.{World, side, classes, find_class, own_field_of, own_method_of}
 use Rattle.jc_facts.specs.world.Pairs.{IsPair}
 use Rattle.jc_facts.proofs.Pairs.{plain_pair}
 use Rattle.jc_lemmas.proofs.Listed.{EachOf, EachOf-map, EachOf-append}
+use Rattle.jc_worlds.proofs.Loaded.{loads-found}
 use Rattle.jc_worlds.specs.Hierarchy.{above}
 use Rattle.jc_sound.proofs.ExactLists.{exact_list}
 use Rattle.jc_sound.proofs.FindingLaws.{finding_is_on_its_subject}
 use Rattle.jc_facts.proofs.InOrder.{exact_same}
 use Rattle.jc_sound.proofs.KeyLaws.{keys_are_declared, collision_keys_are_declared}
+use Rattle.jc_sound.proofs.ClientItems.{chain-names}
 use Rattle.jc_sound.proofs.Standing.{usable_parts}
-use Rattle.jc_sound.proofs.UsableLaw.{Needs, none_needs, cond_needs, either_needs, findings_are_of_usable, collisions_are_of_usable}
-use Rattle.jc_lemmas.proofs.Bools.{both_first, second_of_five}
+use Rattle.jc_sound.proofs.UsableLaw.{Needs, none_needs, cond_needs, either_needs, findings_are_of_loaded, collisions_are_of_usable}
+use Rattle.jc_lemmas.proofs.Bools.{both_first, both_last}
+use Rattle.jc_lemmas.proofs.Options.{none_where}
 use Rattle.jc_facts.proofs.World.{find-name, class_named-name}
 use Rattle.jc_sides.proofs.Subjects.{subject_order}
-use Rattle.jc_commands.proofs.Declarations.{named_in, found_in_world, above_in, class_key, some_key}
+use Rattle.jc_commands.proofs.Declarations.{named_in, found_in_world, above_in, chain_all, with_all, super_all, class_key, some_key}
 use Rattle.jc_commands.proofs.Subjects.{on_subject, rules, is_rule, none_or, names, keys, name_of, subjects, covered}
 
 -- ---- what a rule gives is of that rule
@@ -72,15 +83,16 @@ of_kept : (O N : World) (x : Bytes) → is_kept O N x ≡ true → is_class_usab
 unfolding is_kept
 of_kept O N x h = both_first (is_class_usable O x) (is_class_usable N x) h
 
--- the target of a finding was usable
-target_usable : (O N : World) (s : Subject) (k : Option Key) (t : Bytes) → Needs (is_class_usable O t ≡ true) (finding_by O N s k (Some t))
+-- the target of a finding stood above its class
+target_above : (O N : World) (s : Subject) (k : Option Key) (t : Bytes) → Needs (in_chain O s.«class» t ≡ true) (finding_by O N s k (Some t))
 unfolding superclass_lost
-target_usable O N s None t =
-    either_needs (is_class_usable O t ≡ true) (s.rule == 4) (superclass_lost O N s t) None
-    (cond_needs (is_class_usable O t ≡ true) (is_kept O N s.«class» && is_kept O N t && in_chain O s.«class» t && not (in_chain N s.«class» t) && not (is_interface_of N t)) _
-    (λ h. of_kept O N t (second_of_five (is_kept O N s.«class») (is_kept O N t) (in_chain O s.«class» t) (not (in_chain N s.«class» t)) (not (is_interface_of N t)) h)))
-    (none_needs Finding (is_class_usable O t ≡ true))
-target_usable O N s (Some k) t = none_needs Finding (is_class_usable O t ≡ true)
+target_above O N s None t =
+    either_needs (in_chain O s.«class» t ≡ true) (s.rule == 4) (superclass_lost O N s t) None
+    (cond_needs (in_chain O s.«class» t ≡ true) (not (same s.«class» t) && in_chain O s.«class» t && not (in_chain N s.«class» t) && not (is_interface_of N t)) _
+    (λ h. both_last (not (same s.«class» t)) (in_chain O s.«class» t) (both_first (not (same s.«class» t) && in_chain O s.«class» t) (not (in_chain N s.«class» t))
+    (both_first (not (same s.«class» t) && in_chain O s.«class» t && not (in_chain N s.«class» t)) (not (is_interface_of N t)) h))))
+    (none_needs Finding (in_chain O s.«class» t ≡ true))
+target_above O N s (Some k) t = none_needs Finding (in_chain O s.«class» t ≡ true)
 
 -- ---- collisions by subject
 
@@ -127,6 +139,59 @@ module _ (O N : World) where
       go (Some k) p None q r =
           collision_there s.rule s.«class» k c r ∙ sym (ap (λ o. on_subject s.rule s.«class» o s.target) p ∙ ap (λ o. on_subject s.rule s.«class» (Some k) o) q)
       go (Some k) p (Some t) q r = absurd (cc)
+
+-- ---- warnings by subject
+
+abbrev warning_subject : Warning → Subject
+warning_subject w = on_subject 0 w.«class» (Some w.key) None
+
+module _ (O N : World) where
+  abbrev warning_by : Subject → Option Key → Option Bytes → Option Warning
+  warning_by s None t = None
+  warning_by s (Some k) None = cond (s.rule == 0) (warning_of s.«class» k (warning_at O N s.«class» k)) None
+  warning_by s (Some k) (Some t) = None
+
+  abbrev warning_on : Subject → Option Warning
+  warning_on s = warning_by s s.key s.target
+
+  warning_is_on : (s : Subject) (w : Warning) → warning_on s ≡ Some w → warning_subject w ≡ s
+  warning_is_on s w e = go s.key refl s.target refl e
+    where
+      on : (k : Key) (o : Option WarnKind) → warning_of s.«class» k o ≡ Some w → warning_subject w ≡ on_subject 0 s.«class» (Some k) None
+      on k None q = absurd (cc)
+      on k (Some d) q = let is : record { «class» = s.«class»; key = k; kind = d } ≡ w = cc in ap warning_subject (sym is)
+
+      of_rule : (k : Key) (b : Bool) → (s.rule == 0) ≡ b → s.key ≡ Some k → s.target ≡ None → cond b (warning_of s.«class» k (warning_at O N s.«class» k)) None ≡ Some w → warning_subject w ≡ s
+      of_rule k true p q t r =
+          on k (warning_at O N s.«class» k) r
+          ∙ sym (ap (λ n. on_subject n s.«class» s.key s.target) (eqb-true s.rule 0 p) ∙ ap (λ o. on_subject 0 s.«class» o s.target) q ∙ ap (λ o. on_subject 0 s.«class» (Some k) o) t)
+      of_rule k false p q t r = absurd (cc)
+
+      go : (k : Option Key) → s.key ≡ k → (t : Option Bytes) → s.target ≡ t → warning_by s k t ≡ Some w → warning_subject w ≡ s
+      go None p t q r = absurd (cc)
+      go (Some k) p None q r = of_rule k (s.rule == 0) refl p q r
+      go (Some k) p (Some t) q r = absurd (cc)
+
+  warning_stands : (w : Warning) → warning_on (warning_subject w) ≡ Some w → WarningStands O N w
+  warning_stands w e = go (warning_at O N w.«class» w.key) e
+    where
+      go : (o : Option WarnKind) → warning_of w.«class» w.key o ≡ Some w → o ≡ Some w.kind
+      go None q = absurd (cc)
+      go (Some d) q = let is : record { «class» = w.«class»; key = w.key; kind = d } ≡ w = cc in ap (λ (v : Warning). Some v.kind) is
+
+  warning_found : (w : Warning) → WarningStands O N w → warning_on (warning_subject w) ≡ Some w
+  warning_found w h = ap (warning_of w.«class» w.key) h
+
+-- they are in the order of their subjects
+warning_ordered : (v w : Warning) → subject_order (warning_subject v) (warning_subject w) ≡ warning_order v w
+warning_ordered v w = go (name_order v.«class» w.«class») (key_cmp v.key w.key)
+  where
+    go : (a b : Ordering) → ordering_then a (ordering_then b Equal) ≡ ordering_then a b
+    go Less b = refl
+    go Greater b = refl
+    go Equal Less = refl
+    go Equal Equal = refl
+    go Equal Greater = refl
 
 -- ---- notes by subject
 
@@ -237,8 +302,17 @@ module _ (platform old new : List ClassFacts) (root : HasRoot platform) (vp : Al
   of_new : (c : ClassFacts) → Contains (classes N) c → Contains (classes O ++ classes N) c
   of_new c m = Contains-append_right (classes O) (classes N) c m
 
+  found_name : (x : Bytes) (c : ClassFacts) → find_class O x ≡ Some c → Contains (names O N) x
+  found_name x c e = name_of O N x c (of_old c (found_in_world O x c e)) (find-name O x c e)
+
   usable_name : (x : Bytes) → is_class_usable O x ≡ true → Contains (names O N) x
-  usable_name x h = let u = usable_parts O x h in name_of O N x u.class (of_old u.class (found_in_world O x u.class u.is_there)) (find-name O x u.class u.is_there)
+  usable_name x h = let u = usable_parts O x h in found_name x u.class u.is_there
+
+  loaded_name : (x : Bytes) → load_fault O x ≡ None → Contains (names O N) x
+  loaded_name x h = let c = loads-found O x h in found_name x c.0 c.1
+
+  above_name : (x t : Bytes) → load_fault O x ≡ None → in_chain O x t ≡ true → Contains (names O N) t
+  above_name x t h i = let c = chain-names O x t h i in found_name t c.0 c.1
 
   all_above : (x : Bytes) → EachOf (Contains (classes O ++ classes N)) (above O x ++ above N x)
   all_above x = EachOf-append (Contains (classes O ++ classes N)) (above O x) (above N x) (EachOf-map of_old (above O x) (above_in O x)) (EachOf-map of_new (above N x) (above_in N x))
@@ -246,9 +320,10 @@ module _ (platform old new : List ClassFacts) (root : HasRoot platform) (vp : Al
   finding_covered : (f : Finding) → finding_at O N (subject_of f) ≡ Some f → Contains (subjects O N).items (subject_of f)
   unfolding finding_at Needs
   finding_covered f e =
-      covered O N (subject_of f) (finding_rule O N (subject_of f) f.key f.target f e) (usable_name f.«class» (findings_are_of_usable O N (subject_of f) f e))
+      let loaded : load_fault O f.«class» ≡ None = none_where (load_fault O f.«class») (findings_are_of_loaded O N (subject_of f) f e) in
+      covered O N (subject_of f) (finding_rule O N (subject_of f) f.key f.target f e) (loaded_name f.«class» loaded)
       (none_or (keys O N) f.key (λ k is. some_key k (classes O ++ classes N) (above O f.«class» ++ above N f.«class») (all_above f.«class») (keys_are_declared O N pair (subject_of f) k f is e)))
-      (none_or (names O N) f.target (λ t is. usable_name t (target_usable O N (subject_of f) f.key t f (subst (λ o. finding_by O N (subject_of f) f.key o ≡ Some f) is e))))
+      (none_or (names O N) f.target (λ t is. above_name f.«class» t loaded (target_above O N (subject_of f) f.key t f (subst (λ o. finding_by O N (subject_of f) f.key o ≡ Some f) is e))))
 
   abbrev findings : List Finding
   findings = filter_map (finding_at O N) (subjects O N).items
@@ -270,6 +345,41 @@ module _ (platform old new : List ClassFacts) (root : HasRoot platform) (vp : Al
   collisions_exact : HasExactly collision_order (CollisionStands O N) collisions
   collisions_exact = subst (λ order. HasExactly order (CollisionStands O N) collisions) (λ i c d. collision_ordered c d i)
       (exact_list subject_order (collision_of O N) collision_subject (collision_is_on O N) (subjects O N).items (subjects O N).in_order (λ c e. (collision_covered c e)))
+
+  -- ---- warnings
+
+  all_from : (W : World) (x : Bytes) → EachOf (Contains (classes W)) (interfaces_from W x)
+  unfolding interfaces_from
+  all_from W x = go (is_interface_of W x)
+    where
+      go : (b : Bool) → EachOf (Contains (classes W)) (cond b (with_interfaces W x) (superinterfaces W x))
+      go true = with_all W x
+      go false = super_all W x
+
+  from_all : (x : Bytes) → EachOf (Contains (classes O ++ classes N)) (from_both O N x)
+  from_all x = EachOf-append (Contains (classes O ++ classes N)) (chain O x ++ interfaces_from O x) (chain N x ++ interfaces_from N x)
+      (EachOf-map of_old (chain O x ++ interfaces_from O x) (EachOf-append (Contains (classes O)) (chain O x) (interfaces_from O x) (chain_all O x) (all_from O x)))
+      (EachOf-map of_new (chain N x ++ interfaces_from N x) (EachOf-append (Contains (classes N)) (chain N x) (interfaces_from N x) (chain_all N x) (all_from N x)))
+
+  warning_covered : (w : Warning) → warning_on O N (warning_subject w) ≡ Some w → Contains (subjects O N).items (warning_subject w)
+  warning_covered w e =
+      let h = warning_stands O N w e in
+      let parts = warned_parts (record { old = O; new = N }) w.«class» w.key w.kind h in
+      covered O N (warning_subject w) (is_rule 0 refl) (usable_name w.«class» (of_kept O N w.«class» (kept_where (λ s x. is_base s.old s.new x) base_unkept (record { old = O; new = N }) w.«class» parts.covered)))
+      (none_or (keys O N) (Some w.key) (λ k is. let same : w.key ≡ k = cc in subst (Contains (keys O N)) same
+      (some_key w.key (classes O ++ classes N) (from_both O N w.«class») (from_all w.«class») (warned_declared O N w.«class» w.key w.kind h))))
+      (none_or (names O N) None (λ t is. absurd (let clash : None ≡ Some t = is in cc)))
+
+  abbrev warnings : List Warning
+  warnings = filter_map (warning_on O N) (subjects O N).items
+
+  pub some_warnings : (ws : List Warning) × AreWarnings (side platform old) (side platform new) ws
+  some_warnings = (
+    warnings,
+    exact_same warning_order (λ w. warning_on O N (warning_subject w) ≡ Some w) (WarningStands O N) warnings (warning_stands O N) (warning_found O N)
+        (subst (λ order. HasExactly order (λ w. warning_on O N (warning_subject w) ≡ Some w) warnings) (λ i v w. warning_ordered v w i)
+        (exact_list subject_order (warning_on O N) warning_subject (warning_is_on O N) (subjects O N).items (subjects O N).in_order (λ w e. warning_covered w e))),
+  )
 
   -- ---- notes
 

@@ -1,5 +1,5 @@
--- A check of two releases: what it reads, why that is refused, and its verdict.
-use Rattle.std.specs.Prelude.{◌≡◌, ◌≢◌, ◌≤◌, ◌<◌, ◌⊎◌, ℕ, ◌+◌, List, [], ◌∷◌, ◌++◌, map, Bool, Option, Some, None, option_map, if◌then◌else◌}
+-- A check of two releases: what it reads, why that is refused, its verdict, and its warnings where they are asked for.
+use Rattle.std.specs.Prelude.{◌≡◌, ◌≢◌, ◌≤◌, ◌<◌, ◌⊎◌, ℕ, ◌+◌, List, [], ◌∷◌, ◌++◌, map, length, Bool, true, false, IsTrue, Option, Some, None, option_map, codes, if◌then◌else◌}
 use Rattle.std.specs.List.{All}
 use Rattle.jc_base.specs.Outside.{FileOf}
 use Rattle.jc_base.specs.States.{FolderState, Change}
@@ -8,6 +8,7 @@ use Rattle.jc_facts.specs.declared.client.ClientClass.{ClientClass}
 use Rattle.jc_facts.specs.declared.verdict.Cause.{Cause}
 use Rattle.jc_facts.specs.declared.verdict.Collision.{Collision}
 use Rattle.jc_facts.specs.declared.verdict.Verdict.{Verdict}
+use Rattle.jc_facts.specs.declared.warning.Warning.{Warning}
 use Rattle.jc_facts.specs.Names.{Bytes}
 use Rattle.jc_facts.specs.Options.{or_else}
 use Rattle.jc_facts.specs.world.World.{World, side, with_clients}
@@ -15,8 +16,12 @@ use Rattle.jc_facts.specs.client.Clients.{IsInScope, Keeps, facts_of}
 use Rattle.jc_facts.specs.client.Kept.{BreaksClass}
 use Rattle.jc_facts.specs.client.Meets.{Meets}
 use Rattle.jc_facts.specs.print.Text.{text_of}
+use Rattle.jc_facts.specs.print.WarnText.{line_of_warning}
 use Rattle.jc_facts.specs.rule.Verdict.{IsVerdict, count_of}
-use Rattle.jc_report.specs.Json.{json_of}
+use Rattle.jc_facts.specs.rule.Warnings.{AreWarnings}
+use Rattle.jc_report.specs.Json.{json_of, warning_json}
+use Rattle.jc_report.specs.Listing.{listing_bytes}
+use Rattle.jc_selection.specs.SelectionKept.{MeetsNoFinal, StaysAnswered}
 use Rattle.jc_table.specs.Root.{fault_of_root}
 use Rattle.jc_table.specs.Sides.{overlap_of}
 use Rattle.jc_complete.specs.Completeness.{IsBroken}
@@ -26,7 +31,7 @@ use Rattle.jc_trees.specs.ClassFiles.{AreRecords}
 use Rattle.jc_commands.specs.Command.{CheckOf}
 use Rattle.jc_trees.specs.Tree.{tree_at}
 use Rattle.jc_commands.specs.Witness.{PutFile, PutsFiles, put_file, causes_of, witness_puts}
-use Rattle.jc_commands.specs.declared.limits.TheConstants.{MAX_FINDINGS}
+use Rattle.jc_commands.specs.declared.limits.TheConstants.{MAX_FINDINGS, MAX_WARNINGS}
 use Rattle.jc_trees.specs.declared.tree.TreeName.TheVariants as names
 use Rattle.jc_commands.specs.declared.stop.Part.TheVariants as parts
 use Rattle.jc_commands.specs.declared.stop.Stop.{Stop}
@@ -65,14 +70,25 @@ pub record HasTooMany (platform old new : List ClassFacts) : Type 0 where
   pub exact : IsVerdict (side platform old) (side platform new) verdict
   pub many : MAX_FINDINGS < count_of verdict
 
--- the records are refused, and this is the first cause
-abbrev pub IsUnfit : List ClassFacts → List ClassFacts → List ClassFacts → Stop → Type 0
-IsUnfit platform old new stop = (mismatch_of platform old new ≡ Some stop) ⊎ ((stop ≡ stops.TooMany parts.Findings) × HasTooMany platform old new)
-
--- no cause to refuse them stands
-pub record IsFit (platform old new : List ClassFacts) : Type 0 where
+-- the releases go with the platform, their verdict hasn't too many findings and collisions, and there are too many warnings on them
+pub record HasTooManyWarnings (platform old new : List ClassFacts) : Type 0 where
   pub fits : mismatch_of platform old new ≡ None
   pub few : (v : Verdict) → IsVerdict (side platform old) (side platform new) v → count_of v ≤ MAX_FINDINGS
+  pub warnings : List Warning
+  pub exact : AreWarnings (side platform old) (side platform new) warnings
+  pub many : MAX_WARNINGS < length warnings
+
+-- the records are refused, and this is the first cause; warnings count where they are asked for alone
+pub data IsUnfit (warn : Bool) (platform old new : List ClassFacts) (stop : Stop) : Type 0 where
+  is_apart : mismatch_of platform old new ≡ Some stop → IsUnfit warn platform old new stop
+  over_findings : stop ≡ stops.TooMany parts.Findings → HasTooMany platform old new → IsUnfit warn platform old new stop
+  over_warnings : IsTrue warn → stop ≡ stops.TooMany parts.Warnings → HasTooManyWarnings platform old new → IsUnfit warn platform old new stop
+
+-- no cause to refuse them stands
+pub record IsFit (warn : Bool) (platform old new : List ClassFacts) : Type 0 where
+  pub fits : mismatch_of platform old new ≡ None
+  pub few : (v : Verdict) → IsVerdict (side platform old) (side platform new) v → count_of v ≤ MAX_FINDINGS
+  pub few_warnings : IsTrue warn → (ws : List Warning) → AreWarnings (side platform old) (side platform new) ws → length ws ≤ MAX_WARNINGS
 
 -- ---- the verdict
 
@@ -82,27 +98,42 @@ pub record IsVerdictOn (platform old new : List ClassFacts) (v : Verdict) : Type
   pub exact : IsVerdict (side platform old) (side platform new) v
   pub few : count_of v ≤ MAX_FINDINGS
 
+-- ---- the warnings
+
+-- those on the two sides, where they are asked for, within their limit, and else none
+abbrev pub AreWarned : Bool → World → World → Option (List Warning) → Type 0
+AreWarned false O N None = Unit {0}
+AreWarned true O N (Some ws) = AreWarnings O N ws × (length ws ≤ MAX_WARNINGS)
+AreWarned _ O N _ = ⊥
+
 -- ---- the report
 
 -- what a check reports, part by part
 pub record CheckReport : Type 0 where
   pub verdict : Verdict
+  pub warnings : Option (List Warning)
 
 -- the report with these parts
-abbrev pub report_of : Verdict → CheckReport
-report_of v = record { verdict = v }
+abbrev pub report_of : Verdict → Option (List Warning) → CheckReport
+report_of v ws = record { verdict = v; warnings = ws }
 
 -- what each part of it is on these records, where nothing refuses them
 pub record IsCheckReport {files : List FileOf} {check : CheckOf} (records : CheckRecords files check) (report : CheckReport) : Type 0 where
   pub verdict : IsVerdictOn records.platform records.old records.new report.verdict
+  pub warnings : AreWarned check.warn (old_side records) (new_side records) report.warnings
 
 -- the bytes of a verdict: its JSON where that is asked for, and else its text
 abbrev pub verdict_bytes : Bool → Verdict → Bytes
 verdict_bytes json v = if json then json_of v else text_of v
 
+-- the bytes of warnings, where they are asked for: the JSON of one object whose one key is `warnings`, or a line for each
+abbrev pub warn_bytes : Bool → Option (List Warning) → Bytes
+warn_bytes json None = []
+warn_bytes json (Some ws) = listing_bytes json (codes "warnings") (λ (w : Warning) n. line_of_warning w) (λ (w : Warning) n. warning_json w) ws
+
 -- the bytes of a report: those of its parts, in this order
 abbrev pub check_bytes : Bool → CheckReport → Bytes
-check_bytes json report = verdict_bytes json report.verdict
+check_bytes json report = verdict_bytes json report.verdict ++ warn_bytes json report.warnings
 
 -- ---- what the verdict says of clients
 
@@ -118,6 +149,16 @@ pub record IsCompatible (files : List FileOf) (check : CheckOf) (v : Verdict) : 
   pub none : v.findings ≡ []
   pub keeps : (cs : List ClientClass) → IsInScope (old_side records) (new_side records) cs → MeetsNone (old_side records) cs v.collisions
       → Keeps (old_side records) (new_side records) cs
+
+-- the verdict has no finding and nothing is warned of, and in each client world in scope that meets none of the collisions of methods made final, each
+-- client class that answered with the old release all that was due to it answers all that is due with the new
+pub record IsAnswered (files : List FileOf) (check : CheckOf) (report : CheckReport) : Type 0 where
+  pub records : CheckRecords files check
+  pub parts : IsCheckReport records report
+  pub none : report.verdict.findings ≡ []
+  pub nothing : report.warnings ≡ Some []
+  pub answered : (cs : List ClientClass) → IsInScope (old_side records) (new_side records) cs → MeetsNoFinal (with_clients (old_side records) (facts_of cs)) cs report.verdict.collisions
+      → StaysAnswered (old_side records) (new_side records) cs
 
 -- the verdict has a finding, and there is a client world in scope that meets none of its collisions and isn't kept. Whatever client world in
 -- scope there is, each client's naming of a class that is gone, by H1, is Ok with the old release, and has the finding's error with the new

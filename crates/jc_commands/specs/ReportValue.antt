@@ -1,5 +1,5 @@
 -- What a command comes to.
-use Rattle.std.specs.Prelude.{◌≡◌, ◌≢◌, ℕ, List, [], map, Bool, Option, Some, None, Ok, if◌then◌else◌}
+use Rattle.std.specs.Prelude.{◌≡◌, ◌≢◌, ◌≤◌, ℕ, List, [], length, map, Bool, Option, Some, None, Ok, option_map, IfSome, if◌then◌else◌}
 use Rattle.std.specs.List.{All}
 use Rattle.jc_base.specs.Outside.{FileOf}
 use Rattle.jc_base.specs.States.{TreesState}
@@ -10,13 +10,16 @@ use Rattle.jc_facts.specs.client.Kept.{BreaksClass}
 use Rattle.jc_facts.specs.Names.{Bytes}
 use Rattle.jc_facts.specs.world.World.{World}
 use Rattle.jc_gate.specs.Gates.{GateOf, all_pass}
+use Rattle.jc_report.specs.HistoryText.{history_text_of}
 use Rattle.jc_complete.specs.Completeness.{IsBroken}
 use Rattle.jc_commands.specs.Check.{CheckRecords, CheckReport, IsCheckReport, IsShown, MeetsNone, old_side, new_side, report_of, check_bytes, puts_below}
 use Rattle.jc_trees.specs.ClassFiles.{Told}
-use Rattle.jc_commands.specs.Command.{CommandOf, CheckOf, CheckCommand, LinkCommand, MakeCommand, witness_dir, asked_of}
+use Rattle.jc_commands.specs.Command.{CommandOf, CheckOf, CheckCommand, LinkCommand, MakeCommand, HistoryCommand, witness_dir, asked_of}
+use Rattle.jc_commands.specs.History.{IsKeptRow}
 use Rattle.jc_commands.specs.Make.{IsSize}
 use Rattle.jc_commands.specs.Reports.{ToldTo, RecordsOf, ReportOf, IsReportOn, passes, bytes_of, puts_of}
 use Rattle.jc_commands.specs.Witness.{PutFile, causes_of, witness_puts}
+use Rattle.jc_select.specs.Within.{AnswersStill}
 use Rattle.jc_commands.specs.declared.report.Report.{Report}
 use Rattle.jc_commands.specs.declared.report.Condition.{Condition}
 use Rattle.jc_commands.specs.declared.report.Condition.TheVariants as conditions
@@ -26,6 +29,7 @@ use Rattle.jc_commands.specs.declared.shown.Shown.{Shown}
 use Rattle.jc_commands.specs.declared.body.Body.TheVariants as bodies
 use Rattle.jc_commands.specs.declared.status.TheConstants.{PASSED, NOT_PASSED}
 use Rattle.jc_commands.specs.Shown.{CanShow}
+use Rattle.jc_version.specs.LevelNumbers.{number_of}
 
 -- the status once it is put
 abbrev pub status_by : Bool → ℕ
@@ -34,18 +38,19 @@ status_by passes = if passes then PASSED else NOT_PASSED
 -- whether it passes by these gates
 abbrev pub passes_by : List GateOf → Condition → Bool
 passes_by gates (conditions.Known passes) = passes
-passes_by gates (conditions.ByGates names rules) = all_pass gates (map (λ name. name.now) names.items) rules.items
+passes_by gates (conditions.ByGates names step rules) = all_pass gates (map (λ name. name.now) names.items) (option_map number_of step) rules.items
 
 -- ---- what is put
 
 -- the report of a check, part by part
 abbrev pub report_in : CheckBody → CheckReport
-report_in check = report_of check.verdict
+report_in check = report_of check.verdict (option_map (λ ws. ws.items) check.warnings)
 
 -- the bytes that are put
 abbrev pub bytes_in : Body → Bytes
 bytes_in (bodies.Bytes bytes) = bytes.items
 bytes_in (bodies.Check check) = check_bytes check.json (report_in check)
+bytes_in (bodies.Row verdicts) = history_text_of verdicts.items
 
 -- the witness files are made of these sides, where there is a path for them
 abbrev pub IsShownIn : Option Bytes → World → World → Option Shown → Type 0
@@ -57,11 +62,13 @@ IsShownIn _ O N _ = ⊥
 abbrev pub HasToShow : Option Bytes → World → World → Verdict → Body → Type 0
 HasToShow dir O N v (bodies.Bytes bytes) = ⊥
 HasToShow dir O N v (bodies.Check check) = (check.verdict ≡ v) × IsShownIn dir O N check.shown
+HasToShow dir O N v (bodies.Row verdicts) = ⊥
 
 -- it is that of no check
 abbrev pub IsBare : Body → Type 0
 IsBare (bodies.Bytes bytes) = Unit {0}
 IsBare (bodies.Check check) = ⊥
+IsBare (bodies.Row verdicts) = Unit {0}
 
 -- the verdict can be shown
 abbrev pub CanShowAll : Verdict → Option Shown → Type 0
@@ -71,6 +78,7 @@ CanShowAll v (Some of) = CanShow of v
 abbrev pub CanShowAny : Body → Type 0
 CanShowAny (bodies.Bytes bytes) = Unit {0}
 CanShowAny (bodies.Check check) = CanShowAll check.verdict check.shown
+CanShowAny (bodies.Row verdicts) = Unit {0}
 
 -- where its witness files are put
 abbrev pub dir_shown : Option Shown → Option Bytes
@@ -80,6 +88,7 @@ dir_shown (Some of) = Some of.dir.now
 abbrev pub dir_in : Body → Option Bytes
 dir_in (bodies.Bytes bytes) = None
 dir_in (bodies.Check check) = dir_shown check.shown
+dir_in (bodies.Row verdicts) = None
 
 -- its witness files
 abbrev pub puts_shown : Verdict → Option Shown → List PutFile
@@ -89,12 +98,14 @@ puts_shown v (Some of) = witness_puts of.dir.now of.old of.new v
 abbrev pub puts_in : Body → List PutFile
 puts_in (bodies.Bytes bytes) = []
 puts_in (bodies.Check check) = puts_shown check.verdict check.shown
+puts_in (bodies.Row verdicts) = []
 
 -- ---- the report
 
--- where it is for generated releases, they may have as many classes
+-- where it is for generated releases, they may have as many classes; where it is for a row of releases, it has from 2 to 20
 abbrev pub IsSized : CommandOf → Type 0
 IsSized (MakeCommand n) = IsSize n
+IsSized (HistoryCommand h) = (2 ≤ length h.releases) × (length h.releases ≤ 20)
 IsSized command = Unit {0}
 
 -- the bytes are those of a command's report, and by whatever gates, it passes where that does
@@ -110,6 +121,7 @@ pub record IsChecked (files : List FileOf) (check : CheckOf) (report : CheckRepo
       → Keeps (old_side records) (new_side records) cs
   pub broken : report.verdict.findings ≢ [] → (cs : List ClientClass) × IsBroken (old_side records) (new_side records) report.verdict cs
   pub breaks : All (λ f. f.rule ≡ 1 → BreaksClass (old_side records) (new_side records) f.class f.error) report.verdict.findings
+  pub answered : IfSome report.warnings (AnswersStill (old_side records) (new_side records))
   pub shown : All (IsShown (old_side records) (new_side records)) (causes_of report.verdict)
   pub puts_are : puts ≡ puts_below check.witness (old_side records) (new_side records) report.verdict
 
@@ -118,6 +130,7 @@ abbrev pub Upholds : Option (List FileOf) → (command : CommandOf) → ReportOf
 Upholds content (CheckCommand check) report puts = Told content (λ files. IsChecked files check report puts)
 Upholds content (LinkCommand link) list puts = Unit {0}
 Upholds content (MakeCommand n) v puts = Unit {0}
+Upholds content (HistoryCommand h) vs puts = Told content (λ files. IsKeptRow files h vs)
 
 -- it tells of the command's report on the records of its trees
 pub record IsReportOf (command : CommandOf) (trees : TreesState) (report : Report) : Type 0 where

@@ -82,10 +82,15 @@ usage_words (usages.UnknownCommand word) = codes "unknown command " ++ printed w
 usage_words usages.Words = codes "words"
 usage_words (usages.UnknownGate name) = codes "unknown gate " ++ printed name
 usage_words (usages.Number word) = codes "number " ++ printed word
+usage_words (usages.Releases n) = codes "releases " ++ decimal n
+usage_words usages.VersionMissing = codes "version missing"
+usage_words (usages.Version version) = codes "version " ++ printed version
+usage_words (usages.Versions from to) = codes "versions " ++ printed from ++ codes " " ++ printed to
 
 -- the part of a report that has more items than its limit
 abbrev pub report_part_name : Part → Bytes
 report_part_name report_parts.Findings = codes "findings"
+report_part_name report_parts.Warnings = codes "warnings"
 
 abbrev pub line_of : Stop → Bytes
 line_of (stops.Usage usage) = codes "jcompat: usage: " ++ usage_words usage ++ codes "\n"

@@ -1,6 +1,7 @@
 //! What is put of a command.
 use crate::shown::Shown;
 use jc_facts::verdict::Verdict;
+use jc_facts::warning::Warning;
 
 /// What is put of a command.
 #[derive(Drop)]
@@ -9,6 +10,8 @@ pub enum Body<'a> {
     Bytes(Vec<u8>),
     /// The report of a check.
     Check(CheckBody<'a>),
+    /// The text of the verdicts on a row of releases, which is made as it is put.
+    Row(Vec<Verdict>),
 }
 
 /// What is put of a check: the parts of its report in their order, as JSON where that is asked for and
@@ -18,5 +21,6 @@ pub enum Body<'a> {
 pub struct CheckBody<'a> {
     pub json: bool,
     pub verdict: Verdict,
+    pub warnings: Option<Vec<Warning>>,
     pub shown: Option<Shown<'a>>,
 }

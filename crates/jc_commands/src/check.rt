@@ -27,12 +27,13 @@ fn compared(
     platform: Vec<ClientClass>,
     old: Vec<ClientClass>,
     new: Vec<ClientClass>,
+    warn: bool,
 ) -> Result<Comparison, Stop>
     requires platform { IsClassList platform.items }
     requires old { IsClassList old.items }
     requires new { IsClassList new.items }
-    ensures compared { IfOk result (IsComparison (facts_of platform.items) (facts_of old.items) (facts_of new.items)) }
-    ensures stopped { IfErr result (StopsComparing (facts_of platform.items) (facts_of old.items) (facts_of new.items)) }
+    ensures compared { IfOk result (IsComparison warn (facts_of platform.items) (facts_of old.items) (facts_of new.items)) }
+    ensures stopped { IfErr result (StopsComparing warn (facts_of platform.items) (facts_of old.items) (facts_of new.items)) }
 {
     let Ok(platform) = records_of(alloc, platform) else {
         return Err(Stop::Memory);
@@ -43,7 +44,7 @@ fn compared(
     let Ok(new) = records_of(alloc, new) else {
         return Err(Stop::Memory);
     };
-    match Comparison::of_records(alloc, platform, old, new) {
+    match Comparison::of_records(alloc, platform, old, new, warn) {
         Ok(comparison) => Ok(comparison),
         Err(stop) => Err(stop),
     }
@@ -54,7 +55,7 @@ fn compared(
 /// # Errors
 ///
 /// `Stop::Unread` or `ReadFault` where a tree isn't read, `BadRoot` or `Overlap` where the trees don't make
-/// two sides, `TooMany` where the verdict is over the limit, and `Memory` where memory runs out.
+/// two sides, `TooMany` where the verdict or the warnings are over the limit, and `Memory` where memory runs out.
 pub fn check<'a, T: Trees>(
     alloc: Global,
     check: &Check<'a>,
@@ -70,7 +71,7 @@ pub fn check<'a, T: Trees>(
         Err(error) => return Err(stop_of(error)),
     };
     let (platform, old, new) = three_of(all);
-    let comparison = match compared(alloc, platform, old, new) {
+    let comparison = match compared(alloc, platform, old, new, check.warn) {
         Ok(comparison) => comparison,
         Err(stop) => return Err(stop),
     };

@@ -1,5 +1,5 @@
 //! The comparison of two releases with a platform.
-ghost use Rattle.std.specs.Prelude.{◌≡◌, ◌≤◌, List, [], None, IfOk, IfErr};
+ghost use Rattle.std.specs.Prelude.{◌≡◌, ◌≤◌, List, [], None, IfOk, IfErr, IfSome, option_map};
 ghost use Rattle.std.specs.List.{All};
 ghost use Rattle.jc_facts.specs.declared.client.ClientClass.{ClientClass};
 ghost use Rattle.jc_facts.specs.world.World.{side};
@@ -8,26 +8,31 @@ ghost use Rattle.jc_facts.specs.client.Kept.{BreaksClass};
 ghost use Rattle.jc_facts.specs.rule.Verdict.{IsVerdict, count_of};
 ghost use Rattle.jc_bodies.specs.Files.{CanWrite};
 ghost use Rattle.jc_witness.specs.Ground.{HasShortSide};
-ghost use Rattle.jc_commands.specs.Check.{mismatch_of, MeetsNone};
-ghost use Rattle.jc_commands.specs.steps.Check.{IsComparison, StopsComparing, StopsCounting, StopsMatching, unfit_by};
+ghost use Rattle.jc_commands.specs.Check.{mismatch_of, AreWarned, MeetsNone};
+ghost use Rattle.jc_commands.specs.steps.Check.{IsComparison, StopsComparing, StopsCounting, StopsMatching, StopsWarning, unfit_by};
+ghost use Rattle.jc_select.specs.Within.{AnswersStill};
 ghost use Rattle.jc_trees.specs.ClassLists.{IsRecordList};
 
-use crate::limits::MAX_FINDINGS;
+use crate::limits::{MAX_FINDINGS, MAX_WARNINGS};
 use crate::stop::{Part, Stop};
 use jc_facts::class_facts::ClassFacts;
 use jc_facts::verdict::Verdict;
+use jc_facts::warning::Warning;
 use jc_rules::compare::compare_within;
+use jc_select::warnings::warnings_within;
 use jc_table::platform::Platform;
 use jc_table::table::{Table, TableError};
 use jc_trees::tree::TreeName;
 use std::alloc::Global;
 
-/// The platform with the old release and with the new one, and the verdict on them.
+/// The platform with the old release and with the new one, the verdict on them, and the warnings where
+/// they are asked for.
 #[derive(Drop)]
 pub struct Comparison {
     pub old: Table,
     pub new: Table,
     pub verdict: Verdict,
+    pub warnings: Option<Vec<Warning>>,
 }
 
 /// The platform with the old release, and with the new one.
@@ -38,7 +43,7 @@ pub struct Sides {
 }
 
 // Why a release has no table.
-fn unfit(name: TreeName, error: TableError) -> Stop
+pub(crate) fn unfit(name: TreeName, error: TableError) -> Stop
     ensures { result ≡ unfit_by name error }
 {
     match error {
@@ -139,30 +144,58 @@ fn counted(alloc: Global, old: &Table, new: &Table) -> Result<Verdict, Stop>
     }
 }
 
+// The warnings on two sides, where they are asked for, unless there are too many.
+fn warned(alloc: Global, old: &Table, new: &Table, warn: bool) -> Result<Option<Vec<Warning>>, Stop>
+    requires { old.now.platform ≡ new.now.platform }
+    ensures exact { IfOk result (λ made. AreWarned warn old.now new.now (option_map (λ ws. ws.items) made)) }
+    ensures answered { IfOk result (λ made. IfSome (option_map (λ ws. ws.items) made) (AnswersStill old.now new.now)) }
+    ensures stopped { IfErr result (StopsWarning warn old.now new.now) }
+{
+    if !warn {
+        return Ok(None);
+    }
+    match warnings_within(alloc, old, new, MAX_WARNINGS) {
+        Ok(Some(warnings)) => Ok(Some(warnings)),
+        Ok(None) => Err(Stop::TooMany(Part::Warnings)),
+        Err(_) => Err(Stop::Memory),
+    }
+}
+
 impl Comparison {
-    /// The comparison of these records, or why there is none.
+    /// The comparison of these records, with warnings where they are asked for, or why there is none.
     ///
     /// # Errors
     ///
-    /// Those of `both_sides`; and `Stop::TooMany` where the verdict is over the limit.
+    /// Those of `both_sides`; and `Stop::TooMany` where the verdict is over its limit, or else the
+    /// warnings are.
     pub fn of_records(
         alloc: Global,
         platform: Vec<ClassFacts>,
         old: Vec<ClassFacts>,
         new: Vec<ClassFacts>,
+        warn: bool,
     ) -> Result<Comparison, Stop>
         requires platform { IsRecordList platform.items }
         requires old { IsRecordList old.items }
         requires new { IsRecordList new.items }
-        ensures compared { IfOk result (IsComparison platform.items old.items new.items) }
-        ensures stopped { IfErr result (StopsComparing platform.items old.items new.items) }
+        ensures compared { IfOk result (IsComparison warn platform.items old.items new.items) }
+        ensures stopped { IfErr result (StopsComparing warn platform.items old.items new.items) }
     {
         let Sides { old, new } = match both_sides(alloc, platform, old, new) {
             Ok(sides) => sides,
             Err(stop) => return Err(stop),
         };
-        match counted(alloc, &old, &new) {
-            Ok(verdict) => Ok(Comparison { old, new, verdict }),
+        let verdict = match counted(alloc, &old, &new) {
+            Ok(verdict) => verdict,
+            Err(stop) => return Err(stop),
+        };
+        match warned(alloc, &old, &new, warn) {
+            Ok(warnings) => Ok(Comparison {
+                old,
+                new,
+                verdict,
+                warnings,
+            }),
             Err(stop) => Err(stop),
         }
     }

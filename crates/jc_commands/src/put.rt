@@ -1,8 +1,8 @@
 //! Putting a report with its witness files, or the line that says why there is none.
-ghost use Rattle.std.specs.Prelude.{◌≡◌, ◌≢◌, ◌≤◌, ◌⊎◌, List, ℕ, None, Some, OnOk, OnErr, IsErrOf, map};
+ghost use Rattle.std.specs.Prelude.{◌≡◌, ◌≢◌, ◌≤◌, ◌⊎◌, List, ℕ, None, Some, option_map, OnOk, OnErr, IsErrOf, map};
 ghost use Rattle.jc_base.specs.States.{change};
 ghost use Rattle.jc_gate.specs.Gates.{gate_of};
-ghost use Rattle.jc_commands.specs.Check.{verdict_bytes, check_bytes};
+ghost use Rattle.jc_commands.specs.Check.{verdict_bytes, warn_bytes, check_bytes};
 ghost use Rattle.jc_commands.specs.Outputs.{PutsAll, PutsFront, HasPutFault, HasFolderFault, IsUntouched};
 ghost use Rattle.jc_commands.specs.Stop.{line_of, status_of};
 ghost use Rattle.jc_commands.specs.Witness.{PutsFiles, PutsSome};
@@ -18,9 +18,12 @@ use crate::stop::Stop;
 use jc_base::folder::{Folder, FolderError};
 use jc_base::sink::{Sink, SinkError};
 use jc_facts::verdict::Verdict;
+use jc_facts::warning::Warning;
 use jc_gate::gate::Gate;
 use jc_report::json::put_json;
+use jc_report::put_history::put_history;
 use jc_report::put_lines::put_lines;
+use jc_report::put_listing::put_listing;
 use jc_report::put_text::put_text;
 use std::alloc::Global;
 
@@ -48,6 +51,27 @@ fn put_verdict<O: Sink>(
     }
 }
 
+// Puts the warnings where they are asked for, as JSON or line by line.
+fn put_warnings<O: Sink>(
+    alloc: Global,
+    as_json: bool,
+    warnings: &Option<Vec<Warning>>,
+    out: &mut O,
+) -> Result<(), SinkError>
+    ensures ok { OnOk result (PutsAll (change O.state out.old out.new) (warn_bytes as_json (option_map (λ ws. ws.items) warnings.now))) }
+    ensures err { OnErr result (PutsFront (change O.state out.old out.new) (warn_bytes as_json (option_map (λ ws. ws.items) warnings.now))) }
+    ensures never_falls { (O.state out.old).faults ≤ (O.state out.new).faults }
+    ensures cause { IsErrOf result SinkError.Fault → HasPutFault (change O.state out.old out.new) }
+{
+    match warnings {
+        None => Ok(()),
+        Some(warnings) => match put_listing(alloc, as_json, "warnings", warnings.as_slice(), out) {
+            Ok(()) => Ok(()),
+            Err(error) => Err(error),
+        },
+    }
+}
+
 // Puts the parts of a check's report, in their order.
 fn put_check<O: Sink>(alloc: Global, body: &CheckBody<'_>, out: &mut O) -> Result<(), SinkError>
     ensures ok { OnOk result (PutsAll (change O.state out.old out.new) (check_bytes body.now.json (report_in body.now))) }
@@ -56,6 +80,10 @@ fn put_check<O: Sink>(alloc: Global, body: &CheckBody<'_>, out: &mut O) -> Resul
     ensures cause { IsErrOf result SinkError.Fault → HasPutFault (change O.state out.old out.new) }
 {
     match put_verdict(alloc, body.json, &body.verdict, out) {
+        Ok(()) => {}
+        Err(error) => return Err(error),
+    }
+    match put_warnings(alloc, body.json, &body.warnings, out) {
         Ok(()) => Ok(()),
         Err(error) => Err(error),
     }
@@ -74,6 +102,10 @@ fn put_body<O: Sink>(alloc: Global, body: &Body<'_>, out: &mut O) -> Result<(), 
             Err(error) => Err(error),
         },
         Body::Check(check) => match put_check(alloc, check, out) {
+            Ok(()) => Ok(()),
+            Err(error) => Err(error),
+        },
+        Body::Row(verdicts) => match put_history(alloc, verdicts.as_slice(), out) {
             Ok(()) => Ok(()),
             Err(error) => Err(error),
         },
@@ -113,6 +145,7 @@ fn put_shown<F: Folder>(alloc: Global, body: &Body<'_>, folder: &mut F) -> Resul
 {
     match body {
         Body::Bytes(_) => Ok(()),
+        Body::Row(_) => Ok(()),
         Body::Check(check) => match put_asked(alloc, check, folder) {
             Ok(()) => Ok(()),
             Err(error) => Err(error),

@@ -1,11 +1,12 @@
 //! What a command comes to.
 ghost use Rattle.std.specs.Prelude.{◌≡◌, ◌++◌, IfOk, OnOk, map};
-ghost use Rattle.std.specs.Option.{option_map};
+ghost use Rattle.std.specs.Option.{option_map, IfSome};
 ghost use Rattle.jc_facts.specs.client.Linked.{are_all_ok};
 ghost use Rattle.jc_words.specs.CommandView.{check_of};
 ghost use Rattle.jc_commands.specs.Check.{report_of, check_bytes};
-ghost use Rattle.jc_commands.specs.Command.{LinkOf, CheckCommand, LinkCommand, MakeCommand};
-ghost use Rattle.jc_gate.specs.Gates.{gate_of};
+ghost use Rattle.jc_commands.specs.Command.{LinkOf, HistoryOf, CheckCommand, LinkCommand, MakeCommand, HistoryCommand};
+ghost use Rattle.jc_gate.specs.Gates.{IsStep, gate_of};
+ghost use Rattle.jc_version.specs.LevelNumbers.{number_of};
 ghost use Rattle.jc_commands.specs.Reports.{rules_of as rules_in};
 ghost use Rattle.jc_commands.specs.ReportValue.{TellsOf, HasToShow, IsShownIn, IsBare, bytes_in, passes_by, status_by};
 
@@ -13,14 +14,17 @@ use crate::body::{Body, CheckBody};
 use crate::comparison::Comparison;
 use crate::shown::Shown;
 use crate::status::{NOT_PASSED, PASSED};
+use crate::versions::step_of_check;
 use jc_facts::finding::Finding;
 use jc_facts::outcome::Outcome;
 use jc_facts::verdict::{Collision, Verdict};
 use jc_gate::ask::all_pass;
 use jc_gate::gate::Gate;
+use jc_report::history_text::count_incompatible;
 use jc_report::link_text::link_text;
 use jc_report::made_text::made_text;
 use jc_table::table::Table;
+use jc_version::level::Level;
 use jc_words::check::Check;
 use std::alloc::{AllocError, Global};
 
@@ -29,8 +33,9 @@ use std::alloc::{AllocError, Global};
 pub enum Condition<'a> {
     /// Where this is so.
     Known(bool),
-    /// Where each gate of these names passes, once it has seen these rules in their order.
-    ByGates(Vec<&'a str>, Vec<u8>),
+    /// Where each gate of these names passes, once it is told this step, where there is one, and has seen
+    /// these rules in their order.
+    ByGates(Vec<&'a str>, Option<Level>, Vec<u8>),
 }
 
 /// What a command comes to: what is to be put, and where it passes.
@@ -38,6 +43,17 @@ pub enum Condition<'a> {
 pub struct Report<'a> {
     pub body: Body<'a>,
     pub condition: Condition<'a>,
+}
+
+// The number of the step.
+fn number_of_step(step: Option<Level>) -> Option<u8>
+    ensures value { result ≡ option_map number_of step }
+    ensures step { IfSome result IsStep }
+{
+    match step {
+        Some(step) => Some(step.number()),
+        None => None,
+    }
 }
 
 // The rules of the findings, and then those of the collisions.
@@ -81,14 +97,20 @@ fn shown_in(dir: Option<&str>, old: Table, new: Table) -> Option<Shown<'_>>
 
 // What is put of a comparison: its verdict, with what its witnesses are made of.
 fn body_of(comparison: Comparison, json: bool, dir: Option<&str>) -> Body<'_>
-    ensures bytes { bytes_in result ≡ check_bytes json (report_of comparison.verdict) }
+    ensures bytes { bytes_in result ≡ check_bytes json (report_of comparison.verdict (option_map (λ ws. ws.items) comparison.warnings)) }
     ensures shown { HasToShow (option_map (λ d. d.now) dir.entry) comparison.old comparison.new comparison.verdict result }
 {
-    let Comparison { old, new, verdict } = comparison;
+    let Comparison {
+        old,
+        new,
+        verdict,
+        warnings,
+    } = comparison;
     let shown = shown_in(dir, old, new);
     Body::Check(CheckBody {
         json,
         verdict,
+        warnings,
         shown,
     })
 }
@@ -101,7 +123,7 @@ fn are_ok(outcomes: &[Outcome]) -> bool
 }
 
 impl<'a> Report<'a> {
-    /// The report of a check, as text or as JSON, as the check asks: the verdict of the comparison. It passes
+    /// The report of a check, as text or as JSON, as the check asks: the verdict of the comparison, and its warnings. It passes
     /// by the gates that the check names, and is shown by witness files where the check has a folder for
     /// them.
     ///
@@ -113,14 +135,15 @@ impl<'a> Report<'a> {
         comparison: Comparison,
         check: &Check<'a>,
     ) -> Result<Report<'a>, AllocError>
-        ensures tells { IfOk result (TellsOf (CheckCommand (check_of check.now)) (report_of comparison.verdict)) }
+        ensures tells { IfOk result (TellsOf (CheckCommand (check_of check.now)) (report_of comparison.verdict (option_map (λ ws. ws.items) comparison.warnings))) }
         ensures shown { IfOk result (λ report. HasToShow (check_of check.now).witness comparison.old comparison.new comparison.verdict report.body) }
     {
         let names = check.gate_names(alloc)?;
+        let step = step_of_check(alloc, check)?;
         let rules = rules_of(alloc, &comparison.verdict)?;
         Ok(Report {
             body: body_of(comparison, check.json, check.witness),
-            condition: Condition::ByGates(names, rules),
+            condition: Condition::ByGates(names, step, rules),
         })
     }
 
@@ -158,14 +181,28 @@ impl<'a> Report<'a> {
         })
     }
 
+    /// The report of a row of releases: the verdicts on each two neighbours. It passes where none has a
+    /// finding. Nothing is shown.
+    pub fn of_row(verdicts: Vec<Verdict>) -> Report<'a>
+        ensures tells { (history : HistoryOf) → TellsOf (HistoryCommand history) verdicts.items result }
+        ensures shown { IsBare result.body }
+    {
+        let passes = count_incompatible(verdicts.as_slice()) == 0;
+        Report {
+            body: Body::Row(verdicts),
+            condition: Condition::Known(passes),
+        }
+    }
+
     /// The exit status once it is put, by these gates. They are dropped.
     pub fn status(&self, gates: Vec<Box<dyn Gate>>) -> u8
         ensures { result ≡ status_by (passes_by (map (λ gate. gate_of (⟦<dyn Gate as Gate>⟧ gate.vtable) gate.value) gates.items) self.now.condition) }
     {
         let passes = match &self.condition {
             Condition::Known(passes) => *passes,
-            Condition::ByGates(names, rules) => {
-                all_pass(gates, names.as_slice(), rules.as_slice())
+            Condition::ByGates(names, step, rules) => {
+                let step = number_of_step(*step);
+                all_pass(gates, names.as_slice(), step, rules.as_slice())
             }
         };
         if passes { PASSED } else { NOT_PASSED }

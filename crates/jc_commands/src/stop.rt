@@ -21,6 +21,8 @@ use std::alloc::{AllocError, Global};
 pub enum Part {
     /// Its findings and collisions.
     Findings,
+    /// Its warnings of selection.
+    Warnings,
 }
 
 /// Why there is no report.
@@ -123,6 +125,7 @@ fn report_part_name(part: Part) -> &'static str
 {
     match part {
         Part::Findings => "findings",
+        Part::Warnings => "warnings",
     }
 }
 
@@ -170,7 +173,7 @@ fn tree_line(alloc: Global, tree: TreeName, what: &[u8]) -> Result<Vec<u8>, Allo
     ensures { IfOk result (λ line. line.items ≡ codes "jcompat: " ++ tree_words tree ++ what.now) }
 {
     let mut line = Vec::from_slice(alloc, b"jcompat: ")?;
-    tree.push_words(&mut line)?;
+    tree.push_words(alloc, &mut line)?;
     line.extend_from_slice(what)?;
     Ok(line)
 }
@@ -245,6 +248,21 @@ fn usage_line(alloc: Global, usage: &Usage) -> Result<Vec<u8>, AllocError>
         Usage::Number(number) => {
             line.extend_from_slice(b"number ")?;
             push_printed(&mut line, number.as_str().as_bytes())?;
+        }
+        Usage::Releases(count) => {
+            line.extend_from_slice(b"releases ")?;
+            push_decimal(alloc, &mut line, *count)?;
+        }
+        Usage::VersionMissing => line.extend_from_slice(b"version missing")?,
+        Usage::Version(version) => {
+            line.extend_from_slice(b"version ")?;
+            push_printed(&mut line, version.as_str().as_bytes())?;
+        }
+        Usage::Versions(from, to) => {
+            line.extend_from_slice(b"versions ")?;
+            push_printed(&mut line, from.as_str().as_bytes())?;
+            line.push(b' ')?;
+            push_printed(&mut line, to.as_str().as_bytes())?;
         }
     }
     line.push(b'\n')?;

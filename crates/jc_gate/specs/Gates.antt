@@ -1,18 +1,22 @@
 -- Gates, apart from how they keep what they saw.
-use Rattle.std.specs.Prelude.{ℕ, Bool, List, Option, ◌||◌, not, find}
+use Rattle.std.specs.Prelude.{◌≤◌, ℕ, Bool, List, Option, ◌||◌, not, find}
 use Rattle.std.specs.List.{list_any, list_all}
 use Rattle.std.specs.Str.{bytes_eq}
-use Rattle.jc_gate.specs.Seen.{seen}
+use Rattle.jc_gate.specs.Seen.{seen, informed_by}
 use Rattle.jc_gate.specs.declared.gate.Gate as gate
 
--- the name of a gate, and whether it passes once it has seen these rules in their order
+-- a step between versions
+abbrev pub IsStep : ℕ → Type 0
+IsStep step = (1 ≤ step) × (step ≤ 3)
+
+-- the name of a gate, and whether it passes once it is told this step, where there is one, and has seen these rules in their order
 pub record GateOf : Type 0 where
   pub label : List ℕ
-  pub passes : List ℕ → Bool
+  pub passes : Option ℕ → List ℕ → Bool
 
 -- the gate of a value, by the meanings of its type
 abbrev pub gate_of : {X : Type 0} → gate.Ghosts X → X → GateOf
-gate_of meaning x = record { label = meaning.label x; passes = λ rules. meaning.pass x (seen (meaning.after x) (meaning.state x) rules) }
+gate_of meaning x = record { label = meaning.label x; passes = λ step rules. meaning.pass x (seen (meaning.after x) (informed_by (meaning.informed x) (meaning.state x) step) rules) }
 
 -- one of the gates has this name
 abbrev pub is_known : List GateOf → List ℕ → Bool
@@ -26,6 +30,6 @@ first_unknown gates names = find (λ name. not (is_known gates name)) names
 abbrev pub is_selected : List (List ℕ) → GateOf → Bool
 is_selected names g = list_any (λ name. bytes_eq g.label name) names
 
--- each gate of one of the names passes, once it has seen the rules in their order
-abbrev pub all_pass : List GateOf → List (List ℕ) → List ℕ → Bool
-all_pass gates names rules = list_all (λ g. not (is_selected names g) || g.passes rules) gates
+-- each gate of one of the names passes, once it is told the step, where there is one, and has seen the rules in their order
+abbrev pub all_pass : List GateOf → List (List ℕ) → Option ℕ → List ℕ → Bool
+all_pass gates names step rules = list_all (λ g. not (is_selected names g) || g.passes step rules) gates

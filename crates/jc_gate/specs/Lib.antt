@@ -1,3 +1,4 @@
 pub mod Rules
 pub mod Seen
 pub mod Gates
+pub mod Meanings

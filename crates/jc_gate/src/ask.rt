@@ -1,8 +1,9 @@
 //! Asking gates by their names.
-ghost use Rattle.std.specs.Prelude.{◌≡◌, map};
-ghost use Rattle.std.specs.Option.{option_map};
+ghost use Rattle.std.specs.Prelude.{◌≡◌, ◌≤◌, map};
+ghost use Rattle.std.specs.Option.{option_map, IfSome};
 ghost use Rattle.std.specs.Str.{bytes_eq};
-ghost use Rattle.jc_gate.specs.Gates.{gate_of, is_known as has_gate, first_unknown as first_unknown_of, is_selected as selected, all_pass as pass_all};
+ghost use Rattle.jc_gate.specs.Gates.{IsStep, gate_of, is_known as has_gate, first_unknown as first_unknown_of, is_selected as selected, all_pass as pass_all};
+ghost use Rattle.jc_gate.specs.Seen.{informed_by};
 
 use crate::gate::Gate;
 
@@ -10,6 +11,28 @@ fn has_name(gate: &Box<dyn Gate>, name: &str) -> bool
     ensures { result ≡ bytes_eq (label gate.now) name.now }
 {
     gate.name() == name
+}
+
+fn tell(gate: &mut Box<dyn Gate>, step: u8)
+    requires { IsStep step }
+    ensures state { state gate.new ≡ informed gate.old (state gate.old) step }
+    ensures after { after gate.new ≡ after gate.old }
+    ensures pass { pass gate.new ≡ pass gate.old }
+{
+    gate.tell(step);
+}
+
+// Tells it the step, where there is one.
+fn tell_if_some(gate: &mut Box<dyn Gate>, step: Option<u8>)
+    requires { IfSome step IsStep }
+    ensures state { state gate.new ≡ informed_by (informed gate.old) (state gate.old) step }
+    ensures after { after gate.new ≡ after gate.old }
+    ensures pass { pass gate.new ≡ pass gate.old }
+{
+    match step {
+        Some(step) => tell(gate, step),
+        None => {}
+    }
 }
 
 fn see(gate: &mut Box<dyn Gate>, rule: u8)
@@ -63,27 +86,31 @@ fn is_asked(gate: &Box<dyn Gate>, names: &[&str]) -> bool
     false
 }
 
-// Whether the gate passes once it has seen the rules in their order.
-fn ask(gate: Box<dyn Gate>, rules: &[u8]) -> bool
-    ensures { result ≡ (gate_of (⟦<dyn Gate as Gate>⟧ gate.vtable) gate.value).passes rules.now }
+// Whether the gate passes once it is told the step, where there is one, and has seen the rules in their
+// order.
+fn ask(gate: Box<dyn Gate>, step: Option<u8>, rules: &[u8]) -> bool
+    requires { IfSome step IsStep }
+    ensures { result ≡ (gate_of (⟦<dyn Gate as Gate>⟧ gate.vtable) gate.value).passes step rules.now }
 {
     let mut gate = gate;
+    tell_if_some(&mut gate, step);
     for rule in rules {
         see(&mut gate, *rule);
     }
     is_passed(&gate)
 }
 
-/// Whether each gate that is asked for by one of the names passes, once it has seen the rules in their
-/// order. All gates are dropped.
-pub fn all_pass(gates: Vec<Box<dyn Gate>>, names: &[&str], rules: &[u8]) -> bool
-    ensures { result ≡ pass_all (map (λ gate. gate_of (⟦<dyn Gate as Gate>⟧ gate.vtable) gate.value) gates.items) (map (λ name. name.now) names.now) rules.now }
+/// Whether each gate that is asked for by one of the names passes, once it is told the step, where there
+/// is one, and has seen the rules in their order. All gates are dropped.
+pub fn all_pass(gates: Vec<Box<dyn Gate>>, names: &[&str], step: Option<u8>, rules: &[u8]) -> bool
+    requires { IfSome step IsStep }
+    ensures { result ≡ pass_all (map (λ gate. gate_of (⟦<dyn Gate as Gate>⟧ gate.vtable) gate.value) gates.items) (map (λ name. name.now) names.now) step rules.now }
 {
     let mut left = gates;
     let mut all = true;
     while !left.is_empty() {
         let gate = left.remove(0);
-        if is_asked(&gate, names) && !ask(gate, rules) {
+        if is_asked(&gate, names) && !ask(gate, step, rules) {
             all = false;
         }
     }

@@ -1,5 +1,7 @@
 //! The gate of a number of rules.
 ghost use Rattle.std.specs.Prelude.{◌≡◌, ◌≤◌, ◌+◌, ◌-◌, refl, codes, nat_lt};
+ghost use Rattle.jc_gate.specs.Gates.{gate_of};
+ghost use Rattle.jc_gate.specs.Meanings.{IsGateBy, has_at_most};
 
 use crate::gate::Gate;
 
@@ -15,7 +17,8 @@ impl AtMost {
     /// The gate of this number of rules, at most 999,999, before any is seen.
     pub fn new(limit: u32) -> AtMost
         requires { limit ≤ 999_999 }
-        ensures { ⟦<AtMost as Gate>⟧.state result ≡ limit + 1 }
+        ensures state { ⟦<AtMost as Gate>⟧.state result ≡ limit + 1 }
+        ensures gate { IsGateBy (codes "few") (has_at_most limit) (gate_of ⟦<AtMost as Gate>⟧ result) }
     {
         AtMost { left: limit + 1 }
     }
@@ -26,9 +29,13 @@ impl Gate for AtMost {
 
     ghost state = { λ gate. gate.left };
 
+    ghost informed = { λ gate state step. state };
+
     ghost after = { λ gate state rule. state - 1 };
 
     ghost pass = { λ gate state. nat_lt 0 state };
+
+    ghost one_informed = { λ a b. refl };
 
     ghost one_after = { λ a b. refl };
 
@@ -37,6 +44,8 @@ impl Gate for AtMost {
     fn name(&self) -> &str {
         "few"
     }
+
+    fn tell(&mut self, _step: u8) {}
 
     fn see(&mut self, _rule: u8) {
         self.left = self.left.saturating_sub(1);

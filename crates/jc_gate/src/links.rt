@@ -1,5 +1,7 @@
 //! The gate of the verdict.
 ghost use Rattle.std.specs.Prelude.{◌≡◌, refl, codes, nat_eq, if◌then◌else◌};
+ghost use Rattle.jc_gate.specs.Gates.{gate_of};
+ghost use Rattle.jc_gate.specs.Meanings.{IsGateBy, has_no_finding};
 ghost use Rattle.jc_gate.specs.Rules.{is_of_finding};
 
 use crate::gate::Gate;
@@ -15,7 +17,8 @@ pub struct Links {
 impl Links {
     /// The gate before any rule is seen.
     pub fn new() -> Links
-        ensures { ⟦<Links as Gate>⟧.state result ≡ 0 }
+        ensures state { ⟦<Links as Gate>⟧.state result ≡ 0 }
+        ensures gate { IsGateBy (codes "links") has_no_finding (gate_of ⟦<Links as Gate>⟧ result) }
     {
         Links { broken: false }
     }
@@ -26,9 +29,13 @@ impl Gate for Links {
 
     ghost state = { λ gate. if gate.broken then 1 else 0 };
 
+    ghost informed = { λ gate state step. state };
+
     ghost after = { λ gate state rule. if is_of_finding rule then 1 else state };
 
     ghost pass = { λ gate state. nat_eq state 0 };
+
+    ghost one_informed = { λ a b. refl };
 
     ghost one_after = { λ a b. refl };
 
@@ -37,6 +44,8 @@ impl Gate for Links {
     fn name(&self) -> &str {
         "links"
     }
+
+    fn tell(&mut self, _step: u8) {}
 
     fn see(&mut self, rule: u8) {
         if (1..=9).contains(&rule) {

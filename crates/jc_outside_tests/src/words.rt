@@ -2,6 +2,7 @@
 use jc_base::text::Text;
 use jc_words::check::Check;
 use jc_words::command::Command;
+use jc_words::history::History;
 use jc_words::link::Link;
 use jc_words::make::Make;
 use jc_words::usage::Usage;
@@ -15,6 +16,9 @@ const CHECK: Check<'static> = Check {
     witness: None,
     json: false,
     gate: None,
+    from: None,
+    to: None,
+    warn: false,
 };
 
 const CHECK_WITH_ALL: Check<'static> = Check {
@@ -24,6 +28,9 @@ const CHECK_WITH_ALL: Check<'static> = Check {
     witness: Some("D"),
     json: true,
     gate: Some("links,few"),
+    from: Some("1.4.0"),
+    to: Some("1.5.0"),
+    warn: false,
 };
 
 const LINK: Link<'static> = Link {
@@ -31,22 +38,6 @@ const LINK: Link<'static> = Link {
     release: "R",
     client: "C",
 };
-
-/// A line of words, and what it asks for.
-type Row = (&'static str, Command<'static>);
-
-const ROWS: &[Row] = &[
-    ("check --platform P --old O --new N", Command::Check(CHECK)),
-    (
-        "check --gate links,few --witness D --new=N --json --platform=P --old O",
-        Command::Check(CHECK_WITH_ALL),
-    ),
-    (
-        "link --client C --release R --platform P",
-        Command::Link(LINK),
-    ),
-    ("make 64", Command::Make(Make { classes: 64 })),
-];
 
 const UNKNOWN_COMMANDS: &[&str] = &["", "compare", "--help", "\u{e9}"];
 
@@ -95,9 +86,35 @@ fn is_unknown(rt: &impl Abort, alloc: Global, word: &str) -> bool {
 
 #[test]
 fn reads_what_is_asked(rt: HostRuntime) {
-    for (line, asked) in ROWS {
-        assert!(rt; asks(&rt, rt.alloc(), line, asked), "{line}");
-    }
+    let alloc = rt.alloc();
+    let check = Command::Check(CHECK);
+    assert!(rt; asks(&rt, alloc, "check --platform P --old O --new N", &check));
+    let with_all = Command::Check(CHECK_WITH_ALL);
+    let line =
+        "check --gate links,few --witness D --new=N --json --to 1.5.0 --from=1.4.0 --platform=P --old O";
+    assert!(rt; asks(&rt, alloc, line, &with_all));
+    let link = Command::Link(LINK);
+    assert!(rt;
+        asks(
+            &rt,
+            alloc,
+            "link --client C --release R --platform P",
+            &link
+        )
+    );
+    let make = Command::Make(Make { classes: 64 });
+    assert!(rt; asks(&rt, alloc, "make 64", &make));
+}
+
+#[test]
+fn reads_a_row_of_releases(rt: HostRuntime) {
+    let alloc = rt.alloc();
+    let row = Command::History(History {
+        platform: "P",
+        releases: vec![in alloc; "A", "B", "A"].expect(&rt, "memory"),
+    });
+    assert!(rt; asks(&rt, alloc, "history A B --platform P A", &row));
+    assert!(rt; is_refused(&rt, alloc, "history --platform P A", &Usage::Releases(1)));
 }
 
 // Whether a check with this value of `--gate` names these gates.

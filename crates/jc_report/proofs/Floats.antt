@@ -21,7 +21,7 @@ name_plain : (x : Option Bytes) → has_float (name_or_null x) ≡ false
 name_plain None = refl
 name_plain (Some x) = refl
 
-member_plain : (k : Option Key) (x : Option Bytes) → has_float (member_or_null k x) ≡ false
+pub member_plain : (k : Option Key) (x : Option Bytes) → has_float (member_or_null k x) ≡ false
 member_plain None x = name_plain x
 member_plain (Some k) x = refl
 

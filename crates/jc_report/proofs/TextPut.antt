@@ -9,6 +9,7 @@ use Rattle.jc_facts.specs.declared.verdict.Verdict.{Verdict}
 use Rattle.jc_facts.specs.Names.{Bytes}
 use Rattle.jc_facts.specs.print.Text.{line_of_finding, lines_of_findings, line_of_collision, lines_of_collisions, line_of_note, lines_of_notes, last_line_of, text_of}
 use Rattle.jc_report.specs.Listing.{lines_from}
+use Rattle.jc_report.specs.steps.Fronted.{fronted, fronted_text}
 use Rattle.jc_report.proofs.Puts.{IsPut, put_nothing, put_more, put_failed, put_all, put_last_failed}
 
 -- ---- lines
@@ -57,7 +58,7 @@ module _ (v : Verdict) where
   abbrev pub last : Bytes
   last = last_line_of v
 
-  parts : text_of v ≡ findings ++ (collisions ++ (notes ++ last))
+  pub parts : text_of v ≡ findings ++ (collisions ++ (notes ++ last))
   unfolding text_of
   parts =
       append_assoc (lines_of_findings 1 v.findings ++ lines_of_collisions (length v.findings + 1) v.collisions) (lines_of_notes v.notes) last
@@ -70,33 +71,54 @@ module _ (v : Verdict) where
   pub joined : ((findings ++ collisions) ++ notes) ++ last ≡ text_of v
   joined = append_assoc (findings ++ collisions) notes last ∙ append_assoc findings collisions (notes ++ last) ∙ sym parts
 
+  -- with nothing before them
+  pub bare_is : fronted_text [] v ≡ text_of v
+  unfolding fronted_text
+  bare_is = sym parts
+
+-- ---- the text with a front before each line
+
+module _ (front : Bytes) (v : Verdict) where
+  abbrev pub finding_part : Bytes
+  finding_part = lines_from (fronted front (λ f m. line_of_finding m f)) 1 v.findings
+
+  abbrev pub collision_part : Bytes
+  collision_part = lines_from (fronted front (λ c m. line_of_collision m c)) (length v.findings + 1) v.collisions
+
+  abbrev pub note_part : Bytes
+  note_part = lines_from (fronted front (λ (note : Note) m. line_of_note note)) 0 v.notes
+
+  abbrev pub last_part : Bytes
+  last_part = front ++ last_line_of v
+
   module _ (a b : Taken) where
-    start : IsPut a a (findings ++ (collisions ++ (notes ++ last))) (text_of v)
-    start = subst (λ (t : Bytes). IsPut a a t (text_of v)) parts (put_nothing a (text_of v))
+    start : IsPut a a (finding_part ++ (collision_part ++ (note_part ++ last_part))) (fronted_text front v)
+    unfolding fronted_text
+    start = put_nothing a (fronted_text front v)
 
-    pub findings_failed : TakesFront a b findings → TakesFront a b (text_of v)
-    findings_failed h = put_failed a a b findings (collisions ++ (notes ++ last)) (text_of v) start h
+    pub findings_failed : TakesFront a b finding_part → TakesFront a b (fronted_text front v)
+    findings_failed h = put_failed a a b finding_part (collision_part ++ (note_part ++ last_part)) (fronted_text front v) start h
 
-    module _ (c : Taken) (first : TakesAll a b findings) where
-      then_collisions : IsPut a b (collisions ++ (notes ++ last)) (text_of v)
-      then_collisions = put_more a a b findings (collisions ++ (notes ++ last)) (text_of v) start first
+    module _ (c : Taken) (first : TakesAll a b finding_part) where
+      then_collisions : IsPut a b (collision_part ++ (note_part ++ last_part)) (fronted_text front v)
+      then_collisions = put_more a a b finding_part (collision_part ++ (note_part ++ last_part)) (fronted_text front v) start first
 
-      pub collisions_failed : TakesFront b c collisions → TakesFront a c (text_of v)
-      collisions_failed h = put_failed a b c collisions (notes ++ last) (text_of v) then_collisions h
+      pub collisions_failed : TakesFront b c collision_part → TakesFront a c (fronted_text front v)
+      collisions_failed h = put_failed a b c collision_part (note_part ++ last_part) (fronted_text front v) then_collisions h
 
-      module _ (d : Taken) (second : TakesAll b c collisions) where
-        then_notes : IsPut a c (notes ++ last) (text_of v)
-        then_notes = put_more a b c collisions (notes ++ last) (text_of v) then_collisions second
+      module _ (d : Taken) (second : TakesAll b c collision_part) where
+        then_notes : IsPut a c (note_part ++ last_part) (fronted_text front v)
+        then_notes = put_more a b c collision_part (note_part ++ last_part) (fronted_text front v) then_collisions second
 
-        pub notes_failed : TakesFront c d notes → TakesFront a d (text_of v)
-        notes_failed h = put_failed a c d notes last (text_of v) then_notes h
+        pub notes_failed : TakesFront c d note_part → TakesFront a d (fronted_text front v)
+        notes_failed h = put_failed a c d note_part last_part (fronted_text front v) then_notes h
 
-        module _ (e : Taken) (third : TakesAll c d notes) where
-          then_last : IsPut a d last (text_of v)
-          then_last = put_more a c d notes last (text_of v) then_notes third
+        module _ (e : Taken) (third : TakesAll c d note_part) where
+          then_last : IsPut a d last_part (fronted_text front v)
+          then_last = put_more a c d note_part last_part (fronted_text front v) then_notes third
 
-          pub last_failed : TakesFront d e last → TakesFront a e (text_of v)
-          last_failed h = put_last_failed a d e last (text_of v) then_last h
+          pub last_failed : TakesFront d e last_part → TakesFront a e (fronted_text front v)
+          last_failed h = put_last_failed a d e last_part (fronted_text front v) then_last h
 
-          pub last_put : TakesAll d e last → TakesAll a e (text_of v)
-          last_put h = put_all a d e last (text_of v) then_last h
+          pub last_put : TakesAll d e last_part → TakesAll a e (fronted_text front v)
+          last_put h = put_all a d e last_part (fronted_text front v) then_last h

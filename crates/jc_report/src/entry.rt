@@ -4,17 +4,19 @@ ghost use Rattle.serde_json.specs.Data.{Data};
 ghost use Rattle.serde_json.specs.View.{view};
 ghost use Rattle.serde_json.specs.Written.{has_float};
 ghost use Rattle.jc_facts.specs.print.Text.{line_of_finding, line_of_collision, line_of_note};
-ghost use Rattle.jc_report.specs.Json.{finding_json, collision_json, note_json};
+ghost use Rattle.jc_facts.specs.print.WarnText.{line_of_warning};
+ghost use Rattle.jc_report.specs.Json.{finding_json, collision_json, note_json, warning_json};
 
-use crate::json_values::{collision_value, finding_value, note_value};
-use crate::lines::{collision_line, finding_line, note_line};
+use crate::json_values::{collision_value, finding_value, note_value, warning_value};
+use crate::lines::{collision_line, finding_line, note_line, warning_line};
 use jc_facts::finding::Finding;
 use jc_facts::verdict::{Collision, Note};
+use jc_facts::warning::Warning;
 use serde_json::Value;
 use std::alloc::{AllocError, Global};
 
-/// What has a line of its own in a text, and an object of its own in JSON: a finding, a collision or a
-/// note.
+/// What has a line of its own in a text, and an object of its own in JSON: a finding, a collision, a
+/// note or a warning.
 pub trait Entry {
     ghost use Rattle.std.specs.Prelude.{List, ℕ};
 
@@ -24,7 +26,7 @@ pub trait Entry {
     // Its object, where it has this number.
     ghost shaped: { Self → ℕ → Data };
 
-    /// The line, its line end with it. A note has the same one under each number.
+    /// The line, its line end with it. A note or a warning has the same one under each number.
     ///
     /// # Errors
     ///
@@ -32,7 +34,7 @@ pub trait Entry {
     fn line(&self, alloc: Global, number: usize) -> Result<Vec<u8>, AllocError>
         ensures { IfOk result (λ line. line.items ≡ printed self.now number) };
 
-    /// The object, in which no number has a fraction. A note has the same one under each number.
+    /// The object, in which no number has a fraction. A note or a warning has the same one under each number.
     ///
     /// # Errors
     ///
@@ -81,5 +83,19 @@ impl Entry for Note {
 
     fn value(&self, alloc: Global, _number: usize) -> Result<Value, AllocError> {
         note_value(alloc, self)
+    }
+}
+
+impl Entry for Warning {
+    ghost printed = { λ warning number. line_of_warning warning };
+
+    ghost shaped = { λ warning number. warning_json warning };
+
+    fn line(&self, alloc: Global, _number: usize) -> Result<Vec<u8>, AllocError> {
+        warning_line(alloc, self)
+    }
+
+    fn value(&self, alloc: Global, _number: usize) -> Result<Value, AllocError> {
+        warning_value(alloc, self)
     }
 }

@@ -1,20 +1,21 @@
-//! The JSON of findings, collisions and notes.
+//! The JSON of findings, collisions, notes and warnings.
 ghost use Rattle.std.specs.Prelude.{◌≡◌, IfOk};
 ghost use Rattle.serde_json.specs.Data.{string};
 ghost use Rattle.serde_json.specs.View.{view};
 ghost use Rattle.jc_facts.specs.print.Text.{printed, printed_key};
-ghost use Rattle.jc_report.specs.Json.{name_or_null, member_or_null, finding_json, collision_json, note_with, note_json};
+ghost use Rattle.jc_report.specs.Json.{name_or_null, member_or_null, finding_json, collision_json, note_with, note_json, warning_json};
 
 use crate::printed::{push_key, push_printed};
-use crate::printed_words::{act_word, error_name, rule_text, side_word};
+use crate::printed_words::{act_word, error_name, rule_text, side_word, warn_word};
 use jc_base::name::Name;
 use jc_facts::finding::Finding;
 use jc_facts::key::Key;
 use jc_facts::verdict::{Collision, Note};
+use jc_facts::warning::Warning;
 use serde_json::{Value, json};
 use std::alloc::{AllocError, Global};
 
-fn name_value(alloc: Global, name: &Name) -> Result<Value, AllocError>
+pub(crate) fn name_value(alloc: Global, name: &Name) -> Result<Value, AllocError>
     ensures { IfOk result (λ v. view v ≡ string (printed name.now)) }
 {
     let mut text = String::new(alloc);
@@ -31,7 +32,7 @@ fn name_or_null_value(alloc: Global, name: &Option<Name>) -> Result<Value, Alloc
     }
 }
 
-fn key_value(alloc: Global, key: &Key) -> Result<Value, AllocError>
+pub(crate) fn key_value(alloc: Global, key: &Key) -> Result<Value, AllocError>
     ensures { IfOk result (λ v. view v ≡ string (printed_key key.now)) }
 {
     let mut text = String::new(alloc);
@@ -114,4 +115,19 @@ pub fn note_value(alloc: Global, note: &Note) -> Result<Value, AllocError>
             "side": null
         }),
     }
+}
+
+/// The object of a warning.
+///
+/// # Errors
+///
+/// `AllocError` where memory runs out.
+pub fn warning_value(alloc: Global, warning: &Warning) -> Result<Value, AllocError>
+    ensures { IfOk result (λ v. view v ≡ warning_json warning.now) }
+{
+    json!(in alloc; {
+        "class": name_value(alloc, &warning.class)?,
+        "kind": warn_word(warning.kind),
+        "member": key_value(alloc, &warning.key)?
+    })
 }

@@ -1,12 +1,22 @@
-//! The JSON of some verdicts.
+//! The printed forms of some verdicts and notes on signatures.
 ghost use Rattle.std.specs.Prelude.{◌≡◌, ◌++◌, [], ◌∷◌, Some, None, true, false, codes, ℕ};
 ghost use Rattle.jc_facts.specs.declared.verdict.Verdict.{Verdict};
 ghost use Rattle.jc_report.specs.Json.{json_of};
-ghost use Rattle.jc_report.specs.Worked.{capture, empty, mixed};
+ghost use Rattle.jc_facts.specs.print.SigText.{sig_text_of};
+ghost use Rattle.jc_report.specs.SigJson.{sig_json_of};
+ghost use Rattle.jc_report.specs.Worked.{capture, empty, mixed, parameters_changed, result_changed, unread};
 
 /// Keys stand in byte order, what isn't there is null, and a backslash of a printed form is escaped.
 pub fn worked_json()
     ensures capture { json_of capture ≡ codes "{\"collisions\":[{\"class\":\"p/A\",\"error\":\"IllegalAccessError\",\"member\":\"run()V\",\"number\":1,\"operation\":\"invokevirtual\",\"rule\":\"Capture\",\"seat\":null}],\"findings\":[],\"notes\":[],\"verdict\":\"compatible\"}\n" }
     ensures empty { json_of empty ≡ codes "{\"collisions\":[],\"findings\":[],\"notes\":[],\"verdict\":\"compatible\"}\n" }
     ensures mixed { json_of mixed ≡ codes "{\"collisions\":[],\"findings\":[{\"class\":\"p/\\\\\\\\\\\\xe9\",\"error\":\"NoClassDefFoundError\",\"member\":null,\"number\":1,\"operation\":\"class\",\"rule\":\"H1\",\"seat\":null},{\"class\":\"p/D\",\"error\":\"NoSuchFieldError\",\"member\":\"f:I\",\"number\":2,\"operation\":\"getstatic\",\"rule\":\"H7\",\"seat\":\"p/C\"}],\"notes\":[{\"class\":\"p/B\",\"detail\":\"VerifyError\",\"kind\":\"unloadable\",\"member\":null,\"side\":\"old\"},{\"class\":\"p/A\",\"detail\":null,\"kind\":\"constant\",\"member\":\"f:I\",\"side\":null}],\"verdict\":\"incompatible\"}\n" }
+{}
+
+/// The member of the class itself is `-`, or null in JSON; a change is one word in lower case.
+pub fn worked_signatures()
+    ensures text { sig_text_of (parameters_changed ∷ result_changed ∷ unread ∷ []) ≡ codes "note signature p/A - parameters\nnote signature p/A get()Ljava/lang/Object; result\nnote signature p/A - unread\n" }
+    ensures class { sig_json_of (parameters_changed ∷ []) ≡ codes "{\"signatures\":[{\"change\":\"parameters\",\"class\":\"p/A\",\"member\":null}]}\n" }
+    ensures none { sig_json_of [] ≡ codes "{\"signatures\":[]}\n" }
+    ensures member { sig_json_of (result_changed ∷ []) ≡ codes "{\"signatures\":[{\"change\":\"result\",\"class\":\"p/A\",\"member\":\"get()Ljava/lang/Object;\"}]}\n" }
 {}

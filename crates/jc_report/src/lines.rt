@@ -1,14 +1,16 @@
-//! The lines of findings, collisions and notes.
+//! The lines of findings, collisions, notes and warnings.
 ghost use Rattle.std.specs.Prelude.{◌≡◌, ◌++◌, codes, OnOk, IfOk};
 ghost use Rattle.jc_facts.specs.print.Text.{printed, printed_key, printed_member, word_of_side, name_of_error, line_of_finding, line_of_collision, line_of_note};
+ghost use Rattle.jc_facts.specs.print.WarnText.{line_of_warning};
 
 use crate::printed::{push_decimal, push_key, push_name, push_printed};
-use crate::printed_words::{act_word, error_name, rule_text, side_word};
+use crate::printed_words::{act_word, error_name, rule_text, side_word, warn_word};
 use jc_base::name::Name;
 use jc_facts::finding::Finding;
 use jc_facts::key::Key;
 use jc_facts::link_error::LinkError;
 use jc_facts::verdict::{Collision, Note};
+use jc_facts::warning::Warning;
 use std::alloc::{AllocError, Global};
 
 fn push_member(text: &mut Vec<u8>, finding: &Finding) -> Result<(), AllocError>
@@ -120,4 +122,23 @@ pub fn note_line(alloc: Global, note: &Note) -> Result<Vec<u8>, AllocError>
         Note::Unloadable { old, class, error } => unloadable_line(alloc, *old, class, *error),
         Note::Fixed { class, key } => constant_line(alloc, class, key),
     }
+}
+
+/// The line of a warning, its line end with it.
+///
+/// # Errors
+///
+/// `AllocError` where memory runs out.
+#[tactic(auto, unfolding(jc_facts::specs::print::WarnText::line_of_warning))]
+pub fn warning_line(alloc: Global, warning: &Warning) -> Result<Vec<u8>, AllocError>
+    ensures { IfOk result (λ line. line.items ≡ line_of_warning warning.now) }
+{
+    let mut line = Vec::from_slice(alloc, b"warning ")?;
+    push_printed(&mut line, warning.class.as_bytes())?;
+    line.extend_from_slice(b" ")?;
+    push_key(&mut line, &warning.key)?;
+    line.extend_from_slice(b" ")?;
+    line.extend_from_slice(warn_word(warning.kind).as_bytes())?;
+    line.extend_from_slice(b"\n")?;
+    Ok(line)
 }

@@ -1,10 +1,12 @@
-//! The printed words of rules, acts, errors, releases and verdicts.
+//! The printed words of rules, acts, errors, releases, verdicts and warnings.
 ghost use Rattle.std.specs.Prelude.{◌≡◌, IfOk, string_bytes};
 ghost use Rattle.jc_facts.specs.print.Text.{rule_name, word_of_act, name_of_error, word_of_side, verdict_word as word_of_verdict};
+ghost use Rattle.jc_facts.specs.print.WarnText.{word_of_kind};
 
 use jc_facts::act::Act;
 use jc_facts::finding::Finding;
 use jc_facts::link_error::LinkError;
+use jc_facts::warning::WarnKind;
 use std::alloc::{AllocError, Global};
 
 /// The name of a rule: `Constant` for 10, `Capture` for 11, `Final` for 12, and `H` with the number for
@@ -80,5 +82,16 @@ pub fn verdict_word(findings: &[Finding]) -> &'static str
     match findings {
         [] => "compatible",
         [_, ..] => "incompatible",
+    }
+}
+
+/// The word of a kind of warning.
+pub fn warn_word(kind: WarnKind) -> &'static str
+    ensures { result.now ≡ word_of_kind kind }
+{
+    match kind {
+        WarnKind::Lost => "lost",
+        WarnKind::Abstract => "abstract",
+        WarnKind::Defaults => "defaults",
     }
 }

@@ -24,8 +24,12 @@ fn listing_value<E: Entry>(alloc: Global, key: &str, items: &[E]) -> Result<Valu
     json!(in alloc; { key: Value::Array(values) })
 }
 
-// Its text.
-fn listing<E: Entry>(alloc: Global, key: &str, items: &[E]) -> Result<Vec<u8>, AllocError>
+/// Its text: one object without spaces, and a line end.
+///
+/// # Errors
+///
+/// `AllocError` where memory runs out.
+pub fn listing<E: Entry>(alloc: Global, key: &str, items: &[E]) -> Result<Vec<u8>, AllocError>
     requires { length items.now < 2 ^ 63 }
     ensures { IfOk result (λ text. text.items ≡ line_of (listing_json key.now (values_from E.shaped 1 items.now))) }
 {
@@ -54,7 +58,7 @@ pub fn put_listing<O: Sink, E: Entry>(
     ensures cause { IsErrOf result SinkError.Fault → Rose (O.state out.old).faults (O.state out.new).faults }
 {
     if !as_json {
-        return match put_each(alloc, 1, items, out) {
+        return match put_each(alloc, &[], 1, items, out) {
             Ok(()) => Ok(()),
             Err(error) => Err(error),
         };

@@ -1,17 +1,17 @@
 -- What the words ask for.
-use Rattle.std.specs.Prelude.{Bool, ℕ, List, [], ◌∷◌, Option, Some, None, codes, ◌==◌, if◌then◌else◌, option_map}
+use Rattle.std.specs.Prelude.{Bool, ℕ, ◌&&◌, nat_le, List, [], ◌∷◌, length, Option, Some, None, codes, ◌==◌, if◌then◌else◌, option_map}
 use Rattle.std.specs.Prelude.{Result, Ok, Err}
 use Rattle.std.specs.List.{slice_split}
 use Rattle.std.specs.Str.{bytes_eq}
 use Rattle.clap.specs.Walk.{Row, Text, first_of}
 use Rattle.clap.specs.Simple.{App}
-use Rattle.jc_words.specs.Arguments.{option_rule, required_rule, flag_rule, word_rule, command_with, taken, value_of, is_on}
+use Rattle.jc_words.specs.Arguments.{option_rule, required_rule, flag_rule, word_rule, words_rule, command_with, taken, value_of, values_of, is_on}
 use Rattle.jc_words.specs.Number.{number_of}
 use Rattle.jc_words.specs.declared.usage.Usage.{Usage}
 use Rattle.jc_words.specs.declared.usage.Usage.TheVariants as usages
 
 -- a check of two releases: the roots of the platform and of both, the folder for the witnesses where they are wanted, whether the report is JSON,
--- and the names of the gates that are asked
+-- the names of the gates that are asked, the versions of the old and of the new release, where they are said, and whether warnings are reported
 pub record CheckOf : Type 0 where
   pub platform : Text
   pub old : Text
@@ -19,6 +19,9 @@ pub record CheckOf : Type 0 where
   pub witness : Option Text
   pub json : Bool
   pub gates : List Text
+  pub from : Option Text
+  pub to : Option Text
+  pub warn : Bool
 
 -- the linking of clients: the roots of the platform, of the release and of the clients
 pub record LinkOf : Type 0 where
@@ -26,18 +29,25 @@ pub record LinkOf : Type 0 where
   pub release : Text
   pub client : Text
 
--- what is asked for: a check of two releases, the linking of clients, or the verdict on generated releases of so many classes
+-- a row of releases: the roots of the platform and of each release, from the first to the last
+pub record HistoryOf : Type 0 where
+  pub platform : Text
+  pub releases : List Text
+
+-- what is asked for: a check of two releases, the linking of clients, the verdict on generated releases of so many classes, or the verdicts on a
+-- row of releases
 pub data CommandOf : Type 0 where
   CheckCommand : CheckOf → CommandOf
   LinkCommand : LinkOf → CommandOf
   MakeCommand : ℕ → CommandOf
+  HistoryCommand : HistoryOf → CommandOf
 
 -- ---- check
 
 abbrev pub check_arguments : App
 check_arguments = command_with (codes "check")
     (required_rule (codes "platform") ∷ required_rule (codes "old") ∷ required_rule (codes "new")
-    ∷ option_rule (codes "witness") ∷ flag_rule (codes "json") ∷ option_rule (codes "gate") ∷ [])
+    ∷ option_rule (codes "witness") ∷ flag_rule (codes "json") ∷ option_rule (codes "gate") ∷ option_rule (codes "from") ∷ option_rule (codes "to") ∷ flag_rule (codes "warn") ∷ [])
 
 -- the gates that a value of `--gate` names, which is cut at each comma, or the one gate without it
 abbrev pub gate_names : Option Text → List Text
@@ -53,6 +63,9 @@ check_in rows = record {
   witness = first_of (codes "witness") rows;
   json = is_on (codes "json") rows;
   gates = gate_names (first_of (codes "gate") rows);
+  from = first_of (codes "from") rows;
+  to = first_of (codes "to") rows;
+  warn = is_on (codes "warn") rows;
 }
 
 -- the check of the words after `check`, where `clap` takes them
@@ -100,6 +113,32 @@ make_of (Some word) = or_number word (number_of word)
 abbrev pub make_by : List Text → Result CommandOf Usage
 make_by words = make_of (number_word words)
 
+-- ---- history
+
+abbrev pub history_arguments : App
+history_arguments = command_with (codes "history") (required_rule (codes "platform") ∷ words_rule (codes "releases") ∷ [])
+
+-- the row of these matches
+abbrev pub history_in : List Row → HistoryOf
+history_in rows = record { platform = value_of (codes "platform") rows; releases = values_of (codes "releases") rows }
+
+-- a row has from two to twenty releases
+abbrev pub is_row : ℕ → Bool
+is_row n = nat_le 2 n && nat_le n 20
+
+-- another number of them is a fault
+abbrev pub or_releases : HistoryOf → Result CommandOf Usage
+or_releases h = if is_row (length h.releases) then Ok (HistoryCommand h) else Err (usages.Releases (length h.releases))
+
+-- what the matches ask for, and words that aren't taken are a fault
+abbrev pub history_by_matches : Option (List Row) → Result CommandOf Usage
+history_by_matches None = Err usages.Words
+history_by_matches (Some rows) = or_releases (history_in rows)
+
+-- what the words after `history` ask for
+abbrev pub history_by : List Text → Result CommandOf Usage
+history_by words = history_by_matches (taken history_arguments words)
+
 -- ---- all commands
 
 -- a command that doesn't take the words is a fault of them
@@ -113,6 +152,7 @@ command_by name words =
     if bytes_eq name (codes "check") then or_words (option_map CheckCommand (check_by words))
     else if bytes_eq name (codes "link") then or_words (option_map LinkCommand (link_by words))
     else if bytes_eq name (codes "make") then make_by words
+    else if bytes_eq name (codes "history") then history_by words
     else Err (usages.UnknownCommand name)
 
 -- what the words ask for, or the first fault of them: the first word names a command, and `clap` reads those after it

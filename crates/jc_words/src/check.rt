@@ -23,6 +23,12 @@ pub struct Check<'a> {
     pub json: bool,
     /// The value of `--gate`, where it is used.
     pub gate: Option<&'a str>,
+    /// The version of the old release, where it is said.
+    pub from: Option<&'a str>,
+    /// The version of the new release, where it is said.
+    pub to: Option<&'a str>,
+    /// Whether the report has the warnings of selection.
+    pub warn: bool,
 }
 
 impl<'a> Check<'a> {
@@ -50,6 +56,9 @@ impl<'a> Check<'a> {
             witness: value_or_none(matches, "witness"),
             json: is_on(matches, "json"),
             gate: value_or_none(matches, "gate"),
+            from: value_or_none(matches, "from"),
+            to: value_or_none(matches, "to"),
+            warn: is_on(matches, "warn"),
         }
     }
 
@@ -101,5 +110,8 @@ fn arguments<'a>(alloc: Global) -> Result<Command<'a>, AllocError>
         .arg(required(alloc, "new"))?
         .arg(option(alloc, "witness"))?
         .arg(flag(alloc, "json"))?
-        .arg(option(alloc, "gate"))
+        .arg(option(alloc, "gate"))?
+        .arg(option(alloc, "from"))?
+        .arg(option(alloc, "to"))?
+        .arg(flag(alloc, "warn"))
 }

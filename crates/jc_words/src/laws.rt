@@ -1,10 +1,10 @@
 //! Laws of what is asked: what some words ask for, and that what has to be there is.
-ghost use Rattle.std.specs.Prelude.{◌≡◌, ◌≤◌, ℕ, List, [], ◌∷◌, Ok, Err, Some, true, codes, IsSome};
+ghost use Rattle.std.specs.Prelude.{◌≡◌, ◌≤◌, ℕ, length, List, [], ◌∷◌, Ok, Err, Some, true, codes, IsSome};
 ghost use Rattle.clap.specs.Words.{Row, Text, first_of};
 ghost use Rattle.jc_words.specs.Arguments.{taken};
-ghost use Rattle.jc_words.specs.Command.{asked, CheckCommand, LinkCommand, MakeCommand, check_arguments, link_arguments};
+ghost use Rattle.jc_words.specs.Command.{asked, HistoryOf, CheckCommand, LinkCommand, MakeCommand, HistoryCommand, check_arguments, link_arguments};
 ghost use Rattle.jc_words.specs.declared.usage.Usage.TheVariants as usages;
-ghost use Rattle.jc_words.specs.Worked.{typed, plain_check, plain_link};
+ghost use Rattle.jc_words.specs.Worked.{typed, plain_check, plain_link, plain_history};
 
 /// Options stand in any order, and a value follows its option or an equals sign, whatever it is.
 pub fn options_in_any_order()
@@ -13,6 +13,8 @@ pub fn options_in_any_order()
     ensures check_with_all { asked (typed (codes "check --new=N --json --old O --gate few --witness D --platform=P")) ≡ Ok (CheckCommand (record plain_check { witness = Some (codes "D"); json = true; gates = codes "few" ∷ [] })) }
     ensures gates { asked (typed (codes "check --platform P --old O --new N --gate links,,few")) ≡ Ok (CheckCommand (record plain_check { gates = codes "links" ∷ [] ∷ codes "few" ∷ [] })) }
     ensures gate_empty { asked (typed (codes "check --platform P --old O --new N --gate=")) ≡ Ok (CheckCommand (record plain_check { gates = [] ∷ [] })) }
+    ensures warnings { asked (typed (codes "check --warn --platform P --old O --new N")) ≡ Ok (CheckCommand (record plain_check { warn = true })) }
+    ensures versions { asked (typed (codes "check --platform P --to 2 --old O --new N --from=1")) ≡ Ok (CheckCommand (record plain_check { from = Some (codes "1"); to = Some (codes "2") })) }
     ensures link { asked (typed (codes "link --platform P --release R --client C")) ≡ Ok (LinkCommand plain_link) }
     ensures link_turned_round { asked (typed (codes "link --client=C --platform P --release R")) ≡ Ok (LinkCommand plain_link) }
     ensures value_empty { asked (typed (codes "check --platform= --old O --new N")) ≡ Ok (CheckCommand (record plain_check { platform = [] })) }
@@ -76,6 +78,29 @@ pub fn numbers_of_classes()
 /// A number of classes that is asked for is from 1 to 4,096.
 pub fn numbers_have_bounds()
     ensures { (words : List Text) (n : ℕ) → asked words ≡ Ok (MakeCommand n) → (1 ≤ n) × (n ≤ 4096) }
+{}
+
+/// `history` takes the words that are no options, in their order, and wherever its option stands: from 2
+/// to 20 releases, and it says how many there are otherwise.
+pub fn rows_of_releases()
+    ensures two { asked (typed (codes "history --platform P A B")) ≡ Ok (HistoryCommand plain_history) }
+    ensures option_between { asked (typed (codes "history A --platform P B")) ≡ Ok (HistoryCommand plain_history) }
+    ensures option_last { asked (typed (codes "history A B --platform=P")) ≡ Ok (HistoryCommand plain_history) }
+    ensures after_dashes { asked (typed (codes "history --platform P -- A --platform")) ≡ Ok (HistoryCommand (record plain_history { releases = codes "A" ∷ codes "--platform" ∷ [] })) }
+    ensures twice_one { asked (typed (codes "history --platform P A A")) ≡ Ok (HistoryCommand (record plain_history { releases = codes "A" ∷ codes "A" ∷ [] })) }
+    ensures twenty { asked (typed (codes "history --platform P a a a a a a a a a a a a a a a a a a a a")) ≡ Ok (HistoryCommand (record plain_history { releases = typed (codes "a a a a a a a a a a a a a a a a a a a a") })) }
+    ensures none { asked (typed (codes "history --platform P")) ≡ Err (usages.Releases 0) }
+    ensures one { asked (typed (codes "history --platform P A")) ≡ Err (usages.Releases 1) }
+    ensures twenty_one { asked (typed (codes "history --platform P a a a a a a a a a a a a a a a a a a a a a")) ≡ Err (usages.Releases 21) }
+    ensures no_platform { asked (typed (codes "history A B")) ≡ Err usages.Words }
+    ensures platform_twice { asked (typed (codes "history --platform P A --platform P B")) ≡ Err usages.Words }
+    ensures option_of_check { asked (typed (codes "history --platform P A B --json")) ≡ Err usages.Words }
+    ensures gate { asked (typed (codes "history --platform P A B --gate links")) ≡ Err usages.Words }
+{}
+
+/// Of a row that is asked for there are from 2 to 20 releases.
+pub fn rows_have_bounds()
+    ensures { (words : List Text) (h : HistoryOf) → asked words ≡ Ok (HistoryCommand h) → (2 ≤ length h.releases) × (length h.releases ≤ 20) }
 {}
 
 /// The first word is the command, whatever follows.

@@ -1,8 +1,12 @@
 -- The answers of a run that puts a report, and of one that puts why there is none.
-use Rattle.std.proofs.Common.{◌≡◌, ◌≢◌, ◌≤◌, ◌⊎◌, ◌==◌, inl, inr, Bool, true, false, ℕ, List, [], Option, Some, None, refl, sym, ap, subst, ◌∙◌, arith}
-use Rattle.std.specs.Prelude.{Result, Ok, IfOk}
+use Rattle.std.proofs.Common.{◌≡◌, ◌≢◌, ◌≤◌, ◌⊎◌, ◌==◌, inl, inr, Bool, true, false, not, nat_le, ℕ, List, [], ◌∷◌, Option, Some, None, refl, sym, ap, subst, ◌∙◌, arith}
+use Rattle.std.specs.Prelude.{Result, Ok, IfOk, IfSome, ◌↔◌, codes}
+use Rattle.std.proofs.lemmas.Bool.{both_ways, le-leb, leb-true}
 use Rattle.jc_base.specs.Outside.{FileOf}
 use Rattle.jc_base.specs.States.{TreesState}
+use Rattle.jc_facts.specs.declared.verdict.Verdict.{Verdict}
+use Rattle.jc_facts.specs.declared.warning.Warning.{Warning}
+use Rattle.jc_select.specs.Within.{AnswersStill}
 use Rattle.jc_facts.specs.Names.{Bytes}
 use Rattle.jc_trees.specs.declared.file_fault.FileFault.{FileFault}
 use Rattle.jc_trees.specs.declared.file_fault.FileFault.TheVariants as faults
@@ -14,10 +18,20 @@ use Rattle.jc_commands.specs.declared.stop.Stop.TheVariants as stops
 use Rattle.jc_commands.specs.Causes.{HasCause, HasFailed}
 use Rattle.jc_commands.specs.Outputs.{IsQuiet, IsUntouched, PutsAll, PutsFront}
 use Rattle.jcompat.specs.Answers.{Ran, Answers, Due, due_bytes, Puts, IsStopped, CutsWitnesses, CutsReport, CutsRefusal, Planned, IsPut, Leaves, OfFiles}
-use Rattle.jc_commands.specs.Check.{CheckReport, IsCompatible, IsIncompatible, IsBorneOut, HoldsClients, check_bytes, old_side, new_side, puts_below}
+use Rattle.jc_commands.specs.Check.{CheckReport, IsAnswered, IsCompatible, IsIncompatible, IsBorneOut, HoldsClients, check_bytes, old_side, new_side, puts_below}
 use Rattle.jc_trees.specs.ClassFiles.{Told}
-use Rattle.jc_commands.specs.Command.{CommandOf, CheckOf, CheckCommand, LinkCommand, MakeCommand, witness_dir, asked}
-use Rattle.jc_commands.specs.Reports.{RecordsOf, IsReportOn, puts_of}
+use Rattle.jc_commands.specs.Command.{CommandOf, CheckOf, HistoryOf, CheckCommand, LinkCommand, MakeCommand, HistoryCommand, step_of_check, witness_dir, asked}
+use Rattle.jc_commands.specs.History.{IsKeptRow}
+use Rattle.jc_commands.specs.Reports.{RecordsOf, IsReportOn, rules_of, puts_of}
+use Rattle.jc_facts.specs.rule.Verdict.{IsVerdict, is_incompatible}
+use Rattle.jc_facts.specs.world.World.{World}
+use Rattle.jc_gate.specs.Gates.{GateOf, all_pass}
+use Rattle.jc_gate.specs.Meanings.{HasLinksGate}
+use Rattle.jc_report.specs.HistoryText.{history_text_of}
+use Rattle.jc_version.specs.Needs.{need_of, HasVersionGate}
+use Rattle.jc_version.proofs.Gate.{version_alone}
+use Rattle.jc_commands.proofs.RulesTell.{rules_tell, links_alone, none_found, found_none}
+use Rattle.jc_commands.proofs.StepSaid.{said_least, said_most}
 use Rattle.jc_commands.specs.Stop.{line_of, file_status, status_of}
 use Rattle.jc_commands.specs.Witness.{PutsFiles, PutsSome, causes_of, witness_puts}
 use Rattle.jc_commands.specs.ReportValue.{IsChecked, IsReportOf, Reports, bytes_in, dir_in, puts_in, passes_by, status_by}
@@ -54,12 +68,16 @@ record Upheld (content : Option (List FileOf)) (check : CheckOf) (report : Repor
   of : CheckReport
   checked : Told content (λ files. IsChecked files check of (puts_in report.body))
   text : bytes_in report.body ≡ check_bytes check.json of
+  answer : (gates : List GateOf) → passes_by gates report.condition ≡ all_pass gates check.gates (step_of_check check) (rules_of of.verdict)
 
 same_check : (c d : CheckOf) → CheckCommand c ≡ CheckCommand d → c ≡ d
 same_check c d e = cc
 
 no_link : {P : Type 0} (l : _) (d : CheckOf) → LinkCommand l ≡ CheckCommand d → P
 no_link l d e = absurd (cc)
+
+no_history : {P : Type 0} (h : _) (d : CheckOf) → HistoryCommand h ≡ CheckCommand d → P
+no_history h d e = absurd (cc)
 
 no_make : {P : Type 0} (n : ℕ) (d : CheckOf) → MakeCommand n ≡ CheckCommand d → P
 no_make n d e = absurd (cc)
@@ -69,9 +87,39 @@ upheld trees report check (CheckCommand c) e is = record {
   of = is.of;
   checked = subst (λ (d : CheckOf). Told trees.content (λ files. IsChecked files d is.of (puts_in report.body))) (same_check c check e) is.upholds;
   text = subst (λ (d : CheckOf). bytes_in report.body ≡ check_bytes d.json is.of) (same_check c check e) is.tells.text;
+  answer = λ gates. subst (λ (d : CheckOf). passes_by gates report.condition ≡ all_pass gates d.gates (step_of_check d) (rules_of is.of.verdict)) (same_check c check e) (is.tells.answer gates);
 }
 upheld trees report check (LinkCommand l) e is = no_link l check e
 upheld trees report check (MakeCommand n) e is = no_make n check e
+upheld trees report check (HistoryCommand h) e is = no_history h check e
+
+-- what the report of a row of releases upholds
+record UpheldRow (content : Option (List FileOf)) (history : HistoryOf) (report : Report) : Type 0 where
+  of : List Verdict
+  kept : Told content (λ files. IsKeptRow files history of)
+  text : bytes_in report.body ≡ history_text_of of
+
+same_history : (h k : HistoryOf) → HistoryCommand h ≡ HistoryCommand k → h ≡ k
+same_history h k e = cc
+
+no_row_of_check : {P : Type 0} (c : _) (k : HistoryOf) → CheckCommand c ≡ HistoryCommand k → P
+no_row_of_check c k e = absurd (cc)
+
+no_row_of_link : {P : Type 0} (l : _) (k : HistoryOf) → LinkCommand l ≡ HistoryCommand k → P
+no_row_of_link l k e = absurd (cc)
+
+no_row_of_make : {P : Type 0} (n : ℕ) (k : HistoryOf) → MakeCommand n ≡ HistoryCommand k → P
+no_row_of_make n k e = absurd (cc)
+
+upheld_row : (trees : TreesState) (report : Report) (history : HistoryOf) (command : CommandOf) → command ≡ HistoryCommand history → IsReportOf command trees report → UpheldRow trees.content history report
+upheld_row trees report history (HistoryCommand h) e is = record {
+  of = is.of;
+  kept = subst (λ (k : HistoryOf). Told trees.content (λ files. IsKeptRow files k is.of)) (same_history h history e) is.upholds;
+  text = is.tells.text;
+}
+upheld_row trees report history (CheckCommand c) e is = no_row_of_check c history e
+upheld_row trees report history (LinkCommand l) e is = no_row_of_link l history e
+upheld_row trees report history (MakeCommand n) e is = no_row_of_make n history e
 
 module _ (r : Ran) (report : Report) (is : Reports r.gates r.words r.trees.before report)
     (put : IsPutAfter (puts_in report.body) r.folder (bytes_in report.body) (status_by (passes_by r.gates report.condition)) r.out r.status ⊎ IsCutBefore (dir_in report.body) (puts_in report.body) r.folder r.out r.status)
@@ -167,6 +215,13 @@ module _ (r : Ran) (report : Report) (is : Reports r.gates r.words r.trees.befor
     up : Upheld r.trees.before.content check report
     up = upheld r.trees.before report check is.command (same_ok (asked r.words) is.command (CheckCommand check) words_ask e) is.is
 
+    borne_out : (files : List FileOf) → IsChecked files check up.of (puts_in report.body) → IsBorneOut files check up.of
+    borne_out files c = record {
+      records = c.records;
+      parts = c.parts;
+      shown = each_has_clients (old_side c.records) (new_side c.records) up.of.verdict c.parts.verdict.exact (causes_of up.of.verdict) c.shown;
+    }
+
     checked : IsWhole → (report : CheckReport) × Puts r (check_bytes check.json report) × (report.verdict.findings ≡ [] → OfFiles r (λ files. IsCompatible files check report.verdict))
         × (report.verdict.findings ≢ [] → OfFiles r (λ files. IsIncompatible files check report.verdict)) × OfFiles r (λ files. IsBorneOut files check report)
     checked p = (
@@ -174,14 +229,58 @@ module _ (r : Ran) (report : Report) (is : Reports r.gates r.words r.trees.befor
       p.puts (check_bytes check.json up.of) up.text,
       λ none files told. let c = up.checked files told in record { records = c.records; verdict = c.parts.verdict; none = none; keeps = c.kept none },
       λ some files told. let c = up.checked files told in record { records = c.records; verdict = c.parts.verdict; some = some; broken = c.broken some; breaks = c.breaks },
-      λ files told.
-          let c = up.checked files told in
-          record {
-            records = c.records;
-            parts = c.parts;
-            shown = each_has_clients (old_side c.records) (new_side c.records) up.of.verdict c.parts.verdict.exact (causes_of up.of.verdict) c.shown;
-          },
+      λ files told. borne_out files (up.checked files told),
     )
+
+    answered : IsWhole → (report : CheckReport) × Puts r (check_bytes check.json report) × (report.verdict.findings ≡ [] → report.warnings ≡ Some [] → OfFiles r (λ files. IsAnswered files check report))
+    answered p = (
+      up.of,
+      p.puts (check_bytes check.json up.of) up.text,
+      λ none nothing files told.
+          let c = up.checked files told in
+          let still : AnswersStill (old_side c.records) (new_side c.records) [] = subst (λ (o : Option (List Warning)). IfSome o (AnswersStill (old_side c.records) (new_side c.records))) nothing c.answered in
+          record { records = c.records; parts = c.parts; none = none; nothing = nothing; answered = still up.of.verdict c.parts.verdict.exact none refl },
+    )
+
+    unbroken : check.gates ≡ codes "links" ∷ [] → HasLinksGate r.gates → (r.status ≡ PASSED) ⊎ (r.status ≡ NOT_PASSED) → IsWhole
+        → (report : CheckReport) × Puts r (check_bytes check.json report) × OfFiles r (λ files. IsBorneOut files check report × ((r.status ≡ PASSED) ↔ (report.verdict.findings ≡ [])))
+    unbroken asks gate answered p =
+        (up.of, p.puts (check_bytes check.json up.of) up.text, λ files told. let c = up.checked files told in (borne_out files c, both (old_side c.records) (new_side c.records) c.parts.verdict.exact))
+      where
+        decided : (O N : World) → IsVerdict O N up.of.verdict → passed_by ≡ not (is_incompatible up.of.verdict)
+        decided O N exact =
+            up.answer r.gates
+            ∙ ap (λ names. all_pass r.gates names (step_of_check check) (rules_of up.of.verdict)) asks
+            ∙ links_alone r.gates gate.0 gate.1 gate.2 (step_of_check check) (rules_of up.of.verdict) ∙ rules_tell O N up.of.verdict exact
+
+        passes_so : passed_by ≡ not (is_incompatible up.of.verdict) → up.of.verdict.findings ≡ [] → (r.status ≡ PASSED) ⊎ (r.status ≡ NOT_PASSED) → r.status ≡ PASSED
+        passes_so d none (inl zero) = zero
+        passes_so d none (inr one) = absurd (both_ways passed_by (is_not_passed one the_case).0 (d ∙ found_none up.of.verdict none))
+
+        both : (O N : World) → IsVerdict O N up.of.verdict → (r.status ≡ PASSED) ↔ (up.of.verdict.findings ≡ [])
+        both O N exact = (λ zero. none_found up.of.verdict (sym (decided O N exact) ∙ (is_passed zero the_case).0), λ none. passes_so (decided O N exact) none answered)
+
+    versioned : check.gates ≡ codes "version" ∷ [] → (step : ℕ) → step_of_check check ≡ Some step → HasVersionGate r.gates → (r.status ≡ PASSED) ⊎ (r.status ≡ NOT_PASSED) → IsWhole
+        → (report : CheckReport) × Puts r (check_bytes check.json report) × ((r.status ≡ PASSED) ↔ (need_of (rules_of report.verdict) ≤ step))
+    versioned asks step said gate answered p =
+        (up.of, p.puts (check_bytes check.json up.of) up.text, both)
+      where
+        decided : passed_by ≡ nat_le (need_of (rules_of up.of.verdict)) step
+        decided =
+            up.answer r.gates
+            ∙ ap (λ names. all_pass r.gates names (step_of_check check) (rules_of up.of.verdict)) asks
+            ∙ ap (λ informed. all_pass r.gates (codes "version" ∷ []) informed (rules_of up.of.verdict)) said
+            ∙ version_alone r.gates gate.0 gate.1 gate.2 step (rules_of up.of.verdict) (said_least check step said) (said_most check step said)
+
+        enough : r.status ≡ PASSED → need_of (rules_of up.of.verdict) ≤ step
+        enough zero = leb-true (need_of (rules_of up.of.verdict)) step (sym decided ∙ (is_passed zero the_case).0)
+
+        passes_so : need_of (rules_of up.of.verdict) ≤ step → (r.status ≡ PASSED) ⊎ (r.status ≡ NOT_PASSED) → r.status ≡ PASSED
+        passes_so le (inl zero) = zero
+        passes_so le (inr one) = absurd (both_ways passed_by (is_not_passed one the_case).0 (decided ∙ le-leb (need_of (rules_of up.of.verdict)) step le))
+
+        both : (r.status ≡ PASSED) ↔ (need_of (rules_of up.of.verdict) ≤ step)
+        both = (enough, λ le. passes_so le answered)
 
     witnessed : (dir : Bytes) → check.witness ≡ Some dir → IsWhole
         → (report : CheckReport) × OfFiles r (λ files. HoldsClients files check report.verdict dir r.folder) × Puts r (check_bytes check.json report)
@@ -197,6 +296,13 @@ module _ (r : Ran) (report : Report) (is : Reports r.gates r.words r.trees.befor
           },
       p.puts (check_bytes check.json up.of) up.text,
     )
+
+  module _ (history : HistoryOf) (e : asked r.words ≡ Ok (HistoryCommand history)) where
+    abbrev row : UpheldRow r.trees.before.content history report
+    row = upheld_row r.trees.before report history is.command (same_ok (asked r.words) is.command (HistoryCommand history) words_ask e) is.is
+
+    judged : IsWhole → (vs : List Verdict) × Puts r (history_text_of vs) × OfFiles r (λ files. IsKeptRow files history vs)
+    judged p = (row.of, p.puts (history_text_of row.of) row.text, row.kept)
 
   has_whole : (r.status ≡ PASSED) ⊎ (r.status ≡ NOT_PASSED) → IsWhole
   has_whole (inl zero) = (is_passed zero the_case).1
@@ -226,6 +332,10 @@ module _ (r : Ran) (report : Report) (is : Reports r.gates r.words r.trees.befor
     not_passed = λ one. let p = is_not_passed one the_case in (due, sym (is.is.tells.answer r.gates) ∙ p.0, p.1.puts (due_bytes due) is.is.tells.text);
     checked = λ answered check e. checked check e (has_whole answered);
     witnessed = λ answered check e dir below. witnessed check e dir below (has_whole answered);
+    answered = λ put check e. answered check e (has_whole put);
+    unbroken = λ answered check e asks gate. unbroken check e asks gate answered (has_whole answered);
+    versioned = λ answered check e asks step said gate. versioned check e asks step said gate answered (has_whole answered);
+    judged = λ answered history e. judged history e (has_whole answered);
     unwitnessed = λ none. untouched (is.is.dir_is ∙ if_ok (asked r.words) is.command (λ command. witness_dir command ≡ None) words_ask none);
     usage = never 2 refl refl refl refl;
     bad_input = never 3 refl refl refl refl;
@@ -310,6 +420,10 @@ module _ (r : Ran) (stop : Stop) (cause : HasCause r.gates r.words r.trees stop)
     not_passed = no_rejection put.known;
     checked = no_answer;
     witnessed = no_answer;
+    answered = no_answer;
+    unbroken = no_answer;
+    versioned = no_answer;
+    judged = no_answer;
     unwitnessed = λ none. untouched;
     usage = refuses 2 refl refl put.known;
     bad_input = refuses 3 refl refl put.known;

@@ -1,18 +1,23 @@
 -- The answers of the top call.
-use Rattle.std.specs.Prelude.{◌≡◌, ◌≢◌, ◌≤◌, ◌⊎◌, ℕ, List, [], Some, None, Ok, IfOk, Bool, true, false}
+use Rattle.std.specs.Prelude.{◌≡◌, ◌≢◌, ◌≤◌, ◌⊎◌, ◌↔◌, ℕ, List, [], ◌∷◌, Some, None, Ok, IfOk, Bool, true, false, codes}
 use Rattle.jc_base.specs.Outside.{FileOf}
 use Rattle.jc_base.specs.States.{TreesState, SinkState, FolderState, Change}
+use Rattle.jc_facts.specs.declared.verdict.Verdict.{Verdict}
 use Rattle.jc_facts.specs.Names.{Bytes}
 use Rattle.jc_gate.specs.Gates.{GateOf}
+use Rattle.jc_gate.specs.Meanings.{HasLinksGate}
 use Rattle.jc_commands.specs.Causes.{HasCause, IsRefused, IsAccepted, HasFailed}
-use Rattle.jc_commands.specs.Check.{CheckReport, IsCompatible, IsIncompatible, IsBorneOut, HoldsClients, check_bytes}
+use Rattle.jc_commands.specs.Check.{CheckReport, IsAnswered, IsCompatible, IsIncompatible, IsBorneOut, HoldsClients, check_bytes}
 use Rattle.jc_trees.specs.ClassFiles.{Told}
-use Rattle.jc_commands.specs.Command.{CommandOf, CheckOf, CheckCommand, witness_dir, asked, asked_of}
+use Rattle.jc_commands.specs.Command.{CommandOf, CheckOf, HistoryOf, CheckCommand, HistoryCommand, witness_dir, step_of_check, asked, asked_of}
+use Rattle.jc_commands.specs.History.{IsKeptRow}
 use Rattle.jc_commands.specs.Outputs.{IsQuiet, PutsAll, PutsFront, HasPutFault, IsUntouched, HasFolderFault}
 use Rattle.jc_commands.specs.ReportValue.{status_by}
-use Rattle.jc_commands.specs.Reports.{ToldTo, RecordsOf, ReportOf, IsReportOn, passes, bytes_of, puts_of}
+use Rattle.jc_commands.specs.Reports.{ToldTo, RecordsOf, ReportOf, IsReportOn, rules_of, passes, bytes_of, puts_of}
 use Rattle.jc_commands.specs.Stop.{line_of, status_of}
 use Rattle.jc_commands.specs.Witness.{PutFile, PutsFiles, PutsSome}
+use Rattle.jc_report.specs.HistoryText.{history_text_of}
+use Rattle.jc_version.specs.Needs.{need_of, HasVersionGate}
 use Rattle.jc_commands.specs.declared.status.TheConstants.{PASSED, NOT_PASSED, USAGE, BAD_INPUT, READ_FAULT, WRITE_FAULT, NO_MEMORY, LIMIT}
 use Rattle.jc_commands.specs.declared.stop.Stop.{Stop}
 use Rattle.jc_commands.specs.declared.stop.Stop.TheVariants as stops
@@ -128,10 +133,26 @@ pub record Answers (r : Ran) : Type 0 where
   pub checked : (r.status ≡ PASSED) ⊎ (r.status ≡ NOT_PASSED) → (check : CheckOf) → asked r.words ≡ Ok (CheckCommand check)
       → (report : CheckReport) × Puts r (check_bytes check.json report) × (report.verdict.findings ≡ [] → OfFiles r (λ files. IsCompatible files check report.verdict))
       × (report.verdict.findings ≢ [] → OfFiles r (λ files. IsIncompatible files check report.verdict)) × OfFiles r (λ files. IsBorneOut files check report)
+  -- of a check that asks for warnings: where the verdict in what was put has no finding and no warning was put, each client class in scope, abstract or
+  -- not, that answered with the old release all that was due to it answers all that is due with the new, unless it meets a collision of a method made final
+  pub answered : (r.status ≡ PASSED) ⊎ (r.status ≡ NOT_PASSED) → (check : CheckOf) → asked r.words ≡ Ok (CheckCommand check)
+      → (report : CheckReport) × Puts r (check_bytes check.json report) × (report.verdict.findings ≡ [] → report.warnings ≡ Some [] → OfFiles r (λ files. IsAnswered files check report))
   -- of a check that asks for witnesses: below the path such class files stand for each finding and each collision, by its number, and every other path
   -- is as before
   pub witnessed : (r.status ≡ PASSED) ⊎ (r.status ≡ NOT_PASSED) → (check : CheckOf) → asked r.words ≡ Ok (CheckCommand check) → (dir : Bytes) → check.witness ≡ Some dir
       → (report : CheckReport) × OfFiles r (λ files. HoldsClients files check report.verdict dir r.folder) × Puts r (check_bytes check.json report)
+  -- of a check that asks the gate `links` alone, as one that names no gate does: it passes exactly where the verdict in what was put has no finding
+  pub unbroken : (r.status ≡ PASSED) ⊎ (r.status ≡ NOT_PASSED) → (check : CheckOf) → asked r.words ≡ Ok (CheckCommand check) → check.gates ≡ codes "links" ∷ [] → HasLinksGate r.gates
+      → (report : CheckReport) × Puts r (check_bytes check.json report) × OfFiles r (λ files. IsBorneOut files check report × ((r.status ≡ PASSED) ↔ (report.verdict.findings ≡ [])))
+  -- of a check that asks the gate of the versions alone and says both: it passes exactly where the step between them is at least what the findings and
+  -- collisions in what was put need
+  pub versioned : (r.status ≡ PASSED) ⊎ (r.status ≡ NOT_PASSED) → (check : CheckOf) → asked r.words ≡ Ok (CheckCommand check) → check.gates ≡ codes "version" ∷ []
+      → (step : ℕ) → step_of_check check ≡ Some step → HasVersionGate r.gates
+      → (report : CheckReport) × Puts r (check_bytes check.json report) × ((r.status ≡ PASSED) ↔ (need_of (rules_of report.verdict) ≤ step))
+  -- of a row of releases: what was put is the text of the verdicts on each two neighbours. Where none has a finding, each client world in scope of the
+  -- row that meets none of its collisions keeps with the last release what held with the first
+  pub judged : (r.status ≡ PASSED) ⊎ (r.status ≡ NOT_PASSED) → (history : HistoryOf) → asked r.words ≡ Ok (HistoryCommand history)
+      → (vs : List Verdict) × Puts r (history_text_of vs) × OfFiles r (λ files. IsKeptRow files history vs)
   -- where no witnesses are asked for, nothing was put into the folder
   pub unwitnessed : IfOk (asked r.words) (λ command. witness_dir command ≡ None) → IsUntouched r.folder
   -- the words ask for nothing

@@ -22,6 +22,7 @@ use jc_gate::at_most::AtMost;
 use jc_gate::collisions::Collisions;
 use jc_gate::gate::Gate;
 use jc_gate::links::Links;
+use jc_version::version_gate::VersionGate;
 use jc_words::usage::Usage;
 use std::alloc::{AllocError, Global};
 use std::env;
@@ -44,7 +45,8 @@ fn words_after_name(rt: &(impl Env + AllocGlobal)) -> Result<Option<Vec<Text>>, 
     Ok(Some(words))
 }
 
-// Runs with these words and the gates `links`, `collisions` and `few`, which lets ten rules pass.
+// Runs with these words and the gates of the program: `links`, `collisions`, `few`, which lets ten rules
+// pass, and `version`.
 fn run_with_gates<T: Trees, O: Sink, E: Sink, F: Folder>(
     alloc: Global,
     words: &[Text],
@@ -57,6 +59,7 @@ fn run_with_gates<T: Trees, O: Sink, E: Sink, F: Folder>(
     gates.push(Box::new(alloc, Links::new())?)?;
     gates.push(Box::new(alloc, Collisions::new())?)?;
     gates.push(Box::new(alloc, AtMost::new(10))?)?;
+    gates.push(Box::new(alloc, VersionGate::new())?)?;
     Ok(run(alloc, words, trees, out, err, witnesses, gates))
 }
 

@@ -16,10 +16,13 @@ use std::alloc::Global;
 /// Does what the words ask for, writes what there is to say, and answers the exit status:
 ///
 /// - 0: what was asked is so: of a check each gate of a name that it asks for passes, of a link each
-///   outcome is Ok, of generated releases always; 1: it isn't so. The verdict or the outcomes were put to `out`, and before them, where
-///   a check asks for it, the witness files of each finding and collision to `witnesses`. Then each such
-///   gate saw the rules of all findings and collisions in their order, and was asked.
-/// - 2: the words ask for nothing, or name a gate that isn't there. 3: a class file is malformed or misplaced or a
+///   outcome is Ok, of a row of releases no step has a finding, of generated releases always; 1: it isn't
+///   so. The verdict, the verdicts or the outcomes were put to `out`, and before them, where a check asks
+///   for it, the witness files of each finding and collision to `witnesses`. Then each such gate was told
+///   the step between the versions, where the check says them, saw the rules of all findings and collisions
+///   in their order, and was asked.
+/// - 2: the words ask for nothing, name a gate that isn't there, or say versions without a step between
+///   them. 3: a class file is malformed or misplaced or a
 ///   client's code is refused, the platform's `java/lang/Object` isn't as it has to be, a release
 ///   declares a name that the platform declares, or a client has a name that they don't allow. 4: a
 ///   call on a tree failed. 7: a tree has more than 40,000 class files, a class file's path more than

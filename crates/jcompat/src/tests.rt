@@ -4,6 +4,7 @@ mod files;
 mod folders;
 mod gates;
 mod generated;
+mod history;
 mod hostile;
 mod limits;
 mod links;
@@ -11,6 +12,7 @@ mod outside;
 mod refusals;
 mod rows;
 mod verdicts;
+mod versions;
 mod witnesses;
 mod words;
 
@@ -32,6 +34,7 @@ use jc_gate::at_most::AtMost;
 use jc_gate::collisions::Collisions;
 use jc_gate::gate::Gate;
 use jc_gate::links::Links;
+use jc_version::version_gate::VersionGate;
 use std::process::Abort;
 use std::rt::Files;
 
@@ -106,6 +109,9 @@ fn gates_of_program(rt: &impl Host) -> Vec<Box<dyn Gate>> {
         .expect(rt, "memory");
     gates
         .push(Box::new(alloc, AtMost::new(10)).expect(rt, "memory"))
+        .expect(rt, "memory");
+    gates
+        .push(Box::new(alloc, VersionGate::new()).expect(rt, "memory"))
         .expect(rt, "memory");
     gates
 }

@@ -48,8 +48,9 @@ fn gates_are_asked_by_their_names(rt: HostRuntime) {
     }
 }
 
-/// What has become of some gates: the rules that they saw, as the digits of a number to the base 100,
-/// how many times one was asked whether it passes, and how many were dropped.
+/// What has become of some gates: the rules that they saw, as the digits of a number to the base 100, in
+/// which a step that they were told is 90 more than itself, how many times one was asked whether it passes,
+/// and how many were dropped.
 #[derive(Drop)]
 struct Fate {
     seen: Cell<u64>,
@@ -59,6 +60,11 @@ struct Fate {
 
 fn count_up(counter: &Cell<u64>) {
     counter.set(counter.get().saturating_add(1));
+}
+
+fn note(fate: &Fate, number: u8) {
+    let before = fate.seen.get().saturating_mul(100);
+    fate.seen.set(before.saturating_add(u64::from(number)));
 }
 
 /// A gate named `links` or `other`, which passes or doesn't whatever it sees, and tells its fate.
@@ -84,9 +90,13 @@ impl Gate for Watched {
 
     ghost state = { λ gate. if gate.is_open then 1 else 0 };
 
+    ghost informed = { λ gate state step. state };
+
     ghost after = { λ gate state rule. state };
 
     ghost pass = { λ gate state. nat_eq state 1 };
+
+    ghost one_informed = { λ a b. refl };
 
     ghost one_after = { λ a b. refl };
 
@@ -96,9 +106,12 @@ impl Gate for Watched {
         if self.is_links { "links" } else { "other" }
     }
 
+    fn tell(&mut self, step: u8) {
+        note(&self.fate, step.saturating_add(90));
+    }
+
     fn see(&mut self, rule: u8) {
-        let before = self.fate.seen.get().saturating_mul(100);
-        self.fate.seen.set(before.saturating_add(u64::from(rule)));
+        note(&self.fate, rule);
     }
 
     fn passes(&self) -> bool {
@@ -116,6 +129,10 @@ const ASKED: &str = "$ check --platform P --old O --new N
 #1 each gate that is named, in the order in which they were handed in, watched=links:shut watched=other:open seen=6120612 asked=2 dropped=2
 $ check --platform P --old O --new N --gate other,links
 #1 both gates of one name, watched=links:open watched=links:shut seen=6120612 asked=2 dropped=2
+#1 each is told the step once and before it sees, watched=links:open watched=other:shut seen=930612930612 asked=2 dropped=2
+$ check --platform P --old O --new N --gate other,links --from 1.4.0 --to 2.0.0
+#0 a gate that isn't named is told nothing, watched=links:open watched=other:shut seen=920612 asked=1 dropped=2
+$ check --platform P --old O --new N --from 1.4.0 --to 1.5.0
 #2 no gate of the name, watched=other:open seen=0 asked=0 dropped=1
 #5 a last line that isn't put, watched=links:open watched=other:shut out=3 seen=0 asked=0 dropped=2
 #0 a link, which asks no gate, watched=links:shut seen=0 asked=0 dropped=1

@@ -9,4 +9,7 @@ returns c =
     let three = added _ _ _ _ _ c.in_ok-arg-3.ensures c.required-3.ensures.local c.required-3.ensures.rule two in
     let four = added _ _ _ _ _ c.in_ok-arg-4.ensures c.option.ensures.local c.option.ensures.rule three in
     let five = added _ _ _ _ _ c.in_ok-arg-5.ensures c.flag.ensures.local c.flag.ensures.rule four in
-    IfOk-weaker _ _ _ (λ x h. added _ x _ _ _ h c.option-2.ensures.local c.option-2.ensures.rule five) c.arg-6.ensures
+    let six = added _ _ _ _ _ c.in_ok-arg-6.ensures c.option-2.ensures.local c.option-2.ensures.rule five in
+    let seven = added _ _ _ _ _ c.in_ok-arg-7.ensures c.option-3.ensures.local c.option-3.ensures.rule six in
+    let eight = added _ _ _ _ _ c.in_ok-arg-8.ensures c.option-4.ensures.local c.option-4.ensures.rule seven in
+    IfOk-weaker _ _ _ (λ x h. added _ x _ _ _ h c.flag-2.ensures.local c.flag-2.ensures.rule eight) c.arg-9.ensures

@@ -1,0 +1,75 @@
+-- A row of releases: what it reads, why that is refused, and its verdicts.
+use Rattle.std.specs.Prelude.{◌≡◌, ◌≤◌, ◌<◌, ◌⊎◌, ℕ, ◌+◌, List, [], ◌∷◌, map, Option, Some, None, option_map}
+use Rattle.std.specs.List.{All, AllZip, Contains}
+use Rattle.jc_base.specs.Outside.{FileOf}
+use Rattle.jc_facts.specs.declared.class_facts.ClassFacts.{ClassFacts}
+use Rattle.jc_facts.specs.declared.verdict.Verdict.{Verdict}
+use Rattle.jc_facts.specs.Options.{or_else}
+use Rattle.jc_facts.specs.rule.Verdict.{IsVerdict, count_of}
+use Rattle.jc_facts.specs.world.World.{World, side}
+use Rattle.jc_history.specs.Row.{Step, steps_of, AreVerdicts, KeepsRow}
+use Rattle.jc_table.specs.Root.{fault_of_root}
+use Rattle.jc_table.specs.Sides.{overlap_of}
+use Rattle.jc_trees.specs.ClassFiles.{AreRecords}
+use Rattle.jc_trees.specs.Tree.{tree_at}
+use Rattle.jc_trees.specs.declared.tree.TreeName.TheVariants as names
+use Rattle.jc_commands.specs.Command.{HistoryOf, release_trees}
+use Rattle.jc_commands.specs.declared.limits.TheConstants.{MAX_FINDINGS}
+use Rattle.jc_commands.specs.declared.stop.Part.TheVariants as parts
+use Rattle.jc_commands.specs.declared.stop.Stop.{Stop}
+use Rattle.jc_commands.specs.declared.stop.Stop.TheVariants as stops
+
+-- the records of the platform and of each release, from the first to the last
+pub record HistoryRecords (files : List FileOf) (h : HistoryOf) : Type 0 where
+  pub platform : List ClassFacts
+  pub releases : List (List ClassFacts)
+  pub platform_is : AreRecords files (tree_at names.Platform h.platform) platform
+  pub releases_are : AllZip (AreRecords files) (release_trees 1 h.releases) releases
+
+-- the platform with each release
+abbrev pub row_of : List ClassFacts → List (List ClassFacts) → List World
+row_of platform releases = map (side platform) releases
+
+-- ---- why the records are refused
+
+-- the first release, of those whose numbers go on from this one, that declares a name which the platform declares
+abbrev pub overlap_from : ℕ → List ClassFacts → List (List ClassFacts) → Option Stop
+overlap_from n platform [] = None
+overlap_from n platform (r ∷ rs) = or_else (option_map (stops.Overlap (names.NthRelease n)) (overlap_of platform r)) (overlap_from (n + 1) platform rs)
+
+-- the first reason why the releases don't go with the platform: its java/lang/Object isn't as it has to be, or a release declares a name that it declares
+abbrev pub mismatch_of_row : List ClassFacts → List (List ClassFacts) → Option Stop
+mismatch_of_row platform releases = or_else (option_map stops.BadRoot (fault_of_root platform)) (overlap_from 1 platform releases)
+
+-- the releases go with the platform, and the verdict on a step has too many findings and collisions
+pub record HasTooManyAt (platform : List ClassFacts) (releases : List (List ClassFacts)) : Type 0 where
+  pub fits : mismatch_of_row platform releases ≡ None
+  pub step : Step
+  pub is_step : Contains (steps_of (row_of platform releases)) step
+  pub verdict : Verdict
+  pub exact : IsVerdict step.old step.new verdict
+  pub many : MAX_FINDINGS < count_of verdict
+
+-- the records are refused, and this is the first cause
+abbrev pub IsUnfitRow : List ClassFacts → List (List ClassFacts) → Stop → Type 0
+IsUnfitRow platform releases stop = (mismatch_of_row platform releases ≡ Some stop) ⊎ ((stop ≡ stops.TooMany parts.Findings) × HasTooManyAt platform releases)
+
+-- no cause to refuse them stands
+pub record IsFitRow (platform : List ClassFacts) (releases : List (List ClassFacts)) : Type 0 where
+  pub fits : mismatch_of_row platform releases ≡ None
+  pub few : (s : Step) → Contains (steps_of (row_of platform releases)) s → (v : Verdict) → IsVerdict s.old s.new v → count_of v ≤ MAX_FINDINGS
+
+-- ---- the verdicts
+
+-- the verdicts on each two neighbours, in order, where nothing refuses them
+pub record AreVerdictsOn (platform : List ClassFacts) (releases : List (List ClassFacts)) (vs : List Verdict) : Type 0 where
+  pub fits : mismatch_of_row platform releases ≡ None
+  pub exact : AreVerdicts (steps_of (row_of platform releases)) vs
+  pub few : All (λ v. count_of v ≤ MAX_FINDINGS) vs
+
+-- these are the verdicts on the releases, and where none has a finding, each client world in scope of the row that meets none of its collisions
+-- keeps with the last release each load, and each assignment and use in reach of the row, that held with the first
+pub record IsKeptRow (files : List FileOf) (h : HistoryOf) (vs : List Verdict) : Type 0 where
+  pub records : HistoryRecords files h
+  pub verdicts : AreVerdictsOn records.platform records.releases vs
+  pub keeps : KeepsRow (row_of records.platform records.releases) vs

@@ -1,0 +1,123 @@
+//! Notes on generic signatures, as text and as JSON.
+ghost use Rattle.std.specs.Prelude.{◌≡◌, ◌++◌, None, IfOk, OnOk};
+ghost use Rattle.serde_json.specs.View.{view};
+ghost use Rattle.jc_facts.specs.print.Text.{printed_member};
+ghost use Rattle.jc_facts.specs.print.SigText.{word_of_change, line_of_sig_note, sig_text_of};
+ghost use Rattle.jc_report.specs.Json.{member_or_null};
+ghost use Rattle.jc_report.specs.SigJson.{sig_note_json, sig_json_of};
+
+use crate::entries::lines;
+use crate::entry::Entry;
+use crate::json_values::{key_value, name_value};
+use crate::printed::{push_key, push_printed};
+use crate::put_listing::listing;
+use jc_facts::key::Key;
+use jc_facts::sig_note::{SigChange, SigNote};
+use serde_json::{Value, json};
+use std::alloc::{AllocError, Global};
+
+/// The word of a change.
+pub fn change_word(change: SigChange) -> &'static str
+    ensures { result.now ≡ word_of_change change }
+{
+    match change {
+        SigChange::Unread => "unread",
+        SigChange::Gone => "gone",
+        SigChange::New => "new",
+        SigChange::Parameters => "parameters",
+        SigChange::Superclass => "superclass",
+        SigChange::Interfaces => "interfaces",
+        SigChange::Arguments => "arguments",
+        SigChange::Result => "result",
+        SigChange::Throws => "throws",
+        SigChange::Whole => "whole",
+    }
+}
+
+// The key of a member, or `-` for the class itself.
+fn push_signed(text: &mut Vec<u8>, key: &Option<Key>) -> Result<(), AllocError>
+    ensures { OnOk result (text.new.items ≡ text.old.items ++ printed_member key.now None) }
+{
+    match key {
+        Some(key) => push_key(text, key),
+        None => Ok(text.push(b'-')?),
+    }
+}
+
+// The line of a note, its line end with it.
+#[tactic(auto, unfolding(jc_facts::specs::print::SigText::line_of_sig_note))]
+fn sig_line(alloc: Global, note: &SigNote) -> Result<Vec<u8>, AllocError>
+    ensures { IfOk result (λ line. line.items ≡ line_of_sig_note note.now) }
+{
+    let mut line = Vec::from_slice(alloc, b"note signature ")?;
+    push_printed(&mut line, note.class.as_bytes())?;
+    line.extend_from_slice(b" ")?;
+    push_signed(&mut line, &note.key)?;
+    line.extend_from_slice(b" ")?;
+    line.extend_from_slice(change_word(note.change).as_bytes())?;
+    line.extend_from_slice(b"\n")?;
+    Ok(line)
+}
+
+// The key of a member, or null for the class itself.
+fn signed_value(alloc: Global, key: &Option<Key>) -> Result<Value, AllocError>
+    ensures { IfOk result (λ v. view v ≡ member_or_null key.now None) }
+{
+    match key {
+        Some(key) => key_value(alloc, key),
+        None => Ok(Value::Null),
+    }
+}
+
+// The object of a note.
+fn sig_value(alloc: Global, note: &SigNote) -> Result<Value, AllocError>
+    ensures { IfOk result (λ v. view v ≡ sig_note_json note.now) }
+{
+    json!(in alloc; {
+        "change": change_word(note.change),
+        "class": name_value(alloc, &note.class)?,
+        "member": signed_value(alloc, &note.key)?
+    })
+}
+
+impl Entry for SigNote {
+    ghost printed = { λ note number. line_of_sig_note note };
+
+    ghost shaped = { λ note number. sig_note_json note };
+
+    fn line(&self, alloc: Global, _number: usize) -> Result<Vec<u8>, AllocError> {
+        sig_line(alloc, self)
+    }
+
+    fn value(&self, alloc: Global, _number: usize) -> Result<Value, AllocError> {
+        sig_value(alloc, self)
+    }
+}
+
+/// The text of notes on signatures: a line for each, `note signature CLASS MEMBER CHANGE` with `-` for the
+/// class itself.
+///
+/// # Errors
+///
+/// `AllocError` where memory runs out.
+pub fn sig_text(alloc: Global, notes: &[SigNote]) -> Result<Vec<u8>, AllocError>
+    ensures { IfOk result (λ text. text.items ≡ sig_text_of notes.now) }
+{
+    let text = lines(alloc, 1, notes)?;
+    Ok(text)
+}
+
+/// The JSON of notes on signatures: one object without spaces, and a line end. Its one key is
+/// `signatures`, and each note has the keys `change`, `class` and `member`, which is null for the class
+/// itself. Names are printed as in the text, and keys stand in byte order.
+///
+/// # Errors
+///
+/// `AllocError` where memory runs out.
+#[tactic(auto, unfolding(crate::specs::SigJson::sig_json_of))]
+pub fn sig_json(alloc: Global, notes: &[SigNote]) -> Result<Vec<u8>, AllocError>
+    ensures { IfOk result (λ text. text.items ≡ sig_json_of notes.now) }
+{
+    let text = listing(alloc, "signatures", notes)?;
+    Ok(text)
+}
