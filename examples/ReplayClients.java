@@ -23,7 +23,8 @@ import javax.tools.ToolProvider;
  * <code>app.Main</code> of the client is run beside each release, by the <code>java</code> of this machine. With the old one it ends well. With
  * the new one it ends with the error that the file <code>message</code> has and, unless it is a verdict alone, the file <code>report</code>
  * names; where the file <code>prints</code> stands in the place of <code>message</code>, it ends well with both and prints that. Where PROGRAM
- * is given, its report of the two releases is the file <code>report</code>. Sources in <code>needs</code> are there when the new release is
+ * is given, its report of the two releases is the file <code>report</code>, with <code>--warn</code> followed by the file
+ * <code>warnings</code> where that stands. Sources in <code>needs</code> are there when the new release is
  * compiled, file by file, and not when the client is run.
  *
  * <p>PAGE links each folder, and each line of a block of it is a line of these files. There is a line of output for each folder, in the order
@@ -226,8 +227,14 @@ public final class ReplayClients {
             List<String> words = new ArrayList<>(program);
             words.addAll(List.of("check", "--platform", platform.toString()));
             words.addAll(List.of("--old", classes.resolve("old").toString(), "--new", classes.resolve("new").toString()));
+            String wanted = Files.readString(sources.resolve("report"));
+            Path warnings = sources.resolve("warnings");
+            if (Files.exists(warnings)) {
+                words.add("--warn");
+                wanted += Files.readString(warnings);
+            }
             Output report = run(words);
-            same("the report is", Files.readString(sources.resolve("report")), report.text + report.error);
+            same("the report is", wanted, report.text + report.error);
         }
 
         private static void same(String what, String wanted, String found) throws Fault {

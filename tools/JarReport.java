@@ -55,6 +55,8 @@ public final class JarReport {
     private final List<Path> places;
     final List<Line> lines = new ArrayList<>();
     final List<Note> notes = new ArrayList<>();
+    /** The warnings, as their lines are. */
+    private final List<String> warnings = new ArrayList<>();
     String verdict;
 
     public static void main(String[] words) throws IOException {
@@ -109,7 +111,8 @@ public final class JarReport {
         if (whole && !isWhole) {
             return NOT_WHOLE;
         }
-        return accepted.isEmpty() ? status : gates(options, dropped);
+        // the gate of the versions decides on all that was found
+        return accepted.isEmpty() || asked(options).contains("version") ? status : gates(options, dropped);
     }
 
     private void say(String text) {
@@ -129,7 +132,9 @@ public final class JarReport {
     private void readText(String text) {
         for (String line : text.split("\n")) {
             String[] word = line.split(" ");
-            if (word[0].equals("note")) {
+            if (word[0].equals("warning")) {
+                warnings.add(line);
+            } else if (word[0].equals("note")) {
                 boolean constant = word[1].equals("constant");
                 notes.add(new Note(line, constant, constant ? null : word[2], constant ? word[2] : word[3], constant ? word[3] : word[4]));
             } else if (Character.isDigit(word[0].charAt(0))) {
@@ -142,7 +147,8 @@ public final class JarReport {
 
     /** The keys of an object stand in order, so that each object of the lists begins with its class. */
     private void readJson(String text) {
-        Matcher pair = Pattern.compile("\"(\\w+)\":(?:\"((?:[^\"\\\\]|\\\\.)*)\"|null|(\\d+))").matcher(text);
+        // the first object; further ones are printed as they are
+        Matcher pair = Pattern.compile("\"(\\w+)\":(?:\"((?:[^\"\\\\]|\\\\.)*)\"|null|(\\d+))").matcher(text.split("\n")[0]);
         Map<String, String> object = new HashMap<>();
         while (pair.find()) {
             if (pair.group(1).equals("class") || pair.group(1).equals("verdict")) {
@@ -192,6 +198,11 @@ public final class JarReport {
             return rule.charAt(0) == 'H';
         }
 
+        /** On an assignment in which a class takes part that clients can't name. */
+        boolean isOfHidden() {
+            return act.equals("assign") && !seat.equals("-");
+        }
+
         /** A collision on a member with a name that compilers make. */
         boolean isMade() {
             return !isFinding() && Words.name(member).contains("$");
@@ -239,6 +250,7 @@ public final class JarReport {
             packages.forEach((name, counts) -> out.println("in " + name + ": "
                     + counts.entrySet().stream().map(entry -> entry.getValue() + " " + entry.getKey()).collect(Collectors.joining(", "))));
         }
+        warnings.forEach(out::println);
         out.println(verdict);
     }
 
@@ -424,15 +436,20 @@ public final class JarReport {
                 + (accepted.isEmpty() ? "" : "; what is promised of compatible releases isn't promised with accepted breaks"));
     }
 
-    /** The status by the gates that are asked, of the lines that aren't accepted. */
-    private int gates(List<String> options, Set<Line> accepted) {
+    /** The gates that are asked. */
+    private static List<String> asked(List<String> options) {
         String asked = "links";
         for (int i = 0; i < options.size(); i++) {
             String option = options.get(i);
             asked = option.startsWith("--gate=") ? option.substring(7) : option.equals("--gate") ? options.get(i + 1) : asked;
         }
+        return Arrays.asList(asked.split(","));
+    }
+
+    /** The status by the gates that are asked, of the lines that aren't accepted. */
+    private int gates(List<String> options, Set<Line> accepted) {
         List<Line> left = lines.stream().filter(line -> !accepted.contains(line)).collect(Collectors.toList());
-        for (String gate : asked.split(",")) {
+        for (String gate : asked(options)) {
             boolean passes = gate.equals("few") ? left.size() <= 10 : left.stream().noneMatch(line -> line.isFinding() == gate.equals("links"));
             if (!passes) {
                 return 1;
@@ -456,7 +473,8 @@ public final class JarReport {
         }
 
         private static String key(Line line, String type) {
-            return String.join(" ", line.rule, type, line.member, line.act, line.error);
+            // of hidden classes there is a seat, for which they stand
+            return String.join(" ", line.rule, type, line.member, line.act, line.error, line.isOfHidden() ? line.seat : "-");
         }
 
         /** To each line that isn't folded, in order, itself and those that are folded into it, without those on names that compilers make. */
@@ -472,7 +490,7 @@ public final class JarReport {
                 return line;
             }
             if (!release.has(line.type)) {
-                Line lost = byKey.get(String.join(" ", "H4", line.seat, line.type, "assign", "VerifyError"));
+                Line lost = byKey.get(String.join(" ", "H4", line.seat, line.type, "assign", "VerifyError", "-"));
                 return lost == null ? line : top(lost);
             }
             // of those above with the line, the first has none above itself
@@ -796,8 +814,17 @@ public final class JarReport {
                             : "a class" : now.is(ClassFile.FINAL) ? "final" : "sealed"),
                             "class Y " + (line.act.equals("extend") ? "extends " : "implements ") + type + " { }");
                 case "H3":
+                    if (line.isOfHidden()) {
+                        return Arrays.asList(type + ", which clients can't name but give values for, was an interface and " + (now == null ? "is gone" : "is a class") + seat(line),
+                                "the.takes(other), where takes(" + type + ")");
+                    }
                     return Arrays.asList(type + " was an interface and is a class", type + " first(Other other) { return other; }");
                 case "H4":
+                    if (line.isOfHidden()) {
+                        return Arrays.asList("class " + type + (now == null ? " is gone, and" : "") + " no longer has the superclass " + simple(line.member)
+                                + "; clients hold values of them without naming them" + seat(line),
+                                "the.takes(the.gives()), where " + type + " gives(), takes(" + simple(line.member) + ")");
+                    }
                     return Arrays.asList("class " + type + " no longer has the superclass " + simple(line.member),
                             simple(line.member) + " first(" + type + " " + variable + ") { return " + variable + "; }");
                 case "H5":

@@ -1,0 +1,170 @@
+#!/usr/bin/env python3
+"""Releases that grow, and what a check of them costs:  bench/shapes.py PROGRAM [SHAPE N..]
+
+Writes the class files of each shape in each size, checks them with the program, and prints a line with the last line of
+the report, the processor time of the user and of the system, and the peak memory; then how time grows from one size to
+the next, as an exponent. Without a shape, those that stand in SIZES.
+"""
+import math
+import os
+import resource
+import struct
+import sys
+import tempfile
+
+PUBLIC, PROTECTED, STATIC, SUPER, INTERFACE, ABSTRACT = 1, 4, 8, 32, 512, 1024
+OBJECT = "java/lang/Object"
+INIT = (PUBLIC, "<init>", "()V")
+
+
+def class_file(name, above=OBJECT, interfaces=(), fields=(), methods=(INIT,), flags=PUBLIC | SUPER, permitted=()):
+    """The bytes of a class file of major version 61 (JVMS 4). Members are triples of flags, name and descriptor."""
+    entries, numbers = [], {}
+
+    def entry(key, data):
+        if key not in numbers:
+            entries.append(data)
+            numbers[key] = len(entries)
+        return numbers[key]
+
+    def utf8(text):
+        return entry(text, struct.pack(">BH", 1, len(text)) + text.encode())
+
+    def class_entry(text):
+        return entry(("class", text), struct.pack(">BH", 7, utf8(text)))
+
+    def counted(parts):
+        return struct.pack(">H", len(parts)) + b"".join(parts)
+
+    body = struct.pack(">HHH", flags, class_entry(name), class_entry(above) if above else 0)
+    body += counted([struct.pack(">H", class_entry(i)) for i in interfaces])
+    for members in fields, methods:
+        body += counted([struct.pack(">HHHH", f, utf8(n), utf8(d), 0) for f, n, d in members])
+    names = counted([struct.pack(">H", class_entry(p)) for p in permitted])
+    body += counted([struct.pack(">HI", utf8("PermittedSubclasses"), len(names)) + names] if permitted else [])
+    return struct.pack(">IHHH", 0xCAFEBABE, 0, 61, len(entries) + 1) + b"".join(entries) + body
+
+
+# Each shape gives the sides (O, N or both), the name and the class file of each class, for a size.
+
+def hidden_pairs(n):
+    """n hidden classes that each lose a hidden superclass, exposed by a class with 2n public methods"""
+    members = [INIT]
+    for i in range(n):
+        members += [(PUBLIC | STATIC, f"s{i}", f"()Lp/S{i:05};"), (PUBLIC | STATIC, f"b{i}", f"(Lp/B{i:05};)V")]
+        yield "ON", f"p/B{i:05}", class_file(f"p/B{i:05}", flags=SUPER)
+        yield "O", f"p/S{i:05}", class_file(f"p/S{i:05}", f"p/B{i:05}", flags=SUPER)
+        yield "N", f"p/S{i:05}", class_file(f"p/S{i:05}", flags=SUPER)
+    yield "ON", "p/A", class_file("p/A", methods=members)
+
+
+def hidden_members(n):
+    """a hidden class that loses a hidden superclass, exposed by n protected methods each"""
+    members = [INIT]
+    for i in range(n):
+        members += [(PROTECTED | STATIC, f"s{i:05}", "()Lp/S;"), (PROTECTED | STATIC, f"b{i:05}", "(Lp/B;)V")]
+    yield "ON", "p/B", class_file("p/B", flags=SUPER)
+    yield "O", "p/S", class_file("p/S", "p/B", flags=SUPER)
+    yield "N", "p/S", class_file("p/S", flags=SUPER)
+    yield "ON", "p/A", class_file("p/A", methods=members)
+
+
+def hidden_seats(n):
+    """the same, exposed by one protected method each, of which n subclasses have the one, and the last in order has both"""
+    yield "ON", "p/B", class_file("p/B", flags=SUPER)
+    yield "O", "p/S", class_file("p/S", "p/B", flags=SUPER)
+    yield "N", "p/S", class_file("p/S", flags=SUPER)
+    yield "ON", "p/A", class_file("p/A", methods=[INIT, (PROTECTED | STATIC, "s", "()Lp/S;")])
+    yield "ON", "p/Z", class_file("p/Z", "p/A", methods=[INIT, (PROTECTED | STATIC, "b", "(Lp/B;)V")])
+    for i in range(n):
+        yield "ON", f"p/C{i:05}", class_file(f"p/C{i:05}", "p/A")
+
+
+def hidden_pairs_and_seats(n):
+    """n hidden classes that each lose a hidden superclass, exposed by protected methods, and n subclasses of the class that has these"""
+    members = [INIT]
+    for i in range(n):
+        members += [(PROTECTED | STATIC, f"s{i}", f"()Lp/S{i:05};"), (PROTECTED | STATIC, f"b{i}", f"(Lp/B{i:05};)V")]
+        yield "ON", f"p/B{i:05}", class_file(f"p/B{i:05}", flags=SUPER)
+        yield "O", f"p/S{i:05}", class_file(f"p/S{i:05}", f"p/B{i:05}", flags=SUPER)
+        yield "N", f"p/S{i:05}", class_file(f"p/S{i:05}", flags=SUPER)
+        yield "ON", f"p/C{i:05}", class_file(f"p/C{i:05}", "p/Z")
+    yield "ON", "p/Z", class_file("p/Z", methods=members)
+
+
+LONG = "a" * 65533
+
+
+def fat_interfaces(n):
+    """a class that names one interface of 65,533 bytes n times"""
+    yield "ON", "p/A", class_file("p/A", interfaces=[LONG] * n)
+
+
+def fat_permits(n):
+    """an interface that permits one name of 65,533 bytes n times"""
+    yield "ON", "p/I", class_file("p/I", methods=(), flags=PUBLIC | INTERFACE | ABSTRACT, permitted=[LONG] * n)
+
+
+def fat_fields(n):
+    """a class with n fields that share one descriptor of 65,535 bytes"""
+    yield "ON", "p/A", class_file("p/A", fields=[(PUBLIC, f"f{i:05}", f"L{LONG};") for i in range(n)])
+
+
+def fat_methods(n):
+    """a class with n methods that share one descriptor of 65,403 bytes"""
+    text = "(" + "Laaaa;" * 200 + "L" + "b" * 64198 + ";)V"
+    yield "ON", "p/A", class_file("p/A", methods=[INIT] + [(PUBLIC, f"m{i:05}", text) for i in range(n)])
+
+
+SIZES = [(hidden_pairs, (1000, 2000, 4000)), (hidden_members, (1000, 4000, 16000)), (hidden_seats, (1000, 4000, 16000)),
+         (hidden_pairs_and_seats, (250, 500, 1000)), (fat_interfaces, (4000, 16000)), (fat_permits, (4000, 16000)),
+         (fat_fields, (4000, 16000)), (fat_methods, (4000, 16000))]
+SHAPES = {shape.__name__: shape for shape, _ in SIZES}
+
+
+def written(shape, size, folder):
+    """Writes the platform and the releases; gives the words that name them."""
+    files = [("P", OBJECT, class_file(OBJECT, None))] + list(shape(size))
+    words = []
+    for side, option in ("P", "--platform"), ("O", "--old"), ("N", "--new"):
+        words += [option, os.path.join(folder, side)]
+        for sides, name, data in files:
+            if side in sides:
+                path = os.path.join(folder, side, name + ".class")
+                os.makedirs(os.path.dirname(path), exist_ok=True)
+                with open(path, "wb") as file:
+                    file.write(data)
+    return words
+
+
+def checked(program, words, folder):
+    """Runs a check; gives the last line of what it says, its seconds of processor time and its peak in megabytes."""
+    out = os.path.join(folder, "report")
+    to = os.open(out, os.O_CREAT | os.O_WRONLY)
+    child = os.posix_spawn(program, [program, "check", *words], os.environ,
+                           file_actions=[(os.POSIX_SPAWN_DUP2, to, 1), (os.POSIX_SPAWN_DUP2, to, 2)])
+    os.close(to)
+    _, _, used = os.wait4(child, 0)
+    with open(out, "rb") as file:
+        lines = file.read().decode().splitlines() or ["nothing"]
+    return lines[-1], used.ru_utime + used.ru_stime, used.ru_maxrss / 1024
+
+
+def main(words):
+    if not words or words[1:] and words[1] not in SHAPES:
+        sys.exit("usage: bench/shapes.py PROGRAM [SHAPE N..]\n" + "\n".join(f"  {name}: {shape.__doc__}" for name, shape in SHAPES.items()))
+    program = os.path.abspath(words[0])
+    # a program that takes more memory than this is told that there is none
+    resource.setrlimit(resource.RLIMIT_AS, (6 << 30, 6 << 30))
+    for shape, sizes in [(SHAPES[words[1]], [int(word) for word in words[2:]])] if words[1:] else SIZES:
+        before = None
+        for size in sizes:
+            with tempfile.TemporaryDirectory() as folder:
+                line, seconds, peak = checked(program, written(shape, size, folder), folder)
+            grown = f", exponent {math.log(seconds / before[1]) / math.log(size / before[0]):.2f}" if before else ""
+            print(f"{shape.__name__} {size}: {line}: {seconds:.2f} s, {peak:.0f} MB{grown}", flush=True)
+            before = size, max(seconds, 0.001)
+
+
+if __name__ == "__main__":
+    main(sys.argv[1:])

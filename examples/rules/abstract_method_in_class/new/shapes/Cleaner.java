@@ -1,0 +1,7 @@
+package shapes;
+
+public interface Cleaner {
+    default void clean() {
+        System.out.println("cleaned");
+    }
+}

@@ -1,0 +1,10 @@
+package app;
+
+import shapes.Label;
+import shapes.Shapes;
+
+public class Labels {
+    static void run() {
+        Shapes.add(new Label());
+    }
+}

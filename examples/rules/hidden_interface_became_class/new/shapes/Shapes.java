@@ -1,0 +1,9 @@
+package shapes;
+
+public class Shapes {
+    private Shapes() {
+    }
+
+    public static void add(Mark mark) {
+    }
+}

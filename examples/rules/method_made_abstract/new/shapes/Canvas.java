@@ -1,0 +1,8 @@
+package shapes;
+
+public abstract class Canvas {
+    public Canvas() {
+    }
+
+    public abstract void clean();
+}

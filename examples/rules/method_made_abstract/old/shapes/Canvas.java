@@ -1,0 +1,10 @@
+package shapes;
+
+public abstract class Canvas {
+    public Canvas() {
+    }
+
+    public void clean() {
+        System.out.println("cleaned");
+    }
+}
