@@ -1,7 +1,7 @@
 -- The text of the verdicts on a row of releases, put line by line.
 --     next_step      the loop over the steps
 --     steps_failed, last_failed, last_put      the steps, and then the last line
-use Rattle.std.proofs.Common.{◌≡◌, ◌<◌, ◌+◌, ℕ, true, List, [], ◌∷◌, ◌++◌, Option, length, drop, get_or, refl, sym, ap, subst, ◌∙◌}
+use Rattle.std.proofs.Common.{◌≡◌, ◌<◌, ◌+◌, ℕ, true, List, ◌∷◌, ◌++◌, Option, length, drop, get_or, sym, ap, subst, ◌∙◌}
 use Rattle.std.proofs.lemmas.List.{at_drop_more}
 use Rattle.jc_base.specs.Outside.{TakesAll, TakesFront}
 use Rattle.jc_facts.specs.declared.verdict.Verdict.{Verdict}

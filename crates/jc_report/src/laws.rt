@@ -1,10 +1,11 @@
-//! The printed forms of some verdicts and notes on signatures.
+//! The printed forms of some verdicts, notes on signatures and dropped interfaces.
 ghost use Rattle.std.specs.Prelude.{◌≡◌, ◌++◌, [], ◌∷◌, Some, None, true, false, codes, ℕ};
 ghost use Rattle.jc_facts.specs.declared.verdict.Verdict.{Verdict};
 ghost use Rattle.jc_report.specs.Json.{json_of};
 ghost use Rattle.jc_facts.specs.print.SigText.{sig_text_of};
 ghost use Rattle.jc_report.specs.SigJson.{sig_json_of};
-ghost use Rattle.jc_report.specs.Worked.{capture, empty, mixed, parameters_changed, result_changed, unread};
+ghost use Rattle.jc_report.specs.DroppedForms.{dropped_text_of, dropped_json_of};
+ghost use Rattle.jc_report.specs.Worked.{capture, empty, mixed, parameters_changed, result_changed, unread, no_longer_there, no_longer_named};
 
 /// Keys stand in byte order, what isn't there is null, and a backslash of a printed form is escaped.
 pub fn worked_json()
@@ -19,4 +20,11 @@ pub fn worked_signatures()
     ensures class { sig_json_of (parameters_changed ∷ []) ≡ codes "{\"signatures\":[{\"change\":\"parameters\",\"class\":\"p/A\",\"member\":null}]}\n" }
     ensures none { sig_json_of [] ≡ codes "{\"signatures\":[]}\n" }
     ensures member { sig_json_of (result_changed ∷ []) ≡ codes "{\"signatures\":[{\"change\":\"result\",\"class\":\"p/A\",\"member\":\"get()Ljava/lang/Object;\"}]}\n" }
+{}
+
+/// A name is printed in a line, and its backslashes once more escaped in JSON.
+pub fn worked_dropped()
+    ensures text { dropped_text_of (no_longer_there ∷ no_longer_named ∷ []) ≡ codes "dropped p/A p/I\ndropped p/\\\\\\xe9 p/M\n" }
+    ensures json { dropped_json_of (no_longer_there ∷ no_longer_named ∷ []) ≡ codes "{\"dropped\":[{\"class\":\"p/A\",\"interface\":\"p/I\"},{\"class\":\"p/\\\\\\\\\\\\xe9\",\"interface\":\"p/M\"}]}\n" }
+    ensures none { dropped_json_of [] ≡ codes "{\"dropped\":[]}\n" }
 {}

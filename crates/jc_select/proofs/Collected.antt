@@ -151,7 +151,7 @@ offers_is W k n c f = ap (λ (o : Option ClassFacts). is_some (if_candidate (as_
     go None = refl
     go (Some m) = offered (private_flag m.flags) (static_flag m.flags) n m.flags
 
-filtered_number : (p : ℕ → Bool) (ids : List ℕ) (n : ℕ) → list_any (λ i. i == n) (filter p ids) ≡ (p n && list_any (λ i. i == n) ids)
+pub filtered_number : (p : ℕ → Bool) (ids : List ℕ) (n : ℕ) → list_any (λ i. i == n) (filter p ids) ≡ (p n && list_any (λ i. i == n) ids)
 filtered_number p ids n = tests_agree (list_any (λ i. i == n) (filter p ids)) (p n && list_any (λ i. i == n) ids) there back
   where
     there : list_any (λ i. i == n) (filter p ids) ≡ true → (p n && list_any (λ i. i == n) ids) ≡ true

@@ -5,6 +5,10 @@ mod Chains
 mod ChangedKeys
 mod Collected
 mod Compared
+mod DroppedLimits
+mod DroppedRows
+mod LostRows
+mod Rising
 mod StillAgree
 mod Unchanged
 pub mod KindsWarned

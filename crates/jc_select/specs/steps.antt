@@ -4,3 +4,4 @@ pub mod Changes
 pub mod Parts
 pub mod Warned
 pub mod Asked
+pub mod Losing

@@ -21,8 +21,16 @@ use std::alloc::{AllocError, Global};
 
 // ---- the part of one side
 
-// The interfaces that the class and its superclasses lead to.
-fn above(alloc: Global, table: &Table, class: ClassId) -> Result<Vec<ClassId>, AllocError>
+/// The interfaces that the class and its superclasses lead to, in any order, and maybe twice.
+///
+/// # Errors
+///
+/// `AllocError` where memory runs out.
+pub(crate) fn above(
+    alloc: Global,
+    table: &Table,
+    class: ClassId,
+) -> Result<Vec<ClassId>, AllocError>
     requires { class < size table.now }
     ensures { IfOk result (λ ids. AreNamed table.now (superinterfaces table.now (name_at table.now class)) ids.items) }
 {
@@ -101,8 +109,8 @@ fn part(alloc: Global, table: &Table, class: ClassId, key: &Key) -> Result<Vec<C
 
 // ---- two parts
 
-// Whether the class is one of these.
-fn is_among(ids: &[ClassId], class: ClassId) -> bool
+/// Whether the class is one of these.
+pub(crate) fn is_among(ids: &[ClassId], class: ClassId) -> bool
     ensures { result ≡ list_any (λ n. n == class) ids.now }
 {
     for id in ids {
@@ -135,8 +143,8 @@ fn is_below_other(table: &Table, class: ClassId, of: ClassId) -> bool
     class != of && table.is_below(class, of)
 }
 
-// The same on the new side, of a class of the old side.
-fn is_below_now(sides: &Sides<'_>, class: ClassId, of: ClassId) -> bool
+/// Whether the class of the new side is another than this one of the old side, and below it.
+pub(crate) fn is_below_now(sides: &Sides<'_>, class: ClassId, of: ClassId) -> bool
     requires class { class < size sides.now.new }
     requires above { of < size sides.now.old }
     ensures { result ≡ is_below_other sides.now.new (name_at sides.now.new class) (name_at sides.now.old of) }

@@ -1,5 +1,5 @@
 -- The text of a verdict with a front before each line, as it is put.
-use Rattle.std.specs.Prelude.{ℕ, ◌+◌, List, ◌++◌, length}
+use Rattle.std.specs.Prelude.{ℕ, ◌+◌, ◌++◌, length}
 use Rattle.jc_facts.specs.declared.verdict.Verdict.{Verdict}
 use Rattle.jc_facts.specs.Names.{Bytes}
 use Rattle.jc_facts.specs.print.Text.{line_of_finding, line_of_collision, line_of_note, last_line_of}

@@ -1,5 +1,4 @@
-use Rattle.std.proofs.Common.{◌≡◌, ◌∙◌, false, ap}
-use Rattle.serde_json.specs.View.{view}
+use Rattle.std.proofs.Common.{◌∙◌, ap}
 use Rattle.serde_json.specs.Written.{has_float}
 use Rattle.jc_report.proofs.Floats.{verdict_plain}
 use Rattle.jc_report.proofs.json.json.Goals as goal

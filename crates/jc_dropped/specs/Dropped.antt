@@ -1,0 +1,60 @@
+-- Interfaces that a class has no more. All that clients do still links, since every class is assignable to an interface (JVMS 4.10.1.2), but
+-- invokeinterface on a value of the class fails (JVMS 6.5), and so do casts to the interface and stores into its arrays.
+--     is_held O N x      clients can hold values of the class x with both releases
+--     loses_interface O N x t      such a class had the interface t above it, and has it no more
+--     is_dropped O N x t      and no class that x names above itself loses t, so that x is where it is lost
+--     AreDropped O N ds      ds are all that are dropped
+use Rattle.std.specs.Prelude.{Bool, not, List, is_some, ◌||◌, ◌&&◌, IsTrue}
+use Rattle.std.specs.List.{list_any}
+use Rattle.std.specs.declared.cmp.Ordering.{Ordering}
+use Rattle.std.specs.Ordering.{on, then_cmp}
+use Rattle.jc_facts.specs.Names.{Bytes}
+use Rattle.jc_facts.specs.Exactly.{name_order, HasExactly}
+use Rattle.jc_facts.specs.world.World.{World}
+use Rattle.jc_facts.specs.world.Search.{supers}
+use Rattle.jc_facts.specs.world.Hierarchy.{is_superinterface}
+use Rattle.jc_facts.specs.world.Loading.{loads}
+use Rattle.jc_facts.specs.rule.Bases.{is_kept, is_steady, class_is}
+use Rattle.jc_facts.specs.rule.OpenActs.{first_seat}
+use Rattle.jc_facts.specs.rule.Exposed.{is_exposed}
+use Rattle.jc_dropped.specs.declared.dropped.Dropped.{Dropped}
+
+-- the class is hidden, and a member exposes it to the clients of some seat
+abbrev pub is_exposed_to_some : World → World → Bytes → Bool
+is_exposed_to_some O N x = is_some (first_seat O N (λ a. is_exposed O a x))
+
+-- it is, and it loads on the new side
+unfoldable pub stays_exposed : World → World → Bytes → Bool
+stays_exposed O N x = is_exposed_to_some O N x && loads N x
+
+-- clients can hold values of the class on both sides: it is kept, or it is exposed and stays
+unfoldable pub is_held : World → World → Bytes → Bool
+is_held O N x = is_kept O N x || stays_exposed O N x
+
+-- the steady interface t is among the superinterfaces of x on the old side, and not on the new
+unfoldable pub has_lost : World → World → Bytes → Bytes → Bool
+has_lost O N x t = is_steady O N t && is_superinterface O x t && not (is_superinterface N x t)
+
+-- and clients can hold values of x on both sides
+unfoldable pub loses_interface : World → World → Bytes → Bytes → Bool
+loses_interface O N x t = is_held O N x && has_lost O N x t
+
+-- the superclass of the old side's x, or an interface that it names, loses t
+abbrev pub loses_above : World → World → Bytes → Bytes → Bool
+loses_above O N x t = class_is O (λ c. list_any (λ s. loses_interface O N s t) (supers c)) x
+
+-- x loses t, and nothing that it names above itself does
+unfoldable pub is_dropped : World → World → Bytes → Bytes → Bool
+is_dropped O N x t = loses_interface O N x t && not (loses_above O N x t)
+
+-- by class, then interface
+abbrev pub dropped_order : Dropped → Dropped → Ordering
+dropped_order = then_cmp (on (λ d. d.«class») name_order) (on (λ d. d.interface) name_order)
+
+-- the class drops the interface
+abbrev pub IsDropped : World → World → Dropped → Type 0
+IsDropped O N d = IsTrue (is_dropped O N d.«class» d.interface)
+
+-- each interface that a class drops, once, in order, and no other
+abbrev pub AreDropped : World → World → List Dropped → Type 0
+AreDropped O N ds = HasExactly dropped_order (IsDropped O N) ds

@@ -1,0 +1,25 @@
+//! Interfaces that a class has no more: what that means, and the laws of it.
+//!
+//! Each law is the contract of a function that does nothing.
+#![tactic(auto)]
+
+ghost use Rattle.jc_dropped.specs.InterfacesKept.{NoneDroppedNoneLost, InterfacesStay, InstancesStay};
+
+pub mod dropped;
+
+/// Only causes are listed: where no class drops an interface, none loses one.
+pub fn none_dropped_none_lost()
+    ensures { NoneDroppedNoneLost }
+{}
+
+/// Where no class drops an interface, clients and the classes of which they can hold values keep those
+/// above them.
+pub fn interfaces_stay()
+    ensures { InterfacesStay }
+{}
+
+/// Where also the verdict has no finding, and no collision is met, these load with the new release, and
+/// keep each interface that clients can name.
+pub fn instances_stay()
+    ensures { InstancesStay }
+{}

@@ -1,0 +1,241 @@
+//! The interfaces that classes have no more above them, after an old release.
+ghost use Rattle.std.specs.Prelude.{◌≡◌, ◌<◌, IfOk, IfSome, IsTrue, option_map};
+ghost use Rattle.std.specs.List.{All, list_any};
+ghost use Rattle.jc_dropped.specs.Dropped.{AreDropped, IsDropped, dropped_order, loses_interface};
+ghost use Rattle.jc_facts.specs.Exactly.{HasExactly};
+ghost use Rattle.jc_facts.specs.Options.{some_and};
+ghost use Rattle.jc_facts.specs.world.Search.{supers};
+ghost use Rattle.jc_facts.specs.world.World.{size};
+ghost use Rattle.jc_select.specs.DroppedWithin.{AreDroppedWithin, InterfacesStill};
+ghost use Rattle.jc_select.specs.steps.Losing.{AreRowsOf, HasNumbers, dropped_at, loses, row_at};
+ghost use Rattle.jc_sides.specs.Limit.{IsWithin};
+ghost use Rattle.jc_sides.specs.Rules.{IsOf};
+ghost use Rattle.jc_table.specs.Ids.{name_at};
+
+use crate::losing::losing;
+use crate::parts::is_among;
+use jc_base::items::Items;
+use jc_base::name::Name;
+use jc_dropped::dropped::Dropped;
+use jc_facts::class_facts::ClassFacts;
+use jc_sides::found::push_some;
+use jc_sides::limit::is_over;
+use jc_sides::sides::Sides;
+use jc_table::ids::ClassId;
+use jc_table::table::Table;
+use std::alloc::{AllocError, Global};
+use std::collections::BTreeSet;
+
+// ---- whether a class above loses it
+
+// Whether the class of this name loses the interface.
+fn name_loses(sides: &Sides<'_>, rows: &[Items<ClassId>], name: &Name, of: ClassId) -> bool
+    requires rows { AreRowsOf sides.now.old (loses sides.now) rows.now }
+    requires of { of < size sides.now.old }
+    ensures { result ≡ loses_interface sides.now.old sides.now.new name.now (name_at sides.now.old of) }
+{
+    match sides.old.get(name.as_bytes()) {
+        None => false,
+        Some(id) => is_among(rows[id.number() as usize].as_slice(), of),
+    }
+}
+
+// Whether the superclass loses the interface.
+fn superclass_loses(
+    sides: &Sides<'_>,
+    rows: &[Items<ClassId>],
+    superclass: &Option<Name>,
+    of: ClassId,
+) -> bool
+    requires rows { AreRowsOf sides.now.old (loses sides.now) rows.now }
+    requires of { of < size sides.now.old }
+    ensures { result ≡ some_and (λ s. loses_interface sides.now.old sides.now.new s (name_at sides.now.old of)) superclass.now }
+{
+    match superclass {
+        None => false,
+        Some(name) => name_loses(sides, rows, name, of),
+    }
+}
+
+// Whether one of these loses the interface.
+fn one_loses(sides: &Sides<'_>, rows: &[Items<ClassId>], names: &[Name], of: ClassId) -> bool
+    requires rows { AreRowsOf sides.now.old (loses sides.now) rows.now }
+    requires of { of < size sides.now.old }
+    ensures { result ≡ list_any (λ s. loses_interface sides.now.old sides.now.new s (name_at sides.now.old of)) names.now }
+{
+    for name in names {
+        if name_loses(sides, rows, name, of) {
+            return true;
+        }
+    }
+    false
+}
+
+// Whether one of the classes that this one names above itself loses the interface.
+fn above_loses(sides: &Sides<'_>, rows: &[Items<ClassId>], class: &ClassFacts, of: ClassId) -> bool
+    requires rows { AreRowsOf sides.now.old (loses sides.now) rows.now }
+    requires of { of < size sides.now.old }
+    ensures { result ≡ list_any (λ s. loses_interface sides.now.old sides.now.new s (name_at sides.now.old of)) (supers «class».now) }
+{
+    superclass_loses(sides, rows, &class.superclass, of)
+        || one_loses(sides, rows, class.interfaces.as_slice(), of)
+}
+
+// ---- of one class
+
+// The interface that the class loses, if none that it names above itself does.
+fn of_interface(
+    alloc: Global,
+    sides: &Sides<'_>,
+    rows: &[Items<ClassId>],
+    class: ClassId,
+    of: ClassId,
+) -> Result<Option<Dropped>, AllocError>
+    requires rows { AreRowsOf sides.now.old (loses sides.now) rows.now }
+    requires class { «class» < size sides.now.old }
+    requires of { of < size sides.now.old }
+    requires loses { IsTrue (loses sides.now (name_at sides.now.old «class») (name_at sides.now.old of)) }
+    ensures { IfOk result (λ dropped. dropped ≡ dropped_at sides.now (name_at sides.now.old «class») (name_at sides.now.old of)) }
+{
+    let facts = sides.old.facts(class);
+    if above_loses(sides, rows, facts, of) {
+        return Ok(None);
+    }
+    Ok(Some(Dropped {
+        class: facts.name.copy(alloc)?,
+        interface: sides.old.facts(of).name.copy(alloc)?,
+    }))
+}
+
+// The set of these numbers.
+fn set_of(alloc: Global, ids: &[ClassId]) -> Result<BTreeSet<ClassId>, AllocError>
+    ensures { IfOk result (λ set. HasNumbers ids.now set) }
+{
+    let mut set = BTreeSet::new(alloc);
+    for id in ids {
+        set.insert(*id)?;
+    }
+    Ok(set)
+}
+
+// What the class drops of those that it loses, in order.
+fn of_row(
+    alloc: Global,
+    sides: &Sides<'_>,
+    rows: &[Items<ClassId>],
+    class: ClassId,
+    row: &BTreeSet<ClassId>,
+) -> Result<Vec<Dropped>, AllocError>
+    requires rows { AreRowsOf sides.now.old (loses sides.now) rows.now }
+    requires class { «class» < size sides.now.old }
+    requires row { HasNumbers (row_at rows.now «class») row.now }
+    ensures { IfOk result (λ made. HasExactly dropped_order (IsOf (λ d. d.«class») (IsDropped sides.now.old sides.now.new) (name_at sides.now.old «class»)) made.items) }
+{
+    // A count says that the table stands for a side.
+    let _classes = sides.old.count();
+    let mut dropped = Vec::new(alloc);
+    for of in row {
+        push_some(&mut dropped, of_interface(alloc, sides, rows, class, *of)?)?;
+    }
+    Ok(dropped)
+}
+
+// What the class drops, in order. Nearly all lose nothing.
+fn of_class(
+    alloc: Global,
+    sides: &Sides<'_>,
+    rows: &[Items<ClassId>],
+    class: ClassId,
+) -> Result<Vec<Dropped>, AllocError>
+    requires rows { AreRowsOf sides.now.old (loses sides.now) rows.now }
+    requires class { «class» < size sides.now.old }
+    ensures { IfOk result (λ made. HasExactly dropped_order (IsOf (λ d. d.«class») (IsDropped sides.now.old sides.now.new) (name_at sides.now.old «class»)) made.items) }
+{
+    let row = set_of(alloc, rows[class.number() as usize].as_slice())?;
+    let dropped = of_row(alloc, sides, rows, class, &row)?;
+    Ok(dropped)
+}
+
+// ---- of all
+
+// What all classes drop; None where that is more than the limit allows.
+fn of_classes(
+    alloc: Global,
+    sides: &Sides<'_>,
+    rows: &[Items<ClassId>],
+    most: Option<usize>,
+) -> Result<Option<Vec<Dropped>>, AllocError>
+    requires rows { AreRowsOf sides.now.old (loses sides.now) rows.now }
+    ensures { IfOk result (λ made. IsWithin dropped_order (IsDropped sides.now.old sides.now.new) most (option_map (λ ds. ds.items) made)) }
+{
+    let mut dropped = Vec::new(alloc);
+    for n in 0..sides.old.count() {
+        let id = sides.old.id(n).unwrap();
+        dropped.append(&mut of_class(alloc, sides, rows, id)?)?;
+        if is_over(dropped.len(), most) {
+            return Ok(None);
+        }
+    }
+    Ok(Some(dropped))
+}
+
+// The same.
+fn limited(
+    alloc: Global,
+    sides: &Sides<'_>,
+    most: Option<usize>,
+) -> Result<Option<Vec<Dropped>>, AllocError>
+    ensures { IfOk result (λ made. IsWithin dropped_order (IsDropped sides.now.old sides.now.new) most (option_map (λ ds. ds.items) made)) }
+{
+    let rows = losing(alloc, sides)?;
+    let made = of_classes(alloc, sides, rows.as_slice(), most)?;
+    Ok(made)
+}
+
+/// The interfaces that classes drop between an old release and a new one, in byte order of the classes'
+/// names and then of the interfaces': each that a class had above it and has no more, where clients can
+/// hold values of the class and name the interface with both releases, and no class that it names above
+/// itself loses it too. All that clients do still links, but `invokeinterface` on such a value, a cast or
+/// a store fails when it runs (JVMS 6.5). The two sides have one platform.
+///
+/// # Errors
+///
+/// `AllocError` where memory runs out.
+pub fn dropped(alloc: Global, old: &Table, new: &Table) -> Result<Vec<Dropped>, AllocError>
+    requires { old.now.platform ≡ new.now.platform }
+    ensures exact { IfOk result (λ ds. AreDropped old.now new.now ds.items) }
+
+    // Where there is none, and the verdict has no finding, clients keep the interfaces above their values.
+    ensures kept { IfOk result (λ ds. InterfacesStill old.now new.now ds.items) }
+{
+    // A count says that a table stands for a side.
+    let _old = old.count();
+    let _new = new.count();
+    let sides = Sides::new(alloc, old, new)?;
+    let made = limited(alloc, &sides, None)?;
+    Ok(made.unwrap())
+}
+
+/// The same interfaces, where they are at most so many; None where they are more. Past the limit no more
+/// are made than what one class adds.
+///
+/// # Errors
+///
+/// `AllocError` where memory runs out.
+pub fn dropped_within(
+    alloc: Global,
+    old: &Table,
+    new: &Table,
+    most: usize,
+) -> Result<Option<Vec<Dropped>>, AllocError>
+    requires { old.now.platform ≡ new.now.platform }
+    ensures exact { IfOk result (λ made. AreDroppedWithin old.now new.now most (option_map (λ ds. ds.items) made)) }
+    ensures kept { IfOk result (λ made. IfSome (option_map (λ ds. ds.items) made) (InterfacesStill old.now new.now)) }
+{
+    // A count says that a table stands for a side.
+    let _old = old.count();
+    let _new = new.count();
+    let sides = Sides::new(alloc, old, new)?;
+    let made = limited(alloc, &sides, Some(most))?;
+    Ok(made)
+}

@@ -1,0 +1,286 @@
+//! Interfaces that classes of both sides have lost, where clients can hold values of these.
+ghost use Rattle.std.specs.Prelude.{◌≡◌, ◌<◌, ◌||◌, IfOk, IsTrue, Some};
+ghost use Rattle.std.specs.List.{All, filter, list_any};
+ghost use Rattle.jc_acts.specs.Seats.{AreSeats};
+ghost use Rattle.jc_exposed.specs.Exposed.{AreExposed, wanted_of};
+ghost use Rattle.jc_dropped.specs.Dropped.{is_exposed_to_some};
+ghost use Rattle.jc_facts.specs.rule.Bases.{is_kept, is_steady};
+ghost use Rattle.jc_facts.specs.rule.Exposed.{is_hidden};
+ghost use Rattle.jc_facts.specs.world.Loading.{loads};
+ghost use Rattle.jc_facts.specs.world.World.{size};
+ghost use Rattle.jc_select.specs.steps.Losing.{AreMarks, AreNumbersOf, AreRowsOf, has_left, is_asked, is_found, lost_at, loses};
+ghost use Rattle.jc_table.specs.Ids.{name_at, id_of};
+
+use crate::parts::{above, is_below_now};
+use jc_acts::seats::Seats;
+use jc_base::items::Items;
+use jc_exposed::exposed::{Exposed, first_exposed};
+use jc_sides::classes::base_classes;
+use jc_sides::clients::is_steady;
+use jc_sides::kept::{is_hidden_class, kept};
+use jc_sides::sides::Sides;
+use jc_table::ids::ClassId;
+use jc_table::table::Table;
+use std::alloc::{AllocError, Global};
+
+// ---- of one class
+
+// Whether the class is kept, and hasn't stopped to be an interface.
+fn is_steady_class(sides: &Sides<'_>, id: ClassId) -> bool
+    requires { id < size sides.now.old }
+    ensures { result ≡ is_steady sides.now.old sides.now.new (name_at sides.now.old id) }
+{
+    match kept(sides, id) {
+        None => false,
+        Some(class) => is_steady(sides, &class),
+    }
+}
+
+// Whether the old side's interface is steady, and isn't above the new side's class.
+fn has_left(sides: &Sides<'_>, now: ClassId, of: ClassId) -> bool
+    requires now { now < size sides.now.new }
+    requires of { of < size sides.now.old }
+    ensures { result ≡ has_left sides.now now of }
+{
+    !is_below_now(sides, now, of) && is_steady_class(sides, of)
+}
+
+// Those of these interfaces that have left.
+fn those_left(
+    alloc: Global,
+    sides: &Sides<'_>,
+    now: ClassId,
+    ids: &[ClassId],
+) -> Result<Vec<ClassId>, AllocError>
+    requires now { now < size sides.now.new }
+    requires ids { All (λ id. id < size sides.now.old) ids.now }
+    ensures { IfOk result (λ left. left.items ≡ filter (has_left sides.now now) ids.now) }
+{
+    let mut left = Vec::new(alloc);
+    for id in ids {
+        if has_left(sides, now, *id) {
+            left.push(*id)?;
+        }
+    }
+    Ok(left)
+}
+
+// What the class, which loads on both sides, has lost.
+fn lost_between(
+    alloc: Global,
+    sides: &Sides<'_>,
+    before: ClassId,
+    now: ClassId,
+) -> Result<Vec<ClassId>, AllocError>
+    requires before { before < size sides.now.old }
+    requires now { now < size sides.now.new }
+    requires one { Some now ≡ id_of sides.now.new (name_at sides.now.old before) }
+    requires loads { IsTrue (loads sides.now.old (name_at sides.now.old before)) }
+    requires loads_now { IsTrue (loads sides.now.new (name_at sides.now.new now)) }
+    ensures { IfOk result (λ lost. AreNumbersOf sides.now.old (lost_at sides.now (name_at sides.now.old before)) lost.items) }
+{
+    let all = above(alloc, sides.old, before)?;
+    let lost = those_left(alloc, sides, now, all.as_slice())?;
+    Ok(lost)
+}
+
+// What the class has lost, if it loads on both sides.
+fn lost_of(alloc: Global, sides: &Sides<'_>, id: ClassId) -> Result<Vec<ClassId>, AllocError>
+    requires { id < size sides.now.old }
+    ensures { IfOk result (λ lost. AreNumbersOf sides.now.old (lost_at sides.now (name_at sides.now.old id)) lost.items) }
+{
+    if sides.old.fault_at(id).is_some() {
+        return Ok(Vec::new(alloc));
+    }
+    let Some(now) = sides.new_id(id) else {
+        return Ok(Vec::new(alloc));
+    };
+    if sides.new.fault_at(now).is_some() {
+        return Ok(Vec::new(alloc));
+    }
+    let lost = lost_between(alloc, sides, id, now)?;
+    Ok(lost)
+}
+
+// For each class of the old side, what it has lost, if it loads on both.
+fn lost_rows(alloc: Global, sides: &Sides<'_>) -> Result<Vec<Items<ClassId>>, AllocError>
+    ensures { IfOk result (λ rows. AreRowsOf sides.now.old (lost_at sides.now) rows.items) }
+{
+    let mut rows = Vec::with_capacity(alloc, sides.old.count() as usize)?;
+    for n in 0..sides.old.count() {
+        let id = sides.old.id(n).unwrap();
+        let lost = lost_of(alloc, sides, id)?;
+        rows.push(Items::from_vec(lost))?;
+    }
+    Ok(rows)
+}
+
+// ---- hidden classes
+
+// Whether the class is hidden, and has lost something.
+fn is_asked(sides: &Sides<'_>, rows: &[Items<ClassId>], id: ClassId) -> bool
+    requires rows { AreRowsOf sides.now.old (lost_at sides.now) rows.now }
+    requires id { id < size sides.now.old }
+    ensures { result ≡ is_asked sides.now rows.now id }
+{
+    if rows[id.number() as usize].as_slice().is_empty() {
+        return false;
+    }
+    is_hidden_class(sides.old, id)
+}
+
+// The same of each class.
+fn asked(alloc: Global, sides: &Sides<'_>, rows: &[Items<ClassId>]) -> Result<Vec<bool>, AllocError>
+    requires rows { AreRowsOf sides.now.old (lost_at sides.now) rows.now }
+    ensures { IfOk result (λ marks. AreMarks sides.now.old (is_asked sides.now rows.now) marks.items) }
+{
+    let mut marks = Vec::with_capacity(alloc, sides.old.count() as usize)?;
+    for n in 0..sides.old.count() {
+        let id = sides.old.id(n).unwrap();
+        marks.push(is_asked(sides, rows, id))?;
+    }
+    Ok(marks)
+}
+
+// Whether one of the marks is set.
+fn is_any_set(marks: &[bool]) -> bool
+    ensures { result ≡ list_any (λ w. w) marks.now }
+{
+    for mark in marks {
+        if *mark {
+            return true;
+        }
+    }
+    false
+}
+
+// Whether the class is hidden, has lost something, and is exposed to the clients of some seat.
+fn is_found(
+    sides: &Sides<'_>,
+    seats: &Seats<'_>,
+    exposed: &Exposed,
+    rows: &[Items<ClassId>],
+    id: ClassId,
+) -> bool
+    requires seats { AreSeats sides.now seats.now }
+    requires rows { AreRowsOf sides.now.old (lost_at sides.now) rows.now }
+    requires exposed { AreExposed sides.now exposed.now }
+    requires wanted { AreMarks sides.now.old (is_asked sides.now rows.now) (wanted_of exposed.now) }
+    requires id { id < size sides.now.old }
+    ensures { result ≡ is_found sides.now rows.now id }
+{
+    if !is_asked(sides, rows, id) {
+        return false;
+    }
+    first_exposed(sides, seats, exposed, &[id]).is_some()
+}
+
+// The same of each class.
+fn found_among(
+    alloc: Global,
+    sides: &Sides<'_>,
+    seats: &Seats<'_>,
+    exposed: &Exposed,
+    rows: &[Items<ClassId>],
+) -> Result<Vec<bool>, AllocError>
+    requires seats { AreSeats sides.now seats.now }
+    requires rows { AreRowsOf sides.now.old (lost_at sides.now) rows.now }
+    requires exposed { AreExposed sides.now exposed.now }
+    requires wanted { AreMarks sides.now.old (is_asked sides.now rows.now) (wanted_of exposed.now) }
+    ensures { IfOk result (λ marks. AreMarks sides.now.old (is_found sides.now rows.now) marks.items) }
+{
+    let mut marks = Vec::with_capacity(alloc, sides.old.count() as usize)?;
+    for n in 0..sides.old.count() {
+        let id = sides.old.id(n).unwrap();
+        marks.push(is_found(sides, seats, exposed, rows, id))?;
+    }
+    Ok(marks)
+}
+
+// The same. Where no hidden class has lost anything, no seat and no member is looked at.
+fn found(alloc: Global, sides: &Sides<'_>, rows: &[Items<ClassId>]) -> Result<Vec<bool>, AllocError>
+    requires rows { AreRowsOf sides.now.old (lost_at sides.now) rows.now }
+    ensures { IfOk result (λ marks. AreMarks sides.now.old (is_found sides.now rows.now) marks.items) }
+{
+    let asked = asked(alloc, sides, rows)?;
+    if !is_any_set(asked.as_slice()) {
+        return Ok(asked);
+    }
+    let seats = Seats::new(alloc, sides, base_classes(alloc, sides)?)?;
+    let exposed = Exposed::new(alloc, sides, &seats, asked)?;
+    let marks = found_among(alloc, sides, &seats, &exposed, rows)?;
+    Ok(marks)
+}
+
+// ---- where clients can hold values
+
+// Whether the class, which has lost something, is kept, or hidden and exposed to the clients of some seat.
+fn is_held_class(sides: &Sides<'_>, rows: &[Items<ClassId>], found: &[bool], id: ClassId) -> bool
+    requires found { AreMarks sides.now.old (is_found sides.now rows.now) found.now }
+    requires id { id < size sides.now.old }
+    ensures { result ≡ (is_kept sides.now.old sides.now.new (name_at sides.now.old id) || is_found sides.now rows.now id) }
+{
+    match kept(sides, id) {
+        Some(_) => true,
+        None => found[id.number() as usize],
+    }
+}
+
+// What the class has lost, if clients can hold values of it.
+fn held_row(
+    alloc: Global,
+    sides: &Sides<'_>,
+    rows: &[Items<ClassId>],
+    found: &[bool],
+    id: ClassId,
+) -> Result<Vec<ClassId>, AllocError>
+    requires rows { AreRowsOf sides.now.old (lost_at sides.now) rows.now }
+    requires found { AreMarks sides.now.old (is_found sides.now rows.now) found.now }
+    requires id { id < size sides.now.old }
+    ensures { IfOk result (λ row. AreNumbersOf sides.now.old (loses sides.now (name_at sides.now.old id)) row.items) }
+{
+    let row = rows[id.number() as usize].as_slice();
+    if row.is_empty() {
+        return Ok(Vec::new(alloc));
+    }
+    if !is_held_class(sides, rows, found, id) {
+        return Ok(Vec::new(alloc));
+    }
+    let copy = Vec::from_slice(alloc, row)?;
+    Ok(copy)
+}
+
+// The same of each class.
+fn held_rows(
+    alloc: Global,
+    sides: &Sides<'_>,
+    rows: &[Items<ClassId>],
+    found: &[bool],
+) -> Result<Vec<Items<ClassId>>, AllocError>
+    requires rows { AreRowsOf sides.now.old (lost_at sides.now) rows.now }
+    requires found { AreMarks sides.now.old (is_found sides.now rows.now) found.now }
+    ensures { IfOk result (λ held. AreRowsOf sides.now.old (loses sides.now) held.items) }
+{
+    let mut held = Vec::with_capacity(alloc, sides.old.count() as usize)?;
+    for n in 0..sides.old.count() {
+        let id = sides.old.id(n).unwrap();
+        let row = held_row(alloc, sides, rows, found, id)?;
+        held.push(Items::from_vec(row))?;
+    }
+    Ok(held)
+}
+
+/// For each class of the old side, the interfaces that it has lost, if clients can hold values of it,
+/// in any order, and maybe twice. Members are looked at only where a hidden class has lost one.
+///
+/// # Errors
+///
+/// `AllocError` where memory runs out.
+pub fn losing(alloc: Global, sides: &Sides<'_>) -> Result<Vec<Items<ClassId>>, AllocError>
+    ensures { IfOk result (λ rows. AreRowsOf sides.now.old (loses sides.now) rows.items) }
+{
+    let lost = lost_rows(alloc, sides)?;
+    let found = found(alloc, sides, lost.as_slice())?;
+    let held = held_rows(alloc, sides, lost.as_slice(), found.as_slice())?;
+    Ok(held)
+}
