@@ -10,6 +10,8 @@ use Rattle.jc_facts.specs.Names.{Bytes}
 use Rattle.jc_facts.specs.world.World.{World}
 use Rattle.jc_table.specs.Ids.{name_at}
 use Rattle.jc_facts.specs.client.Linked.{item_outcomes, client_outcomes, all_outcomes}
+use Rattle.jc_link.specs.declared.asked.Asked.{Asked}
+use Rattle.jc_link.specs.steps.Asked.{outcomes_of_one}
 use Rattle.jc_link.specs.steps.ItemSteps.{IsAt, IsLoaded}
 use Rattle.jc_worlds.specs.Alike.{LinkAlike}
 
@@ -17,17 +19,15 @@ use Rattle.jc_worlds.specs.Alike.{LinkAlike}
 of_loading : Bytes → Option LinkError → Outcome
 of_loading x e = record { «class» = x; item = None; error = e }
 
-pub client_loads : (W : World) (c : ClientClass) (id : ℕ) (os mid after : List Outcome) → IsAt W c.facts.name id → mid ≡ os ++ record { «class» = c.facts.name; item = None; error = None } ∷ []
-    → after ≡ mid ++ item_outcomes W (name_at W id) c.items → after ≡ os ++ client_outcomes W c
-unfolding client_outcomes
-client_loads W c id os mid after h p q =
-    q ∙ ap (λ ms. ms ++ item_outcomes W (name_at W id) c.items) p ∙ append_assoc os (record { «class» = c.facts.name; item = None; error = None } ∷ []) (item_outcomes W (name_at W id) c.items)
+pub client_loads : (W : World) (a : Asked) (id : ℕ) (os mid after : List Outcome) → IsAt W a.name id → mid ≡ os ++ record { «class» = a.name; item = None; error = None } ∷ []
+    → after ≡ mid ++ item_outcomes W (name_at W id) a.items → after ≡ os ++ outcomes_of_one W a
+client_loads W a id os mid after h p q =
+    q ∙ ap (λ ms. ms ++ item_outcomes W (name_at W id) a.items) p ∙ append_assoc os (record { «class» = a.name; item = None; error = None } ∷ []) (item_outcomes W (name_at W id) a.items)
     ∙ ap (λ more. os ++ more) (rw (h.name, h.loads) refl)
 
-pub client_fails : (W : World) (c : ClientClass) (e : LinkError) (os after : List Outcome) → IsLoaded W c.facts.name (Err e) → after ≡ os ++ record { «class» = c.facts.name; item = None; error = Some e } ∷ []
-    → after ≡ os ++ client_outcomes W c
-unfolding client_outcomes
-client_fails W c e os after h p = p ∙ ap (λ more. os ++ more) (rw h refl)
+pub client_fails : (W : World) (a : Asked) (e : LinkError) (os after : List Outcome) → IsLoaded W a.name (Err e) → after ≡ os ++ record { «class» = a.name; item = None; error = Some e } ∷ []
+    → after ≡ os ++ outcomes_of_one W a
+client_fails W a e os after h p = p ∙ ap (λ more. os ++ more) (rw h refl)
 
 -- ---- worlds that link alike
 

@@ -7,5 +7,5 @@ mod Client
 mod Sorting
 mod Taken
 mod Joined
-mod Asked
+mod Askings
 mod Parts

@@ -1,6 +1,7 @@
 //! What linking the classes of clients gives (JVMS 5.3 to 5.4).
 #![tactic(auto)]
 
+mod asked;
 mod class_step;
 mod client_names;
 mod creation;

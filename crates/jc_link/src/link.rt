@@ -1,5 +1,5 @@
 //! Linking the classes of clients (JVMS 5.3 to 5.4).
-ghost use Rattle.std.specs.Prelude.{◌≡◌, ◌≤◌, ◌+◌, ◌++◌, Some, None, length, IfOk, IfErr, IsTrue};
+ghost use Rattle.std.specs.Prelude.{◌≡◌, ◌≤◌, ◌+◌, ◌++◌, ◌⊎◌, None, length, IfOk, IfErr, IfSome, IfNone, IsTrue};
 ghost use Rattle.std.specs.List.{All};
 ghost use Rattle.jc_facts.specs.client.Clients.{differ_by_name, facts_of, IsValidClient};
 ghost use Rattle.jc_facts.specs.client.Linked.{outcomes, all_outcomes};
@@ -8,8 +8,10 @@ ghost use Rattle.jc_facts.specs.world.World.{side};
 ghost use Rattle.jc_table.specs.Root.{fault_of_root};
 ghost use Rattle.jc_table.specs.Sides.{overlap_of};
 ghost use Rattle.jc_link.specs.Refusals.{first_refused, RefusesBy, RefusesLink, MayLink};
+ghost use Rattle.jc_link.specs.declared.refusal.LinkRefusal.{LinkRefusal};
 ghost use Rattle.jc_link.specs.steps.TableRefusals.{refusal_by};
 
+use crate::asked::{Parts, parted};
 use crate::client_names::refused_client;
 use crate::order::sort;
 use crate::outcomes::outcomes_in_order;
@@ -18,22 +20,21 @@ use jc_base::name::Name;
 use jc_facts::class_facts::ClassFacts;
 use jc_facts::client::ClientClass;
 use jc_facts::outcome::Outcome;
+use jc_index::overlap::first_overlap;
+use jc_table::platform::Platform;
+use jc_table::root::root_fault;
 use jc_table::table::{Table, TableError};
 use std::alloc::{AllocError, Global};
 
-// The release, and then copies of the records of the clients.
-pub(crate) fn joined(
-    alloc: Global,
-    release: Vec<ClassFacts>,
-    clients: &[ClientClass],
-) -> Result<Vec<ClassFacts>, AllocError>
-    ensures { IfOk result (λ classes. classes.items ≡ release.items ++ facts_of clients.now) }
+// Copies of these classes.
+fn copies_of(alloc: Global, classes: &[ClassFacts]) -> Result<Vec<ClassFacts>, AllocError>
+    ensures { IfOk result (λ copies. copies.items ≡ classes.now) }
 {
-    let mut classes = release;
-    for client in clients {
-        classes.push(client.facts.copy(alloc)?)?;
+    let mut copies = Vec::with_capacity(alloc, classes.len())?;
+    for class in classes {
+        copies.push(class.copy(alloc)?)?;
     }
-    Ok(classes)
+    Ok(copies)
 }
 
 // The refusal where a table isn't built.
@@ -47,27 +48,41 @@ fn refusal_of(error: TableError) -> LinkRefusal
     }
 }
 
-// The refusal where the name of a client isn't allowed: a bad root and an overlap stand before it.
-fn refusal_with_client(
-    alloc: Global,
-    platform: &[ClassFacts],
-    release: Vec<ClassFacts>,
-    name: &Name,
-    part: ClientPart,
-) -> LinkRefusal
-    requires valid_platform { All IsValidClass platform.now }
-    requires valid_release { All IsValidClass release.items }
-    requires platform_differs { IsTrue (differ_by_name platform.now) }
-    requires release_differs { IsTrue (differ_by_name release.items) }
-    requires few { length platform.now + length release.items ≤ 120000 }
-    ensures { RefusesBy platform.now release.items (Some (name.now, part)) result }
+// The refusal of a client's name.
+fn refusal_of_name(alloc: Global, name: &Name, part: ClientPart) -> LinkRefusal
+    ensures { (result ≡ LinkRefusal.ClientName name.now part) ⊎ (result ≡ LinkRefusal.Memory) }
 {
-    match Table::build(alloc, platform, release) {
-        Err(error) => refusal_of(error),
-        Ok(_) => match name.copy(alloc) {
-            Ok(name) => LinkRefusal::ClientName { name, part },
-            Err(_) => LinkRefusal::Memory,
-        },
+    match name.copy(alloc) {
+        Ok(name) => LinkRefusal::ClientName { name, part },
+        Err(_) => LinkRefusal::Memory,
+    }
+}
+
+// Why the clients aren't linked, the first cause; none where nothing stands in the way. No table is made
+// for it.
+fn refusal(
+    alloc: Global,
+    platform: &Platform,
+    release: &[ClassFacts],
+    clients: &[ClientClass],
+) -> Option<LinkRefusal>
+    requires platform_differs { IsTrue (differ_by_name platform.now) }
+    requires release_differs { IsTrue (differ_by_name release.now) }
+    ensures allowed { IfNone result (first_refused (side platform.now release.now) clients.now ≡ None) }
+    ensures refused { IfSome result (RefusesBy platform.now release.now (first_refused (side platform.now release.now) clients.now)) }
+{
+    if let Some(part) = root_fault(platform.classes()) {
+        return Some(LinkRefusal::BadRoot(part));
+    }
+    match first_overlap(alloc, platform.list(), release) {
+        Ok(None) => {}
+        Ok(Some(name)) => return Some(LinkRefusal::Overlap(name)),
+        Err(_) => return Some(LinkRefusal::Memory),
+    }
+    match refused_client(alloc, platform.classes(), release, clients) {
+        Ok(None) => None,
+        Ok(Some((name, part))) => Some(refusal_of_name(alloc, name, part)),
+        Err(_) => Some(LinkRefusal::Memory),
     }
 }
 
@@ -75,7 +90,7 @@ fn refusal_with_client(
 // the release and the clients.
 fn outcomes_of_allowed(
     alloc: Global,
-    platform: &[ClassFacts],
+    platform: &Platform,
     release: Vec<ClassFacts>,
     clients: Vec<ClientClass>,
 ) -> Result<Vec<Outcome>, LinkRefusal>
@@ -91,15 +106,15 @@ fn outcomes_of_allowed(
     ensures sound { IfOk result (λ _. (fault_of_root platform.now ≡ None) × (overlap_of platform.now release.items ≡ None)) }
     ensures refused { IfErr result (RefusesBy platform.now release.items None) }
 {
-    let records = match joined(alloc, release, clients.as_slice()) {
-        Ok(records) => records,
+    let Parts { records, asked } = match parted(alloc, release, clients) {
+        Ok(parts) => parts,
         Err(_) => return Err(LinkRefusal::Memory),
     };
-    match Table::build(alloc, platform, records) {
+    match Table::over(alloc, platform, records) {
         Err(error) => Err(refusal_of(error)),
         Ok(table) => {
             let _classes = table.count();
-            match outcomes_in_order(alloc, &table, clients) {
+            match outcomes_in_order(alloc, &table, asked) {
                 Ok(outcomes) => Ok(outcomes),
                 Err(_) => Err(LinkRefusal::Memory),
             }
@@ -109,16 +124,17 @@ fn outcomes_of_allowed(
 
 /// What linking the clients over a platform and a release gives: for each client, in byte order of
 /// names, its loading, and where it loads each of its items in order (JVMS 5.3 to 5.4). All records
-/// have to be valid, names differ inside each list, and there are at most 120,000 classes together.
+/// have to be valid, names differ inside each list, and there are at most 120,000 classes together. The
+/// platform, which may be shared, and the clients are not copied.
 ///
 /// # Errors
 ///
 /// `BadRoot` and `Overlap` as for a table of the platform and the release; then `ClientName` for the
 /// first client in byte order whose name they don't allow, with the first part that holds; `Memory`
 /// where memory runs out, which may be at any time.
-pub fn link(
+pub fn link_over(
     alloc: Global,
-    platform: &[ClassFacts],
+    platform: &Platform,
     release: Vec<ClassFacts>,
     clients: Vec<ClientClass>,
 ) -> Result<Vec<Outcome>, LinkRefusal>
@@ -138,9 +154,42 @@ pub fn link(
         Ok(()) => {}
         Err(_) => return Err(LinkRefusal::Memory),
     }
-    match refused_client(alloc, platform, release.as_slice(), clients.as_slice()) {
-        Err(_) => Err(LinkRefusal::Memory),
-        Ok(Some((name, part))) => Err(refusal_with_client(alloc, platform, release, name, part)),
-        Ok(None) => outcomes_of_allowed(alloc, platform, release, clients),
+    match refusal(alloc, platform, release.as_slice(), clients.as_slice()) {
+        Some(refusal) => Err(refusal),
+        None => outcomes_of_allowed(alloc, platform, release, clients),
+    }
+}
+
+/// The same over a platform that nobody shares, which is copied.
+///
+/// # Errors
+///
+/// Those of `link_over`.
+pub fn link(
+    alloc: Global,
+    platform: &[ClassFacts],
+    release: Vec<ClassFacts>,
+    clients: Vec<ClientClass>,
+) -> Result<Vec<Outcome>, LinkRefusal>
+    requires valid_platform { All IsValidClass platform.now }
+    requires valid_release { All IsValidClass release.items }
+    requires valid_clients { All IsValidClient clients.items }
+    requires platform_differs { IsTrue (differ_by_name platform.now) }
+    requires release_differs { IsTrue (differ_by_name release.items) }
+    requires clients_differ { IsTrue (differ_by_name (facts_of clients.items)) }
+    requires few { length platform.now + (length release.items + length clients.items) ≤ 120000 }
+    ensures value { IfOk result (λ list. list.items ≡ outcomes (side platform.now release.items) clients.items) }
+    ensures linked { IfOk result (λ _. MayLink platform.now release.items clients.items) }
+    ensures refused { IfErr result (RefusesLink platform.now release.items clients.items) }
+{
+    let Ok(copies) = copies_of(alloc, platform) else {
+        return Err(LinkRefusal::Memory);
+    };
+    let Ok(shared) = Platform::new(alloc, copies) else {
+        return Err(LinkRefusal::Memory);
+    };
+    match link_over(alloc, &shared, release, clients) {
+        Ok(outcomes) => Ok(outcomes),
+        Err(refusal) => Err(refusal),
     }
 }

@@ -4,14 +4,15 @@ ghost use Rattle.std.specs.List.{list_all};
 ghost use Rattle.jc_facts.specs.world.World.{size};
 ghost use Rattle.jc_table.specs.Ids.{name_at};
 ghost use Rattle.jc_table.specs.Sides.{IsSide};
-ghost use Rattle.jc_link.specs.steps.Asked.{names_no_clinit, ask_no_clinit};
-ghost use Rattle.jc_facts.specs.client.Linked.{item_outcomes, client_outcomes, all_outcomes};
+ghost use Rattle.jc_link.specs.steps.Asked.{names_no_clinit, asks_no_clinit, outcomes_of_one, outcomes_of_asked};
+ghost use Rattle.jc_facts.specs.client.Linked.{item_outcomes};
 ghost use Rattle.jc_link.specs.steps.ItemSteps.{IsLoaded};
 
+use crate::asked::Asked;
 use crate::item::item_error;
 use jc_access::names::name_of;
 use jc_base::name::Name;
-use jc_facts::client::{ClientClass, Item};
+use jc_facts::client::Item;
 use jc_facts::link_error::LinkError;
 use jc_facts::outcome::Outcome;
 use jc_table::ids::ClassId;
@@ -78,27 +79,27 @@ fn add_client(
     alloc: Global,
     outcomes: &mut Vec<Outcome>,
     table: &Table,
-    client: ClientClass,
+    asked: Asked,
 ) -> Result<(), AllocError>
     requires side { IsSide table.now }
-    requires items { IsTrue (ask_no_clinit client) }
-    ensures { OnOk result (outcomes.new.items ≡ outcomes.old.items ++ client_outcomes table.now client) }
+    requires items { IsTrue (asks_no_clinit asked) }
+    ensures { OnOk result (outcomes.new.items ≡ outcomes.old.items ++ outcomes_of_one table.now asked) }
 {
-    let ClientClass { facts, items } = client;
-    match loaded(table, facts.name.as_bytes()) {
+    let Asked { name, items } = asked;
+    match loaded(table, name.as_bytes()) {
         Ok(class) => {
-            add_loading(alloc, outcomes, &facts.name, None)?;
+            add_loading(alloc, outcomes, &name, None)?;
             add_items(alloc, outcomes, table, class, items.into_vec())?;
             Ok(())
         }
         Err(error) => {
-            add_loading(alloc, outcomes, &facts.name, Some(error))?;
+            add_loading(alloc, outcomes, &name, Some(error))?;
             Ok(())
         }
     }
 }
 
-/// The outcomes of the clients, as they stand.
+/// The outcomes of what is asked of clients, one after the other.
 ///
 /// # Errors
 ///
@@ -106,15 +107,15 @@ fn add_client(
 pub fn outcomes_in_order(
     alloc: Global,
     table: &Table,
-    clients: Vec<ClientClass>,
+    all: Vec<Asked>,
 ) -> Result<Vec<Outcome>, AllocError>
     requires side { IsSide table.now }
-    requires items { IsTrue (list_all ask_no_clinit clients.items) }
-    ensures { IfOk result (λ outcomes. outcomes.items ≡ all_outcomes table.now clients.items) }
+    requires items { IsTrue (list_all asks_no_clinit all.items) }
+    ensures { IfOk result (λ outcomes. outcomes.items ≡ outcomes_of_asked table.now all.items) }
 {
     let mut outcomes = Vec::new(alloc);
-    for client in clients {
-        add_client(alloc, &mut outcomes, table, client)?;
+    for asked in all {
+        add_client(alloc, &mut outcomes, table, asked)?;
     }
     Ok(outcomes)
 }

@@ -3,7 +3,7 @@ ghost use Rattle.std.specs.Prelude.{◌≡◌, ◌↔◌, IfOk, IsTrue};
 ghost use Rattle.std.specs.List.{All};
 ghost use Rattle.jc_facts.specs.client.Clients.{differ_by_name, facts_of, IsValidClient};
 
-use crate::link::joined;
+use jc_facts::class_facts::ClassFacts;
 use jc_facts::client::ClientClass;
 use jc_facts::client_validity::is_valid_client;
 use jc_table::plain;
@@ -26,6 +26,17 @@ pub fn are_valid(alloc: Global, clients: &[ClientClass]) -> Result<bool, AllocEr
     Ok(true)
 }
 
+// Copies of the records of the clients.
+fn records_of(alloc: Global, clients: &[ClientClass]) -> Result<Vec<ClassFacts>, AllocError>
+    ensures { IfOk result (λ classes. classes.items ≡ facts_of clients.now) }
+{
+    let mut classes = Vec::new(alloc);
+    for client in clients {
+        classes.push(client.facts.copy(alloc)?)?;
+    }
+    Ok(classes)
+}
+
 /// Whether no two of the clients have one name. The time grows with the square of their number.
 ///
 /// # Errors
@@ -34,6 +45,6 @@ pub fn are_valid(alloc: Global, clients: &[ClientClass]) -> Result<bool, AllocEr
 pub fn names_differ(alloc: Global, clients: &[ClientClass]) -> Result<bool, AllocError>
     ensures { IfOk result (λ differ. differ ≡ differ_by_name (facts_of clients.now)) }
 {
-    let facts = joined(alloc, Vec::new(alloc), clients)?;
+    let facts = records_of(alloc, clients)?;
     Ok(plain::names_differ(facts.as_slice()))
 }

@@ -9,7 +9,7 @@ use Rattle.jc_trees.specs.declared.file_fault.FileFault.TheVariants as faults
 use Rattle.jc_trees.specs.declared.limits.TheConstants.{MAX_BYTES}
 use Rattle.jc_trees.specs.ClassFiles.{IsReadIn, IsFileFault}
 use Rattle.jc_trees.specs.Tree.{TreeOf}
-use Rattle.jc_trees.specs.declared.tree.TreeName.{TreeName}
+use Rattle.jc_trees.specs.declared.tree.TreeKind.{TreeKind}
 use Rattle.jc_trees.specs.steps.ReadTree.{IsReadAt, IsFaultAt, AreReadAt, IsFirstOf}
 
 -- a front that isn't full is the whole
@@ -18,25 +18,26 @@ whole_front n bytes front is short =
     let long : length front ≡ length (take (n + 1) bytes) = ap length is in
     is ∙ take_all (n + 1) bytes (omega (arith, length-take (n + 1) bytes))
 
-pub read_told : (files : List FileOf) (tree : TreeOf) (path front : Bytes) (c : ClientClass) → ReadsFront (Some files) tree.root path (MAX_BYTES + 1) front → IsReadIn tree.name path front c
-    → IsReadAt files tree path c
-read_told files tree path front c r h =
+pub read_told : (files : List FileOf) (tree : TreeOf) (path front : Bytes) (c : ClientClass) (kind : TreeKind) → kind ≡ tree.kind → ReadsFront (Some files) tree.root path (MAX_BYTES + 1) front
+    → IsReadIn kind path front c → IsReadAt files tree path c
+read_told files tree path front c kind same r h =
     let is : front ≡ r.0 = whole_front MAX_BYTES r.0 front r.2 h.facts.short in
-    record { bytes = r.0; is_file = r.1; is_read = subst (λ (b : Bytes). IsReadIn tree.name path b c) is h }
+    record { bytes = r.0; is_file = r.1; is_read = subst (λ (k : TreeKind). IsReadIn k path r.0 c) same (subst (λ (b : Bytes). IsReadIn kind path b c) is h) }
 
 -- a fault of a front that isn't full is one of the whole, and a full one is too long
-fault_whole : (tree : TreeName) (path bytes front : Bytes) → front ≡ take (MAX_BYTES + 1) bytes → (fault : FileFault) → IsFileFault tree path front fault → IsFileFault tree path bytes fault
-fault_whole tree path bytes front is faults.TooLong f =
+fault_whole : (kind : TreeKind) (path bytes front : Bytes) → front ≡ take (MAX_BYTES + 1) bytes → (fault : FileFault) → IsFileFault kind path front fault → IsFileFault kind path bytes fault
+fault_whole kind path bytes front is faults.TooLong f =
     let long : length front ≡ length (take (MAX_BYTES + 1) bytes) = ap length is in
     omega (arith, length-take (MAX_BYTES + 1) bytes)
-fault_whole tree path bytes front is (faults.Malformed m) f = subst (λ (b : Bytes). IsFileFault tree path b (faults.Malformed m)) (whole_front MAX_BYTES bytes front is f.0) f
-fault_whole tree path bytes front is (faults.Misplaced name) f = subst (λ (b : Bytes). IsFileFault tree path b (faults.Misplaced name)) (whole_front MAX_BYTES bytes front is f.0) f
-fault_whole tree path bytes front is (faults.BadCode offset reason) f =
-    subst (λ (b : Bytes). IsFileFault tree path b (faults.BadCode offset reason)) (whole_front MAX_BYTES bytes front is f.1.1.short) f
+fault_whole kind path bytes front is (faults.Malformed m) f = subst (λ (b : Bytes). IsFileFault kind path b (faults.Malformed m)) (whole_front MAX_BYTES bytes front is f.0) f
+fault_whole kind path bytes front is (faults.Misplaced name) f = subst (λ (b : Bytes). IsFileFault kind path b (faults.Misplaced name)) (whole_front MAX_BYTES bytes front is f.0) f
+fault_whole kind path bytes front is (faults.BadCode offset reason) f =
+    subst (λ (b : Bytes). IsFileFault kind path b (faults.BadCode offset reason)) (whole_front MAX_BYTES bytes front is f.1.1.short) f
 
-pub fault_told : (files : List FileOf) (tree : TreeOf) (path front : Bytes) (fault : FileFault) → ReadsFront (Some files) tree.root path (MAX_BYTES + 1) front → IsFileFault tree.name path front fault
-    → IsFaultAt files tree path fault
-fault_told files tree path front fault r f = record { bytes = r.0; is_file = r.1; is_fault = fault_whole tree.name path r.0 front r.2 fault f }
+pub fault_told : (files : List FileOf) (tree : TreeOf) (path front : Bytes) (fault : FileFault) (kind : TreeKind) → kind ≡ tree.kind → ReadsFront (Some files) tree.root path (MAX_BYTES + 1) front
+    → IsFileFault kind path front fault → IsFaultAt files tree path fault
+fault_told files tree path front fault kind same r f =
+    record { bytes = r.0; is_file = r.1; is_fault = subst (λ (k : TreeKind). IsFileFault k path r.0 fault) same (fault_whole kind path r.0 front r.2 fault f) }
 
 -- one more file was read
 pub read_more : (files : List FileOf) (tree : TreeOf) (paths : List Bytes) (cs : List ClientClass) (path : Bytes) (c : ClientClass) → AreReadAt files tree paths cs → IsReadAt files tree path c

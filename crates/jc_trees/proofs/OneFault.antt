@@ -29,6 +29,7 @@ use Rattle.jc_trees.specs.declared.file_fault.FileFault.TheVariants as faults
 use Rattle.jc_trees.specs.declared.file_fault.TreeFault.{TreeFault}
 use Rattle.jc_trees.specs.declared.file_fault.TreeFault.TheVariants as tree_faults
 use Rattle.jc_trees.specs.declared.limits.TheConstants.{MAX_BYTES, MAX_PATH}
+use Rattle.jc_trees.specs.declared.tree.TreeKind.{TreeKind}
 use Rattle.jc_trees.specs.declared.tree.TreeName.{TreeName}
 use Rattle.jc_trees.specs.declared.trees_error.TreesError.TheVariants as trees_errors
 use Rattle.jc_trees.proofs.Results.{same_err, ok_or_err}
@@ -50,13 +51,13 @@ one_bad_code bytes o p r q (f, refused, at, why) (g, again, there, because) =
     (at ∙ ap (λ (x : CodeFault). length bytes - x.left) same ∙ sym there, why ∙ ap (λ (x : CodeFault). x.reason) same ∙ sym because)
 
 -- a fault leaves no class
-unreadable : (tree : TreeName) (path bytes : Bytes) (fault : FileFault) → IsFileFault tree path bytes fault → (c : ClientClass) → IsReadIn tree path bytes c → ⊥
-unreadable tree path bytes faults.TooLong f c r = apart_numbers (length bytes) MAX_BYTES r.facts.short f
-unreadable tree path bytes (faults.Malformed m) f c r = never_both bytes c.facts m.offset m.reason r.facts.reads f.1
-unreadable tree path bytes (faults.Misplaced name) (short, (other, reads, named, elsewhere)) c r =
+unreadable : (kind : TreeKind) (path bytes : Bytes) (fault : FileFault) → IsFileFault kind path bytes fault → (c : ClientClass) → IsReadIn kind path bytes c → ⊥
+unreadable kind path bytes faults.TooLong f c r = apart_numbers (length bytes) MAX_BYTES r.facts.short f
+unreadable kind path bytes (faults.Malformed m) f c r = never_both bytes c.facts m.offset m.reason r.facts.reads f.1
+unreadable kind path bytes (faults.Misplaced name) (short, (other, reads, named, elsewhere)) c r =
     elsewhere (r.facts.place ∙ ap (λ (f : ClassFacts). path_of f.name) (one_record bytes c.facts other r.facts.reads reads) ∙ ap path_of named)
-unreadable tree path bytes (faults.BadCode offset reason) (client, read, bad) c r =
-    no_bad_code bytes c.items offset reason (subst (λ (t : TreeName). items_in t bytes ≡ Ok c.items) client r.code) bad
+unreadable kind path bytes (faults.BadCode offset reason) (client, read, bad) c r =
+    no_bad_code bytes c.items offset reason (subst (λ (k : TreeKind). items_in k bytes ≡ Ok c.items) client r.code) bad
 
 one_malformed : (a b : Malformed) → a.offset ≡ b.offset → a.reason ≡ b.reason → a ≡ b
 one_malformed a b o r = ap (λ (x : ℕ). let m : Malformed = record { offset = x; reason = a.reason } in m) o ∙ ap (λ (x : Reason). let m : Malformed = record { offset = b.offset; reason = x } in m) r
@@ -67,28 +68,28 @@ unread_record bytes path facts r name other reads named elsewhere =
     elsewhere (r.place ∙ ap (λ (f : ClassFacts). path_of f.name) (one_record bytes facts other r.reads reads) ∙ ap path_of named)
 
 -- a file has one fault
-one_file_fault : (tree : TreeName) (path bytes : Bytes) (a b : FileFault) → IsFileFault tree path bytes a → IsFileFault tree path bytes b → a ≡ b
-one_file_fault tree path bytes faults.TooLong faults.TooLong f g = refl
-one_file_fault tree path bytes faults.TooLong (faults.Malformed n) f g = absurd (apart_numbers (length bytes) MAX_BYTES g.0 f)
-one_file_fault tree path bytes faults.TooLong (faults.Misplaced y) f g = absurd (apart_numbers (length bytes) MAX_BYTES g.0 f)
-one_file_fault tree path bytes faults.TooLong (faults.BadCode p q) f g = absurd (apart_numbers (length bytes) MAX_BYTES g.1.1.short f)
-one_file_fault tree path bytes (faults.Malformed m) faults.TooLong f g = absurd (apart_numbers (length bytes) MAX_BYTES f.0 g)
-one_file_fault tree path bytes (faults.Malformed m) (faults.Malformed n) f g =
+one_file_fault : (kind : TreeKind) (path bytes : Bytes) (a b : FileFault) → IsFileFault kind path bytes a → IsFileFault kind path bytes b → a ≡ b
+one_file_fault kind path bytes faults.TooLong faults.TooLong f g = refl
+one_file_fault kind path bytes faults.TooLong (faults.Malformed n) f g = absurd (apart_numbers (length bytes) MAX_BYTES g.0 f)
+one_file_fault kind path bytes faults.TooLong (faults.Misplaced y) f g = absurd (apart_numbers (length bytes) MAX_BYTES g.0 f)
+one_file_fault kind path bytes faults.TooLong (faults.BadCode p q) f g = absurd (apart_numbers (length bytes) MAX_BYTES g.1.1.short f)
+one_file_fault kind path bytes (faults.Malformed m) faults.TooLong f g = absurd (apart_numbers (length bytes) MAX_BYTES f.0 g)
+one_file_fault kind path bytes (faults.Malformed m) (faults.Malformed n) f g =
     let same = one_fault bytes m.offset n.offset m.reason n.reason f.1 g.1 in
     ap faults.Malformed (one_malformed m n same.0 same.1)
-one_file_fault tree path bytes (faults.Malformed m) (faults.Misplaced y) f (short, (facts, reads, named, elsewhere)) = absurd (never_both bytes facts m.offset m.reason reads f.1)
-one_file_fault tree path bytes (faults.Malformed m) (faults.BadCode p q) f (client, (facts, read), bad) = absurd (never_both bytes facts m.offset m.reason read.reads f.1)
-one_file_fault tree path bytes (faults.Misplaced x) faults.TooLong f g = absurd (apart_numbers (length bytes) MAX_BYTES f.0 g)
-one_file_fault tree path bytes (faults.Misplaced x) (faults.Malformed n) (short, (facts, reads, named, elsewhere)) g = absurd (never_both bytes facts n.offset n.reason reads g.1)
-one_file_fault tree path bytes (faults.Misplaced x) (faults.Misplaced y) (short, (facts, reads, named, elsewhere)) (long, (other, again, called, away)) =
+one_file_fault kind path bytes (faults.Malformed m) (faults.Misplaced y) f (short, (facts, reads, named, elsewhere)) = absurd (never_both bytes facts m.offset m.reason reads f.1)
+one_file_fault kind path bytes (faults.Malformed m) (faults.BadCode p q) f (client, (facts, read), bad) = absurd (never_both bytes facts m.offset m.reason read.reads f.1)
+one_file_fault kind path bytes (faults.Misplaced x) faults.TooLong f g = absurd (apart_numbers (length bytes) MAX_BYTES f.0 g)
+one_file_fault kind path bytes (faults.Misplaced x) (faults.Malformed n) (short, (facts, reads, named, elsewhere)) g = absurd (never_both bytes facts n.offset n.reason reads g.1)
+one_file_fault kind path bytes (faults.Misplaced x) (faults.Misplaced y) (short, (facts, reads, named, elsewhere)) (long, (other, again, called, away)) =
     ap faults.Misplaced (sym named ∙ ap (λ (c : ClassFacts). c.name) (one_record bytes facts other reads again) ∙ called)
-one_file_fault tree path bytes (faults.Misplaced x) (faults.BadCode p q) (short, (facts, reads, named, elsewhere)) (client, (other, read), bad) =
+one_file_fault kind path bytes (faults.Misplaced x) (faults.BadCode p q) (short, (facts, reads, named, elsewhere)) (client, (other, read), bad) =
     absurd (unread_record bytes path other read x facts reads named elsewhere)
-one_file_fault tree path bytes (faults.BadCode o r) faults.TooLong f g = absurd (apart_numbers (length bytes) MAX_BYTES f.1.1.short g)
-one_file_fault tree path bytes (faults.BadCode o r) (faults.Malformed n) (client, (facts, read), bad) g = absurd (never_both bytes facts n.offset n.reason read.reads g.1)
-one_file_fault tree path bytes (faults.BadCode o r) (faults.Misplaced y) (client, (other, read), bad) (short, (facts, reads, named, elsewhere)) =
+one_file_fault kind path bytes (faults.BadCode o r) faults.TooLong f g = absurd (apart_numbers (length bytes) MAX_BYTES f.1.1.short g)
+one_file_fault kind path bytes (faults.BadCode o r) (faults.Malformed n) (client, (facts, read), bad) g = absurd (never_both bytes facts n.offset n.reason read.reads g.1)
+one_file_fault kind path bytes (faults.BadCode o r) (faults.Misplaced y) (client, (other, read), bad) (short, (facts, reads, named, elsewhere)) =
     absurd (unread_record bytes path other read y facts reads named elsewhere)
-one_file_fault tree path bytes (faults.BadCode o r) (faults.BadCode p q) f g =
+one_file_fault kind path bytes (faults.BadCode o r) (faults.BadCode p q) f g =
     let same = one_bad_code bytes o p r q f.2 g.2 in
     ap (λ (x : ℕ). faults.BadCode x r) same.0 ∙ ap (faults.BadCode p) same.1
 
@@ -98,7 +99,7 @@ one_file_fault tree path bytes (faults.BadCode o r) (faults.BadCode p q) f g =
 before_fault : (files : List FileOf) (tree : TreeOf) (a b : Bytes) (f g : FileFault) → IsFirstFault files tree a f → IsFirstFault files tree b g → Before a b → ⊥
 before_fault files tree a b f g first second less =
     let r = second.before a first.bytes first.is_file less in
-    unreadable tree.name a first.bytes f first.is_fault r.0 r.1
+    unreadable tree.kind a first.bytes f first.is_fault r.0 r.1
 
 one_path : (files : List FileOf) (tree : TreeOf) (a b : Bytes) (f g : FileFault) → IsFirstFault files tree a f → IsFirstFault files tree b g → a ≡ b
 one_path files tree a b f g first second = go (slice_cmp nat_cmp a b) refl
@@ -113,7 +114,7 @@ one_first files tree a b f g first second =
     let path : a ≡ b = one_path files tree a b f g first second in
     let moved : IsFirstFault files tree b f = subst (λ (p : Bytes). IsFirstFault files tree p f) path first in
     let bytes : moved.bytes ≡ second.bytes = one_file files tree.root b moved.bytes second.bytes moved.is_file.is_file second.is_file.is_file in
-    let fault : f ≡ g = one_file_fault tree.name b second.bytes f g (subst (λ (x : Bytes). IsFileFault tree.name b x f) bytes moved.is_fault) second.is_fault in
+    let fault : f ≡ g = one_file_fault tree.kind b second.bytes f g (subst (λ (x : Bytes). IsFileFault tree.kind b x f) bytes moved.is_fault) second.is_fault in
     ap (λ (p : Bytes). tree_faults.File p f) path ∙ ap (tree_faults.File b) fault
 
 few_or_many : (files : List FileOf) (root : Bytes) → HasFewFiles files root → HasManyFiles files root → ⊥
@@ -140,7 +141,7 @@ one_tree_fault files tree (tree_faults.File p x) (tree_faults.File q y) f g = on
 clean_fault : (files : List FileOf) (tree : TreeOf) (fault : TreeFault) → IsClean files tree → IsTreeFault files tree fault → ⊥
 clean_fault files tree tree_faults.TooManyFiles c f = few_or_many files tree.root c.few f
 clean_fault files tree tree_faults.LongPath c f = short_or_long files tree.root c.short f.1
-clean_fault files tree (tree_faults.File p x) c f = let r = c.read p f.2.bytes f.2.is_file in unreadable tree.name p f.2.bytes x f.2.is_fault r.0 r.1
+clean_fault files tree (tree_faults.File p x) c f = let r = c.read p f.2.bytes f.2.is_file in unreadable tree.kind p f.2.bytes x f.2.is_fault r.0 r.1
 
 -- ---- trees
 

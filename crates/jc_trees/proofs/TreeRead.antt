@@ -27,7 +27,7 @@ use Rattle.jc_base.specs.States.{TreesState, Change}
 use Rattle.jc_trees.specs.declared.limits.TheConstants.{MAX_FILES, MAX_PATH}
 use Rattle.jc_trees.specs.ClassFiles.{Told, IsClassPathOf, AreClassPaths, path_of, items_in, IsReadIn, HasShortPaths, HasLongPath, IsFirstFault, IsClassIn, AreClasses}
 use Rattle.jc_trees.specs.Tree.{TreeOf}
-use Rattle.jc_trees.specs.declared.tree.TreeName.{TreeName}
+use Rattle.jc_trees.specs.declared.tree.TreeKind.{TreeKind}
 use Rattle.jc_trees.proofs.Results.{same_ok}
 use Rattle.jc_trees.specs.steps.ReadTree.{IsReadAt, AreReadAt, IsFirstOf, StopsAt, StopsIn}
 use Rattle.jc_trees.specs.ClassLists.{IsClassList}
@@ -109,14 +109,14 @@ read_there files tree (p ∷ ps) [] path r c = absurd r
 pub one_file : (files : List FileOf) (root path a b : Bytes) → IsFileAt files root path a → IsFileAt files root path b → a ≡ b
 one_file files root path a b h k = let same : Some a ≡ Some b = sym h ∙ k in cc
 
-readable : (files : List FileOf) (tree : TreeOf) (path bytes : Bytes) (c : ClientClass) → IsFileAt files tree.root path bytes → IsReadAt files tree path c → IsReadIn tree.name path bytes c
-readable files tree path bytes c is_file r = subst (λ (b : Bytes). IsReadIn tree.name path b c) (one_file files tree.root path r.bytes bytes r.is_file is_file) r.is_read
+readable : (files : List FileOf) (tree : TreeOf) (path bytes : Bytes) (c : ClientClass) → IsFileAt files tree.root path bytes → IsReadAt files tree path c → IsReadIn tree.kind path bytes c
+readable files tree path bytes c is_file r = subst (λ (b : Bytes). IsReadIn tree.kind path b c) (one_file files tree.root path r.bytes bytes r.is_file is_file) r.is_read
 
 -- a file is read as one class
-pub one_class : (tree : TreeName) (path bytes : Bytes) (a b : ClientClass) → IsReadIn tree path bytes a → IsReadIn tree path bytes b → a ≡ b
-one_class tree path bytes a b h k =
+pub one_class : (kind : TreeKind) (path bytes : Bytes) (a b : ClientClass) → IsReadIn kind path bytes a → IsReadIn kind path bytes b → a ≡ b
+one_class kind path bytes a b h k =
     ap (λ (f : ClassFacts). let c : ClientClass = record { facts = f; items = a.items } in c) (one_record bytes a.facts b.facts h.facts.reads k.facts.reads)
-    ∙ ap (λ (is : List Item). let c : ClientClass = record { facts = b.facts; items = is } in c) (same_ok (items_in tree bytes) a.items b.items h.code k.code)
+    ∙ ap (λ (is : List Item). let c : ClientClass = record { facts = b.facts; items = is } in c) (same_ok (items_in kind bytes) a.items b.items h.code k.code)
 
 -- ---- the tree
 
@@ -173,7 +173,7 @@ classes_are files tree paths cs exact few short r named = record {
     complete = λ class i.
         let t = read_there files tree paths cs i.path r (exact.complete i.path (record { held = (i.bytes, i.is_file.is_file); named = i.is_file.named })) in
         let h = readable files tree i.path i.bytes t.class i.is_file.is_file t.read in
-        let is : t.class ≡ class = one_class tree.name i.path i.bytes t.class class h i.is_read in
+        let is : t.class ≡ class = one_class tree.kind i.path i.bytes t.class class h i.is_read in
         subst (λ (k : ClientClass). Contains cs k) is t.is_in;
   };
 }

@@ -13,8 +13,8 @@ use Rattle.jc_facts.specs.file.ClassGrammar.{Reads}
 use Rattle.jc_facts.specs.file.ClassSteps.{IsFaulty}
 use Rattle.jc_trees.specs.Tree.{TreeOf}
 use Rattle.jc_trees.specs.declared.limits.TheConstants.{MAX_FILES, MAX_PATH, MAX_BYTES}
-use Rattle.jc_trees.specs.declared.tree.TreeName.{TreeName}
-use Rattle.jc_trees.specs.declared.tree.TreeName.TheVariants as names
+use Rattle.jc_trees.specs.declared.tree.TreeKind.{TreeKind}
+use Rattle.jc_trees.specs.declared.tree.TreeKind.TheVariants as kinds
 use Rattle.jc_trees.specs.declared.file_fault.FileFault.{FileFault}
 use Rattle.jc_trees.specs.declared.file_fault.FileFault.TheVariants as faults
 use Rattle.jc_trees.specs.declared.file_fault.TreeFault.{TreeFault}
@@ -56,27 +56,27 @@ pub record IsReadAs (path bytes : Bytes) (facts : ClassFacts) : Type 0 where
   pub reads : Reads bytes facts
   pub place : path ≡ path_of facts.name
 
--- the items that are read of a class file in a tree: those of its code in the tree of clients, and none in any other (JVMS 4.7.3)
-abbrev pub items_in : TreeName → Bytes → Result (List Item) CodeFault
-items_in names.Client bytes = items bytes
-items_in _ bytes = Ok []
+-- the items that are read of a class file: those of a client's code, and none of a library (JVMS 4.7.3)
+abbrev pub items_in : TreeKind → Bytes → Result (List Item) CodeFault
+items_in kinds.Clients bytes = items bytes
+items_in kinds.Library bytes = Ok []
 
--- in this tree the class file is read as this class: as its record, with the items that are read of it
-pub record IsReadIn (tree : TreeName) (path bytes : Bytes) (c : ClientClass) : Type 0 where
+-- in a tree of this kind the class file is read as this class: as its record, with the items that are read of it
+pub record IsReadIn (kind : TreeKind) (path bytes : Bytes) (c : ClientClass) : Type 0 where
   pub facts : IsReadAs path bytes c.facts
-  pub code : items_in tree bytes ≡ Ok c.items
+  pub code : items_in kind bytes ≡ Ok c.items
 
--- in this tree the class file is read
-abbrev pub IsReadable : TreeName → Bytes → Bytes → Type 0
-IsReadable tree path bytes = (c : ClientClass) × IsReadIn tree path bytes c
+-- in a tree of this kind the class file is read
+abbrev pub IsReadable : TreeKind → Bytes → Bytes → Type 0
+IsReadable kind path bytes = (c : ClientClass) × IsReadIn kind path bytes c
 
--- in this tree the class file isn't read, and this is why: its length, then its form with the first fault, then its place, then, of a client,
--- its code with the first refusal
-abbrev pub IsFileFault : TreeName → Bytes → Bytes → FileFault → Type 0
-IsFileFault tree path bytes faults.TooLong = MAX_BYTES < length bytes
-IsFileFault tree path bytes (faults.Malformed m) = (length bytes ≤ MAX_BYTES) × IsFaulty bytes m.offset m.reason
-IsFileFault tree path bytes (faults.Misplaced name) = (length bytes ≤ MAX_BYTES) × ((facts : ClassFacts) × Reads bytes facts × (facts.name ≡ name) × (path ≢ path_of name))
-IsFileFault tree path bytes (faults.BadCode offset reason) = (tree ≡ names.Client) × ((facts : ClassFacts) × IsReadAs path bytes facts) × IsBadCode bytes offset reason
+-- in a tree of this kind the class file isn't read, and this is why: its length, then its form with the first fault, then its place, then, of a
+-- client, its code with the first refusal
+abbrev pub IsFileFault : TreeKind → Bytes → Bytes → FileFault → Type 0
+IsFileFault kind path bytes faults.TooLong = MAX_BYTES < length bytes
+IsFileFault kind path bytes (faults.Malformed m) = (length bytes ≤ MAX_BYTES) × IsFaulty bytes m.offset m.reason
+IsFileFault kind path bytes (faults.Misplaced name) = (length bytes ≤ MAX_BYTES) × ((facts : ClassFacts) × Reads bytes facts × (facts.name ≡ name) × (path ≢ path_of name))
+IsFileFault kind path bytes (faults.BadCode offset reason) = (kind ≡ kinds.Clients) × ((facts : ClassFacts) × IsReadAs path bytes facts) × IsBadCode bytes offset reason
 
 -- ---- what is read of a tree
 
@@ -106,8 +106,8 @@ pub record HasLongPath (files : List FileOf) (root : Bytes) : Type 0 where
 pub record IsFirstFault (files : List FileOf) (tree : TreeOf) (path : Bytes) (fault : FileFault) : Type 0 where
   pub bytes : Bytes
   pub is_file : IsClassFile files tree.root path bytes
-  pub is_fault : IsFileFault tree.name path bytes fault
-  pub before : (other bytes : Bytes) → IsClassFile files tree.root other bytes → Before other path → IsReadable tree.name other bytes
+  pub is_fault : IsFileFault tree.kind path bytes fault
+  pub before : (other bytes : Bytes) → IsClassFile files tree.root other bytes → Before other path → IsReadable tree.kind other bytes
 
 -- the tree isn't read, and this is why: the number of its class files, then their paths, then one of them
 abbrev pub IsTreeFault : List FileOf → TreeOf → TreeFault → Type 0
@@ -119,24 +119,27 @@ IsTreeFault files tree (tree_faults.File path fault) = HasFewFiles files tree.ro
 pub record IsClean (files : List FileOf) (tree : TreeOf) : Type 0 where
   pub few : HasFewFiles files tree.root
   pub short : HasShortPaths files tree.root
-  pub read : (path bytes : Bytes) → IsClassFile files tree.root path bytes → IsReadable tree.name path bytes
+  pub read : (path bytes : Bytes) → IsClassFile files tree.root path bytes → IsReadable tree.kind path bytes
 
 -- what one of the tree's class files is read as
 pub record IsClassIn (files : List FileOf) (tree : TreeOf) (c : ClientClass) : Type 0 where
   pub path : Bytes
   pub bytes : Bytes
   pub is_file : IsClassFile files tree.root path bytes
-  pub is_read : IsReadIn tree.name path bytes c
+  pub is_read : IsReadIn tree.kind path bytes c
 
 -- the tree is read, and its class files are read as these classes, in the order of their paths
 pub record AreClasses (files : List FileOf) (tree : TreeOf) (cs : List ClientClass) : Type 0 where
   pub clean : IsClean files tree
   pub exact : HasExactly (by_names (λ c. path_of c.facts.name)) (IsClassIn files tree) cs
 
--- classes with nothing said of their code
-abbrev pub without_code : List ClassFacts → List ClientClass
-without_code records = map (λ c. record { facts = c; items = [] }) records
+-- classes of whose code nothing is read
+abbrev pub without_items : ClassFacts → ClientClass
+without_items c = record { facts = c; items = [] }
 
--- the tree is read, and these are the records of its class files, in the order of their paths: of its code nothing is read
+abbrev pub without_code : List ClassFacts → List ClientClass
+without_code records = map without_items records
+
+-- the tree is read, and these are the records of its class files, in the order of their paths
 abbrev pub AreRecords : List FileOf → TreeOf → List ClassFacts → Type 0
 AreRecords files tree records = AreClasses files tree (without_code records)

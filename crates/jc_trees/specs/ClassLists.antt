@@ -1,5 +1,5 @@
--- What lists of classes and of records are that are read of a tree, whether its files are told or not.
-use Rattle.std.specs.Prelude.{◌≤◌, List, length, IsTrue}
+-- What is read of a tree, whether its files are told or not.
+use Rattle.std.specs.Prelude.{◌≡◌, ◌≤◌, List, [], ◌∷◌, length, IsTrue}
 use Rattle.std.specs.List.{All}
 use Rattle.jc_bodies.specs.Files.{HasShortNames}
 use Rattle.jc_facts.specs.declared.class_facts.ClassFacts.{ClassFacts}
@@ -7,6 +7,10 @@ use Rattle.jc_facts.specs.declared.client.ClientClass.{ClientClass}
 use Rattle.jc_facts.specs.client.Clients.{IsValidClient, differ_by_name, facts_of}
 use Rattle.jc_facts.specs.file.Valid.{IsValidClass}
 use Rattle.jc_trees.specs.declared.limits.TheConstants.{MAX_FILES}
+use Rattle.jc_trees.specs.declared.tree.TreeKind.{TreeKind}
+use Rattle.jc_trees.specs.declared.tree.TreeKind.TheVariants as kinds
+use Rattle.jc_trees.specs.declared.tree_read.TreeRead.{TreeRead}
+use Rattle.jc_trees.specs.declared.tree_read.TreeRead.TheVariants as reads
 
 -- what the classes of a tree are: valid, with short names, no more than the limit, and their names differ
 pub record IsClassList (cs : List ClientClass) : Type 0 where
@@ -21,3 +25,18 @@ pub record IsRecordList (records : List ClassFacts) : Type 0 where
   pub short : All HasShortNames records
   pub differ : IsTrue (differ_by_name records)
   pub few : length records ≤ MAX_FILES
+
+-- what is read of a tree
+abbrev pub IsReadList : TreeRead → Type 0
+IsReadList (reads.Library records) = IsRecordList records
+IsReadList (reads.Clients cs) = IsClassList cs
+
+-- as what it is read
+abbrev pub kind_of : TreeRead → TreeKind
+kind_of (reads.Library records) = kinds.Library
+kind_of (reads.Clients cs) = kinds.Clients
+
+-- the first tree of all that were read was read so
+abbrev pub StartsAs : TreeKind → List TreeRead → Type 0
+StartsAs kind [] = ⊥
+StartsAs kind (read ∷ rest) = kind_of read ≡ kind

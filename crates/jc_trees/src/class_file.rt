@@ -1,15 +1,17 @@
 //! A class file at its path.
-ghost use Rattle.std.specs.Prelude.{◌≡◌, ◌≤◌, ◌↔◌, ℕ, List, Ok, length, IfOk, IfErr, IsTrue};
+ghost use Rattle.std.specs.Prelude.{◌≡◌, ◌≤◌, ◌↔◌, ℕ, List, [], Ok, length, IfOk, IfErr, IsTrue};
 ghost use Rattle.jc_facts.specs.declared.class_facts.ClassFacts.{ClassFacts};
 ghost use Rattle.jc_bodies.specs.Files.{HasShortNames};
 ghost use Rattle.jc_facts.specs.client.Clients.{IsValidClient};
 ghost use Rattle.jc_facts.specs.file.ClassGrammar.{Reads};
-ghost use Rattle.jc_trees.specs.ClassFiles.{is_class_path as is_class, path_of, items_in as items_of_tree, IsReadAs, IsReadIn, IsFileFault};
-ghost use Rattle.jc_trees.specs.declared.tree.TreeName.{TreeName};
+ghost use Rattle.jc_facts.specs.code.ClientItems.{items as items_of_code};
+ghost use Rattle.jc_facts.specs.declared.client.ClientClass.{ClientClass};
+ghost use Rattle.jc_trees.specs.ClassFiles.{is_class_path as is_class, path_of, without_items, IsReadAs, IsReadIn, IsFileFault};
+ghost use Rattle.jc_trees.specs.declared.tree.TreeKind.{TreeKind};
+ghost use Rattle.jc_trees.specs.declared.tree.TreeKind.TheVariants as kinds;
 
 use crate::file_fault::FileFault;
 use crate::limits::{MAX_BYTES, MAX_PATH};
-use crate::tree::TreeName;
 use jc_base::items::Items;
 use jc_base::recent_names::RecentNames;
 use jc_code::items::{CodeError, items_of};
@@ -49,7 +51,7 @@ fn record_of(
     requires { length path.now ≤ MAX_PATH }
     ensures read { IfOk result (λ found. IfOk found (IsReadAs path.now bytes.now)) }
     ensures short { IfOk result (λ found. IfOk found HasShortNames) }
-    ensures fault { IfOk result (λ found. IfErr found (λ fault. (tree : TreeName) → IsFileFault tree path.now bytes.now fault)) }
+    ensures fault { IfOk result (λ found. IfErr found (λ fault. (kind : TreeKind) → IsFileFault kind path.now bytes.now fault)) }
 {
     if bytes.len() > MAX_BYTES as usize {
         return Ok(Err(FileFault::TooLong));
@@ -67,20 +69,13 @@ fn record_of(
     }
 }
 
-// The items that are read of a class file in this tree, or why its code is refused.
-fn items_in(
-    alloc: Global,
-    tree: TreeName,
-    bytes: &[u8],
-) -> Result<Result<Vec<Item>, FileFault>, AllocError>
+// The items of a client's code, or why it is refused.
+fn items_in(alloc: Global, bytes: &[u8]) -> Result<Result<Vec<Item>, FileFault>, AllocError>
     requires { length bytes.now ≤ MAX_BYTES }
-    ensures read { IfOk result (λ found. IfOk found (λ items. items_of_tree tree bytes.now ≡ Ok items.items)) }
+    ensures read { IfOk result (λ found. IfOk found (λ items. items_of_code bytes.now ≡ Ok items.items)) }
     ensures valid { IfOk result (λ found. IfOk found (λ items. (facts : ClassFacts) → Reads bytes.now facts → IsValidClient (record { facts = facts; items = items.items }))) }
-    ensures fault { IfOk result (λ found. IfErr found (λ fault. (path : List ℕ) (facts : ClassFacts) → IsReadAs path bytes.now facts → IsFileFault tree path bytes.now fault)) }
+    ensures fault { IfOk result (λ found. IfErr found (λ fault. (path : List ℕ) (facts : ClassFacts) → IsReadAs path bytes.now facts → IsFileFault kinds.Clients path bytes.now fault)) }
 {
-    if tree != TreeName::Client {
-        return Ok(Ok(Vec::new(alloc)));
-    }
     match items_of(alloc, bytes) {
         Ok(items) => Ok(Ok(items)),
         Err(CodeError::BadCode { offset, reason }) => Ok(Err(FileFault::BadCode {
@@ -91,35 +86,72 @@ fn items_in(
     }
 }
 
-/// What a class file is read as in this tree, or why it isn't read: its record, where it stands at its
-/// class's place, and of a client the items of its code. The path isn't longer than the limit. Its
-/// names share the bytes of those of the files before.
-///
-/// # Errors
-///
-/// `AllocError` where memory runs out.
-pub fn class_in(
-    alloc: Global,
-    recent: &RecentNames,
-    tree: TreeName,
-    path: &str,
-    bytes: &[u8],
-) -> Result<Result<ClientClass, FileFault>, AllocError>
-    requires { length path.now ≤ MAX_PATH }
-    ensures read { IfOk result (λ found. IfOk found (IsReadIn tree path.now bytes.now)) }
-    ensures valid { IfOk result (λ found. IfOk found IsValidClient) }
-    ensures short { IfOk result (λ found. IfOk found (λ c. HasShortNames c.facts)) }
-    ensures fault { IfOk result (λ found. IfErr found (IsFileFault tree path.now bytes.now)) }
-{
-    let facts = match record_of(alloc, recent, path, bytes)? {
-        Ok(facts) => facts,
-        Err(fault) => return Ok(Err(fault)),
-    };
-    match items_in(alloc, tree, bytes)? {
-        Ok(items) => Ok(Ok(ClientClass {
-            facts,
-            items: Items::from_vec(items),
-        })),
-        Err(fault) => Ok(Err(fault)),
+/// What a class file of a tree is read as.
+pub(crate) trait FromFile: Drop {
+    /// How the tree is read.
+    ghost kind: { TreeKind };
+
+    /// The class, with the items that are read of it.
+    ghost client: { Self → ClientClass };
+
+    /// What the class file is read as, where it stands at its class's place, or why it isn't read. The
+    /// path isn't longer than the limit. Its names share the bytes of those of the files before.
+    ///
+    /// # Errors
+    ///
+    /// `AllocError` where memory runs out.
+    fn from_file(
+        alloc: Global,
+        recent: &RecentNames,
+        path: &str,
+        bytes: &[u8],
+    ) -> Result<Result<Self, FileFault>, AllocError>
+        requires { length path.now ≤ MAX_PATH }
+        ensures read { IfOk result (λ found. IfOk found (λ c. IsReadIn kind path.now bytes.now (client c))) }
+        ensures valid { IfOk result (λ found. IfOk found (λ c. IsValidClient (client c))) }
+        ensures short { IfOk result (λ found. IfOk found (λ c. HasShortNames (client c).facts)) }
+        ensures fault { IfOk result (λ found. IfErr found (IsFileFault kind path.now bytes.now)) };
+}
+
+impl FromFile for ClassFacts {
+    ghost kind = { kinds.Library };
+
+    ghost client = { without_items };
+
+    fn from_file(
+        alloc: Global,
+        recent: &RecentNames,
+        path: &str,
+        bytes: &[u8],
+    ) -> Result<Result<ClassFacts, FileFault>, AllocError> {
+        match record_of(alloc, recent, path, bytes)? {
+            Ok(facts) => Ok(Ok(facts)),
+            Err(fault) => Ok(Err(fault)),
+        }
+    }
+}
+
+impl FromFile for ClientClass {
+    ghost kind = { kinds.Clients };
+
+    ghost client = { λ c. c };
+
+    fn from_file(
+        alloc: Global,
+        recent: &RecentNames,
+        path: &str,
+        bytes: &[u8],
+    ) -> Result<Result<ClientClass, FileFault>, AllocError> {
+        let facts = match record_of(alloc, recent, path, bytes)? {
+            Ok(facts) => facts,
+            Err(fault) => return Ok(Err(fault)),
+        };
+        match items_in(alloc, bytes)? {
+            Ok(items) => Ok(Ok(ClientClass {
+                facts,
+                items: Items::from_vec(items),
+            })),
+            Err(fault) => Ok(Err(fault)),
+        }
     }
 }

@@ -7,4 +7,5 @@ pub mod limits;
 mod read_tree;
 pub mod read_trees;
 pub mod tree;
+pub mod tree_read;
 pub mod trees_error;

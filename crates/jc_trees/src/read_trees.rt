@@ -1,25 +1,24 @@
 //! Reading the trees of a command.
-ghost use Rattle.std.specs.Prelude.{◌≡◌, ◌≤◌, ℕ, List, map, length, IfOk, IfErr};
+ghost use Rattle.std.specs.Prelude.{◌≡◌, map, IfOk, IfErr};
 ghost use Rattle.std.specs.List.{All};
 ghost use Rattle.jc_base.specs.States.{change};
 ghost use Rattle.jc_trees.specs.ClassFiles.{Told};
 ghost use Rattle.jc_trees.specs.TreeView.{tree_of};
-ghost use Rattle.jc_trees.specs.ClassLists.{IsClassList};
-ghost use Rattle.jc_trees.specs.ReadTrees.{AreClassesOf, StopsAmong};
+ghost use Rattle.jc_trees.specs.ClassLists.{IsReadList, kind_of};
+ghost use Rattle.jc_trees.specs.ReadTrees.{GiveAll, StopsAmong};
 
 use crate::read_tree::read_tree;
 use crate::tree::Tree;
+use crate::tree_read::TreeRead;
 use crate::trees_error::TreesError;
 use jc_base::file_buf::FileBuf;
-use jc_base::items::Items;
 use jc_base::recent_names::RecentNames;
 use jc_base::trees::Trees;
-use jc_facts::client::ClientClass;
 use std::alloc::Global;
 
-/// What the class files of each of these trees are read as, in this order, or why the first tree that
-/// isn't read isn't. Of a class that is no client's there are no items. The bytes of all files go through
-/// one buffer, which is made first, and the long names of all share what is the same.
+/// What each of these trees is read as, in this order, or why the first tree that isn't read isn't. The
+/// bytes of all files go through one buffer, which is made first, and the long names of all share what is
+/// the same.
 ///
 /// # Errors
 ///
@@ -29,10 +28,10 @@ pub fn read_trees<T: Trees>(
     alloc: Global,
     wanted: &[Tree<'_>],
     trees: &mut T,
-) -> Result<Vec<Items<ClientClass>>, TreesError>
-    ensures read { IfOk result (λ all. Told (T.state trees.old).content (λ files. AreClassesOf files (map tree_of wanted.now) all.items)) }
-    ensures classes { IfOk result (λ all. All IsClassList all.items) }
-    ensures whole { IfOk result (λ all. length all.items ≡ length wanted.now) }
+) -> Result<Vec<TreeRead>, TreesError>
+    ensures read { IfOk result (λ all. Told (T.state trees.old).content (λ files. GiveAll files (map tree_of wanted.now) all.items)) }
+    ensures lists { IfOk result (λ all. All IsReadList all.items) }
+    ensures kinds { IfOk result (λ all. map kind_of all.items ≡ map (λ tree. tree.kind) (map tree_of wanted.now)) }
     ensures stopped { IfErr result (StopsAmong (change T.state trees.old trees.new) (map tree_of wanted.now)) }
     ensures content { (T.state trees.new).content ≡ (T.state trees.old).content }
 {
@@ -45,7 +44,7 @@ pub fn read_trees<T: Trees>(
     let mut all = Vec::new(alloc);
     for tree in wanted {
         match read_tree(alloc, tree, trees, &mut buffer, &recent) {
-            Ok(classes) => match all.push(Items::from_vec(classes)) {
+            Ok(read) => match all.push(read) {
                 Ok(()) => {}
                 Err(_) => return Err(TreesError::Memory),
             },

@@ -19,13 +19,13 @@ use Rattle.jc_trees.specs.declared.trees_error.TreesError.TheVariants as trees_e
 pub record IsReadAt (files : List FileOf) (tree : TreeOf) (path : Bytes) (c : ClientClass) : Type 0 where
   pub bytes : Bytes
   pub is_file : IsFileAt files tree.root path bytes
-  pub is_read : IsReadIn tree.name path bytes c
+  pub is_read : IsReadIn tree.kind path bytes c
 
 -- the file at the path isn't read, and this is why
 pub record IsFaultAt (files : List FileOf) (tree : TreeOf) (path : Bytes) (fault : FileFault) : Type 0 where
   pub bytes : Bytes
   pub is_file : IsFileAt files tree.root path bytes
-  pub is_fault : IsFileFault tree.name path bytes fault
+  pub is_fault : IsFileFault tree.kind path bytes fault
 
 -- the files at the paths are read as these classes
 abbrev pub AreReadAt : List FileOf → TreeOf → List Bytes → List ClientClass → Type 0

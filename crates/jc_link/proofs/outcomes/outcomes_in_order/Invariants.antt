@@ -1,10 +1,10 @@
 use Rattle.std.proofs.Common.{◌≡◌, ◌++◌}
 use Rattle.std.specs.Prelude.{IsTrue}
 use Rattle.std.specs.List.{list_all}
-use Rattle.jc_link.specs.steps.Asked.{ask_no_clinit}
-use Rattle.jc_facts.specs.client.Linked.{all_outcomes}
+use Rattle.jc_link.specs.steps.Asked.{asks_no_clinit, outcomes_of_asked}
 use Rattle.jc_link.proofs.outcomes.outcomes_in_order.Given as goal
 
-abbrev pub invariant-loop-client : goal.invariant-loop-client
-invariant-loop-client l =
-    IsTrue (list_all ask_no_clinit l.client-iterator.rest.items) × (l.outcomes.items ++ all_outcomes l.table l.client-iterator.rest.items ≡ all_outcomes l.table l.fn.clients.items)
+abbrev pub invariant-loop-asked : goal.invariant-loop-asked
+invariant-loop-asked l =
+    IsTrue (list_all asks_no_clinit l.asked-iterator.rest.items)
+    × (l.outcomes.items ++ outcomes_of_asked l.table l.asked-iterator.rest.items ≡ outcomes_of_asked l.table l.fn.all.items)

@@ -22,4 +22,4 @@ pub record Reading (tree : TreeOf) (taken : List Bytes) (cs : List ClientClass) 
 
 abbrev pub invariant-loop-path : goal.invariant-loop-path
 invariant-loop-path g l =
-    Reading (tree_of l.tree) (take l.path-index l.paths) l.classes.items (g.T.Trees.state l.fn.trees) (g.T.Trees.state l.trees)
+    Reading (tree_of l.tree) (take l.path-index l.paths) (map g.C.FromFile.client l.classes.items) (g.T.Trees.state l.fn.trees) (g.T.Trees.state l.trees)

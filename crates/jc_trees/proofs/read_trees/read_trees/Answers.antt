@@ -1,16 +1,16 @@
-use Rattle.std.proofs.Common.{◌∙◌, ◌∷◌, [], arith, length-append}
+use Rattle.std.proofs.Common.{◌∙◌, arith}
 use Rattle.std.proofs.lemmas.List.Elements.{All-push}
-use Rattle.jc_trees.specs.ClassLists.{IsClassList}
-use Rattle.jc_trees.proofs.TreesRead.{classes_more, stops_among}
+use Rattle.jc_trees.specs.ClassLists.{IsReadList}
+use Rattle.jc_trees.proofs.TreesRead.{one_more, kinds_more, stops_among}
 use Rattle.jc_trees.proofs.read_trees.read_trees.Goals as goal
 
 pub loop-tree-preserved : goal.loop-tree-preserved
 loop-tree-preserved g c = record {
-  read = λ files told. rw (c.in-Ok-push.ensures.items, c.from_vec.ensures)
-      (classes_more c.args.wanted.now c.loop-tree.tree-index _ c.loop-tree-test.true files c.loop-tree.all.items _
+  read = λ files told. rw c.in-Ok-push.ensures.items
+      (one_more c.args.wanted.now c.loop-tree.tree-index _ c.loop-tree-test.true files c.loop-tree.all.items _
       (c.loop-tree.invariant.read files told) (c.in-Ok-read_tree.ensures.read files (c.loop-tree.invariant.content ∙ told)));
-  classes = rw (c.in-Ok-push.ensures.items, c.from_vec.ensures) (All-push IsClassList c.loop-tree.all.items _ c.loop-tree.invariant.classes c.in-Ok-read_tree.ensures.classes);
-  whole = rw (c.in-Ok-push.ensures.items, c.from_vec.ensures) (omega (arith, length-append c.loop-tree.all.items (c.in-Ok-read_tree.classes.items ∷ []), c.loop-tree.invariant.whole));
+  lists = rw c.in-Ok-push.ensures.items (All-push IsReadList c.loop-tree.all.items _ c.loop-tree.invariant.lists c.in-Ok-read_tree.ensures.list);
+  kinds = rw c.in-Ok-push.ensures.items (kinds_more c.args.wanted.now c.loop-tree.tree-index _ c.loop-tree-test.true c.loop-tree.all.items _ c.loop-tree.invariant.kinds c.in-Ok-read_tree.ensures.kind);
   content = c.in-Ok-read_tree.ensures.content ∙ c.loop-tree.invariant.content;
   never_falls = λ r. omega (arith, c.in-Ok-read_tree.ensures.never_falls r, c.loop-tree.invariant.never_falls r);
 }

@@ -9,7 +9,7 @@ use Rattle.jc_facts.specs.world.World.{side}
 use Rattle.jc_worlds.proofs.ClientOrder.{sorted_differ}
 use Rattle.jc_link.proofs.Joined.{answer_is}
 use Rattle.jc_link.proofs.Sorting.{order_valid, order_length}
-use Rattle.jc_link.proofs.link.link.Goals as goal
+use Rattle.jc_link.proofs.link.link_over.Goals as goal
 
 pub outcomes_of_allowed-requires-clause-valid_clients : goal.outcomes_of_allowed-requires-clause-valid_clients
 outcomes_of_allowed-requires-clause-valid_clients c =
@@ -23,8 +23,8 @@ pub outcomes_of_allowed-requires-clause-few : goal.outcomes_of_allowed-requires-
 outcomes_of_allowed-requires-clause-few c =
     subst (λ n. length c.args.platform.now + (length c.args.release.items + n) ≤ 120000) (sym (ap length c.in-Ok.ensures ∙ order_length c.args.clients.items)) c.requires.few
 
-pub returns-in-Ok-None-clause-value : goal.returns-in-Ok-None-clause-value
-returns-in-Ok-None-clause-value c =
+pub returns-in-None-clause-value : goal.returns-in-None-clause-value
+returns-in-None-clause-value c =
     subst (λ (os : List Outcome). IfOk c.outcomes_of_allowed.result (λ list. list.items ≡ os))
     (ap (λ ds. all_outcomes (side c.args.platform.now (c.args.release.items ++ facts_of ds)) ds) c.in-Ok.ensures ∙ answer_is c.args.platform.now c.args.release.items c.args.clients.items c.requires.clients_differ)
     c.outcomes_of_allowed.ensures.value
