@@ -26,6 +26,7 @@ use Rattle.jc_witness.specs.Witnesses.{MeetsOnly}
 use Rattle.jc_witness.proofs.Ground.{can_write}
 use Rattle.jc_witness.proofs.Shown.{is_witness}
 use Rattle.jc_commands.specs.Check.{IsShown, puts_below}
+use Rattle.jc_commands.specs.Command.{CheckOf}
 use Rattle.jc_commands.specs.Witness.{causes_of, witness_puts}
 use Rattle.jc_commands.specs.declared.body.Body.{Body}
 use Rattle.jc_commands.specs.declared.body.Body.TheVariants as bodies
@@ -111,7 +112,7 @@ show_puts dir O N v (bodies.Bytes bytes) h = absurd h
 show_puts dir O N v (bodies.Row vs) h = absurd h
 show_puts dir O N v (bodies.Check check) h = shown_puts dir O N check.verdict check.shown h.1 ∙ ap (λ (w : Verdict). puts_below dir O N w) h.0
 
-module _ (warn : Bool) (platform old new : List ClassFacts) (c : Comparison) (is : IsComparison warn platform old new c) where
+module _ (check : CheckOf) (platform old new : List ClassFacts) (c : Comparison) (is : IsComparison check platform old new c) where
   can_show : (of : Shown) (v : Verdict) → of.old ≡ c.old → of.new ≡ c.new → v ≡ c.verdict → CanShow of v
   can_show of v o n e = record {
     platform = ap (λ (W : World). W.platform) (o ∙ is.old_is) ∙ sym (ap (λ (W : World). W.platform) (n ∙ is.new_is));

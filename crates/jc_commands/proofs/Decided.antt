@@ -1,12 +1,13 @@
 -- Any words and files are refused or accepted.
-use Rattle.std.proofs.Common.{◌∙◌, ◌≡◌, ◌≤◌, ◌⊎◌, inl, inr, Bool, true, false, List, [], ◌∷◌, length, Option, Some, None, refl, sym, subst}
+use Rattle.std.proofs.Common.{◌∙◌, ◌≡◌, ◌≤◌, ◌⊎◌, inl, inr, Bool, true, false, ℕ, ◌+◌, List, [], ◌∷◌, map, length, Option, Some, None, refl, sym, subst}
 use Rattle.std.specs.Prelude.{IsOkAnd, IsTrue, Result, Ok, Err, nat_lt}
-use Rattle.std.specs.List.{All, AllZip}
+use Rattle.std.specs.List.{All}
 use Rattle.std.proofs.lemmas.Bool.{ltb-true, ltb-false}
 use Rattle.std.proofs.lemmas.List.Elements.{All-from_recursion, recursion_from_All}
 use Rattle.jc_base.specs.Outside.{FileOf}
+use Rattle.jc_dropped.specs.declared.dropped.Dropped.{Dropped}
+use Rattle.jc_dropped.specs.Dropped.{AreDropped}
 use Rattle.jc_facts.specs.declared.class_facts.ClassFacts.{ClassFacts}
-use Rattle.jc_facts.specs.declared.client.ClientClass.{ClientClass}
 use Rattle.jc_facts.specs.declared.verdict.Verdict.{Verdict}
 use Rattle.jc_facts.specs.declared.warning.Warning.{Warning}
 use Rattle.jc_facts.specs.client.Linked.{outcomes}
@@ -25,46 +26,74 @@ use Rattle.jc_gate.specs.Gates.{GateOf}
 use Rattle.jc_words.specs.declared.usage.Usage.{Usage}
 use Rattle.jc_commands.specs.Causes.{IsRefused, IsAccepted}
 use Rattle.jc_trees.specs.FirstTree.{IsFirstUnread}
-use Rattle.jc_commands.specs.Check.{CheckRecords, is_apart, over_findings, over_warnings, AreWarned, mismatch_of, report_of}
+use Rattle.jc_commands.specs.Check.{CheckRecords, is_apart, over_findings, over_warnings, over_dropped, AreWarned, mismatch_of, report_of}
 use Rattle.jc_trees.specs.ClassFiles.{IsClassIn, AreRecords, without_code}
-use Rattle.jc_commands.specs.Command.{CommandOf, CheckOf, HistoryOf, CheckCommand, LinkCommand, MakeCommand, HistoryCommand, release_trees, trees_of, asked_of}
+use Rattle.jc_commands.specs.Command.{CommandOf, CheckOf, LinkOf, HistoryOf, CheckCommand, LinkCommand, MakeCommand, HistoryCommand, release_trees, trees_of, asked_of}
 use Rattle.jc_commands.specs.History.{HistoryRecords, row_of, mismatch_of_row}
 use Rattle.jc_history.specs.Row.{Step, steps_of, AreVerdicts}
 use Rattle.jc_history.proofs.RowVerdicts.{all_few}
-use Rattle.jc_commands.specs.Link.{refusal_of}
+use Rattle.jc_commands.specs.Link.{LinkRecords, refusal_of}
 use Rattle.jc_commands.specs.Reports.{RecordsOf, ReportOf, Refuses, Accepts, IsReportOn}
-use Rattle.jc_trees.specs.Tree.{TreeOf}
-use Rattle.jc_commands.specs.declared.limits.TheConstants.{MAX_FINDINGS, MAX_WARNINGS}
+use Rattle.jc_trees.specs.Tree.{TreeOf, library_at, clients_at}
+use Rattle.jc_commands.specs.declared.limits.TheConstants.{MAX_FINDINGS, MAX_WARNINGS, MAX_DROPPED}
 use Rattle.jc_commands.specs.declared.stop.Part.TheVariants as parts
 use Rattle.jc_commands.specs.declared.stop.Stop.{Stop}
 use Rattle.jc_commands.specs.declared.stop.Stop.TheVariants as stops
-use Rattle.jc_trees.specs.ReadTrees.{AreClassesOf}
+use Rattle.jc_trees.specs.ReadTrees.{GiveAll}
+use Rattle.jc_trees.specs.declared.tree_read.TreeRead.{TreeRead}
+use Rattle.jc_trees.specs.declared.tree_read.TreeRead.TheVariants as reads
+use Rattle.jc_trees.proofs.OneRead.{FirstLibrary, first_library, first_clients}
+use Rattle.jc_trees.specs.declared.tree.TreeName.{TreeName}
+use Rattle.jc_trees.specs.declared.tree.TreeName.TheVariants as names
 use Rattle.jc_commands.specs.ReportValue.{IsSized}
 use Rattle.jc_commands.proofs.Asked.{is_sized}
 use Rattle.jc_commands.proofs.Events.{for_ok}
-use Rattle.jc_commands.proofs.Records.{check_records, link_records, history_records, first_none, unmapped, IsOfRecords, refuses_says}
+use Rattle.jc_commands.proofs.Records.{first_none, unmapped, IsOfRecords, refuses_says}
 use Rattle.jc_commands.proofs.RowVerdicts.{some_row, few_or_many}
-use Rattle.jc_commands.proofs.Releases.{made_verdict}
+use Rattle.jc_commands.proofs.MadeReleases.{made_verdict}
 use Rattle.jc_commands.proofs.SomeVerdict.{some_verdict, some_warnings}
+use Rattle.jc_commands.proofs.SomeSignatures.{noted_on}
+use Rattle.jc_commands.proofs.SomeDropped.{some_dropped, dropped_are_one, dropped_on}
 use Rattle.jc_trees.proofs.SomeTrees.{TreesAreRead, some_trees}
 
 -- ---- the records
 
--- three trees are asked for, or none
-records_from : (files : List FileOf) (command : CommandOf) → IsSized command → (all : List (List ClientClass)) → AreClassesOf files (trees_of command) all → RecordsOf files command
-records_from files (CheckCommand check) sized (p ∷ o ∷ n ∷ []) h = check_records files check p o n h
-records_from files (CheckCommand check) sized [] h = absurd h
-records_from files (CheckCommand check) sized (p ∷ []) h = absurd h.1
-records_from files (CheckCommand check) sized (p ∷ o ∷ []) h = absurd h.1.1
-records_from files (CheckCommand check) sized (p ∷ o ∷ n ∷ m ∷ more) h = absurd h.1.1.1
-records_from files (LinkCommand link) sized (p ∷ r ∷ cs ∷ []) h = link_records files link p r cs h
-records_from files (LinkCommand link) sized [] h = absurd h
-records_from files (LinkCommand link) sized (p ∷ []) h = absurd h.1
-records_from files (LinkCommand link) sized (p ∷ r ∷ []) h = absurd h.1.1
-records_from files (LinkCommand link) sized (p ∷ r ∷ cs ∷ m ∷ more) h = absurd h.1.1.1
+module _ (files : List FileOf) where
+  library : (name : TreeName) (root : Bytes) (trees : List TreeOf) (all : List TreeRead) → GiveAll files (library_at name root ∷ trees) all → FirstLibrary files (library_at name root) trees all
+  library name root trees all h = first_library files (library_at name root) trees all refl h
+
+  check_records : (check : CheckOf) (all : List TreeRead) → GiveAll files (trees_of (CheckCommand check)) all → CheckRecords files check
+  check_records check all h =
+      let p = library names.Platform check.platform (library_at names.Old check.old ∷ library_at names.New check.new ∷ []) all h in
+      let o = library names.Old check.old (library_at names.New check.new ∷ []) p.rest p.others in
+      let n = library names.New check.new [] o.rest o.others in
+      record { platform = p.records; old = o.records; new = n.records; are = ((refl, p.are), ((refl, o.are), ((refl, n.are), tt))) }
+
+  link_records : (link : LinkOf) (all : List TreeRead) → GiveAll files (trees_of (LinkCommand link)) all → LinkRecords files link
+  link_records link all h =
+      let p = library names.Platform link.platform (library_at names.Release link.release ∷ clients_at names.Client link.client ∷ []) all h in
+      let r = library names.Release link.release (clients_at names.Client link.client ∷ []) p.rest p.others in
+      let cs = first_clients files (clients_at names.Client link.client) [] r.rest refl r.others in
+      record { platform = p.records; release = r.records; clients = cs.clients; are = ((refl, p.are), ((refl, r.are), ((refl, cs.are), tt))) }
+
+  release_records : (n : ℕ) (roots : List Bytes) (all : List TreeRead) → GiveAll files (release_trees n roots) all → (rs : List (List ClassFacts)) × GiveAll files (release_trees n roots) (map reads.Library rs)
+  release_records n [] all h = ([], tt)
+  release_records n (root ∷ roots) all h =
+      let r = library (names.NthRelease n) root (release_trees (n + 1) roots) all h in
+      let rs = release_records (n + 1) roots r.rest r.others in
+      (r.records ∷ rs.0, ((refl, r.are), rs.1))
+
+  history_records : (history : HistoryOf) (all : List TreeRead) → GiveAll files (trees_of (HistoryCommand history)) all → HistoryRecords files history
+  history_records history all h =
+      let p = library names.Platform history.platform (release_trees 1 history.releases) all h in
+      let rs = release_records 1 history.releases p.rest p.others in
+      record { platform = p.records; releases = rs.0; are = ((refl, p.are), rs.1) }
+
+records_from : (files : List FileOf) (command : CommandOf) → IsSized command → (all : List TreeRead) → GiveAll files (trees_of command) all → RecordsOf files command
+records_from files (CheckCommand check) sized all h = check_records files check all h
+records_from files (LinkCommand link) sized all h = link_records files link all h
 records_from files (MakeCommand n) sized all h = sized
-records_from files (HistoryCommand c) sized (p ∷ rs) h = history_records files c p rs h
-records_from files (HistoryCommand c) sized [] h = absurd h
+records_from files (HistoryCommand history) sized all h = history_records files history all h
 
 class_valid : (files : List FileOf) (tree : TreeOf) (c : ClassFacts) → IsClassIn files tree (record { facts = c; items = [] }) → IsValidClass c
 class_valid files tree c i = read_valid i.bytes c i.is_read.facts.reads
@@ -81,30 +110,29 @@ valid_records files tree records are =
 verdict_on : (files : List FileOf) (check : CheckOf) (s : CheckRecords files check) → mismatch_of s.platform s.old s.new ≡ None → (v : Verdict) × IsVerdict (side s.platform s.old) (side s.platform s.new) v
 verdict_on files check s fits =
     let root : fault_of_root s.platform ≡ None = unmapped stops.BadRoot (fault_of_root s.platform) (first_none _ _ fits) in
-    some_verdict s.platform s.old s.new (has_root s.platform (sym root)) (valid_records files _ s.platform s.platform_is) (valid_records files _ s.old s.old_is) (valid_records files _ s.new s.new_is)
+    some_verdict s.platform s.old s.new (has_root s.platform (sym root)) (valid_records files _ s.platform s.are.0.1) (valid_records files _ s.old s.are.1.0.1) (valid_records files _ s.new s.are.1.1.0.1)
 
 -- and there are warnings on them
 warnings_on : (files : List FileOf) (check : CheckOf) (s : CheckRecords files check) → mismatch_of s.platform s.old s.new ≡ None → (ws : List Warning) × AreWarnings (side s.platform s.old) (side s.platform s.new) ws
 warnings_on files check s fits =
     let root : fault_of_root s.platform ≡ None = unmapped stops.BadRoot (fault_of_root s.platform) (first_none _ _ fits) in
-    some_warnings s.platform s.old s.new (has_root s.platform (sym root)) (valid_records files _ s.platform s.platform_is) (valid_records files _ s.old s.old_is) (valid_records files _ s.new s.new_is)
+    some_warnings s.platform s.old s.new (has_root s.platform (sym root)) (valid_records files _ s.platform s.are.0.1) (valid_records files _ s.old s.are.1.0.1) (valid_records files _ s.new s.are.1.1.0.1)
 
 -- those that are reported
 warned_on : (warn : Bool) (O N : World) (ws : List Warning) → AreWarnings O N ws → (IsTrue warn → (vs : List Warning) → AreWarnings O N vs → length vs ≤ MAX_WARNINGS) → (o : Option (List Warning)) × AreWarned warn O N o
 warned_on false O N ws is few = (None, tt)
 warned_on true O N ws is few = (Some ws, (is, few refl ws is))
 
-valid_releases : (files : List FileOf) (trees : List TreeOf) (releases : List (List ClassFacts)) → AllZip (AreRecords files) trees releases → EachOf (All IsValidClass) releases
-valid_releases files [] [] h = tt
+valid_releases : (files : List FileOf) (trees : List TreeOf) (releases : List (List ClassFacts)) → GiveAll files trees (map reads.Library releases) → EachOf (All IsValidClass) releases
+valid_releases files trees [] h = tt
 valid_releases files [] (r ∷ rs) h = absurd h
-valid_releases files (t ∷ trees) [] h = absurd h
-valid_releases files (t ∷ trees) (r ∷ rs) h = (valid_records files t r h.0, valid_releases files trees rs h.1)
+valid_releases files (t ∷ trees) (r ∷ rs) h = (valid_records files t r h.0.1, valid_releases files trees rs h.1)
 
 -- each two neighbours have a verdict
 verdicts_on : (files : List FileOf) (h : HistoryOf) (s : HistoryRecords files h) → mismatch_of_row s.platform s.releases ≡ None → (vs : List Verdict) × AreVerdicts (steps_of (row_of s.platform s.releases)) vs
 verdicts_on files h s fits =
     let root : fault_of_root s.platform ≡ None = unmapped stops.BadRoot (fault_of_root s.platform) (first_none _ _ fits) in
-    some_row s.platform s.releases (has_root s.platform (sym root)) (valid_records files _ s.platform s.platform_is) (valid_releases files (release_trees 1 h.releases) s.releases s.releases_are)
+    some_row s.platform s.releases (has_root s.platform (sym root)) (valid_records files _ s.platform s.are.0.1) (valid_releases files (release_trees 1 h.releases) s.releases s.are.1)
 
 abbrev Decided : (files : List FileOf) (command : CommandOf) → RecordsOf files command → Type 0
 Decided files command r = Accepts files command r ⊎ ((stop : Stop) × Refuses files command r stop)
@@ -112,18 +140,35 @@ Decided files command r = Accepts files command r ⊎ ((stop : Stop) × Refuses 
 decided : (files : List FileOf) (command : CommandOf) (r : RecordsOf files command) → Decided files command r
 decided files (CheckCommand check) r = by_records (mismatch_of r.platform r.old r.new) refl
   where
+    by_dropped : mismatch_of r.platform r.old r.new ≡ None → ((w : Verdict) → IsVerdict (side r.platform r.old) (side r.platform r.new) w → count_of w ≤ MAX_FINDINGS)
+        → (IsTrue check.warn → (ws : List Warning) → AreWarnings (side r.platform r.old) (side r.platform r.new) ws → length ws ≤ MAX_WARNINGS) → (b : Bool) → check.dropped ≡ b
+        → (ds : List Dropped) × AreDropped (side r.platform r.old) (side r.platform r.new) ds → Decided files (CheckCommand check) r
+    by_dropped fits few warned false e ds = inl (record { fits = fits; few = few; few_warnings = warned; few_dropped = λ w. absurd (let clash : false ≡ true = sym e ∙ w in cc) })
+    by_dropped fits few warned true e (ds, is) = by_length (nat_lt MAX_DROPPED (length ds)) refl
+      where
+        by_length : (b : Bool) → nat_lt MAX_DROPPED (length ds) ≡ b → Decided files (CheckCommand check) r
+        by_length true q =
+            inr (stops.TooMany parts.Dropped, over_dropped e refl (record { fits = fits; few = few; few_warnings = warned; dropped = ds; exact = is; many = ltb-true MAX_DROPPED (length ds) q }))
+        by_length false q = inl (record {
+          fits = fits;
+          few = few;
+          few_warnings = warned;
+          few_dropped = λ w es k. subst (λ (xs : List Dropped). length xs ≤ MAX_DROPPED) (dropped_are_one (side r.platform r.old) (side r.platform r.new) ds es is k) (ltb-false MAX_DROPPED (length ds) q);
+        })
+
+    at_dropped : mismatch_of r.platform r.old r.new ≡ None → ((w : Verdict) → IsVerdict (side r.platform r.old) (side r.platform r.new) w → count_of w ≤ MAX_FINDINGS)
+        → (IsTrue check.warn → (ws : List Warning) → AreWarnings (side r.platform r.old) (side r.platform r.new) ws → length ws ≤ MAX_WARNINGS) → Decided files (CheckCommand check) r
+    at_dropped fits few warned = by_dropped fits few warned check.dropped refl (some_dropped (side r.platform r.old) (side r.platform r.new))
+
     by_warnings : mismatch_of r.platform r.old r.new ≡ None → ((w : Verdict) → IsVerdict (side r.platform r.old) (side r.platform r.new) w → count_of w ≤ MAX_FINDINGS) → (b : Bool) → check.warn ≡ b
         → (ws : List Warning) × AreWarnings (side r.platform r.old) (side r.platform r.new) ws → Decided files (CheckCommand check) r
-    by_warnings fits few false e ws = inl (record { fits = fits; few = few; few_warnings = λ w. absurd (let clash : false ≡ true = sym e ∙ w in cc) })
+    by_warnings fits few false e ws = at_dropped fits few (λ w. absurd (let clash : false ≡ true = sym e ∙ w in cc))
     by_warnings fits few true e (ws, is) = by_length (nat_lt MAX_WARNINGS (length ws)) refl
       where
         by_length : (b : Bool) → nat_lt MAX_WARNINGS (length ws) ≡ b → Decided files (CheckCommand check) r
         by_length true q = inr (stops.TooMany parts.Warnings, over_warnings e refl (record { fits = fits; few = few; warnings = ws; exact = is; many = ltb-true MAX_WARNINGS (length ws) q }))
-        by_length false q = inl (record {
-          fits = fits;
-          few = few;
-          few_warnings = λ w vs k. subst (λ (xs : List Warning). length xs ≤ MAX_WARNINGS) (warnings_are_one (side r.platform r.old) (side r.platform r.new) ws vs is k) (ltb-false MAX_WARNINGS (length ws) q);
-        })
+        by_length false q =
+            at_dropped fits few (λ w vs k. subst (λ (xs : List Warning). length xs ≤ MAX_WARNINGS) (warnings_are_one (side r.platform r.old) (side r.platform r.new) ws vs is k) (ltb-false MAX_WARNINGS (length ws) q))
 
     by_count : mismatch_of r.platform r.old r.new ≡ None → (v : Verdict) → IsVerdict (side r.platform r.old) (side r.platform r.new) v → (b : Bool) → nat_lt MAX_FINDINGS (count_of v) ≡ b → Decided files (CheckCommand check) r
     by_count fits v is true e = inr (stops.TooMany parts.Findings, over_findings refl (record { fits = fits; verdict = v; exact = is; many = ltb-true MAX_FINDINGS (count_of v) e }))
@@ -153,7 +198,9 @@ accepted_report files (CheckCommand check) r a =
     let v = verdict_on files check r a.fits in
     let ws = warnings_on files check r a.fits in
     let o = warned_on check.warn (side r.platform r.old) (side r.platform r.new) ws.0 ws.1 a.few_warnings in
-    (report_of v.0 o.0, record { verdict = record { fits = a.fits; exact = v.1; few = a.few v.0 v.1 }; warnings = o.1 })
+    let ns = noted_on check.signatures (side r.platform r.old) (side r.platform r.new) in
+    let ds = dropped_on check.dropped (side r.platform r.old) (side r.platform r.new) a.few_dropped in
+    (report_of v.0 o.0 ns.0 ds.0, record { verdict = record { fits = a.fits; exact = v.1; few = a.few v.0 v.1 }; warnings = o.1; signatures = ns.1; dropped = ds.1 })
 accepted_report files (LinkCommand link) r a = (outcomes (side r.platform r.release) r.clients, record { fits = a; exact = refl })
 accepted_report files (MakeCommand n) r a = made_verdict n r
 accepted_report files (HistoryCommand c) r a =

@@ -1,5 +1,5 @@
 -- The first event: there is at most one refusal, and none where there is a report.
-use Rattle.std.proofs.Common.{◌≡◌, ◌⊎◌, inl, inr, ℕ, List, [], ◌∷◌, Option, Some, refl, sym, ap, subst, ◌∙◌}
+use Rattle.std.proofs.Common.{◌≡◌, ◌⊎◌, inl, inr, ℕ, List, [], ◌∷◌, map, Option, Some, refl, sym, ap, subst, ◌∙◌}
 use Rattle.std.specs.Prelude.{Result, Ok, Err, IsOkAnd}
 use Rattle.jc_base.specs.Outside.{FileOf}
 use Rattle.jc_base.specs.States.{TreesState, Change}
@@ -10,11 +10,6 @@ use Rattle.jc_commands.specs.Causes.{IsRefusedTo, IsRefused, IsAccepted, HasCaus
 use Rattle.jc_trees.specs.FirstTree.{IsFirstUnread}
 use Rattle.jc_commands.specs.Command.{CommandOf, CheckCommand, LinkCommand, MakeCommand, HistoryCommand, trees_of, asked_of}
 use Rattle.jc_commands.specs.Reports.{ToldTo, RecordsOf, ReportOf, Refuses, Accepts, IsReportOn}
-use Rattle.jc_commands.specs.Command.{release_trees}
-use Rattle.jc_facts.specs.declared.class_facts.ClassFacts.{ClassFacts}
-use Rattle.jc_trees.specs.ClassFiles.{AreRecords}
-use Rattle.jc_trees.specs.Tree.{TreeOf}
-use Rattle.std.specs.List.{AllZip}
 use Rattle.jc_commands.specs.Stop.{status_of}
 use Rattle.jc_trees.specs.declared.file_fault.TreeFault.{TreeFault}
 use Rattle.jc_commands.specs.declared.status.TheConstants.{PASSED, NOT_PASSED, READ_FAULT, WRITE_FAULT, NO_MEMORY}
@@ -24,21 +19,18 @@ use Rattle.jc_trees.specs.declared.tree.TreeName.{TreeName}
 use Rattle.jc_commands.proofs.Records.{one_refused, accepted_or_refused, report_accepted}
 use Rattle.jc_trees.proofs.Results.{same_ok, same_err, ok_or_err}
 use Rattle.jc_trees.proofs.OneFault.{one_unread, AreClean, all_clean}
+use Rattle.jc_trees.proofs.OneRead.{all_read_clean}
+use Rattle.jc_trees.specs.declared.tree_read.TreeRead.TheVariants as reads
 use Rattle.jc_commands.specs.steps.Trees.{stop_by_trees}
 
 -- ---- the trees of a command
 
-clean_releases : (files : List FileOf) (trees : List TreeOf) (releases : List (List ClassFacts)) → AllZip (AreRecords files) trees releases → AreClean files trees
-clean_releases files [] releases h = tt
-clean_releases files (t ∷ trees) [] h = absurd h
-clean_releases files (t ∷ trees) (r ∷ rs) h = (h.0.clean, clean_releases files trees rs h.1)
-
 -- a command that has records has trees that are read
 clean_records : (files : List FileOf) (command : CommandOf) → RecordsOf files command → AreClean files (trees_of command)
-clean_records files (CheckCommand check) r = (r.platform_is.clean, (r.old_is.clean, (r.new_is.clean, tt)))
-clean_records files (LinkCommand link) r = (r.platform_is.clean, (r.release_is.clean, (r.clients_are.clean, tt)))
+clean_records files (CheckCommand check) r = all_read_clean files (trees_of (CheckCommand check)) (reads.Library r.platform ∷ reads.Library r.old ∷ reads.Library r.new ∷ []) r.are
+clean_records files (LinkCommand link) r = all_read_clean files (trees_of (LinkCommand link)) (reads.Library r.platform ∷ reads.Library r.release ∷ reads.Clients r.clients ∷ []) r.are
 clean_records files (MakeCommand n) r = tt
-clean_records files (HistoryCommand h) r = (r.platform_is.clean, clean_releases files (release_trees 1 h.releases) r.releases r.releases_are)
+clean_records files (HistoryCommand h) r = all_read_clean files (trees_of (HistoryCommand h)) (reads.Library r.platform ∷ map reads.Library r.releases) r.are
 
 -- ---- a command
 

@@ -13,9 +13,13 @@ pub mod Causes
 pub mod Declarations
 pub mod Subjects
 pub mod SomeVerdict
-pub mod Releases
+pub mod SomeSignatures
+pub mod SomeDropped
+pub mod MadeReleases
 pub mod RulesTell
 pub mod StepSaid
 pub mod RowVerdicts
+pub mod TreesTaken
+pub mod ReleasesOver
 pub mod RowJudged
 pub mod Decided

@@ -275,7 +275,7 @@ module _ (O N : World) where
 
 -- ---- the lists
 
-last_tied : (o : Ordering) → ordering_then o Equal ≡ o
+pub last_tied : (o : Ordering) → ordering_then o Equal ≡ o
 last_tied Less = refl
 last_tied Equal = refl
 last_tied Greater = refl

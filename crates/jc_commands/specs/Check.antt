@@ -1,16 +1,19 @@
--- A check of two releases: what it reads, why that is refused, its verdict, and its warnings where they are asked for.
-use Rattle.std.specs.Prelude.{◌≡◌, ◌≢◌, ◌≤◌, ◌<◌, ◌⊎◌, ℕ, ◌+◌, List, [], ◌∷◌, ◌++◌, map, length, Bool, true, false, IsTrue, Option, Some, None, option_map, codes, if◌then◌else◌}
+-- A check of two releases: what it reads, why that is refused, its verdict, and its warnings, its notes on signatures and its dropped interfaces where they are asked for.
+use Rattle.std.specs.Prelude.{◌≡◌, ◌≢◌, ◌≤◌, ◌<◌, ◌⊎◌, ℕ, ◌+◌, List, [], ◌∷◌, ◌++◌, map, length, Bool, true, false, IsTrue, Option, Some, None, codes, if◌then◌else◌}
 use Rattle.std.specs.List.{All}
 use Rattle.jc_base.specs.Outside.{FileOf}
 use Rattle.jc_base.specs.States.{FolderState, Change}
+use Rattle.jc_dropped.specs.declared.dropped.Dropped.{Dropped}
+use Rattle.jc_dropped.specs.Dropped.{AreDropped}
+use Rattle.jc_dropped.specs.InterfacesKept.{InterfacesKept}
 use Rattle.jc_facts.specs.declared.class_facts.ClassFacts.{ClassFacts}
 use Rattle.jc_facts.specs.declared.client.ClientClass.{ClientClass}
 use Rattle.jc_facts.specs.declared.verdict.Cause.{Cause}
 use Rattle.jc_facts.specs.declared.verdict.Collision.{Collision}
+use Rattle.jc_facts.specs.declared.sig_note.SigNote.{SigNote}
 use Rattle.jc_facts.specs.declared.verdict.Verdict.{Verdict}
 use Rattle.jc_facts.specs.declared.warning.Warning.{Warning}
 use Rattle.jc_facts.specs.Names.{Bytes}
-use Rattle.jc_facts.specs.Options.{or_else}
 use Rattle.jc_facts.specs.world.World.{World, side, with_clients}
 use Rattle.jc_facts.specs.client.Clients.{IsInScope, Keeps, facts_of}
 use Rattle.jc_facts.specs.client.Kept.{BreaksClass}
@@ -22,17 +25,17 @@ use Rattle.jc_facts.specs.rule.Warnings.{AreWarnings}
 use Rattle.jc_report.specs.Json.{json_of, warning_json}
 use Rattle.jc_report.specs.Listing.{listing_bytes}
 use Rattle.jc_selection.specs.SelectionKept.{MeetsNoFinal, StaysAnswered}
-use Rattle.jc_table.specs.Root.{fault_of_root}
-use Rattle.jc_table.specs.Sides.{overlap_of}
 use Rattle.jc_complete.specs.Completeness.{IsBroken}
 use Rattle.jc_witness.specs.declared.witness.WitnessFile.{WitnessFile}
 use Rattle.jc_witness.specs.Witnesses.{IsWitness, IsWitnessOf, MeetsOnly, error_of, witness_files}
-use Rattle.jc_trees.specs.ClassFiles.{AreRecords}
-use Rattle.jc_commands.specs.Command.{CheckOf}
-use Rattle.jc_trees.specs.Tree.{tree_at}
+use Rattle.jc_trees.specs.ReadTrees.{GiveAll}
+use Rattle.jc_trees.specs.declared.tree_read.TreeRead.TheVariants as reads
+use Rattle.jc_commands.specs.Command.{CheckOf, CheckCommand, trees_of}
+use Rattle.jc_commands.specs.Releases.{old_and_new, mismatch_among}
+use Rattle.jc_commands.specs.DroppedPart.{AreAskedDropped, dropped_bytes}
+use Rattle.jc_commands.specs.Signatures.{AreSigNotes, AreNoted, sig_bytes}
 use Rattle.jc_commands.specs.Witness.{PutFile, PutsFiles, put_file, causes_of, witness_puts}
-use Rattle.jc_commands.specs.declared.limits.TheConstants.{MAX_FINDINGS, MAX_WARNINGS}
-use Rattle.jc_trees.specs.declared.tree.TreeName.TheVariants as names
+use Rattle.jc_commands.specs.declared.limits.TheConstants.{MAX_FINDINGS, MAX_WARNINGS, MAX_DROPPED}
 use Rattle.jc_commands.specs.declared.stop.Part.TheVariants as parts
 use Rattle.jc_commands.specs.declared.stop.Stop.{Stop}
 use Rattle.jc_commands.specs.declared.stop.Stop.TheVariants as stops
@@ -42,9 +45,7 @@ pub record CheckRecords (files : List FileOf) (check : CheckOf) : Type 0 where
   pub platform : List ClassFacts
   pub old : List ClassFacts
   pub new : List ClassFacts
-  pub platform_is : AreRecords files (tree_at names.Platform check.platform) platform
-  pub old_is : AreRecords files (tree_at names.Old check.old) old
-  pub new_is : AreRecords files (tree_at names.New check.new) new
+  pub are : GiveAll files (trees_of (CheckCommand check)) (reads.Library platform ∷ reads.Library old ∷ reads.Library new ∷ [])
 
 -- the platform with the old release, and with the new one
 abbrev pub old_side : {files : List FileOf} {check : CheckOf} → CheckRecords files check → World
@@ -55,13 +56,9 @@ new_side r = side r.platform r.new
 
 -- ---- why the records are refused
 
--- the first reason why the releases don't go with the platform: its java/lang/Object isn't as it has to be, or the old release declares a
--- name that it declares, or the new one does
+-- the first reason why the releases don't go with the platform
 abbrev pub mismatch_of : List ClassFacts → List ClassFacts → List ClassFacts → Option Stop
-mismatch_of platform old new =
-    or_else (option_map stops.BadRoot (fault_of_root platform))
-    (or_else (option_map (stops.Overlap names.Old) (overlap_of platform old))
-    (option_map (stops.Overlap names.New) (overlap_of platform new)))
+mismatch_of platform old new = mismatch_among platform (old_and_new old new)
 
 -- the releases go with the platform, and their verdict has too many findings and collisions
 pub record HasTooMany (platform old new : List ClassFacts) : Type 0 where
@@ -78,17 +75,28 @@ pub record HasTooManyWarnings (platform old new : List ClassFacts) : Type 0 wher
   pub exact : AreWarnings (side platform old) (side platform new) warnings
   pub many : MAX_WARNINGS < length warnings
 
--- the records are refused, and this is the first cause; warnings count where they are asked for alone
-pub data IsUnfit (warn : Bool) (platform old new : List ClassFacts) (stop : Stop) : Type 0 where
-  is_apart : mismatch_of platform old new ≡ Some stop → IsUnfit warn platform old new stop
-  over_findings : stop ≡ stops.TooMany parts.Findings → HasTooMany platform old new → IsUnfit warn platform old new stop
-  over_warnings : IsTrue warn → stop ≡ stops.TooMany parts.Warnings → HasTooManyWarnings platform old new → IsUnfit warn platform old new stop
-
--- no cause to refuse them stands
-pub record IsFit (warn : Bool) (platform old new : List ClassFacts) : Type 0 where
+-- the releases go with the platform, none of what is asked for before is too much, and there are too many dropped interfaces
+pub record HasTooManyDropped (check : CheckOf) (platform old new : List ClassFacts) : Type 0 where
   pub fits : mismatch_of platform old new ≡ None
   pub few : (v : Verdict) → IsVerdict (side platform old) (side platform new) v → count_of v ≤ MAX_FINDINGS
-  pub few_warnings : IsTrue warn → (ws : List Warning) → AreWarnings (side platform old) (side platform new) ws → length ws ≤ MAX_WARNINGS
+  pub few_warnings : IsTrue check.warn → (ws : List Warning) → AreWarnings (side platform old) (side platform new) ws → length ws ≤ MAX_WARNINGS
+  pub dropped : List Dropped
+  pub exact : AreDropped (side platform old) (side platform new) dropped
+  pub many : MAX_DROPPED < length dropped
+
+-- the records are refused, and this is the first cause; warnings and dropped interfaces count where they are asked for alone
+pub data IsUnfit (check : CheckOf) (platform old new : List ClassFacts) (stop : Stop) : Type 0 where
+  is_apart : mismatch_of platform old new ≡ Some stop → IsUnfit check platform old new stop
+  over_findings : stop ≡ stops.TooMany parts.Findings → HasTooMany platform old new → IsUnfit check platform old new stop
+  over_warnings : IsTrue check.warn → stop ≡ stops.TooMany parts.Warnings → HasTooManyWarnings platform old new → IsUnfit check platform old new stop
+  over_dropped : IsTrue check.dropped → stop ≡ stops.TooMany parts.Dropped → HasTooManyDropped check platform old new → IsUnfit check platform old new stop
+
+-- no cause to refuse them stands
+pub record IsFit (check : CheckOf) (platform old new : List ClassFacts) : Type 0 where
+  pub fits : mismatch_of platform old new ≡ None
+  pub few : (v : Verdict) → IsVerdict (side platform old) (side platform new) v → count_of v ≤ MAX_FINDINGS
+  pub few_warnings : IsTrue check.warn → (ws : List Warning) → AreWarnings (side platform old) (side platform new) ws → length ws ≤ MAX_WARNINGS
+  pub few_dropped : IsTrue check.dropped → (ds : List Dropped) → AreDropped (side platform old) (side platform new) ds → length ds ≤ MAX_DROPPED
 
 -- ---- the verdict
 
@@ -112,15 +120,19 @@ AreWarned _ O N _ = ⊥
 pub record CheckReport : Type 0 where
   pub verdict : Verdict
   pub warnings : Option (List Warning)
+  pub signatures : Option (List SigNote)
+  pub dropped : Option (List Dropped)
 
 -- the report with these parts
-abbrev pub report_of : Verdict → Option (List Warning) → CheckReport
-report_of v ws = record { verdict = v; warnings = ws }
+abbrev pub report_of : Verdict → Option (List Warning) → Option (List SigNote) → Option (List Dropped) → CheckReport
+report_of v ws ns ds = record { verdict = v; warnings = ws; signatures = ns; dropped = ds }
 
 -- what each part of it is on these records, where nothing refuses them
 pub record IsCheckReport {files : List FileOf} {check : CheckOf} (records : CheckRecords files check) (report : CheckReport) : Type 0 where
   pub verdict : IsVerdictOn records.platform records.old records.new report.verdict
   pub warnings : AreWarned check.warn (old_side records) (new_side records) report.warnings
+  pub signatures : AreNoted check.signatures (old_side records) (new_side records) report.signatures
+  pub dropped : AreAskedDropped check.dropped (old_side records) (new_side records) report.dropped
 
 -- the bytes of a verdict: its JSON where that is asked for, and else its text
 abbrev pub verdict_bytes : Bool → Verdict → Bytes
@@ -131,9 +143,17 @@ abbrev pub warn_bytes : Bool → Option (List Warning) → Bytes
 warn_bytes json None = []
 warn_bytes json (Some ws) = listing_bytes json (codes "warnings") (λ (w : Warning) n. line_of_warning w) (λ (w : Warning) n. warning_json w) ws
 
+-- the bytes of what stands behind the warnings, in this order
+abbrev pub behind_bytes : Bool → CheckReport → Bytes
+behind_bytes json report = sig_bytes json report.signatures ++ dropped_bytes json report.dropped
+
+-- the bytes of what is asked for beside the verdict, in this order
+abbrev pub besides_bytes : Bool → CheckReport → Bytes
+besides_bytes json report = warn_bytes json report.warnings ++ behind_bytes json report
+
 -- the bytes of a report: those of its parts, in this order
 abbrev pub check_bytes : Bool → CheckReport → Bytes
-check_bytes json report = verdict_bytes json report.verdict ++ warn_bytes json report.warnings
+check_bytes json report = verdict_bytes json report.verdict ++ besides_bytes json report
 
 -- ---- what the verdict says of clients
 
@@ -159,6 +179,23 @@ pub record IsAnswered (files : List FileOf) (check : CheckOf) (report : CheckRep
   pub nothing : report.warnings ≡ Some []
   pub answered : (cs : List ClientClass) → IsInScope (old_side records) (new_side records) cs → MeetsNoFinal (with_clients (old_side records) (facts_of cs)) cs report.verdict.collisions
       → StaysAnswered (old_side records) (new_side records) cs
+
+-- behind the verdict and the warnings, the report has these notes on signatures, exactly those on the two sides
+pub record IsNoted (files : List FileOf) (check : CheckOf) (report : CheckReport) (notes : List SigNote) : Type 0 where
+  pub records : CheckRecords files check
+  pub parts : IsCheckReport records report
+  pub signatures : report.signatures ≡ Some notes
+  pub exact : AreSigNotes (old_side records) (new_side records) notes
+
+-- the verdict has no finding and no interface is dropped, and each client world in scope that meets none of its collisions keeps with the new release,
+-- above each class that is a client or whose values clients can hold, each interface that clients can name
+pub record KeepsInterfaces (files : List FileOf) (check : CheckOf) (report : CheckReport) : Type 0 where
+  pub records : CheckRecords files check
+  pub parts : IsCheckReport records report
+  pub none : report.verdict.findings ≡ []
+  pub nothing : report.dropped ≡ Some []
+  pub kept : (cs : List ClientClass) → IsInScope (old_side records) (new_side records) cs → MeetsNone (old_side records) cs report.verdict.collisions
+      → InterfacesKept (old_side records) (new_side records) cs
 
 -- the verdict has a finding, and there is a client world in scope that meets none of its collisions and isn't kept. Whatever client world in
 -- scope there is, each client's naming of a class that is gone, by H1, is Ok with the old release, and has the finding's error with the new

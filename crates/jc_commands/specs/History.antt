@@ -1,19 +1,16 @@
 -- A row of releases: what it reads, why that is refused, and its verdicts.
-use Rattle.std.specs.Prelude.{◌≡◌, ◌≤◌, ◌<◌, ◌⊎◌, ℕ, ◌+◌, List, [], ◌∷◌, map, Option, Some, None, option_map}
-use Rattle.std.specs.List.{All, AllZip, Contains}
+use Rattle.std.specs.Prelude.{◌≡◌, ◌≤◌, ◌<◌, ◌⊎◌, List, ◌∷◌, map, Option, Some, None}
+use Rattle.std.specs.List.{All, Contains}
 use Rattle.jc_base.specs.Outside.{FileOf}
 use Rattle.jc_facts.specs.declared.class_facts.ClassFacts.{ClassFacts}
 use Rattle.jc_facts.specs.declared.verdict.Verdict.{Verdict}
-use Rattle.jc_facts.specs.Options.{or_else}
 use Rattle.jc_facts.specs.rule.Verdict.{IsVerdict, count_of}
 use Rattle.jc_facts.specs.world.World.{World, side}
 use Rattle.jc_history.specs.Row.{Step, steps_of, AreVerdicts, KeepsRow}
-use Rattle.jc_table.specs.Root.{fault_of_root}
-use Rattle.jc_table.specs.Sides.{overlap_of}
-use Rattle.jc_trees.specs.ClassFiles.{AreRecords}
-use Rattle.jc_trees.specs.Tree.{tree_at}
-use Rattle.jc_trees.specs.declared.tree.TreeName.TheVariants as names
-use Rattle.jc_commands.specs.Command.{HistoryOf, release_trees}
+use Rattle.jc_trees.specs.ReadTrees.{GiveAll}
+use Rattle.jc_trees.specs.declared.tree_read.TreeRead.TheVariants as reads
+use Rattle.jc_commands.specs.Command.{HistoryOf, HistoryCommand, trees_of}
+use Rattle.jc_commands.specs.Releases.{numbered, mismatch_among}
 use Rattle.jc_commands.specs.declared.limits.TheConstants.{MAX_FINDINGS}
 use Rattle.jc_commands.specs.declared.stop.Part.TheVariants as parts
 use Rattle.jc_commands.specs.declared.stop.Stop.{Stop}
@@ -23,8 +20,7 @@ use Rattle.jc_commands.specs.declared.stop.Stop.TheVariants as stops
 pub record HistoryRecords (files : List FileOf) (h : HistoryOf) : Type 0 where
   pub platform : List ClassFacts
   pub releases : List (List ClassFacts)
-  pub platform_is : AreRecords files (tree_at names.Platform h.platform) platform
-  pub releases_are : AllZip (AreRecords files) (release_trees 1 h.releases) releases
+  pub are : GiveAll files (trees_of (HistoryCommand h)) (reads.Library platform ∷ map reads.Library releases)
 
 -- the platform with each release
 abbrev pub row_of : List ClassFacts → List (List ClassFacts) → List World
@@ -32,14 +28,9 @@ row_of platform releases = map (side platform) releases
 
 -- ---- why the records are refused
 
--- the first release, of those whose numbers go on from this one, that declares a name which the platform declares
-abbrev pub overlap_from : ℕ → List ClassFacts → List (List ClassFacts) → Option Stop
-overlap_from n platform [] = None
-overlap_from n platform (r ∷ rs) = or_else (option_map (stops.Overlap (names.NthRelease n)) (overlap_of platform r)) (overlap_from (n + 1) platform rs)
-
--- the first reason why the releases don't go with the platform: its java/lang/Object isn't as it has to be, or a release declares a name that it declares
+-- the first reason why the releases don't go with the platform
 abbrev pub mismatch_of_row : List ClassFacts → List (List ClassFacts) → Option Stop
-mismatch_of_row platform releases = or_else (option_map stops.BadRoot (fault_of_root platform)) (overlap_from 1 platform releases)
+mismatch_of_row platform releases = mismatch_among platform (numbered 1 releases)
 
 -- the releases go with the platform, and the verdict on a step has too many findings and collisions
 pub record HasTooManyAt (platform : List ClassFacts) (releases : List (List ClassFacts)) : Type 0 where

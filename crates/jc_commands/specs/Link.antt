@@ -1,5 +1,5 @@
 -- The linking of clients: what it reads, why that is refused, and its outcomes.
-use Rattle.std.specs.Prelude.{◌≡◌, List, Option, None, option_map}
+use Rattle.std.specs.Prelude.{◌≡◌, List, [], ◌∷◌, Option, None, option_map}
 use Rattle.jc_base.specs.Outside.{FileOf}
 use Rattle.jc_facts.specs.declared.class_facts.ClassFacts.{ClassFacts}
 use Rattle.jc_facts.specs.declared.client.ClientClass.{ClientClass}
@@ -8,13 +8,12 @@ use Rattle.jc_facts.specs.Names.{Bytes}
 use Rattle.jc_facts.specs.Options.{or_else}
 use Rattle.jc_facts.specs.client.Linked.{outcomes}
 use Rattle.jc_facts.specs.world.World.{side}
-use Rattle.jc_table.specs.Root.{fault_of_root}
-use Rattle.jc_table.specs.Sides.{overlap_of}
 use Rattle.jc_link.specs.Refusals.{refused_client}
 use Rattle.jc_link.specs.declared.refusal.ClientPart.{ClientPart}
-use Rattle.jc_trees.specs.ClassFiles.{AreRecords, AreClasses}
-use Rattle.jc_commands.specs.Command.{LinkOf}
-use Rattle.jc_trees.specs.Tree.{tree_at}
+use Rattle.jc_trees.specs.ReadTrees.{GiveAll}
+use Rattle.jc_trees.specs.declared.tree_read.TreeRead.TheVariants as reads
+use Rattle.jc_commands.specs.Command.{LinkOf, LinkCommand, trees_of}
+use Rattle.jc_commands.specs.Releases.{release_at, mismatch_among}
 use Rattle.jc_trees.specs.declared.tree.TreeName.TheVariants as names
 use Rattle.jc_commands.specs.declared.stop.Stop.{Stop}
 use Rattle.jc_commands.specs.declared.stop.Stop.TheVariants as stops
@@ -24,21 +23,16 @@ pub record LinkRecords (files : List FileOf) (link : LinkOf) : Type 0 where
   pub platform : List ClassFacts
   pub release : List ClassFacts
   pub clients : List ClientClass
-  pub platform_is : AreRecords files (tree_at names.Platform link.platform) platform
-  pub release_is : AreRecords files (tree_at names.Release link.release) release
-  pub clients_are : AreClasses files (tree_at names.Client link.client) clients
+  pub are : GiveAll files (trees_of (LinkCommand link)) (reads.Library platform ∷ reads.Library release ∷ reads.Clients clients ∷ [])
 
 -- a client's name that the side doesn't allow
 abbrev pub client_name : Bytes × ClientPart → Stop
 client_name refused = stops.ClientName refused.0 refused.1
 
--- the first reason why the clients aren't linked: the platform's java/lang/Object isn't as it has to be, or the release declares a name that
--- the platform declares, or the side doesn't allow the name of a client
+-- the first reason why the clients aren't linked: the release doesn't go with the platform, or the side doesn't allow the name of a client
 abbrev pub refusal_of : List ClassFacts → List ClassFacts → List ClientClass → Option Stop
 refusal_of platform release clients =
-    or_else (option_map stops.BadRoot (fault_of_root platform))
-    (or_else (option_map (stops.Overlap names.Release) (overlap_of platform release))
-    (option_map client_name (refused_client (side platform release) clients)))
+    or_else (mismatch_among platform (release_at names.Release release ∷ [])) (option_map client_name (refused_client (side platform release) clients))
 
 -- the outcomes of the clients, where nothing refuses them: for each in byte order of names its loading, and where it loads those of its items
 pub record AreOutcomesOf (platform release : List ClassFacts) (clients : List ClientClass) (list : List Outcome) : Type 0 where

@@ -19,6 +19,7 @@ use Rattle.jc_commands.specs.History.{IsKeptRow}
 use Rattle.jc_commands.specs.Make.{IsSize}
 use Rattle.jc_commands.specs.Reports.{ToldTo, RecordsOf, ReportOf, IsReportOn, passes, bytes_of, puts_of}
 use Rattle.jc_commands.specs.Witness.{PutFile, causes_of, witness_puts}
+use Rattle.jc_select.specs.DroppedWithin.{InterfacesStill}
 use Rattle.jc_select.specs.Within.{AnswersStill}
 use Rattle.jc_commands.specs.declared.report.Report.{Report}
 use Rattle.jc_commands.specs.declared.report.Condition.{Condition}
@@ -44,7 +45,7 @@ passes_by gates (conditions.ByGates names step rules) = all_pass gates (map (λ 
 
 -- the report of a check, part by part
 abbrev pub report_in : CheckBody → CheckReport
-report_in check = report_of check.verdict (option_map (λ ws. ws.items) check.warnings)
+report_in check = report_of check.verdict (option_map (λ ws. ws.items) check.warnings) (option_map (λ ns. ns.items) check.signatures) (option_map (λ ds. ds.items) check.dropped)
 
 -- the bytes that are put
 abbrev pub bytes_in : Body → Bytes
@@ -122,6 +123,7 @@ pub record IsChecked (files : List FileOf) (check : CheckOf) (report : CheckRepo
   pub broken : report.verdict.findings ≢ [] → (cs : List ClientClass) × IsBroken (old_side records) (new_side records) report.verdict cs
   pub breaks : All (λ f. f.rule ≡ 1 → BreaksClass (old_side records) (new_side records) f.class f.error) report.verdict.findings
   pub answered : IfSome report.warnings (AnswersStill (old_side records) (new_side records))
+  pub interfaces : IfSome report.dropped (InterfacesStill (old_side records) (new_side records))
   pub shown : All (IsShown (old_side records) (new_side records)) (causes_of report.verdict)
   pub puts_are : puts ≡ puts_below check.witness (old_side records) (new_side records) report.verdict
 

@@ -36,14 +36,14 @@ RecordsOf files (HistoryCommand h) = HistoryRecords files h
 
 -- they are refused, and this is the first cause
 abbrev pub Refuses : (files : List FileOf) → (command : CommandOf) → RecordsOf files command → Stop → Type 0
-Refuses files (CheckCommand check) r stop = IsUnfit check.warn r.platform r.old r.new stop
+Refuses files (CheckCommand check) r stop = IsUnfit check r.platform r.old r.new stop
 Refuses files (LinkCommand link) r stop = refusal_of r.platform r.release r.clients ≡ Some stop
 Refuses files (MakeCommand n) r stop = ⊥
 Refuses files (HistoryCommand h) r stop = IsUnfitRow r.platform r.releases stop
 
 -- no cause to refuse them stands
 abbrev pub Accepts : (files : List FileOf) → (command : CommandOf) → RecordsOf files command → Type 0
-Accepts files (CheckCommand check) r = IsFit check.warn r.platform r.old r.new
+Accepts files (CheckCommand check) r = IsFit check r.platform r.old r.new
 Accepts files (LinkCommand link) r = refusal_of r.platform r.release r.clients ≡ None
 Accepts files (MakeCommand n) r = Unit {0}
 Accepts files (HistoryCommand h) r = IsFitRow r.platform r.releases

@@ -91,6 +91,7 @@ usage_words (usages.Versions from to) = codes "versions " ++ printed from ++ cod
 abbrev pub report_part_name : Part → Bytes
 report_part_name report_parts.Findings = codes "findings"
 report_part_name report_parts.Warnings = codes "warnings"
+report_part_name report_parts.Dropped = codes "dropped"
 
 abbrev pub line_of : Stop → Bytes
 line_of (stops.Usage usage) = codes "jcompat: usage: " ++ usage_words usage ++ codes "\n"

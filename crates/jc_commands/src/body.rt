@@ -1,5 +1,7 @@
 //! What is put of a command.
 use crate::shown::Shown;
+use jc_dropped::dropped::Dropped;
+use jc_facts::sig_note::SigNote;
 use jc_facts::verdict::Verdict;
 use jc_facts::warning::Warning;
 
@@ -22,5 +24,7 @@ pub struct CheckBody<'a> {
     pub json: bool,
     pub verdict: Verdict,
     pub warnings: Option<Vec<Warning>>,
+    pub signatures: Option<Vec<SigNote>>,
+    pub dropped: Option<Vec<Dropped>>,
     pub shown: Option<Shown<'a>>,
 }

@@ -1,5 +1,5 @@
 //! The comparison of two releases with a platform.
-ghost use Rattle.std.specs.Prelude.{◌≡◌, ◌≤◌, List, [], None, IfOk, IfErr, IfSome, option_map};
+ghost use Rattle.std.specs.Prelude.{◌≡◌, ◌≤◌, List, [], ◌∷◌, None, length, IfOk, IfErr, IfSome, option_map};
 ghost use Rattle.std.specs.List.{All};
 ghost use Rattle.jc_facts.specs.declared.client.ClientClass.{ClientClass};
 ghost use Rattle.jc_facts.specs.world.World.{side};
@@ -9,30 +9,41 @@ ghost use Rattle.jc_facts.specs.rule.Verdict.{IsVerdict, count_of};
 ghost use Rattle.jc_bodies.specs.Files.{CanWrite};
 ghost use Rattle.jc_witness.specs.Ground.{HasShortSide};
 ghost use Rattle.jc_commands.specs.Check.{mismatch_of, AreWarned, MeetsNone};
-ghost use Rattle.jc_commands.specs.steps.Check.{IsComparison, StopsComparing, StopsCounting, StopsMatching, StopsWarning, unfit_by};
+ghost use Rattle.jc_commands.specs.DroppedPart.{AreAskedDropped};
+ghost use Rattle.jc_commands.specs.Signatures.{AreNoted};
+ghost use Rattle.jc_commands.specs.steps.Check.{IsComparison, StopsComparing, StopsCounting, StopsMatching, StopsWarning, StopsDropping};
+ghost use Rattle.jc_select.specs.DroppedWithin.{InterfacesStill};
 ghost use Rattle.jc_select.specs.Within.{AnswersStill};
 ghost use Rattle.jc_trees.specs.ClassLists.{IsRecordList};
+ghost use Rattle.jc_words.specs.CommandView.{check_of};
 
-use crate::limits::{MAX_FINDINGS, MAX_WARNINGS};
+use crate::limits::{MAX_DROPPED, MAX_FINDINGS, MAX_WARNINGS};
+use crate::releases::{tables_over, two_releases};
 use crate::stop::{Part, Stop};
+use jc_dropped::dropped::Dropped;
 use jc_facts::class_facts::ClassFacts;
+use jc_facts::sig_note::SigNote;
 use jc_facts::verdict::Verdict;
 use jc_facts::warning::Warning;
 use jc_rules::compare::compare_within;
+use jc_select::dropped::dropped_within;
 use jc_select::warnings::warnings_within;
+use jc_sig::notes::signature_notes;
 use jc_table::platform::Platform;
-use jc_table::table::{Table, TableError};
-use jc_trees::tree::TreeName;
-use std::alloc::Global;
+use jc_table::table::Table;
+use jc_words::check::Check;
+use std::alloc::{AllocError, Global};
 
-/// The platform with the old release and with the new one, the verdict on them, and the warnings where
-/// they are asked for.
+/// The platform with the old release and with the new one, the verdict on them, and the warnings, the
+/// notes on signatures and the dropped interfaces where they are asked for.
 #[derive(Drop)]
 pub struct Comparison {
     pub old: Table,
     pub new: Table,
     pub verdict: Verdict,
     pub warnings: Option<Vec<Warning>>,
+    pub signatures: Option<Vec<SigNote>>,
+    pub dropped: Option<Vec<Dropped>>,
 }
 
 /// The platform with the old release, and with the new one.
@@ -40,17 +51,6 @@ pub struct Comparison {
 pub struct Sides {
     pub old: Table,
     pub new: Table,
-}
-
-// Why a release has no table.
-pub(crate) fn unfit(name: TreeName, error: TableError) -> Stop
-    ensures { result ≡ unfit_by name error }
-{
-    match error {
-        TableError::BadRoot(part) => Stop::BadRoot(part),
-        TableError::Overlap(class) => Stop::Overlap(name, class),
-        TableError::Memory => Stop::Memory,
-    }
 }
 
 impl Sides {
@@ -72,6 +72,16 @@ impl Sides {
     }
 }
 
+// The two tables.
+fn both_of(mut tables: Vec<Table>) -> (Table, Table)
+    requires { length tables.items ≡ 2 }
+    ensures { tables.items ≡ result.0 ∷ result.1 ∷ [] }
+{
+    let second = tables.pop().unwrap();
+    let first = tables.pop().unwrap();
+    (first, second)
+}
+
 // The tables of the two sides of this platform, or why there are none.
 fn sides_over(
     alloc: Global,
@@ -88,14 +98,15 @@ fn sides_over(
     ensures can { IfOk result (λ s. CanWrite s.old s.new) }
     ensures stopped { IfErr result (StopsMatching platform.now old.items new.items) }
 {
-    let old = match Table::over(alloc, platform, old) {
-        Ok(table) => table,
-        Err(error) => return Err(unfit(TreeName::Old, error)),
+    let Ok(releases) = two_releases(alloc, old, new) else {
+        return Err(Stop::Memory);
     };
-    match Table::over(alloc, platform, new) {
-        Ok(new) => Ok(Sides::of_tables(old, new)),
-        Err(error) => Err(unfit(TreeName::New, error)),
-    }
+    let tables = match tables_over(alloc, platform, releases) {
+        Ok(tables) => tables,
+        Err(stop) => return Err(stop),
+    };
+    let (old, new) = both_of(tables);
+    Ok(Sides::of_tables(old, new))
 }
 
 /// The tables of the two sides, or why there are none.
@@ -161,25 +172,64 @@ fn warned(alloc: Global, old: &Table, new: &Table, warn: bool) -> Result<Option<
     }
 }
 
+// The notes on the signatures of two sides, where they are asked for.
+fn noted(
+    alloc: Global,
+    old: &Table,
+    new: &Table,
+    signatures: bool,
+) -> Result<Option<Vec<SigNote>>, AllocError>
+    requires { old.now.platform ≡ new.now.platform }
+    ensures { IfOk result (λ made. AreNoted signatures old.now new.now (option_map (λ ns. ns.items) made)) }
+{
+    if !signatures {
+        return Ok(None);
+    }
+    let notes = signature_notes(alloc, old, new)?;
+    Ok(Some(notes))
+}
+
+// The interfaces that classes drop between two sides, where they are asked for, unless there are too many.
+fn lost(
+    alloc: Global,
+    old: &Table,
+    new: &Table,
+    dropped: bool,
+) -> Result<Option<Vec<Dropped>>, Stop>
+    requires { old.now.platform ≡ new.now.platform }
+    ensures exact { IfOk result (λ made. AreAskedDropped dropped old.now new.now (option_map (λ ds. ds.items) made)) }
+    ensures kept { IfOk result (λ made. IfSome (option_map (λ ds. ds.items) made) (InterfacesStill old.now new.now)) }
+    ensures stopped { IfErr result (StopsDropping dropped old.now new.now) }
+{
+    if !dropped {
+        return Ok(None);
+    }
+    match dropped_within(alloc, old, new, MAX_DROPPED) {
+        Ok(Some(dropped)) => Ok(Some(dropped)),
+        Ok(None) => Err(Stop::TooMany(Part::Dropped)),
+        Err(_) => Err(Stop::Memory),
+    }
+}
+
 impl Comparison {
-    /// The comparison of these records, with warnings where they are asked for, or why there is none.
+    /// The comparison of these records, with the parts that the check asks for, or why there is none.
     ///
     /// # Errors
     ///
     /// Those of `both_sides`; and `Stop::TooMany` where the verdict is over its limit, or else the
-    /// warnings are.
+    /// warnings are, or else the dropped interfaces.
     pub fn of_records(
         alloc: Global,
         platform: Vec<ClassFacts>,
         old: Vec<ClassFacts>,
         new: Vec<ClassFacts>,
-        warn: bool,
+        check: &Check<'_>,
     ) -> Result<Comparison, Stop>
         requires platform { IsRecordList platform.items }
         requires old { IsRecordList old.items }
         requires new { IsRecordList new.items }
-        ensures compared { IfOk result (IsComparison warn platform.items old.items new.items) }
-        ensures stopped { IfErr result (StopsComparing warn platform.items old.items new.items) }
+        ensures compared { IfOk result (IsComparison (check_of check.now) platform.items old.items new.items) }
+        ensures stopped { IfErr result (StopsComparing (check_of check.now) platform.items old.items new.items) }
     {
         let Sides { old, new } = match both_sides(alloc, platform, old, new) {
             Ok(sides) => sides,
@@ -189,12 +239,21 @@ impl Comparison {
             Ok(verdict) => verdict,
             Err(stop) => return Err(stop),
         };
-        match warned(alloc, &old, &new, warn) {
-            Ok(warnings) => Ok(Comparison {
+        let warnings = match warned(alloc, &old, &new, check.warn) {
+            Ok(warnings) => warnings,
+            Err(stop) => return Err(stop),
+        };
+        let Ok(signatures) = noted(alloc, &old, &new, check.signatures) else {
+            return Err(Stop::Memory);
+        };
+        match lost(alloc, &old, &new, check.dropped) {
+            Ok(dropped) => Ok(Comparison {
                 old,
                 new,
                 verdict,
                 warnings,
+                signatures,
+                dropped,
             }),
             Err(stop) => Err(stop),
         }

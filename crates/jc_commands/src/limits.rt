@@ -5,3 +5,6 @@ pub const MAX_FINDINGS: usize = 999_999;
 
 /// The most warnings of selection that are printed.
 pub const MAX_WARNINGS: usize = 999_999;
+
+/// The most dropped interfaces that are printed.
+pub const MAX_DROPPED: usize = 999_999;

@@ -1,27 +1,28 @@
 //! Linking clients with a release.
 ghost use Rattle.std.specs.Prelude.{◌≡◌, IfOk, IfErr};
 ghost use Rattle.jc_base.specs.States.{change};
-ghost use Rattle.jc_facts.specs.client.Clients.{facts_of};
 ghost use Rattle.jc_commands.specs.Causes.{StopsCommand};
 ghost use Rattle.jc_commands.specs.Command.{LinkCommand};
 ghost use Rattle.jc_commands.specs.Link.{AreOutcomesOf};
 ghost use Rattle.jc_words.specs.CommandView.{link_of};
 ghost use Rattle.jc_commands.specs.steps.Link.{StopsLinking, stop_by_refusal};
-ghost use Rattle.jc_trees.specs.ClassLists.{IsClassList};
+ghost use Rattle.jc_trees.specs.ClassLists.{IsClassList, IsRecordList};
 ghost use Rattle.jc_commands.specs.ReportValue.{IsReportOf};
 
 use crate::command::trees_of_link;
 use crate::report::Report;
 use crate::stop::Stop;
-use crate::three_trees::{records_of, three_of};
 use crate::unread::stop_of;
 use jc_base::trees::Trees;
+use jc_facts::class_facts::ClassFacts;
 use jc_facts::client::ClientClass;
 use jc_facts::outcome::Outcome;
-use jc_link::link::link;
+use jc_link::link::link_over;
 use jc_link::refusal::LinkRefusal;
+use jc_table::platform::Platform;
 use jc_trees::read_trees::read_trees;
 use jc_trees::tree::TreeName;
+use jc_trees::tree_read::{take_clients, take_records};
 use jc_words::link::Link;
 use std::alloc::Global;
 
@@ -40,23 +41,20 @@ fn unlinked(refusal: LinkRefusal) -> Stop
 // The outcomes of the clients, or why they aren't linked.
 fn linked(
     alloc: Global,
-    platform: Vec<ClientClass>,
-    release: Vec<ClientClass>,
+    platform: Vec<ClassFacts>,
+    release: Vec<ClassFacts>,
     clients: Vec<ClientClass>,
 ) -> Result<Vec<Outcome>, Stop>
-    requires platform { IsClassList platform.items }
-    requires release { IsClassList release.items }
+    requires platform { IsRecordList platform.items }
+    requires release { IsRecordList release.items }
     requires clients { IsClassList clients.items }
-    ensures outcomes { IfOk result (λ list. AreOutcomesOf (facts_of platform.items) (facts_of release.items) clients.items list.items) }
-    ensures stopped { IfErr result (StopsLinking (facts_of platform.items) (facts_of release.items) clients.items) }
+    ensures outcomes { IfOk result (λ list. AreOutcomesOf platform.items release.items clients.items list.items) }
+    ensures stopped { IfErr result (StopsLinking platform.items release.items clients.items) }
 {
-    let Ok(platform) = records_of(alloc, platform) else {
+    let Ok(shared) = Platform::new(alloc, platform) else {
         return Err(Stop::Memory);
     };
-    let Ok(release) = records_of(alloc, release) else {
-        return Err(Stop::Memory);
-    };
-    match link(alloc, platform.as_slice(), release, clients) {
+    match link_over(alloc, &shared, release, clients) {
         Ok(outcomes) => Ok(outcomes),
         Err(refusal) => Err(unlinked(refusal)),
     }
@@ -79,11 +77,13 @@ pub fn link_clients<'a, T: Trees>(
     ensures content { (T.state trees.new).content ≡ (T.state trees.old).content }
 {
     let wanted = trees_of_link(asked);
-    let all = match read_trees(alloc, &wanted, trees) {
+    let mut all = match read_trees(alloc, &wanted, trees) {
         Ok(all) => all,
         Err(error) => return Err(stop_of(error)),
     };
-    let (platform, release, clients) = three_of(all);
+    let platform = take_records(&mut all);
+    let release = take_records(&mut all);
+    let clients = take_clients(&mut all);
     let outcomes = match linked(alloc, platform, release, clients) {
         Ok(outcomes) => outcomes,
         Err(stop) => return Err(stop),

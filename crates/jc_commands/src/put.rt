@@ -2,7 +2,9 @@
 ghost use Rattle.std.specs.Prelude.{◌≡◌, ◌≢◌, ◌≤◌, ◌⊎◌, List, ℕ, None, Some, option_map, OnOk, OnErr, IsErrOf, map};
 ghost use Rattle.jc_base.specs.States.{change};
 ghost use Rattle.jc_gate.specs.Gates.{gate_of};
-ghost use Rattle.jc_commands.specs.Check.{verdict_bytes, warn_bytes, check_bytes};
+ghost use Rattle.jc_commands.specs.Check.{verdict_bytes, warn_bytes, behind_bytes, besides_bytes, check_bytes};
+ghost use Rattle.jc_commands.specs.DroppedPart.{dropped_bytes};
+ghost use Rattle.jc_commands.specs.Signatures.{sig_bytes};
 ghost use Rattle.jc_commands.specs.Outputs.{PutsAll, PutsFront, HasPutFault, HasFolderFault, IsUntouched};
 ghost use Rattle.jc_commands.specs.Stop.{line_of, status_of};
 ghost use Rattle.jc_commands.specs.Witness.{PutsFiles, PutsSome};
@@ -17,6 +19,8 @@ use crate::status::{NO_MEMORY, WRITE_FAULT};
 use crate::stop::Stop;
 use jc_base::folder::{Folder, FolderError};
 use jc_base::sink::{Sink, SinkError};
+use jc_dropped::dropped::Dropped;
+use jc_facts::sig_note::SigNote;
 use jc_facts::verdict::Verdict;
 use jc_facts::warning::Warning;
 use jc_gate::gate::Gate;
@@ -72,6 +76,82 @@ fn put_warnings<O: Sink>(
     }
 }
 
+// Puts the notes on signatures where they are asked for, as JSON or line by line.
+fn put_signatures<O: Sink>(
+    alloc: Global,
+    as_json: bool,
+    notes: &Option<Vec<SigNote>>,
+    out: &mut O,
+) -> Result<(), SinkError>
+    ensures ok { OnOk result (PutsAll (change O.state out.old out.new) (sig_bytes as_json (option_map (λ ns. ns.items) notes.now))) }
+    ensures err { OnErr result (PutsFront (change O.state out.old out.new) (sig_bytes as_json (option_map (λ ns. ns.items) notes.now))) }
+    ensures never_falls { (O.state out.old).faults ≤ (O.state out.new).faults }
+    ensures cause { IsErrOf result SinkError.Fault → HasPutFault (change O.state out.old out.new) }
+{
+    match notes {
+        None => Ok(()),
+        Some(notes) => match put_listing(alloc, as_json, "signatures", notes.as_slice(), out) {
+            Ok(()) => Ok(()),
+            Err(error) => Err(error),
+        },
+    }
+}
+
+// Puts the dropped interfaces where they are asked for, as JSON or line by line.
+fn put_dropped<O: Sink>(
+    alloc: Global,
+    as_json: bool,
+    dropped: &Option<Vec<Dropped>>,
+    out: &mut O,
+) -> Result<(), SinkError>
+    ensures ok { OnOk result (PutsAll (change O.state out.old out.new) (dropped_bytes as_json (option_map (λ ds. ds.items) dropped.now))) }
+    ensures err { OnErr result (PutsFront (change O.state out.old out.new) (dropped_bytes as_json (option_map (λ ds. ds.items) dropped.now))) }
+    ensures never_falls { (O.state out.old).faults ≤ (O.state out.new).faults }
+    ensures cause { IsErrOf result SinkError.Fault → HasPutFault (change O.state out.old out.new) }
+{
+    match dropped {
+        None => Ok(()),
+        Some(dropped) => match put_listing(alloc, as_json, "dropped", dropped.as_slice(), out) {
+            Ok(()) => Ok(()),
+            Err(error) => Err(error),
+        },
+    }
+}
+
+// Puts what stands behind the warnings, in its order.
+fn put_behind<O: Sink>(alloc: Global, body: &CheckBody<'_>, out: &mut O) -> Result<(), SinkError>
+    ensures ok { OnOk result (PutsAll (change O.state out.old out.new) (behind_bytes body.now.json (report_in body.now))) }
+    ensures err { OnErr result (PutsFront (change O.state out.old out.new) (behind_bytes body.now.json (report_in body.now))) }
+    ensures never_falls { (O.state out.old).faults ≤ (O.state out.new).faults }
+    ensures cause { IsErrOf result SinkError.Fault → HasPutFault (change O.state out.old out.new) }
+{
+    match put_signatures(alloc, body.json, &body.signatures, out) {
+        Ok(()) => {}
+        Err(error) => return Err(error),
+    }
+    match put_dropped(alloc, body.json, &body.dropped, out) {
+        Ok(()) => Ok(()),
+        Err(error) => Err(error),
+    }
+}
+
+// Puts what is asked for beside the verdict, in its order.
+fn put_besides<O: Sink>(alloc: Global, body: &CheckBody<'_>, out: &mut O) -> Result<(), SinkError>
+    ensures ok { OnOk result (PutsAll (change O.state out.old out.new) (besides_bytes body.now.json (report_in body.now))) }
+    ensures err { OnErr result (PutsFront (change O.state out.old out.new) (besides_bytes body.now.json (report_in body.now))) }
+    ensures never_falls { (O.state out.old).faults ≤ (O.state out.new).faults }
+    ensures cause { IsErrOf result SinkError.Fault → HasPutFault (change O.state out.old out.new) }
+{
+    match put_warnings(alloc, body.json, &body.warnings, out) {
+        Ok(()) => {}
+        Err(error) => return Err(error),
+    }
+    match put_behind(alloc, body, out) {
+        Ok(()) => Ok(()),
+        Err(error) => Err(error),
+    }
+}
+
 // Puts the parts of a check's report, in their order.
 fn put_check<O: Sink>(alloc: Global, body: &CheckBody<'_>, out: &mut O) -> Result<(), SinkError>
     ensures ok { OnOk result (PutsAll (change O.state out.old out.new) (check_bytes body.now.json (report_in body.now))) }
@@ -83,7 +163,7 @@ fn put_check<O: Sink>(alloc: Global, body: &CheckBody<'_>, out: &mut O) -> Resul
         Ok(()) => {}
         Err(error) => return Err(error),
     }
-    match put_warnings(alloc, body.json, &body.warnings, out) {
+    match put_besides(alloc, body, out) {
         Ok(()) => Ok(()),
         Err(error) => Err(error),
     }

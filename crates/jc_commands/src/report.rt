@@ -3,11 +3,12 @@ ghost use Rattle.std.specs.Prelude.{◌≡◌, ◌++◌, IfOk, OnOk, map};
 ghost use Rattle.std.specs.Option.{option_map, IfSome};
 ghost use Rattle.jc_facts.specs.client.Linked.{are_all_ok};
 ghost use Rattle.jc_words.specs.CommandView.{check_of};
-ghost use Rattle.jc_commands.specs.Check.{report_of, check_bytes};
+ghost use Rattle.jc_commands.specs.Check.{check_bytes};
 ghost use Rattle.jc_commands.specs.Command.{LinkOf, HistoryOf, CheckCommand, LinkCommand, MakeCommand, HistoryCommand};
 ghost use Rattle.jc_gate.specs.Gates.{IsStep, gate_of};
 ghost use Rattle.jc_version.specs.LevelNumbers.{number_of};
 ghost use Rattle.jc_commands.specs.Reports.{rules_of as rules_in};
+ghost use Rattle.jc_commands.specs.steps.Check.{report_made};
 ghost use Rattle.jc_commands.specs.ReportValue.{TellsOf, HasToShow, IsShownIn, IsBare, bytes_in, passes_by, status_by};
 
 use crate::body::{Body, CheckBody};
@@ -97,7 +98,7 @@ fn shown_in(dir: Option<&str>, old: Table, new: Table) -> Option<Shown<'_>>
 
 // What is put of a comparison: its verdict, with what its witnesses are made of.
 fn body_of(comparison: Comparison, json: bool, dir: Option<&str>) -> Body<'_>
-    ensures bytes { bytes_in result ≡ check_bytes json (report_of comparison.verdict (option_map (λ ws. ws.items) comparison.warnings)) }
+    ensures bytes { bytes_in result ≡ check_bytes json (report_made comparison) }
     ensures shown { HasToShow (option_map (λ d. d.now) dir.entry) comparison.old comparison.new comparison.verdict result }
 {
     let Comparison {
@@ -105,12 +106,16 @@ fn body_of(comparison: Comparison, json: bool, dir: Option<&str>) -> Body<'_>
         new,
         verdict,
         warnings,
+        signatures,
+        dropped,
     } = comparison;
     let shown = shown_in(dir, old, new);
     Body::Check(CheckBody {
         json,
         verdict,
         warnings,
+        signatures,
+        dropped,
         shown,
     })
 }
@@ -123,7 +128,7 @@ fn are_ok(outcomes: &[Outcome]) -> bool
 }
 
 impl<'a> Report<'a> {
-    /// The report of a check, as text or as JSON, as the check asks: the verdict of the comparison, and its warnings. It passes
+    /// The report of a check, as text or as JSON, as the check asks: the parts of the comparison. It passes
     /// by the gates that the check names, and is shown by witness files where the check has a folder for
     /// them.
     ///
@@ -135,7 +140,7 @@ impl<'a> Report<'a> {
         comparison: Comparison,
         check: &Check<'a>,
     ) -> Result<Report<'a>, AllocError>
-        ensures tells { IfOk result (TellsOf (CheckCommand (check_of check.now)) (report_of comparison.verdict (option_map (λ ws. ws.items) comparison.warnings))) }
+        ensures tells { IfOk result (TellsOf (CheckCommand (check_of check.now)) (report_made comparison)) }
         ensures shown { IfOk result (λ report. HasToShow (check_of check.now).witness comparison.old comparison.new comparison.verdict report.body) }
     {
         let names = check.gate_names(alloc)?;

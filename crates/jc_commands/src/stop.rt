@@ -23,6 +23,8 @@ pub enum Part {
     Findings,
     /// Its warnings of selection.
     Warnings,
+    /// Its dropped interfaces.
+    Dropped,
 }
 
 /// Why there is no report.
@@ -126,6 +128,7 @@ fn report_part_name(part: Part) -> &'static str
     match part {
         Part::Findings => "findings",
         Part::Warnings => "warnings",
+        Part::Dropped => "dropped",
     }
 }
 

@@ -19,6 +19,8 @@ const CHECK: Check<'static> = Check {
     from: None,
     to: None,
     warn: false,
+    signatures: false,
+    dropped: false,
 };
 
 const CHECK_WITH_ALL: Check<'static> = Check {
@@ -30,7 +32,9 @@ const CHECK_WITH_ALL: Check<'static> = Check {
     gate: Some("links,few"),
     from: Some("1.4.0"),
     to: Some("1.5.0"),
-    warn: false,
+    warn: true,
+    signatures: true,
+    dropped: true,
 };
 
 const LINK: Link<'static> = Link {
@@ -91,7 +95,7 @@ fn reads_what_is_asked(rt: HostRuntime) {
     assert!(rt; asks(&rt, alloc, "check --platform P --old O --new N", &check));
     let with_all = Command::Check(CHECK_WITH_ALL);
     let line =
-        "check --gate links,few --witness D --new=N --json --to 1.5.0 --from=1.4.0 --platform=P --old O";
+        "check --warn --gate links,few --witness D --new=N --json --to 1.5.0 --from=1.4.0 --platform=P --signatures --dropped --old O";
     assert!(rt; asks(&rt, alloc, line, &with_all));
     let link = Command::Link(LINK);
     assert!(rt;

@@ -20,7 +20,7 @@ use Rattle.clap.specs.declared.error.kind.ErrorKind.TheVariants as kind
 use Rattle.clap.specs.declared.parser.matches.ValueSource.{ValueSource}
 use Rattle.clap.proofs.FaultLemmas.{leaf_fault}
 use Rattle.jc_lemmas.proofs.Bools.{neither_last}
-use Rattle.jc_words.specs.Arguments.{option_rule, required_rule, flag_rule, taken, unless_fault}
+use Rattle.jc_words.specs.Arguments.{option_rule, flag_rule, taken, unless_fault}
 use Rattle.jc_words.specs.Command.{check_arguments, link_arguments}
 
 -- ---- rows with values
@@ -317,7 +317,7 @@ link_rules = (built link_arguments).top.rules
 
 check_long : IsLong check_rules
 check_long = is_long_of check_rules
-    (uses_option (codes "platform") true, (uses_option (codes "old") true, (uses_option (codes "new") true, (uses_option (codes "witness") false, (uses_flag (codes "json"), (uses_option (codes "gate") false, (uses_option (codes "from") false, (uses_option (codes "to") false, (uses_flag (codes "warn"), tt)))))))))
+    (uses_option (codes "platform") true, (uses_option (codes "old") true, (uses_option (codes "new") true, (uses_option (codes "witness") false, (uses_flag (codes "json"), (uses_option (codes "gate") false, (uses_option (codes "from") false, (uses_option (codes "to") false, (uses_flag (codes "warn"), (uses_flag (codes "signatures"), (uses_flag (codes "dropped"), tt)))))))))))
     (λ x. refl) (λ i. refl)
 
 link_long : IsLong link_rules

@@ -1,5 +1,5 @@
 -- A parse in two outcomes.
-use Rattle.std.proofs.Common.{◌≡◌, ◌&&◌, Bool, true, false, List, [], ◌∷◌, Some, None, refl}
+use Rattle.std.proofs.Common.{◌≡◌, true, List, [], ◌∷◌, Some, None, refl}
 use Rattle.clap.specs.Walk.{Row, Text}
 use Rattle.clap.specs.Simple.{App, built, is_simple, matches_of}
 use Rattle.clap.specs.Faults.{fault_of, is_free_app, is_simple_and_free}

@@ -11,7 +11,8 @@ use Rattle.jc_words.specs.declared.usage.Usage.{Usage}
 use Rattle.jc_words.specs.declared.usage.Usage.TheVariants as usages
 
 -- a check of two releases: the roots of the platform and of both, the folder for the witnesses where they are wanted, whether the report is JSON,
--- the names of the gates that are asked, the versions of the old and of the new release, where they are said, and whether warnings are reported
+-- the names of the gates that are asked, the versions of the old and of the new release, where they are said, and whether warnings, notes
+-- on generic signatures and dropped interfaces are reported
 pub record CheckOf : Type 0 where
   pub platform : Text
   pub old : Text
@@ -22,6 +23,8 @@ pub record CheckOf : Type 0 where
   pub from : Option Text
   pub to : Option Text
   pub warn : Bool
+  pub signatures : Bool
+  pub dropped : Bool
 
 -- the linking of clients: the roots of the platform, of the release and of the clients
 pub record LinkOf : Type 0 where
@@ -47,7 +50,8 @@ pub data CommandOf : Type 0 where
 abbrev pub check_arguments : App
 check_arguments = command_with (codes "check")
     (required_rule (codes "platform") ∷ required_rule (codes "old") ∷ required_rule (codes "new")
-    ∷ option_rule (codes "witness") ∷ flag_rule (codes "json") ∷ option_rule (codes "gate") ∷ option_rule (codes "from") ∷ option_rule (codes "to") ∷ flag_rule (codes "warn") ∷ [])
+    ∷ option_rule (codes "witness") ∷ flag_rule (codes "json") ∷ option_rule (codes "gate") ∷ option_rule (codes "from") ∷ option_rule (codes "to") ∷ flag_rule (codes "warn")
+    ∷ flag_rule (codes "signatures") ∷ flag_rule (codes "dropped") ∷ [])
 
 -- the gates that a value of `--gate` names, which is cut at each comma, or the one gate without it
 abbrev pub gate_names : Option Text → List Text
@@ -66,6 +70,8 @@ check_in rows = record {
   from = first_of (codes "from") rows;
   to = first_of (codes "to") rows;
   warn = is_on (codes "warn") rows;
+  signatures = is_on (codes "signatures") rows;
+  dropped = is_on (codes "dropped") rows;
 }
 
 -- the check of the words after `check`, where `clap` takes them

@@ -3,7 +3,6 @@ use Rattle.std.specs.Prelude.{map, option_map}
 use Rattle.jc_words.specs.declared.check.Check.{Check}
 use Rattle.jc_words.specs.declared.history.History.{History}
 use Rattle.jc_words.specs.declared.link.Link.{Link}
-use Rattle.jc_words.specs.declared.make.Make.{Make}
 use Rattle.jc_words.specs.declared.command.Command.{Command}
 use Rattle.jc_words.specs.declared.command.Command.TheVariants as commands
 use Rattle.jc_words.specs.Command.{CheckOf, LinkOf, HistoryOf, CommandOf, CheckCommand, LinkCommand, MakeCommand, HistoryCommand, gate_names}
@@ -19,6 +18,8 @@ check_of c = record {
   from = option_map (λ s. s.now) c.from;
   to = option_map (λ s. s.now) c.to;
   warn = c.warn;
+  signatures = c.signatures;
+  dropped = c.dropped;
 }
 
 abbrev pub link_of : Link → LinkOf

@@ -29,6 +29,10 @@ pub struct Check<'a> {
     pub to: Option<&'a str>,
     /// Whether the report has the warnings of selection.
     pub warn: bool,
+    /// Whether the report has the notes on generic signatures.
+    pub signatures: bool,
+    /// Whether the report has the interfaces that classes drop.
+    pub dropped: bool,
 }
 
 impl<'a> Check<'a> {
@@ -59,6 +63,8 @@ impl<'a> Check<'a> {
             from: value_or_none(matches, "from"),
             to: value_or_none(matches, "to"),
             warn: is_on(matches, "warn"),
+            signatures: is_on(matches, "signatures"),
+            dropped: is_on(matches, "dropped"),
         }
     }
 
@@ -113,5 +119,7 @@ fn arguments<'a>(alloc: Global) -> Result<Command<'a>, AllocError>
         .arg(option(alloc, "gate"))?
         .arg(option(alloc, "from"))?
         .arg(option(alloc, "to"))?
-        .arg(flag(alloc, "warn"))
+        .arg(flag(alloc, "warn"))?
+        .arg(flag(alloc, "signatures"))?
+        .arg(flag(alloc, "dropped"))
 }

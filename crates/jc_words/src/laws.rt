@@ -14,6 +14,8 @@ pub fn options_in_any_order()
     ensures gates { asked (typed (codes "check --platform P --old O --new N --gate links,,few")) ≡ Ok (CheckCommand (record plain_check { gates = codes "links" ∷ [] ∷ codes "few" ∷ [] })) }
     ensures gate_empty { asked (typed (codes "check --platform P --old O --new N --gate=")) ≡ Ok (CheckCommand (record plain_check { gates = [] ∷ [] })) }
     ensures warnings { asked (typed (codes "check --warn --platform P --old O --new N")) ≡ Ok (CheckCommand (record plain_check { warn = true })) }
+    ensures signatures { asked (typed (codes "check --platform P --old O --signatures --new N")) ≡ Ok (CheckCommand (record plain_check { signatures = true })) }
+    ensures dropped { asked (typed (codes "check --dropped --platform P --old O --new N --warn")) ≡ Ok (CheckCommand (record plain_check { warn = true; dropped = true })) }
     ensures versions { asked (typed (codes "check --platform P --to 2 --old O --new N --from=1")) ≡ Ok (CheckCommand (record plain_check { from = Some (codes "1"); to = Some (codes "2") })) }
     ensures link { asked (typed (codes "link --platform P --release R --client C")) ≡ Ok (LinkCommand plain_link) }
     ensures link_turned_round { asked (typed (codes "link --client=C --platform P --release R")) ≡ Ok (LinkCommand plain_link) }
@@ -42,6 +44,7 @@ pub fn words_not_taken()
     ensures dashes_as_value { asked (typed (codes "check --old O --new N --platform -- P")) ≡ Err usages.Words }
     ensures value_of_flag { asked (typed (codes "check --platform P --old O --new N --json=x")) ≡ Err usages.Words }
     ensures true_of_flag { asked (typed (codes "check --platform P --old O --new N --json=true")) ≡ Err usages.Words }
+    ensures value_of_signatures { asked (typed (codes "check --platform P --old O --new N --signatures=no")) ≡ Err usages.Words }
     ensures word_of_no_option { asked (typed (codes "check --platform P --old O --new N more")) ≡ Err usages.Words }
     ensures empty_word { asked (typed (codes "check --platform P --old O --new N ")) ≡ Err usages.Words }
     ensures word_after_dashes { asked (typed (codes "check --platform P --old O --new N -- more")) ≡ Err usages.Words }
@@ -96,6 +99,7 @@ pub fn rows_of_releases()
     ensures platform_twice { asked (typed (codes "history --platform P A --platform P B")) ≡ Err usages.Words }
     ensures option_of_check { asked (typed (codes "history --platform P A B --json")) ≡ Err usages.Words }
     ensures gate { asked (typed (codes "history --platform P A B --gate links")) ≡ Err usages.Words }
+    ensures signatures { asked (typed (codes "history --platform P A B --signatures")) ≡ Err usages.Words }
 {}
 
 /// Of a row that is asked for there are from 2 to 20 releases.

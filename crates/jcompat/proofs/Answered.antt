@@ -1,11 +1,14 @@
 -- The answers of a run that puts a report, and of one that puts why there is none.
-use Rattle.std.proofs.Common.{◌≡◌, ◌≢◌, ◌≤◌, ◌⊎◌, ◌==◌, inl, inr, Bool, true, false, not, nat_le, ℕ, List, [], ◌∷◌, Option, Some, None, refl, sym, ap, subst, ◌∙◌, arith}
-use Rattle.std.specs.Prelude.{Result, Ok, IfOk, IfSome, ◌↔◌, codes}
+use Rattle.std.proofs.Common.{◌≡◌, ◌≢◌, ◌≤◌, ◌⊎◌, ◌==◌, inl, inr, Bool, true, false, not, nat_le, ℕ, List, [], ◌∷◌, ◌++◌, Option, Some, None, refl, sym, ap, subst, ◌∙◌, arith}
+use Rattle.std.specs.Prelude.{Result, Ok, IfOk, IfSome, IsTrue, ◌↔◌, codes}
 use Rattle.std.proofs.lemmas.Bool.{both_ways, le-leb, leb-true}
 use Rattle.jc_base.specs.Outside.{FileOf}
 use Rattle.jc_base.specs.States.{TreesState}
+use Rattle.jc_facts.specs.declared.sig_note.SigNote.{SigNote}
 use Rattle.jc_facts.specs.declared.verdict.Verdict.{Verdict}
 use Rattle.jc_facts.specs.declared.warning.Warning.{Warning}
+use Rattle.jc_dropped.specs.declared.dropped.Dropped.{Dropped}
+use Rattle.jc_select.specs.DroppedWithin.{InterfacesStill}
 use Rattle.jc_select.specs.Within.{AnswersStill}
 use Rattle.jc_facts.specs.Names.{Bytes}
 use Rattle.jc_trees.specs.declared.file_fault.FileFault.{FileFault}
@@ -18,7 +21,10 @@ use Rattle.jc_commands.specs.declared.stop.Stop.TheVariants as stops
 use Rattle.jc_commands.specs.Causes.{HasCause, HasFailed}
 use Rattle.jc_commands.specs.Outputs.{IsQuiet, IsUntouched, PutsAll, PutsFront}
 use Rattle.jcompat.specs.Answers.{Ran, Answers, Due, due_bytes, Puts, IsStopped, CutsWitnesses, CutsReport, CutsRefusal, Planned, IsPut, Leaves, OfFiles}
-use Rattle.jc_commands.specs.Check.{CheckReport, IsAnswered, IsCompatible, IsIncompatible, IsBorneOut, HoldsClients, check_bytes, old_side, new_side, puts_below}
+use Rattle.jc_commands.specs.Check.{CheckReport, IsAnswered, IsCompatible, IsIncompatible, IsBorneOut, IsNoted, KeepsInterfaces, HoldsClients, verdict_bytes, warn_bytes, check_bytes, old_side, new_side, puts_below}
+use Rattle.jc_commands.specs.DroppedPart.{dropped_bytes}
+use Rattle.jc_commands.specs.Signatures.{sig_notes_bytes, sig_bytes}
+use Rattle.jc_commands.proofs.SomeSignatures.{noted_list}
 use Rattle.jc_trees.specs.ClassFiles.{Told}
 use Rattle.jc_commands.specs.Command.{CommandOf, CheckOf, HistoryOf, CheckCommand, LinkCommand, MakeCommand, HistoryCommand, step_of_check, witness_dir, asked}
 use Rattle.jc_commands.specs.History.{IsKeptRow}
@@ -242,6 +248,29 @@ module _ (r : Ran) (report : Report) (is : Reports r.gates r.words r.trees.befor
           record { records = c.records; parts = c.parts; none = none; nothing = nothing; answered = still up.of.verdict c.parts.verdict.exact none refl },
     )
 
+    noted : IsTrue check.signatures → IsWhole
+        → OfFiles r (λ files. (report : CheckReport) × (notes : List SigNote)
+        × Puts r (verdict_bytes check.json report.verdict ++ (warn_bytes check.json report.warnings ++ (sig_notes_bytes check.json notes ++ dropped_bytes check.json report.dropped))) × IsNoted files check report notes)
+    noted wanted p files told =
+        let c = up.checked files told in
+        let ns = noted_list check.signatures (old_side c.records) (new_side c.records) up.of.signatures wanted c.parts.signatures in
+        let parts : List SigNote → List ℕ = λ notes. verdict_bytes check.json up.of.verdict ++ (warn_bytes check.json up.of.warnings ++ (sig_notes_bytes check.json notes ++ dropped_bytes check.json up.of.dropped)) in (
+          up.of,
+          ns.0,
+          p.puts (parts ns.0) (up.text ∙ ap (λ (o : Option (List SigNote)). verdict_bytes check.json up.of.verdict ++ (warn_bytes check.json up.of.warnings ++ (sig_bytes check.json o ++ dropped_bytes check.json up.of.dropped))) ns.1),
+          record { records = c.records; parts = c.parts; signatures = ns.1; exact = ns.2 },
+        )
+
+    interfaces : IsWhole → (report : CheckReport) × Puts r (check_bytes check.json report) × (report.verdict.findings ≡ [] → report.dropped ≡ Some [] → OfFiles r (λ files. KeepsInterfaces files check report))
+    interfaces p = (
+      up.of,
+      p.puts (check_bytes check.json up.of) up.text,
+      λ none nothing files told.
+          let c = up.checked files told in
+          let still : InterfacesStill (old_side c.records) (new_side c.records) [] = subst (λ (o : Option (List Dropped)). IfSome o (InterfacesStill (old_side c.records) (new_side c.records))) nothing c.interfaces in
+          record { records = c.records; parts = c.parts; none = none; nothing = nothing; kept = still up.of.verdict c.parts.verdict.exact none refl },
+    )
+
     unbroken : check.gates ≡ codes "links" ∷ [] → HasLinksGate r.gates → (r.status ≡ PASSED) ⊎ (r.status ≡ NOT_PASSED) → IsWhole
         → (report : CheckReport) × Puts r (check_bytes check.json report) × OfFiles r (λ files. IsBorneOut files check report × ((r.status ≡ PASSED) ↔ (report.verdict.findings ≡ [])))
     unbroken asks gate answered p =
@@ -333,6 +362,8 @@ module _ (r : Ran) (report : Report) (is : Reports r.gates r.words r.trees.befor
     checked = λ answered check e. checked check e (has_whole answered);
     witnessed = λ answered check e dir below. witnessed check e dir below (has_whole answered);
     answered = λ put check e. answered check e (has_whole put);
+    noted = λ put check e wanted. noted check e wanted (has_whole put);
+    interfaces = λ put check e. interfaces check e (has_whole put);
     unbroken = λ answered check e asks gate. unbroken check e asks gate answered (has_whole answered);
     versioned = λ answered check e asks step said gate. versioned check e asks step said gate answered (has_whole answered);
     judged = λ answered history e. judged history e (has_whole answered);
@@ -421,6 +452,8 @@ module _ (r : Ran) (stop : Stop) (cause : HasCause r.gates r.words r.trees stop)
     checked = no_answer;
     witnessed = no_answer;
     answered = no_answer;
+    noted = no_answer;
+    interfaces = no_answer;
     unbroken = no_answer;
     versioned = no_answer;
     judged = no_answer;

@@ -1,13 +1,16 @@
 -- The answers of the top call.
-use Rattle.std.specs.Prelude.{◌≡◌, ◌≢◌, ◌≤◌, ◌⊎◌, ◌↔◌, ℕ, List, [], ◌∷◌, Some, None, Ok, IfOk, Bool, true, false, codes}
+use Rattle.std.specs.Prelude.{◌≡◌, ◌≢◌, ◌≤◌, ◌⊎◌, ◌↔◌, ℕ, List, [], ◌∷◌, ◌++◌, Some, None, Ok, IfOk, IsTrue, Bool, true, false, codes}
 use Rattle.jc_base.specs.Outside.{FileOf}
 use Rattle.jc_base.specs.States.{TreesState, SinkState, FolderState, Change}
+use Rattle.jc_facts.specs.declared.sig_note.SigNote.{SigNote}
 use Rattle.jc_facts.specs.declared.verdict.Verdict.{Verdict}
 use Rattle.jc_facts.specs.Names.{Bytes}
 use Rattle.jc_gate.specs.Gates.{GateOf}
 use Rattle.jc_gate.specs.Meanings.{HasLinksGate}
 use Rattle.jc_commands.specs.Causes.{HasCause, IsRefused, IsAccepted, HasFailed}
-use Rattle.jc_commands.specs.Check.{CheckReport, IsAnswered, IsCompatible, IsIncompatible, IsBorneOut, HoldsClients, check_bytes}
+use Rattle.jc_commands.specs.Check.{CheckReport, IsAnswered, IsCompatible, IsIncompatible, IsBorneOut, IsNoted, KeepsInterfaces, HoldsClients, verdict_bytes, warn_bytes, check_bytes}
+use Rattle.jc_commands.specs.DroppedPart.{dropped_bytes}
+use Rattle.jc_commands.specs.Signatures.{sig_notes_bytes}
 use Rattle.jc_trees.specs.ClassFiles.{Told}
 use Rattle.jc_commands.specs.Command.{CommandOf, CheckOf, HistoryOf, CheckCommand, HistoryCommand, witness_dir, step_of_check, asked, asked_of}
 use Rattle.jc_commands.specs.History.{IsKeptRow}
@@ -137,6 +140,15 @@ pub record Answers (r : Ran) : Type 0 where
   -- not, that answered with the old release all that was due to it answers all that is due with the new, unless it meets a collision of a method made final
   pub answered : (r.status ≡ PASSED) ⊎ (r.status ≡ NOT_PASSED) → (check : CheckOf) → asked r.words ≡ Ok (CheckCommand check)
       → (report : CheckReport) × Puts r (check_bytes check.json report) × (report.verdict.findings ≡ [] → report.warnings ≡ Some [] → OfFiles r (λ files. IsAnswered files check report))
+  -- of a check that asks for notes on signatures: what was put is its verdict, then its warnings where they are asked for, then the notes, a line for each
+  -- or one JSON object of all, and then its dropped interfaces where they are asked for. The notes are exactly those on the generic signatures of the two releases
+  pub noted : (r.status ≡ PASSED) ⊎ (r.status ≡ NOT_PASSED) → (check : CheckOf) → asked r.words ≡ Ok (CheckCommand check) → IsTrue check.signatures
+      → OfFiles r (λ files. (report : CheckReport) × (notes : List SigNote)
+      × Puts r (verdict_bytes check.json report.verdict ++ (warn_bytes check.json report.warnings ++ (sig_notes_bytes check.json notes ++ dropped_bytes check.json report.dropped))) × IsNoted files check report notes)
+  -- of a check that asks for dropped interfaces: where the verdict in what was put has no finding and no interface was put as dropped, each client world in scope
+  -- that meets none of its collisions keeps, above each class that is a client or whose values clients can hold, each interface that clients can name
+  pub interfaces : (r.status ≡ PASSED) ⊎ (r.status ≡ NOT_PASSED) → (check : CheckOf) → asked r.words ≡ Ok (CheckCommand check)
+      → (report : CheckReport) × Puts r (check_bytes check.json report) × (report.verdict.findings ≡ [] → report.dropped ≡ Some [] → OfFiles r (λ files. KeepsInterfaces files check report))
   -- of a check that asks for witnesses: below the path such class files stand for each finding and each collision, by its number, and every other path
   -- is as before
   pub witnessed : (r.status ≡ PASSED) ⊎ (r.status ≡ NOT_PASSED) → (check : CheckOf) → asked r.words ≡ Ok (CheckCommand check) → (dir : Bytes) → check.witness ≡ Some dir

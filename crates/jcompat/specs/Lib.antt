@@ -1,2 +1,4 @@
 pub mod Answers
+pub mod Program
+pub mod Alike
 pub mod steps

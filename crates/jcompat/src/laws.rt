@@ -13,6 +13,7 @@ ghost use Rattle.jc_facts.specs.rule.Verdict.{IsVerdict};
 ghost use Rattle.jc_facts.specs.world.World.{side};
 ghost use Rattle.jc_gate.specs.Gates.{GateOf, gate_of};
 ghost use Rattle.jc_commands.specs.Causes.{IsRefused, IsAccepted};
+ghost use Rattle.jcompat.specs.Alike.{OneAnswer};
 ghost use Rattle.jcompat.specs.Answers.{Answers, Ran, ran, Puts};
 ghost use Rattle.jc_commands.specs.Command.{CommandOf, MakeCommand, asked};
 ghost use Rattle.jc_commands.specs.Make.{IsVerdictOnMade};
@@ -60,6 +61,12 @@ pub fn one_report()
 pub fn generated_releases()
     ensures { (r : Ran) (n : ℕ) → Answers r → asked r.words ≡ Ok (MakeCommand n)
         → ((r.status ≡ PASSED) × ((v : Verdict) × IsVerdictOnMade n v × Puts r (made_text_of n v))) ⊎ (r.status ≡ WRITE_FAULT) ⊎ (r.status ≡ NO_MEMORY) }
+{}
+
+/// Two runs with the same words, gates and told files, both of which answer, put the same bytes and have
+/// one status.
+pub fn one_answer()
+    ensures { OneAnswer }
 {}
 
 /// The top call over trees, sinks and a folder that don't fail. Only want of memory stands in the way

@@ -1,11 +1,18 @@
 //! Says whether clients that were compiled against an old release of a library link with a new one.
 #![tactic(auto)]
 
+ghost use Rattle.std.specs.Prelude.{◌≡◌, ◌⊎◌, List, IfOk, IfSome};
+ghost use Rattle.jc_base.specs.States.{change};
+ghost use Rattle.jc_gate.specs.Gates.{GateOf};
+ghost use Rattle.jcompat.specs.Answers.{ran};
+ghost use Rattle.jcompat.specs.Program.{OwnAnswers};
+
 mod disk_folder;
 mod disk_trees;
 mod laws;
 mod run;
 mod std_sink;
+mod writer;
 
 use crate::disk_folder::DiskFolder;
 use crate::disk_trees::DiskTrees;
@@ -54,7 +61,9 @@ fn run_with_gates<T: Trees, O: Sink, E: Sink, F: Folder>(
     out: &mut O,
     err: &mut E,
     witnesses: &mut F,
-) -> Result<u8, AllocError> {
+) -> Result<u8, AllocError>
+    ensures { IfOk result (λ status. (gates : List GateOf) × OwnAnswers (ran gates words.now (change T.state trees.old trees.new) (change O.state out.old out.new) (change E.state err.old err.new) (change F.state witnesses.old witnesses.new) status)) }
+{
     let mut gates: Vec<Box<dyn Gate>> = Vec::new(alloc);
     gates.push(Box::new(alloc, Links::new())?)?;
     gates.push(Box::new(alloc, Collisions::new())?)?;
@@ -63,7 +72,8 @@ fn run_with_gates<T: Trees, O: Sink, E: Sink, F: Folder>(
     Ok(run(alloc, words, trees, out, err, witnesses, gates))
 }
 
-// Runs with these words. No command takes a word that isn't UTF-8.
+// Runs with these words and the gates of the program, unless there is no memory for these. No command takes a
+// word that isn't UTF-8.
 fn run_words<T: Trees, O: Sink, E: Sink, F: Folder>(
     alloc: Global,
     words: Option<Vec<Text>>,
@@ -71,16 +81,14 @@ fn run_words<T: Trees, O: Sink, E: Sink, F: Folder>(
     out: &mut O,
     err: &mut E,
     witnesses: &mut F,
-) -> u8 {
+) -> u8
+    ensures { IfSome words (λ given. (result ≡ NO_MEMORY) ⊎ ((gates : List GateOf) × OwnAnswers (ran gates given.items (change T.state trees.old trees.new) (change O.state out.old out.new) (change E.state err.old err.new) (change F.state witnesses.old witnesses.new) result))) }
+{
     match words {
-        Some(words) => run_with_gates(
-            alloc,
-            words.as_slice(),
-            trees,
-            out,
-            err,
-            witnesses,
-        ).unwrap_or(NO_MEMORY),
+        Some(words) => match run_with_gates(alloc, words.as_slice(), trees, out, err, witnesses) {
+            Ok(status) => status,
+            Err(_) => NO_MEMORY,
+        },
         None => put_stop(alloc, &Stop::Usage(Usage::Words), err),
     }
 }

@@ -1,32 +1,35 @@
 //! Standard output and standard error as sinks.
-ghost use Rattle.std.specs.Prelude.{◌≡◌, ◌≤◌, ◌<◌, ◌^◌, OnErr, None};
+ghost use Rattle.std.specs.Prelude.{◌≡◌, ◌≤◌, ◌<◌, ◌^◌, OnErr, None, if◌then◌else◌};
 ghost use Rattle.jc_base.specs.Causes.{Rose};
 ghost use Rattle.jc_base.specs.States.{SinkState};
+ghost use Rattle.jcompat.specs.steps.Written.{IsWrittenSo};
 
+use crate::writer::Writer;
 use jc_base::sink::{Sink, SinkError};
-use std::io::Write;
 
-/// A sink over a writer, as standard output. It doesn't tell what the writer took.
+/// A sink over a writer, as standard output. It tells what the writer took where that tells it.
 ///
 /// A call fails where a write or the flush behind the last write fails, and where the writer takes
 /// nothing of bytes that aren't empty. The count of failed calls stops at `u64::MAX`.
 #[derive(Drop)]
-pub struct StdSink<W: Write + Drop> {
+pub struct StdSink<W: Writer + Drop> {
     writer: W,
     faults: u64,
 }
 
-impl<W: Write + Drop> StdSink<W> {
+impl<W: Writer + Drop> StdSink<W> {
     /// No call has failed yet.
     pub fn new(writer: W) -> StdSink<W>
-        ensures { (⟦<StdSink<W> as Sink>⟧.state result).faults ≡ 0 }
+        ensures faults { (⟦<StdSink<W> as Sink>⟧.state result).faults ≡ 0 }
+        ensures taken { (⟦<StdSink<W> as Sink>⟧.state result).taken ≡ (if W.tells then W.contents writer else None) }
     {
         StdSink { writer, faults: 0 }
     }
 
     // Writes all bytes, and says whether the writer took them.
     fn is_written(&mut self, bytes: &[u8]) -> bool
-        ensures { self.new.faults ≡ self.old.faults }
+        ensures uncounted { self.new.faults ≡ self.old.faults }
+        ensures written { IsWrittenSo (W.contents self.old.writer) (W.contents self.new.writer) bytes.now result }
     {
         let mut rest = bytes;
         while !rest.is_empty() {
@@ -39,8 +42,8 @@ impl<W: Write + Drop> StdSink<W> {
     }
 }
 
-impl<W: Write + Drop> Sink for StdSink<W> {
-    ghost state = { λ s. record { taken = None; faults = s.faults } };
+impl<W: Writer + Drop> Sink for StdSink<W> {
+    ghost state = { λ s. record { taken = if W.tells then W.contents s.writer else None; faults = s.faults } };
 
     fn put(&mut self, bytes: &[u8]) -> Result<(), SinkError> {
         let faults = self.faults;

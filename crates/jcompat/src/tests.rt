@@ -1,5 +1,6 @@
 //! Runs over trees in memory and over folders, against what they are to say.
 mod assembler;
+mod dropped;
 mod files;
 mod folders;
 mod gates;
@@ -11,8 +12,10 @@ mod links;
 mod outside;
 mod refusals;
 mod rows;
+mod signatures;
 mod verdicts;
 mod versions;
+mod warnings;
 mod witnesses;
 mod words;
 

@@ -1,6 +1,8 @@
 -- What is found in the records of a check, on the way.
 use Rattle.std.specs.Prelude.{◌≡◌, ◌<◌, ◌⊎◌, Bool, IsTrue, List, [], length, Some, IfSome, option_map}
 use Rattle.std.specs.List.{All}
+use Rattle.jc_dropped.specs.declared.dropped.Dropped.{Dropped}
+use Rattle.jc_dropped.specs.Dropped.{AreDropped}
 use Rattle.jc_facts.specs.declared.class_facts.ClassFacts.{ClassFacts}
 use Rattle.jc_facts.specs.declared.client.ClientClass.{ClientClass}
 use Rattle.jc_facts.specs.declared.verdict.Verdict.{Verdict}
@@ -9,21 +11,26 @@ use Rattle.jc_facts.specs.client.Kept.{BreaksClass}
 use Rattle.jc_facts.specs.rule.Verdict.{IsVerdict, count_of}
 use Rattle.jc_facts.specs.rule.Warnings.{AreWarnings}
 use Rattle.jc_facts.specs.declared.warning.Warning.{Warning}
+use Rattle.jc_select.specs.DroppedWithin.{InterfacesStill}
 use Rattle.jc_select.specs.Within.{AnswersStill}
 use Rattle.jc_facts.specs.world.World.{World, side}
 use Rattle.jc_bodies.specs.Files.{CanWrite}
-use Rattle.jc_table.specs.declared.table.TableError.{TableError}
-use Rattle.jc_table.specs.declared.table.TableError.TheVariants as errors
-use Rattle.jc_commands.specs.Check.{IsUnfit, IsVerdictOn, AreWarned, MeetsNone, mismatch_of}
+use Rattle.jc_commands.specs.Check.{CheckReport, IsUnfit, IsVerdictOn, AreWarned, MeetsNone, mismatch_of, report_of}
+use Rattle.jc_commands.specs.Command.{CheckOf}
+use Rattle.jc_commands.specs.DroppedPart.{AreAskedDropped}
+use Rattle.jc_commands.specs.Signatures.{AreNoted}
 use Rattle.jc_commands.specs.declared.comparison.Comparison.{Comparison}
-use Rattle.jc_commands.specs.declared.limits.TheConstants.{MAX_FINDINGS, MAX_WARNINGS}
-use Rattle.jc_trees.specs.declared.tree.TreeName.{TreeName}
+use Rattle.jc_commands.specs.declared.limits.TheConstants.{MAX_FINDINGS, MAX_WARNINGS, MAX_DROPPED}
 use Rattle.jc_commands.specs.declared.stop.Part.TheVariants as parts
 use Rattle.jc_commands.specs.declared.stop.Stop.{Stop}
 use Rattle.jc_commands.specs.declared.stop.Stop.TheVariants as stops
 
--- what is known of the comparison of these records, with warnings where they are asked for
-pub record IsComparison (warn : Bool) (platform old new : List ClassFacts) (c : Comparison) : Type 0 where
+-- the report on it, part by part
+abbrev pub report_made : Comparison → CheckReport
+report_made c = report_of c.verdict (option_map (λ ws. ws.items) c.warnings) (option_map (λ ns. ns.items) c.signatures) (option_map (λ ds. ds.items) c.dropped)
+
+-- what is known of the comparison of these records, with the parts that the check asks for
+pub record IsComparison (check : CheckOf) (platform old new : List ClassFacts) (c : Comparison) : Type 0 where
   pub old_is : c.old ≡ side platform old
   pub new_is : c.new ≡ side platform new
   pub can : CanWrite (side platform old) (side platform new)
@@ -31,16 +38,19 @@ pub record IsComparison (warn : Bool) (platform old new : List ClassFacts) (c : 
   pub kept : c.verdict.findings ≡ [] → (cs : List ClientClass) → IsInScope (side platform old) (side platform new) cs → MeetsNone (side platform old) cs c.verdict.collisions
       → Keeps (side platform old) (side platform new) cs
   pub breaks : All (λ f. f.rule ≡ 1 → BreaksClass (side platform old) (side platform new) f.class f.error) c.verdict.findings
-  pub warned : AreWarned warn (side platform old) (side platform new) (option_map (λ ws. ws.items) c.warnings)
+  pub warned : AreWarned check.warn (side platform old) (side platform new) (option_map (λ ws. ws.items) c.warnings)
+  pub noted : AreNoted check.signatures (side platform old) (side platform new) (option_map (λ ns. ns.items) c.signatures)
+  pub dropped : AreAskedDropped check.dropped (side platform old) (side platform new) (option_map (λ ds. ds.items) c.dropped)
   pub answered : IfSome (option_map (λ ws. ws.items) c.warnings) (AnswersStill (side platform old) (side platform new))
+  pub interfaces : IfSome (option_map (λ ds. ds.items) c.dropped) (InterfacesStill (side platform old) (side platform new))
 
 -- why there are no tables of the two sides
 abbrev pub StopsMatching : List ClassFacts → List ClassFacts → List ClassFacts → Stop → Type 0
 StopsMatching platform old new stop = (mismatch_of platform old new ≡ Some stop) ⊎ (stop ≡ stops.Memory)
 
 -- why comparing the records stopped
-abbrev pub StopsComparing : Bool → List ClassFacts → List ClassFacts → List ClassFacts → Stop → Type 0
-StopsComparing warn platform old new stop = IsUnfit warn platform old new stop ⊎ (stop ≡ stops.Memory)
+abbrev pub StopsComparing : CheckOf → List ClassFacts → List ClassFacts → List ClassFacts → Stop → Type 0
+StopsComparing check platform old new stop = IsUnfit check platform old new stop ⊎ (stop ≡ stops.Memory)
 
 -- why the verdict on the sides isn't printed
 abbrev pub StopsCounting : World → World → Stop → Type 0
@@ -50,8 +60,6 @@ StopsCounting O N stop = ((stop ≡ stops.TooMany parts.Findings) × ((v : Verdi
 abbrev pub StopsWarning : Bool → World → World → Stop → Type 0
 StopsWarning warn O N stop = (IsTrue warn × (stop ≡ stops.TooMany parts.Warnings) × ((ws : List Warning) → AreWarnings O N ws → MAX_WARNINGS < length ws)) ⊎ (stop ≡ stops.Memory)
 
--- how a table that isn't built stops the comparison
-abbrev pub unfit_by : TreeName → TableError → Stop
-unfit_by name (errors.BadRoot part) = stops.BadRoot part
-unfit_by name (errors.Overlap class) = stops.Overlap name class
-unfit_by name errors.Memory = stops.Memory
+-- why the dropped interfaces of the sides aren't printed
+abbrev pub StopsDropping : Bool → World → World → Stop → Type 0
+StopsDropping dropped O N stop = (IsTrue dropped × (stop ≡ stops.TooMany parts.Dropped) × ((ds : List Dropped) → AreDropped O N ds → MAX_DROPPED < length ds)) ⊎ (stop ≡ stops.Memory)

@@ -60,7 +60,7 @@ pub(super) fn number(words: &str, key: &str) -> u64 {
 }
 
 const KNOWN: &str =
-    "init method field implements permits nest_member nest_host flags extends sealed";
+    "init method field implements permits nest_member nest_host flags extends sealed signature";
 
 // Whether the word says something of a class.
 fn is_known(word: &str) -> bool {
@@ -143,18 +143,30 @@ impl ClassFile {
         self.put(rt, len)
     }
 
-    // Puts the attributes of a member: its constant value, where it has one.
-    fn put_value(&mut self, rt: &impl Host, value: &str) {
-        let Ok(number) = value.parse::<u16>() else {
-            return self.put(rt, 0);
-        };
-        self.put(rt, 1);
+    fn put_constant(&mut self, rt: &impl Host, number: u16) {
         self.put_attribute(rt, "ConstantValue", 2);
         let index = self.entry(rt, 3, 0, &number.to_be_bytes());
         self.put(rt, index)
     }
 
-    // Puts the member `FLAGS:NAME:DESCRIPTOR` or, with a constant value, `FLAGS:NAME:DESCRIPTOR:VALUE`.
+    fn put_signature(&mut self, rt: &impl Host, text: &str) {
+        if !text.is_empty() {
+            self.put_attribute(rt, "Signature", 2);
+            self.put_text(rt, text);
+        }
+    }
+
+    // Puts the attributes of a member: its constant value of digits, or its signature, where it has one.
+    fn put_value(&mut self, rt: &impl Host, value: &str) {
+        self.put(rt, u16::from(!value.is_empty()));
+        match value.parse::<u16>() {
+            Ok(number) => self.put_constant(rt, number),
+            Err(_) => self.put_signature(rt, value),
+        }
+    }
+
+    // Puts the member `FLAGS:NAME:DESCRIPTOR` or, with a constant value or a signature,
+    // `FLAGS:NAME:DESCRIPTOR:VALUE`.
     fn put_member(&mut self, rt: &impl Host, member: &str) {
         let (flags, rest) = cut(member, ":");
         let (name, typed) = cut(rest, ":");
@@ -189,13 +201,20 @@ impl ClassFile {
         }
     }
 
-    // Puts the attributes of a class: its nest host, its nest members, and the names that it permits.
-    fn put_attributes(&mut self, rt: &impl Host, host: &str, members: &[&str], permits: &[&str]) {
+    // Puts the attributes of a class: its nest host, its nest members, the names that it permits, and its
+    // signature.
+    fn put_attributes(&mut self, rt: &impl Host, words: &str) {
+        let host = value_or(words, "nest_host", "");
+        let members = values(rt, words, "nest_member");
+        let permits = values(rt, words, "permits");
+        let signature = value_or(words, "signature", "");
         let nest = u16::from(!host.is_empty()).saturating_add(u16::from(!members.is_empty()));
-        self.put(rt, nest.saturating_add(u16::from(!permits.is_empty())));
+        let lists = nest.saturating_add(u16::from(!permits.is_empty()));
+        self.put(rt, lists.saturating_add(u16::from(!signature.is_empty())));
         self.put_host(rt, host);
-        self.put_list(rt, "NestMembers", members);
-        self.put_list(rt, "PermittedSubclasses", permits)
+        self.put_list(rt, "NestMembers", members.as_slice());
+        self.put_list(rt, "PermittedSubclasses", permits.as_slice());
+        self.put_signature(rt, signature)
     }
 
     // Its bytes, of a version.
@@ -228,10 +247,7 @@ fn class_bytes(rt: &impl Host, text: &str) -> Vec<u8> {
     file.put_classes(rt, values(rt, words, "implements").as_slice());
     file.put_members(rt, values(rt, words, "field").as_slice());
     file.put_members(rt, values(rt, words, "method").as_slice());
-    let host = value_or(words, "nest_host", "");
-    let members = values(rt, words, "nest_member");
-    let permits = values(rt, words, "permits");
-    file.put_attributes(rt, host, members.as_slice(), permits.as_slice());
+    file.put_attributes(rt, words);
     let is_sealed = value_or(words, "sealed", "no").is_empty();
     file.bytes(rt, if is_sealed { 61 } else { 52 })
 }

@@ -3,6 +3,7 @@ use super::Host;
 use super::assembler::cut;
 use crate::disk_trees::DiskTrees;
 use crate::std_sink::StdSink;
+use crate::writer::Writer;
 use crate::{run_words, words_after_name};
 use jc_base::file_buf::FileBuf;
 use jc_base::sink::{Sink, SinkError};
@@ -160,8 +161,24 @@ impl Write for Narrow {
     }
 }
 
-fn put_pieces(rt: &impl Host, path: &str) {
-    let mut sink = StdSink::new(fs::create(rt, path).expect(rt, "made"));
+impl Writer for Narrow {
+    ghost use Rattle.std.specs.Prelude.{false, refl};
+
+    ghost tells = { false };
+
+    ghost known = { λ w. refl };
+}
+
+impl Writer for fs::File {
+    ghost use Rattle.std.specs.Prelude.{false, refl};
+
+    ghost tells = { false };
+
+    ghost known = { λ w. refl };
+}
+
+fn put_pieces<W: Writer + Drop>(rt: &impl Host, writer: W) {
+    let mut sink = StdSink::new(writer);
     for piece in ["p/A\n", "", "p/B\n"] {
         assert!(rt; sink.put(piece.as_bytes()).is_ok());
     }
@@ -177,7 +194,7 @@ pub(super) fn see_text(rt: &impl Host, path: &str, wanted: &str) {
 fn real_files_take_what_is_put(rt: HostRuntime) -> Result<(), Fail> {
     let root = new_folder(&rt, "sink")?;
     let path = below(&rt, root.as_str(), "out");
-    put_pieces(&rt, path.as_str());
+    put_pieces(&rt, fs::create(&rt, path.as_str())?);
     see_text(&rt, path.as_str(), "p/A\np/B\n");
     remove(&rt, root.as_str());
     Ok(())

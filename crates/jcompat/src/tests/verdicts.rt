@@ -30,6 +30,12 @@ const CLASSES: &str = r"$ check --platform P --old O --new N
 #1 a superclass that left the chain : O p/A extends=p/B init | O p/B init | N p/A init | N p/B init
 > 1 H4 p/A p/B assign - VerifyError | incompatible: 1 findings, 0 collisions, 0 notes
 * d/000001/w0/U.class | item w0/U assign p/A p/B - | VerifyError
+#1 a hidden class that lost a superclass : O,N p/B flags=20 init | O,N p/A init method=9:s:()Lp/S; method=9:b:(Lp/B;)V | O p/S flags=20 extends=p/B init | N p/S flags=20 init
+> 1 H4 p/S p/B assign java/lang/Object VerifyError | incompatible: 1 findings, 0 collisions, 0 notes
+* d/000001/w0/Y.class | item w0/Y assign p/S p/B - | VerifyError
+#1 a hidden interface that became a class : O,N p/A init method=9:i:()Lp/I; | O p/I flags=600 | N p/I flags=20 init
+> 1 H3 p/I - assign java/lang/Object VerifyError | incompatible: 1 findings, 0 collisions, 0 notes
+* d/000001/w0/Y.class | item w0/Y assign java/lang/Object p/I - | VerifyError
 #0 superclasses in a cycle : O p/A extends=p/B init | O p/B extends=p/A init | N p/A extends=p/B init | N p/B extends=p/A init
 > note unloadable old p/A ClassCircularityError | note unloadable old p/B ClassCircularityError
 > note unloadable new p/A ClassCircularityError | note unloadable new p/B ClassCircularityError

@@ -1,20 +1,29 @@
-use Rattle.jc_commands.proofs.Causes.{unfit_old, unfit_new, releases_fit}
+use Rattle.std.proofs.Common.{◌∙◌, List, sym, ap, length, subst}
+use Rattle.jc_witness.specs.Ground.{HasShortSide}
+use Rattle.jc_commands.specs.declared.releases.Release.{Release}
+use Rattle.jc_commands.specs.steps.Releases.{StopsOver}
 use Rattle.jc_commands.proofs.Compared.{short_side}
+use Rattle.jc_commands.proofs.ReleasesOver.{two_sides, two_tables, two_lists, two_some}
 use Rattle.jc_commands.proofs.comparison.sides_over.Goals as goal
 
+pub tables_over-requires-clause-releases : goal.tables_over-requires-clause-releases
+tables_over-requires-clause-releases c = two_lists _ _ _ c.in-Ok.ensures c.requires.old c.requires.new
+
+pub tables_over-requires-clause-some : goal.tables_over-requires-clause-some
+tables_over-requires-clause-some c = two_some _ _ _ c.in-Ok.ensures
+
 pub returns-in-Err-clause-stopped : goal.returns-in-Err-clause-stopped
-returns-in-Err-clause-stopped c = rw c.unfit.ensures (unfit_old c.args.platform.now c.args.old.items c.args.new.items c.in-Err.error c.in-Err.ensures.refused)
+returns-in-Err-clause-stopped c = subst (λ (rs : List Release). StopsOver c.args.platform.now rs c.in-Err.stop) c.in-Ok.ensures c.in-Err.ensures.stopped
 
-pub returns-in-Ok-over-clause-fits : goal.returns-in-Ok-over-clause-fits
-returns-in-Ok-over-clause-fits c = releases_fit c.args.platform.now c.args.old.items c.args.new.items c.in-Ok.ensures.sound.0 c.in-Ok.ensures.sound.1 c.in-Ok-over.ensures.sound.1
-
-pub returns-in-Err-over-clause-stopped : goal.returns-in-Err-over-clause-stopped
-returns-in-Err-over-clause-stopped c =
-    rw c.unfit-in-Err-over.ensures
-    (unfit_new c.args.platform.now c.args.old.items c.args.new.items c.in-Err-over.error c.in-Ok.ensures.sound.0 c.in-Ok.ensures.sound.1 c.in-Err-over.ensures.refused)
+pub both_of-old-requires : goal.both_of-old-requires
+both_of-old-requires c = ap length (two_tables c.args.platform.now c.args.old.items c.args.new.items _ _ c.in-Ok.ensures c.in-Ok-tables_over.ensures.built)
 
 pub of_tables-requires-clause-short_old : goal.of_tables-requires-clause-short_old
-of_tables-requires-clause-short_old c = rw c.in-Ok.ensures.built (short_side _ _ c.requires.platform.short c.requires.old.short)
+of_tables-requires-clause-short_old c =
+    subst HasShortSide (sym (two_sides _ _ _ _ (sym c.both_of-old.ensures ∙ two_tables c.args.platform.now c.args.old.items c.args.new.items _ _ c.in-Ok.ensures c.in-Ok-tables_over.ensures.built)).0)
+    (short_side _ _ c.requires.platform.short c.requires.old.short)
 
 pub of_tables-requires-clause-short_new : goal.of_tables-requires-clause-short_new
-of_tables-requires-clause-short_new c = rw c.in-Ok-over.ensures.built (short_side _ _ c.requires.platform.short c.requires.new.short)
+of_tables-requires-clause-short_new c =
+    subst HasShortSide (sym (two_sides _ _ _ _ (sym c.both_of-old.ensures ∙ two_tables c.args.platform.now c.args.old.items c.args.new.items _ _ c.in-Ok.ensures c.in-Ok-tables_over.ensures.built)).1)
+    (short_side _ _ c.requires.platform.short c.requires.new.short)

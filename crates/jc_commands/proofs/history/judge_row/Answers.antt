@@ -4,7 +4,8 @@ use Rattle.jc_commands.specs.Command.{HistoryCommand}
 use Rattle.jc_trees.specs.TreeView.{tree_of}
 use Rattle.jc_words.specs.CommandView.{history_of}
 use Rattle.jc_commands.proofs.Causes.{cause_reading, cause_judging, row_reported}
-use Rattle.jc_commands.proofs.RowJudged.{first_read, releases_read, some_rest, few_rest}
+use Rattle.jc_commands.proofs.TreesTaken.{all_kinds, platform_taken, releases_taken, count_taken, some_taken, few_taken, release_lists, mapped_records, row_taken}
+use Rattle.jc_trees.proofs.TakenReads.{rest_of_lists}
 use Rattle.jc_commands.proofs.history.judge_row.Goals as goal
 
 pub returns-in-Err-clause-stopped : goal.returns-in-Err-clause-stopped
@@ -12,28 +13,32 @@ returns-in-Err-clause-stopped g c =
     cause_reading (HistoryCommand (history_of c.args.asked.now)) (change g.T.Trees.state c.args.trees.now c.read_trees.new.trees) (λ P h. h) _ (ap (map tree_of) c.as_slice.ensures.value ∙ c.in-Ok.ensures)
     c.stop_of.result c.in-Err.error c.stop_of.ensures c.in-Err.ensures.stopped
 
-pub judged-requires-clause-some : goal.judged-requires-clause-some
-judged-requires-clause-some g c =
-    let wanted = ap (map tree_of) c.as_slice.ensures.value ∙ c.in-Ok.ensures in
-    let all = first_read (history_of c.args.asked.now) _ _ _ _ _ wanted c.in-Ok-read_trees.ensures.whole c.remove.ensures.value c.remove.ensures.by_index.2 c.into_vec-platform.ensures in
-    some_rest _ _ (releases_read (history_of c.args.asked.now) _ _ _ _ wanted c.in-Ok-read_trees.ensures.whole all) c.requires.0
+pub take_records-platform-requires : goal.take_records-platform-requires
+take_records-platform-requires g c = platform_taken (history_of c.args.asked.now) _ (all_kinds _ _ _ c.in-Ok-read_trees.ensures.kinds (ap (map tree_of) c.as_slice.ensures.value ∙ c.in-Ok.ensures))
 
-pub judged-requires-clause-few : goal.judged-requires-clause-few
-judged-requires-clause-few g c =
-    let wanted = ap (map tree_of) c.as_slice.ensures.value ∙ c.in-Ok.ensures in
-    let all = first_read (history_of c.args.asked.now) _ _ _ _ _ wanted c.in-Ok-read_trees.ensures.whole c.remove.ensures.value c.remove.ensures.by_index.2 c.into_vec-platform.ensures in
-    few_rest _ _ (releases_read (history_of c.args.asked.now) _ _ _ _ wanted c.in-Ok-read_trees.ensures.whole all) c.requires.1
+pub numbered_releases-requires-clause-libraries : goal.numbered_releases-requires-clause-libraries
+numbered_releases-requires-clause-libraries g c = releases_taken (history_of c.args.asked.now) _ (all_kinds _ _ _ c.in-Ok-read_trees.ensures.kinds (ap (map tree_of) c.as_slice.ensures.value ∙ c.in-Ok.ensures)) _ _ c.take_records-platform.ensures
+
+pub numbered_releases-requires-clause-few : goal.numbered_releases-requires-clause-few
+numbered_releases-requires-clause-few g c = few_taken _ _ (count_taken (history_of c.args.asked.now) _ (all_kinds _ _ _ c.in-Ok-read_trees.ensures.kinds (ap (map tree_of) c.as_slice.ensures.value ∙ c.in-Ok.ensures)) _ _ c.take_records-platform.ensures) c.requires.1
+
+pub judged-requires-clause-platform : goal.judged-requires-clause-platform
+judged-requires-clause-platform g c = (rest_of_lists _ _ _ c.in-Ok-read_trees.ensures.lists c.take_records-platform.ensures).0
+
+pub judged-requires-clause-releases : goal.judged-requires-clause-releases
+judged-requires-clause-releases g c = release_lists _ _ c.in-Ok-numbered_releases.ensures.read (rest_of_lists _ _ _ c.in-Ok-read_trees.ensures.lists c.take_records-platform.ensures).1
+
+pub judged-requires-clause-some : goal.judged-requires-clause-some
+judged-requires-clause-some g c = some_taken _ _ _ _ c.in-Ok-numbered_releases.ensures.read (count_taken (history_of c.args.asked.now) _ (all_kinds _ _ _ c.in-Ok-read_trees.ensures.kinds (ap (map tree_of) c.as_slice.ensures.value ∙ c.in-Ok.ensures)) _ _ c.take_records-platform.ensures) c.requires.0
 
 pub returns-clause-stopped : goal.returns-clause-stopped
 returns-clause-stopped g c =
-    let wanted = ap (map tree_of) c.as_slice.ensures.value ∙ c.in-Ok.ensures in
-    cause_judging (history_of c.args.asked.now) (change g.T.Trees.state c.args.trees.now c.read_trees.new.trees) _ wanted _ _ _
-    (first_read (history_of c.args.asked.now) _ _ _ _ _ wanted c.in-Ok-read_trees.ensures.whole c.remove.ensures.value c.remove.ensures.by_index.2 c.into_vec-platform.ensures)
+    cause_judging (history_of c.args.asked.now) (change g.T.Trees.state c.args.trees.now c.read_trees.new.trees) _ (ap (map tree_of) c.as_slice.ensures.value ∙ c.in-Ok.ensures) _ _ _
+    (row_taken _ _ _ _ c.take_records-platform.ensures c.in-Ok-numbered_releases.ensures.read)
     c.in-Ok-read_trees.ensures.read c.in-Err-judged.stop c.in-Err-judged.ensures.stopped
 
 pub returns-in-Ok-judged-clause-report : goal.returns-in-Ok-judged-clause-report
 returns-in-Ok-judged-clause-report g c =
-    let wanted = ap (map tree_of) c.as_slice.ensures.value ∙ c.in-Ok.ensures in
-    row_reported (history_of c.args.asked.now) (change g.T.Trees.state c.args.trees.now c.read_trees.new.trees) _ wanted _ _ _
-    (first_read (history_of c.args.asked.now) _ _ _ _ _ wanted c.in-Ok-read_trees.ensures.whole c.remove.ensures.value c.remove.ensures.by_index.2 c.into_vec-platform.ensures)
+    row_reported (history_of c.args.asked.now) (change g.T.Trees.state c.args.trees.now c.read_trees.new.trees) _ (ap (map tree_of) c.as_slice.ensures.value ∙ c.in-Ok.ensures) _ _ _
+    (row_taken _ _ _ _ c.take_records-platform.ensures c.in-Ok-numbered_releases.ensures.read)
     c.in-Ok-read_trees.ensures.read _ _ c.in-Ok-judged.ensures.judged c.of_row.ensures.shown (c.of_row.ensures.tells (history_of c.args.asked.now))

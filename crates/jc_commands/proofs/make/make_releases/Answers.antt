@@ -1,4 +1,4 @@
-use Rattle.jc_commands.proofs.Releases.{made_lists, only_memory, made_reported}
+use Rattle.jc_commands.proofs.MadeReleases.{made_lists, only_memory, made_reported}
 use Rattle.jc_commands.proofs.make.make_releases.Goals as goal
 
 pub verdict_on-requires-clause-platform : goal.verdict_on-requires-clause-platform

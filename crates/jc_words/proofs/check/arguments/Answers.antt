@@ -12,4 +12,6 @@ returns c =
     let six = added _ _ _ _ _ c.in_ok-arg-6.ensures c.option-2.ensures.local c.option-2.ensures.rule five in
     let seven = added _ _ _ _ _ c.in_ok-arg-7.ensures c.option-3.ensures.local c.option-3.ensures.rule six in
     let eight = added _ _ _ _ _ c.in_ok-arg-8.ensures c.option-4.ensures.local c.option-4.ensures.rule seven in
-    IfOk-weaker _ _ _ (λ x h. added _ x _ _ _ h c.flag-2.ensures.local c.flag-2.ensures.rule eight) c.arg-9.ensures
+    let nine = added _ _ _ _ _ c.in_ok-arg-9.ensures c.flag-2.ensures.local c.flag-2.ensures.rule eight in
+    let ten = added _ _ _ _ _ c.in_ok-arg-10.ensures c.flag-3.ensures.local c.flag-3.ensures.rule nine in
+    IfOk-weaker _ _ _ (λ x h. added _ x _ _ _ h c.flag-4.ensures.local c.flag-4.ensures.rule ten) c.arg-11.ensures

@@ -19,6 +19,7 @@ returns c = record {
   dashes_as_value = refl;
   value_of_flag = refl;
   true_of_flag = refl;
+  value_of_signatures = refl;
   word_of_no_option = refl;
   empty_word = refl;
   word_after_dashes = refl;

@@ -1,8 +1,9 @@
-use Rattle.jc_commands.proofs.Causes.{unmatched, unfit_counting, unfit_warning}
+use Rattle.jc_words.specs.CommandView.{check_of}
+use Rattle.jc_commands.proofs.Causes.{unmatched, unfit_counting, unfit_warning, unfit_dropping}
 use Rattle.jc_commands.proofs.comparison.Comparison.of_records.Goals as goal
 
-pub returns-in-Ok-warned-clause-compared : goal.returns-in-Ok-warned-clause-compared
-returns-in-Ok-warned-clause-compared c = record {
+pub returns-in-Ok-lost-clause-compared : goal.returns-in-Ok-lost-clause-compared
+returns-in-Ok-lost-clause-compared c = record {
   old_is = c.in-Ok.ensures.old;
   new_is = c.in-Ok.ensures.new;
   can = rw (c.in-Ok.ensures.old, c.in-Ok.ensures.new) at c.in-Ok.ensures.can;
@@ -10,19 +11,28 @@ returns-in-Ok-warned-clause-compared c = record {
   kept = rw (c.in-Ok.ensures.old, c.in-Ok.ensures.new) at c.in-Ok-counted.ensures.kept;
   breaks = rw (c.in-Ok.ensures.old, c.in-Ok.ensures.new) at c.in-Ok-counted.ensures.broken;
   warned = rw (c.in-Ok.ensures.old, c.in-Ok.ensures.new) at c.in-Ok-warned.ensures.exact;
+  noted = rw (c.in-Ok.ensures.old, c.in-Ok.ensures.new) at c.in-Ok-noted.ensures;
+  dropped = rw (c.in-Ok.ensures.old, c.in-Ok.ensures.new) at c.in-Ok-lost.ensures.exact;
+  interfaces = rw (c.in-Ok.ensures.old, c.in-Ok.ensures.new) at c.in-Ok-lost.ensures.kept;
   answered = rw (c.in-Ok.ensures.old, c.in-Ok.ensures.new) at c.in-Ok-warned.ensures.answered;
 }
 
 pub returns-in-Err-clause-stopped : goal.returns-in-Err-clause-stopped
-returns-in-Err-clause-stopped c = unmatched c.args.platform.items c.args.old.items c.args.new.items c.in-Err.stop c.in-Err.ensures.stopped c.args.warn
+returns-in-Err-clause-stopped c = unmatched c.args.platform.items c.args.old.items c.args.new.items c.in-Err.stop c.in-Err.ensures.stopped (check_of c.args.check.now)
 
 pub returns-in-Err-counted-clause-stopped : goal.returns-in-Err-counted-clause-stopped
 returns-in-Err-counted-clause-stopped c =
     unfit_counting c.args.platform.items c.args.old.items c.args.new.items c.in-Err-counted.stop c.requires.platform c.requires.old c.requires.new c.in-Ok.ensures.fits
-    (rw (c.in-Ok.ensures.old, c.in-Ok.ensures.new) at c.in-Err-counted.ensures.stopped) c.args.warn
+    (rw (c.in-Ok.ensures.old, c.in-Ok.ensures.new) at c.in-Err-counted.ensures.stopped) (check_of c.args.check.now)
 
 pub returns-in-Err-warned-clause-stopped : goal.returns-in-Err-warned-clause-stopped
 returns-in-Err-warned-clause-stopped c =
     unfit_warning c.args.platform.items c.args.old.items c.args.new.items c.in-Err-warned.stop c.requires.platform c.requires.old c.requires.new c.in-Ok.ensures.fits
-    c.in-Ok-counted.verdict (rw (c.in-Ok.ensures.old, c.in-Ok.ensures.new) at c.in-Ok-counted.ensures.exact) c.in-Ok-counted.ensures.few c.args.warn
+    c.in-Ok-counted.verdict (rw (c.in-Ok.ensures.old, c.in-Ok.ensures.new) at c.in-Ok-counted.ensures.exact) c.in-Ok-counted.ensures.few (check_of c.args.check.now)
     (rw (c.in-Ok.ensures.old, c.in-Ok.ensures.new) at c.in-Err-warned.ensures.stopped)
+
+pub returns-in-Err-lost-clause-stopped : goal.returns-in-Err-lost-clause-stopped
+returns-in-Err-lost-clause-stopped c =
+    unfit_dropping c.args.platform.items c.args.old.items c.args.new.items c.in-Err-lost.stop c.in-Ok.ensures.fits
+    c.in-Ok-counted.verdict (rw (c.in-Ok.ensures.old, c.in-Ok.ensures.new) at c.in-Ok-counted.ensures.exact) c.in-Ok-counted.ensures.few (check_of c.args.check.now) _
+    (rw (c.in-Ok.ensures.old, c.in-Ok.ensures.new) at c.in-Ok-warned.ensures.exact) (rw (c.in-Ok.ensures.old, c.in-Ok.ensures.new) at c.in-Err-lost.ensures.stopped)

@@ -1,0 +1,6 @@
+mod Nothing
+mod EmptyRelease
+mod Verdicts
+mod Outcomes
+mod StaysOk
+mod Replayed

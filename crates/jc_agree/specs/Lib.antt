@@ -1,0 +1,3 @@
+pub mod Compatible
+pub mod Replays
+pub mod Numbers

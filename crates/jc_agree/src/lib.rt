@@ -1,0 +1,43 @@
+//! What ties the commands together: what one of them says of what another has said, and the numbers by which all go.
+//!
+//! Each law is the contract of a function that does nothing.
+#![tactic(auto)]
+
+ghost use Rattle.jc_agree.specs.Compatible.{SameRelease, EmptyRelease, CompatibleStaysOk};
+ghost use Rattle.jc_agree.specs.Numbers.{StatusesAre, RulesAre, LimitsAre, VersionsAre};
+ghost use Rattle.jc_agree.specs.Replays.{WitnessesReplay};
+
+use jc_link::laws::names_are_allowed;
+
+/// A release against itself has no finding and no collision.
+pub fn same_release_is_compatible()
+    ensures { SameRelease }
+{}
+
+/// An old release without classes is compatible with every new one, and nothing collides.
+pub fn empty_release_is_compatible()
+    ensures { EmptyRelease }
+{}
+
+/// Where `check` has no finding, what `link` says of clients that it says to be Ok with the old release, it says of them with the new
+/// one: of those in scope that meet no collision and whose items are in reach.
+pub fn compatible_stays_ok()
+    ensures { CompatibleStaysOk }
+{}
+
+/// Of a witness `link` says that each outcome is Ok with the old release, and that with the new one the outcome at its one spot has
+/// the error of the finding or collision.
+pub fn witnesses_replay()
+    ensures { WitnessesReplay }
+{
+    names_are_allowed();
+}
+
+/// Each status, limit and rule number in digits, and the versions of class files by which reading goes. No contract says what these
+/// constants are, so this one does.
+pub fn constants()
+    ensures statuses { StatusesAre }
+    ensures rules { RulesAre }
+    ensures limits { LimitsAre }
+    ensures versions { VersionsAre }
+{}

@@ -1,0 +1,29 @@
+-- The program's own gates, and what is promised of a run with them.
+use Rattle.std.specs.Prelude.{◌≡◌, ◌≤◌, ◌⊎◌, ◌↔◌, ℕ, List, [], ◌∷◌, Some, Ok, codes}
+use Rattle.jc_gate.specs.Gates.{GateOf}
+use Rattle.jc_gate.specs.Meanings.{IsGateBy, has_no_finding, has_no_collision, has_at_most}
+use Rattle.jc_version.specs.Needs.{IsVersionGate, need_of}
+use Rattle.jc_commands.specs.Check.{CheckReport, IsBorneOut, check_bytes}
+use Rattle.jc_commands.specs.Command.{CheckOf, CheckCommand, step_of_check, asked}
+use Rattle.jc_commands.specs.Reports.{rules_of}
+use Rattle.jc_commands.specs.declared.status.TheConstants.{PASSED, NOT_PASSED}
+use Rattle.jcompat.specs.Answers.{Ran, Answers, OfFiles, Puts}
+
+-- the gates are `links`, `collisions`, `few`, which lets ten findings and collisions pass, and `version`, each by what it answers
+abbrev pub AreProgramGates : List GateOf → Type 0
+AreProgramGates (links ∷ collisions ∷ few ∷ version ∷ []) =
+    IsGateBy (codes "links") has_no_finding links × IsGateBy (codes "collisions") has_no_collision collisions × IsGateBy (codes "few") (has_at_most 10) few × IsVersionGate version
+AreProgramGates _ = ⊥
+
+-- what is promised of a run with these gates, beside what is promised of each run
+pub record OwnAnswers (r : Ran) : Type 0 where
+  pub gates : AreProgramGates r.gates
+  pub answers : Answers r
+  -- of a check that asks the gate `links` alone, as one that names no gate does: it passes exactly where the verdict in what was put has no finding
+  pub unbroken : (r.status ≡ PASSED) ⊎ (r.status ≡ NOT_PASSED) → (check : CheckOf) → asked r.words ≡ Ok (CheckCommand check) → check.gates ≡ codes "links" ∷ []
+      → (report : CheckReport) × Puts r (check_bytes check.json report) × OfFiles r (λ files. IsBorneOut files check report × ((r.status ≡ PASSED) ↔ (report.verdict.findings ≡ [])))
+  -- of a check that asks the gate of the versions alone and says both: it passes exactly where the step between them is at least what the findings and
+  -- collisions in what was put need
+  pub versioned : (r.status ≡ PASSED) ⊎ (r.status ≡ NOT_PASSED) → (check : CheckOf) → asked r.words ≡ Ok (CheckCommand check) → check.gates ≡ codes "version" ∷ []
+      → (step : ℕ) → step_of_check check ≡ Some step
+      → (report : CheckReport) × Puts r (check_bytes check.json report) × ((r.status ≡ PASSED) ↔ (need_of (rules_of report.verdict) ≤ step))
