@@ -21,6 +21,12 @@ command -v jimage >/dev/null || skip 'jimage of a JDK is not on the path'
 version=$(jimage --version)
 [ "${version%%[!0-9]*}" -le 21 ] || skip "the JDK is version $version, and jcompat reads class files up to Java 21"
 
+# a program may be an older one, which tells of no dropped interfaces: check-jars doesn't ask it for them
+./jcompat make 1 >/dev/null
+status=0
+./jcompat check --platform none --old none --new none --dropped 2>/dev/null || status=$?
+if [ "$status" -ne 2 ]; then dropped=--dropped none=0 one=1; else dropped='' none=- one=-; fi
+
 top=$PWD
 made=$(mktemp -d)
 trap 'rm -rf "$made"' EXIT
@@ -60,25 +66,35 @@ too() {
     done
 }
 
-# same FILE WORD..: the file is what the program prints with the words over the folders, and over the platform that check-jars keeps
+# same FILE COMMAND WORD..: the file is what the program prints of the command with the words, over the platform that check-jars keeps
 same() {
     file=$made/$1
-    shift
+    command=$2
+    shift 2
     for platform in "$XDG_CACHE_HOME"/jcompat/jdk-*/platform; do
-        ./jcompat check --platform "$platform" --old examples/old --new examples/new "$@" >"$made/folders" || [ $? -eq 1 ]
+        ./jcompat "$command" --platform "$platform" "$@" >"$made/folders" || [ $? -eq 1 ]
     done
     cmp "$made/folders" "$file"
+}
+
+# same_check FILE WORD..: the same of the command check and the folders of the examples, with all that check-jars asks for
+same_check() {
+    file=$1
+    shift
+    same "$file" check --old examples/old --new examples/new --warn $dropped "$@"
 }
 
 # folded REPORT: each line that was printed stands in the report, and those of it that weren't are as many as the printed ones say
 folded() {
     awk '
-        FNR == NR { line[$0]; all += /^[0-9]/; next }
+        function counts(string) { return string ~ /^([0-9]+|warning|dropped) / }
+        FNR == NR { line[$0]; all += counts($0); next }
         /^[0-9]+ collisions on members/ { hidden += $1; next }
+        /^[0-9]+ (warnings|dropped interfaces)/ { next }
         /^note unloadable (old|new): / || /^in / || /^ / { next }
         { text = $0; if (sub(/ \(and .*\)$/, "", text)) { n = split(substr($0, length(text)), word, " "); for (i = 1; i <= n; i++) hidden += word[i] + 0 } }
         !(text in line) { print "not in the report: " text; wrong = 1 }
-        text ~ /^[0-9]/ { shown++ }
+        counts(text) { shown++ }
         END { if (shown + hidden != all) { print shown " shown and " hidden " folded of " all; wrong = 1 } exit wrong }' "$1" "$made/out" ||
         wrong 'the report has other lines'
 }
@@ -98,15 +114,17 @@ printf 'no jar\n' >"$made/text.jar"
 mkdir "$made/empty"
 
 try 'two releases' 1 '1 H1 shapes/Square' old.jar new.jar --report report
-same report
+same_check report
 folded "$made/report"
-too 'in shapes: 1 H1, 1 H2, 1 H3, 1 H4, 1 H5, 1 H6, 1 H7, 4 H8, 1 H9, 1 Constant, 1 Capture, 1 Final' 'incompatible: 12 findings, 3 collisions, 1 notes'
+too 'in shapes: 1 H1, 1 H2, 1 H3, 1 H4, 1 H5, 1 H6, 1 H7, 4 H8, 1 H9, 1 Constant, 1 Capture, 1 Final' 'incompatible: 12 findings, 3 collisions, 1 notes$'
+too 'warning shapes/Canvas draw(Lshapes/Shape;)V lost$' 'warning shapes/Painter paint()V defaults$' "2 warnings${dropped:+, 1 dropped interfaces}\$"
 try 'options of jcompat' 1 '{' old.jar new.jar -- --json
-same out --json
+same_check out --json
+too "check-jars: 2 warnings${dropped:+, 1 dropped interfaces}\$"
 try 'one release' 0 'compatible: 0 findings' old.jar old.jar
 try 'the version' 0 'jcompat 0\.' --version
 try 'folders' 1 '15 Final shapes/Canvas' "$top/examples/old" "$top/examples/new" --report report
-same report
+same_check report
 try 'a library that lacks' 0 "check-jars: 1 of 3 classes of the old release weren't compared" client.jar client.jar
 too 'note unloadable old gallery/Dot' '       1  shapes/Circle$' 'check-jars: 1 of these 1 are in: --with new.jar$'
 try 'a library that lacks, where all has to be compared' 71 'note unloadable old gallery/Dot' client.jar client.jar --whole
@@ -119,6 +137,7 @@ try 'an empty folder' 70 'check-jars: empty has no class file' empty new.jar
 try 'no jar' 70 "check-jars: text.jar isn't a jar" old.jar text.jar
 try 'no file' 70 'check-jars: there is no file gone.jar' gone.jar new.jar
 try 'one jar' 70 'check-jars: two jars are needed' old.jar
+try 'three jars' 70 'check-jars: there is a third release, new.jar' old.jar old.jar new.jar
 try 'a witness that cannot be written' 5 'check-jars: writing failed' old.jar new.jar -- --witness old.jar
 
 # classes that the JDK has too, files that are no class files, and classes elsewhere than at the places of their names
@@ -141,6 +160,79 @@ cp examples/old/shapes/Square.class "$made/newer/shapes"
 printf '\102' | dd of="$made/newer/shapes/Square.class" bs=1 seek=7 conv=notrunc 2>"$made/err"
 jar --create --file "$made/newer.jar" -C "$made/newer" .
 try 'a newer class file' 3 'check-jars: shapes/Square.class of the new release is for Java 22, and jcompat reads class files up to Java 21' old.jar newer.jar
+
+# rows of releases
+try 'a row of releases' 1 'step 1, old.jar to old.jar: compatible: 0 findings, 0 collisions, 0 notes$' --row old.jar old.jar new.jar --report report
+same report history examples/old examples/old examples/new
+too 'step 2, old.jar to new.jar:$' '1 H1 shapes/Square - class - NoClassDefFoundError$' 'in shapes: 1 H1, 1 H2, 1 H3, 1 H4, 1 H5, 1 H6, 1 H7, 4 H8, 1 H9, 1 Constant, 1 Capture, 1 Final' \
+    'incompatible: 12 findings, 3 collisions, 1 notes$' 'step 2, old.jar to new.jar: incompatible: 12 findings, 3 collisions, 1 notes$' 'history: 2 steps, 1 incompatible$'
+says 'step 1, old.jar to old.jar:$' && wrong 'a step of which there is nothing to tell'
+[ "$(grep -c '^[0-9]' "$made/out")" -eq 15 ] || wrong 'there are other lines than the fifteen of step 2'
+try 'a row in words' 1 '    method void Canvas.draw(Shape) is gone; there is boolean draw(Shape)$' --row "$top/examples/old" new.jar --explain
+try 'a row with a multi-release jar' 0 'check-jars: versions.jar is a multi-release jar' --row old.jar versions.jar old.jar
+try 'a row that lacks a library' 71 'check-jars: 1 of 3 classes of release 2 weren.t compared' --row old.jar client.jar client.jar --whole
+try 'a row whose last release lacks one' 1 "check-jars: 1 of 3 classes of release 2 don't load here" --row old.jar client.jar --whole
+too '       1  shapes/Circle$'
+try 'a row with a library' 0 'history: 1 steps, 0 incompatible$' --row client.jar client.jar --with old.jar --whole
+try 'a file that is no class file, in a row' 3 "check-jars: tmpl/A.class of release 2 isn't a class file, whatever its name: leave it out by --without 'tmpl/A.class'" --row old.jar odd.jar
+try 'a file that is left out of a row' 0 "check-jars: the class java/util/Map of release 2 left out" --row old.jar odd.jar old.jar --without 'tmpl/*'
+try 'a row of one' 70 'check-jars: a row has from 2 to 20 releases, and not 1:' --row old.jar
+try 'a row of 21' 70 'check-jars: a row has from 2 to 20 releases, and not 21:' --row $(yes old.jar | head -n 21 | tr '\n' ' ')
+try 'an option that is not for a row' 70 'check-jars: --accepted, --from, --to, --strict and options behind -- are for two releases' --row old.jar new.jar -- --json
+
+# versions: findings need a step of 3
+cp "$made/old.jar" "$made/shapes-1.4.2.jar"
+for next in 1.4.3 1.5.0 1.5.0.Final 2.0.0; do cp "$made/new.jar" "$made/shapes-$next.jar"; done
+try 'a step that is too small' 1 'incompatible: 12 findings, 3 collisions, 1 notes$' shapes-1.4.2.jar shapes-1.5.0.jar -- --gate version
+try 'a step that is large enough' 0 'incompatible: 12 findings, 3 collisions, 1 notes$' shapes-1.4.2.jar shapes-2.0.0.jar -- --gate version
+try 'a version in place of that in a name' 0 'incompatible: 12 findings' shapes-1.4.2.jar shapes-1.5.0.jar --to 2.0.0 -- --gate version
+try 'versions of names without one' 0 'incompatible: 12 findings' old.jar new.jar --from 0.3.0 --to 0.4.0 -- --gate version
+try 'a version that is none' 1 'check-jars: no versions are handed on, since the name of shapes-1.5.0.Final.jar has none as 1.2.3$' shapes-1.4.2.jar shapes-1.5.0.Final.jar -- --gate version
+try 'a version that is none, and no gate' 1 'check-jars: no versions are handed on' shapes-1.4.2.jar shapes-1.5.0.Final.jar
+try 'a version that is not later' 0 "check-jars: no versions are handed on, since 1.4.2 isn't later than 1.4.2" shapes-1.4.2.jar shapes-1.4.2.jar
+try 'a version that is given, and is none' 2 'jcompat: usage: version 1.5$' shapes-1.4.2.jar shapes-1.5.0.jar --to 1.5
+try 'a version that is given, and is not later' 2 'jcompat: usage: versions 1.4.2 1.4.0$' shapes-1.4.2.jar new.jar --to 1.4.0
+try 'one version alone' 70 'check-jars: one version is given, and the name of new.jar has none as 1.2.3: give it by --to' shapes-1.4.2.jar new.jar --from 1.4.0
+try 'versions twice' 70 'check-jars: versions stand before -- and behind it' old.jar new.jar --from 1.4.0 -- --to 1.5.0
+
+# recipe TITLE: the first script of the recipe, as it stands
+recipe() {
+    awk -v title="## $1" '/^## / { here = $0 == title } /^```/ { fences += here; next } here && fences == 1' docs/RECIPES.md
+}
+recipe 'Which version number is due' >"$made/due"
+name='which version number is due'
+mkdir "$made/target"
+cp "$made/new.jar" "$made/target/shapes.jar"
+(cd "$made" && PATH=$top/tools:$PATH sh ./due) >"$made/out" 2>"$made/err"
+if [ "$(cat "$made/out")" = '2.0.0 is due' ]; then printf 'check-jars: %s: ok\n' "$name"; else wrong 'it is not 2.0.0'; fi
+
+# warnings and dropped interfaces: releases of the examples of rules, which are compatible
+for rule in method_made_abstract interface_left; do
+    for side in old new; do
+        mkdir -p "$made/$rule-$side"
+        cp -R "examples/rules/$rule/$side/." "$made/$rule-$side"
+        library "$rule-$side"
+    done
+done
+try 'a warning' 0 'warning shapes/Canvas clean()V lost$' method_made_abstract-old.jar method_made_abstract-new.jar --explain
+too 'compatible: 0 findings, 0 collisions, 0 notes$' "1 warnings${dropped:+, 0 dropped interfaces}\$" '    class Canvas gives classes no method void clean() to run any more$'
+try 'a warning, as JSON' 72 '{"warnings":\[{"class":"shapes/Canvas","kind":"lost","member":"clean()V"}\]}$' method_made_abstract-old.jar method_made_abstract-new.jar --strict -- --json
+too 'check-jars: 1 warnings'
+try 'a warning where none is meant' 72 "1 warnings" method_made_abstract-old.jar method_made_abstract-new.jar --strict
+try 'warnings that nobody asks for' 0 'compatible: 0 findings, 0 collisions, 0 notes$' method_made_abstract-old.jar method_made_abstract-new.jar --strict --no-warn
+says 'warning ' && wrong 'there is a warning'
+echo 'warning shapes/Canvas clean()V lost   # nobody extends it' >"$made/accepted"
+try 'a warning that is meant' 0 'check-jars: accepted: warning shapes/Canvas clean()V lost$' method_made_abstract-old.jar method_made_abstract-new.jar --strict --accepted accepted
+try 'findings and warnings' 1 "2 warnings" old.jar new.jar --strict
+if [ -n "$dropped" ]; then
+    try 'a dropped interface' 0 'dropped shapes/Canvas shapes/Painter$' interface_left-old.jar interface_left-new.jar --explain
+    too 'compatible: 0 findings, 0 collisions, 0 notes$' '0 warnings, 1 dropped interfaces$' '    class Canvas no longer implements Painter$' '    Painter i = canvas;   i.paint();$'
+    try 'a dropped interface, as JSON' 72 '{"dropped":\[{"class":"shapes/Canvas","interface":"shapes/Painter"}\]}$' interface_left-old.jar interface_left-new.jar --strict -- --json
+    try 'a dropped interface where none is meant' 72 '0 warnings, 1 dropped interfaces$' interface_left-old.jar interface_left-new.jar --strict
+    try 'dropped interfaces that nobody asks for' 0 '0 warnings$' interface_left-old.jar interface_left-new.jar --strict --no-dropped
+else
+    printf 'check-jars: dropped interfaces: skipped: the program does not tell of them\n'
+fi
 
 # applications: a jar of Spring Boot, and a web archive, with a library inside
 for inside in BOOT-INF WEB-INF; do
@@ -197,7 +289,9 @@ too '1 H4 lib/Text$Failure java/lang/RuntimeException assign - VerifyError (and 
     '[0-9]* H8 lib/Text max(Ljava/lang/Number;)Ljava/lang/String; invokevirtual java/lang/Object NoSuchMethodError (and through 2 subclasses)$' \
     '[0-9]* H8 lib/Text$Other max(Ljava/lang/Number;)Ljava/lang/String; invokevirtual java/lang/Object NoSuchMethodError$' \
     '[0-9]* Capture lib/Text draw(Llib/Text$Line;)V invokevirtual - IllegalAccessError (and through 2 subclasses)$' \
-    '3 collisions on members with a \$ in their name'
+    '3 collisions on members with a \$ in their name' '7 warnings'
+too 'warning lib/Text max(Ljava/lang/Number;)Ljava/lang/String; lost (and through 2 subclasses)$' \
+    'warning lib/Text put(Ljava/util/Date;)V lost (and through 2 subclasses)$' 'warning lib/Text$Other max(Ljava/lang/Number;)Ljava/lang/String; lost$'
 try 'lines in words' 1 '    method String Text.max(Number) is gone; there is String max(Object)$' one.jar two.jar --explain
 folded "$made/report"
 too '    text.max((Number) null);$' '    method void Text.put(java.util.Date) is gone; there is void put(java.sql.Date)$' '    field int Text.size is final now$' '    text.size = 0;$' '    class Text.Failure no longer has the superclass RuntimeException$'
@@ -214,7 +308,7 @@ try 'breaks that are meant' 1 'check-jars: line 4 of the accepted breaks accepts
 too 'check-jars: line 5 of the accepted breaks accepts nothing: H8 lib/Text put$' 'check-jars: accepted: 1 to 6$' 'incompatible: ' 'check-jars: 7 findings and 9 collisions are left'
 says '[0-9]* H7' && wrong 'an accepted line was printed'
 sed -n 's/^[0-9]* //p' "$made/report" >"$made/accepted"
-try 'all breaks' 0 'check-jars: 0 findings and 0 collisions are left; what is promised' one.jar two.jar --accepted accepted
+try 'all breaks' 0 'check-jars: 0 findings and 0 collisions are left, and 7 warnings.*; what is promised' one.jar two.jar --accepted accepted
 grep '^H' "$made/accepted" >"$made/findings"
 try 'breaks, and a gate' 1 'check-jars: 0 findings and 9 collisions are left' one.jar two.jar --accepted findings -- --gate=links,collisions
 try 'breaks, as JSON' 0 '{"collisions":\[{' one.jar two.jar --accepted findings -- --json
@@ -232,9 +326,11 @@ package() {
 if command -v dpkg-deb >/dev/null; then
     package 1.0 old
     package 1.1 new
-    try 'two packages' 1 'status  findings collisions  not compared  jar' shapes-1.0.deb shapes-1.1.deb --whole --report reports
-    too '     0         0          0             0  gallery$' '     1        12          3             0  shapes$' '     -  .*texts: has no class file$' '1 H1 shapes/Square'
-    same reports/shapes
+    try 'two packages' 1 'status  findings collisions warnings dropped  not compared  jar' shapes-1.0.deb shapes-1.1.deb --whole --report reports
+    too "     0         0          0        0       $none             0  gallery\$" \
+        "     1        12          3        2       $one             0  shapes\$" '     -  .*texts: has no class file$' '1 H1 shapes/Square'
+    says 'gallery:' && wrong 'a jar of which there is nothing to tell'
+    same_check reports/shapes
     rm "$made/package1.1/usr/share/java/shapes.jar"
     dpkg-deb --root-owner-group --build "$made/package1.1" "$made/shapes-1.1.deb" >"$made/err"
     try 'a jar that is gone' 70 '    70 .*shapes: only in the old package$' shapes-1.0.deb shapes-1.1.deb

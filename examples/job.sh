@@ -85,7 +85,7 @@ has() {
 
 project
 job 1
-has summary '### incompatible: 12 findings, 3 collisions, 1 notes' '| package | H1 |' '| `shapes` | 1 |'
+has summary '### incompatible: 12 findings, 3 collisions, 1 notes' '| package | H1 |' '| `shapes` | 1 |' '- `2 warnings'
 has log '::error file=src/main/java/shapes/Canvas.java,title=H8 shapes/Canvas::method void Canvas.draw(Shape) is gone' 'and 5 more lines'
 [ "$(grep -c '^::' "$made/log")" -eq 10 ] || fail 'there are not ten annotations'
 grep -q '<li id=n15 ' "$made/project/compat.html" || fail 'the page lacks a line'

@@ -31,11 +31,12 @@ import java.util.zip.ZipEntry;
 import java.util.zip.ZipFile;
 
 /**
- * Tells people what a report of <code>jcompat check</code> says. It is called by <code>check-jars</code>, whose help says what is printed:
+ * Tells people what a report of <code>jcompat</code> says. It is called by <code>check-jars</code>, whose help says what is printed:
  *
  * <ul>
- * <li><code>report WORK PLATFORM STATUS WHOLE EXPLAIN ACCEPTED OLD NEW OPTION..</code>: WORK has the report, the releases as release1 and
- * release2, and a list of what is behind <code>--with</code>; the status to end with is written to WORK/status.
+ * <li><code>report WORK PLATFORM STATUS WHOLE STRICT EXPLAIN ACCEPTED OPTION..</code>, of two releases: WORK has the report, the releases as
+ * release1 and release2, lists of their names and of what is behind <code>--with</code>; the status to end with is written to WORK/status.
+ * <li><code>row WORK PLATFORM STATUS WHOLE EXPLAIN</code>, of a row of releases: the same.
  * <li><code>needed PLATFORM OLD NEW LIST</code>: which of the jars that LIST names the two jars need, a line for each.
  * </ul>
  *
@@ -47,16 +48,19 @@ import java.util.zip.ZipFile;
 public final class JarReport {
     private static final int NOT_WRITTEN = 5;
     private static final int NOT_WHOLE = 71;
+    private static final int NOT_STRICT = 72;
+    private static final PrintStream OUT = new PrintStream(new BufferedOutputStream(new FileOutputStream(FileDescriptor.out)), false);
 
     private final String script;
-    private final PrintStream out = new PrintStream(new BufferedOutputStream(new FileOutputStream(FileDescriptor.out)), false);
     private final Classes oldRelease;
     private final Classes newRelease;
     private final List<Path> places;
     final List<Line> lines = new ArrayList<>();
     final List<Note> notes = new ArrayList<>();
-    /** The warnings, as their lines are. */
-    private final List<String> warnings = new ArrayList<>();
+    /** Warnings and dropped interfaces. */
+    private final List<Line> further = new ArrayList<>();
+    /** Lines that are printed as they are. */
+    private final List<String> others = new ArrayList<>();
     String verdict;
 
     public static void main(String[] words) throws IOException {
@@ -66,14 +70,20 @@ public final class JarReport {
             return;
         }
         Path work = Paths.get(more.get(0));
-        JarReport report = new JarReport(words[0], work, Paths.get(more.get(1)), more.subList(6, 8));
-        int status = report.tell(Files.readAllBytes(work.resolve("report")), Integer.parseInt(more.get(2)), more.get(3).equals("1"),
-                more.get(4).equals("1"), more.get(5), more.subList(8, more.size()));
+        Path platform = Paths.get(more.get(1));
+        List<String> names = Files.readAllLines(work.resolve("names"));
+        List<Path> places = Stream.concat(names.stream(), Files.readAllLines(work.resolve("with")).stream()).map(Paths::get).collect(Collectors.toList());
+        List<Classes> releases = new ArrayList<>();
+        while (releases.size() < names.size()) {
+            releases.add(new Classes(work.resolve("release" + (releases.size() + 1)), platform));
+        }
+        byte[] bytes = Files.readAllBytes(work.resolve("report"));
+        int status = Integer.parseInt(more.get(2));
+        boolean whole = more.get(3).equals("1");
+        status = words[1].equals("row") ? new Row(words[0], names, releases, places).tell(bytes, status, whole, more.get(4).equals("1"))
+                : new JarReport(words[0], releases.get(0), releases.get(1), places).tell(bytes, status, whole, more.get(4).equals("1"), more.get(5).equals("1"),
+                        more.get(6), more.subList(7, more.size()));
         Files.write(work.resolve("status"), Integer.toString(status).getBytes(StandardCharsets.US_ASCII));
-    }
-
-    private JarReport(String script, Path work, Path platform, List<String> releases) throws IOException {
-        this(script, new Classes(work.resolve("release1"), platform), new Classes(work.resolve("release2"), platform), places(work, releases));
     }
 
     /** The releases of a report, and where the jars lie that they were given with. */
@@ -84,27 +94,33 @@ public final class JarReport {
         this.places = places;
     }
 
-    private static List<Path> places(Path work, List<String> releases) throws IOException {
-        return Stream.concat(releases.stream(), Files.readAllLines(work.resolve("with")).stream()).map(Paths::get).collect(Collectors.toList());
-    }
-
-    private int tell(byte[] bytes, int status, boolean whole, boolean explain, String accepted, List<String> options) throws IOException {
+    private int tell(byte[] bytes, int status, boolean whole, boolean strict, boolean explain, String accepted, List<String> options) throws IOException {
         boolean json = options.contains("--json");
         read(new String(bytes, StandardCharsets.UTF_8), json);
-        Folding folding = new Folding(lines, oldRelease);
-        Set<Line> dropped = accepted.isEmpty() ? Collections.emptySet() : new Accepted(accepted).of(lines, folding);
+        List<Line> all = Stream.concat(lines.stream(), further.stream()).collect(Collectors.toList());
+        Folding folding = new Folding(all, oldRelease);
+        Set<Line> taken = accepted.isEmpty() ? Collections.emptySet() : new Accepted(accepted).of(all, folding);
+        List<Line> left = all.stream().filter(line -> !taken.contains(line)).collect(Collectors.toList());
+        String counts = counts(further, options);
         if (json) {
-            out.write(bytes, 0, bytes.length);
+            OUT.write(bytes, 0, bytes.length);
         } else {
-            List<Line> left = lines.stream().filter(line -> !dropped.contains(line)).collect(Collectors.toList());
             print(left, folding, explain ? new Words(oldRelease, newRelease) : null);
+            if (!counts.isEmpty()) {
+                OUT.println(counts);
+            }
         }
-        out.flush();
-        boolean isWhole = sayUncompared();
+        OUT.flush();
+        Set<String> told = new HashSet<>();
+        boolean isWhole = sayUncompared("the old release", told);
+        sayNotLoaded("the new release", told);
         if (!accepted.isEmpty()) {
-            sayLeft(dropped);
+            sayLeft(left, !taken.isEmpty(), options);
         }
-        if (out.checkError()) {
+        if (json && !counts.isEmpty()) {
+            say(counts);
+        }
+        if (OUT.checkError()) {
             say("the output couldn't be written");
             return NOT_WRITTEN;
         }
@@ -112,7 +128,20 @@ public final class JarReport {
             return NOT_WHOLE;
         }
         // the gate of the versions decides on all that was found
-        return accepted.isEmpty() || asked(options).contains("version") ? status : gates(options, dropped);
+        int gates = accepted.isEmpty() || asked(options).contains("version") ? status : gates(options, left);
+        return gates == 0 && strict && left.stream().anyMatch(Line::isFurther) ? NOT_STRICT : gates;
+    }
+
+    /** How many warnings and dropped interfaces there are among the lines, as far as the options ask for them. */
+    private static String counts(List<Line> lines, List<String> options) {
+        List<String> counts = new ArrayList<>();
+        if (options.contains("--warn")) {
+            counts.add(lines.stream().filter(line -> line.rule.equals(Line.WARNING)).count() + " warnings");
+        }
+        if (options.contains("--dropped")) {
+            counts.add(lines.stream().filter(line -> line.rule.equals(Line.DROPPED)).count() + " dropped interfaces");
+        }
+        return String.join(", ", counts);
     }
 
     private void say(String text) {
@@ -132,35 +161,58 @@ public final class JarReport {
     private void readText(String text) {
         for (String line : text.split("\n")) {
             String[] word = line.split(" ");
-            if (word[0].equals("warning")) {
-                warnings.add(line);
-            } else if (word[0].equals("note")) {
-                boolean constant = word[1].equals("constant");
-                notes.add(new Note(line, constant, constant ? null : word[2], constant ? word[2] : word[3], constant ? word[3] : word[4]));
+            if (word[0].equals(Line.WARNING)) {
+                further.add(Line.warning(place(), word[1], word[2], word[3]));
+            } else if (word[0].equals(Line.DROPPED)) {
+                further.add(Line.dropped(place(), word[1], word[2]));
+            } else if (line.startsWith("note constant ")) {
+                notes.add(new Note(line, true, null, word[2], word[3]));
+            } else if (line.startsWith("note unloadable ")) {
+                notes.add(new Note(line, false, word[2], word[3], word[4]));
             } else if (Character.isDigit(word[0].charAt(0))) {
                 lines.add(new Line(word));
-            } else {
+            } else if (line.matches("(in)?compatible: .*")) {
                 verdict = line;
+            } else {
+                others.add(line);
             }
         }
     }
 
-    /** The keys of an object stand in order, so that each object of the lists begins with its class. */
+    /** The place of a further line, behind all that have numbers. */
+    private int place() {
+        return lines.size() + further.size() + 1;
+    }
+
     private void readJson(String text) {
-        // the first object; further ones are printed as they are
-        Matcher pair = Pattern.compile("\"(\\w+)\":(?:\"((?:[^\"\\\\]|\\\\.)*)\"|null|(\\d+))").matcher(text.split("\n")[0]);
-        Map<String, String> object = new HashMap<>();
-        while (pair.find()) {
-            if (pair.group(1).equals("class") || pair.group(1).equals("verdict")) {
-                addObject(object);
-                object.clear();
-            }
-            String value = pair.group(3) != null ? pair.group(3) : pair.group(2) == null ? "-" : pair.group(2).replaceAll("\\\\(.)", "$1");
-            object.put(pair.group(1), value);
+        String[] parts = text.split("\n");
+        for (Map<String, String> object : objects(parts[0])) {
+            verdict = object.getOrDefault("verdict", verdict);
+            addObject(object);
         }
-        verdict = object.get("verdict");
         // collisions come first there
         lines.sort(Comparator.comparingInt(line -> line.number));
+        for (String part : parts) {
+            boolean warns = part.startsWith("{\"warnings\":");
+            for (Map<String, String> object : warns || part.startsWith("{\"dropped\":") ? objects(part) : new ArrayList<Map<String, String>>()) {
+                further.add(warns ? Line.warning(place(), object.get("class"), object.get("member"), object.get("kind"))
+                        : Line.dropped(place(), object.get("class"), object.get("interface")));
+            }
+        }
+    }
+
+    /** The keys of an object stand in order, so that each object of the lists begins with its class; the last one has what stands behind them. */
+    private static List<Map<String, String>> objects(String json) {
+        Matcher pair = Pattern.compile("\"(\\w+)\":(?:\"((?:[^\"\\\\]|\\\\.)*)\"|null|(\\d+))").matcher(json);
+        List<Map<String, String>> objects = new ArrayList<>();
+        while (pair.find()) {
+            if (pair.group(1).equals("class") || pair.group(1).equals("verdict")) {
+                objects.add(new HashMap<>());
+            }
+            String value = pair.group(3) != null ? pair.group(3) : pair.group(2) == null ? "-" : pair.group(2).replaceAll("\\\\(.)", "$1");
+            objects.get(objects.size() - 1).put(pair.group(1), value);
+        }
+        return objects;
     }
 
     private void addObject(Map<String, String> object) {
@@ -172,8 +224,11 @@ public final class JarReport {
         }
     }
 
-    /** A finding or a collision. */
+    /** A finding, a collision, a warning or a dropped interface. The last two have no number; theirs is a place. */
     static final class Line {
+        static final String WARNING = "warning";
+        static final String DROPPED = "dropped";
+
         final int number;
         final String rule;
         final String type;
@@ -181,9 +236,14 @@ public final class JarReport {
         final String act;
         final String seat;
         final String error;
+        /** The line without its number. */
         final String text;
 
         Line(String[] word) {
+            this(word, String.join(" ", Arrays.asList(word).subList(1, 7)));
+        }
+
+        private Line(String[] word, String text) {
             number = Integer.parseInt(word[0]);
             rule = word[1];
             type = word[2];
@@ -191,11 +251,25 @@ public final class JarReport {
             act = word[4];
             seat = word[5];
             error = word[6];
-            text = String.join(" ", Arrays.asList(word).subList(1, 7));
+            this.text = text;
+        }
+
+        static Line warning(int place, String type, String member, String kind) {
+            return new Line(new String[] {"" + place, WARNING, type, member, kind, "-", "-"}, String.join(" ", WARNING, type, member, kind));
+        }
+
+        /** The member is the interface. */
+        static Line dropped(int place, String type, String dropped) {
+            return new Line(new String[] {"" + place, DROPPED, type, dropped, "-", "-", "-"}, String.join(" ", DROPPED, type, dropped));
         }
 
         boolean isFinding() {
             return rule.charAt(0) == 'H';
+        }
+
+        /** A warning or a dropped interface, of which gates know nothing. */
+        boolean isFurther() {
+            return rule.equals(WARNING) || rule.equals(DROPPED);
         }
 
         /** On an assignment in which a class takes part that clients can't name. */
@@ -205,7 +279,12 @@ public final class JarReport {
 
         /** A collision on a member with a name that compilers make. */
         boolean isMade() {
-            return !isFinding() && Words.name(member).contains("$");
+            return !isFinding() && !isFurther() && Words.name(member).contains("$");
+        }
+
+        @Override
+        public String toString() {
+            return isFurther() ? text : number + " " + text;
         }
     }
 
@@ -232,26 +311,31 @@ public final class JarReport {
     private void print(List<Line> left, Folding folding, Words words) {
         List<Line> made = left.stream().filter(Line::isMade).collect(Collectors.toList());
         // the one that a line is folded into is left too: a line is accepted with it
-        Map<Line, List<Line>> below = folding.below(left);
+        Map<Line, List<Line>> below = folding.below(left.stream().filter(line -> !line.isFurther()).collect(Collectors.toList()));
         Map<String, Map<String, Integer>> packages = new TreeMap<>();
         below.forEach((line, all) -> {
-            out.println(line.number + " " + line.text + folded(line, all));
-            if (words != null) {
-                words.say(line).forEach(text -> out.println("    " + text));
-            }
+            print(line, all, words);
             String name = line.type.contains("/") ? line.type.substring(0, line.type.lastIndexOf('/')) : "-";
             packages.computeIfAbsent(name, any -> new LinkedHashMap<>()).merge(line.rule, 1, Integer::sum);
         });
         if (!made.isEmpty()) {
-            out.println(made.size() + " collisions on members with a $ in their name, which compilers make");
+            OUT.println(made.size() + " collisions on members with a $ in their name, which compilers make");
         }
         printNotes(words != null);
         if (below.size() > 1) {
-            packages.forEach((name, counts) -> out.println("in " + name + ": "
+            packages.forEach((name, counts) -> OUT.println("in " + name + ": "
                     + counts.entrySet().stream().map(entry -> entry.getValue() + " " + entry.getKey()).collect(Collectors.joining(", "))));
         }
-        warnings.forEach(out::println);
-        out.println(verdict);
+        folding.below(left.stream().filter(Line::isFurther).collect(Collectors.toList())).forEach((line, all) -> print(line, all, words));
+        others.forEach(OUT::println);
+        OUT.println(verdict);
+    }
+
+    private void print(Line line, List<Line> all, Words words) {
+        OUT.println(line + folded(line, all));
+        if (words != null) {
+            words.say(line).forEach(text -> OUT.println("    " + text));
+        }
     }
 
     /** How many lines are folded into this one. */
@@ -272,16 +356,16 @@ public final class JarReport {
         for (String side : Arrays.asList("old", "new")) {
             List<Note> lost = unloadable(side);
             if (lost.size() == 1) {
-                out.println(lost.get(0).text);
+                OUT.println(lost.get(0).text);
             } else if (lost.size() > 1) {
-                out.println("note unloadable " + side + ": " + lost.size() + " classes");
+                OUT.println("note unloadable " + side + ": " + lost.size() + " classes");
             }
         }
         for (Note note : notes) {
             if (note.isConstant) {
-                out.println(note.text);
+                OUT.println(note.text);
                 if (explain) {
-                    out.println("    " + Words.simple(note.type) + "." + Words.name(note.detail)
+                    OUT.println("    " + Words.simple(note.type) + "." + Words.name(note.detail)
                             + " has another value: clients keep the old one until they are compiled anew");
                 }
             }
@@ -294,18 +378,21 @@ public final class JarReport {
 
     // ---- what wasn't compared
 
-    /** Says which classes don't load, and why. Whether all of the old release do. */
-    private boolean sayUncompared() {
+    /** Says which classes of the old release don't load, and why. Whether all of them do. */
+    private boolean sayUncompared(String name, Set<String> told) {
         List<Note> lost = unloadable("old");
-        Set<String> told = new HashSet<>();
         if (!lost.isEmpty()) {
-            sayMissing(lost.size() + " of " + oldRelease.size() + " classes of the old release weren't compared, since they don't load here", oldRelease, lost, told);
-        }
-        List<Note> lostNew = unloadable("new");
-        if (lostNew.stream().anyMatch(note -> !told.containsAll(newRelease.missingAbove(note.type)))) {
-            sayMissing(lostNew.size() + " of " + newRelease.size() + " classes of the new release don't load here", newRelease, lostNew, told);
+            sayMissing(lost.size() + " of " + oldRelease.size() + " classes of " + name + " weren't compared, since they don't load here", oldRelease, lost, told);
         }
         return lost.isEmpty();
+    }
+
+    /** Says which classes of the new release don't load, where they miss what wasn't told before. */
+    private void sayNotLoaded(String name, Set<String> told) {
+        List<Note> lost = unloadable("new");
+        if (lost.stream().anyMatch(note -> !told.containsAll(newRelease.missingAbove(note.type)))) {
+            sayMissing(lost.size() + " of " + newRelease.size() + " classes of " + name + " don't load here", newRelease, lost, told);
+        }
     }
 
     /** Says what the classes miss that wasn't told before: the most missed first, then the jars that have it. */
@@ -407,7 +494,12 @@ public final class JarReport {
                     say("line " + places.get(i) + " of the accepted breaks accepts nothing: " + texts.get(i));
                 }
             }
-            say(taken.isEmpty() ? "nothing is accepted" : "accepted: " + ranges(taken.stream().map(line -> line.number).sorted().collect(Collectors.toList())));
+            List<String> said = taken.stream().filter(Line::isFurther).map(line -> line.text).collect(Collectors.toList());
+            List<Integer> numbers = taken.stream().filter(line -> !line.isFurther()).map(line -> line.number).sorted().collect(Collectors.toList());
+            if (!numbers.isEmpty()) {
+                said.add(0, ranges(numbers));
+            }
+            say(said.isEmpty() ? "nothing is accepted" : "accepted: " + String.join(", ", said));
             return taken;
         }
 
@@ -429,11 +521,12 @@ public final class JarReport {
         }
     }
 
-    private void sayLeft(Set<Line> accepted) {
-        long findings = lines.stream().filter(line -> line.isFinding() && !accepted.contains(line)).count();
-        long collisions = lines.size() - accepted.size() - findings;
-        say(findings + " findings and " + collisions + " collisions are left"
-                + (accepted.isEmpty() ? "" : "; what is promised of compatible releases isn't promised with accepted breaks"));
+    private void sayLeft(List<Line> left, boolean accepts, List<String> options) {
+        long findings = left.stream().filter(Line::isFinding).count();
+        long collisions = left.stream().filter(line -> !line.isFinding() && !line.isFurther()).count();
+        String counts = counts(left, options);
+        say(findings + " findings and " + collisions + " collisions are left" + (counts.isEmpty() ? "" : ", and " + counts)
+                + (accepts ? "; what is promised of compatible releases isn't promised with accepted breaks" : ""));
     }
 
     /** The gates that are asked. */
@@ -447,10 +540,10 @@ public final class JarReport {
     }
 
     /** The status by the gates that are asked, of the lines that aren't accepted. */
-    private int gates(List<String> options, Set<Line> accepted) {
-        List<Line> left = lines.stream().filter(line -> !accepted.contains(line)).collect(Collectors.toList());
+    private static int gates(List<String> options, List<Line> left) {
+        List<Line> seen = left.stream().filter(line -> !line.isFurther()).collect(Collectors.toList());
         for (String gate : asked(options)) {
-            boolean passes = gate.equals("few") ? left.size() <= 10 : left.stream().noneMatch(line -> line.isFinding() == gate.equals("links"));
+            boolean passes = gate.equals("few") ? seen.size() <= 10 : seen.stream().noneMatch(line -> line.isFinding() == gate.equals("links"));
             if (!passes) {
                 return 1;
             }
@@ -458,11 +551,73 @@ public final class JarReport {
         return 0;
     }
 
+    // ---- rows
+
+    /** A report of a row of releases. */
+    private static final class Row {
+        private final List<JarReport> steps = new ArrayList<>();
+        /** As <code>step 1, lib-1.0.jar to lib-1.1.jar</code>. */
+        private final List<String> names = new ArrayList<>();
+
+        Row(String script, List<String> releaseNames, List<Classes> releases, List<Path> places) {
+            for (int i = 1; i < releases.size(); i++) {
+                steps.add(new JarReport(script, releases.get(i - 1), releases.get(i), places));
+                names.add("step " + i + ", " + releaseNames.get(i - 1) + " to " + releaseNames.get(i));
+            }
+        }
+
+        private int tell(byte[] bytes, int status, boolean whole, boolean explain) {
+            String last = read(new String(bytes, StandardCharsets.UTF_8));
+            for (int i = 0; i < steps.size(); i++) {
+                JarReport step = steps.get(i);
+                if (!step.lines.isEmpty() || !step.notes.isEmpty()) {
+                    OUT.println(names.get(i) + ":");
+                    step.print(step.lines, new Folding(step.lines, step.oldRelease), explain ? new Words(step.oldRelease, step.newRelease) : null);
+                    OUT.println();
+                }
+            }
+            for (int i = 0; i < steps.size(); i++) {
+                OUT.println(names.get(i) + ": " + steps.get(i).verdict);
+            }
+            OUT.println(last);
+            OUT.flush();
+            Set<String> told = new HashSet<>();
+            boolean isWhole = true;
+            for (int i = 0; i < steps.size(); i++) {
+                isWhole &= steps.get(i).sayUncompared("release " + (i + 1), told);
+            }
+            JarReport end = steps.get(steps.size() - 1);
+            end.sayNotLoaded("release " + (steps.size() + 1), told);
+            if (OUT.checkError()) {
+                end.say("the output couldn't be written");
+                return NOT_WRITTEN;
+            }
+            return whole && !isWhole ? NOT_WHOLE : status;
+        }
+
+        /** Reads the lines of each step, which have its number before them, and returns the last line. */
+        private String read(String text) {
+            Map<String, StringBuilder> texts = new HashMap<>();
+            String last = "";
+            for (String line : text.split("\n")) {
+                String[] word = line.split(" ", 3);
+                if (word[0].equals("step")) {
+                    texts.computeIfAbsent(word[1], any -> new StringBuilder()).append(word[2]).append("\n");
+                }
+                last = line;
+            }
+            for (int i = 0; i < steps.size(); i++) {
+                steps.get(i).readText(texts.get("" + (i + 1)).toString());
+            }
+            return last;
+        }
+    }
+
     // ---- folding
 
     /** Into which line each is folded. */
     static final class Folding {
-        private static final Set<String> INHERITED = new HashSet<>(Arrays.asList("H4", "H6", "H7", "H8", "H9", "Constant", "Capture", "Final"));
+        private static final Set<String> INHERITED = new HashSet<>(Arrays.asList("H4", "H6", "H7", "H8", "H9", "Constant", "Capture", "Final", Line.WARNING));
 
         private final Map<String, Line> byKey = new HashMap<>();
         private final Classes release;
@@ -851,9 +1006,28 @@ public final class JarReport {
                 case "Capture":
                     return Arrays.asList("class " + type + " has a new method " + declared(line) + ", which isn't a public instance method",
                             "class Y extends " + type + " implements J { }   y." + call(line) + ", which J has as a default method");
+                case Line.WARNING:
+                    return Arrays.asList(kind(line.type) + " " + type + (line.act.equals("lost") ? " gives classes no method " + declared(line) + " to run any more"
+                            : line.act.equals("abstract") ? " has an abstract method " + declared(line) + " now" : " gives classes " + declared(line) + " otherwise than before"),
+                            "class Y " + (kind(line.type).equals("class") ? "extends " : "implements ") + type + " { }   y." + call(line) + ";");
+                case Line.DROPPED:
+                    return Arrays.asList(kind(line.type) + " " + type + " no longer " + (kind(line.type).equals("class") ? "implements " : "extends ") + simple(line.member),
+                            throughInterface(line.member, variable));
                 default:
                     return Arrays.asList("class " + type + " has a new final method " + declared(line), subclass(line, ""));
             }
+        }
+
+        /** A call through an interface, or a cast to one that has no method to call. */
+        private String throughInterface(String type, String variable) {
+            for (ClassFile file : newRelease.chain(type)) {
+                for (Member member : file.methods()) {
+                    if (file.is(ClassFile.INTERFACE) && (member.flags & (ClassFile.STATIC | ClassFile.PRIVATE)) == 0) {
+                        return simple(type) + " i = " + variable + ";   i." + member.name + "(" + new Signature(member.name + member.type, false).values() + ");";
+                    }
+                }
+            }
+            return simple(type) + " i = (" + simple(type) + ") (Object) " + variable + ";";
         }
 
         private String kind(String type) {
