@@ -18,7 +18,7 @@ INIT = (PUBLIC, "<init>", "()V")
 
 
 def class_file(name, above=OBJECT, interfaces=(), fields=(), methods=(INIT,), flags=PUBLIC | SUPER, permitted=()):
-    """The bytes of a class file of major version 61 (JVMS 4). Members are triples of flags, name and descriptor."""
+    """The bytes of a class file of major version 61 (JVMS 4). Members are flags, name, descriptor and, where there is one, signature."""
     entries, numbers = [], {}
 
     def entry(key, data):
@@ -36,10 +36,14 @@ def class_file(name, above=OBJECT, interfaces=(), fields=(), methods=(INIT,), fl
     def counted(parts):
         return struct.pack(">H", len(parts)) + b"".join(parts)
 
+    def member(flags, name, descriptor, *signature):
+        attributes = [struct.pack(">HIH", utf8("Signature"), 2, utf8(text)) for text in signature]
+        return struct.pack(">HHH", flags, utf8(name), utf8(descriptor)) + counted(attributes)
+
     body = struct.pack(">HHH", flags, class_entry(name), class_entry(above) if above else 0)
     body += counted([struct.pack(">H", class_entry(i)) for i in interfaces])
     for members in fields, methods:
-        body += counted([struct.pack(">HHHH", f, utf8(n), utf8(d), 0) for f, n, d in members])
+        body += counted([member(*parts) for parts in members])
     names = counted([struct.pack(">H", class_entry(p)) for p in permitted])
     body += counted([struct.pack(">HI", utf8("PermittedSubclasses"), len(names)) + names] if permitted else [])
     return struct.pack(">IHHH", 0xCAFEBABE, 0, 61, len(entries) + 1) + b"".join(entries) + body
@@ -116,10 +120,40 @@ def fat_methods(n):
     yield "ON", "p/A", class_file("p/A", methods=[INIT] + [(PUBLIC, f"m{i:05}", text) for i in range(n)])
 
 
+def signed_methods(n):
+    """a class with n methods, each of which has another generic signature now; with --signatures"""
+    for side, text in ("O", "a"), ("N", "b"):
+        methods = [(PUBLIC, f"m{i:05}", "(Ljava/util/List;)V", f"(Ljava/util/List<L{text}{i:05};>;)V") for i in range(n)]
+        yield side, "p/A", class_file("p/A", methods=[INIT] + methods)
+
+
+def wide_base(n):
+    """an interface with n methods that names n interfaces with one each; it and they have one more now; with --warn"""
+    face = PUBLIC | INTERFACE | ABSTRACT
+    above = [f"p/I{i:05}" for i in range(n)]
+    for side, more in ("O", []), ("N", [(PUBLIC | ABSTRACT, "new", "()V")]):
+        for i, name in enumerate(above):
+            yield side, name, class_file(name, methods=[(PUBLIC | ABSTRACT, f"m{i:05}", "()V")] + more, flags=face)
+        keys = [(PUBLIC | ABSTRACT, f"k{i:05}", "()V") for i in range(n)]
+        yield side, "p/B", class_file("p/B", interfaces=above, methods=keys + more, flags=face)
+
+
+def dropped_interfaces(n):
+    """n classes, each with an interface of its own, of which each second one is left; with --dropped"""
+    face = PUBLIC | INTERFACE | ABSTRACT
+    for i in range(n):
+        yield "ON", f"p/I{i:05}", class_file(f"p/I{i:05}", methods=(), flags=face)
+        yield "O", f"p/A{i:05}", class_file(f"p/A{i:05}", interfaces=[f"p/I{i:05}"])
+        yield "N", f"p/A{i:05}", class_file(f"p/A{i:05}", interfaces=[f"p/I{i:05}"] if i % 2 else [])
+
+
 SIZES = [(hidden_pairs, (1000, 2000, 4000)), (hidden_members, (1000, 4000, 16000)), (hidden_seats, (1000, 4000, 16000)),
          (hidden_pairs_and_seats, (250, 500, 1000)), (fat_interfaces, (4000, 16000)), (fat_permits, (4000, 16000)),
-         (fat_fields, (4000, 16000)), (fat_methods, (4000, 16000))]
+         (fat_fields, (4000, 16000)), (fat_methods, (4000, 16000)), (signed_methods, (7500, 15000, 30000)),
+         (wide_base, (500, 1000, 2000)), (dropped_interfaces, (2000, 4000, 8000))]
 SHAPES = {shape.__name__: shape for shape, _ in SIZES}
+# what a check of the shape is asked for besides
+ASKED = {signed_methods: ["--signatures"], wide_base: ["--warn"], dropped_interfaces: ["--dropped"]}
 
 
 def written(shape, size, folder):
@@ -160,7 +194,7 @@ def main(words):
         before = None
         for size in sizes:
             with tempfile.TemporaryDirectory() as folder:
-                line, seconds, peak = checked(program, written(shape, size, folder), folder)
+                line, seconds, peak = checked(program, written(shape, size, folder) + ASKED.get(shape, []), folder)
             grown = f", exponent {math.log(seconds / before[1]) / math.log(size / before[0]):.2f}" if before else ""
             print(f"{shape.__name__} {size}: {line}: {seconds:.2f} s, {peak:.0f} MB{grown}", flush=True)
             before = size, max(seconds, 0.001)
