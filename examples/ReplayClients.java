@@ -1,5 +1,8 @@
+import java.io.File;
 import java.io.IOException;
+import java.io.StringWriter;
 import java.io.UncheckedIOException;
+import java.io.Writer;
 import java.nio.file.Files;
 import java.nio.file.Path;
 import java.util.ArrayList;
@@ -22,9 +25,11 @@ import javax.tools.ToolProvider;
  * <p>Each folder of RULES has the Java sources of an old and a new release and of a client, which is compiled against the old one.
  * <code>app.Main</code> of the client is run beside each release, by the <code>java</code> of this machine. With the old one it ends well. With
  * the new one it ends with the error that the file <code>message</code> has and, unless it is a verdict alone, the file <code>report</code>
- * names; where the file <code>prints</code> stands in the place of <code>message</code>, it ends well with both and prints that. Where PROGRAM
- * is given, its report of the two releases is the file <code>report</code>, with <code>--warn</code> followed by the file
- * <code>warnings</code> where that stands. Sources in <code>needs</code> are there when the new release is
+ * names; where the file <code>prints</code> stands in the place of <code>message</code>, it ends well with both and prints that; where the file
+ * <code>recompiled</code> stands too, compiling it against the new release ends with that error. Where PROGRAM
+ * is given, its report of the two releases is the file <code>report</code>, followed with <code>--warn</code> by the file
+ * <code>warnings</code>, with <code>--signatures</code> by the file <code>signatures</code>, and with <code>--dropped</code> by the file
+ * <code>dropped</code>, where these stand. Sources in <code>needs</code> are there when the new release is
  * compiled, file by file, and not when the client is run.
  *
  * <p>PAGE links each folder, and each line of a block of it is a line of these files. There is a line of output for each folder, in the order
@@ -177,14 +182,36 @@ public final class ReplayClients {
         }
 
         private void compile(String to, List<Path> from, String beside) throws IOException, Fault {
+            if (!isCompiled(null, to, from, beside)) {
+                throw new Fault("the sources of " + to + " don't compile");
+            }
+        }
+
+        private boolean isCompiled(Writer said, String to, List<Path> from, String beside) throws IOException {
             JavaCompiler compiler = ToolProvider.getSystemJavaCompiler();
             Path into = Files.createDirectories(classes.resolve(to));
             List<String> options = List.of("--release", "17", "-proc:none", "-d", into.toString(), "-cp", classes.resolve(beside).toString());
             try (StandardJavaFileManager manager = compiler.getStandardFileManager(null, null, null)) {
-                if (!compiler.getTask(null, manager, null, options, null, manager.getJavaFileObjectsFromPaths(from)).call()) {
-                    throw new Fault("the sources of " + to + " don't compile");
-                }
+                return compiler.getTask(said, manager, null, options, null, manager.getJavaFileObjectsFromPaths(from)).call();
             }
+        }
+
+        /** Compiles the client against the new release, where that is to fail, and gives what the compiler says then. */
+        private String recompiled() throws IOException, Fault {
+            Path message = sources.resolve("recompiled");
+            if (!Files.exists(message)) {
+                return "";
+            }
+            StringWriter said = new StringWriter();
+            Path client = sources.resolve("client").toAbsolutePath();
+            if (isCompiled(said, "again", files(client, ".java"), "new")) {
+                throw new Fault("the client compiles against the new release");
+            }
+            String found = said.toString().lines().findFirst().orElse("").replace(client + File.separator, "");
+            if (Runtime.version().feature() == RECORDED) {
+                same("against the new release it ends with", Files.readString(message).strip(), found);
+            }
+            return ", and compiled again: " + found;
         }
 
         /** Runs the client beside both releases, and gives what it said beside the new one. */
@@ -198,7 +225,7 @@ public final class ReplayClients {
             if (Files.exists(prints)) {
                 same("with the old release it prints", Files.readString(prints), before.text);
                 same("with the new release it prints", Files.readString(prints), after.text);
-                return "prints " + after.text.strip();
+                return "prints " + after.text.strip() + recompiled();
             }
             String wanted = Files.readString(sources.resolve("message")).strip();
             String found = after.error.lines().findFirst().orElse("no error");
@@ -228,13 +255,19 @@ public final class ReplayClients {
             words.addAll(List.of("check", "--platform", platform.toString()));
             words.addAll(List.of("--old", classes.resolve("old").toString(), "--new", classes.resolve("new").toString()));
             String wanted = Files.readString(sources.resolve("report"));
-            Path warnings = sources.resolve("warnings");
-            if (Files.exists(warnings)) {
-                words.add("--warn");
-                wanted += Files.readString(warnings);
-            }
+            wanted += asked("warnings", "--warn", words) + asked("signatures", "--signatures", words) + asked("dropped", "--dropped", words);
             Output report = run(words);
             same("the report is", wanted, report.text + report.error);
+        }
+
+        /** What a flag adds to the report, where the example has it in this file; then the flag is one of the words. */
+        private String asked(String file, String flag, List<String> words) throws IOException {
+            Path part = sources.resolve(file);
+            if (!Files.exists(part)) {
+                return "";
+            }
+            words.add(flag);
+            return Files.readString(part);
         }
 
         private static void same(String what, String wanted, String found) throws Fault {

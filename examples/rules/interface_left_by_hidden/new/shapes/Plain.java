@@ -1,0 +1,7 @@
+package shapes;
+
+class Plain {
+    public void paint() {
+        System.out.println("painted");
+    }
+}

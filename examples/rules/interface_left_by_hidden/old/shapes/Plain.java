@@ -1,0 +1,7 @@
+package shapes;
+
+class Plain implements Painter {
+    public void paint() {
+        System.out.println("painted");
+    }
+}

@@ -1,0 +1,7 @@
+package shapes;
+
+public interface Roller {
+    void roll();
+
+    void paint();
+}

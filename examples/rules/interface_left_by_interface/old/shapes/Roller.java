@@ -1,0 +1,5 @@
+package shapes;
+
+public interface Roller extends Painter {
+    void roll();
+}

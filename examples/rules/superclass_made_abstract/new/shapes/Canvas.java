@@ -1,0 +1,6 @@
+package shapes;
+
+public abstract class Canvas {
+    public Canvas() {
+    }
+}
