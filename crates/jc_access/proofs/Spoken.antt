@@ -32,14 +32,13 @@ use Rattle.jc_worlds.proofs.WalkLaws.{seat_ends_the_clients}
 use Rattle.jc_facts.proofs.World.{names, find-name, EachOf-class_named}
 use Rattle.jc_table.specs.Ids.{name_at}
 use Rattle.jc_table.specs.Lookups.{IsFound}
-use Rattle.jc_table.specs.Sides.{IsSide}
 use Rattle.jc_index.specs.declared.ids.Found.{Found}
 use Rattle.jc_table.proofs.Numbers.{class_at}
 use Rattle.jc_access.specs.steps.Parts.{inside_at, client_at, asks_receiver}
 use Rattle.jc_access.specs.Speaking.{SpeaksForSeat}
 use Rattle.jc_access.proofs.Assigned.{chain-there}
 
-module _ (W : World) (side : IsSide W) (clients : List ClassFacts) (allowed : All (λ c. is_allowed_name W c.name ≡ true) clients) where
+module _ (W : World) (bare : W.clients ≡ []) (clients : List ClassFacts) (allowed : All (λ c. is_allowed_name W c.name ≡ true) clients) where
   each_allowed : EachOf (λ n. is_allowed_name W n ≡ true) (names clients)
   each_allowed = each_name (λ n. is_allowed_name W n ≡ true) clients (recursion_from_All (λ c. is_allowed_name W c.name ≡ true) clients allowed)
 
@@ -64,7 +63,7 @@ module _ (W : World) (side : IsSide W) (clients : List ClassFacts) (allowed : Al
       → in_chain (with_clients W clients) x y ≡ in_chain W a y
   unfolding is_client
   chain_of_seat x a h s y c f =
-      let e = seat_ends_the_clients W clients side.no_clients allowed x a h s in
+      let e = seat_ends_the_clients W clients bare allowed x a h s in
       ap (λ cs. names_in cs y) e.2 ∙ list_any-append (λ d. same d.name y) e.0 (chain W a) ∙ ap (λ b. b || in_chain W a y) (none e.0 (recursion_from_All (λ d. is_client (with_clients W clients) d.name ≡ true) e.0 e.1))
     where
       other : (d : ClassFacts) → is_client (with_clients W clients) d.name ≡ true → (b : Bool) → same d.name y ≡ b → b ≡ false
@@ -81,13 +80,13 @@ module _ (W : World) (side : IsSide W) (clients : List ClassFacts) (allowed : Al
   grows : size W ≤ size (with_clients W clients)
   unfolding size
   grows =
-      let e : length W.clients ≡ 0 = ap length side.no_clients in
+      let e : length W.clients ≡ 0 = ap length bare in
       omega (arith, e, length-append (W.platform ++ W.release) W.clients, length-append (W.platform ++ W.release) clients)
 
   -- no class of the side has a client above it
   never_above : (t x : Bytes) (c : ClassFacts) → find_class W t ≡ Some c → is_client (with_clients W clients) x ≡ true → in_chain (with_clients W clients) t x ≡ false
   never_above t x c f i =
-      sym (in_chain-agree W (with_clients W clients) (IsLibrary W clients side.no_clients) (sides W clients side.no_clients (unused_from_allowed W clients side.no_clients each_allowed)) grows t x
+      sym (in_chain-agree W (with_clients W clients) (IsLibrary W clients bare) (sides W clients bare (unused_from_allowed W clients bare each_allowed)) grows t x
       (not_client t c f (class_named clients t) refl))
       ∙ chain-there W t x (client_parts x i).absent
 
@@ -105,12 +104,12 @@ module _ (W : World) (side : IsSide W) (clients : List ClassFacts) (allowed : Al
 
 -- a client is in no package of the side and in the module of the clients, so that the class is accessible from it where it is visible and public
 pub class_spoken : (W : World) (a y : Bytes) (d : ClassFacts) (b : Bool) → find_class W y ≡ Some d → b ≡ (is_visible W d.name && public_flag d.flags) → SpeaksForSeat W a (λ V x. is_class_accessible V x d) b
-class_spoken W a y d b g h side clients allowed x i l s =
-    let m : module_of (with_clients W clients) x ≡ OfClients = outside W x (client_parts W side clients allowed x i).absent in
+class_spoken W a y d b g h side bare clients allowed x i l s =
+    let m : module_of (with_clients W clients) x ≡ OfClients = outside W x (client_parts W bare clients allowed x i).absent in
     let e : is_visible_from (with_clients W clients) x d.name ≡ is_visible W d.name = visible_from-client (with_clients W clients) x d.name m in
     h
     ∙ sym (ap (λ v. (v && public_flag d.flags) || in_same_package x d.name) e
-    ∙ ap (λ v. (is_visible W d.name && public_flag d.flags) || v) (class-client W side clients allowed x y d g i)
+    ∙ ap (λ v. (is_visible W d.name && public_flag d.flags) || v) (class-client W bare clients allowed x y d g i)
     ∙ or_false (is_visible W d.name && public_flag d.flags))
 
 -- what is asked of the class named y, of its record
@@ -137,11 +136,11 @@ found_client W a n f m i = ap (λ o. client_at W a n o f.flags) i.owner ∙ ap (
 
 pub member_spoken : (W : World) (a : Bytes) (n : ℕ) (f : Found) (m : DeclaredMember) (b : Bool) → n < size W → IsFound W f m → b ≡ client_at W a (name_at W n) (name_at W f.owner) f.flags
     → SpeaksForSeat W a (λ V x. is_member_accessible V x (name_at W n) m) b
-member_spoken W a n f m b l i e side clients allowed x c h s =
+member_spoken W a n f m b l i e side bare clients allowed x c h s =
     let o = class_at W f.owner side.differ i.below in
     let t = class_at W n side.differ l in
     e ∙ found_client W a (name_at W n) f m i
-    ∙ sym (member-client W side clients allowed x a (name_at W n) m o.facts t.facts (ap (find_class W) (sym i.owner) ∙ o.found) t.found c h s)
+    ∙ sym (member-client W bare clients allowed x a (name_at W n) m o.facts t.facts (ap (find_class W) (sym i.owner) ∙ o.found) t.found c h s)
 
 -- ---- the check on protected members
 

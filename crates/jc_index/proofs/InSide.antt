@@ -3,15 +3,16 @@ use Rattle.std.proofs.Common.{◌≡◌, ℕ, zero, suc, ◌<◌, ◌≤◌, ◌
 use Rattle.std.specs.Prelude.{slice_get}
 use Rattle.std.specs.List.{list_any, Contains}
 use Rattle.std.proofs.Math.Seq.{take-append_seam}
-use Rattle.std.proofs.lemmas.List.{append-nil, length-append, take-append-le, take_all}
+use Rattle.std.proofs.lemmas.List.{append_assoc, length-append, length-take-le, take-append-drop, take-append-le, take_all}
 use Rattle.std.proofs.lemmas.List.Folds.{list_any_more, list_any-append}
 use Rattle.std.proofs.lemmas.List.Elements.{Contains-get_or}
-use Rattle.std.proofs.lemmas.Option.{slice_get_within, get_or_from_slice_get}
+use Rattle.std.proofs.lemmas.Option.{slice_get_within, slice_get_read, get_or_from_slice_get}
 use Rattle.jc_facts.specs.declared.class_facts.ClassFacts.{ClassFacts}
 use Rattle.jc_facts.specs.world.Mentioned.{mentions, all_mentions}
-use Rattle.jc_facts.specs.world.World.{World, side, classes}
+use Rattle.jc_facts.specs.world.World.{World, classes}
+use Rattle.jc_index.specs.SideFields.{world_of}
+use Rattle.jc_index.specs.declared.side.Side.TheInside.{Inside}
 use Rattle.jc_lemmas.proofs.Listed.{any_has}
-use Rattle.jc_lemmas.proofs.Bools.{or_false}
 
 -- the class at a place is the one that is read there
 pub is_there : (W : World) (n : ℕ) (c : ClassFacts) → Some c ≡ slice_get (classes W) n → c ≡ get_or (classes W) n c
@@ -27,6 +28,14 @@ class-front [] ds n l = absurd (omega arith)
 class-front (c ∷ cs) ds zero l = refl
 class-front (c ∷ cs) ds (suc n) l = class-front cs ds n (omega arith)
 
+class-behind : (cs ds : List ClassFacts) (n : ℕ) → slice_get (cs ++ ds) (length cs + n) ≡ slice_get ds n
+class-behind [] ds n = ap (slice_get ds) (let q : 0 + n ≡ n = omega arith in q)
+class-behind (c ∷ cs) ds n = ap (slice_get (c ∷ (cs ++ ds))) (let q : suc (length cs) + n ≡ suc (length cs + n) = omega arith in q) ∙ class-behind cs ds n
+
+mentions-append : (cs ds : List ClassFacts) → length (all_mentions (cs ++ ds)) ≡ length (all_mentions cs) + length (all_mentions ds)
+mentions-append [] ds = omega arith
+mentions-append (c ∷ cs) ds = omega (arith, length-append (mentions c) (all_mentions (cs ++ ds)), length-append (mentions c) (all_mentions cs), mentions-append cs ds)
+
 -- ---- a test of the classes, by their places
 
 module _ (p : ClassFacts → Bool) (W : World) where
@@ -39,18 +48,40 @@ module _ (p : ClassFacts → Bool) (W : World) where
   pub any_end : (n : ℕ) → length (classes W) ≤ n → list_any p (take n (classes W)) ≡ false → list_any p (classes W) ≡ false
   any_end n l f = ap (list_any p) (sym (take_all n (classes W) l)) ∙ f
 
--- ---- the platform's classes, and then those of the release
+-- ---- the platform's classes, and then those beside them
 
--- a class of one of the two passes exactly where one of the side does
-pub any_of_both : (p : ClassFacts → Bool) (platform release : List ClassFacts) (W : World) → side platform release ≡ W → (list_any p platform || list_any p release) ≡ list_any p (classes W)
-any_of_both p platform release W v =
-    sym (list_any-append p platform release) ∙ sym (or_false (list_any p (platform ++ release))) ∙ sym (list_any-append p (platform ++ release) []) ∙ ap (λ (V : World). list_any p (classes V)) v
+module _ (s : Inside) (W : World) (v : world_of s ≡ W) where
+  pub platform_is : s.platform ≡ W.platform
+  platform_is = ap (λ (V : World). V.platform) v
 
-mentions-append : (cs ds : List ClassFacts) → length (all_mentions (cs ++ ds)) ≡ length (all_mentions cs) + length (all_mentions ds)
-mentions-append [] ds = omega arith
-mentions-append (c ∷ cs) ds = omega (arith, length-append (mentions c) (all_mentions (cs ++ ds)), length-append (mentions c) (all_mentions cs), mentions-append cs ds)
+  pub beside_is : s.beside ≡ W.release ++ W.clients
+  beside_is = sym (take-append-drop s.of_release s.beside) ∙ ap (λ (V : World). V.release ++ V.clients) v
 
--- so many names do the two mention
-pub mentions_of_both : (platform release : List ClassFacts) (W : World) → side platform release ≡ W → length (all_mentions platform) + length (all_mentions release) ≡ length (all_mentions (classes W))
-mentions_of_both platform release W v =
-    sym (mentions-append platform release) ∙ ap (λ (cs : List ClassFacts). length (all_mentions cs)) (sym (append-nil (platform ++ release))) ∙ ap (λ (V : World). length (all_mentions (classes V))) v
+  pub all_is : s.platform ++ s.beside ≡ classes W
+  all_is =
+      ap (λ (cs : List ClassFacts). s.platform ++ cs) beside_is ∙ ap (λ (cs : List ClassFacts). cs ++ (W.release ++ W.clients)) platform_is
+      ∙ sym (append_assoc W.platform W.release W.clients)
+
+  -- so many are the release's
+  pub own_is : s.of_release ≤ length s.beside → s.of_release ≡ length W.release
+  own_is l = sym (length-take-le s.of_release s.beside l) ∙ ap (λ (V : World). length V.release) v
+
+  pub count_is : length s.platform + length s.beside ≡ length (classes W)
+  count_is = sym (length-append s.platform s.beside) ∙ ap length all_is
+
+  -- the class at a place of the platform, and at one behind it
+  pub first_there : (n : ℕ) (c : ClassFacts) → n < length s.platform → c ≡ get_or s.platform n c → Some c ≡ slice_get (classes W) n
+  first_there n c l e =
+      sym (slice_get_read s.platform (length s.platform) n c refl l e) ∙ sym (class-front s.platform s.beside n l) ∙ ap (λ (cs : List ClassFacts). slice_get cs n) all_is
+
+  pub later_there : (n m : ℕ) (c : ClassFacts) → length s.platform + m ≡ n → m < length s.beside → c ≡ get_or s.beside m c → Some c ≡ slice_get (classes W) n
+  later_there n m c k l e =
+      sym (slice_get_read s.beside (length s.beside) m c refl l e) ∙ sym (class-behind s.platform s.beside m) ∙ ap (slice_get (s.platform ++ s.beside)) k ∙ ap (λ (cs : List ClassFacts). slice_get cs n) all_is
+
+  -- a class of one of the two passes exactly where one of the side does
+  pub any_of_both : (p : ClassFacts → Bool) → (list_any p s.platform || list_any p s.beside) ≡ list_any p (classes W)
+  any_of_both p = sym (list_any-append p s.platform s.beside) ∙ ap (list_any p) all_is
+
+  -- so many names do the two mention
+  pub mentions_of_both : length (all_mentions s.platform) + length (all_mentions s.beside) ≡ length (all_mentions (classes W))
+  mentions_of_both = sym (mentions-append s.platform s.beside) ∙ ap (λ (cs : List ClassFacts). length (all_mentions cs)) all_is

@@ -1,12 +1,16 @@
 -- The classes that are found by their names, and the side that is kept of them.
-use Rattle.std.proofs.Common.{◌≡◌, ℕ, ◌<◌, ◌≤◌, List, [], length, get_or, sym, ◌∙◌, ap, subst, Some, None, arith, ◌⊎◌, inl, inr}
+use Rattle.std.proofs.Common.{◌≡◌, ℕ, ◌<◌, ◌≤◌, ◌+◌, ◌++◌, Bool, true, false, refl, List, [], length, length-append, get_or, sym, ◌∙◌, ap, subst, Some, None, arith, ◌⊎◌, inl, inr}
 use Rattle.std.specs.Prelude.{is_some, IsTrue, nat_lt, slice_get}
 use Rattle.std.proofs.lemmas.List.{length-map, get_or-map, get_or_default}
 use Rattle.std.proofs.lemmas.Option.{slice_get_cases}
 use Rattle.jc_facts.specs.declared.class_facts.ClassFacts.{ClassFacts}
 use Rattle.jc_facts.specs.Names.{Bytes}
 use Rattle.jc_facts.specs.world.Search.{supers}
-use Rattle.jc_facts.specs.world.World.{World, classes, size, find_class, class_named}
+use Rattle.jc_facts.specs.world.World.{World, Modules, OneModule, Several, classes, size, find_class, class_named}
+use Rattle.jc_facts.specs.world.Modules.{module_by, module_of}
+use Rattle.jc_worlds.proofs.Absent.{class_named-back}
+use Rattle.jc_lemmas.proofs.Options.{none_from}
+use Rattle.std.proofs.Math.Seq.{take-append_seam}
 use Rattle.jc_facts.specs.client.Clients.{differ_by_name}
 use Rattle.jc_index.specs.Ids.{names_of, names, name_at, place_of, id_of, name_or, name_in}
 use Rattle.jc_index.specs.steps.Order.{names_at}
@@ -17,6 +21,12 @@ use Rattle.jc_index.proofs.Numbers.{IsAt, place-at, names_of-length, id_of-Some}
 use Rattle.jc_index.proofs.InSide.{front}
 use Rattle.jc_index.proofs.Places.{order_length, found_there, in_front}
 use Rattle.jc_index.proofs.Standing.{name_in-at, unplaced}
+
+-- whether the release has a class matters where the platform doesn't
+module_after : (m : Modules) (p r s : Bool) → (p ≡ false → r ≡ s) → module_by m p r ≡ module_by m p s
+module_after OneModule p r s h = refl
+module_after (Several exports) true r s h = refl
+module_after (Several exports) false r s h = ap (module_by (Several exports) false) (h refl)
 
 module _ (i : Inside) (h : AreNamedClasses i) (W : World) (v : i.side ≡ W) where
   classes_are : classes W ≡ classes i.side
@@ -104,6 +114,33 @@ module _ (i : Inside) (h : AreNamedClasses i) (W : World) (v : i.side ≡ W) whe
           in_front (classes i.side) (length i.side.platform) at x.0 differ x.2 ∙ ap (λ (cs : List ClassFacts). is_some (class_named cs x.0.name)) (front i.side) ∙ ap (λ (y : Bytes). is_some (class_named i.side.platform y)) (name_is n at x.0 l a x.2)
           ∙ ap (λ (V : World). is_some (class_named V.platform (name_at W n))) v
       go (inr x) = absurd (let k = within n at l a in omega (arith, x.0))
+
+  -- it is of the platform or of the release exactly where its place is one of theirs
+  before_is : (n at : ℕ) → n < size W → at ≡ get_or i.order.items n at → nat_lt at (length i.side.platform + length i.side.release) ≡ is_some (class_named (i.side.platform ++ i.side.release) (name_at W n))
+  before_is n at l a = go (slice_get_cases (classes i.side) at).1
+    where
+      both : List ClassFacts
+      both = i.side.platform ++ i.side.release
+
+      go : ((c : ClassFacts) × (at < length (classes i.side)) × (slice_get (classes i.side) at ≡ Some c) × (get_or (classes i.side) at c ≡ c)) ⊎ ((length (classes i.side) ≤ at) × (slice_get (classes i.side) at ≡ None))
+          → nat_lt at (length i.side.platform + length i.side.release) ≡ is_some (class_named both (name_at W n))
+      go (inl x) =
+          ap (nat_lt at) (sym (length-append i.side.platform i.side.release)) ∙ in_front (classes i.side) (length both) at x.0 differ x.2
+          ∙ ap (λ (cs : List ClassFacts). is_some (class_named cs x.0.name)) (take-append_seam both i.side.clients) ∙ ap (λ (y : Bytes). is_some (class_named both y)) (name_is n at x.0 l a x.2)
+      go (inr x) = absurd (let k = within n at l a in omega (arith, x.0))
+
+  -- so its module is that of its place
+  pub module_is : (n at : ℕ) → n < size W → at ≡ get_or i.order.items n at
+      → module_by i.side.modules (nat_lt at (length i.side.platform)) (nat_lt at (length i.side.platform + length i.side.release)) ≡ module_of W (name_at W n)
+  module_is n at l a =
+      let x : Bytes = name_at W n in
+      let later : is_some (class_named i.side.platform x) ≡ false → is_some (class_named (i.side.platform ++ i.side.release) x) ≡ is_some (class_named i.side.release x) =
+      λ h. ap is_some (class_named-back i.side.platform i.side.release x (none_from (class_named i.side.platform x) h))
+      in
+      ap (λ b. module_by i.side.modules b (nat_lt at (length i.side.platform + length i.side.release))) (front_is n at l a ∙ ap (λ (V : World). is_some (class_named V.platform x)) (sym v))
+      ∙ ap (module_by i.side.modules (is_some (class_named i.side.platform x))) (before_is n at l a)
+      ∙ module_after i.side.modules (is_some (class_named i.side.platform x)) _ _ later
+      ∙ ap (λ (V : World). module_of V x) v
 
   -- a name that the class of a number has above itself, by the class's place
   pub above_there : (n at place : ℕ) (x : Bytes) → n < size W → place ≡ get_or i.order.items n place → ((c : ClassFacts) → find_class W (name_at W n) ≡ Some c → slice_get (supers c) at ≡ Some x) → IsAbove (classes i.side) place at x

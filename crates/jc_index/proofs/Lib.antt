@@ -36,3 +36,4 @@ pub mod Loads
 pub mod PlacesAbove
 pub mod PlatformFinals
 pub mod Across
+pub mod Visible

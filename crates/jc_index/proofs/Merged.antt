@@ -63,53 +63,60 @@ inside cs ds before order l o = go order (recursion_from_All (λ at. at < length
 each-below : (ds : List ClassFacts) (order : List ℕ) → IsOrder ds order → EachOf (λ at. at < length ds) order
 each-below ds order o = recursion_from_All (λ at. at < length ds) order o.within
 
--- the classes of a side
-pub two_lists : (W : World) → IsSide W → classes W ≡ W.platform ++ W.release
-two_lists W s = ap (λ (cs : List ClassFacts). W.platform ++ W.release ++ cs) s.no_clients ∙ append-nil (W.platform ++ W.release)
+-- the classes of a side without clients
+pub two_lists : (W : World) → W.clients ≡ [] → classes W ≡ W.platform ++ W.release
+two_lists W bare = ap (λ (cs : List ClassFacts). W.platform ++ W.release ++ cs) bare ∙ append-nil (W.platform ++ W.release)
 
-many : (W : World) → IsSide W → length (classes W) ≡ length W.platform + length W.release
-many W s = ap length (two_lists W s) ∙ length-append W.platform W.release
+-- those of the release, and then the clients
+abbrev beside : World → List ClassFacts
+beside W = W.release ++ W.clients
 
-first-each : (W : World) → IsSide W → (first : List ℕ) → IsOrder W.platform first → EachOf (λ at. 0 + at < length (classes W)) first
-first-each W s first f = inside (classes W) W.platform 0 first (let m = many W s in omega arith) f
+both_lists : (W : World) → classes W ≡ W.platform ++ beside W
+both_lists W = append_assoc W.platform W.release W.clients
 
-second-each : (W : World) → IsSide W → (second : List ℕ) → IsOrder W.release second → EachOf (λ at. length W.platform + at < length (classes W)) second
-second-each W s second g = inside (classes W) W.release (length W.platform) second (let m = many W s in omega arith) g
+many : (W : World) → length (classes W) ≡ length W.platform + length (beside W)
+many W = ap length (both_lists W) ∙ length-append W.platform (beside W)
 
-pub first_inside : (W : World) → IsSide W → (first : List ℕ) → IsOrder W.platform first → All (λ at. 0 + at < length (classes W)) first
-first_inside W s first f = All-from_recursion (λ at. 0 + at < length (classes W)) first (first-each W s first f)
+first-each : (W : World) → (first : List ℕ) → IsOrder W.platform first → EachOf (λ at. 0 + at < length (classes W)) first
+first-each W first f = inside (classes W) W.platform 0 first (let m = many W in omega arith) f
 
-pub second_inside : (W : World) → IsSide W → (second : List ℕ) → IsOrder W.release second → All (λ at. length W.platform + at < length (classes W)) second
-second_inside W s second g = All-from_recursion (λ at. length W.platform + at < length (classes W)) second (second-each W s second g)
+second-each : (W : World) → (second : List ℕ) → IsOrder (beside W) second → EachOf (λ at. length W.platform + at < length (classes W)) second
+second-each W second g = inside (classes W) (beside W) (length W.platform) second (let m = many W in omega arith) g
 
-module _ (W : World) (s : IsSide W) (first second : List ℕ) (f : IsOrder W.platform first) (g : IsOrder W.release second) where
+pub first_inside : (W : World) → (first : List ℕ) → IsOrder W.platform first → All (λ at. 0 + at < length (classes W)) first
+first_inside W first f = All-from_recursion (λ at. 0 + at < length (classes W)) first (first-each W first f)
+
+pub second_inside : (W : World) → (second : List ℕ) → IsOrder (beside W) second → All (λ at. length W.platform + at < length (classes W)) second
+second_inside W second g = All-from_recursion (λ at. length W.platform + at < length (classes W)) second (second-each W second g)
+
+module _ (W : World) (s : IsSide W) (first second : List ℕ) (f : IsOrder W.platform first) (g : IsOrder (beside W) second) where
   placed : All (IsPlace (classes W)) (map (place_after (classes W) 0) first ++ map (place_after (classes W) (length W.platform)) second)
   placed =
       All-from_recursion (IsPlace (classes W)) (map (place_after (classes W) 0) first ++ map (place_after (classes W) (length W.platform)) second)
       (EachOf-append (IsPlace (classes W)) (map (place_after (classes W) 0) first) (map (place_after (classes W) (length W.platform)) second)
-      (each-place (classes W) 0 first (first-each W s first f)) (each-place (classes W) (length W.platform) second (second-each W s second g)))
+      (each-place (classes W) 0 first (first-each W first f)) (each-place (classes W) (length W.platform) second (second-each W second g)))
 
   first-name : (at : ℕ) → at < length W.platform → name_in (classes W) (0 + at) ≡ name_in W.platform at
   first-name at l =
-      ap (name_in (classes W)) (let q : 0 + at ≡ at = omega arith in q) ∙ ap (λ (cs : List ClassFacts). name_in cs at) (two_lists W s)
-      ∙ name-first W.platform W.release at l
+      ap (name_in (classes W)) (let q : 0 + at ≡ at = omega arith in q) ∙ ap (λ (cs : List ClassFacts). name_in cs at) (both_lists W)
+      ∙ name-first W.platform (beside W) at l
 
-  second-name : (at : ℕ) → at < length W.release → name_in (classes W) (length W.platform + at) ≡ name_in W.release at
-  second-name at l = ap (λ (cs : List ClassFacts). name_in cs (length W.platform + at)) (two_lists W s) ∙ name-second W.platform W.release at
+  second-name : (at : ℕ) → at < length (beside W) → name_in (classes W) (length W.platform + at) ≡ name_in (beside W) at
+  second-name at l = ap (λ (cs : List ClassFacts). name_in cs (length W.platform + at)) (both_lists W) ∙ name-second W.platform (beside W) at
 
-  names_are : map (λ p. p.0) (map (place_after (classes W) 0) first ++ map (place_after (classes W) (length W.platform)) second) ≡ names_of W.platform ++ names_of W.release
+  names_are : map (λ p. p.0) (map (place_after (classes W) 0) first ++ map (place_after (classes W) (length W.platform)) second) ≡ names_of W.platform ++ names_of (beside W)
   names_are =
       map-append (λ (p : Bytes × ℕ). p.0) (map (place_after (classes W) 0) first) (map (place_after (classes W) (length W.platform)) second)
       ∙ ap (λ (xs : List Bytes). xs ++ map (λ p. p.0) (map (place_after (classes W) (length W.platform)) second))
       (names-after (classes W) 0 first ∙ same-names (λ at. name_in (classes W) (0 + at)) (name_in W.platform) W.platform first first-name (each-below W.platform first f) ∙ f.named)
       ∙ ap (λ (xs : List Bytes). names_of W.platform ++ xs)
-      (names-after (classes W) (length W.platform) second ∙ same-names (λ at. name_in (classes W) (length W.platform + at)) (name_in W.release) W.release second second-name (each-below W.release second g) ∙ g.named)
+      (names-after (classes W) (length W.platform) second ∙ same-names (λ at. name_in (classes W) (length W.platform + at)) (name_in (beside W)) (beside W) second second-name (each-below (beside W) second g) ∙ g.named)
 
   named : IsPermutation (names_at (classes W)) (map (λ p. p.0) (map (place_after (classes W) 0) first ++ map (place_after (classes W) (length W.platform)) second))
   named =
       subst (λ (xs : List Bytes). IsPermutation (names_at (classes W)) xs) (sym names_are)
-      (subst (λ (xs : List Bytes). IsPermutation xs (names_of W.platform ++ names_of W.release)) (sym (ap names_at (two_lists W s) ∙ map-append (λ (c : ClassFacts). c.name) W.platform W.release))
-      (IsPermutation-append (names_at W.platform) (names_of W.platform) (names_at W.release) (names_of W.release) (names-permutation W.platform) (names-permutation W.release)))
+      (subst (λ (xs : List Bytes). IsPermutation xs (names_of W.platform ++ names_of (beside W))) (sym (ap names_at (both_lists W) ∙ map-append (λ (c : ClassFacts). c.name) W.platform (beside W)))
+      (IsPermutation-append (names_at W.platform) (names_of W.platform) (names_at (beside W)) (names_of (beside W)) (names-permutation W.platform) (names-permutation (beside W))))
 
   -- what is sorted is the order of the side
   pub merged_order : (order : List ℕ) (places : List (Bytes × ℕ)) → places ≡ map (place_after (classes W) 0) first ++ map (place_after (classes W) (length W.platform)) second

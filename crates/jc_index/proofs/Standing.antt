@@ -2,14 +2,15 @@
 use Rattle.std.proofs.Common.{◌≡◌, ◌≢◌, ℕ, zero, suc, ◌+◌, ◌<◌, ◌≤◌, Bool, true, false, cond, ◌||◌, List, [], ◌∷◌, ◌++◌, length, take, drop, get_or, set, refl, sym, ◌∙◌, ap, subst, Option, Some, None, ◌⊎◌, inl, inr, arith}
 use Rattle.std.specs.Prelude.{is_some, is_none, nat_lt, option_map, slice_get, IsTrue, IfSome}
 use Rattle.std.proofs.lemmas.Bool.{cases_eq, ltb-true}
-use Rattle.std.proofs.lemmas.List.{append-nil, length-append, map-append, drop_all, length-map, map_more, get_or-map, get_or-set_same, get_or-set_other, take-map, take_all}
+use Rattle.std.proofs.lemmas.Bool.Decides.{nat_tests}
+use Rattle.std.proofs.lemmas.List.{append-nil, map-append, drop_all, length-map, map_more, get_or-map, get_or-set_same, get_or-set_other, take-map, take_all}
 use Rattle.jc_lemmas.proofs.Listed.{each_in}
 use Rattle.jc_facts.specs.declared.class_facts.ClassFacts.{ClassFacts}
 use Rattle.jc_facts.specs.Names.{Bytes, same, is_name_among}
 use Rattle.jc_facts.specs.Options.{and_then}
 use Rattle.jc_facts.specs.client.Clients.{differ_by_name}
 use Rattle.jc_facts.specs.world.Search.{supers}
-use Rattle.jc_facts.specs.world.World.{World, side, classes, class_named}
+use Rattle.jc_facts.specs.world.World.{class_named}
 use Rattle.jc_facts.proofs.Same.{same_is, same_itself}
 use Rattle.jc_index.specs.Ids.{names_of, place_of, name_in}
 use Rattle.jc_index.specs.steps.Order.{names_at, IsOrder, AreNumbers}
@@ -201,28 +202,62 @@ pub place-below : (cs : List ClassFacts) (x : Bytes) (o : Option ℕ) → o ≡ 
 place-below cs x None e = tt
 place-below cs x (Some n) e = place-within cs x n (sym e)
 
--- ---- the places of a side
+-- ---- the places of two lists
 
-module _ (platform release : List ClassFacts) (W : World) (v : side platform release ≡ W) where
-  both-names : names_at platform ++ names_at release ≡ names_at (classes W)
-  both-names = sym (map-append (λ (c : ClassFacts). c.name) platform release) ∙ ap names_at (sym (append-nil (platform ++ release))) ∙ ap (λ (V : World). names_at (classes V)) v
+module _ (platform beside all : List ClassFacts) (v : platform ++ beside ≡ all) where
+  both-names : names_at platform ++ names_at beside ≡ names_at all
+  both-names = sym (map-append (λ (c : ClassFacts). c.name) platform beside) ∙ ap names_at v
 
-  pub place-platform : (x : Bytes) (n : ℕ) → place_of (names_at platform) x ≡ Some n → Some n ≡ place_of (names_at (classes W)) x
-  place-platform x n e = sym (place-first (names_at platform) (names_at release) x n e) ∙ ap (λ (ns : List Bytes). place_of ns x) both-names
+  pub place-platform : (x : Bytes) (n : ℕ) → place_of (names_at platform) x ≡ Some n → Some n ≡ place_of (names_at all) x
+  place-platform x n e = sym (place-first (names_at platform) (names_at beside) x n e) ∙ ap (λ (ns : List Bytes). place_of ns x) both-names
 
-  pub place-release : (x : Bytes) (o : Option ℕ) → place_of (names_at platform) x ≡ None → place_of (names_at release) x ≡ o → option_map (λ n. length platform + n) o ≡ place_of (names_at (classes W)) x
-  place-release x o none e =
+  pub place-beside : (x : Bytes) (o : Option ℕ) → place_of (names_at platform) x ≡ None → place_of (names_at beside) x ≡ o → option_map (λ n. length platform + n) o ≡ place_of (names_at all) x
+  place-beside x o none e =
       ap (option_map (λ n. length platform + n)) (sym e)
-      ∙ ap (λ (k : ℕ). option_map (λ n. k + n) (place_of (names_at release) x)) (sym (length-map platform (λ (c : ClassFacts). c.name)))
-      ∙ sym (place-second (names_at platform) (names_at release) x none) ∙ ap (λ (ns : List Bytes). place_of ns x) both-names
+      ∙ ap (λ (k : ℕ). option_map (λ n. k + n) (place_of (names_at beside) x)) (sym (length-map platform (λ (c : ClassFacts). c.name)))
+      ∙ sym (place-second (names_at platform) (names_at beside) x none) ∙ ap (λ (ns : List Bytes). place_of ns x) both-names
 
   -- the place that the platform keeps of a name above one of its classes
-  pub kept-place : (place at : ℕ) (x : Bytes) (o : Option ℕ) → IsAbove (classes W) place at x → nat_lt place (length platform) ≡ true → o ≡ place_above platform place at → place_of (names_at platform) x ≡ o
+  pub kept-place : (place at : ℕ) (x : Bytes) (o : Option ℕ) → IsAbove all place at x → nat_lt place (length platform) ≡ true → o ≡ place_above platform place at → place_of (names_at platform) x ≡ o
   unfolding and_then
   kept-place place at x o a l e =
       let below : place < length platform = ltb-true place (length platform) l in
-      let both : place < length (platform ++ release) = omega (arith, below, length-append platform release) in
-      let there : slice_get platform place ≡ Some a.class =
-      sym (class-front (platform ++ release) [] place both ∙ class-front platform release place below) ∙ ap (λ (V : World). slice_get (classes V) place) v ∙ a.there
-      in
+      let there : slice_get platform place ≡ Some a.class = sym (class-front platform beside place below) ∙ ap (λ (cs : List ClassFacts). slice_get cs place) v ∙ a.there in
       sym (e ∙ ap (and_then (λ c. and_then (place_of (names_at platform)) (slice_get (supers c) at))) there ∙ ap (and_then (place_of (names_at platform))) a.named)
+
+-- ---- the first classes of a list
+
+-- whether there is a place, and it is one of the first n
+abbrev pub is_before : ℕ → Option ℕ → Bool
+is_before n None = false
+is_before n (Some place) = nat_lt place n
+
+-- one of the first n classes has the name exactly where its place is one of these
+pub among_first : (cs : List ClassFacts) (n : ℕ) (x : Bytes) → is_before n (place_of (names_at cs) x) ≡ is_some (class_named (take n cs) x)
+unfolding place_of class_named
+among_first [] zero x = refl
+among_first [] (suc n) x = refl
+among_first (c ∷ cs) zero x = none_before (place_of (names_at (c ∷ cs)) x)
+  where
+    never : (p : ℕ) → nat_lt p 0 ≡ false
+    never p = grind (arith, nat_tests)
+
+    none_before : (o : Option ℕ) → is_before 0 o ≡ false
+    none_before None = refl
+    none_before (Some p) = never p
+among_first (c ∷ cs) (suc n) x = go (same c.name x) (among_first cs n x)
+  where
+    first : nat_lt 0 (suc n) ≡ true
+    first = grind (arith, nat_tests)
+
+    less : (p : ℕ) → nat_lt (suc p) (suc n) ≡ nat_lt p n
+    less p = grind (arith, nat_tests)
+
+    one_more : (o : Option ℕ) → is_before (suc n) (option_map suc o) ≡ is_before n o
+    one_more None = refl
+    one_more (Some p) = less p
+
+    go : (b : Bool) → is_before n (place_of (names_at cs) x) ≡ is_some (class_named (take n cs) x)
+        → is_before (suc n) (cond b (Some 0) (option_map suc (place_of (names_at cs) x))) ≡ is_some (cond b (Some c) (class_named (take n cs) x))
+    go true h = first
+    go false h = one_more (place_of (names_at cs) x) ∙ h

@@ -1,5 +1,5 @@
 -- What stands above what, on a side: an order without circles.
-use Rattle.std.proofs.Common.{◌≡◌, Bool, true, false, List, [], ◌∷◌, ◌++◌, refl, sym, ◌∙◌, ap, subst, Option, Some, None, not, ◌||◌, ◌&&◌, ◌⊎◌, inl, inr}
+use Rattle.std.proofs.Common.{◌≡◌, Bool, true, false, List, [], ◌∷◌, refl, sym, ◌∙◌, ap, subst, Option, Some, None, not, ◌||◌, ◌&&◌, ◌⊎◌, inl, inr}
 use Rattle.std.specs.List.{list_any, Contains}
 use Rattle.std.proofs.lemmas.Bool.{or_cases, or_left, or_right, and_parts, and_from}
 use Rattle.jc_facts.specs.declared.class_facts.ClassFacts.{ClassFacts}
@@ -8,7 +8,7 @@ use Rattle.jc_facts.specs.Flags.{interface_flag}
 use Rattle.jc_facts.specs.Options.{some_and}
 use Rattle.jc_facts.specs.world.World.{World, find_class, DeclaredMember}
 use Rattle.jc_facts.specs.world.Assignment.{is_interface_of}
-use Rattle.jc_facts.specs.world.Search.{supers, supers_of}
+use Rattle.jc_facts.specs.world.Search.{supers}
 use Rattle.jc_facts.specs.world.Hierarchy.{chain, of_super, each, with_interfaces, interfaces_of, superinterfaces, is_superinterface, names_in}
 use Rattle.jc_facts.specs.world.Loading.{load_fault, fault_of_interface}
 use Rattle.jc_facts.proofs.Same.{same_is, same_itself}
@@ -16,9 +16,8 @@ use Rattle.jc_facts.proofs.World.{find-name}
 use Rattle.jc_facts.proofs.Hierarchy.{names_in-each}
 use Rattle.jc_lemmas.proofs.Bools.{contradicts, imply}
 use Rattle.jc_lemmas.proofs.Listed.{EachOf, EachOf-both, each_in, any_has, any_passes, any_none, here, there}
-use Rattle.jc_lemmas.proofs.Lists.{any_left, any_right, any_cases}
+use Rattle.jc_lemmas.proofs.Lists.{any_left}
 use Rattle.jc_worlds.proofs.Above.{named_interface, named_interfaces, superinterfaces-each}
-use Rattle.jc_worlds.proofs.Interfaces.{above_is_one_step}
 use Rattle.jc_worlds.proofs.Leads.{passes_on}
 use Rattle.jc_worlds.proofs.Loaded.{loads-parts, loads-found, loads-induction}
 use Rattle.jc_worlds.proofs.Locality.{of_interfaces}

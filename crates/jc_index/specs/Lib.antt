@@ -13,3 +13,5 @@ pub mod LoadOrder
 pub mod Interfaces
 pub mod IndexFields
 pub mod PlatformFields
+pub mod SideModules
+pub mod SideFields

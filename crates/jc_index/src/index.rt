@@ -2,12 +2,14 @@
 ghost use Rattle.std.specs.Prelude.{◌≡◌, ◌<◌, Some, is_some, length, nat_lt, IfOk, IfSome};
 ghost use Rattle.std.specs.List.{All};
 ghost use Rattle.jc_facts.specs.Options.{some_where};
+ghost use Rattle.jc_facts.specs.world.Modules.{OfClients, same_module, module_of, is_visible, is_visible_from};
 ghost use Rattle.jc_facts.specs.world.World.{classes, size, find_class, class_named};
 ghost use Rattle.jc_index.specs.Ids.{name_at, id_of, superclass_of, name_in};
 ghost use Rattle.jc_index.specs.Interfaces.{interfaces_of};
 ghost use Rattle.jc_index.specs.Sides.{IsSide};
 
 use crate::ids::ClassId;
+use crate::modules::{Module, is_same};
 use crate::named_above::{interfaces, superclasses};
 use crate::named_classes::NamedClasses;
 use crate::side::Side;
@@ -173,5 +175,38 @@ impl Index {
         ensures { result ≡ is_some (class_named self.now.platform (name_at self.now id)) }
     {
         self.classes.in_platform(id)
+    }
+
+    /// Whether the class is visible: classes of every module may name it, where it is public (JVMS
+    /// 5.4.4). It takes no memory.
+    pub fn is_visible(&self, id: ClassId) -> bool
+        requires { id < size self.now }
+        ensures { result ≡ is_visible self.now (name_at self.now id) }
+    {
+        let name = self.facts(id).name.as_bytes();
+        self.side().modules().show(self.classes.module_of(id), name)
+    }
+
+    /// Whether the class is visible from the other one: that one's module may name it, where it is
+    /// public (JVMS 5.4.4). It takes no memory.
+    pub fn is_visible_from(&self, id: ClassId, from: ClassId) -> bool
+        requires class { id < size self.now }
+        requires from { from < size self.now }
+        ensures { result ≡ is_visible_from self.now (name_at self.now from) (name_at self.now id) }
+    {
+        let name = self.facts(id).name.as_bytes();
+        self.side().modules().show_to(
+            self.classes.module_of(from),
+            self.classes.module_of(id),
+            name,
+        )
+    }
+
+    /// Whether the class is in the module of the clients (JVMS 5.3.6). It takes no memory.
+    pub fn is_of_clients(&self, id: ClassId) -> bool
+        requires { id < size self.now }
+        ensures { result ≡ same_module OfClients (module_of self.now (name_at self.now id)) }
+    {
+        is_same(Module::OfClients, self.classes.module_of(id))
     }
 }

@@ -16,6 +16,7 @@ pub mod laws;
 pub mod limits;
 pub mod members;
 pub mod mentioned;
+pub mod modules;
 pub mod name_set;
 mod named_above;
 mod named_classes;

@@ -37,8 +37,12 @@ impl Drop for MentionedNames {
     }
 }
 
-// Adds the names.
-fn put_names(alloc: Global, set: &mut NumberedNames, names: &[Name]) -> Result<(), AllocError>
+/// Adds the names.
+pub(crate) fn put_names(
+    alloc: Global,
+    set: &mut NumberedNames,
+    names: &[Name],
+) -> Result<(), AllocError>
     ensures { OnOk result (Adds set.old set.new names.now) }
 {
     for name in names {

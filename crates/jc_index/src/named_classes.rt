@@ -5,12 +5,15 @@ ghost use Rattle.jc_facts.specs.declared.class_facts.ClassFacts.{ClassFacts as F
 ghost use Rattle.jc_facts.specs.Names.{Bytes};
 ghost use Rattle.jc_facts.specs.file.Valid.{IsValidClass};
 ghost use Rattle.jc_facts.specs.client.Clients.{differ_by_name, HasRoot};
+ghost use Rattle.jc_facts.specs.world.Modules.{module_of};
 ghost use Rattle.jc_facts.specs.world.Search.{supers};
 ghost use Rattle.jc_facts.specs.world.World.{World, side, classes, size, find_class, class_named};
 ghost use Rattle.jc_index.specs.Ids.{names, names_of, name_at, id_of, superclass_of, name_in};
+ghost use Rattle.jc_index.specs.SideModules.{module_view};
 ghost use Rattle.jc_index.specs.Sides.{IsSide};
 
 use crate::ids::ClassId;
+use crate::modules::Module;
 use crate::order::{merged, numbers};
 use crate::side::Side;
 use jc_facts::class_facts::ClassFacts;
@@ -155,5 +158,13 @@ impl NamedClasses {
         ensures { result ≡ is_some (class_named self.now.platform (name_at self.now id)) }
     {
         self.side.in_platform(self.order[id.number() as usize])
+    }
+
+    /// The module of the class.
+    pub fn module_of(&self, id: ClassId) -> Module
+        requires { id < size self.now }
+        ensures { module_view result ≡ module_of self.now (name_at self.now id) }
+    {
+        self.side.module_at(self.order[id.number() as usize])
     }
 }

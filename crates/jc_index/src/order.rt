@@ -102,16 +102,16 @@ fn add_ordered<'a>(
 }
 
 /// The places of the classes of a side, in byte order of their names. Those of the platform and those
-/// of the release stand in this order already, so that the sort merges the two.
+/// beside them stand in this order already, so that the sort merges the two.
 pub(crate) fn merged(alloc: Global, side: &Side) -> Result<Vec<usize>, AllocError>
     requires { IsSide side.now }
     ensures { IfOk result (λ order. IsOrder (classes side.now) order.items) }
 {
     let platform = side.platform();
-    let release = side.release();
+    let beside = side.beside();
     let mut places = Vec::with_capacity(alloc, side.count())?;
     add_ordered(&mut places, side, platform.order(), 0)?;
-    add_ordered(&mut places, side, release.order(), platform.classes().len())?;
+    add_ordered(&mut places, side, beside.order(), platform.classes().len())?;
     let order = sorted(alloc, places)?;
     Ok(order)
 }

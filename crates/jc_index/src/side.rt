@@ -1,10 +1,12 @@
-//! The classes of a platform with those of one release of a library.
-ghost use Rattle.std.specs.Prelude.{◌≡◌, ◌≤◌, ◌<◌, ◌+◌, ◌^◌, Some, length, nat_lt, option_map, slice_get};
+//! The classes of a platform with those of one release of a library, and with those of clients.
+ghost use Rattle.std.specs.Prelude.{◌≡◌, ◌≤◌, ◌<◌, ◌+◌, ◌++◌, ◌^◌, Some, is_some, length, nat_lt, option_map, slice_get, take, drop};
 ghost use Rattle.jc_facts.specs.client.Clients.{is_named_above};
 ghost use Rattle.jc_facts.specs.world.Mentioned.{all_mentions};
-ghost use Rattle.jc_facts.specs.world.World.{side, classes};
+ghost use Rattle.jc_facts.specs.world.Modules.{module_by, module_of, in_same_module, is_visible_from};
+ghost use Rattle.jc_facts.specs.world.World.{side, modular_side, with_clients, classes, class_named};
 ghost use Rattle.jc_index.specs.Ids.{place_of};
 ghost use Rattle.jc_index.specs.Mentioned.{is_package};
+ghost use Rattle.jc_index.specs.SideModules.{modules_of, module_view};
 ghost use Rattle.jc_index.specs.declared.limits.TheConstants.{MAX_SIDE_CLASSES};
 ghost use Rattle.jc_index.specs.steps.Order.{names_at};
 ghost use Rattle.jc_index.specs.steps.PlacesAbove.{IsAbove};
@@ -12,15 +14,20 @@ ghost use Rattle.jc_index.specs.steps.Walking.{HavePlatformFinals};
 
 use crate::class_list::ClassList;
 use crate::final_keys::FinalKeys;
+use crate::modules::{Exports, Module, SideModules, is_same};
 use crate::shared_platform::SharedPlatform;
 use jc_facts::class_facts::ClassFacts;
 use std::marker::Model;
 
-/// The classes of a side, those of the platform and then those of the release, by their places: at
-/// most `MAX_SIDE_CLASSES`. A contract sees it as the side.
+/// The classes of a side by their places, those of the platform and then those of the release and its
+/// clients: at most `MAX_SIDE_CLASSES`. A contract sees it as the side.
 pub struct Side {
     platform: SharedPlatform,
-    release: ClassList,
+    // Those of the release, and behind them those of clients.
+    beside: ClassList,
+    // How many of these are the release's.
+    of_release: usize,
+    modules: SideModules,
 }
 
 // One call at each exit of a function that owns it, where a derived drop is written out.
@@ -28,30 +35,60 @@ impl Drop for Side {
     fn drop(self) {
         let Side {
             platform: _,
-            release: _,
+            beside: _,
+            of_release: _,
+            modules: _,
         } = self;
     }
 }
 
 impl Model for Side {
-    ghost use Rattle.std.specs.Prelude.{◌≤◌, ◌+◌, length};
-    ghost use Rattle.jc_facts.specs.world.World.{World, side};
-    ghost use Rattle.jc_index.specs.declared.limits.TheConstants.{MAX_SIDE_CLASSES};
+    ghost use Rattle.jc_facts.specs.world.World.{World};
 
     ghost Value = { World };
 
-    ghost view = { λ s. side s.platform s.release };
+    ghost use Rattle.jc_index.specs.SideFields.{world_of, AreFew};
 
-    ghost invariant = { λ s. length s.platform + length s.release ≤ MAX_SIDE_CLASSES };
+    ghost view = { world_of };
+
+    ghost invariant = { AreFew };
 }
 
 impl Side {
-    /// The side of this platform and this release.
+    /// The side of this platform and this release, without clients, in one module.
     pub fn new(platform: SharedPlatform, release: ClassList) -> Side
         requires { length platform + length release ≤ MAX_SIDE_CLASSES }
         ensures { result ≡ side platform release }
     {
-        Side { platform, release }
+        let of_release = release.classes().len();
+        Side {
+            platform,
+            beside: release,
+            of_release,
+            modules: SideModules::One,
+        }
+    }
+
+    /// The side of this platform, with the first so many of these classes as its release and the others
+    /// as clients, in the modules of a run with modules: the release's exports these packages, or the
+    /// release is in that of the clients.
+    pub fn modular(
+        platform: SharedPlatform,
+        beside: ClassList,
+        of_release: usize,
+        exports: Option<Exports>,
+    ) -> Side
+        requires few { length platform + length beside ≤ MAX_SIDE_CLASSES }
+        requires own { of_release ≤ length beside }
+        ensures { result ≡ with_clients (modular_side exports platform (take of_release beside)) (drop of_release beside) }
+    {
+        let modules = SideModules::several(exports);
+        Side {
+            platform,
+            beside,
+            of_release,
+            modules,
+        }
     }
 
     /// How many classes there are.
@@ -59,7 +96,7 @@ impl Side {
         ensures count { result ≡ length (classes self.now) }
         ensures few { result ≤ MAX_SIDE_CLASSES }
     {
-        self.platform().classes().len() + self.release.classes().len()
+        self.platform().classes().len() + self.beside.classes().len()
     }
 
     /// The class at this place.
@@ -71,7 +108,7 @@ impl Side {
         if place < platform.len() {
             &platform[place]
         } else {
-            &self.release.classes()[place - platform.len()]
+            &self.beside.classes()[place - platform.len()]
         }
     }
 
@@ -90,18 +127,18 @@ impl Side {
         self.platform.finals()
     }
 
-    // The classes of the release.
-    pub(crate) fn release(&self) -> &ClassList
-        ensures { result.now ≡ self.now.release }
+    // The classes of the release, and behind them those of clients.
+    pub(crate) fn beside(&self) -> &ClassList
+        ensures { result.now ≡ self.now.release ++ self.now.clients }
     {
-        &self.release
+        &self.beside
     }
 
-    // The place of the release's class of this name; none where it has none.
-    fn place_in_release(&self, name: &[u8]) -> Option<usize>
-        ensures { result ≡ option_map (λ n. length self.now.platform + n) (place_of (names_at self.now.release) name.now) }
+    // The place of the class beside the platform's of this name; none where there is none.
+    fn place_beside(&self, name: &[u8]) -> Option<usize>
+        ensures { result ≡ option_map (λ n. length self.now.platform + n) (place_of (names_at (self.now.release ++ self.now.clients)) name.now) }
     {
-        match self.release.place(name) {
+        match self.beside.place(name) {
             Some(place) => Some(self.platform().classes().len() + place),
             None => None,
         }
@@ -113,7 +150,7 @@ impl Side {
     {
         match self.platform.list().place(name) {
             Some(place) => Some(place),
-            None => self.place_in_release(name),
+            None => self.place_beside(name),
         }
     }
 
@@ -128,7 +165,7 @@ impl Side {
         }
         match self.platform.place_above(place, at) {
             Some(place) => Some(place),
-            None => self.place_in_release(name),
+            None => self.place_beside(name),
         }
     }
 
@@ -139,18 +176,72 @@ impl Side {
         place < self.platform().classes().len()
     }
 
+    /// The module of the class at this place, by whether the platform has so many classes, and whether
+    /// the platform and the release do.
+    pub(crate) fn module_at(&self, place: usize) -> Module
+        ensures { module_view result ≡ module_by self.now.modules (nat_lt place (length self.now.platform)) (nat_lt place (length self.now.platform + length self.now.release)) }
+    {
+        let platform = self.platform().classes().len();
+        self.modules
+            .module_by(place < platform, place < platform + self.of_release)
+    }
+
+    // Whether the release has a class of this name.
+    fn in_release(&self, name: &[u8]) -> bool
+        ensures { result ≡ is_some (class_named self.now.release name.now) }
+    {
+        match self.beside.place(name) {
+            Some(place) => place < self.of_release,
+            None => false,
+        }
+    }
+
+    /// The module of the class of this name. In one module nothing is looked for.
+    fn module_named(&self, name: &[u8]) -> Module
+        ensures { module_view result ≡ module_of self.now name.now }
+    {
+        match &self.modules {
+            SideModules::One => Module::OfClients,
+            _ => self
+                .modules
+                .module_by(self.platform().has(name), self.in_release(name)),
+        }
+    }
+
+    /// Whether the classes of these names are in one module.
+    pub(crate) fn in_one_module(&self, one: &[u8], other: &[u8]) -> bool
+        ensures { result ≡ in_same_module self.now one.now other.now }
+    {
+        is_same(self.module_named(one), self.module_named(other))
+    }
+
+    /// Whether the module of the first may name the second, where that is public (JVMS 5.4.4).
+    pub(crate) fn is_visible_from(&self, from: &[u8], name: &[u8]) -> bool
+        ensures { result ≡ is_visible_from self.now from.now name.now }
+    {
+        self.modules
+            .show_to(self.module_named(from), self.module_named(name), name)
+    }
+
+    /// Its modules.
+    pub(crate) fn modules(&self) -> &SideModules
+        ensures { modules_of result.now ≡ self.now.modules }
+    {
+        &self.modules
+    }
+
     /// Whether a class is of this package: a name up to its last `/`, or nothing (JVMS 5.3).
     pub fn has_package(&self, package: &[u8]) -> bool
         ensures { result ≡ is_package self.now «package».now }
     {
-        self.platform().has_package(package) || self.release.has_package(package)
+        self.platform().has_package(package) || self.beside.has_package(package)
     }
 
     /// Whether a class names this one as its superclass or as an interface (JVMS 4.1).
     pub fn names_super(&self, name: &[u8]) -> bool
         ensures { result ≡ is_named_above self.now name.now }
     {
-        self.platform().names_super(name) || self.release.names_super(name)
+        self.platform().names_super(name) || self.beside.names_super(name)
     }
 
     /// How many names its classes have, name above themselves or permit to extend them, each counted
@@ -159,6 +250,6 @@ impl Side {
         ensures count { result ≡ length (all_mentions (classes self.now)) }
         ensures small { result < 2 ^ 63 }
     {
-        self.platform().mention_count() + self.release.mention_count()
+        self.platform().mention_count() + self.beside.mention_count()
     }
 }

@@ -1,10 +1,11 @@
 //! Why a class may not have another one as its superclass or interface (JVMS 5.3.5).
 ghost use Rattle.std.specs.Prelude.{◌≡◌, ◌<◌, ◌||◌, not, Some, IfSome};
-ghost use Rattle.jc_facts.specs.Flags.{public_flag, interface_flag, final_flag};
-ghost use Rattle.jc_facts.specs.Names.{Bytes, is_name_among, in_same_package};
+ghost use Rattle.jc_facts.specs.Flags.{interface_flag, final_flag};
+ghost use Rattle.jc_facts.specs.Names.{Bytes, is_name_among};
 ghost use Rattle.jc_facts.specs.world.World.{size, find_class};
 ghost use Rattle.jc_facts.specs.world.Access.{is_class_accessible};
-ghost use Rattle.jc_facts.specs.world.Loading.{fault_where, sealed_by, is_sealed_against, error_of_superclass, error_of_interface, fault_of_superclass, fault_of_interface};
+ghost use Rattle.jc_facts.specs.world.Modules.{module_of};
+ghost use Rattle.jc_facts.specs.world.Loading.{excludes, fault_where, sealed_by, is_sealed_against, error_of_superclass, error_of_interface, fault_of_superclass, fault_of_interface};
 ghost use Rattle.jc_facts.specs.Options.{and_then, first_some, or_else};
 ghost use Rattle.jc_index.specs.Ids.{name_at, id_of};
 
@@ -23,21 +24,14 @@ pub fn is_among(names: &[Name], name: &Name) -> bool
     names.contains(name)
 }
 
-// Whether the class is public, or of the package of the one of this name.
-fn is_public_or_near(class: &ClassFacts, from: &Name) -> bool
-    ensures { result ≡ (public_flag class.now.flags || in_same_package from.now class.now.name) }
-{
-    is_public(class.flags) || same_package(from.as_bytes(), class.name.as_bytes())
-}
-
-/// Whether the class is accessible from the one of this name: it is public, or of its package
-/// (JVMS 5.4.4).
+/// Whether the class is accessible from the one of this name: it is public, and visible from there; or
+/// it is of its package (JVMS 5.4.4).
 pub(crate) fn is_accessible(index: &Index, class: &ClassFacts, from: &Name) -> bool
     ensures { result ≡ is_class_accessible index.now from.now class.now }
 {
-    // A count says that all classes of the side are in one module.
-    let _classes = index.count();
-    is_public_or_near(class, from)
+    let name = class.name.as_bytes();
+    (index.side().is_visible_from(from.as_bytes(), name) && is_public(class.flags))
+        || same_package(from.as_bytes(), name)
 }
 
 // Whether the class has permitted subclasses that leave the other one out: that one isn't public
@@ -55,13 +49,22 @@ fn leaves_out(class: &ClassFacts, below: &ClassFacts) -> bool
     }
 }
 
-/// Whether the class is sealed against the other one of its module (JVMS 5.3.5).
+// Whether the class has permitted names, and is in another module than the other one.
+fn excludes(index: &Index, class: &ClassFacts, below: &ClassFacts) -> bool
+    ensures { result ≡ excludes index.now class.now (module_of index.now below.now.name) }
+{
+    class.permits.is_some()
+        && !index
+            .side()
+            .in_one_module(below.name.as_bytes(), class.name.as_bytes())
+}
+
+/// Whether the class is sealed against the other one: against all of its module, or by its names
+/// (JVMS 5.3.5).
 pub(crate) fn is_sealed_to(index: &Index, class: &ClassFacts, below: &ClassFacts) -> bool
     ensures { result ≡ is_sealed_against index.now class.now below.now }
 {
-    // A count says that all classes of the side are in one module.
-    let _classes = index.count();
-    leaves_out(class, below)
+    excludes(index, class, below) || leaves_out(class, below)
 }
 
 // The error where the class isn't accessible, or is none of the kind that is asked.

@@ -3,7 +3,7 @@ use Rattle.std.proofs.Common.{◌≡◌, ℕ, ◌<◌, ◌≤◌, ◌+◌, Bool,
 use Rattle.std.specs.Prelude.{is_some, is_none}
 use Rattle.std.specs.List.{Contains, list_any}
 use Rattle.std.proofs.lemmas.Bool.{and_parts, or_cases, or_left, or_right, cases_eq}
-use Rattle.std.proofs.lemmas.List.{length-set, length-map, get_or-set_same, get_or-set_other, get_or_default, get_or-map, same_lists, append-nil, take_more, take_all}
+use Rattle.std.proofs.lemmas.List.{length-set, length-map, get_or-set_same, get_or-set_other, get_or_default, get_or-map, same_lists, append_assoc, take_more, take_all}
 use Rattle.std.proofs.lemmas.List.Elements.{Contains-push_cases}
 use Rattle.jc_facts.specs.declared.class_facts.ClassFacts.{ClassFacts}
 use Rattle.jc_facts.specs.declared.link_error.LinkError.{LinkError}
@@ -103,28 +103,28 @@ module _ (W : World) (n : ℕ) (c : ClassFacts) (f : find_class W (name_at W n) 
         go (Some s) k = (k.0, each_back c.interfaces k.1)
 
 module _ (W : World) (side : IsSide W) where
-  all_classes : classes W ≡ W.platform ++ W.release
-  all_classes = ap (λ (cs : List ClassFacts). W.platform ++ W.release ++ cs) side.no_clients ∙ append-nil (W.platform ++ W.release)
+  all_classes : classes W ≡ W.platform ++ (W.release ++ W.clients)
+  all_classes = append_assoc W.platform W.release W.clients
 
-  both_differ : differ_by_name (W.platform ++ W.release) ≡ true
+  both_differ : differ_by_name (W.platform ++ (W.release ++ W.clients)) ≡ true
   both_differ = ap differ_by_name (sym all_classes) ∙ side.differ
 
-  of_release : (x : Bytes) → is_some (class_named W.release x) ≡ true → class_named W.platform x ≡ None
-  of_release x s = apart W.platform W.release x both_differ s
+  of_release : (x : Bytes) → is_some (class_named (W.release ++ W.clients) x) ≡ true → class_named W.platform x ≡ None
+  of_release x s = apart W.platform (W.release ++ W.clients) x both_differ s
 
-  release_there : (c : ClassFacts) → Contains W.release c → class_named W.platform c.name ≡ None
-  release_there c i = of_release c.name (there_is W.release c i)
+  release_there : (c : ClassFacts) → Contains (W.release ++ W.clients) c → class_named W.platform c.name ≡ None
+  release_there c i = of_release c.name (there_is (W.release ++ W.clients) c i)
 
-  found_named : (x : Bytes) → find_class W x ≡ class_named (W.platform ++ W.release) x
+  found_named : (x : Bytes) → find_class W x ≡ class_named (W.platform ++ (W.release ++ W.clients)) x
   unfolding find_class
   found_named x = ap (λ (cs : List ClassFacts). class_named cs x) all_classes
 
-  -- a class that isn't the platform's is the release's
-  not_platform : (x : Bytes) → class_named W.platform x ≡ None → class_named W.release x ≡ find_class W x
-  not_platform x n = sym (found_named x ∙ class_named-back W.platform W.release x n)
+  -- a class that isn't the platform's is the release's or a client
+  not_platform : (x : Bytes) → class_named W.platform x ≡ None → class_named (W.release ++ W.clients) x ≡ find_class W x
+  not_platform x n = sym (found_named x ∙ class_named-back W.platform (W.release ++ W.clients) x n)
 
-  in_release : (x : Bytes) (c : ClassFacts) → find_class W x ≡ Some c → is_some (class_named W.platform x) ≡ false → Contains W.release c
-  in_release x c f p = class_named-each (Contains W.release) W.release x c (each_from (Contains W.release) W.release (λ d i. i)) (not_platform x (go (class_named W.platform x) p) ∙ f)
+  in_release : (x : Bytes) (c : ClassFacts) → find_class W x ≡ Some c → is_some (class_named W.platform x) ≡ false → Contains (W.release ++ W.clients) c
+  in_release x c f p = class_named-each (Contains (W.release ++ W.clients)) (W.release ++ W.clients) x c (each_from (Contains (W.release ++ W.clients)) (W.release ++ W.clients) (λ d i. i)) (not_platform x (go (class_named W.platform x) p) ∙ f)
     where
       go : (o : Option ClassFacts) → is_some o ≡ false → o ≡ None
       go None e = refl
@@ -142,7 +142,7 @@ module _ (W : World) (side : IsSide W) where
       down : stands_on_release W y ≡ true → (not (is_some (class_named W.platform y)) || list_any (stands_on_release W) (supers d)) ≡ true
       down h = go (over-down W side y d f l p.one.name p.passes)
         where
-          p : Passes (λ c. is_over W y c.name) W.release
+          p : Passes (λ c. is_over W y c.name) (W.release ++ W.clients)
           p = standing-over W y h
 
           go : (y ≡ p.one.name) ⊎ (list_any (λ s. is_over W s p.one.name) (supers d) ≡ true) → (not (is_some (class_named W.platform y)) || list_any (stands_on_release W) (supers d)) ≡ true

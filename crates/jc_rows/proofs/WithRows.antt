@@ -117,19 +117,19 @@ module _ (W : World) where
   pub standing-loads : (y : Bytes) → stands_on_release W y ≡ true → load_fault W y ≡ None
   unfolding stands_on_release
   standing-loads y h =
-      let p = any_passes (λ c. is_above W c.name y) W.release h in
+      let p = any_passes (λ c. is_above W c.name y) (W.release ++ W.clients) h in
       is_none-None (load_fault W y) (and_parts (is_none (load_fault W y)) (is_over y p.one.name) p.passes).0
 
   -- a class of the release is above it
-  pub standing-over : (y : Bytes) → stands_on_release W y ≡ true → Passes (λ c. is_over y c.name) W.release
+  pub standing-over : (y : Bytes) → stands_on_release W y ≡ true → Passes (λ c. is_over y c.name) (W.release ++ W.clients)
   unfolding stands_on_release
   standing-over y h =
-      let p = any_passes (λ c. is_above W c.name y) W.release h in
+      let p = any_passes (λ c. is_above W c.name y) (W.release ++ W.clients) h in
       record { one = p.one; is_in = p.is_in; passes = (and_parts (is_none (load_fault W y)) (is_over y p.one.name) p.passes).1 }
 
-  pub standing-from : (y : Bytes) → load_fault W y ≡ None → (c : ClassFacts) → Contains W.release c → is_over y c.name ≡ true → stands_on_release W y ≡ true
+  pub standing-from : (y : Bytes) → load_fault W y ≡ None → (c : ClassFacts) → Contains (W.release ++ W.clients) c → is_over y c.name ≡ true → stands_on_release W y ≡ true
   unfolding stands_on_release
-  standing-from y l c i o = any_has (λ d. is_above W d.name y) W.release c i (above_from c.name y l o)
+  standing-from y l c i o = any_has (λ d. is_above W d.name y) (W.release ++ W.clients) c i (above_from c.name y l o)
 
   in_classes : (y : Bytes) (c : ClassFacts) → find_class W y ≡ Some c → Contains (classes W) c
   unfolding find_class

@@ -1,12 +1,12 @@
 //! The classes of a side, found by their names.
-ghost use Rattle.std.specs.Prelude.{◌≡◌, ◌≤◌, ◌<◌, ◌+◌, ◌^◌, ◌||◌, length, map, option_map, slice_get, is_some, nat_lt, Some, None, IfOk, IfErr, IfSome, IsTrue};
+ghost use Rattle.std.specs.Prelude.{◌≡◌, ◌≤◌, ◌<◌, ◌+◌, ◌++◌, ◌^◌, ◌||◌, false, length, map, option_map, slice_get, is_some, nat_lt, Some, None, IfOk, IfErr, IfSome, IsTrue};
 ghost use Rattle.std.specs.List.{All, list_any};
 ghost use Rattle.jc_facts.specs.Options.{some_where};
 ghost use Rattle.jc_facts.specs.file.Valid.{IsValidClass, has_key};
 ghost use Rattle.jc_facts.specs.declared.key.Key.{Key};
 ghost use Rattle.jc_facts.specs.Names.{same};
 ghost use Rattle.jc_facts.specs.client.Clients.{differ_by_name, is_named_above};
-ghost use Rattle.jc_facts.specs.world.World.{side, size, classes, find_class, class_named};
+ghost use Rattle.jc_facts.specs.world.World.{side, modular_side, with_clients, size, classes, find_class, class_named};
 ghost use Rattle.jc_facts.specs.world.Modules.{OfClients, same_module, module_of, is_visible, is_visible_from};
 ghost use Rattle.jc_facts.specs.world.Mentioned.{all_mentions};
 ghost use Rattle.jc_facts.specs.world.Hierarchy.{in_chain, is_superinterface};
@@ -32,9 +32,11 @@ use jc_index::hierarchy::Hierarchy;
 use jc_index::ids::ClassId;
 use jc_index::index::Index;
 use jc_index::mentioned::begins;
+use jc_index::modules::Exports;
 use jc_index::overlap::first_overlap;
 use jc_index::platform::Platform;
 use jc_index::root::{RootPart, root_fault};
+use jc_index::shared_platform::SharedPlatform;
 use jc_index::side::Side;
 use jc_rows::row::RowItem;
 use jc_rows::rows::Rows;
@@ -105,6 +107,37 @@ fn of_side(alloc: Global, side: Side, loads: &[usize]) -> Result<Table, AllocErr
         faults,
         rows,
     })
+}
+
+// The packages that a release's module exports, where it has a list of them.
+fn exports_of(alloc: Global, packages: Option<Vec<Name>>) -> Result<Option<Exports>, AllocError>
+    ensures { IfOk result (λ exports. exports ≡ option_map (λ ns. ns.items) packages) }
+{
+    match packages {
+        Some(packages) => Ok(Some(Exports::new(alloc, packages)?)),
+        None => Ok(None),
+    }
+}
+
+// The side of a platform, a release and clients in a run with modules.
+fn modular_side_of(
+    alloc: Global,
+    platform: SharedPlatform,
+    release: Vec<ClassFacts>,
+    clients: Vec<ClassFacts>,
+    exports: Option<Vec<Name>>,
+) -> Result<Side, AllocError>
+    requires differ { IsTrue (differ_by_name (release.items ++ clients.items)) }
+    requires few { length platform + (length release.items + length clients.items) ≤ 120000 }
+    ensures { IfOk result (λ side. side ≡ with_clients (modular_side (option_map (λ ns. ns.items) exports) platform release.items) clients.items) }
+{
+    let of_release = release.len();
+    let mut together = release;
+    let mut clients = clients;
+    together.append(&mut clients)?;
+    let beside = ClassList::new(alloc, together)?;
+    let exports = exports_of(alloc, exports)?;
+    Ok(Side::modular(platform, beside, of_release, exports))
 }
 
 // Copies of these classes.
@@ -186,6 +219,87 @@ impl Table {
             Ok(table) => Ok(table),
             Err(_) => Err(TableError::Memory),
         }
+    }
+
+    /// The table of a platform, a release and clients in a run with modules (JVMS 5.3.6): the
+    /// release's module exports these packages, and clients are in another; without such a list the
+    /// release is in theirs. A side of a comparison has no clients. No client has the name of another
+    /// class.
+    ///
+    /// # Errors
+    ///
+    /// Those of `build`.
+    pub fn build_modular(
+        alloc: Global,
+        platform: &[ClassFacts],
+        release: Vec<ClassFacts>,
+        clients: Vec<ClassFacts>,
+        exports: Option<Vec<Name>>,
+    ) -> Result<Table, TableError>
+        requires valid_platform { All IsValidClass platform.now }
+        requires valid_release { All IsValidClass release.items }
+        requires valid_clients { All IsValidClass clients.items }
+        requires platform_differs { IsTrue (differ_by_name platform.now) }
+        requires beside_differ { IsTrue (differ_by_name (release.items ++ clients.items)) }
+        requires clients_apart { All (λ c. is_some (class_named platform.now c.name) ≡ false) clients.items }
+        requires few { length platform.now + (length release.items + length clients.items) ≤ 120000 }
+        ensures built { IfOk result (λ table. table ≡ with_clients (modular_side (option_map (λ ns. ns.items) exports) platform.now release.items) clients.items) }
+        ensures sound { IfOk result (λ _. (fault_of_root platform.now ≡ None) × (overlap_of platform.now release.items ≡ None)) }
+        ensures refused { IfErr result (HasCause platform.now release.items) }
+    {
+        if let Some(part) = root_fault(platform) {
+            return Err(TableError::BadRoot(part));
+        }
+        let Ok(copies) = copies_of(alloc, platform) else {
+            return Err(TableError::Memory);
+        };
+        let Ok(platform) = Platform::new(alloc, copies) else {
+            return Err(TableError::Memory);
+        };
+        Table::over_modular(alloc, &platform, release, clients, exports)
+    }
+
+    /// The same table, of a platform that it shares with others.
+    ///
+    /// # Errors
+    ///
+    /// Those of `build`.
+    pub fn over_modular(
+        alloc: Global,
+        platform: &Platform,
+        release: Vec<ClassFacts>,
+        clients: Vec<ClassFacts>,
+        exports: Option<Vec<Name>>,
+    ) -> Result<Table, TableError>
+        requires valid_platform { All IsValidClass platform.now }
+        requires valid_release { All IsValidClass release.items }
+        requires valid_clients { All IsValidClass clients.items }
+        requires platform_differs { IsTrue (differ_by_name platform.now) }
+        requires beside_differ { IsTrue (differ_by_name (release.items ++ clients.items)) }
+        requires clients_apart { All (λ c. is_some (class_named platform.now c.name) ≡ false) clients.items }
+        requires few { length platform.now + (length release.items + length clients.items) ≤ 120000 }
+        ensures built { IfOk result (λ table. table ≡ with_clients (modular_side (option_map (λ ns. ns.items) exports) platform.now release.items) clients.items) }
+        ensures sound { IfOk result (λ _. (fault_of_root platform.now ≡ None) × (overlap_of platform.now release.items ≡ None)) }
+        ensures refused { IfErr result (HasCause platform.now release.items) }
+    {
+        if let Some(part) = root_fault(platform.classes()) {
+            return Err(TableError::BadRoot(part));
+        }
+        match first_overlap(alloc, platform.list(), release.as_slice()) {
+            Ok(None) => {}
+            Ok(Some(name)) => return Err(TableError::Overlap(name)),
+            Err(_) => return Err(TableError::Memory),
+        }
+        let Ok(classes) = platform.share() else {
+            return Err(TableError::Memory);
+        };
+        let Ok(side) = modular_side_of(alloc, classes, release, clients, exports) else {
+            return Err(TableError::Memory);
+        };
+        let Ok(table) = of_side(alloc, side, platform.loads()) else {
+            return Err(TableError::Memory);
+        };
+        Ok(table)
     }
 
     /// Its classes and their order, as the plain programs take them.
@@ -273,35 +387,30 @@ impl Table {
     }
 
     /// Whether the class is visible: classes of every module may name it, where it is public (JVMS
-    /// 5.4.4). The classes of a table are in one module, so each is.
+    /// 5.4.4). It takes no memory.
     pub fn is_visible(&self, id: ClassId) -> bool
         requires { id < size self.now }
         ensures { result ≡ is_visible self.now (name_at self.now id) }
     {
-        // A count says that there is one module.
-        let _classes = self.count();
-        true
+        self.index().is_visible(id)
     }
 
     /// Whether the class is visible from the other one: that one's module may name it, where it is
-    /// public (JVMS 5.4.4). The classes of a table are in one module, so each is.
+    /// public (JVMS 5.4.4). It takes no memory.
     pub fn is_visible_from(&self, id: ClassId, from: ClassId) -> bool
         requires class { id < size self.now }
         requires from { from < size self.now }
         ensures { result ≡ is_visible_from self.now (name_at self.now from) (name_at self.now id) }
     {
-        let _classes = self.count();
-        true
+        self.index().is_visible_from(id, from)
     }
 
-    /// Whether the class is in the module of the clients (JVMS 5.3.6). The classes of a table are in
-    /// one module, which is theirs.
+    /// Whether the class is in the module of the clients (JVMS 5.3.6). It takes no memory.
     pub fn is_of_clients(&self, id: ClassId) -> bool
         requires { id < size self.now }
         ensures { result ≡ same_module OfClients (module_of self.now (name_at self.now id)) }
     {
-        let _classes = self.count();
-        true
+        self.index().is_of_clients(id)
     }
 
     /// Whether the class is one of the platform's.

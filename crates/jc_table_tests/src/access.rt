@@ -1,5 +1,5 @@
 //! Access, assignment and the check on protected members on a small side.
-use crate::sides::{INTERFACE, OBJECT, PLAIN, Row, class_of, name, table};
+use crate::sides::{INTERFACE, OBJECT, PLAIN, Row, class_of, modular, name, table};
 use jc_access::access::{Seat, accessible, class_access};
 use jc_access::assigning::assignable;
 use jc_access::protection::protected_ok;
@@ -138,6 +138,24 @@ fn see_classes(rt: &impl Abort, table: &Table) {
 #[test]
 fn classes_by_seat(rt: HostRuntime) {
     see_classes(&rt, &side(&rt, rt.alloc()));
+}
+
+const IN_A_PACKAGE: &[Row] = &[Row {
+    name: b"p/A",
+    ..PLAIN
+}];
+
+// Whether clients of `java/lang/Object` may name `p/A`, whose release's module exports these packages.
+fn may_name(rt: &impl Abort, alloc: Global, exports: &[&[u8]]) -> bool {
+    let table = modular(rt, alloc, IN_A_PACKAGE, Some(exports));
+    let object = class_of(rt, &table, OBJECT);
+    class_access(&table, Seat::Client(object), class_of(rt, &table, b"p/A"))
+}
+
+#[test]
+fn classes_by_module(rt: HostRuntime) {
+    assert!(&rt; may_name(&rt, rt.alloc(), &[b"p"]));
+    assert!(&rt; !may_name(&rt, rt.alloc(), &[b"q"]));
 }
 
 const TYPES: &[(&[u8], &[u8], bool)] = &[

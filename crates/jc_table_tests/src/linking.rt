@@ -1,5 +1,5 @@
 //! What linking small clients gives, step by step and error by error.
-use crate::sides::{INTERFACE, PLAIN, ROOT, Row, class, key, name, valid};
+use crate::sides::{INTERFACE, OBJECT, PLAIN, ROOT, Row, class, key, name, names, valid};
 use jc_base::items::Items;
 use jc_base::name::Name;
 use jc_facts::act::Act;
@@ -8,6 +8,7 @@ use jc_facts::client_validity::is_valid_client;
 use jc_facts::link_error::LinkError;
 use jc_facts::outcome::Outcome;
 use jc_link::link::link;
+use jc_link::modular::link_modular;
 use jc_link::plain;
 use jc_link::refusal::{ClientPart, LinkRefusal};
 use std::alloc::Global;
@@ -531,4 +532,50 @@ const BOTH: &[Row] = &[ROOT, BELOW];
 fn overlap_comes_before_names(rt: HostRuntime) {
     let refusal = refusal(&rt, rt.alloc(), BOTH, b"p/X");
     assert!(rt; matches!(refusal, LinkRefusal::Overlap(_)));
+}
+
+// ---- modules
+
+/// Names a class of a package that the release's module may export.
+const NAMES_IT: &[Step] = &[
+    (Use::Init(OBJECT, b"()V"), None),
+    (Use::Class(b"p/A"), None),
+];
+
+const NAMED: &[Row] = &[Row {
+    name: b"p/A",
+    ..PLAIN
+}];
+
+const WITNESS: Row = Row {
+    name: b"w0/Y",
+    methods: &[INIT],
+    ..PLAIN
+};
+
+/// What `link_modular` answers of the client that names `p/A`, over a release whose module exports these packages.
+fn outcomes_of_naming(rt: &impl Abort, alloc: Global, exported: &[&[u8]]) -> Vec<Outcome> {
+    let platform = valid(rt, alloc, &[ROOT]);
+    let release = valid(rt, alloc, NAMED);
+    let mut clients = Vec::new(alloc);
+    clients
+        .push(client(rt, alloc, &WITNESS, NAMES_IT))
+        .expect(rt, "memory");
+    assert!(rt; plain::are_valid(alloc, clients.as_slice()).expect(rt, "memory"));
+    assert!(rt; plain::names_differ(alloc, clients.as_slice()).expect(rt, "memory"));
+    assert!(rt; clients.len() <= 40_000);
+    let exports = Some(names(rt, alloc, exported));
+    link_modular(alloc, platform.as_slice(), release, exports, clients).expect(rt, "outcomes")
+}
+
+const STILL_EXPORTED: &[Told] = &[(b"w0/Y", None), (b"w0/Y", None), (b"w0/Y", None)];
+
+const NO_LONGER: &[Told] = &[(b"w0/Y", None), (b"w0/Y", None), (b"w0/Y", NO_ACCESS)];
+
+#[test]
+fn a_class_of_a_package_that_is_no_longer_exported(rt: HostRuntime) {
+    let exported = outcomes_of_naming(&rt, rt.alloc(), &[b"p"]);
+    see_told(&rt, exported.as_slice(), STILL_EXPORTED);
+    let hidden = outcomes_of_naming(&rt, rt.alloc(), &[]);
+    see_told(&rt, hidden.as_slice(), NO_LONGER);
 }

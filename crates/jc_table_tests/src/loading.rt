@@ -1,5 +1,5 @@
 //! Load faults of small sides, by the pass over all classes and by the plain search.
-use crate::sides::{INTERFACE, PLAIN, Row, class_of, key, name, table};
+use crate::sides::{INTERFACE, PLAIN, Row, class_of, key, modular, name, table};
 use jc_facts::key::Key;
 use jc_facts::link_error::LinkError;
 use jc_load::extending::extendable;
@@ -279,6 +279,24 @@ fn who_may_extend(rt: HostRuntime) {
         assert_eq!(rt; may_extend(&rt, alloc, &table, name, b"p/Let"), *extends);
     }
     assert!(rt; !may_extend(&rt, alloc, &table, b"p/Sealed", b"p/Other"));
+}
+
+const SEALED: &[Row] = &[Row {
+    name: b"p/S",
+    permits: Some(&[b"q/C"]),
+    ..PLAIN
+}];
+
+// Whether `q/C`, which the class permits, may extend it, where the release's module exports these packages.
+fn may_be_permitted(rt: &impl Abort, alloc: Global, exports: Option<&[&[u8]]>) -> bool {
+    let table = modular(rt, alloc, SEALED, exports);
+    may_extend(rt, alloc, &table, b"p/S", b"q/C")
+}
+
+#[test]
+fn who_may_extend_across_modules(rt: HostRuntime) {
+    assert!(&rt; !may_be_permitted(&rt, rt.alloc(), Some(&[b"p"])));
+    assert!(&rt; may_be_permitted(&rt, rt.alloc(), None));
 }
 
 fn see_finals(rt: &impl Abort, table: &Table, key: &Key) {

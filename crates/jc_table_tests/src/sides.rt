@@ -61,6 +61,29 @@ pub(crate) fn table(rt: &impl Abort, alloc: Global, release: &[Row]) -> Table {
     table_over(rt, alloc, &[ROOT], release)
 }
 
+/// The table of a release in a run with modules: its module exports these packages, or it has none of its own.
+pub(crate) fn modular(
+    rt: &impl Abort,
+    alloc: Global,
+    release: &[Row],
+    exports: Option<&[&[u8]]>,
+) -> Table {
+    let platform = valid(rt, alloc, &[ROOT]);
+    let release = valid(rt, alloc, release);
+    let exports = match exports {
+        Some(exports) => Some(names(rt, alloc, exports)),
+        None => None,
+    };
+    Table::build_modular(
+        alloc,
+        platform.as_slice(),
+        release,
+        Vec::new(alloc),
+        exports,
+    )
+    .expect(rt, "a table")
+}
+
 /// The class of this name, which the table has.
 pub(crate) fn class_of(rt: &impl Abort, table: &Table, name: &[u8]) -> ClassId
     ensures { result < size table.now }
@@ -80,6 +103,14 @@ pub(crate) fn loaded(rt: &impl Abort, table: &Table, name: &[u8]) -> ClassId
 
 pub(crate) fn name(rt: &impl Abort, alloc: Global, text: &[u8]) -> Name {
     Name::from_bytes(alloc, text).expect(rt, "memory")
+}
+
+pub(crate) fn names(rt: &impl Abort, alloc: Global, texts: &[&[u8]]) -> Vec<Name> {
+    let mut names = Vec::new(alloc);
+    for text in texts {
+        names.push(name(rt, alloc, text)).expect(rt, "memory");
+    }
+    names
 }
 
 pub(crate) fn key(rt: &impl Abort, alloc: Global, text: &[u8], descriptor: &[u8]) -> Key {

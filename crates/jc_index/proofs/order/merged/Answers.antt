@@ -8,13 +8,13 @@ use Rattle.jc_index.proofs.Merged.{first_inside, second_inside, merged_order}
 use Rattle.jc_index.proofs.order.merged.Goals as goal
 
 pub add_ordered-requires : goal.add_ordered-requires
-add_ordered-requires c = first_inside c.args.side.now c.requires c.order.result.now (subst (λ (cs : List ClassFacts). IsOrder cs c.order.result.now) c.platform-platform.ensures c.order.ensures)
+add_ordered-requires c = first_inside c.args.side.now c.order.result.now (subst (λ (cs : List ClassFacts). IsOrder cs c.order.result.now) c.platform-platform.ensures c.order.ensures)
 
 pub add_ordered-requires-2 : goal.add_ordered-requires-2
 add_ordered-requires-2 c =
     let W : World = c.args.side.now in
     subst (λ (n : ℕ). All (λ at. n + at < length (classes W)) c.order-2.result.now) (sym (ap length (c.classes.ensures ∙ c.platform-platform.ensures)))
-    (second_inside W c.requires c.order-2.result.now (subst (λ (cs : List ClassFacts). IsOrder cs c.order-2.result.now) c.release-release.ensures c.order-2.ensures))
+    (second_inside W c.order-2.result.now (subst (λ (cs : List ClassFacts). IsOrder cs c.order-2.result.now) c.beside-beside.ensures c.order-2.ensures))
 
 pub returns : goal.returns
 returns c =
@@ -30,5 +30,5 @@ returns c =
     ∙ ap (λ (n : ℕ). map (place_after (classes W) 0) first ++ map (place_after (classes W) n) second) (ap length (c.classes.ensures ∙ c.platform-platform.ensures)))
     in
     merged_order W c.requires first second
-    (subst (λ (cs : List ClassFacts). IsOrder cs first) c.platform-platform.ensures c.order.ensures) (subst (λ (cs : List ClassFacts). IsOrder cs second) c.release-release.ensures c.order-2.ensures)
+    (subst (λ (cs : List ClassFacts). IsOrder cs first) c.platform-platform.ensures c.order.ensures) (subst (λ (cs : List ClassFacts). IsOrder cs second) c.beside-beside.ensures c.order-2.ensures)
     c.in_ok-order.order.items c.add_ordered-2.new.places.items placed c.in_ok-order.ensures

@@ -4,4 +4,4 @@ use Rattle.jc_load.proofs.extending.extendable.Goals as goal
 
 pub returns : goal.returns
 unfolding is_extendable
-returns c = c.lets_extend.ensures ∙ rw (sym c.facts.ensures) refl
+returns c = c.lets_extend.ensures ∙ rw (sym c.facts.ensures, c.is_visible.ensures, c.is_of_clients.ensures) refl
