@@ -1,8 +1,8 @@
 -- What the lookup of a table finds is what the act's lookup finds.
-use Rattle.std.proofs.Common.{◌≡◌, Bool, true, false, not, ◌||◌, ◌++◌, refl, sym, ◌∙◌, ap, subst, Option, Some, None}
+use Rattle.std.proofs.Common.{◌≡◌, Bool, true, false, not, ◌||◌, refl, sym, ◌∙◌, ap, Option, Some, None}
 use Rattle.std.specs.Prelude.{Ok, Err}
 use Rattle.std.specs.List.{All}
-use Rattle.std.proofs.lemmas.List.Elements.{recursion_from_All, All-from_recursion}
+use Rattle.std.proofs.lemmas.List.Elements.{recursion_from_All}
 use Rattle.jc_desc.specs.Names.{is_clinit_name}
 use Rattle.jc_facts.specs.declared.act.Act.{Act}
 use Rattle.jc_facts.specs.declared.act.Act.TheVariants as acts
@@ -17,9 +17,8 @@ use Rattle.jc_facts.specs.world.Assignment.{is_interface_of}
 use Rattle.jc_facts.specs.client.Acts.{Form, FieldForm, MethodForm, InterfaceForm, form_of, is_put_act, is_field_form, is_act_on_field}
 use Rattle.jc_facts.specs.client.Outcome.{look_up, found_or, first_of, use_fault}
 use Rattle.jc_facts.specs.file.Valid.{IsValidClass}
-use Rattle.jc_lemmas.proofs.Listed.{EachOf, EachOf-append, each_in}
+use Rattle.jc_lemmas.proofs.Listed.{each_in}
 use Rattle.jc_worlds.proofs.ChoiceLaws.{each_choice_gives_the_same}
-use Rattle.jc_table.specs.Sides.{IsSide}
 use Rattle.jc_table.specs.Lookups.{IsAnswer, IsChoice}
 use Rattle.jc_index.specs.declared.ids.Found.{Found}
 use Rattle.jc_link.specs.steps.ItemSteps.{LooksUp}

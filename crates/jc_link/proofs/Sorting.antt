@@ -1,25 +1,20 @@
 -- Clients in byte order of their names.
-use Rattle.std.proofs.Common.{◌≡◌, ◌≢◌, suc, Bool, true, false, cond, List, [], ◌∷◌, ◌++◌, length, refl, sym, ◌∙◌, ap, Some, None}
-use Rattle.std.specs.Prelude.{is_none, IsTrue}
+use Rattle.std.proofs.Common.{◌≡◌, List, ◌++◌, length, sym, ◌∙◌}
+use Rattle.std.specs.Prelude.{IsTrue}
 use Rattle.std.specs.List.{All}
 use Rattle.std.specs.List.Sorted.{IsPermutation, IsSortedBy}
 use Rattle.std.specs.Ordering.{is_lt}
-use Rattle.std.proofs.lemmas.Bool.{and_parts}
 use Rattle.std.proofs.lemmas.List.Elements.{All-from_recursion, recursion_from_All}
 use Rattle.std.proofs.lemmas.List.Sorted.{Contains-permutation, IsPermutation-sym}
 use Rattle.jc_facts.specs.declared.client.ClientClass.{ClientClass}
 use Rattle.jc_facts.specs.declared.class_facts.ClassFacts.{ClassFacts}
 use Rattle.jc_facts.specs.Exactly.{name_order}
-use Rattle.jc_facts.specs.Names.{Bytes, same}
-use Rattle.jc_facts.specs.world.World.{class_named, side, with_clients}
+use Rattle.jc_facts.specs.world.World.{side, with_clients}
 use Rattle.jc_facts.specs.client.Clients.{differ_by_name, facts_of, IsValidClient}
 use Rattle.jc_facts.specs.client.Linked.{in_order}
-use Rattle.jc_lemmas.proofs.Listed.{EachOf}
-use Rattle.jc_lemmas.proofs.Options.{none_where}
 use Rattle.jc_facts.proofs.Apart.{Apart, rec-Apart, Apart-permutation, NamesRise-sorted}
 use Rattle.jc_facts.proofs.Clients.{clients_apart, facts_length, name_of}
 use Rattle.jc_facts.proofs.OneList.{same_list}
-use Rattle.jc_facts.proofs.Same.{same_itself}
 use Rattle.jc_worlds.specs.Alike.{FindAlike}
 use Rattle.jc_worlds.proofs.Alike.{clients_are_found}
 use Rattle.jc_worlds.proofs.ClientOrder.{sorted_each, sorted_rise, sorted_length, to_sorted, from_sorted, found}

@@ -10,6 +10,7 @@ pub mod laws;
 pub mod link;
 mod lookup;
 mod member_use;
+pub mod modular;
 mod order;
 mod outcomes;
 pub mod plain;

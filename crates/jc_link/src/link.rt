@@ -26,8 +26,11 @@ use jc_table::root::root_fault;
 use jc_table::table::{Table, TableError};
 use std::alloc::{AllocError, Global};
 
-// Copies of these classes.
-fn copies_of(alloc: Global, classes: &[ClassFacts]) -> Result<Vec<ClassFacts>, AllocError>
+/// Copies of these classes.
+pub(crate) fn copies_of(
+    alloc: Global,
+    classes: &[ClassFacts],
+) -> Result<Vec<ClassFacts>, AllocError>
     ensures { IfOk result (λ copies. copies.items ≡ classes.now) }
 {
     let mut copies = Vec::with_capacity(alloc, classes.len())?;
@@ -37,8 +40,8 @@ fn copies_of(alloc: Global, classes: &[ClassFacts]) -> Result<Vec<ClassFacts>, A
     Ok(copies)
 }
 
-// The refusal where a table isn't built.
-fn refusal_of(error: TableError) -> LinkRefusal
+/// The refusal where a table isn't built.
+pub(crate) fn refusal_of(error: TableError) -> LinkRefusal
     ensures { result ≡ refusal_by error }
 {
     match error {
@@ -58,9 +61,9 @@ fn refusal_of_name(alloc: Global, name: &Name, part: ClientPart) -> LinkRefusal
     }
 }
 
-// Why the clients aren't linked, the first cause; none where nothing stands in the way. No table is made
-// for it.
-fn refusal(
+/// Why the clients aren't linked, the first cause; none where nothing stands in the way. No table is made
+/// for it.
+pub(crate) fn refusal(
     alloc: Global,
     platform: &Platform,
     release: &[ClassFacts],
