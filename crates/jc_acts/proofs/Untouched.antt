@@ -378,7 +378,7 @@ one_record s are x free = (both s are x free).same x (it_is s are x free)
 
 -- a class of the platform is the same, whatever is above it
 pub platform_record : (s : SidesOf) → AreSides s → (x : Bytes) → is_some (class_named s.old.platform x) ≡ true → find_class s.old x ≡ find_class s.new x
-platform_record s are x h = same_found s x (sym (platform_same s are.platform x h))
+platform_record s are x h = same_found s x (sym (platform_same s are.run.platform x h))
 
 -- the class and each interface above it have the same superinterfaces on both sides
 pub above_alike : (s : SidesOf) → AreSides s → (x : Bytes) → may_be_closed s x ≡ false → load_fault s.new x ≡ None → (y : Bytes) → (same x y || is_superinterface s.old x y) ≡ true → superinterfaces s.old y ≡ superinterfaces s.new y

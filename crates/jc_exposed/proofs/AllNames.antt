@@ -56,8 +56,8 @@ module _ (W : World) (a x : Bytes) where
       ∙ any-map (λ c. is_class_usable W c && names_above c) (λ (c : ClassFacts). c.name) (classes W)
       ∙ ap (λ (p : ClassFacts → Bool). list_any p (classes W)) (λ i c. by_class c i)
 
-  pub exposed_is : IsSide W → is_hidden W x ≡ true → list_any (λ c. is_class_usable W c && names_above c) (names W) ≡ is_exposed W a x
-  exposed_is s h = through_all ∙ sym (ap (λ b. b && list_any (exposes_by W a x) (classes W)) h) ∙ sym (exposed_by_keys_above W s.no_clients s.root s.platform s.release a x)
+  pub exposed_is : IsSide W → W.clients ≡ [] → is_hidden W x ≡ true → list_any (λ c. is_class_usable W c && names_above c) (names W) ≡ is_exposed W a x
+  exposed_is s bare h = through_all ∙ sym (ap (λ b. b && list_any (exposes_by W a x) (classes W)) h) ∙ sym (exposed_by_keys_above W bare s.root s.platform s.release a x)
 
 -- ---- rows along the names of the world
 
@@ -81,5 +81,5 @@ module _ (W : World) (on : ℕ → Bool) where
   pub rows_end : (n : ℕ) (rows : List (List Exposure)) → size W ≤ n → AreRows W on (through (take n (names W))) rows → AreRows W on (through (names W)) rows
   rows_end n rows l f = subst (λ ys. AreRows W on (through ys) rows) (take_all n (names W) (subst (λ m. m ≤ n) (sym (names-length W)) l)) f
 
-  pub all_exposing : (rows : List (List Exposure)) → IsSide W → AreRows W on (through (names W)) rows → AreExposing W on rows
-  all_exposing rows s f = record { shape = f.shape; exact = λ a t i o h. f.exact a t i o ∙ exposed_is W a (name_at W t) s h }
+  pub all_exposing : (rows : List (List Exposure)) → IsSide W → W.clients ≡ [] → AreRows W on (through (names W)) rows → AreExposing W on rows
+  all_exposing rows s bare f = record { shape = f.shape; exact = λ a t i o h. f.exact a t i o ∙ exposed_is W a (name_at W t) s bare h }

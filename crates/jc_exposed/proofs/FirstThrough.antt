@@ -208,7 +208,7 @@ module _ (W : World) (p : Bytes → Bool) where
 pub first_loads : (W : World) (a : Bytes) (t n : ℕ) → IsFirstAt W (λ c. opens_usable W c a t) n → load_fault W (name_at W n) ≡ None
 first_loads W a t n first = (usable_parts W (name_at W n) (and_parts (is_class_usable W (name_at W n)) (list_any (opens_of W (name_at W n) a t) (above W (name_at W n))) first.passes).0).loaded
 
-module _ (W : World) (s : IsSide W) (a : Bytes) (t : ℕ) where
+module _ (W : World) (s : IsSide W) (bare : W.clients ≡ []) (a : Bytes) (t : ℕ) where
   -- ---- through which classes the class of the number t is exposed
 
   -- the key of a reference that exposes it stands above the class
@@ -226,7 +226,7 @@ module _ (W : World) (s : IsSide W) (a : Bytes) (t : ℕ) where
       u = and_parts (is_class_usable W c) (descriptor_names k.descriptor (name_at W t)) q.0
 
       keys : list_any (λ l. exposes W a (name_at W t) (record { «class» = c; key = l })) (keys_above W c) ≡ true
-      keys = exposes_above W (same_pair W s.no_clients s.root s.platform s.release) a (name_at W t) (record { «class» = c; key = k }) e
+      keys = exposes_above W (same_pair W bare s.root s.platform s.release) a (name_at W t) (record { «class» = c; key = k }) e
 
       weaker : (l : Key) → exposes W a (name_at W t) (record { «class» = c; key = l }) ≡ true → names_it l ≡ true
       weaker l f =

@@ -1,4 +1,5 @@
 mod OpenMembers
+mod MarkedLengths
 mod NamedClasses
 mod GivenNamings
 mod OwnNamings

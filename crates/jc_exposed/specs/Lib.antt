@@ -3,6 +3,7 @@ pub mod Exposing
 pub mod OpenForms
 pub mod Exposures
 pub mod FirstAct
+pub mod Lengths
 pub mod Named
 pub mod Namings
 pub mod Rows

@@ -243,6 +243,7 @@ pub fn exposing_rows(
     own: &Own,
 ) -> Result<Vec<Items<Exposure>>, AllocError>
     requires side { IsSide table.now }
+    requires bare { table.now.clients ≡ [] }
     requires own { AreOwn table.now own.now }
     ensures { IfOk result (λ rows. AreExposing table.now (is_wanted own.now) rows.items) }
 {

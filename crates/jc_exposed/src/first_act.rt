@@ -268,6 +268,7 @@ fn act_through(
     class: ClassId,
 ) -> Result<Option<MemberAct>, AllocError>
     requires side { IsSide table.now }
+    requires bare { table.now.clients ≡ [] }
     requires own { AreOwn table.now own.now }
     requires seat { seat < size table.now }
     requires wanted { IsTrue (is_wanted own.now exposed) }
@@ -315,6 +316,7 @@ pub fn exposing_act(
     class: ClassId,
 ) -> Result<Option<MemberAct>, AllocError>
     requires side { IsSide table.now }
+    requires bare { table.now.clients ≡ [] }
     requires seat { seat < size table.now }
     requires class { class < size table.now }
     ensures { IfOk result (λ act. act ≡ exposing_act table.now (name_at table.now seat) (name_at table.now class)) }

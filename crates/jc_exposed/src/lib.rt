@@ -5,6 +5,7 @@ pub mod exposed;
 mod exposing;
 mod exposure;
 pub mod first_act;
+mod lengths;
 mod named;
 mod namings;
 mod own;

@@ -1,25 +1,21 @@
 -- Soundness over a row of releases, step by step.
 --     row_kept      from what each step keeps
 --     row_sound      from the verdicts on the steps
-use Rattle.std.proofs.Common.{◌≡◌, ◌&&◌, Bool, true, List, [], ◌∷◌, map, Option, None, is_none, refl, sym, subst, ap, ◌⊎◌, inl, inr}
-use Rattle.std.specs.List.{All, AllZip, Contains, AllByRecursion, list_all}
+use Rattle.std.proofs.Common.{◌≡◌, true, List, [], ◌∷◌, Option, None, is_none, refl, inl, inr}
+use Rattle.std.specs.List.{All, AllZip, Contains, AllByRecursion}
 use Rattle.std.proofs.lemmas.Bool.{and_parts}
-use Rattle.std.proofs.lemmas.List.Elements.{recursion_from_All, All-from_recursion, All-weaker, All-contains, All-contains_itself}
+use Rattle.std.proofs.lemmas.List.Elements.{recursion_from_All, All-weaker, All-contains, All-contains_itself}
 use Rattle.jc_facts.specs.declared.client.ClientClass.{ClientClass}
-use Rattle.jc_facts.specs.declared.client.Item.{Item}
 use Rattle.jc_facts.specs.declared.client.Item.TheVariants as item
 use Rattle.jc_facts.specs.declared.verdict.Verdict.{Verdict}
-use Rattle.jc_facts.specs.client.Clients.{IsValidClient, IsInScope, CallsSuper, Keeps, facts_of, is_allowed_name, is_in_reach, differ_by_name}
-use Rattle.jc_facts.specs.client.Meets.{Meets}
-use Rattle.jc_facts.specs.client.Outcome.{Links}
-use Rattle.jc_facts.specs.rule.Verdict.{IsVerdict}
-use Rattle.jc_facts.specs.world.Loading.{load_fault, loads}
+use Rattle.jc_facts.specs.client.Clients.{IsValidClient, IsInScope, CallsSuper, Keeps, facts_of, is_in_reach, differ_by_name}
+use Rattle.jc_facts.specs.world.Loading.{load_fault}
 use Rattle.jc_facts.specs.world.Pairs.{IsPair}
 use Rattle.jc_facts.specs.world.World.{World, with_clients}
 use Rattle.jc_lemmas.proofs.Options.{none_where}
 use Rattle.jc_sound.proofs.SoundnessLaws.{keeps}
 use Rattle.jc_rules.specs.Verdicts.{KeepsAll}
-use Rattle.jc_history.specs.Row.{Step, steps_from, steps_of, last_of, AreVerdicts, HaveNoFinding, HaveAllowedNames, IsInScopeOfRow, MeetsNoneOfRow, is_in_reach_of_row, KeepsOverRow, KeepsRow}
+use Rattle.jc_history.specs.Row.{Step, steps_from, steps_of, AreVerdicts, HaveAllowedNames, MeetsNoneOfRow, is_in_reach_of_row, KeepsOverRow, KeepsRow}
 use Rattle.jc_history.specs.History.{RowSoundness}
 
 -- ---- from one step to the next

@@ -1,16 +1,15 @@
 -- The verdicts on a row of releases, and what they mean.
-use Rattle.std.specs.Prelude.{◌≡◌, ◌≤◌, ◌<◌, ℕ, List, Option, Some, None}
+use Rattle.std.specs.Prelude.{◌≤◌, ◌<◌, ℕ, List, Option, Some, None}
 use Rattle.std.specs.List.{All, Contains}
-use Rattle.jc_facts.specs.declared.class_facts.ClassFacts.{ClassFacts}
 use Rattle.jc_facts.specs.declared.verdict.Verdict.{Verdict}
 use Rattle.jc_facts.specs.rule.Verdict.{IsVerdict, count_of}
-use Rattle.jc_facts.specs.world.Pairs.{IsPair}
+use Rattle.jc_facts.specs.world.Pairs.{AreOfOneRun, IsPair}
 use Rattle.jc_facts.specs.world.World.{World}
 use Rattle.jc_history.specs.Row.{Step, steps_of, AreVerdicts, KeepsRow}
 
--- the sides have this platform
-abbrev pub HavePlatform : List ClassFacts → List World → Type 0
-HavePlatform platform = All (λ W. W.platform ≡ platform)
+-- each of the sides is of one run with this one
+abbrev pub AreOfRun : World → List World → Type 0
+AreOfRun W = All (AreOfOneRun W)
 
 -- the verdicts on the steps, where each has at most so many findings and collisions; None where some step has more
 abbrev pub AreVerdictsWithin : List Step → ℕ → Option (List Verdict) → Type 0

@@ -163,4 +163,4 @@ module _ (O N : World) (are : AreSides (record { old = O; new = N })) where
   pub gone_break : (fs : List Finding) → HasExactly finding_order (Stands O N) fs → All (λ f. f.rule ≡ 1 → BreaksClass O N f.«class» f.error) fs
   gone_break fs h =
       All-weaker (Stands O N) (λ f. f.rule ≡ 1 → BreaksClass O N f.«class» f.error)
-      (λ f p r. class_gone_breaks O N are.old_side.no_clients are.new_side.no_clients are.old_side.platform are.old_side.release (subject_of f) f r p) fs h.sound
+      (λ f p r. class_gone_breaks O N are.run.old_bare are.run.new_bare are.old_side.platform are.old_side.release (subject_of f) f r p) fs h.sound

@@ -84,7 +84,7 @@ unclosed : (s : SidesOf) → AreSides s → (x : Bytes) → is_some (class_named
 unclosed s are x there same = go (is_kept s.old s.new x) refl
   where
     there_now : is_some (class_named s.new.platform x) ≡ true
-    there_now = ap (λ cs. is_some (class_named cs x)) (sym are.platform) ∙ there
+    there_now = ap (λ cs. is_some (class_named cs x)) (sym are.run.platform) ∙ there
 
     one_module : module_of s.old x ≡ module_of s.new x
     one_module = platform_module s.old s.new x (pair_of s are).run.kind there there_now

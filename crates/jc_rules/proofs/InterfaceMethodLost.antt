@@ -170,7 +170,7 @@ module _ (W : World) (x : Bytes) (c : ClassFacts) (there : find_class W x ≡ So
 -- both sides have one java/lang/Object
 root_alike : (s : SidesOf) → AreSides s → find_class s.old object_name ≡ find_class s.new object_name
 root_alike s are =
-    root_at s.old are.old_side ∙ sym are.old_side.root.is_there ∙ ap (λ (cs : List ClassFacts). class_named cs object_name) are.platform ∙ are.new_side.root.is_there ∙ sym (root_at s.new are.new_side)
+    root_at s.old are.old_side ∙ sym are.old_side.root.is_there ∙ ap (λ (cs : List ClassFacts). class_named cs object_name) are.run.platform ∙ are.new_side.root.is_there ∙ sym (root_at s.new are.new_side)
 
 pub apart_now : (s : SidesOf) → AreSides s → (k : Key) → public_method_of_object s.old k ≡ None → public_method_of_object s.new k ≡ None
 unfolding public_method_of_object

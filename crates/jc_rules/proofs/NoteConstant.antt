@@ -56,17 +56,17 @@ later_list (c ∷ xs) ys x h = go (same c.name x) h (later_list xs ys x)
     go false e r = r e
 
 -- a class of the release is found as such
-found_is : (W : World) → IsSide W → (x : Bytes) → is_some (in_release W x) ≡ true → find_class W x ≡ in_release W x
+found_is : (W : World) → IsSide W → W.clients ≡ [] → (x : Bytes) → is_some (in_release W x) ≡ true → find_class W x ≡ in_release W x
 unfolding find_class
-found_is W s x h = ap (λ (cs : List ClassFacts). class_named cs x) (two_lists W s) ∙ later_list W.platform W.release x (of_release W s x h)
+found_is W s bare x h = ap (λ (cs : List ClassFacts). class_named cs x) (two_lists W bare) ∙ later_list W.platform W.release x (of_release W s bare x h)
 
 -- a class of the platform isn't the release's
-unreleased : (W : World) → IsSide W → (x : Bytes) → is_some (class_named W.platform x) ≡ true → is_some (in_release W x) ≡ false
-unreleased W s x h = go (is_some (in_release W x)) refl
+unreleased : (W : World) → IsSide W → W.clients ≡ [] → (x : Bytes) → is_some (class_named W.platform x) ≡ true → is_some (in_release W x) ≡ false
+unreleased W s bare x h = go (is_some (in_release W x)) refl
   where
     go : (b : Bool) → is_some (in_release W x) ≡ b → b ≡ false
     go false e = refl
-    go true e = absurd (both_ways (is_some (class_named W.platform x)) (of_release W s x e) h)
+    go true e = absurd (both_ways (is_some (class_named W.platform x)) (of_release W s bare x e) h)
 
 -- ---- of one class
 
@@ -78,7 +78,7 @@ both_rows false b c h = absurd (cc)
 
 -- a class of the platform is of neither release
 pub not_both : (s : SidesOf) → AreSides s → (x : Bytes) → is_some (class_named s.old.platform x) ≡ true → is_in_both s x ≡ false
-not_both s are x h = go (is_kept s.old s.new x) (is_some (in_release s.old x)) (is_some (in_release s.new x)) (unreleased s.old are.old_side x h)
+not_both s are x h = go (is_kept s.old s.new x) (is_some (in_release s.old x)) (is_some (in_release s.new x)) (unreleased s.old are.old_side are.run.old_bare x h)
   where
     go : (a b c : Bool) → b ≡ false → (a && b && c) ≡ false
     go true true c h = absurd (cc)
@@ -89,8 +89,8 @@ not_both s are x h = go (is_kept s.old s.new x) (is_some (in_release s.old x)) (
 pub both_kept : (s : SidesOf) → AreSides s → (x : Bytes) → is_some (class_named s.old.platform x) ≡ false → is_kept s.old s.new x ≡ true → is_in_both s x ≡ true
 both_kept s are x h k =
     let p = kept_parts s x k in
-    let o = not_platform s.old are.old_side x p.there h in
-    let n = not_platform s.new are.new_side x (ap is_some (loads-found s.new x p.loads_now).1) (subst (λ (cs : List ClassFacts). is_some (class_named cs x) ≡ false) are.platform h) in
+    let o = not_platform s.old are.old_side are.run.old_bare x p.there h in
+    let n = not_platform s.new are.new_side are.run.new_bare x (ap is_some (loads-found s.new x p.loads_now).1) (subst (λ (cs : List ClassFacts). is_some (class_named cs x) ≡ false) are.run.platform h) in
     rw (k, o, n) refl
 
 module _ (s : SidesOf) (are : AreSides s) (x : Bytes) (c d : ClassFacts) (before : Some c ≡ find_class s.old x) (after : Some d ≡ find_class s.new x) (both : is_in_both s x ≡ true) where
@@ -98,10 +98,10 @@ module _ (s : SidesOf) (are : AreSides s) (x : Bytes) (c d : ClassFacts) (before
   parts_of = both_rows (is_kept s.old s.new x) (is_some (in_release s.old x)) (is_some (in_release s.new x)) both
 
   old_is : in_release s.old x ≡ Some c
-  old_is = sym (before ∙ found_is s.old are.old_side x parts_of.1)
+  old_is = sym (before ∙ found_is s.old are.old_side are.run.old_bare x parts_of.1)
 
   new_is : in_release s.new x ≡ Some d
-  new_is = sym (after ∙ found_is s.new are.new_side x parts_of.2)
+  new_is = sym (after ∙ found_is s.new are.new_side are.run.new_bare x parts_of.2)
 
   loses_is : (k : Key) → loses s x k ≡ has_lost_constant c d k
   loses_is k = rw (parts_of.0, old_is, new_is) refl
@@ -305,7 +305,7 @@ unfolding has_lost_constant and_then changed_is
 constant_there s are x was h k n m =
     let l = (made_where (loses s x k) (note.Fixed x k) n m).0 in
     let r = records_of s x k l in
-    let f : find_class s.old x ≡ Some r.before = found_is s.old are.old_side x (ap is_some r.old) ∙ r.old in
+    let f : find_class s.old x ≡ Some r.before = found_is s.old are.old_side are.run.old_bare x (ap is_some r.old) ∙ r.old in
     let v = (and_parts (has_static_final r.before k && is_some (own_field_of r.after k)) (changed_is r.before r.after k) (lost_as r.before r.after k ∙ r.loses_it)).1 in
     value_there (tree.get key_cmp was k) (fixed_at r.before k) (h r.before f k) (some_there (λ v. not (some_and (is_same_constant v) (value_of_constant r.after k))) (fixed_at r.before k) v)
   where

@@ -55,8 +55,8 @@ not_before (c ∷ xs) ys x d h = go (same c.name x) refl (not_before xs ys x p.1
     go false e r = r
 
 -- a class of the release isn't one of the platform's
-pub of_release : (W : World) → IsSide W → (x : Bytes) → is_some (in_release W x) ≡ true → is_some (class_named W.platform x) ≡ false
-of_release W s x h = not_before W.platform W.release x (subst (λ (cs : List ClassFacts). differ_by_name cs ≡ true) (two_lists W s) s.differ) h
+pub of_release : (W : World) → IsSide W → W.clients ≡ [] → (x : Bytes) → is_some (in_release W x) ≡ true → is_some (class_named W.platform x) ≡ false
+of_release W s bare x h = not_before W.platform W.release x (subst (λ (cs : List ClassFacts). differ_by_name cs ≡ true) (two_lists W bare) s.differ) h
 
 class_named-either : (xs ys : List ClassFacts) (x : Bytes) → is_some (class_named (xs ++ ys) x) ≡ true → is_some (class_named xs x) ≡ false → is_some (class_named ys x) ≡ true
 unfolding class_named
@@ -69,9 +69,9 @@ class_named-either (c ∷ xs) ys x h d = go (same c.name x) h d (class_named-eit
     go false h d r = r h d
 
 -- and another class is one of the release
-pub not_platform : (W : World) → IsSide W → (x : Bytes) → is_some (find_class W x) ≡ true → is_some (class_named W.platform x) ≡ false → is_some (in_release W x) ≡ true
+pub not_platform : (W : World) → IsSide W → W.clients ≡ [] → (x : Bytes) → is_some (find_class W x) ≡ true → is_some (class_named W.platform x) ≡ false → is_some (in_release W x) ≡ true
 unfolding find_class
-not_platform W s x h d = class_named-either W.platform W.release x (subst (λ (cs : List ClassFacts). is_some (class_named cs x) ≡ true) (two_lists W s) h) d
+not_platform W s bare x h d = class_named-either W.platform W.release x (subst (λ (cs : List ClassFacts). is_some (class_named cs x) ≡ true) (two_lists W bare) h) d
 
 -- ---- the note as it is made
 
@@ -107,32 +107,32 @@ noted : (W : World) (old : Bool) (x : Bytes) (n : Note) → unloadable W old x �
 noted W old x n h = noted_by W old x n (is_some (class_named W.platform x)) refl (load_fault W x) refl h
 
 -- it is one of the side
-noted_in : (W : World) → IsSide W → (old : Bool) (x : Bytes) (n : Note) → is_some (find_class W x) ≡ true → IsNoted W old x n → NoteIn W old n
-noted_in W s old x n f i = subst (NoteIn W old) (sym i.is) (refl, not_platform W s x f i.apart, i.fault)
+noted_in : (W : World) → IsSide W → W.clients ≡ [] → (old : Bool) (x : Bytes) (n : Note) → is_some (find_class W x) ≡ true → IsNoted W old x n → NoteIn W old n
+noted_in W s bare old x n f i = subst (NoteIn W old) (sym i.is) (refl, not_platform W s bare x f i.apart, i.fault)
 
-found_release : (W : World) → IsSide W → (x : Bytes) → is_some (in_release W x) ≡ true → is_some (find_class W x) ≡ true
+found_release : (W : World) → IsSide W → W.clients ≡ [] → (x : Bytes) → is_some (in_release W x) ≡ true → is_some (find_class W x) ≡ true
 unfolding find_class
-found_release W s x h = subst (λ (cs : List ClassFacts). is_some (class_named cs x) ≡ true) (sym (two_lists W s)) (found_after W.platform W.release x h)
+found_release W s bare x h = subst (λ (cs : List ClassFacts). is_some (class_named cs x) ≡ true) (sym (two_lists W bare)) (found_after W.platform W.release x h)
 
 -- each of the side is given
-in_noted : (W : World) → IsSide W → (old : Bool) (n : Note) → NoteIn W old n → Gives (unloadable W old) (names W) n
+in_noted : (W : World) → IsSide W → W.clients ≡ [] → (old : Bool) (n : Note) → NoteIn W old n → Gives (unloadable W old) (names W) n
 unfolding and_then
-in_noted W s old (note.Unloadable b x e) h = record {
+in_noted W s bare old (note.Unloadable b x e) h = record {
   place = x;
-  is_in = names-in W x (found_release W s x h.1);
-  gives = rw (of_release W s x h.1, h.2, h.0) refl;
+  is_in = names-in W x (found_release W s bare x h.1);
+  gives = rw (of_release W s bare x h.1, h.2, h.0) refl;
 }
-in_noted W s old (note.Fixed x k) h = absurd h
+in_noted W s bare old (note.Fixed x k) h = absurd h
 
 note_later : (old : Bool) (x y : Bytes) (d e : LinkError) → Before x y → note_order (note.Unloadable old x d) (note.Unloadable old y e) ≡ Less
 note_later true x y d e h = rw h refl
 note_later false x y d e h = rw h refl
 
 -- what the names of a side give
-notes_in : (W : World) → IsSide W → (old : Bool) → HasExactly note_order (NoteIn W old) (filter_map (unloadable W old) (names W))
-notes_in W s old =
+notes_in : (W : World) → IsSide W → W.clients ≡ [] → (old : Bool) → HasExactly note_order (NoteIn W old) (filter_map (unloadable W old) (names W))
+notes_in W s bare old =
     exact_given note_order (unloadable W old) later (NoteIn W old) (names W) (names-rise W s.differ)
-    (λ x n c h. noted_in W s old x n (names-find W x c) (noted W old x n h)) (in_noted W s old)
+    (λ x n c h. noted_in W s bare old x n (names-find W x c) (noted W old x n h)) (in_noted W s bare old)
   where
     later : (x y : Bytes) (m n : Note) → Before x y → unloadable W old x ≡ Some m → unloadable W old y ≡ Some n → note_order m n ≡ Less
     later x y m n b h k =
@@ -141,8 +141,8 @@ notes_in W s old =
         ap (λ (z : Note). note_order z n) i.is ∙ ap (note_order (note.Unloadable old x i.error)) j.is ∙ note_later old x y i.error j.error b
 
 -- after the loop
-pub noted_all : (W : World) → IsSide W → (old : Bool) (n : ℕ) (ns : List Note) → size W ≤ n → ns ≡ filter_map (unloadable W old) (take n (names W)) → HasExactly note_order (NoteIn W old) ns
-noted_all W s old n ns l e = subst (HasExactly note_order (NoteIn W old)) (sym (whole (unloadable W old) W n ns l e)) (notes_in W s old)
+pub noted_all : (W : World) → IsSide W → W.clients ≡ [] → (old : Bool) (n : ℕ) (ns : List Note) → size W ≤ n → ns ≡ filter_map (unloadable W old) (take n (names W)) → HasExactly note_order (NoteIn W old) ns
+noted_all W s bare old n ns l e = subst (HasExactly note_order (NoteIn W old)) (sym (whole (unloadable W old) W n ns l e)) (notes_in W s bare old)
 
 -- ---- of both sides
 

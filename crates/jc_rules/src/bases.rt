@@ -1,5 +1,6 @@
 //! The classes and interfaces that clients could name above themselves, and still can.
 ghost use Rattle.std.specs.Prelude.{◌≡◌, IfOk, map};
+ghost use Rattle.jc_facts.specs.world.Pairs.{AreOfOneRun};
 ghost use Rattle.jc_rules.specs.Bases.{AreBases};
 
 use jc_sides::classes;
@@ -26,7 +27,7 @@ fn old_ids(alloc: Global, classes: &[Shared<'_>]) -> Result<Vec<ClassId>, AllocE
 ///
 /// `AllocError` where memory runs out.
 pub fn bases(alloc: Global, old: &Table, new: &Table) -> Result<Vec<ClassId>, AllocError>
-    requires { old.now.platform ≡ new.now.platform }
+    requires { AreOfOneRun old.now new.now }
     ensures { IfOk result (λ ids. AreBases old.now new.now ids.items) }
 {
     let sides = Sides::new(alloc, old, new)?;

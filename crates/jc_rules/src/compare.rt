@@ -6,6 +6,7 @@ ghost use Rattle.jc_facts.specs.rule.Findings.{Stands};
 ghost use Rattle.jc_facts.specs.rule.Notes.{NoteStands};
 ghost use Rattle.jc_facts.specs.rule.Orders.{finding_order, collision_order, note_order};
 ghost use Rattle.jc_facts.specs.Exactly.{HasExactly};
+ghost use Rattle.jc_facts.specs.world.Pairs.{AreOfOneRun};
 ghost use Rattle.jc_facts.specs.rule.Verdict.{IsVerdict};
 ghost use Rattle.jc_facts.specs.rule.Bases.{is_steady, is_base_interface};
 ghost use Rattle.jc_rules.specs.Verdicts.{IsVerdictWithin, KeepsAll, BreaksEach};
@@ -301,14 +302,13 @@ fn limited(
 }
 
 /// The verdict on a new release, after an old one: what it breaks of what clients could do, which
-/// changes stand in the way of some clients, and what is worth telling. The two sides have one
-/// platform.
+/// changes stand in the way of some clients, and what is worth telling. The two sides are of one run.
 ///
 /// # Errors
 ///
 /// `AllocError` where memory runs out.
 pub fn compare(alloc: Global, old: &Table, new: &Table) -> Result<Verdict, AllocError>
-    requires { old.now.platform ≡ new.now.platform }
+    requires { AreOfOneRun old.now new.now }
     ensures exact { IfOk result (IsVerdict old.now new.now) }
 
     // Where there is no finding, each client world in scope that meets none of the collisions keeps what held.
@@ -334,7 +334,7 @@ pub fn compare_within(
     new: &Table,
     most: usize,
 ) -> Result<Option<Verdict>, AllocError>
-    requires { old.now.platform ≡ new.now.platform }
+    requires { AreOfOneRun old.now new.now }
     ensures exact { IfOk result (IsVerdictWithin old.now new.now most) }
     ensures kept { IfOk result (λ made. IfSome made (KeepsAll old.now new.now)) }
     ensures broken { IfOk result (λ made. IfSome made (BreaksEach old.now new.now)) }

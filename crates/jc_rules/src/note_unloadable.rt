@@ -1,5 +1,5 @@
 //! Notes on classes that don't load.
-ghost use Rattle.std.specs.Prelude.{◌≡◌, ◌<◌, IfOk};
+ghost use Rattle.std.specs.Prelude.{◌≡◌, ◌<◌, [], IfOk};
 ghost use Rattle.jc_facts.specs.world.World.{size};
 ghost use Rattle.jc_facts.specs.rule.Orders.{note_order};
 ghost use Rattle.jc_facts.specs.Exactly.{HasExactly};
@@ -42,6 +42,7 @@ fn note_on(
 ///
 /// `AllocError` where memory runs out.
 pub fn note_unloadable(alloc: Global, table: &Table, of_old: bool) -> Result<Vec<Note>, AllocError>
+    requires { table.now.clients ≡ [] }
     ensures { IfOk result (λ notes. HasExactly note_order (NoteIn table.now of_old) notes.items) }
 {
     let mut notes = Vec::new(alloc);

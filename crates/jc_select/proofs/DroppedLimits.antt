@@ -1,5 +1,5 @@
 -- The dropped interfaces within a limit, and what clients keep where there are none.
-use Rattle.std.proofs.Common.{◌≡◌, ◌≤◌, ◌<◌, ℕ, List, length, Option, Some, None, arith}
+use Rattle.std.proofs.Common.{◌≤◌, ◌<◌, ℕ, List, length, Option, Some, None, arith}
 use Rattle.std.specs.Cmp.{IsTotalOrder, then_total, on_total}
 use Rattle.std.specs.Cmp.Lexicographic.{nat_list_cmp_total}
 use Rattle.std.specs.Option.{IfSome}
@@ -8,6 +8,7 @@ use Rattle.std.proofs.lemmas.List.Elements.{All-contains}
 use Rattle.jc_dropped.proofs.DroppedLaws.{instances_stay as law}
 use Rattle.jc_dropped.specs.Dropped.{AreDropped, IsDropped, dropped_order}
 use Rattle.jc_dropped.specs.declared.dropped.Dropped.{Dropped}
+use Rattle.jc_facts.specs.world.Pairs.{AreOfOneRun}
 use Rattle.jc_facts.specs.world.World.{World}
 use Rattle.jc_select.specs.DroppedWithin.{AreDroppedWithin, InterfacesStill}
 use Rattle.jc_sides.proofs.Pair.{pair_of}
@@ -25,9 +26,9 @@ within O N most None h = λ ds is.
     let b : most < length h.some = ltb-true most (length h.some) h.many in
     omega arith
 
-pub still : (O N : World) → IsSide O → IsSide N → O.platform ≡ N.platform → (ds : List Dropped) → AreDropped O N ds → InterfacesStill O N ds
-still O N o n e ds are v verdict = law O N v ds (pair_of (record { old = O; new = N }) (record { old_side = o; new_side = n; platform = e })) verdict are
+pub still : (O N : World) → IsSide O → IsSide N → AreOfOneRun O N → (ds : List Dropped) → AreDropped O N ds → InterfacesStill O N ds
+still O N o n run ds are v verdict = law O N v ds (pair_of (record { old = O; new = N }) (record { old_side = o; new_side = n; run = run })) verdict are
 
-pub still_within : (O N : World) → IsSide O → IsSide N → O.platform ≡ N.platform → (most : ℕ) (o : Option (List Dropped)) → AreDroppedWithin O N most o → IfSome o (InterfacesStill O N)
+pub still_within : (O N : World) → IsSide O → IsSide N → AreOfOneRun O N → (most : ℕ) (o : Option (List Dropped)) → AreDroppedWithin O N most o → IfSome o (InterfacesStill O N)
 still_within O N s t e most None h = tt
 still_within O N s t e most (Some ds) h = still O N s t e ds h.0

@@ -4,6 +4,7 @@ ghost use Rattle.std.specs.List.{All, list_any};
 ghost use Rattle.jc_dropped.specs.Dropped.{AreDropped, IsDropped, dropped_order, loses_interface};
 ghost use Rattle.jc_facts.specs.Exactly.{HasExactly};
 ghost use Rattle.jc_facts.specs.Options.{some_and};
+ghost use Rattle.jc_facts.specs.world.Pairs.{AreOfOneRun};
 ghost use Rattle.jc_facts.specs.world.Search.{supers};
 ghost use Rattle.jc_facts.specs.world.World.{size};
 ghost use Rattle.jc_select.specs.DroppedWithin.{AreDroppedWithin, InterfacesStill};
@@ -196,13 +197,13 @@ fn limited(
 /// names and then of the interfaces': each that a class had above it and has no more, where clients can
 /// hold values of the class and name the interface with both releases, and no class that it names above
 /// itself loses it too. All that clients do still links, but `invokeinterface` on such a value, a cast or
-/// a store fails when it runs (JVMS 6.5). The two sides have one platform.
+/// a store fails when it runs (JVMS 6.5). The two sides are of one run.
 ///
 /// # Errors
 ///
 /// `AllocError` where memory runs out.
 pub fn dropped(alloc: Global, old: &Table, new: &Table) -> Result<Vec<Dropped>, AllocError>
-    requires { old.now.platform ≡ new.now.platform }
+    requires { AreOfOneRun old.now new.now }
     ensures exact { IfOk result (λ ds. AreDropped old.now new.now ds.items) }
 
     // Where there is none, and the verdict has no finding, clients keep the interfaces above their values.
@@ -228,7 +229,7 @@ pub fn dropped_within(
     new: &Table,
     most: usize,
 ) -> Result<Option<Vec<Dropped>>, AllocError>
-    requires { old.now.platform ≡ new.now.platform }
+    requires { AreOfOneRun old.now new.now }
     ensures exact { IfOk result (λ made. AreDroppedWithin old.now new.now most (option_map (λ ds. ds.items) made)) }
     ensures kept { IfOk result (λ made. IfSome (option_map (λ ds. ds.items) made) (InterfacesStill old.now new.now)) }
 {

@@ -1,6 +1,7 @@
 //! The warnings on a new release, after an old one.
 ghost use Rattle.std.specs.Prelude.{◌≡◌, IfOk, IfSome, option_map};
 ghost use Rattle.jc_acts.specs.Seats.{AreSeats};
+ghost use Rattle.jc_facts.specs.world.Pairs.{AreOfOneRun};
 ghost use Rattle.jc_facts.specs.rule.Warnings.{AreWarnings, WarningStands, is_base, warning_order};
 ghost use Rattle.jc_select.specs.Within.{AreWarningsWithin, AnswersStill};
 ghost use Rattle.jc_select.specs.steps.Changes.{AreChanges};
@@ -68,13 +69,13 @@ fn limited(
 
 /// The warnings on a new release, after an old one, in byte order of the classes' names and in the
 /// order of the keys: what a base gives to the clients below it to be selected, and gives otherwise now
-/// (JVMS 5.4.6). The two sides have one platform.
+/// (JVMS 5.4.6). The two sides are of one run.
 ///
 /// # Errors
 ///
 /// `AllocError` where memory runs out.
 pub fn warnings(alloc: Global, old: &Table, new: &Table) -> Result<Vec<Warning>, AllocError>
-    requires { old.now.platform ≡ new.now.platform }
+    requires { AreOfOneRun old.now new.now }
     ensures exact { IfOk result (λ ws. AreWarnings old.now new.now ws.items) }
 
     // Where there is none, and the verdict has no finding, clients that answered all that was due answer all that is due now.
@@ -100,7 +101,7 @@ pub fn warnings_within(
     new: &Table,
     most: usize,
 ) -> Result<Option<Vec<Warning>>, AllocError>
-    requires { old.now.platform ≡ new.now.platform }
+    requires { AreOfOneRun old.now new.now }
     ensures exact { IfOk result (λ made. AreWarningsWithin old.now new.now most (option_map (λ ws. ws.items) made)) }
     ensures answered { IfOk result (λ made. IfSome (option_map (λ ws. ws.items) made) (AnswersStill old.now new.now)) }
 {

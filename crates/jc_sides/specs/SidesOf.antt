@@ -1,5 +1,5 @@
 -- A platform with an old and with a new release, as two worlds.
-use Rattle.std.specs.Prelude.{◌≡◌}
+use Rattle.jc_facts.specs.world.Pairs.{AreOfOneRun}
 use Rattle.jc_facts.specs.world.World.{World}
 use Rattle.jc_table.specs.Sides.{IsSide}
 
@@ -8,8 +8,8 @@ pub record SidesOf : Type 0 where
   pub old : World
   pub new : World
 
--- both are sides, of one platform
+-- both are sides, of one run: without clients, over one platform, and both with modules or both without
 pub record AreSides (s : SidesOf) : Type 0 where
   pub old_side : IsSide s.old
   pub new_side : IsSide s.new
-  pub platform : s.old.platform ≡ s.new.platform
+  pub run : AreOfOneRun s.old s.new

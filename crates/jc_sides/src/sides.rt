@@ -1,5 +1,6 @@
 //! A platform with an old and with a new release of a library.
 ghost use Rattle.std.specs.Prelude.{◌≡◌, ◌<◌, map, IfOk, IfSome};
+ghost use Rattle.jc_facts.specs.world.Pairs.{AreOfOneRun};
 ghost use Rattle.jc_facts.specs.world.World.{size};
 ghost use Rattle.jc_table.specs.Ids.{name_at, names, id_of};
 
@@ -9,7 +10,7 @@ use std::alloc::{AllocError, Global};
 use std::marker::Model;
 
 /// A platform with an old and with a new release of a library. A contract sees it as the two
-/// worlds, which have one platform.
+/// worlds, which are of one run.
 pub struct Sides<'a> {
     pub old: &'a Table,
     pub new: &'a Table,
@@ -54,14 +55,15 @@ fn new_ids(alloc: Global, old: &Table, new: &Table) -> Result<Vec<Option<ClassId
 }
 
 impl<'a> Sides<'a> {
-    /// The two sides of one platform. It is made once for a comparison, with one look-up by name for
-    /// each class of the old release.
+    /// The two sides of one run: without clients, over one platform, and both with modules or both
+    /// without. It is made once for a comparison, with one look-up by name for each class of the old
+    /// release.
     ///
     /// # Errors
     ///
     /// `AllocError` where memory runs out.
     pub fn new(alloc: Global, old: &'a Table, new: &'a Table) -> Result<Sides<'a>, AllocError>
-        requires { old.now.platform ≡ new.now.platform }
+        requires { AreOfOneRun old.now new.now }
         ensures { IfOk result (λ sides. sides ≡ record { old = old.now; new = new.now }) }
     {
         // A count says that a table stands for a side.

@@ -12,7 +12,7 @@ use Rattle.jc_facts.specs.world.Mentioned.{mentioned}
 use Rattle.jc_bodies.specs.Files.{HasShortNames}
 use Rattle.jc_sides.specs.SidesOf.{SidesOf, AreSides}
 
--- two sides of one platform, which mention fewer than 2^64 names
+-- two sides of one run, which mention fewer than 2^64 names
 pub record IsGround (s : SidesOf) : Type 0 where
   pub sides : AreSides s
   pub few : length (mentioned s.old s.new) < 2 ^ 64

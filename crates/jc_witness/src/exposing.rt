@@ -20,6 +20,7 @@ pub(crate) fn exposing(
     class: &Name,
 ) -> Result<Option<MemberAct>, AllocError>
     requires side { IsSide table.now }
+    requires bare { table.now.clients ≡ [] }
     requires seat { load_fault table.now seat.now ≡ None }
     ensures { IfOk result (λ act. cons_option act [] ≡ acts_exposing table.now seat.now «class».now) }
 {

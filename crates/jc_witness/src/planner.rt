@@ -3,6 +3,7 @@ ghost use Rattle.std.specs.Prelude.{◌≡◌, [], None, IfOk};
 ghost use Rattle.std.specs.List.{cons_option};
 ghost use Rattle.jc_facts.specs.world.Assignment.{is_interface_of};
 ghost use Rattle.jc_facts.specs.world.Loading.{load_fault};
+ghost use Rattle.jc_facts.specs.world.Pairs.{AreOfOneRun};
 ghost use Rattle.jc_facts.specs.plan.Planned.{acts_exposing, receiver_for};
 ghost use Rattle.jc_facts.specs.plan.PlannedNames.{in_package, fresh_package, own_name, closed_name, constructor};
 ghost use Rattle.jc_witness.specs.Ground.{IsGround, CanRefer};
@@ -44,13 +45,13 @@ impl<'a> Model for Planner<'a> {
 }
 
 impl<'a> Planner<'a> {
-    /// For the old and the new release of a library, on one platform.
+    /// For the old and the new release of a library, of one run.
     ///
     /// # Errors
     ///
     /// `AllocError` where memory runs out.
     pub fn new(alloc: Global, old: &'a Table, new: &'a Table) -> Result<Planner<'a>, AllocError>
-        requires { old.now.platform ≡ new.now.platform }
+        requires { AreOfOneRun old.now new.now }
         ensures { IfOk result (λ planner. planner ≡ record { old = old.now; new = new.now }) }
     {
         // Counts say that few names are mentioned.

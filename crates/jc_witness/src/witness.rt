@@ -1,6 +1,7 @@
 //! The class files of a witness.
 ghost use Rattle.std.specs.Prelude.{◌≡◌, IfOk};
 ghost use Rattle.std.specs.List.{All};
+ghost use Rattle.jc_facts.specs.world.Pairs.{AreOfOneRun};
 ghost use Rattle.jc_facts.specs.written.Written.{written};
 ghost use Rattle.jc_facts.specs.declared.verdict.Cause.TheVariants as cause;
 ghost use Rattle.jc_witness.specs.Ground.{HasShortSide};
@@ -107,7 +108,7 @@ impl Witnessed for Collision {
 }
 
 /// The files of a witness for a finding or a collision that `compare` of the two tables gives. The
-/// tables have one platform. For many causes of one comparison make one `Planner` and ask it.
+/// tables are of one run. For many causes of one comparison make one `Planner` and ask it.
 ///
 /// # Errors
 ///
@@ -118,7 +119,7 @@ pub fn witness(
     new: &Table,
     of: &Cause,
 ) -> Result<Vec<WitnessFile>, AllocError>
-    requires platform { old.now.platform ≡ new.now.platform }
+    requires run { AreOfOneRun old.now new.now }
     requires cause { StandsInVerdict old.now new.now of.now }
     requires old_names { HasShortSide old.now }
     requires new_names { HasShortSide new.now }

@@ -1,12 +1,13 @@
 //! Changes between two small releases over a platform of `java/lang/Object` alone, and the class files that show each finding and
 //! collision, with their spots.
-ghost use Rattle.std.specs.Prelude.{◌≡◌, ◌<◌, length, IfSome};
+ghost use Rattle.std.specs.Prelude.{◌<◌, length, IfSome};
 ghost use Rattle.std.specs.List.{All};
 ghost use Rattle.jc_facts.specs.rule.Verdict.{IsVerdict};
+ghost use Rattle.jc_facts.specs.world.Pairs.{AreOfOneRun};
 ghost use Rattle.jc_witness.specs.Ground.{HasShortSide};
 ghost use Rattle.jc_witness.specs.Witnesses.{HasCause, StandsInVerdict};
 
-use crate::releases::{platform, table};
+use crate::releases::{platform, tables};
 use jc_base::items::Items;
 use jc_facts::class_facts::ClassFacts;
 use jc_facts::finding::Finding;
@@ -419,7 +420,7 @@ fn see_verdict(
 }
 
 fn see_comparison(rt: &impl Abort, alloc: Global, old: &Table, new: &Table, change: &Change)
-    requires platform { old.now.platform ≡ new.now.platform }
+    requires run { AreOfOneRun old.now new.now }
     requires old_names { HasShortSide old.now }
     requires new_names { HasShortSide new.now }
 {
@@ -429,8 +430,7 @@ fn see_comparison(rt: &impl Abort, alloc: Global, old: &Table, new: &Table, chan
 }
 
 fn see_change(rt: &impl Abort, alloc: Global, platform: &[ClassFacts], change: &Change) {
-    let old = table(rt, alloc, platform, change.old);
-    let new = table(rt, alloc, platform, change.new);
+    let (old, new) = tables(rt, alloc, platform, change.old, change.new);
     see_comparison(rt, alloc, &old, &new, change);
 }
 
@@ -475,7 +475,7 @@ fn last_finding(alloc: Global, mut verdict: Verdict) -> Option<Cause>
 }
 
 fn see_last(rt: &impl Abort, alloc: Global, old: &Table, new: &Table, wanted: &[File])
-    requires platform { old.now.platform ≡ new.now.platform }
+    requires run { AreOfOneRun old.now new.now }
     requires old_names { HasShortSide old.now }
     requires new_names { HasShortSide new.now }
 {
@@ -490,7 +490,6 @@ fn see_last(rt: &impl Abort, alloc: Global, old: &Table, new: &Table, wanted: &[
 fn a_witness_of_one_cause(rt: HostRuntime) {
     let alloc = rt.alloc();
     let platform = platform(&rt, alloc);
-    let old = table(&rt, alloc, platform.as_slice(), &[A]);
-    let new = table(&rt, alloc, platform.as_slice(), &[]);
+    let (old, new) = tables(&rt, alloc, platform.as_slice(), &[A], &[]);
     see_last(&rt, alloc, &old, &new, &[(b"w0/U", SECOND)]);
 }

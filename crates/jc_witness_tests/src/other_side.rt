@@ -1,8 +1,9 @@
 //! The number of each class of one side on the other, beside a look-up by its name.
 ghost use Rattle.std.specs.Prelude.{◌≡◌, ◌<◌};
+ghost use Rattle.jc_facts.specs.world.Pairs.{AreOfOneRun};
 ghost use Rattle.jc_facts.specs.world.World.{size};
 
-use crate::releases::table;
+use crate::releases::tables;
 use jc_sides::sides::Sides;
 use jc_table::ids::ClassId;
 use jc_table::table::Table;
@@ -94,7 +95,7 @@ fn are_found(one: &Table, other: &Table) -> bool
 }
 
 fn see_numbers(rt: &impl Abort, alloc: Global, old: &Table, new: &Table)
-    requires { old.now.platform ≡ new.now.platform }
+    requires { AreOfOneRun old.now new.now }
 {
     let sides = Sides::new(alloc, old, new).expect(rt, "memory");
     assert!(rt; are_numbered(&sides, NUMBERS));
@@ -105,7 +106,6 @@ fn see_numbers(rt: &impl Abort, alloc: Global, old: &Table, new: &Table)
 fn each_class_has_the_number_of_its_name_on_the_other_side(rt: HostRuntime) {
     let alloc = rt.alloc();
     let platform = classes(alloc, PLATFORM).expect(&rt, "memory");
-    let old = table(&rt, alloc, platform.as_slice(), OLD);
-    let new = table(&rt, alloc, platform.as_slice(), NEW);
+    let (old, new) = tables(&rt, alloc, platform.as_slice(), OLD, NEW);
     see_numbers(&rt, alloc, &old, &new);
 }

@@ -2,9 +2,10 @@
 ghost use Rattle.std.specs.Prelude.{◌≡◌, IfOk, IfSome, IsTrue};
 ghost use Rattle.jc_acts.specs.Seats.{AreSeats};
 ghost use Rattle.jc_facts.specs.rule.Bases.{is_key_of_method, is_steady};
+ghost use Rattle.jc_facts.specs.world.Pairs.{AreOfOneRun};
 ghost use Rattle.jc_sides.specs.SharedOf.{IsShared, name_of};
 
-use crate::releases::{platform, table};
+use crate::releases::{platform, tables};
 use jc_acts::closed_act::ClosedAct;
 use jc_acts::seats::Seats;
 use jc_acts::{members, plain};
@@ -226,7 +227,7 @@ fn key(rt: &impl Abort, alloc: Global, descriptor: &[u8]) -> Key {
 }
 
 fn see_told(rt: &impl Abort, alloc: Global, old: &Table, new: &Table)
-    requires { old.now.platform ≡ new.now.platform }
+    requires { AreOfOneRun old.now new.now }
 {
     let sides = Sides::new(alloc, old, new).expect(rt, "memory");
     let field = key(rt, alloc, b"I");
@@ -241,7 +242,6 @@ fn see_told(rt: &impl Abort, alloc: Global, old: &Table, new: &Table)
 fn asking_few_seats_gives_what_asking_all_gives(rt: HostRuntime) {
     let alloc = rt.alloc();
     let platform = platform(&rt, alloc);
-    let old = table(&rt, alloc, platform.as_slice(), OLD);
-    let new = table(&rt, alloc, platform.as_slice(), NEW);
+    let (old, new) = tables(&rt, alloc, platform.as_slice(), OLD, NEW);
     see_told(&rt, alloc, &old, &new);
 }

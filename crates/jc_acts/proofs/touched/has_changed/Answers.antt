@@ -12,7 +12,7 @@ use Rattle.jc_acts.proofs.touched.has_changed.Goals as goal
 pub returns-then-in_platform : goal.returns-then-in_platform
 returns-then-in_platform c =
     let x : Bytes = name_at c.sides.inside.old.now c.args.id in
-    subst (λ (s : SidesOf). false ≡ is_changed s (name_at s.old c.args.id)) c.sides.view_is (platform_same (worlds c.sides.inside) c.sides.invariant.sides.platform x (sym c.in_platform.ensures ∙ c.if-in_platform.true))
+    subst (λ (s : SidesOf). false ≡ is_changed s (name_at s.old c.args.id)) c.sides.view_is (platform_same (worlds c.sides.inside) c.sides.invariant.sides.run.platform x (sym c.in_platform.ensures ∙ c.if-in_platform.true))
 
 pub returns-in-Some : goal.returns-in-Some
 returns-in-Some c =

@@ -15,12 +15,12 @@ pub open_act_on-requires-clause-loads : goal.open_act_on-requires-clause-loads
 open_act_on-requires-clause-loads c = first_loads c.args.table.now (name_at c.args.table.now c.args.seat) c.args.exposed c.args.class c.requires.first
 
 pub returns-in_default : goal.returns-in_default
-returns-in_default c = absurd (has_key c.args.table.now c.requires.side (name_at c.args.table.now c.args.seat) c.args.exposed c.args.class c.requires.first c.in_ok-keys.keys.items c.in_ok-keys.ensures (ap (first_by key_cmp) (sym c.as_slice.ensures.value) ∙ sym c.least_key.ensures ∙ ap option_copied c.in_default.is))
+returns-in_default c = absurd (has_key c.args.table.now c.requires.side c.requires.bare (name_at c.args.table.now c.args.seat) c.args.exposed c.args.class c.requires.first c.in_ok-keys.keys.items c.in_ok-keys.ensures (ap (first_by key_cmp) (sym c.as_slice.ensures.value) ∙ sym c.least_key.ensures ∙ ap option_copied c.in_default.is))
 
 pub returns-in_default-open_act_on : goal.returns-in_default-open_act_on
 returns-in_default-open_act_on c =
     let least : first_by key_cmp c.in_ok-keys.keys.items ≡ Some c.in-Some.key.now = ap (first_by key_cmp) (sym c.as_slice.ensures.value) ∙ sym c.least_key.ensures ∙ ap option_copied c.in-Some.is in
-    absurd (has_act c.args.table.now c.requires.side (name_at c.args.table.now c.args.seat) c.args.exposed c.args.class c.requires.first c.in_ok-keys.keys.items c.in_ok-keys.ensures c.in-Some.key.now least (sym c.open_act_on.ensures ∙ c.in_default-open_act_on.is))
+    absurd (has_act c.args.table.now c.requires.side c.requires.bare (name_at c.args.table.now c.args.seat) c.args.exposed c.args.class c.requires.first c.in_ok-keys.keys.items c.in_ok-keys.ensures c.in-Some.key.now least (sym c.open_act_on.ensures ∙ c.in_default-open_act_on.is))
 
 pub returns : goal.returns
 returns c =
@@ -29,4 +29,4 @@ returns c =
     let key : c.in_ok-copy-2.field-0 ≡ c.in-Some.key.now = c.in_ok-copy-2.ensures in
     let made : MemberAct = record { «class» = c.in_ok-copy.field-0; key = c.in_ok-copy-2.field-0; act = c.in-Some-open_act_on.act } in
     let is : made ≡ record { «class» = name_at c.args.table.now c.args.class; key = c.in-Some.key.now; act = c.in-Some-open_act_on.act } = λ i. record { «class» = name i; key = key i; act = c.in-Some-open_act_on.act } in
-    ap Some is ∙ act_is c.args.table.now c.requires.side (name_at c.args.table.now c.args.seat) c.args.exposed c.args.class c.requires.first c.in_ok-keys.keys.items c.in_ok-keys.ensures c.in-Some.key.now least c.in-Some-open_act_on.act (sym c.open_act_on.ensures ∙ c.in-Some-open_act_on.is)
+    ap Some is ∙ act_is c.args.table.now c.requires.side c.requires.bare (name_at c.args.table.now c.args.seat) c.args.exposed c.args.class c.requires.first c.in_ok-keys.keys.items c.in_ok-keys.ensures c.in-Some.key.now least c.in-Some-open_act_on.act (sym c.open_act_on.ensures ∙ c.in-Some-open_act_on.is)

@@ -3,8 +3,12 @@ use Rattle.std.specs.List.{cons_option}
 use Rattle.std.specs.Str.{bytes_eq}
 use Rattle.jc_acts.specs.Touched.{flag_at}
 use Rattle.jc_exposed.specs.Named.{Lists}
+use Rattle.jc_exposed.proofs.MarkedLengths.{not_long}
 use Rattle.jc_exposed.proofs.NamedClasses.{found_not, found_one}
 use Rattle.jc_exposed.proofs.named.wanted_class.Goals as goal
+
+pub returns-then-not-may_be : goal.returns-then-not-may_be
+returns-then-not-may_be c = not_long c.args.table.now c.args.wanted.now c.args.lengths.now c.args.name.now c.requires.lengths (sym c.may_be.ensures ∙ c.if-not-may_be.true)
 
 pub returns-in-Some : goal.returns-in-Some
 returns-in-Some c =

@@ -17,4 +17,4 @@ loop-n-preserved c =
 pub returns : goal.returns
 returns c =
     let l : size c.args.table.now ≤ c.loop-n.n = omega (arith, c.count-n-end.ensures.count) in
-    noted_all c.args.table.now c.count-n-end.ensures.side c.args.of_old c.loop-n.n c.loop-n.notes.items l c.loop-n.invariant
+    noted_all c.args.table.now c.count-n-end.ensures.side c.requires c.args.of_old c.loop-n.n c.loop-n.notes.items l c.loop-n.invariant

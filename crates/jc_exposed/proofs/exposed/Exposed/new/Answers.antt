@@ -9,3 +9,6 @@ pub with_starts-requires-clause-rows : goal.with_starts-requires-clause-rows
 with_starts-requires-clause-rows c =
     none_wanted c.args.sides.now.old c.args.wanted.items c.in_ok-rows.rows.items (ap (list_any (λ w. w)) (sym c.as_slice.ensures.value) ∙ sym c.is_any_wanted.ensures ∙ c.if-not-is_any_wanted.true)
     (c.in_ok-rows.ensures.count ∙ ap (λ (s : SidesOf). size s.old) c.sides.view_is) c.in_ok-rows.ensures.empty
+
+pub exposing_rows-requires-clause-bare : goal.exposing_rows-requires-clause-bare
+exposing_rows-requires-clause-bare c = c.sides.invariant.sides.run.old_bare

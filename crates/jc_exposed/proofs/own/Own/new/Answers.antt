@@ -7,5 +7,5 @@ use Rattle.jc_exposed.proofs.own.Own.new.Goals as goal
 pub returns-clause-own : goal.returns-clause-own
 returns-clause-own c = record {
   marks = c.requires.wanted;
-  rows = subst (λ ws. AreOwnRows c.args.table.now (flag_at ws) (size c.args.table.now) c.in_ok-rows.rows.items) c.as_slice.ensures.value c.in_ok-rows.ensures;
+  rows = subst (λ ws. AreOwnRows c.args.table.now (flag_at ws) (size c.args.table.now) c.in_ok-rows.rows.items) c.as_slice-2.ensures.value c.in_ok-rows.ensures;
 }
