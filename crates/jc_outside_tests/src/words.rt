@@ -21,6 +21,7 @@ const CHECK: Check<'static> = Check {
     warn: false,
     signatures: false,
     dropped: false,
+    modular: false,
 };
 
 const CHECK_WITH_ALL: Check<'static> = Check {
@@ -35,12 +36,14 @@ const CHECK_WITH_ALL: Check<'static> = Check {
     warn: true,
     signatures: true,
     dropped: true,
+    modular: true,
 };
 
 const LINK: Link<'static> = Link {
     platform: "P",
     release: "R",
     client: "C",
+    modular: false,
 };
 
 const UNKNOWN_COMMANDS: &[&str] = &["", "compare", "--help", "\u{e9}"];
@@ -54,6 +57,7 @@ const WORDS_NOT_TAKEN: &[&str] = &[
     "check --platform P --old O --new N --gate",
     "check --platform P --old O --new N ",
     "link --release R --client C",
+    "history --platform P A B --modular",
     "make",
     "make 8 8",
 ];
@@ -95,7 +99,7 @@ fn reads_what_is_asked(rt: HostRuntime) {
     assert!(rt; asks(&rt, alloc, "check --platform P --old O --new N", &check));
     let with_all = Command::Check(CHECK_WITH_ALL);
     let line =
-        "check --warn --gate links,few --witness D --new=N --json --to 1.5.0 --from=1.4.0 --platform=P --signatures --dropped --old O";
+        "check --warn --gate links,few --witness D --new=N --json --to 1.5.0 --from=1.4.0 --platform=P --signatures --dropped --modular --old O";
     assert!(rt; asks(&rt, alloc, line, &with_all));
     let link = Command::Link(LINK);
     assert!(rt;
@@ -104,6 +108,18 @@ fn reads_what_is_asked(rt: HostRuntime) {
             alloc,
             "link --client C --release R --platform P",
             &link
+        )
+    );
+    let modular = Command::Link(Link {
+        modular: true,
+        ..LINK
+    });
+    assert!(rt;
+        asks(
+            &rt,
+            alloc,
+            "link --client C --modular --release R --platform P",
+            &modular
         )
     );
     let make = Command::Make(Make { classes: 64 });

@@ -6,14 +6,9 @@
 use Rattle.std.proofs.Common.{◌≡◌, ◌∙◌, List, [], ◌∷◌, map, refl, sym, ap, subst}
 use Rattle.std.specs.List.{All}
 use Rattle.std.proofs.lemmas.List.Elements.{All-from_recursion, recursion_from_All}
-use Rattle.jc_base.specs.Outside.{FileOf}
-use Rattle.jc_facts.specs.declared.class_facts.ClassFacts.{ClassFacts}
-use Rattle.jc_lemmas.proofs.Listed.{EachOf}
 use Rattle.jc_trees.specs.ClassLists.{IsReadList, StartsAs, kind_of}
 use Rattle.jc_trees.specs.declared.tree.TreeKind.{TreeKind}
-use Rattle.jc_trees.specs.declared.tree.TreeKind.TheVariants as kinds
 use Rattle.jc_trees.specs.declared.tree_read.TreeRead.{TreeRead}
-use Rattle.jc_trees.specs.declared.tree_read.TreeRead.TheVariants as reads
 
 pub first_of_kind : (all : List TreeRead) (kind : TreeKind) (others : List TreeKind) → map kind_of all ≡ kind ∷ others → StartsAs kind all
 first_of_kind [] kind others h = absurd (cc)

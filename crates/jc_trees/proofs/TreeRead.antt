@@ -17,7 +17,8 @@ use Rattle.jc_facts.proofs.Same.{same_is}
 use Rattle.jc_facts.proofs.OneList.{not_both, not_self}
 use Rattle.jc_lemmas.proofs.Listed.{EachOf, here, there, none, cases, each_in, not_any}
 use Rattle.jc_facts.proofs.ClassFiles.{one_record}
-use Rattle.std.proofs.lemmas.Bool.{ltb-false, ltb-true}
+use Rattle.jc_facts.proofs.ModuleFiles.{one_module}
+use Rattle.std.proofs.lemmas.Bool.{and_parts, ltb-false, ltb-true}
 use Rattle.std.proofs.lemmas.List.{length-map}
 use Rattle.jc_trees.specs.declared.trees_error.TreesError.{TreesError}
 use Rattle.jc_trees.specs.declared.trees_error.TreesError.TheVariants as trees_errors
@@ -25,11 +26,11 @@ use Rattle.jc_trees.specs.declared.file_fault.FileFault.{FileFault}
 use Rattle.jc_trees.specs.declared.file_fault.TreeFault.TheVariants as tree_faults
 use Rattle.jc_base.specs.States.{TreesState, Change}
 use Rattle.jc_trees.specs.declared.limits.TheConstants.{MAX_FILES, MAX_PATH}
-use Rattle.jc_trees.specs.ClassFiles.{Told, IsClassPathOf, AreClassPaths, path_of, items_in, IsReadIn, HasShortPaths, HasLongPath, IsFirstFault, IsClassIn, AreClasses}
+use Rattle.jc_trees.specs.ClassFiles.{Told, FileRead, ClassRead, ModuleRead, IsClassPathOf, AreClassPaths, reads_module, is_module_path, module_path, path_of, path_read, items_in, IsClassRead, IsReadIn, HasShortPaths, HasLongPath, IsFirstFault, IsFileIn, AreFiles}
 use Rattle.jc_trees.specs.Tree.{TreeOf}
 use Rattle.jc_trees.specs.declared.tree.TreeKind.{TreeKind}
 use Rattle.jc_trees.proofs.Results.{same_ok}
-use Rattle.jc_trees.specs.steps.ReadTree.{IsReadAt, AreReadAt, IsFirstOf, StopsAt, StopsIn}
+use Rattle.jc_trees.specs.steps.ReadTree.{IsFitRead, classes_in, IsReadAt, AreReadAt, IsFirstOf, StopsAt, StopsIn}
 use Rattle.jc_trees.specs.ClassLists.{IsClassList}
 
 -- ---- the order of paths
@@ -57,9 +58,21 @@ unfolding Rises
 rising_mapped name [] h = tt
 rising_mapped name (x ∷ xs) h = (each_mapped name (name x) xs h.0, rising_mapped name xs h.1)
 
--- classes of rising paths rise
-pub rising_classes : (cs : List ClientClass) (paths : List Bytes) → map (λ c. path_of c.facts.name) cs ≡ paths → NamesRise (λ p. p) paths → NamesRise (λ c. path_of c.facts.name) cs
-rising_classes cs paths is r = rising_mapped (λ (c : ClientClass). path_of c.facts.name) cs (subst (λ (ps : List Bytes). NamesRise (λ (p : Bytes). p) ps) (sym is) r)
+-- what is read of rising paths rises
+pub rising_files : (all : List FileRead) (paths : List Bytes) → map path_read all ≡ paths → NamesRise (λ p. p) paths → NamesRise path_read all
+rising_files all paths is r = rising_mapped path_read all (subst (λ (ps : List Bytes). NamesRise (λ (p : Bytes). p) ps) (sym is) r)
+
+-- and the classes among it rise
+each_class : (x : Bytes) (all : List FileRead) → EachOf (λ y. Before x (path_read y)) all → EachOf (λ c. Before x (path_of c.facts.name)) (classes_in all)
+each_class x [] h = tt
+each_class x (ClassRead c ∷ rest) h = (h.0, each_class x rest h.1)
+each_class x (ModuleRead packages ∷ rest) h = each_class x rest h.1
+
+rising_classes : (all : List FileRead) → NamesRise path_read all → NamesRise (λ c. path_of c.facts.name) (classes_in all)
+unfolding Rises
+rising_classes [] r = tt
+rising_classes (ClassRead c ∷ rest) r = (each_class (path_of c.facts.name) rest r.0, rising_classes rest r.1)
+rising_classes (ModuleRead packages ∷ rest) r = rising_classes rest r.1
 
 -- ---- the names of classes whose paths rise differ
 
@@ -81,27 +94,49 @@ unfolding differ_by_name Rises
 differ_rising [] r = refl
 differ_rising (c ∷ cs) r = differ_step (class_named (facts_of cs) c.facts.name) (differ_by_name (facts_of cs)) (not_named c.facts.name cs r.0) (differ_rising cs r.1)
 
--- classes that are read of a listing
-pub class_list : (cs : List ClientClass) (paths : List Bytes) → map (λ c. path_of c.facts.name) cs ≡ paths → NamesRise (λ p. p) paths → length paths ≤ MAX_FILES → All IsValidClient cs → All (λ c. HasShortNames c.facts) cs → IsClassList cs
-class_list cs paths is r few valid short =
-    let long : length cs ≡ length paths = sym (length-map cs (λ (c : ClientClass). path_of c.facts.name)) ∙ ap length is in
-    record { valid = valid; short = short; differ = differ_rising cs (rising_classes cs paths is r); few = omega (arith, few, long) }
+valid_classes : (all : List FileRead) → EachOf IsFitRead all → EachOf IsValidClient (classes_in all)
+valid_classes [] h = tt
+valid_classes (ClassRead c ∷ rest) h = (h.0.0, valid_classes rest h.1)
+valid_classes (ModuleRead packages ∷ rest) h = valid_classes rest h.1
+
+short_classes : (all : List FileRead) → EachOf IsFitRead all → EachOf (λ c. HasShortNames c.facts) (classes_in all)
+short_classes [] h = tt
+short_classes (ClassRead c ∷ rest) h = (h.0.1, short_classes rest h.1)
+short_classes (ModuleRead packages ∷ rest) h = short_classes rest h.1
+
+few_classes : (all : List FileRead) → length (classes_in all) ≤ length all
+few_classes [] = omega arith
+few_classes (ClassRead c ∷ rest) = let le = few_classes rest in omega arith
+few_classes (ModuleRead packages ∷ rest) = let le = few_classes rest in omega arith
+
+-- the classes that are read of a listing
+pub class_list : (all : List FileRead) (paths : List Bytes) → map path_read all ≡ paths → NamesRise (λ p. p) paths → length paths ≤ MAX_FILES → All IsFitRead all → IsClassList (classes_in all)
+class_list all paths is r few fit =
+    let long : length all ≡ length paths = sym (length-map all path_read) ∙ ap length is in
+    let less = few_classes all in
+    let each = recursion_from_All IsFitRead all fit in
+    record {
+      valid = All-from_recursion IsValidClient (classes_in all) (valid_classes all each);
+      short = All-from_recursion (λ c. HasShortNames c.facts) (classes_in all) (short_classes all each);
+      differ = differ_rising (classes_in all) (rising_classes all (rising_files all paths is r));
+      few = omega (arith, few, long, less);
+    }
 
 -- ---- what stands at a path
 
-record ReadThere (files : List FileOf) (tree : TreeOf) (path : Bytes) (cs : List ClientClass) : Type 0 where
-  class : ClientClass
-  is_in : Contains cs class
-  read : IsReadAt files tree path class
+record ReadThere (files : List FileOf) (tree : TreeOf) (path : Bytes) (all : List FileRead) : Type 0 where
+  found : FileRead
+  is_in : Contains all found
+  read : IsReadAt files tree path found
 
-read_there : (files : List FileOf) (tree : TreeOf) (paths : List Bytes) (cs : List ClientClass) (path : Bytes) → AreReadAt files tree paths cs → Contains paths path
-    → ReadThere files tree path cs
+read_there : (files : List FileOf) (tree : TreeOf) (paths : List Bytes) (all : List FileRead) (path : Bytes) → AreReadAt files tree paths all → Contains paths path
+    → ReadThere files tree path all
 read_there files tree [] [] path r c = absurd (none path c)
 read_there files tree (p ∷ ps) (h ∷ hs) path r c = go (cases p ps path c) (read_there files tree ps hs path r.1)
   where
     go : (p ≡ path) ⊎ Contains ps path → (Contains ps path → ReadThere files tree path hs) → ReadThere files tree path (h ∷ hs)
-    go (inl is) more = record { class = h; is_in = here h hs; read = subst (λ (q : Bytes). IsReadAt files tree q h) is r.0 }
-    go (inr k) more = let t = more k in record { class = t.class; is_in = there t.class h hs t.is_in; read = t.read }
+    go (inl is) more = record { found = h; is_in = here h hs; read = subst (λ (q : Bytes). IsReadAt files tree q h) is r.0 }
+    go (inr k) more = let t = more k in record { found = t.found; is_in = there t.found h hs t.is_in; read = t.read }
 read_there files tree [] (h ∷ hs) path r c = absurd r
 read_there files tree (p ∷ ps) [] path r c = absurd r
 
@@ -109,35 +144,51 @@ read_there files tree (p ∷ ps) [] path r c = absurd r
 pub one_file : (files : List FileOf) (root path a b : Bytes) → IsFileAt files root path a → IsFileAt files root path b → a ≡ b
 one_file files root path a b h k = let same : Some a ≡ Some b = sym h ∙ k in cc
 
-readable : (files : List FileOf) (tree : TreeOf) (path bytes : Bytes) (c : ClientClass) → IsFileAt files tree.root path bytes → IsReadAt files tree path c → IsReadIn tree.kind path bytes c
-readable files tree path bytes c is_file r = subst (λ (b : Bytes). IsReadIn tree.kind path b c) (one_file files tree.root path r.bytes bytes r.is_file is_file) r.is_read
+readable : (files : List FileOf) (tree : TreeOf) (path bytes : Bytes) (read : FileRead) → IsFileAt files tree.root path bytes → IsReadAt files tree path read → IsReadIn tree.kind path bytes read
+readable files tree path bytes read is_file r = subst (λ (b : Bytes). IsReadIn tree.kind path b read) (one_file files tree.root path r.bytes bytes r.is_file is_file) r.is_read
+
+-- what is read stands at its place
+pub place_read : (kind : TreeKind) (path bytes : Bytes) (read : FileRead) → IsReadIn kind path bytes read → path ≡ path_read read
+place_read kind path bytes (ClassRead c) h = h.facts.place
+place_read kind path bytes (ModuleRead packages) h = same_is path module_path (and_parts (reads_module kind) (same path module_path) h.of_module).1
+
+-- a path isn't that of a module's file, and that of one
+pub two_places : {P : Type 0} (b : Bool) → b ≡ false → b ≡ true → P
+two_places b isnt is = absurd (let clash : true ≡ false = sym is ∙ isnt in cc)
 
 -- a file is read as one class
-pub one_class : (kind : TreeKind) (path bytes : Bytes) (a b : ClientClass) → IsReadIn kind path bytes a → IsReadIn kind path bytes b → a ≡ b
+one_class : (kind : TreeKind) (path bytes : Bytes) (a b : ClientClass) → IsClassRead kind path bytes a → IsClassRead kind path bytes b → a ≡ b
 one_class kind path bytes a b h k =
     ap (λ (f : ClassFacts). let c : ClientClass = record { facts = f; items = a.items } in c) (one_record bytes a.facts b.facts h.facts.reads k.facts.reads)
     ∙ ap (λ (is : List Item). let c : ClientClass = record { facts = b.facts; items = is } in c) (same_ok (items_in kind bytes) a.items b.items h.code k.code)
 
+-- and as one thing
+one_file_read : (kind : TreeKind) (path bytes : Bytes) (a b : FileRead) → IsReadIn kind path bytes a → IsReadIn kind path bytes b → a ≡ b
+one_file_read kind path bytes (ClassRead a) (ClassRead b) h k = ap ClassRead (one_class kind path bytes a b h k)
+one_file_read kind path bytes (ClassRead a) (ModuleRead qs) h k = two_places (is_module_path kind path) h.no_module k.of_module
+one_file_read kind path bytes (ModuleRead ps) (ClassRead b) h k = two_places (is_module_path kind path) k.no_module h.of_module
+one_file_read kind path bytes (ModuleRead ps) (ModuleRead qs) h k = ap ModuleRead (one_module bytes ps qs h.reads k.reads)
+
 -- ---- the tree
 
-classes_in : (files : List FileOf) (tree : TreeOf) (paths : List Bytes) (cs : List ClientClass) → EachOf (IsClassPathOf files tree.root) paths → AreReadAt files tree paths cs
-    → EachOf (IsClassIn files tree) cs
-classes_in files tree [] [] c r = tt
-classes_in files tree (p ∷ ps) (h ∷ hs) c r = (
+files_in : (files : List FileOf) (tree : TreeOf) (paths : List Bytes) (all : List FileRead) → EachOf (IsClassPathOf files tree) paths → AreReadAt files tree paths all
+    → EachOf (IsFileIn files tree) all
+files_in files tree [] [] c r = tt
+files_in files tree (p ∷ ps) (h ∷ hs) c r = (
   record {
     path = p;
     bytes = r.0.bytes;
     is_file = record { is_file = r.0.is_file; named = c.0.named };
     is_read = r.0.is_read;
   },
-  classes_in files tree ps hs c.1 r.1,
+  files_in files tree ps hs c.1 r.1,
 )
-classes_in files tree [] (h ∷ hs) c r = absurd r
-classes_in files tree (p ∷ ps) [] c r = absurd r
+files_in files tree [] (h ∷ hs) c r = absurd r
+files_in files tree (p ∷ ps) [] c r = absurd r
 
 -- no path of the list is too long
-pub short_paths : (files : List FileOf) (root : Bytes) (paths : List Bytes) → AreClassPaths files root paths → list_any (λ p. nat_lt MAX_PATH (length p)) paths ≡ false → HasShortPaths files root
-short_paths files root paths are short path is_path = ltb-false _ _ (not_any (λ p. nat_lt MAX_PATH (length p)) paths path short (are.complete path is_path))
+pub short_paths : (files : List FileOf) (tree : TreeOf) (paths : List Bytes) → AreClassPaths files tree paths → list_any (λ p. nat_lt MAX_PATH (length p)) paths ≡ false → HasShortPaths files tree
+short_paths files tree paths are short path is_path = ltb-false _ _ (not_any (λ p. nat_lt MAX_PATH (length p)) paths path short (are.complete path is_path))
 
 record Long (paths : List Bytes) : Type 0 where
   path : Bytes
@@ -152,43 +203,43 @@ some_long (p ∷ ps) e = go (nat_lt MAX_PATH (length p)) refl e (some_long ps)
     go true q e more = record { path = p; is_in = here p ps; long = q }
     go false q e more = let l = more e in record { path = l.path; is_in = there l.path p ps l.is_in; long = l.long }
 
-pub long_path : (files : List FileOf) (root : Bytes) (paths : List Bytes) → AreClassPaths files root paths → list_any (λ p. nat_lt MAX_PATH (length p)) paths ≡ true → HasLongPath files root
-long_path files root paths are e =
+pub long_path : (files : List FileOf) (tree : TreeOf) (paths : List Bytes) → AreClassPaths files tree paths → list_any (λ p. nat_lt MAX_PATH (length p)) paths ≡ true → HasLongPath files tree
+long_path files tree paths are e =
     let l = some_long paths e in
-    record { path = l.path; is_path = each_in (IsClassPathOf files root) paths l.path (recursion_from_All (IsClassPathOf files root) paths are.sound) l.is_in; long = ltb-true _ _ l.long }
+    record { path = l.path; is_path = each_in (IsClassPathOf files tree) paths l.path (recursion_from_All (IsClassPathOf files tree) paths are.sound) l.is_in; long = ltb-true _ _ l.long }
 
-pub classes_are : (files : List FileOf) (tree : TreeOf) (paths : List Bytes) (cs : List ClientClass) → AreClassPaths files tree.root paths → length paths ≤ MAX_FILES
-    → list_any (λ p. nat_lt MAX_PATH (length p)) paths ≡ false → AreReadAt files tree paths cs → map (λ c. path_of c.facts.name) cs ≡ paths → AreClasses files tree cs
-classes_are files tree paths cs exact few short r named = record {
+pub files_are : (files : List FileOf) (tree : TreeOf) (paths : List Bytes) (all : List FileRead) → AreClassPaths files tree paths → length paths ≤ MAX_FILES
+    → list_any (λ p. nat_lt MAX_PATH (length p)) paths ≡ false → AreReadAt files tree paths all → map path_read all ≡ paths → AreFiles files tree all
+files_are files tree paths all exact few short r named = record {
   clean = record {
     few = record { paths = paths; are = exact; few = few };
-    short = short_paths files tree.root paths exact short;
+    short = short_paths files tree paths exact short;
     read = λ path bytes f.
-        let t = read_there files tree paths cs path r (exact.complete path (record { held = (bytes, f.is_file); named = f.named })) in
-        (t.class, readable files tree path bytes t.class f.is_file t.read);
+        let t = read_there files tree paths all path r (exact.complete path (record { held = (bytes, f.is_file); named = f.named })) in
+        (t.found, readable files tree path bytes t.found f.is_file t.read);
   };
   exact = record {
-    in_order = rising_classes cs paths named exact.in_order;
-    sound = All-from_recursion (IsClassIn files tree) cs (classes_in files tree paths cs (recursion_from_All (IsClassPathOf files tree.root) paths exact.sound) r);
-    complete = λ class i.
-        let t = read_there files tree paths cs i.path r (exact.complete i.path (record { held = (i.bytes, i.is_file.is_file); named = i.is_file.named })) in
-        let h = readable files tree i.path i.bytes t.class i.is_file.is_file t.read in
-        let is : t.class ≡ class = one_class tree.kind i.path i.bytes t.class class h i.is_read in
-        subst (λ (k : ClientClass). Contains cs k) is t.is_in;
+    in_order = rising_files all paths named exact.in_order;
+    sound = All-from_recursion (IsFileIn files tree) all (files_in files tree paths all (recursion_from_All (IsClassPathOf files tree) paths exact.sound) r);
+    complete = λ read i.
+        let t = read_there files tree paths all i.path r (exact.complete i.path (record { held = (i.bytes, i.is_file.is_file); named = i.is_file.named })) in
+        let h = readable files tree i.path i.bytes t.found i.is_file.is_file t.read in
+        let is : t.found ≡ read = one_file_read tree.kind i.path i.bytes t.found read h i.is_read in
+        subst (λ (k : FileRead). Contains all k) is t.is_in;
   };
 }
 
-pub first_fault : (files : List FileOf) (tree : TreeOf) (paths : List Bytes) (path : Bytes) (fault : FileFault) → AreClassPaths files tree.root paths → IsFirstOf files tree paths path fault
+pub first_fault : (files : List FileOf) (tree : TreeOf) (paths : List Bytes) (path : Bytes) (fault : FileFault) → AreClassPaths files tree paths → IsFirstOf files tree paths path fault
     → IsFirstFault files tree path fault
 first_fault files tree paths path fault exact f = record {
   bytes = f.fault_is.bytes;
-  is_file = record { is_file = f.fault_is.is_file; named = (each_in (IsClassPathOf files tree.root) paths path (recursion_from_All (IsClassPathOf files tree.root) paths exact.sound) is_in).named };
+  is_file = record { is_file = f.fault_is.is_file; named = (each_in (IsClassPathOf files tree) paths path (recursion_from_All (IsClassPathOf files tree) paths exact.sound) is_in).named };
   is_fault = f.fault_is.is_fault;
   before = λ other bytes k b.
       let listed : Contains paths other = exact.complete other (record { held = (bytes, k.is_file); named = k.named }) in
-      let t = read_there files tree f.front f.classes other f.read
+      let t = read_there files tree f.front f.all other f.read
       (in_front f.front f.back path other (subst (λ (ps : List Bytes). NamesRise (λ (p : Bytes). p) ps) f.whole exact.in_order) (subst (λ (ps : List Bytes). Contains ps other) f.whole listed) b) in
-      (t.class, readable files tree other bytes t.class k.is_file t.read);
+      (t.found, readable files tree other bytes t.found k.is_file t.read);
 }
   where
     behind : (front : List Bytes) → Contains (front ++ path ∷ f.back) path
@@ -209,14 +260,14 @@ stops_file c tree paths path fault error (inr is) f = subst (λ (e : TreesError)
 pub rose_since : (before middle after : ℕ) → before ≤ middle → Rose middle after → Rose before after
 rose_since before middle after le rose = omega arith
 
-pub stops_in : (a b c : TreesState) (tree : TreeOf) (paths : List Bytes) → Told a.content (λ files. AreClassPaths files tree.root paths)
+pub stops_in : (a b c : TreesState) (tree : TreeOf) (paths : List Bytes) → Told a.content (λ files. AreClassPaths files tree paths)
     → length paths ≤ MAX_FILES → list_any (λ p. nat_lt MAX_PATH (length p)) paths ≡ false → b.content ≡ a.content → ((r : Bytes) → a.faults r ≤ b.faults r)
     → (error : TreesError) → StopsAt (record { before = b; after = c }) tree paths error → StopsIn (record { before = a; after = c }) tree error
 stops_in a b c tree paths exact few short same le (trees_errors.Unread t (tree_faults.File path fault)) s = (
   s.0,
   λ files told. (
     record { paths = paths; are = exact files told; few = few },
-    short_paths files tree.root paths (exact files told) short,
+    short_paths files tree paths (exact files told) short,
     first_fault files tree paths path fault (exact files told) (s.1 files (same ∙ told)),
   ),
 )

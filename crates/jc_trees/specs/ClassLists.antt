@@ -29,11 +29,13 @@ pub record IsRecordList (records : List ClassFacts) : Type 0 where
 -- what is read of a tree
 abbrev pub IsReadList : TreeRead → Type 0
 IsReadList (reads.Library records) = IsRecordList records
+IsReadList (reads.Modular m) = IsRecordList m.records
 IsReadList (reads.Clients cs) = IsClassList cs
 
 -- as what it is read
 abbrev pub kind_of : TreeRead → TreeKind
 kind_of (reads.Library records) = kinds.Library
+kind_of (reads.Modular m) = kinds.Modular
 kind_of (reads.Clients cs) = kinds.Clients
 
 -- the first tree of all that were read was read so

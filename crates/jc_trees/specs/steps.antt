@@ -1,1 +1,2 @@
+pub mod ModularFile
 pub mod ReadTree

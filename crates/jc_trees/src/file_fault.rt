@@ -9,7 +9,7 @@ use jc_facts::code_fault::CodeReason;
 pub enum FileFault {
     /// It has more bytes than the limit.
     TooLong,
-    /// It is no class file (JVMS 4.1).
+    /// It is no class file, or, where it is read as the file of a module, none of these (JVMS 4.1).
     Malformed(Malformed),
     /// It is that of a class of this name, which belongs elsewhere.
     Misplaced(Name),

@@ -1,35 +1,36 @@
 //! Reading the class files of a tree.
-ghost use Rattle.std.specs.Prelude.{◌≡◌, ◌≤◌, ◌⊎◌, ℕ, List, map, length, nat_lt, IfOk, IfErr, IsErrOf};
+ghost use Rattle.std.specs.Prelude.{◌≡◌, ◌≤◌, ◌⊎◌, ◌++◌, ◌∷◌, [], ℕ, List, map, length, nat_lt, IfOk, IfErr, IsErrOf, OnOk};
 ghost use Rattle.std.specs.List.{All, filter, list_any};
+ghost use Rattle.std.specs.Option.{option_or};
 ghost use Rattle.jc_base.specs.Causes.{Rose};
 ghost use Rattle.jc_base.specs.Outside.{Holds};
 ghost use Rattle.jc_base.specs.States.{change};
-ghost use Rattle.jc_bodies.specs.Files.{HasShortNames};
 ghost use Rattle.jc_facts.specs.Exactly.{NamesRise};
-ghost use Rattle.jc_facts.specs.client.Clients.{IsValidClient};
-ghost use Rattle.jc_trees.specs.ClassFiles.{Told, is_class_path as is_class, path_of, AreClassPaths, AreClasses, AreRecords};
+ghost use Rattle.jc_trees.specs.ClassFiles.{Told, is_class_path as is_class, path_read, records_in, exports_in, AreClassPaths, AreFiles, AreClasses, AreRecords, AreModular};
 ghost use Rattle.jc_trees.specs.TreeView.{tree_of};
 ghost use Rattle.jc_trees.specs.ClassLists.{IsClassList, IsRecordList, IsReadList, kind_of};
 ghost use Rattle.jc_trees.specs.ReadTrees.{Gives};
 ghost use Rattle.jc_trees.specs.declared.tree.TreeKind.{TreeKind};
-ghost use Rattle.jc_trees.specs.steps.ReadTree.{IsReadAt, IsFaultAt, AreReadAt, StopsAt, StopsIn, error_by};
+ghost use Rattle.jc_trees.specs.steps.ReadTree.{IsReadAt, IsFaultAt, IsFitRead, AreReadAt, classes_in, StopsAt, StopsIn, error_by};
+ghost use Rattle.jc_trees.specs.steps.ModularFile.{modular_read};
 ghost use Rattle.jc_trees.specs.declared.trees_error.TreesError.{TreesError};
 ghost use Rattle.jc_trees.specs.declared.file_fault.TreeFault.{TreeFault};
 
-use crate::class_file::{FromFile, is_class_path};
+use crate::class_file::{FromFile, ModularFile, is_class_path};
 use crate::file_fault::{FileFault, TreeFault};
 use crate::limits::{MAX_BYTES, MAX_FILES, MAX_PATH};
 use crate::tree::{Tree, TreeKind, TreeName};
-use crate::tree_read::TreeRead;
+use crate::tree_read::{ModularRead, TreeRead};
 use crate::trees_error::TreesError;
 use jc_base::file_buf::FileBuf;
 use jc_base::items::Items;
+use jc_base::name::Name;
 use jc_base::recent_names::RecentNames;
 use jc_base::text::Text;
 use jc_base::trees::{TreeError, Trees};
 use jc_facts::class_facts::ClassFacts;
 use jc_facts::client::ClientClass;
-use std::alloc::Global;
+use std::alloc::{AllocError, Global};
 
 // Why the tree isn't read where a call on it failed.
 fn error_of(name: TreeName, error: TreeError) -> TreesError
@@ -42,27 +43,31 @@ fn error_of(name: TreeName, error: TreeError) -> TreesError
 }
 
 // Keeps the paths of class files.
-fn keep_class_files(paths: &mut Vec<Text>)
-    ensures { paths.new.items ≡ filter is_class paths.old.items }
+fn keep_class_files(kind: TreeKind, paths: &mut Vec<Text>)
+    ensures { paths.new.items ≡ filter (is_class kind) paths.old.items }
 {
-    paths.retain(|path| is_class_path(path.as_str().as_bytes()));
+    paths.retain(|path| is_class_path(kind, path.as_str().as_bytes()));
 }
 
-// The paths of a root's class files, in order.
-fn class_paths<T: Trees>(alloc: Global, root: &str, trees: &mut T) -> Result<Vec<Text>, TreeError>
-    ensures held { IfOk result (λ paths. All (Holds (T.state trees.old).content root.now) paths.items) }
+// The paths of a tree's class files, in order.
+fn class_paths<T: Trees>(
+    alloc: Global,
+    tree: &Tree<'_>,
+    trees: &mut T,
+) -> Result<Vec<Text>, TreeError>
+    ensures held { IfOk result (λ paths. All (Holds (T.state trees.old).content tree.now.root.now) paths.items) }
     ensures rising { IfOk result (λ paths. NamesRise (λ p. p) paths.items) }
-    ensures exact { IfOk result (λ paths. Told (T.state trees.old).content (λ files. AreClassPaths files root.now paths.items)) }
+    ensures exact { IfOk result (λ paths. Told (T.state trees.old).content (λ files. AreClassPaths files (tree_of tree.now) paths.items)) }
     ensures content { (T.state trees.new).content ≡ (T.state trees.old).content }
     ensures never_falls { (r : List ℕ) → (T.state trees.old).faults r ≤ (T.state trees.new).faults r }
-    ensures cause { IsErrOf result TreeError.Fault → Rose ((T.state trees.old).faults root.now) ((T.state trees.new).faults root.now) }
+    ensures cause { IsErrOf result TreeError.Fault → Rose ((T.state trees.old).faults tree.now.root.now) ((T.state trees.new).faults tree.now.root.now) }
 {
-    let mut paths = trees.list(alloc, root)?;
+    let mut paths = trees.list(alloc, tree.root)?;
     match paths.sort() {
         Ok(()) => {}
         Err(_) => return Err(TreeError::Memory),
     }
-    keep_class_files(&mut paths);
+    keep_class_files(tree.kind, &mut paths);
     Ok(paths)
 }
 
@@ -78,10 +83,9 @@ fn read_one<T: Trees, C: FromFile>(
     requires kind { C.kind ≡ tree.now.kind }
     requires held { Holds (T.state trees.old).content tree.now.root.now path.now }
     requires short { length path.now ≤ MAX_PATH }
-    ensures read { IfOk result (λ found. IfOk found (λ c. Told (T.state trees.old).content (λ files. IsReadAt files (tree_of tree.now) path.now (C.client c)))) }
-    ensures named { IfOk result (λ found. IfOk found (λ c. path.now ≡ path_of (C.client c).facts.name)) }
-    ensures valid { IfOk result (λ found. IfOk found (λ c. IsValidClient (C.client c))) }
-    ensures short { IfOk result (λ found. IfOk found (λ c. HasShortNames (C.client c).facts)) }
+    ensures read { IfOk result (λ found. IfOk found (λ c. Told (T.state trees.old).content (λ files. IsReadAt files (tree_of tree.now) path.now (C.says c)))) }
+    ensures named { IfOk result (λ found. IfOk found (λ c. path.now ≡ path_read (C.says c))) }
+    ensures fit { IfOk result (λ found. IfOk found (λ c. IsFitRead (C.says c))) }
     ensures fault { IfOk result (λ found. IfErr found (λ fault. Told (T.state trees.old).content (λ files. IsFaultAt files (tree_of tree.now) path.now fault))) }
     ensures content { (T.state trees.new).content ≡ (T.state trees.old).content }
     ensures never_falls { (r : List ℕ) → (T.state trees.old).faults r ≤ (T.state trees.new).faults r }
@@ -89,7 +93,7 @@ fn read_one<T: Trees, C: FromFile>(
 {
     trees.read_into(alloc, tree.root, path, MAX_BYTES, buffer)?;
     match C::from_file(alloc, recent, path, buffer.as_bytes()) {
-        Ok(Ok(class)) => Ok(Ok(class)),
+        Ok(Ok(file)) => Ok(Ok(file)),
         Ok(Err(fault)) => Ok(Err(fault)),
         Err(_) => Err(TreeError::Memory),
     }
@@ -118,18 +122,17 @@ fn read_all<T: Trees, C: FromFile>(
     requires kind { C.kind ≡ tree.now.kind }
     requires held { All (Holds (T.state trees.old).content tree.now.root.now) paths.now }
     requires short { All (λ path. length path ≤ MAX_PATH) paths.now }
-    ensures read { IfOk result (λ classes. Told (T.state trees.old).content (λ files. AreReadAt files (tree_of tree.now) paths.now (map C.client classes.items))) }
-    ensures named { IfOk result (λ classes. map (λ c. path_of c.facts.name) (map C.client classes.items) ≡ paths.now) }
-    ensures valid { IfOk result (λ classes. All IsValidClient (map C.client classes.items)) }
-    ensures short { IfOk result (λ classes. All (λ c. HasShortNames c.facts) (map C.client classes.items)) }
+    ensures read { IfOk result (λ all. Told (T.state trees.old).content (λ files. AreReadAt files (tree_of tree.now) paths.now (map C.says all.items))) }
+    ensures named { IfOk result (λ all. map path_read (map C.says all.items) ≡ paths.now) }
+    ensures fit { IfOk result (λ all. All IsFitRead (map C.says all.items)) }
     ensures stopped { IfErr result (StopsAt (change T.state trees.old trees.new) (tree_of tree.now) paths.now) }
     ensures content { (T.state trees.new).content ≡ (T.state trees.old).content }
     ensures never_falls { (r : List ℕ) → (T.state trees.old).faults r ≤ (T.state trees.new).faults r }
 {
-    let mut classes: Vec<C> = Vec::new(alloc);
+    let mut all: Vec<C> = Vec::new(alloc);
     for path in paths {
         match read_one(alloc, tree, path.as_str(), trees, buffer, recent) {
-            Ok(Ok(class)) => match classes.push(class) {
+            Ok(Ok(file)) => match all.push(file) {
                 Ok(()) => {}
                 Err(_) => return Err(TreesError::Memory),
             },
@@ -137,7 +140,7 @@ fn read_all<T: Trees, C: FromFile>(
             Err(error) => return Err(error_of(tree.name, error)),
         }
     }
-    Ok(classes)
+    Ok(all)
 }
 
 // Whether one of the paths has too many bytes.
@@ -148,7 +151,7 @@ fn has_long_path(paths: &[Text]) -> bool
 }
 
 // What a tree's class files are read as, in the order of their paths, or why it isn't read.
-fn classes_of<T: Trees, C: FromFile>(
+fn files_of<T: Trees, C: FromFile>(
     alloc: Global,
     tree: &Tree<'_>,
     trees: &mut T,
@@ -156,13 +159,13 @@ fn classes_of<T: Trees, C: FromFile>(
     recent: &RecentNames,
 ) -> Result<Vec<C>, TreesError>
     requires kind { C.kind ≡ tree.now.kind }
-    ensures read { IfOk result (λ classes. Told (T.state trees.old).content (λ files. AreClasses files (tree_of tree.now) (map C.client classes.items))) }
-    ensures classes { IfOk result (λ classes. IsClassList (map C.client classes.items)) }
+    ensures read { IfOk result (λ all. Told (T.state trees.old).content (λ files. AreFiles files (tree_of tree.now) (map C.says all.items))) }
+    ensures classes { IfOk result (λ all. IsClassList (classes_in (map C.says all.items))) }
     ensures stopped { IfErr result (StopsIn (change T.state trees.old trees.new) (tree_of tree.now)) }
     ensures content { (T.state trees.new).content ≡ (T.state trees.old).content }
     ensures never_falls { (r : List ℕ) → (T.state trees.old).faults r ≤ (T.state trees.new).faults r }
 {
-    let paths = match class_paths(alloc, tree.root, trees) {
+    let paths = match class_paths(alloc, tree, trees) {
         Ok(paths) => paths,
         Err(error) => return Err(error_of(tree.name, error)),
     };
@@ -173,7 +176,7 @@ fn classes_of<T: Trees, C: FromFile>(
         return Err(TreesError::Unread(tree.name, TreeFault::LongPath));
     }
     match read_all(alloc, tree, paths.as_slice(), trees, buffer, recent) {
-        Ok(classes) => Ok(classes),
+        Ok(all) => Ok(all),
         Err(error) => Err(error),
     }
 }
@@ -193,9 +196,69 @@ fn library<T: Trees>(
     ensures content { (T.state trees.new).content ≡ (T.state trees.old).content }
     ensures never_falls { (r : List ℕ) → (T.state trees.old).faults r ≤ (T.state trees.new).faults r }
 {
-    match classes_of(alloc, tree, trees, buffer, recent) {
+    match files_of(alloc, tree, trees, buffer, recent) {
         Ok(records) => Ok(records),
         Err(error) => Err(error),
+    }
+}
+
+// Puts one more file to those before it: its record behind theirs, or what it exports where none of them
+// is the file of a module.
+fn put_file(
+    file: ModularFile,
+    records: &mut Vec<ClassFacts>,
+    exports: Option<Items<Name>>,
+) -> Result<Option<Items<Name>>, AllocError>
+    ensures records { OnOk result (records.new.items ≡ records.old.items ++ records_in (modular_read file ∷ [])) }
+    ensures exports { IfOk result (λ found. found ≡ option_or exports (exports_in (modular_read file ∷ []))) }
+{
+    match file {
+        ModularFile::Class(facts) => {
+            records.push(facts)?;
+            Ok(exports)
+        }
+        ModularFile::Module(packages) => Ok(exports.or(Some(packages))),
+    }
+}
+
+// The records of the classes among files, and what the file of a module among them exports.
+fn parted(alloc: Global, files: Vec<ModularFile>) -> Result<ModularRead, AllocError>
+    ensures records { IfOk result (λ read. read.records ≡ records_in (map modular_read files.items)) }
+    ensures exports { IfOk result (λ read. read.exports ≡ exports_in (map modular_read files.items)) }
+{
+    let mut records = Vec::with_capacity(alloc, files.len())?;
+    let mut exports = None;
+    for file in files {
+        exports = put_file(file, &mut records, exports)?;
+    }
+    Ok(ModularRead {
+        records: Items::from_vec(records),
+        exports,
+    })
+}
+
+// A library that may be a named module.
+fn modular<T: Trees>(
+    alloc: Global,
+    tree: &Tree<'_>,
+    trees: &mut T,
+    buffer: &mut FileBuf,
+    recent: &RecentNames,
+) -> Result<ModularRead, TreesError>
+    requires kind { tree.now.kind ≡ TreeKind.Modular }
+    ensures read { IfOk result (λ read. Told (T.state trees.old).content (λ files. AreModular files (tree_of tree.now) read.records read.exports)) }
+    ensures list { IfOk result (λ read. IsRecordList read.records) }
+    ensures stopped { IfErr result (StopsIn (change T.state trees.old trees.new) (tree_of tree.now)) }
+    ensures content { (T.state trees.new).content ≡ (T.state trees.old).content }
+    ensures never_falls { (r : List ℕ) → (T.state trees.old).faults r ≤ (T.state trees.new).faults r }
+{
+    let files = match files_of(alloc, tree, trees, buffer, recent) {
+        Ok(files) => files,
+        Err(error) => return Err(error),
+    };
+    match parted(alloc, files) {
+        Ok(read) => Ok(read),
+        Err(_) => Err(TreesError::Memory),
     }
 }
 
@@ -214,7 +277,7 @@ fn clients<T: Trees>(
     ensures content { (T.state trees.new).content ≡ (T.state trees.old).content }
     ensures never_falls { (r : List ℕ) → (T.state trees.old).faults r ≤ (T.state trees.new).faults r }
 {
-    match classes_of(alloc, tree, trees, buffer, recent) {
+    match files_of(alloc, tree, trees, buffer, recent) {
         Ok(clients) => Ok(clients),
         Err(error) => Err(error),
     }
@@ -227,7 +290,7 @@ fn clients<T: Trees>(
 ///
 /// `TreesError::Unread` with what stands in the way first: too many class files, a path that is too long,
 /// or, in the order of paths, a file that is too long, malformed or misplaced, or a client's whose code is
-/// refused. `Fault` where a call on the tree failed, and `Memory` where memory runs out.
+/// refused; of a library that may be a named module the file of the module too, which has no place. `Fault` where a call on the tree failed, and `Memory` where memory runs out.
 pub fn read_tree<T: Trees>(
     alloc: Global,
     tree: &Tree<'_>,
@@ -245,6 +308,10 @@ pub fn read_tree<T: Trees>(
     match tree.kind {
         TreeKind::Library => match library(alloc, tree, trees, buffer, recent) {
             Ok(records) => Ok(TreeRead::Library(Items::from_vec(records))),
+            Err(error) => Err(error),
+        },
+        TreeKind::Modular => match modular(alloc, tree, trees, buffer, recent) {
+            Ok(read) => Ok(TreeRead::Modular(read)),
             Err(error) => Err(error),
         },
         TreeKind::Clients => match clients(alloc, tree, trees, buffer, recent) {

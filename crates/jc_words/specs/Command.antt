@@ -11,8 +11,8 @@ use Rattle.jc_words.specs.declared.usage.Usage.{Usage}
 use Rattle.jc_words.specs.declared.usage.Usage.TheVariants as usages
 
 -- a check of two releases: the roots of the platform and of both, the folder for the witnesses where they are wanted, whether the report is JSON,
--- the names of the gates that are asked, the versions of the old and of the new release, where they are said, and whether warnings, notes
--- on generic signatures and dropped interfaces are reported
+-- the names of the gates that are asked, the versions of the old and of the new release, where they are said, whether warnings, notes
+-- on generic signatures and dropped interfaces are reported, and whether the releases may be named modules
 pub record CheckOf : Type 0 where
   pub platform : Text
   pub old : Text
@@ -25,12 +25,14 @@ pub record CheckOf : Type 0 where
   pub warn : Bool
   pub signatures : Bool
   pub dropped : Bool
+  pub modular : Bool
 
--- the linking of clients: the roots of the platform, of the release and of the clients
+-- the linking of clients: the roots of the platform, of the release and of the clients, and whether the release may be a named module
 pub record LinkOf : Type 0 where
   pub platform : Text
   pub release : Text
   pub client : Text
+  pub modular : Bool
 
 -- a row of releases: the roots of the platform and of each release, from the first to the last
 pub record HistoryOf : Type 0 where
@@ -51,7 +53,7 @@ abbrev pub check_arguments : App
 check_arguments = command_with (codes "check")
     (required_rule (codes "platform") ∷ required_rule (codes "old") ∷ required_rule (codes "new")
     ∷ option_rule (codes "witness") ∷ flag_rule (codes "json") ∷ option_rule (codes "gate") ∷ option_rule (codes "from") ∷ option_rule (codes "to") ∷ flag_rule (codes "warn")
-    ∷ flag_rule (codes "signatures") ∷ flag_rule (codes "dropped") ∷ [])
+    ∷ flag_rule (codes "signatures") ∷ flag_rule (codes "dropped") ∷ flag_rule (codes "modular") ∷ [])
 
 -- the gates that a value of `--gate` names, which is cut at each comma, or the one gate without it
 abbrev pub gate_names : Option Text → List Text
@@ -72,6 +74,7 @@ check_in rows = record {
   warn = is_on (codes "warn") rows;
   signatures = is_on (codes "signatures") rows;
   dropped = is_on (codes "dropped") rows;
+  modular = is_on (codes "modular") rows;
 }
 
 -- the check of the words after `check`, where `clap` takes them
@@ -82,7 +85,7 @@ check_by words = option_map check_in (taken check_arguments words)
 
 abbrev pub link_arguments : App
 link_arguments = command_with (codes "link")
-    (required_rule (codes "platform") ∷ required_rule (codes "release") ∷ required_rule (codes "client") ∷ [])
+    (required_rule (codes "platform") ∷ required_rule (codes "release") ∷ required_rule (codes "client") ∷ flag_rule (codes "modular") ∷ [])
 
 -- the linking of these matches
 abbrev pub link_in : List Row → LinkOf
@@ -90,6 +93,7 @@ link_in rows = record {
   platform = value_of (codes "platform") rows;
   release = value_of (codes "release") rows;
   client = value_of (codes "client") rows;
+  modular = is_on (codes "modular") rows;
 }
 
 -- the linking of the words after `link`, where `clap` takes them

@@ -20,10 +20,11 @@ check_of c = record {
   warn = c.warn;
   signatures = c.signatures;
   dropped = c.dropped;
+  modular = c.modular;
 }
 
 abbrev pub link_of : Link → LinkOf
-link_of l = record { platform = l.platform.now; release = l.release.now; client = l.client.now }
+link_of l = record { platform = l.platform.now; release = l.release.now; client = l.client.now; modular = l.modular }
 
 abbrev pub history_of : History → HistoryOf
 history_of h = record { platform = h.platform.now; releases = map (λ root. root.now) h.releases.items }

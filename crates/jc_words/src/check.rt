@@ -33,6 +33,8 @@ pub struct Check<'a> {
     pub signatures: bool,
     /// Whether the report has the interfaces that classes drop.
     pub dropped: bool,
+    /// Whether a file `module-info.class` at the root of a release makes it a named module.
+    pub modular: bool,
 }
 
 impl<'a> Check<'a> {
@@ -65,6 +67,7 @@ impl<'a> Check<'a> {
             warn: is_on(matches, "warn"),
             signatures: is_on(matches, "signatures"),
             dropped: is_on(matches, "dropped"),
+            modular: is_on(matches, "modular"),
         }
     }
 
@@ -121,5 +124,6 @@ fn arguments<'a>(alloc: Global) -> Result<Command<'a>, AllocError>
         .arg(option(alloc, "to"))?
         .arg(flag(alloc, "warn"))?
         .arg(flag(alloc, "signatures"))?
-        .arg(flag(alloc, "dropped"))
+        .arg(flag(alloc, "dropped"))?
+        .arg(flag(alloc, "modular"))
 }

@@ -16,9 +16,11 @@ pub fn options_in_any_order()
     ensures warnings { asked (typed (codes "check --warn --platform P --old O --new N")) ≡ Ok (CheckCommand (record plain_check { warn = true })) }
     ensures signatures { asked (typed (codes "check --platform P --old O --signatures --new N")) ≡ Ok (CheckCommand (record plain_check { signatures = true })) }
     ensures dropped { asked (typed (codes "check --dropped --platform P --old O --new N --warn")) ≡ Ok (CheckCommand (record plain_check { warn = true; dropped = true })) }
+    ensures modular { asked (typed (codes "check --platform P --old O --modular --new N")) ≡ Ok (CheckCommand (record plain_check { modular = true })) }
     ensures versions { asked (typed (codes "check --platform P --to 2 --old O --new N --from=1")) ≡ Ok (CheckCommand (record plain_check { from = Some (codes "1"); to = Some (codes "2") })) }
     ensures link { asked (typed (codes "link --platform P --release R --client C")) ≡ Ok (LinkCommand plain_link) }
     ensures link_turned_round { asked (typed (codes "link --client=C --platform P --release R")) ≡ Ok (LinkCommand plain_link) }
+    ensures link_modular { asked (typed (codes "link --modular --platform P --release R --client C")) ≡ Ok (LinkCommand (record plain_link { modular = true })) }
     ensures value_empty { asked (typed (codes "check --platform= --old O --new N")) ≡ Ok (CheckCommand (record plain_check { platform = [] })) }
     ensures value_hyphen { asked (typed (codes "check --platform - --old O --new N")) ≡ Ok (CheckCommand (record plain_check { platform = codes "-" })) }
     ensures value_with_equals_sign { asked (typed (codes "check --platform=a=b --old O --new N")) ≡ Ok (CheckCommand (record plain_check { platform = codes "a=b" })) }
@@ -45,6 +47,8 @@ pub fn words_not_taken()
     ensures value_of_flag { asked (typed (codes "check --platform P --old O --new N --json=x")) ≡ Err usages.Words }
     ensures true_of_flag { asked (typed (codes "check --platform P --old O --new N --json=true")) ≡ Err usages.Words }
     ensures value_of_signatures { asked (typed (codes "check --platform P --old O --new N --signatures=no")) ≡ Err usages.Words }
+    ensures value_of_modular { asked (typed (codes "link --platform P --release R --client C --modular=no")) ≡ Err usages.Words }
+    ensures modular_twice { asked (typed (codes "link --modular --platform P --release R --client C --modular")) ≡ Err usages.Words }
     ensures word_of_no_option { asked (typed (codes "check --platform P --old O --new N more")) ≡ Err usages.Words }
     ensures empty_word { asked (typed (codes "check --platform P --old O --new N ")) ≡ Err usages.Words }
     ensures word_after_dashes { asked (typed (codes "check --platform P --old O --new N -- more")) ≡ Err usages.Words }
@@ -76,6 +80,7 @@ pub fn numbers_of_classes()
     ensures two_numbers { asked (typed (codes "make 8 8")) ≡ Err usages.Words }
     ensures short_option { asked (typed (codes "make -8")) ≡ Err usages.Words }
     ensures option_of_check { asked (typed (codes "make 8 --json")) ≡ Err usages.Words }
+    ensures modular { asked (typed (codes "make --modular 8")) ≡ Err usages.Words }
 {}
 
 /// A number of classes that is asked for is from 1 to 4,096.
@@ -100,6 +105,7 @@ pub fn rows_of_releases()
     ensures option_of_check { asked (typed (codes "history --platform P A B --json")) ≡ Err usages.Words }
     ensures gate { asked (typed (codes "history --platform P A B --gate links")) ≡ Err usages.Words }
     ensures signatures { asked (typed (codes "history --platform P A B --signatures")) ≡ Err usages.Words }
+    ensures modular { asked (typed (codes "history --modular --platform P A B")) ≡ Err usages.Words }
 {}
 
 /// Of a row that is asked for there are from 2 to 20 releases.

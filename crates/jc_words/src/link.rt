@@ -5,7 +5,7 @@ ghost use Rattle.clap.specs.Words.{app_of, rows_of, found_of};
 ghost use Rattle.jc_words.specs.Command.{link_arguments, link_in, link_by};
 ghost use Rattle.jc_words.specs.CommandView.{link_of};
 
-use crate::arguments::{bare, required, taken, value_of};
+use crate::arguments::{bare, flag, is_on, required, taken, value_of};
 use clap::{ArgMatches, Command};
 use jc_base::text::Text;
 use std::alloc::{AllocError, Global};
@@ -16,6 +16,8 @@ pub struct Link<'a> {
     pub platform: &'a str,
     pub release: &'a str,
     pub client: &'a str,
+    /// Whether a file `module-info.class` at the root of the release makes it a named module.
+    pub modular: bool,
 }
 
 impl<'a> Link<'a> {
@@ -40,6 +42,7 @@ impl<'a> Link<'a> {
             platform: value_of(matches, "platform"),
             release: value_of(matches, "release"),
             client: value_of(matches, "client"),
+            modular: is_on(matches, "modular"),
         }
     }
 }
@@ -51,5 +54,6 @@ fn arguments<'a>(alloc: Global) -> Result<Command<'a>, AllocError>
     bare(alloc, "link")
         .arg(required(alloc, "platform"))?
         .arg(required(alloc, "release"))?
-        .arg(required(alloc, "client"))
+        .arg(required(alloc, "client"))?
+        .arg(flag(alloc, "modular"))
 }

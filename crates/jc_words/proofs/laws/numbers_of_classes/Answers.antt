@@ -21,4 +21,5 @@ returns c = record {
   two_numbers = refl;
   short_option = refl;
   option_of_check = refl;
+  modular = refl;
 }
