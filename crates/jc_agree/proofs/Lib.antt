@@ -4,3 +4,4 @@ mod Verdicts
 mod Outcomes
 mod StaysOk
 mod Replayed
+mod SameSide

@@ -1,6 +1,7 @@
 -- Where a verdict has no finding, and what `link` then says of clients.
 --     SameRelease, EmptyRelease      releases between which nothing stands
 --     CompatibleStaysOk      what is Ok with the old release, as `link` says it, is Ok with the new
+-- Both are asked with `--modular` or both without: a pair of sides is of one kind.
 use Rattle.std.specs.Prelude.{◌≡◌, List, [], true, IsTrue}
 use Rattle.std.specs.List.{All}
 use Rattle.jc_facts.specs.declared.client.ClientClass.{ClientClass}

@@ -1,3 +1,4 @@
 pub mod Compatible
 pub mod Replays
+pub mod SameSide
 pub mod Numbers

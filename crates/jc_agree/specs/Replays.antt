@@ -1,5 +1,6 @@
 -- What `link` says of the class files of a witness.
 --     WitnessesReplay      with the old release each outcome is Ok, and with the new one the outcome at the one spot has the printed error
+-- It is asked with `--modular` where the check was, and else without it.
 use Rattle.std.specs.Prelude.{◌≡◌, List, Some, None, true}
 use Rattle.std.specs.List.{Contains}
 use Rattle.std.specs.Prelude.{slice_get}

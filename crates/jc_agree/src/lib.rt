@@ -6,6 +6,7 @@
 ghost use Rattle.jc_agree.specs.Compatible.{SameRelease, EmptyRelease, CompatibleStaysOk};
 ghost use Rattle.jc_agree.specs.Numbers.{StatusesAre, RulesAre, LimitsAre, VersionsAre};
 ghost use Rattle.jc_agree.specs.Replays.{WitnessesReplay};
+ghost use Rattle.jc_agree.specs.SameSide.{SeeTheSameSide};
 
 use jc_link::laws::names_are_allowed;
 
@@ -32,6 +33,12 @@ pub fn witnesses_replay()
 {
     names_are_allowed();
 }
+
+/// Over one platform and one release, `link` and `check` speak of one side, where both are asked with `--modular` or both without. So the laws
+/// above, which speak of two sides, say what `link` says with either release of a check.
+pub fn link_sees_what_check_sees()
+    ensures { SeeTheSameSide }
+{}
 
 /// Each status, limit and rule number in digits, and the versions of class files by which reading goes. No contract says what these
 /// constants are, so this one does.

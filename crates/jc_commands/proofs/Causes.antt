@@ -1,5 +1,5 @@
 -- Why a command has no report, and what it comes to.
-use Rattle.std.proofs.Common.{◌≡◌, ◌≤◌, Bool, inl, inr, List, [], ◌∷◌, map, Option, Some, None, refl, sym, ap, subst, ◌∙◌}
+use Rattle.std.proofs.Common.{◌≡◌, ◌≤◌, inl, inr, List, [], ◌∷◌, map, Option, Some, None, refl, sym, ap, subst, ◌∙◌}
 use Rattle.std.specs.Prelude.{Ok, IsOkAnd}
 use Rattle.jc_base.specs.Outside.{FileOf}
 use Rattle.jc_base.specs.States.{TreesState, Change}
@@ -11,15 +11,16 @@ use Rattle.jc_facts.specs.declared.warning.Warning.{Warning}
 use Rattle.jc_facts.specs.Names.{Bytes}
 use Rattle.jc_facts.specs.Options.{or_else}
 use Rattle.jc_facts.specs.rule.Verdict.{IsVerdict, count_of}
-use Rattle.jc_facts.specs.world.World.{World, side}
+use Rattle.jc_facts.specs.client.Linked.{in_order}
+use Rattle.jc_facts.specs.world.Pairs.{IsPair}
+use Rattle.jc_facts.specs.world.World.{World, Modules, side, side_in, find_class}
 use Rattle.jc_sound.proofs.VerdictLaw.{verdict_is_one}
 use Rattle.jc_gate.specs.Gates.{GateOf}
-use Rattle.jc_link.specs.Refusals.{RefusesLink, MayLink}
+use Rattle.jc_link.specs.Refusals.{name_fault, with_part, first_refused, refused_client, RefusesLink, MayLink}
 use Rattle.jc_link.specs.declared.refusal.LinkRefusal.{LinkRefusal}
 use Rattle.jc_link.specs.declared.refusal.LinkRefusal.TheVariants as refusals
 use Rattle.jc_table.specs.Root.{fault_of_root}
 use Rattle.jc_table.specs.Sides.{overlap_of}
-use Rattle.jc_table.proofs.Roots.{has_root}
 use Rattle.jc_commands.specs.declared.comparison.Comparison.{Comparison}
 use Rattle.jc_commands.specs.declared.report.Report.{Report}
 use Rattle.jc_commands.specs.declared.stop.Stop.{Stop}
@@ -34,12 +35,13 @@ use Rattle.jc_commands.specs.Command.{CommandOf, CheckOf, LinkOf, HistoryOf, Che
 use Rattle.jc_commands.specs.History.{HistoryRecords}
 use Rattle.jc_commands.specs.steps.History.{IsJudged, StopsJudging}
 use Rattle.jc_commands.specs.Link.{LinkRecords, refusal_of, AreOutcomesOf}
+use Rattle.jc_commands.specs.Releases.{modules_in, read_of, side_of}
 use Rattle.jc_commands.specs.Reports.{ToldTo, RecordsOf, Refuses}
+use Rattle.jc_commands.specs.declared.releases.Release.{Release}
 use Rattle.jc_trees.specs.Tree.{TreeOf}
 use Rattle.jc_commands.specs.steps.Check.{IsComparison, StopsComparing, StopsCounting, StopsMatching, StopsWarning, StopsDropping, report_made}
 use Rattle.jc_commands.specs.steps.Trees.{stop_by_trees}
 use Rattle.jc_commands.specs.steps.Link.{StopsLinking, stop_by_refusal}
-use Rattle.jc_trees.specs.ClassLists.{IsRecordList}
 use Rattle.jc_trees.specs.ReadTrees.{GiveAll, StopsAmong}
 use Rattle.jc_trees.specs.declared.tree_read.TreeRead.{TreeRead}
 use Rattle.jc_trees.specs.declared.tree_read.TreeRead.TheVariants as reads
@@ -47,7 +49,7 @@ use Rattle.jc_commands.specs.ReportValue.{TellsOf, HasToShow, IsBare, puts_in, I
 use Rattle.jc_commands.proofs.Bodies.{bare_dir, bare_puts, bare_can}
 use Rattle.jc_commands.proofs.Compared.{some_broken, each_shown, show_dir, show_puts, can_show_any}
 use Rattle.jc_commands.proofs.Events.{for_ok}
-use Rattle.jc_commands.proofs.Records.{first_none, unmapped, IsOfRecords, unfit_says, refusal_says, unfit_row_says, warned_few}
+use Rattle.jc_commands.proofs.Records.{IsOfRecords, unfit_says, refusal_says, unfit_row_says, warned_few}
 use Rattle.jc_commands.proofs.SomeVerdict.{some_verdict, some_warnings}
 use Rattle.jc_commands.proofs.SomeDropped.{some_dropped}
 use Rattle.jc_commands.specs.declared.limits.TheConstants.{MAX_FINDINGS}
@@ -55,68 +57,76 @@ use Rattle.jc_commands.specs.declared.limits.TheConstants.{MAX_FINDINGS}
 -- ---- why comparing stopped
 
 -- either isn't
-pub unmatched : (platform old new : List ClassFacts) (stop : Stop) → StopsMatching platform old new stop → (check : CheckOf) → StopsComparing check platform old new stop
-unmatched platform old new stop (inl h) check = inl (is_apart h)
-unmatched platform old new stop (inr h) check = inr h
+pub unmatched : (O N : World) (stop : Stop) → StopsMatching O N stop → (check : CheckOf) → StopsComparing check O N stop
+unmatched O N stop (inl h) check = inl (is_apart h)
+unmatched O N stop (inr h) check = inr h
 
 -- both are
-pub releases_fit : (platform old new : List ClassFacts) → fault_of_root platform ≡ None → overlap_of platform old ≡ None → overlap_of platform new ≡ None → mismatch_of platform old new ≡ None
+pub releases_fit : (O N : World) → fault_of_root O.platform ≡ None → overlap_of O.platform O.release ≡ None → overlap_of O.platform N.release ≡ None → mismatch_of O N ≡ None
 unfolding or_else
-releases_fit platform old new root apart besides = rw (root, apart, besides) refl
+releases_fit O N root apart besides = rw (root, apart, besides) refl
 
 -- their verdict has too many findings
-pub unfit_counting : (platform old new : List ClassFacts) (stop : Stop) → IsRecordList platform → IsRecordList old → IsRecordList new → mismatch_of platform old new ≡ None → StopsCounting (side platform old) (side platform new) stop
-    → (check : CheckOf) → StopsComparing check platform old new stop
-unfit_counting platform old new stop ps os ns fits (inl (is, many)) check =
-    let root : fault_of_root platform ≡ None = unmapped stops.BadRoot (fault_of_root platform) (first_none _ _ fits) in
-    let v = some_verdict platform old new (has_root platform (sym root)) ps.valid os.valid ns.valid in
+pub unfit_counting : (O N : World) (stop : Stop) → IsPair O N → mismatch_of O N ≡ None → StopsCounting O N stop → (check : CheckOf) → StopsComparing check O N stop
+unfit_counting O N stop pair fits (inl (is, many)) check =
+    let v = some_verdict O N pair in
     inl (over_findings is (record { fits = fits; verdict = v.0; exact = v.1; many = many v.0 v.1 }))
-unfit_counting platform old new stop ps os ns fits (inr h) check = inr h
+unfit_counting O N stop pair fits (inr h) check = inr h
 
 -- there are too many warnings on them, and not too many findings
-pub unfit_warning : (platform old new : List ClassFacts) (stop : Stop) → IsRecordList platform → IsRecordList old → IsRecordList new → mismatch_of platform old new ≡ None
-    → (v : Verdict) → IsVerdict (side platform old) (side platform new) v → count_of v ≤ MAX_FINDINGS → (check : CheckOf) → StopsWarning check.warn (side platform old) (side platform new) stop → StopsComparing check platform old new stop
-unfit_warning platform old new stop ps os ns fits v is few check (inl (asked, named, many)) =
-    let root : fault_of_root platform ≡ None = unmapped stops.BadRoot (fault_of_root platform) (first_none _ _ fits) in
-    let ws = some_warnings platform old new (has_root platform (sym root)) ps.valid os.valid ns.valid in
+pub unfit_warning : (O N : World) (stop : Stop) → IsPair O N → mismatch_of O N ≡ None
+    → (v : Verdict) → IsVerdict O N v → count_of v ≤ MAX_FINDINGS → (check : CheckOf) → StopsWarning check.warn O N stop → StopsComparing check O N stop
+unfit_warning O N stop pair fits v is few check (inl (asked, named, many)) =
+    let ws = some_warnings O N pair in
     inl (over_warnings asked named (record {
       fits = fits;
-      few = λ w k. subst (λ (x : Verdict). count_of x ≤ MAX_FINDINGS) (verdict_is_one (side platform old) (side platform new) v w is k) few;
+      few = λ w k. subst (λ (x : Verdict). count_of x ≤ MAX_FINDINGS) (verdict_is_one O N v w is k) few;
       warnings = ws.0;
       exact = ws.1;
       many = many ws.0 ws.1;
     }))
-unfit_warning platform old new stop ps os ns fits v is few check (inr h) = inr h
+unfit_warning O N stop pair fits v is few check (inr h) = inr h
 
 -- there are too many dropped interfaces, and not too many findings, nor warnings where they are asked for
-pub unfit_dropping : (platform old new : List ClassFacts) (stop : Stop) → mismatch_of platform old new ≡ None → (v : Verdict) → IsVerdict (side platform old) (side platform new) v → count_of v ≤ MAX_FINDINGS
-    → (check : CheckOf) (ws : Option (List Warning)) → AreWarned check.warn (side platform old) (side platform new) ws → StopsDropping check.dropped (side platform old) (side platform new) stop
-    → StopsComparing check platform old new stop
-unfit_dropping platform old new stop fits v is few check ws warned (inl (asked, named, many)) =
-    let ds = some_dropped (side platform old) (side platform new) in
+pub unfit_dropping : (O N : World) (stop : Stop) → mismatch_of O N ≡ None → (v : Verdict) → IsVerdict O N v → count_of v ≤ MAX_FINDINGS
+    → (check : CheckOf) (ws : Option (List Warning)) → AreWarned check.warn O N ws → StopsDropping check.dropped O N stop
+    → StopsComparing check O N stop
+unfit_dropping O N stop fits v is few check ws warned (inl (asked, named, many)) =
+    let ds = some_dropped O N in
     inl (over_dropped asked named (record {
       fits = fits;
-      few = λ w k. subst (λ (x : Verdict). count_of x ≤ MAX_FINDINGS) (verdict_is_one (side platform old) (side platform new) v w is k) few;
-      few_warnings = warned_few check.warn (side platform old) (side platform new) ws warned;
+      few = λ w k. subst (λ (x : Verdict). count_of x ≤ MAX_FINDINGS) (verdict_is_one O N v w is k) few;
+      few_warnings = warned_few check.warn O N ws warned;
       dropped = ds.0;
       exact = ds.1;
       many = many ds.0 ds.1;
     }))
-unfit_dropping platform old new stop fits v is few check ws warned (inr h) = inr h
+unfit_dropping O N stop fits v is few check ws warned (inr h) = inr h
 
 -- ---- why linking stopped
 
-pub refusal_stops : (platform release : List ClassFacts) (clients : List ClientClass) (refusal : LinkRefusal) → RefusesLink platform release clients refusal
-    → StopsLinking platform release clients (stop_by_refusal refusal)
-unfolding or_else
-refusal_stops platform release clients (refusals.BadRoot part) h = inl (rw h refl)
-refusal_stops platform release clients (refusals.Overlap name) h = inl (rw (h.0, h.1) refl)
-refusal_stops platform release clients (refusals.ClientName name part) h = inl (rw (h.0, h.1, h.2) refl)
-refusal_stops platform release clients refusals.Memory h = inr refl
+-- the names that a side allows don't depend on its modules
+same_refused : (m : Modules) (platform release : List ClassFacts) (cs : List ClientClass) → first_refused (side_in m platform release) cs ≡ first_refused (side platform release) cs
+unfolding name_fault find_class
+same_refused m platform release [] = refl
+same_refused m platform release (c ∷ cs) =
+    ap (or_else (with_part c.facts.name (name_fault (side platform release) c.facts.name))) (same_refused m platform release cs)
 
-pub none_refused : (platform release : List ClassFacts) (clients : List ClientClass) → MayLink platform release clients → refusal_of platform release clients ≡ None
+pub refusal_stops : (m : Modules) (platform release : List ClassFacts) (clients : List ClientClass) (refusal : LinkRefusal) → RefusesLink platform release clients refusal
+    → StopsLinking (side_in m platform release) clients (stop_by_refusal refusal)
 unfolding or_else
-none_refused platform release clients h = rw (h.root, h.apart, h.allowed) refl
+refusal_stops m platform release clients (refusals.BadRoot part) h = inl (rw h refl)
+refusal_stops m platform release clients (refusals.Overlap name) h = inl (rw (h.0, h.1) refl)
+refusal_stops m platform release clients (refusals.ClientName name part) h =
+    let refused : refused_client (side_in m platform release) clients ≡ Some (name, part) = same_refused m platform release (in_order clients) ∙ h.2 in
+    inl (rw (h.0, h.1, refused) refl)
+refusal_stops m platform release clients refusals.Memory h = inr refl
+
+pub none_refused : (m : Modules) (platform release : List ClassFacts) (clients : List ClientClass) → MayLink platform release clients → refusal_of (side_in m platform release) clients ≡ None
+unfolding or_else
+none_refused m platform release clients h =
+    let allowed : refused_client (side_in m platform release) clients ≡ None = same_refused m platform release (in_order clients) ∙ h.allowed in
+    rw (h.root, h.apart, allowed) refl
 
 -- ---- the causes
 
@@ -168,65 +178,74 @@ told_reads content wanted trees all taken w a read = subst (λ (xs : List TreeRe
 -- ---- a check
 
 module _ (check : CheckOf) (c : Change TreesState) (wanted : List TreeOf) (wanted_is : wanted ≡ trees_of (CheckCommand check))
-    (all : List TreeRead) (platform old new : List ClassFacts) (all_is : all ≡ reads.Library platform ∷ reads.Library old ∷ reads.Library new ∷ [])
+    (all : List TreeRead) (platform : List ClassFacts) (old new : Release) (all_is : all ≡ reads.Library platform ∷ read_of old ∷ read_of new ∷ [])
     (read : Told c.before.content (λ files. GiveAll files wanted all)) where
   abbrev checked : (files : List FileOf) → c.before.content ≡ Some files → CheckRecords files check
   checked files told = record {
     platform = platform;
-    old = old;
-    new = new;
-    are = told_reads c.before.content wanted (trees_of (CheckCommand check)) all (reads.Library platform ∷ reads.Library old ∷ reads.Library new ∷ []) wanted_is all_is read files told;
+    old = old.records;
+    old_modules = modules_in old.modules;
+    new = new.records;
+    new_modules = modules_in new.modules;
+    are = told_reads c.before.content wanted (trees_of (CheckCommand check)) all (reads.Library platform ∷ read_of old ∷ read_of new ∷ []) wanted_is all_is read files told;
   }
 
-  pub cause_comparing : (stop : Stop) → StopsComparing check platform old new stop → StopsCommand (CheckCommand check) c stop
-  cause_comparing stop (inl h) = cause_refused (CheckCommand check) c stop (unfit_says check platform old new stop h) (λ files told. (checked files told, h))
+  abbrev O : World
+  O = side_of platform old
+
+  abbrev N : World
+  N = side_of platform new
+
+  pub cause_comparing : (stop : Stop) → StopsComparing check (side_of platform old) (side_of platform new) stop → StopsCommand (CheckCommand check) c stop
+  cause_comparing stop (inl h) = cause_refused (CheckCommand check) c stop (unfit_says check O N stop h) (λ files told. (checked files told, h))
   cause_comparing stop (inr h) = cause_memory (CheckCommand check) c stop h
 
-  pub verdict_reported : (made : Comparison) (report : Report) → IsComparison check platform old new made → HasToShow check.witness made.old made.new made.verdict report.body
+  pub verdict_reported : (made : Comparison) (report : Report) → IsComparison check (side_of platform old) (side_of platform new) made → HasToShow check.witness made.old made.new made.verdict report.body
       → TellsOf (CheckCommand check) (report_made made) report → IsReportOf (CheckCommand check) c.before report
   verdict_reported made report is shown tells = record {
     of = report_made made;
     tells = tells;
     dir_is = show_dir check.witness made.old made.new made.verdict report.body shown;
-    can_show = can_show_any check platform old new made is check.witness report.body shown;
+    can_show = can_show_any check O N made is check.witness report.body shown;
     is_report = λ files told. (checked files told, record { verdict = is.verdict; warnings = is.warned; signatures = is.noted; dropped = is.dropped }, puts_are);
     upholds = λ files told. record {
       records = checked files told;
       parts = record { verdict = is.verdict; warnings = is.warned; signatures = is.noted; dropped = is.dropped };
       kept = is.kept;
-      broken = some_broken (side platform old) (side platform new) made.verdict is.can is.verdict.exact;
+      broken = some_broken O N made.verdict is.can is.verdict.exact;
       breaks = is.breaks;
       answered = is.answered;
       interfaces = is.interfaces;
-      shown = each_shown (side platform old) (side platform new) made.verdict is.can is.verdict.exact;
+      shown = each_shown O N made.verdict is.can is.verdict.exact;
       puts_are = puts_are;
     };
   }
     where
-      puts_are : puts_in report.body ≡ puts_below check.witness (side platform old) (side platform new) made.verdict
+      puts_are : puts_in report.body ≡ puts_below check.witness O N made.verdict
       puts_are =
           show_puts check.witness made.old made.new made.verdict report.body shown
           ∙ ap (λ (W : World). puts_below check.witness W made.new made.verdict) is.old_is
-          ∙ ap (λ (W : World). puts_below check.witness (side platform old) W made.verdict) is.new_is
+          ∙ ap (λ (W : World). puts_below check.witness O W made.verdict) is.new_is
 
 -- ---- the linking of clients
 
 module _ (link : LinkOf) (c : Change TreesState) (wanted : List TreeOf) (wanted_is : wanted ≡ trees_of (LinkCommand link))
-    (all : List TreeRead) (platform release : List ClassFacts) (clients : List ClientClass) (all_is : all ≡ reads.Library platform ∷ reads.Library release ∷ reads.Clients clients ∷ [])
+    (all : List TreeRead) (platform : List ClassFacts) (release : Release) (clients : List ClientClass) (all_is : all ≡ reads.Library platform ∷ read_of release ∷ reads.Clients clients ∷ [])
     (read : Told c.before.content (λ files. GiveAll files wanted all)) where
   abbrev given : (files : List FileOf) → c.before.content ≡ Some files → LinkRecords files link
   given files told = record {
     platform = platform;
-    release = release;
+    release = release.records;
+    modules = modules_in release.modules;
     clients = clients;
-    are = told_reads c.before.content wanted (trees_of (LinkCommand link)) all (reads.Library platform ∷ reads.Library release ∷ reads.Clients clients ∷ []) wanted_is all_is read files told;
+    are = told_reads c.before.content wanted (trees_of (LinkCommand link)) all (reads.Library platform ∷ read_of release ∷ reads.Clients clients ∷ []) wanted_is all_is read files told;
   }
 
-  pub cause_linking : (stop : Stop) → StopsLinking platform release clients stop → StopsCommand (LinkCommand link) c stop
-  cause_linking stop (inl h) = cause_refused (LinkCommand link) c stop (refusal_says platform release clients stop h) (λ files told. (given files told, h))
+  pub cause_linking : (stop : Stop) → StopsLinking (side_of platform release) clients stop → StopsCommand (LinkCommand link) c stop
+  cause_linking stop (inl h) = cause_refused (LinkCommand link) c stop (refusal_says (side_of platform release) clients stop h) (λ files told. (given files told, h))
   cause_linking stop (inr h) = cause_memory (LinkCommand link) c stop h
 
-  pub outcomes_reported : (list : List Outcome) (report : Report) → AreOutcomesOf platform release clients list → IsBare report.body → TellsOf (LinkCommand link) list report
+  pub outcomes_reported : (list : List Outcome) (report : Report) → AreOutcomesOf (side_of platform release) clients list → IsBare report.body → TellsOf (LinkCommand link) list report
       → IsReportOf (LinkCommand link) c.before report
   outcomes_reported list report exact none tells = record {
     of = list;

@@ -1,9 +1,8 @@
 -- What a comparison gives beside its verdict: clients that show it.
-use Rattle.std.proofs.Common.{◌≡◌, ◌≢◌, ◌<◌, ◌^◌, ℕ, Bool, List, [], ◌∷◌, map, length, Option, Some, None, refl, sym, ap, subst, ◌∙◌, arith, length-append}
+use Rattle.std.proofs.Common.{◌≡◌, ◌≢◌, ◌<◌, ◌^◌, ℕ, List, [], ◌∷◌, map, length, Option, Some, None, refl, sym, ap, subst, ◌∙◌, arith, length-append}
 use Rattle.std.specs.Prelude.{IsTrue}
 use Rattle.std.specs.List.{All}
 use Rattle.std.proofs.lemmas.List.Elements.{All-from_recursion, recursion_from_All}
-use Rattle.jc_facts.specs.declared.class_facts.ClassFacts.{ClassFacts}
 use Rattle.jc_facts.specs.declared.client.ClientClass.{ClientClass}
 use Rattle.jc_facts.specs.declared.finding.Finding.{Finding}
 use Rattle.jc_facts.specs.declared.verdict.Cause.TheVariants as cause
@@ -13,7 +12,8 @@ use Rattle.jc_facts.specs.Names.{Bytes}
 use Rattle.jc_facts.specs.plan.Planned.{planned}
 use Rattle.jc_facts.specs.rule.Verdict.{IsVerdict, holds_some}
 use Rattle.jc_facts.specs.world.Mentioned.{all_mentions}
-use Rattle.jc_facts.specs.world.World.{World, side, classes}
+use Rattle.jc_facts.specs.world.Pairs.{AreOfOneRun}
+use Rattle.jc_facts.specs.world.World.{World, classes}
 use Rattle.jc_lemmas.proofs.Listed.{EachOf, EachOf-map, EachOf-append}
 use Rattle.jc_sound.proofs.VerdictLaw.{verdict_is_one}
 use Rattle.jc_complete.specs.Completeness.{IsBroken, PlannedMeet}
@@ -38,16 +38,16 @@ use Rattle.jc_commands.specs.Shown.{CanShow}
 
 -- ---- the two sides
 
-pub short_side : (platform release : List ClassFacts) → All HasShortNames platform → All HasShortNames release → HasShortSide (side platform release)
-short_side platform release p r = record { platform = p; release = r }
+pub short_side : (W : World) → All HasShortNames W.platform → All HasShortNames W.release → HasShortSide W
+short_side W p r = record { platform = p; release = r }
 
--- clients of two sides of one platform can be planned, and their class files written
-pub sides_can_write : (O N : World) (m n : ℕ) → IsSide O → IsSide N → O.platform ≡ N.platform → m ≡ length (all_mentions (classes O)) → m < 2 ^ 63 → n ≡ length (all_mentions (classes N)) → n < 2 ^ 63
+-- clients of two sides of one run can be planned, and their class files written
+pub sides_can_write : (O N : World) (m n : ℕ) → IsSide O → IsSide N → AreOfOneRun O N → m ≡ length (all_mentions (classes O)) → m < 2 ^ 63 → n ≡ length (all_mentions (classes N)) → n < 2 ^ 63
     → HasShortSide O → HasShortSide N → CanWrite O N
 sides_can_write O N m n old new same old_count old_small new_count new_small old_short new_short =
     can_write (record { old = O; new = N })
     (record {
-      sides = record { old_side = old; new_side = new; platform = same };
+      sides = record { old_side = old; new_side = new; run = same };
       few = omega (arith, length-append (all_mentions (classes O)) (all_mentions (classes N)), old_count, old_small, new_count, new_small);
     })
     old_short new_short
@@ -112,21 +112,24 @@ show_puts dir O N v (bodies.Bytes bytes) h = absurd h
 show_puts dir O N v (bodies.Row vs) h = absurd h
 show_puts dir O N v (bodies.Check check) h = shown_puts dir O N check.verdict check.shown h.1 ∙ ap (λ (w : Verdict). puts_below dir O N w) h.0
 
-module _ (check : CheckOf) (platform old new : List ClassFacts) (c : Comparison) (is : IsComparison check platform old new c) where
+module _ (check : CheckOf) (O N : World) (c : Comparison) (is : IsComparison check O N c) where
+  abbrev run : AreOfOneRun O N
+  run = is.can.plan.pair.run
+
   can_show : (of : Shown) (v : Verdict) → of.old ≡ c.old → of.new ≡ c.new → v ≡ c.verdict → CanShow of v
   can_show of v o n e = record {
-    platform = ap (λ (W : World). W.platform) (o ∙ is.old_is) ∙ sym (ap (λ (W : World). W.platform) (n ∙ is.new_is));
+    run = subst (λ (W : World). AreOfOneRun W of.new) (sym (o ∙ is.old_is)) (subst (AreOfOneRun O) (sym (n ∙ is.new_is)) run);
     verdict =
         subst (λ (W : World). IsVerdict W of.new v) (sym (o ∙ is.old_is))
-        (subst (λ (W : World). IsVerdict (side platform old) W v) (sym (n ∙ is.new_is))
-        (subst (λ (w : Verdict). IsVerdict (side platform old) (side platform new) w) (sym e) is.verdict.exact));
+        (subst (λ (W : World). IsVerdict O W v) (sym (n ∙ is.new_is))
+        (subst (λ (w : Verdict). IsVerdict O N w) (sym e) is.verdict.exact));
     few = rw e is.verdict.few;
-    old_names = subst HasShortSide (sym (o ∙ is.old_is)) (short_side platform old is.can.platform_short is.can.old_short);
-    new_names = subst HasShortSide (sym (n ∙ is.new_is)) (short_side platform new is.can.platform_short is.can.new_short);
+    old_names = subst HasShortSide (sym (o ∙ is.old_is)) (short_side O is.can.platform_short is.can.old_short);
+    new_names = subst HasShortSide (sym (n ∙ is.new_is)) (short_side N (subst (All HasShortNames) run.platform is.can.platform_short) is.can.new_short);
     shown =
         subst (λ (W : World). All (IsShown W of.new) (causes_of v)) (sym (o ∙ is.old_is))
-        (subst (λ (W : World). All (IsShown (side platform old) W) (causes_of v)) (sym (n ∙ is.new_is))
-        (subst (λ (w : Verdict). All (IsShown (side platform old) (side platform new)) (causes_of w)) (sym e) (each_shown (side platform old) (side platform new) c.verdict is.can is.verdict.exact)));
+        (subst (λ (W : World). All (IsShown O W) (causes_of v)) (sym (n ∙ is.new_is))
+        (subst (λ (w : Verdict). All (IsShown O N) (causes_of w)) (sym e) (each_shown O N c.verdict is.can is.verdict.exact)));
   }
 
   can_show_all : (dir : Option Bytes) (v : Verdict) (shown : Option Shown) → v ≡ c.verdict → IsShownIn dir c.old c.new shown → CanShowAll v shown

@@ -8,6 +8,7 @@ use Rattle.jc_base.specs.Outside.{FileOf}
 use Rattle.jc_dropped.specs.declared.dropped.Dropped.{Dropped}
 use Rattle.jc_dropped.specs.Dropped.{AreDropped}
 use Rattle.jc_facts.specs.declared.class_facts.ClassFacts.{ClassFacts}
+use Rattle.jc_facts.specs.declared.client.ClientClass.{ClientClass}
 use Rattle.jc_facts.specs.declared.verdict.Verdict.{Verdict}
 use Rattle.jc_facts.specs.declared.warning.Warning.{Warning}
 use Rattle.jc_facts.specs.client.Linked.{outcomes}
@@ -15,8 +16,10 @@ use Rattle.jc_facts.specs.Names.{Bytes}
 use Rattle.jc_facts.specs.file.Valid.{IsValidClass}
 use Rattle.jc_facts.specs.rule.Verdict.{IsVerdict, count_of}
 use Rattle.jc_facts.specs.rule.Warnings.{AreWarnings}
-use Rattle.jc_facts.specs.world.World.{World, side}
+use Rattle.jc_facts.specs.world.Pairs.{IsPair}
+use Rattle.jc_facts.specs.world.World.{World, Modules, OneModule, Several, is_modular}
 use Rattle.jc_lemmas.proofs.Listed.{EachOf}
+use Rattle.jc_facts.proofs.Pairs.{pair_in}
 use Rattle.jc_facts.proofs.ReadLists.{read_valid}
 use Rattle.jc_sound.proofs.VerdictLaw.{verdict_is_one}
 use Rattle.jc_select.proofs.Limited.{warnings_are_one}
@@ -26,23 +29,25 @@ use Rattle.jc_gate.specs.Gates.{GateOf}
 use Rattle.jc_words.specs.declared.usage.Usage.{Usage}
 use Rattle.jc_commands.specs.Causes.{IsRefused, IsAccepted}
 use Rattle.jc_trees.specs.FirstTree.{IsFirstUnread}
-use Rattle.jc_commands.specs.Check.{CheckRecords, is_apart, over_findings, over_warnings, over_dropped, AreWarned, mismatch_of, report_of}
-use Rattle.jc_trees.specs.ClassFiles.{IsClassIn, AreRecords, without_code}
-use Rattle.jc_commands.specs.Command.{CommandOf, CheckOf, LinkOf, HistoryOf, CheckCommand, LinkCommand, MakeCommand, HistoryCommand, release_trees, trees_of, asked_of}
+use Rattle.jc_commands.specs.Check.{CheckRecords, old_side, new_side, is_apart, over_findings, over_warnings, over_dropped, AreWarned, mismatch_of, report_of}
+use Rattle.jc_trees.specs.ClassFiles.{FileRead, ClassRead, ModuleRead, IsFileIn, AreRecords, AreModular, without_items, without_code, records_in}
+use Rattle.jc_commands.specs.Command.{CommandOf, CheckOf, LinkOf, HistoryOf, CheckCommand, LinkCommand, MakeCommand, HistoryCommand, release_kind, release_tree, release_trees, trees_of, asked_of}
 use Rattle.jc_commands.specs.History.{HistoryRecords, row_of, mismatch_of_row}
-use Rattle.jc_history.specs.Row.{Step, steps_of, AreVerdicts}
+use Rattle.jc_history.specs.Row.{steps_of, AreVerdicts}
 use Rattle.jc_history.proofs.RowVerdicts.{all_few}
-use Rattle.jc_commands.specs.Link.{LinkRecords, refusal_of}
+use Rattle.jc_commands.specs.Link.{LinkRecords, release_side, refusal_of}
+use Rattle.jc_commands.specs.Releases.{read_as}
 use Rattle.jc_commands.specs.Reports.{RecordsOf, ReportOf, Refuses, Accepts, IsReportOn}
 use Rattle.jc_trees.specs.Tree.{TreeOf, library_at, clients_at}
 use Rattle.jc_commands.specs.declared.limits.TheConstants.{MAX_FINDINGS, MAX_WARNINGS, MAX_DROPPED}
 use Rattle.jc_commands.specs.declared.stop.Part.TheVariants as parts
 use Rattle.jc_commands.specs.declared.stop.Stop.{Stop}
 use Rattle.jc_commands.specs.declared.stop.Stop.TheVariants as stops
-use Rattle.jc_trees.specs.ReadTrees.{GiveAll}
+use Rattle.jc_trees.specs.ReadTrees.{Gives, GiveAll}
 use Rattle.jc_trees.specs.declared.tree_read.TreeRead.{TreeRead}
 use Rattle.jc_trees.specs.declared.tree_read.TreeRead.TheVariants as reads
 use Rattle.jc_trees.proofs.OneRead.{FirstLibrary, first_library, first_clients}
+use Rattle.jc_trees.specs.declared.tree.TreeKind.TheVariants as kinds
 use Rattle.jc_trees.specs.declared.tree.TreeName.{TreeName}
 use Rattle.jc_trees.specs.declared.tree.TreeName.TheVariants as names
 use Rattle.jc_commands.specs.ReportValue.{IsSized}
@@ -62,19 +67,38 @@ module _ (files : List FileOf) where
   library : (name : TreeName) (root : Bytes) (trees : List TreeOf) (all : List TreeRead) → GiveAll files (library_at name root ∷ trees) all → FirstLibrary files (library_at name root) trees all
   library name root trees all h = first_library files (library_at name root) trees all refl h
 
+  -- the first of the trees, where it is that of a release
+  record FirstRelease (tree : TreeOf) (trees : List TreeOf) (all : List TreeRead) : Type 0 where
+    records : List ClassFacts
+    modules : Modules
+    rest : List TreeRead
+    are : Gives files tree (read_as modules records)
+    others : GiveAll files trees rest
+
+  not_clients : {P : Type 0} (modular : Bool) → release_kind modular ≡ kinds.Clients → P
+  not_clients true e = absurd (let clash : kinds.Modular ≡ kinds.Clients = e in cc)
+  not_clients false e = absurd (let clash : kinds.Library ≡ kinds.Clients = e in cc)
+
+  first_release : (modular : Bool) (name : TreeName) (root : Bytes) (trees : List TreeOf) (all : List TreeRead) → GiveAll files (release_tree modular name root ∷ trees) all
+      → FirstRelease (release_tree modular name root) trees all
+  first_release modular name root trees [] h = absurd h
+  first_release modular name root trees (reads.Library rs ∷ rest) h = record { records = rs; modules = OneModule; rest = rest; are = h.0; others = h.1 }
+  first_release modular name root trees (reads.Modular m ∷ rest) h = record { records = m.records; modules = Several m.exports; rest = rest; are = h.0; others = h.1 }
+  first_release modular name root trees (reads.Clients cs ∷ rest) h = not_clients modular h.0.0
+
   check_records : (check : CheckOf) (all : List TreeRead) → GiveAll files (trees_of (CheckCommand check)) all → CheckRecords files check
   check_records check all h =
-      let p = library names.Platform check.platform (library_at names.Old check.old ∷ library_at names.New check.new ∷ []) all h in
-      let o = library names.Old check.old (library_at names.New check.new ∷ []) p.rest p.others in
-      let n = library names.New check.new [] o.rest o.others in
-      record { platform = p.records; old = o.records; new = n.records; are = ((refl, p.are), ((refl, o.are), ((refl, n.are), tt))) }
+      let p = library names.Platform check.platform (release_tree check.modular names.Old check.old ∷ release_tree check.modular names.New check.new ∷ []) all h in
+      let o = first_release check.modular names.Old check.old (release_tree check.modular names.New check.new ∷ []) p.rest p.others in
+      let n = first_release check.modular names.New check.new [] o.rest o.others in
+      record { platform = p.records; old = o.records; old_modules = o.modules; new = n.records; new_modules = n.modules; are = ((refl, p.are), (o.are, (n.are, tt))) }
 
   link_records : (link : LinkOf) (all : List TreeRead) → GiveAll files (trees_of (LinkCommand link)) all → LinkRecords files link
   link_records link all h =
-      let p = library names.Platform link.platform (library_at names.Release link.release ∷ clients_at names.Client link.client ∷ []) all h in
-      let r = library names.Release link.release (clients_at names.Client link.client ∷ []) p.rest p.others in
+      let p = library names.Platform link.platform (release_tree link.modular names.Release link.release ∷ clients_at names.Client link.client ∷ []) all h in
+      let r = first_release link.modular names.Release link.release (clients_at names.Client link.client ∷ []) p.rest p.others in
       let cs = first_clients files (clients_at names.Client link.client) [] r.rest refl r.others in
-      record { platform = p.records; release = r.records; clients = cs.clients; are = ((refl, p.are), ((refl, r.are), ((refl, cs.are), tt))) }
+      record { platform = p.records; release = r.records; modules = r.modules; clients = cs.clients; are = ((refl, p.are), (r.are, ((refl, cs.are), tt))) }
 
   release_records : (n : ℕ) (roots : List Bytes) (all : List TreeRead) → GiveAll files (release_trees n roots) all → (rs : List (List ClassFacts)) × GiveAll files (release_trees n roots) (map reads.Library rs)
   release_records n [] all h = ([], tt)
@@ -95,28 +119,55 @@ records_from files (LinkCommand link) sized all h = link_records files link all 
 records_from files (MakeCommand n) sized all h = sized
 records_from files (HistoryCommand history) sized all h = history_records files history all h
 
-class_valid : (files : List FileOf) (tree : TreeOf) (c : ClassFacts) → IsClassIn files tree (record { facts = c; items = [] }) → IsValidClass c
-class_valid files tree c i = read_valid i.bytes c i.is_read.facts.reads
+file_valid : (files : List FileOf) (tree : TreeOf) (c : ClientClass) → IsFileIn files tree (ClassRead c) → IsValidClass c.facts
+file_valid files tree c i = read_valid i.bytes c.facts i.is_read.facts.reads
 
-valid_each : (files : List FileOf) (tree : TreeOf) (records : List ClassFacts) → EachOf (IsClassIn files tree) (without_code records) → EachOf IsValidClass records
+valid_each : (files : List FileOf) (tree : TreeOf) (records : List ClassFacts) → EachOf (IsFileIn files tree) (map ClassRead (without_code records)) → EachOf IsValidClass records
 valid_each files tree [] h = tt
-valid_each files tree (c ∷ cs) h = (class_valid files tree c h.0, valid_each files tree cs h.1)
+valid_each files tree (c ∷ cs) h = (file_valid files tree (without_items c) h.0, valid_each files tree cs h.1)
 
 valid_records : (files : List FileOf) (tree : TreeOf) (records : List ClassFacts) → AreRecords files tree records → All IsValidClass records
 valid_records files tree records are =
-    All-from_recursion IsValidClass records (valid_each files tree records (recursion_from_All (IsClassIn files tree) (without_code records) are.exact.sound))
+    All-from_recursion IsValidClass records (valid_each files tree records (recursion_from_All (IsFileIn files tree) (map ClassRead (without_code records)) are.exact.sound))
 
--- the two releases have a verdict
-verdict_on : (files : List FileOf) (check : CheckOf) (s : CheckRecords files check) → mismatch_of s.platform s.old s.new ≡ None → (v : Verdict) × IsVerdict (side s.platform s.old) (side s.platform s.new) v
-verdict_on files check s fits =
+-- so are those of a tree that is read as a module
+valid_among : (files : List FileOf) (tree : TreeOf) (all : List FileRead) → EachOf (IsFileIn files tree) all → EachOf IsValidClass (records_in all)
+valid_among files tree [] h = tt
+valid_among files tree (ClassRead c ∷ rest) h = (file_valid files tree c h.0, valid_among files tree rest h.1)
+valid_among files tree (ModuleRead packages ∷ rest) h = valid_among files tree rest h.1
+
+valid_modular : (files : List FileOf) (tree : TreeOf) (records : List ClassFacts) (exports : Option (List Bytes)) → AreModular files tree records exports → All IsValidClass records
+valid_modular files tree records exports m =
+    subst (All IsValidClass) m.records_are (All-from_recursion IsValidClass (records_in m.all) (valid_among files tree m.all (recursion_from_All (IsFileIn files tree) m.all m.are.exact.sound)))
+
+-- a release is in several modules exactly where they are asked for
+kind_asked : (files : List FileOf) (modular : Bool) (name : TreeName) (root : Bytes) (m : Modules) (records : List ClassFacts) → Gives files (release_tree modular name root) (read_as m records) → is_modular m ≡ modular
+kind_asked files true name root (Several exports) records h = refl
+kind_asked files false name root OneModule records h = refl
+kind_asked files true name root OneModule records h = absurd (let clash : kinds.Modular ≡ kinds.Library = h.0 in cc)
+kind_asked files false name root (Several exports) records h = absurd (let clash : kinds.Library ≡ kinds.Modular = h.0 in cc)
+
+-- and its records are valid
+valid_release : (files : List FileOf) (tree : TreeOf) (m : Modules) (records : List ClassFacts) → Gives files tree (read_as m records) → All IsValidClass records
+valid_release files tree OneModule records h = valid_records files tree records h.1
+valid_release files tree (Several exports) records h = valid_modular files tree records exports h.1
+
+-- the two sides are a pair of which promises are made
+pair_on : (files : List FileOf) (check : CheckOf) (s : CheckRecords files check) → mismatch_of (old_side s) (new_side s) ≡ None → IsPair (old_side s) (new_side s)
+pair_on files check s fits =
     let root : fault_of_root s.platform ≡ None = unmapped stops.BadRoot (fault_of_root s.platform) (first_none _ _ fits) in
-    some_verdict s.platform s.old s.new (has_root s.platform (sym root)) (valid_records files _ s.platform s.are.0.1) (valid_records files _ s.old s.are.1.0.1) (valid_records files _ s.new s.are.1.1.0.1)
+    let old = kind_asked files check.modular names.Old check.old s.old_modules s.old s.are.1.0 in
+    let new = kind_asked files check.modular names.New check.new s.new_modules s.new s.are.1.1.0 in
+    pair_in s.old_modules s.new_modules s.platform s.old s.new (old ∙ sym new) (has_root s.platform (sym root))
+    (valid_records files _ s.platform s.are.0.1) (valid_release files _ s.old_modules s.old s.are.1.0) (valid_release files _ s.new_modules s.new s.are.1.1.0)
+
+-- they have a verdict
+verdict_on : (files : List FileOf) (check : CheckOf) (s : CheckRecords files check) → mismatch_of (old_side s) (new_side s) ≡ None → (v : Verdict) × IsVerdict (old_side s) (new_side s) v
+verdict_on files check s fits = some_verdict (old_side s) (new_side s) (pair_on files check s fits)
 
 -- and there are warnings on them
-warnings_on : (files : List FileOf) (check : CheckOf) (s : CheckRecords files check) → mismatch_of s.platform s.old s.new ≡ None → (ws : List Warning) × AreWarnings (side s.platform s.old) (side s.platform s.new) ws
-warnings_on files check s fits =
-    let root : fault_of_root s.platform ≡ None = unmapped stops.BadRoot (fault_of_root s.platform) (first_none _ _ fits) in
-    some_warnings s.platform s.old s.new (has_root s.platform (sym root)) (valid_records files _ s.platform s.are.0.1) (valid_records files _ s.old s.are.1.0.1) (valid_records files _ s.new s.are.1.1.0.1)
+warnings_on : (files : List FileOf) (check : CheckOf) (s : CheckRecords files check) → mismatch_of (old_side s) (new_side s) ≡ None → (ws : List Warning) × AreWarnings (old_side s) (new_side s) ws
+warnings_on files check s fits = some_warnings (old_side s) (new_side s) (pair_on files check s fits)
 
 -- those that are reported
 warned_on : (warn : Bool) (O N : World) (ws : List Warning) → AreWarnings O N ws → (IsTrue warn → (vs : List Warning) → AreWarnings O N vs → length vs ≤ MAX_WARNINGS) → (o : Option (List Warning)) × AreWarned warn O N o
@@ -138,11 +189,11 @@ abbrev Decided : (files : List FileOf) (command : CommandOf) → RecordsOf files
 Decided files command r = Accepts files command r ⊎ ((stop : Stop) × Refuses files command r stop)
 
 decided : (files : List FileOf) (command : CommandOf) (r : RecordsOf files command) → Decided files command r
-decided files (CheckCommand check) r = by_records (mismatch_of r.platform r.old r.new) refl
+decided files (CheckCommand check) r = by_records (mismatch_of (old_side r) (new_side r)) refl
   where
-    by_dropped : mismatch_of r.platform r.old r.new ≡ None → ((w : Verdict) → IsVerdict (side r.platform r.old) (side r.platform r.new) w → count_of w ≤ MAX_FINDINGS)
-        → (IsTrue check.warn → (ws : List Warning) → AreWarnings (side r.platform r.old) (side r.platform r.new) ws → length ws ≤ MAX_WARNINGS) → (b : Bool) → check.dropped ≡ b
-        → (ds : List Dropped) × AreDropped (side r.platform r.old) (side r.platform r.new) ds → Decided files (CheckCommand check) r
+    by_dropped : mismatch_of (old_side r) (new_side r) ≡ None → ((w : Verdict) → IsVerdict (old_side r) (new_side r) w → count_of w ≤ MAX_FINDINGS)
+        → (IsTrue check.warn → (ws : List Warning) → AreWarnings (old_side r) (new_side r) ws → length ws ≤ MAX_WARNINGS) → (b : Bool) → check.dropped ≡ b
+        → (ds : List Dropped) × AreDropped (old_side r) (new_side r) ds → Decided files (CheckCommand check) r
     by_dropped fits few warned false e ds = inl (record { fits = fits; few = few; few_warnings = warned; few_dropped = λ w. absurd (let clash : false ≡ true = sym e ∙ w in cc) })
     by_dropped fits few warned true e (ds, is) = by_length (nat_lt MAX_DROPPED (length ds)) refl
       where
@@ -153,31 +204,31 @@ decided files (CheckCommand check) r = by_records (mismatch_of r.platform r.old 
           fits = fits;
           few = few;
           few_warnings = warned;
-          few_dropped = λ w es k. subst (λ (xs : List Dropped). length xs ≤ MAX_DROPPED) (dropped_are_one (side r.platform r.old) (side r.platform r.new) ds es is k) (ltb-false MAX_DROPPED (length ds) q);
+          few_dropped = λ w es k. subst (λ (xs : List Dropped). length xs ≤ MAX_DROPPED) (dropped_are_one (old_side r) (new_side r) ds es is k) (ltb-false MAX_DROPPED (length ds) q);
         })
 
-    at_dropped : mismatch_of r.platform r.old r.new ≡ None → ((w : Verdict) → IsVerdict (side r.platform r.old) (side r.platform r.new) w → count_of w ≤ MAX_FINDINGS)
-        → (IsTrue check.warn → (ws : List Warning) → AreWarnings (side r.platform r.old) (side r.platform r.new) ws → length ws ≤ MAX_WARNINGS) → Decided files (CheckCommand check) r
-    at_dropped fits few warned = by_dropped fits few warned check.dropped refl (some_dropped (side r.platform r.old) (side r.platform r.new))
+    at_dropped : mismatch_of (old_side r) (new_side r) ≡ None → ((w : Verdict) → IsVerdict (old_side r) (new_side r) w → count_of w ≤ MAX_FINDINGS)
+        → (IsTrue check.warn → (ws : List Warning) → AreWarnings (old_side r) (new_side r) ws → length ws ≤ MAX_WARNINGS) → Decided files (CheckCommand check) r
+    at_dropped fits few warned = by_dropped fits few warned check.dropped refl (some_dropped (old_side r) (new_side r))
 
-    by_warnings : mismatch_of r.platform r.old r.new ≡ None → ((w : Verdict) → IsVerdict (side r.platform r.old) (side r.platform r.new) w → count_of w ≤ MAX_FINDINGS) → (b : Bool) → check.warn ≡ b
-        → (ws : List Warning) × AreWarnings (side r.platform r.old) (side r.platform r.new) ws → Decided files (CheckCommand check) r
+    by_warnings : mismatch_of (old_side r) (new_side r) ≡ None → ((w : Verdict) → IsVerdict (old_side r) (new_side r) w → count_of w ≤ MAX_FINDINGS) → (b : Bool) → check.warn ≡ b
+        → (ws : List Warning) × AreWarnings (old_side r) (new_side r) ws → Decided files (CheckCommand check) r
     by_warnings fits few false e ws = at_dropped fits few (λ w. absurd (let clash : false ≡ true = sym e ∙ w in cc))
     by_warnings fits few true e (ws, is) = by_length (nat_lt MAX_WARNINGS (length ws)) refl
       where
         by_length : (b : Bool) → nat_lt MAX_WARNINGS (length ws) ≡ b → Decided files (CheckCommand check) r
         by_length true q = inr (stops.TooMany parts.Warnings, over_warnings e refl (record { fits = fits; few = few; warnings = ws; exact = is; many = ltb-true MAX_WARNINGS (length ws) q }))
         by_length false q =
-            at_dropped fits few (λ w vs k. subst (λ (xs : List Warning). length xs ≤ MAX_WARNINGS) (warnings_are_one (side r.platform r.old) (side r.platform r.new) ws vs is k) (ltb-false MAX_WARNINGS (length ws) q))
+            at_dropped fits few (λ w vs k. subst (λ (xs : List Warning). length xs ≤ MAX_WARNINGS) (warnings_are_one (old_side r) (new_side r) ws vs is k) (ltb-false MAX_WARNINGS (length ws) q))
 
-    by_count : mismatch_of r.platform r.old r.new ≡ None → (v : Verdict) → IsVerdict (side r.platform r.old) (side r.platform r.new) v → (b : Bool) → nat_lt MAX_FINDINGS (count_of v) ≡ b → Decided files (CheckCommand check) r
+    by_count : mismatch_of (old_side r) (new_side r) ≡ None → (v : Verdict) → IsVerdict (old_side r) (new_side r) v → (b : Bool) → nat_lt MAX_FINDINGS (count_of v) ≡ b → Decided files (CheckCommand check) r
     by_count fits v is true e = inr (stops.TooMany parts.Findings, over_findings refl (record { fits = fits; verdict = v; exact = is; many = ltb-true MAX_FINDINGS (count_of v) e }))
     by_count fits v is false e = by_warnings fits few check.warn refl (warnings_on files check r fits)
       where
-        few : (w : Verdict) → IsVerdict (side r.platform r.old) (side r.platform r.new) w → count_of w ≤ MAX_FINDINGS
-        few w k = subst (λ (x : Verdict). count_of x ≤ MAX_FINDINGS) (verdict_is_one (side r.platform r.old) (side r.platform r.new) v w is k) (ltb-false MAX_FINDINGS (count_of v) e)
+        few : (w : Verdict) → IsVerdict (old_side r) (new_side r) w → count_of w ≤ MAX_FINDINGS
+        few w k = subst (λ (x : Verdict). count_of x ≤ MAX_FINDINGS) (verdict_is_one (old_side r) (new_side r) v w is k) (ltb-false MAX_FINDINGS (count_of v) e)
 
-    by_records : (o : Option Stop) → mismatch_of r.platform r.old r.new ≡ o → Decided files (CheckCommand check) r
+    by_records : (o : Option Stop) → mismatch_of (old_side r) (new_side r) ≡ o → Decided files (CheckCommand check) r
     by_records None e = let v = verdict_on files check r e in by_count e v.0 v.1 (nat_lt MAX_FINDINGS (count_of v.0)) refl
     by_records (Some stop) e = inr (stop, is_apart e)
 decided files (MakeCommand n) r = inl tt
@@ -186,9 +237,9 @@ decided files (HistoryCommand c) r = by_records (mismatch_of_row r.platform r.re
     by_records : (o : Option Stop) → mismatch_of_row r.platform r.releases ≡ o → Decided files (HistoryCommand c) r
     by_records None e = let vs = verdicts_on files c r e in few_or_many r.platform r.releases e vs.0 vs.1
     by_records (Some stop) e = inr (stop, inl e)
-decided files (LinkCommand link) r = by_records (refusal_of r.platform r.release r.clients) refl
+decided files (LinkCommand link) r = by_records (refusal_of (release_side r) r.clients) refl
   where
-    by_records : (o : Option Stop) → refusal_of r.platform r.release r.clients ≡ o → Decided files (LinkCommand link) r
+    by_records : (o : Option Stop) → refusal_of (release_side r) r.clients ≡ o → Decided files (LinkCommand link) r
     by_records None e = inl e
     by_records (Some stop) e = inr (stop, e)
 
@@ -197,11 +248,11 @@ pub accepted_report : (files : List FileOf) (command : CommandOf) (r : RecordsOf
 accepted_report files (CheckCommand check) r a =
     let v = verdict_on files check r a.fits in
     let ws = warnings_on files check r a.fits in
-    let o = warned_on check.warn (side r.platform r.old) (side r.platform r.new) ws.0 ws.1 a.few_warnings in
-    let ns = noted_on check.signatures (side r.platform r.old) (side r.platform r.new) in
-    let ds = dropped_on check.dropped (side r.platform r.old) (side r.platform r.new) a.few_dropped in
+    let o = warned_on check.warn (old_side r) (new_side r) ws.0 ws.1 a.few_warnings in
+    let ns = noted_on check.signatures (old_side r) (new_side r) in
+    let ds = dropped_on check.dropped (old_side r) (new_side r) a.few_dropped in
     (report_of v.0 o.0 ns.0 ds.0, record { verdict = record { fits = a.fits; exact = v.1; few = a.few v.0 v.1 }; warnings = o.1; signatures = ns.1; dropped = ds.1 })
-accepted_report files (LinkCommand link) r a = (outcomes (side r.platform r.release) r.clients, record { fits = a; exact = refl })
+accepted_report files (LinkCommand link) r a = (outcomes (release_side r) r.clients, record { fits = a; exact = refl })
 accepted_report files (MakeCommand n) r a = made_verdict n r
 accepted_report files (HistoryCommand c) r a =
     let vs = verdicts_on files c r a.fits in

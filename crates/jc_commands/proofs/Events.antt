@@ -9,6 +9,7 @@ use Rattle.jc_words.specs.declared.usage.Usage.{Usage}
 use Rattle.jc_commands.specs.Causes.{IsRefusedTo, IsRefused, IsAccepted, HasCause, HasFailed}
 use Rattle.jc_trees.specs.FirstTree.{IsFirstUnread}
 use Rattle.jc_commands.specs.Command.{CommandOf, CheckCommand, LinkCommand, MakeCommand, HistoryCommand, trees_of, asked_of}
+use Rattle.jc_commands.specs.Releases.{read_as}
 use Rattle.jc_commands.specs.Reports.{ToldTo, RecordsOf, ReportOf, Refuses, Accepts, IsReportOn}
 use Rattle.jc_commands.specs.Stop.{status_of}
 use Rattle.jc_trees.specs.declared.file_fault.TreeFault.{TreeFault}
@@ -27,8 +28,8 @@ use Rattle.jc_commands.specs.steps.Trees.{stop_by_trees}
 
 -- a command that has records has trees that are read
 clean_records : (files : List FileOf) (command : CommandOf) → RecordsOf files command → AreClean files (trees_of command)
-clean_records files (CheckCommand check) r = all_read_clean files (trees_of (CheckCommand check)) (reads.Library r.platform ∷ reads.Library r.old ∷ reads.Library r.new ∷ []) r.are
-clean_records files (LinkCommand link) r = all_read_clean files (trees_of (LinkCommand link)) (reads.Library r.platform ∷ reads.Library r.release ∷ reads.Clients r.clients ∷ []) r.are
+clean_records files (CheckCommand check) r = all_read_clean files (trees_of (CheckCommand check)) (reads.Library r.platform ∷ read_as r.old_modules r.old ∷ read_as r.new_modules r.new ∷ []) r.are
+clean_records files (LinkCommand link) r = all_read_clean files (trees_of (LinkCommand link)) (reads.Library r.platform ∷ read_as r.modules r.release ∷ reads.Clients r.clients ∷ []) r.are
 clean_records files (MakeCommand n) r = tt
 clean_records files (HistoryCommand h) r = all_read_clean files (trees_of (HistoryCommand h)) (reads.Library r.platform ∷ map reads.Library r.releases) r.are
 

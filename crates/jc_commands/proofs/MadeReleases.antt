@@ -17,13 +17,14 @@ use Rattle.jc_facts.specs.Names.{Bytes}
 use Rattle.jc_facts.specs.Options.{or_else}
 use Rattle.jc_facts.specs.world.World.{class_named}
 use Rattle.jc_facts.proofs.Generated.{releases, nothing_least}
+use Rattle.jc_facts.proofs.Pairs.{plain_pair}
 use Rattle.jc_lemmas.proofs.Listed.{EachOf, each_of}
 use Rattle.jc_table.proofs.Roots.{has_root}
 use Rattle.jc_table.specs.Root.{faulty_part, fault_of_root}
 use Rattle.jc_table.specs.Sides.{overlap_of}
 use Rattle.jc_commands.specs.Check.{mismatch_of}
 use Rattle.jc_commands.specs.Command.{MakeCommand}
-use Rattle.jc_commands.specs.Make.{IsSize, IsVerdictOnMade}
+use Rattle.jc_commands.specs.Make.{IsSize, old_made, new_made, IsVerdictOnMade}
 use Rattle.jc_commands.specs.declared.report.Report.{Report}
 use Rattle.jc_commands.specs.declared.stop.Stop.{Stop}
 use Rattle.jc_commands.specs.declared.stop.Stop.TheVariants as stops
@@ -136,13 +137,13 @@ root_fits n = refl
 apart : (platform release : List ClassFacts) → IsReleaseOver platform release → overlap_of platform release ≡ None
 apart platform release r = nothing_least platform release (recursion_from_All (λ (c : ClassFacts). class_named platform c.name ≡ None) release r.apart)
 
-made_fits : (n : ℕ) → n ≤ 4096 → mismatch_of (made n).platform (made n).old (made n).new ≡ None
+made_fits : (n : ℕ) → n ≤ 4096 → mismatch_of (old_made n) (new_made n) ≡ None
 made_fits n few =
     let r = are_releases n few in
-    releases_fit (made n).platform (made n).old (made n).new (root_fits n) (apart (made n).platform (made n).old r.old) (apart (made n).platform (made n).new r.new)
+    releases_fit (old_made n) (new_made n) (root_fits n) (apart (made n).platform (made n).old r.old) (apart (made n).platform (made n).new r.new)
 
-pub only_memory : (n : ℕ) → n ≤ 4096 → (stop : Stop) → StopsMatching (made n).platform (made n).old (made n).new stop → stop ≡ stops.Memory
-only_memory n few stop (inl h) = absurd (none_some (mismatch_of (made n).platform (made n).old (made n).new) stop (made_fits n few) h)
+pub only_memory : (n : ℕ) → n ≤ 4096 → (stop : Stop) → StopsMatching (old_made n) (new_made n) stop → stop ≡ stops.Memory
+only_memory n few stop (inl h) = absurd (none_some (mismatch_of (old_made n) (new_made n)) stop (made_fits n few) h)
 only_memory n few stop (inr h) = h
 
 -- ---- the verdict
@@ -150,7 +151,7 @@ only_memory n few stop (inr h) = h
 pub made_verdict : (n : ℕ) → IsSize n → (v : Verdict) × IsVerdictOnMade n v
 made_verdict n size =
     let r = are_releases n size.few in
-    some_verdict (made n).platform (made n).old (made n).new (has_root (made n).platform (sym (root_fits n))) r.platform.valid r.old.valid r.new.valid
+    some_verdict (old_made n) (new_made n) (plain_pair (made n).platform (made n).old (made n).new (has_root (made n).platform (sym (root_fits n))) r.platform.valid r.old.valid r.new.valid)
 
 pub made_reported : (n : ℕ) → IsSize n → (v : Verdict) (report : Report) → IsVerdictOnMade n v → IsBare report.body → TellsOf (MakeCommand n) v report → (trees : TreesState) → IsReportOf (MakeCommand n) trees report
 made_reported n size v report exact none tells trees = record {

@@ -1,16 +1,17 @@
 -- The tables of a list of releases.
 --     over_first, over_next, over_all, over_fits      the loop over the releases
 --     over_stopped      why it is left
---     two_sides, two_tables      the tables of two releases
+--     two_sides, two_tables, two_fit, two_stopped      the tables of two releases
+--     two_of_run, two_paired      their sides are of one run, and a pair of which promises are made
 --     row_sides      the sides of a row
 --     numbered_first, numbered_next, numbered_end      the loop that numbers releases
-use Rattle.std.proofs.Common.{◌≡◌, ◌<◌, ◌≤◌, ◌+◌, ◌⊎◌, inl, inr, ℕ, suc, List, [], ◌∷◌, ◌++◌, map, length, Option, None, Some, refl, sym, ap, subst, ◌∙◌, append_assoc, arith}
+use Rattle.std.proofs.Common.{◌≡◌, ◌<◌, ◌≤◌, ◌+◌, ◌⊎◌, inl, inr, ℕ, suc, List, [], ◌∷◌, ◌++◌, map, length, None, Some, refl, sym, ap, subst, ◌∙◌, append_assoc, arith}
 use Rattle.std.proofs.lemmas.List.{append-nil, length-map, length-append, map_push}
-use Rattle.std.specs.Prelude.{option_map}
 use Rattle.std.specs.List.{All}
 use Rattle.std.proofs.lemmas.List.Elements.{All-from_recursion, recursion_from_All}
 use Rattle.jc_facts.specs.declared.class_facts.ClassFacts.{ClassFacts}
 use Rattle.jc_facts.specs.Options.{or_else}
+use Rattle.jc_facts.specs.world.Pairs.{AreOfOneRun, IsPair}
 use Rattle.jc_facts.specs.world.World.{World, side}
 use Rattle.jc_lemmas.proofs.Listed.{EachOf}
 use Rattle.jc_table.specs.declared.table.TableError.{TableError}
@@ -18,17 +19,22 @@ use Rattle.jc_table.specs.declared.table.TableError.TheVariants as errors
 use Rattle.jc_table.specs.Tables.{HasCause as HasTableCause}
 use Rattle.jc_table.specs.Root.{fault_of_root}
 use Rattle.jc_table.specs.Sides.{overlap_of}
+use Rattle.jc_table.proofs.Roots.{has_root}
 use Rattle.jc_trees.specs.ClassLists.{IsRecordList, kind_of}
 use Rattle.jc_trees.specs.declared.tree.TreeKind.TheVariants as kinds
+use Rattle.jc_trees.specs.declared.tree.TreeName.{TreeName}
 use Rattle.jc_trees.specs.declared.tree.TreeName.TheVariants as names
 use Rattle.jc_trees.specs.declared.tree_read.TreeRead.{TreeRead}
 use Rattle.jc_trees.specs.declared.tree_read.TreeRead.TheVariants as reads
-use Rattle.jc_commands.specs.Releases.{release_at, old_and_new, numbered, sides_of, first_overlap, mismatch_among}
+use Rattle.jc_commands.specs.Check.{mismatch_of}
+use Rattle.jc_commands.specs.Releases.{side_of, release_at, numbered, sides_of, first_overlap, mismatch_among}
 use Rattle.jc_commands.specs.declared.releases.Release.{Release}
 use Rattle.jc_commands.specs.History.{row_of}
-use Rattle.jc_commands.specs.steps.Releases.{IsReleaseList, StopsRelease, StopsOver, unfit_by}
+use Rattle.jc_commands.specs.steps.Check.{StopsMatching}
+use Rattle.jc_commands.specs.steps.Releases.{IsReleaseList, AreOldAndNew, StopsRelease, StopsOver, unfit_by}
 use Rattle.jc_commands.specs.declared.stop.Stop.{Stop}
 use Rattle.jc_commands.specs.declared.stop.Stop.TheVariants as stops
+use Rattle.jc_commands.proofs.Records.{first_none, unmapped}
 
 -- ---- the loop over the releases
 
@@ -52,11 +58,11 @@ unfolding or_else
 passed platform r rs e = rw e refl
 
 pub over_next : (platform : List ClassFacts) (all rest : List Release) (r : Release) (tables : List World) (table : World) → IsOver platform all (r ∷ rest) tables
-    → table ≡ side platform r.records → fault_of_root platform ≡ None → overlap_of platform r.records ≡ None → IsOver platform all rest (tables ++ table ∷ [])
+    → table ≡ side_of platform r → fault_of_root platform ≡ None → overlap_of platform r.records ≡ None → IsOver platform all rest (tables ++ table ∷ [])
 over_next platform all rest r tables table way is root apart = record {
   built =
       ap (λ (W : World). (tables ++ W ∷ []) ++ sides_of platform rest) is
-      ∙ append_assoc tables (side platform r.records ∷ []) (sides_of platform rest) ∙ way.built;
+      ∙ append_assoc tables (side_of platform r ∷ []) (sides_of platform rest) ∙ way.built;
   overlaps = sym (passed platform r rest apart) ∙ way.overlaps;
   lists = way.lists.1;
   root = inr root;
@@ -110,18 +116,50 @@ few_both a b h k = omega (arith, h, k)
 
 -- ---- two releases
 
-pub two_tables : (platform old new : List ClassFacts) (releases : List Release) (tables : List World) → releases ≡ old_and_new old new → tables ≡ sides_of platform releases
-    → tables ≡ side platform old ∷ side platform new ∷ []
+pub two_tables : (platform : List ClassFacts) (old new : Release) (releases : List Release) (tables : List World) → releases ≡ old ∷ new ∷ [] → tables ≡ sides_of platform releases
+    → tables ≡ side_of platform old ∷ side_of platform new ∷ []
 two_tables platform old new releases tables are is = is ∙ ap (sides_of platform) are
 
-pub two_lists : (old new : List ClassFacts) (releases : List Release) → releases ≡ old_and_new old new → IsRecordList old → IsRecordList new → All IsReleaseList releases
-two_lists old new releases are o n = subst (All IsReleaseList) (sym are) (All-from_recursion IsReleaseList (old_and_new old new) (o, (n, tt)))
+pub two_lists : (old new : Release) (releases : List Release) → releases ≡ old ∷ new ∷ [] → AreOldAndNew old new → All IsReleaseList releases
+two_lists old new releases are r = subst (All IsReleaseList) (sym are) (All-from_recursion IsReleaseList (old ∷ new ∷ []) (r.old_list, (r.new_list, tt)))
 
-pub two_some : (old new : List ClassFacts) (releases : List Release) → releases ≡ old_and_new old new → 0 < length releases
+pub two_some : (old new : Release) (releases : List Release) → releases ≡ old ∷ new ∷ [] → 0 < length releases
 two_some old new releases are = let e : length releases ≡ 2 = ap length are in omega (arith, e)
 
 pub two_sides : (a b c d : World) → a ∷ b ∷ [] ≡ c ∷ d ∷ [] → (a ≡ c) × (b ≡ d)
 two_sides a b c d e = let first : a ≡ c = cc in let second : b ≡ d = cc in (first, second)
+
+-- why they don't go with the platform is why their sides don't
+pub two_mismatched : (platform : List ClassFacts) (old new : Release) (releases : List Release) → releases ≡ old ∷ new ∷ [] → AreOldAndNew old new
+    → mismatch_among platform releases ≡ mismatch_of (side_of platform old) (side_of platform new)
+two_mismatched platform old new releases are r =
+    ap (mismatch_among platform) are
+    ∙ ap (λ (name : TreeName). mismatch_among platform (release_at name old.records ∷ new ∷ [])) r.old_name
+    ∙ ap (λ (name : TreeName). mismatch_among platform (release_at names.Old old.records ∷ release_at name new.records ∷ [])) r.new_name
+
+pub two_fit : (platform : List ClassFacts) (old new : Release) (releases : List Release) → releases ≡ old ∷ new ∷ [] → AreOldAndNew old new
+    → mismatch_among platform releases ≡ None → mismatch_of (side_of platform old) (side_of platform new) ≡ None
+two_fit platform old new releases are r fits = sym (two_mismatched platform old new releases are r) ∙ fits
+
+pub two_stopped : (platform : List ClassFacts) (old new : Release) (releases : List Release) → releases ≡ old ∷ new ∷ [] → AreOldAndNew old new
+    → (stop : Stop) → StopsOver platform releases stop → StopsMatching (side_of platform old) (side_of platform new) stop
+two_stopped platform old new releases are r stop (inl h) = inl (sym (two_mismatched platform old new releases are r) ∙ h)
+two_stopped platform old new releases are r stop (inr h) = inr h
+
+-- their sides are of one run
+pub two_of_run : (platform : List ClassFacts) (old new : Release) → AreOldAndNew old new → AreOfOneRun (side_of platform old) (side_of platform new)
+two_of_run platform old new r = record { old_bare = refl; new_bare = refl; platform = refl; kind = r.kind }
+
+-- and a pair, of which promises are made, where they go with the platform
+pub two_paired : (platform : List ClassFacts) (old new : Release) → IsRecordList platform → AreOldAndNew old new → mismatch_of (side_of platform old) (side_of platform new) ≡ None
+    → IsPair (side_of platform old) (side_of platform new)
+two_paired platform old new p r fits = record {
+  run = two_of_run platform old new r;
+  root = has_root platform (sym (unmapped stops.BadRoot (fault_of_root platform) (first_none _ _ fits)));
+  platform_valid = p.valid;
+  old_valid = r.old_list.valid;
+  new_valid = r.new_list.valid;
+}
 
 -- ---- a row of releases
 

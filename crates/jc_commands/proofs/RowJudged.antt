@@ -1,15 +1,16 @@
 -- The verdicts on a row of releases.
 --     row_judged, row_refused      what the verdicts are, and that one has too many findings
 --     row_is      the sides of numbered releases
-use Rattle.std.proofs.Common.{◌≡◌, ◌∙◌, inl, inr, List, [], ◌∷◌, map, Option, None, Some, refl, sym, ap, subst}
+use Rattle.std.proofs.Common.{◌≡◌, ◌∙◌, inl, inr, List, [], ◌∷◌, map, None, Some, refl, sym, ap, subst}
 use Rattle.std.specs.List.{All}
 use Rattle.std.proofs.lemmas.List.Elements.{All-from_recursion, recursion_from_All}
 use Rattle.jc_facts.specs.declared.class_facts.ClassFacts.{ClassFacts}
 use Rattle.jc_facts.specs.declared.verdict.Verdict.{Verdict}
 use Rattle.jc_facts.specs.file.Valid.{IsValidClass}
-use Rattle.jc_facts.specs.world.World.{World}
+use Rattle.jc_facts.specs.world.Pairs.{AreOfOneRun}
+use Rattle.jc_facts.specs.world.World.{World, side}
 use Rattle.jc_lemmas.proofs.Listed.{EachOf, each_in}
-use Rattle.jc_history.specs.History.{HavePlatform, AreVerdictsWithin}
+use Rattle.jc_history.specs.History.{AreOfRun, AreVerdictsWithin}
 use Rattle.jc_history.specs.Row.{steps_of, KeepsRow}
 use Rattle.jc_table.specs.Root.{fault_of_root}
 use Rattle.jc_table.proofs.Roots.{has_root}
@@ -27,13 +28,14 @@ use Rattle.jc_commands.proofs.Records.{first_none, unmapped}
 use Rattle.jc_commands.proofs.ReleasesOver.{row_sides}
 use Rattle.jc_commands.proofs.RowVerdicts.{step_verdict}
 
-each_platform : (platform : List ClassFacts) (releases : List (List ClassFacts)) → EachOf (λ (W : World). W.platform ≡ platform) (row_of platform releases)
-each_platform platform [] = tt
-each_platform platform (r ∷ rs) = (refl, each_platform platform rs)
+each_of_run : (platform : List ClassFacts) (releases : List (List ClassFacts)) → EachOf (AreOfOneRun (side platform [])) (row_of platform releases)
+each_of_run platform [] = tt
+each_of_run platform (r ∷ rs) = (record { old_bare = refl; new_bare = refl; platform = refl; kind = refl }, each_of_run platform rs)
 
-pub have_platform : (platform : List ClassFacts) (releases : List (List ClassFacts)) (tables : List World) → tables ≡ row_of platform releases → HavePlatform platform tables
-have_platform platform releases tables is =
-    subst (HavePlatform platform) (sym is) (All-from_recursion (λ (W : World). W.platform ≡ platform) (row_of platform releases) (each_platform platform releases))
+-- sides of one platform without modules are of one run
+pub are_of_run : (platform : List ClassFacts) (releases : List (List ClassFacts)) (tables : List World) → tables ≡ row_of platform releases → AreOfRun (side platform []) tables
+are_of_run platform releases tables is =
+    subst (AreOfRun (side platform [])) (sym is) (All-from_recursion (AreOfOneRun (side platform [])) (row_of platform releases) (each_of_run platform releases))
 
 pub row_judged : (platform : List ClassFacts) (releases : List (List ClassFacts)) (tables : List World) (vs : List Verdict) → tables ≡ row_of platform releases → mismatch_of_row platform releases ≡ None
     → AreVerdictsWithin (steps_of tables) MAX_FINDINGS (Some vs) → KeepsRow tables vs → IsJudged platform releases vs

@@ -1,7 +1,7 @@
 -- The verdicts on the steps of a row of releases that go with their platform.
 --     some_row      each step has one
 --     few_or_many      each has few findings, or one has too many
-use Rattle.std.proofs.Common.{◌≡◌, ◌≤◌, ◌<◌, ◌⊎◌, inl, inr, Bool, true, false, ℕ, List, [], ◌∷◌, map, None, Some, refl, sym, subst, ◌∙◌}
+use Rattle.std.proofs.Common.{◌≡◌, ◌≤◌, ◌<◌, ◌⊎◌, inl, inr, Bool, true, false, List, [], ◌∷◌, None, refl, sym, subst}
 use Rattle.std.specs.Prelude.{nat_lt}
 use Rattle.std.specs.List.{All, Contains}
 use Rattle.std.proofs.lemmas.Bool.{ltb-true, ltb-false}
@@ -10,11 +10,12 @@ use Rattle.jc_facts.specs.declared.verdict.Verdict.{Verdict}
 use Rattle.jc_facts.specs.client.Clients.{HasRoot}
 use Rattle.jc_facts.specs.file.Valid.{IsValidClass}
 use Rattle.jc_facts.specs.rule.Verdict.{IsVerdict, count_of}
-use Rattle.jc_facts.specs.world.World.{World, side}
+use Rattle.jc_facts.specs.world.World.{side}
+use Rattle.jc_facts.proofs.Pairs.{plain_pair}
 use Rattle.jc_lemmas.proofs.Listed.{EachOf, none, cases, here, there}
 use Rattle.jc_sound.proofs.VerdictLaw.{verdict_is_one}
 use Rattle.jc_history.specs.Row.{Step, steps_from, steps_of, AreVerdicts}
-use Rattle.jc_commands.specs.History.{row_of, mismatch_of_row, HasTooManyAt, IsFitRow, IsUnfitRow}
+use Rattle.jc_commands.specs.History.{row_of, mismatch_of_row, IsFitRow, IsUnfitRow}
 use Rattle.jc_commands.specs.declared.limits.TheConstants.{MAX_FINDINGS}
 use Rattle.jc_commands.specs.declared.stop.Part.TheVariants as parts
 use Rattle.jc_commands.specs.declared.stop.Stop.{Stop}
@@ -25,7 +26,7 @@ some_from : (platform first : List ClassFacts) (later : List (List ClassFacts)) 
     → (vs : List Verdict) × AreVerdicts (steps_from (side platform first) (row_of platform later)) vs
 some_from platform first [] root vp vf vl = ([], tt)
 some_from platform first (n ∷ later) root vp vf vl =
-    let v = some_verdict platform first n root vp vf vl.0 in
+    let v = some_verdict (side platform first) (side platform n) (plain_pair platform first n root vp vf vl.0) in
     let vs = some_from platform n later root vp vl.0 vl.1 in
     (v.0 ∷ vs.0, (v.1, vs.1))
 
@@ -104,5 +105,5 @@ pub step_verdict : (platform : List ClassFacts) (releases : List (List ClassFact
     → Contains (steps_of (row_of platform releases)) s → (v : Verdict) × IsVerdict s.old s.new v
 step_verdict platform releases s root vp valid c =
     let b = between platform releases s c in
-    let v = some_verdict platform b.old b.new root vp (valid b.old b.old_in) (valid b.new b.new_in) in
+    let v = some_verdict (side platform b.old) (side platform b.new) (plain_pair platform b.old b.new root vp (valid b.old b.old_in) (valid b.new b.new_in)) in
     (v.0, subst (λ (x : Step). IsVerdict x.old x.new v.0) (sym b.step) v.1)

@@ -3,7 +3,7 @@
 --     dropped_are_one      there is no other
 --     dropped_on, dropped_one, dropped_few      what is reported of it
 --     dropped_listing      its bytes as a listing
-use Rattle.std.proofs.Common.{◌≡◌, ◌≤◌, ◌∙◌, ◌==◌, ◌⊎◌, inl, inr, Bool, true, false, cond, ◌&&◌, ℕ, List, [], ◌∷◌, ◌++◌, map, length, Option, Some, None, refl, sym, ap, subst}
+use Rattle.std.proofs.Common.{◌≡◌, ◌≤◌, ◌∙◌, ◌==◌, ◌⊎◌, inl, inr, Bool, true, false, cond, ◌&&◌, ℕ, List, [], ◌∷◌, length, Option, Some, None, refl, sym, ap, subst}
 use Rattle.std.specs.Prelude.{IsTrue, codes, if◌then◌else◌}
 use Rattle.std.specs.List.{Contains, filter_map}
 use Rattle.std.specs.Cmp.{IsTotalOrder, then_total, on_total}
@@ -11,7 +11,7 @@ use Rattle.std.specs.Cmp.Lexicographic.{nat_list_cmp_total}
 use Rattle.std.proofs.lemmas.Bool.{or_cases, eqb-true}
 use Rattle.std.proofs.lemmas.List.Elements.{Contains-append_left}
 use Rattle.jc_dropped.specs.declared.dropped.Dropped.{Dropped}
-use Rattle.jc_dropped.specs.Dropped.{has_lost, loses_interface, is_dropped, loses_above, dropped_order, IsDropped, AreDropped}
+use Rattle.jc_dropped.specs.Dropped.{has_lost, loses_interface, is_dropped, dropped_order, IsDropped, AreDropped}
 use Rattle.jc_facts.specs.declared.class_facts.ClassFacts.{ClassFacts}
 use Rattle.jc_facts.specs.declared.key.Key.{Key}
 use Rattle.jc_facts.specs.Exactly.{HasExactly}
@@ -24,7 +24,7 @@ use Rattle.jc_facts.proofs.InOrder.{exact_same}
 use Rattle.jc_facts.proofs.Same.{same_is}
 use Rattle.jc_facts.proofs.World.{find-name}
 use Rattle.jc_lemmas.proofs.Bools.{both_first, both_last}
-use Rattle.jc_lemmas.proofs.Listed.{EachOf, EachOf-map}
+use Rattle.jc_lemmas.proofs.Listed.{EachOf}
 use Rattle.jc_worlds.proofs.Descent.{descend-absent}
 use Rattle.jc_sound.proofs.ExactLists.{exact_list}
 use Rattle.jc_sound.proofs.VerdictLaw.{exactly_one}

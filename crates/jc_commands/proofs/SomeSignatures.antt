@@ -4,7 +4,7 @@
 --     noted_one      what is reported of them is one
 --     sig_listing      their bytes as a listing
 use Rattle.std.proofs.Common.{◌≡◌, ◌∙◌, ◌==◌, ◌&&◌, Bool, true, false, cond, ℕ, List, ◌++◌, Option, Some, None, refl, sym, ap, subst}
-use Rattle.std.specs.Prelude.{codes, if◌then◌else◌, option_map}
+use Rattle.std.specs.Prelude.{codes, option_map}
 use Rattle.std.specs.List.{Contains, filter_map}
 use Rattle.std.specs.Cmp.{IsTotalOrder, then_total, on_total}
 use Rattle.std.specs.Cmp.Lexicographic.{nat_list_cmp_total, options_total}

@@ -1,6 +1,6 @@
--- Two sides have a verdict: what stands on their subjects, in order.
-use Rattle.std.proofs.Common.{◌≡◌, Bool, true, false, cond, not, ◌&&◌, ◌==◌, ℕ, List, [], ◌++◌, refl, sym, ◌∙◌, ap, subst, Option, Some, None, is_some}
-use Rattle.std.specs.List.{Contains, All, filter_map}
+-- Two sides of one run have a verdict: what stands on their subjects, in order.
+use Rattle.std.proofs.Common.{◌≡◌, Bool, true, false, cond, not, ◌&&◌, ◌==◌, ℕ, List, ◌++◌, refl, sym, ◌∙◌, ap, subst, Option, Some, None, is_some}
+use Rattle.std.specs.List.{Contains, filter_map}
 use Rattle.std.specs.declared.cmp.Ordering.{Ordering}
 use Rattle.std.specs.declared.cmp.Ordering.TheVariants.{Less, Equal, Greater}
 use Rattle.std.specs.Ordering.{nat_cmp, ordering_then}
@@ -20,7 +20,6 @@ use Rattle.jc_facts.specs.declared.verdict.Verdict.{Verdict}
 use Rattle.jc_facts.specs.declared.warning.Warning.{Warning}
 use Rattle.jc_facts.specs.declared.warning.WarnKind.{WarnKind}
 use Rattle.jc_facts.specs.world.Assignment.{is_interface_of}
-use Rattle.jc_facts.specs.client.Clients.{HasRoot}
 use Rattle.jc_facts.specs.rule.Collisions.{CollisionStands, collision_at, made_collision}
 use Rattle.jc_facts.specs.rule.Findings.{Subject, Stands, finding_at, finding_by, subject_of, superclass_lost}
 use Rattle.jc_facts.specs.Flags.{static_flag, final_flag}
@@ -32,7 +31,6 @@ use Rattle.jc_facts.specs.rule.Notes.{NoteStands, in_release, has_lost_constant,
 use Rattle.jc_facts.specs.Options.{and_then, some_and, some_where}
 use Rattle.jc_facts.specs.rule.Orders.{finding_order, collision_order, note_order, group_of, noted_class, noted_key}
 use Rattle.jc_facts.specs.Exactly.{name_order, HasExactly}
-use Rattle.jc_facts.specs.file.Valid.{IsValidClass}
 use Rattle.jc_facts.specs.rule.Verdict.{IsVerdict}
 use Rattle.jc_facts.specs.rule.Warnings.{AreWarnings, WarningStands, interfaces_from, is_base, warning_at, warning_order}
 use Rattle.jc_select.specs.steps.Warned.{warning_of}
@@ -41,9 +39,8 @@ use Rattle.jc_select.proofs.WarnedKeys.{from_both, warned_declared}
 use Rattle.jc_sides.proofs.ItemRules.{kept_where}
 use Rattle.jc_sides.proofs.NamedAbove.{base_unkept}
 use Rattle.jc_facts.specs.rule.Bases.{is_class_usable, is_kept}
-use Rattle.jc_facts.specs.world.World.{World, side, classes, find_class, own_field_of, own_method_of}
+use Rattle.jc_facts.specs.world.World.{World, classes, find_class, own_field_of, own_method_of}
 use Rattle.jc_facts.specs.world.Pairs.{IsPair}
-use Rattle.jc_facts.proofs.Pairs.{plain_pair}
 use Rattle.jc_lemmas.proofs.Listed.{EachOf, EachOf-map, EachOf-append}
 use Rattle.jc_worlds.proofs.Loaded.{loads-found}
 use Rattle.jc_worlds.specs.Hierarchy.{above}
@@ -286,16 +283,7 @@ collision_ordered c d = ap (λ o. ordering_then (nat_cmp c.rule d.rule) (orderin
 note_ordered : (m n : Note) → subject_order (note_subject m) (note_subject n) ≡ note_order m n
 note_ordered m n = ap (λ o. ordering_then (nat_cmp (group_of m) (group_of n)) (ordering_then (name_order (noted_class m) (noted_class n)) o)) (last_tied (option_cmp key_cmp (noted_key m) (noted_key n)))
 
-module _ (platform old new : List ClassFacts) (root : HasRoot platform) (vp : All IsValidClass platform) (vo : All IsValidClass old) (vn : All IsValidClass new) where
-  abbrev O : World
-  O = side platform old
-
-  abbrev N : World
-  N = side platform new
-
-  pair : IsPair O N
-  pair = plain_pair platform old new root vp vo vn
-
+module _ (O N : World) (pair : IsPair O N) where
   of_old : (c : ClassFacts) → Contains (classes O) c → Contains (classes O ++ classes N) c
   of_old c m = Contains-append_left (classes O) (classes N) c m
 
@@ -373,7 +361,7 @@ module _ (platform old new : List ClassFacts) (root : HasRoot platform) (vp : Al
   abbrev warnings : List Warning
   warnings = filter_map (warning_on O N) (subjects O N).items
 
-  pub some_warnings : (ws : List Warning) × AreWarnings (side platform old) (side platform new) ws
+  pub some_warnings : (ws : List Warning) × AreWarnings O N ws
   some_warnings = (
     warnings,
     exact_same warning_order (λ w. warning_on O N (warning_subject w) ≡ Some w) (WarningStands O N) warnings (warning_stands O N) (warning_found O N)
@@ -390,11 +378,11 @@ module _ (platform old new : List ClassFacts) (root : HasRoot platform) (vp : Al
       go None e q = absurd (cc)
       go (Some c) e q = name_of O N x c (among c (named_in W.release x c e)) (class_named-name W.release x c e)
 
-  in_old : (c : ClassFacts) → Contains old c → Contains (classes O ++ classes N) c
-  in_old c m = of_old c (Contains-append_left (platform ++ old) [] c (Contains-append_right platform old c m))
+  in_old : (c : ClassFacts) → Contains O.release c → Contains (classes O ++ classes N) c
+  in_old c m = of_old c (Contains-append_left (O.platform ++ O.release) O.clients c (Contains-append_right O.platform O.release c m))
 
-  in_new : (c : ClassFacts) → Contains new c → Contains (classes O ++ classes N) c
-  in_new c m = of_new c (Contains-append_left (platform ++ new) [] c (Contains-append_right platform new c m))
+  in_new : (c : ClassFacts) → Contains N.release c → Contains (classes O ++ classes N) c
+  in_new c m = of_new c (Contains-append_left (N.platform ++ N.release) N.clients c (Contains-append_right N.platform N.release c m))
 
   -- a key that a class of the old release has a constant of is one of those that classes declare
   constant_key : (x : Bytes) (k : Key) → changes_constant O N x k ≡ true → Contains (keys O N) k
@@ -414,7 +402,7 @@ module _ (platform old new : List ClassFacts) (root : HasRoot platform) (vp : Al
           has test (Some m) q = refl
 
       go : (o : Option ClassFacts) → in_release O x ≡ o → (p : Option ClassFacts) → some_and (λ c. some_and (λ d. has_lost_constant c d k) p) o ≡ true → Contains (keys O N) k
-      go (Some c) e (Some d) q = class_key k (classes O ++ classes N) c (in_old c (named_in old x c e)) (or_left (is_some (own_field_of c k)) (is_some (own_method_of c k)) (field c d q))
+      go (Some c) e (Some d) q = class_key k (classes O ++ classes N) c (in_old c (named_in O.release x c e)) (or_left (is_some (own_field_of c k)) (is_some (own_method_of c k)) (field c d q))
       go (Some c) e None q = absurd (cc)
       go None e p q = absurd (cc)
 
@@ -436,5 +424,5 @@ module _ (platform old new : List ClassFacts) (root : HasRoot platform) (vp : Al
       (subst (λ order. HasExactly order (λ n. note_of O N (note_subject n) ≡ Some n) (filter_map (note_of O N) (subjects O N).items)) (λ i m n. note_ordered m n i)
       (exact_list subject_order (note_of O N) note_subject (note_is_on O N) (subjects O N).items (subjects O N).in_order (λ n e. note_covered n (stands_of O N n e))))
 
-  pub some_verdict : (v : Verdict) × IsVerdict (side platform old) (side platform new) v
+  pub some_verdict : (v : Verdict) × IsVerdict O N v
   some_verdict = (record { findings = findings; collisions = collisions; notes = notes }, record { findings = findings_exact; collisions = collisions_exact; notes = notes_exact })

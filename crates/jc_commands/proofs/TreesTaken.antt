@@ -5,8 +5,9 @@ use Rattle.std.proofs.lemmas.List.{length-map}
 use Rattle.std.proofs.lemmas.List.Elements.{All-from_recursion, recursion_from_All}
 use Rattle.jc_facts.specs.declared.class_facts.ClassFacts.{ClassFacts}
 use Rattle.jc_facts.specs.Names.{Bytes}
+use Rattle.jc_facts.specs.world.World.{Modules, OneModule, Several}
 use Rattle.jc_lemmas.proofs.Listed.{EachOf}
-use Rattle.jc_trees.specs.ClassLists.{IsReadList, StartsAs, kind_of}
+use Rattle.jc_trees.specs.ClassLists.{IsReadList, IsRecordList, StartsAs, kind_of}
 use Rattle.jc_trees.specs.Tree.{TreeOf}
 use Rattle.jc_trees.specs.declared.tree.TreeKind.{TreeKind}
 use Rattle.jc_trees.specs.declared.tree.TreeKind.TheVariants as kinds
@@ -14,6 +15,7 @@ use Rattle.jc_trees.specs.declared.tree_read.TreeRead.{TreeRead}
 use Rattle.jc_trees.specs.declared.tree_read.TreeRead.TheVariants as reads
 use Rattle.jc_trees.proofs.TakenReads.{first_of_kind, rest_of_kinds, none_left}
 use Rattle.jc_commands.specs.Command.{HistoryOf, HistoryCommand, release_trees, trees_of}
+use Rattle.jc_commands.specs.Releases.{modules_in, read_as, read_of}
 use Rattle.jc_commands.specs.declared.releases.Release.{Release}
 use Rattle.jc_commands.specs.steps.Releases.{IsReleaseList}
 
@@ -49,6 +51,14 @@ module _ (all : List TreeRead) (k l m : TreeKind) (kinds_are : map kind_of all �
 -- what is read of each is as it has to be
 pub three_lists : (all : List TreeRead) (x y z : TreeRead) → all ≡ x ∷ y ∷ z ∷ [] → All IsReadList all → AllByRecursion IsReadList (x ∷ y ∷ z ∷ [])
 three_lists all x y z is h = recursion_from_All IsReadList (x ∷ y ∷ z ∷ []) (subst (All IsReadList) is h)
+
+-- the records of a release are
+pub release_list : (r : Release) → IsReadList (read_of r) → IsReleaseList r
+release_list r h = go (modules_in r.modules) h
+  where
+    go : (m : Modules) → IsReadList (read_as m r.records) → IsRecordList r.records
+    go OneModule k = k
+    go (Several exports) k = k
 
 -- ---- a row of releases
 

@@ -1,5 +1,5 @@
 -- A check of two releases: what it reads, why that is refused, its verdict, and its warnings, its notes on signatures and its dropped interfaces where they are asked for.
-use Rattle.std.specs.Prelude.{◌≡◌, ◌≢◌, ◌≤◌, ◌<◌, ◌⊎◌, ℕ, ◌+◌, List, [], ◌∷◌, ◌++◌, map, length, Bool, true, false, IsTrue, Option, Some, None, codes, if◌then◌else◌}
+use Rattle.std.specs.Prelude.{◌≡◌, ◌≢◌, ◌≤◌, ◌<◌, ℕ, ◌+◌, List, [], ◌∷◌, ◌++◌, map, length, Bool, true, false, IsTrue, Option, Some, None, codes, if◌then◌else◌}
 use Rattle.std.specs.List.{All}
 use Rattle.jc_base.specs.Outside.{FileOf}
 use Rattle.jc_base.specs.States.{FolderState, Change}
@@ -14,7 +14,7 @@ use Rattle.jc_facts.specs.declared.sig_note.SigNote.{SigNote}
 use Rattle.jc_facts.specs.declared.verdict.Verdict.{Verdict}
 use Rattle.jc_facts.specs.declared.warning.Warning.{Warning}
 use Rattle.jc_facts.specs.Names.{Bytes}
-use Rattle.jc_facts.specs.world.World.{World, side, with_clients}
+use Rattle.jc_facts.specs.world.World.{World, Modules, side_in, with_clients}
 use Rattle.jc_facts.specs.client.Clients.{IsInScope, Keeps, facts_of}
 use Rattle.jc_facts.specs.client.Kept.{BreaksClass}
 use Rattle.jc_facts.specs.client.Meets.{Meets}
@@ -31,7 +31,7 @@ use Rattle.jc_witness.specs.Witnesses.{IsWitness, IsWitnessOf, MeetsOnly, error_
 use Rattle.jc_trees.specs.ReadTrees.{GiveAll}
 use Rattle.jc_trees.specs.declared.tree_read.TreeRead.TheVariants as reads
 use Rattle.jc_commands.specs.Command.{CheckOf, CheckCommand, trees_of}
-use Rattle.jc_commands.specs.Releases.{old_and_new, mismatch_among}
+use Rattle.jc_commands.specs.Releases.{read_as, old_and_new, mismatch_among}
 use Rattle.jc_commands.specs.DroppedPart.{AreAskedDropped, dropped_bytes}
 use Rattle.jc_commands.specs.Signatures.{AreSigNotes, AreNoted, sig_bytes}
 use Rattle.jc_commands.specs.Witness.{PutFile, PutsFiles, put_file, causes_of, witness_puts}
@@ -40,70 +40,72 @@ use Rattle.jc_commands.specs.declared.stop.Part.TheVariants as parts
 use Rattle.jc_commands.specs.declared.stop.Stop.{Stop}
 use Rattle.jc_commands.specs.declared.stop.Stop.TheVariants as stops
 
--- the records of its three trees
+-- the records of its three trees, and the modules of the two releases
 pub record CheckRecords (files : List FileOf) (check : CheckOf) : Type 0 where
   pub platform : List ClassFacts
   pub old : List ClassFacts
+  pub old_modules : Modules
   pub new : List ClassFacts
-  pub are : GiveAll files (trees_of (CheckCommand check)) (reads.Library platform ∷ reads.Library old ∷ reads.Library new ∷ [])
+  pub new_modules : Modules
+  pub are : GiveAll files (trees_of (CheckCommand check)) (reads.Library platform ∷ read_as old_modules old ∷ read_as new_modules new ∷ [])
 
 -- the platform with the old release, and with the new one
 abbrev pub old_side : {files : List FileOf} {check : CheckOf} → CheckRecords files check → World
-old_side r = side r.platform r.old
+old_side r = side_in r.old_modules r.platform r.old
 
 abbrev pub new_side : {files : List FileOf} {check : CheckOf} → CheckRecords files check → World
-new_side r = side r.platform r.new
+new_side r = side_in r.new_modules r.platform r.new
 
 -- ---- why the records are refused
 
--- the first reason why the releases don't go with the platform
-abbrev pub mismatch_of : List ClassFacts → List ClassFacts → List ClassFacts → Option Stop
-mismatch_of platform old new = mismatch_among platform (old_and_new old new)
+-- the first reason why the releases of two sides don't go with their platform
+abbrev pub mismatch_of : World → World → Option Stop
+mismatch_of O N = mismatch_among O.platform (old_and_new O.release N.release)
 
 -- the releases go with the platform, and their verdict has too many findings and collisions
-pub record HasTooMany (platform old new : List ClassFacts) : Type 0 where
-  pub fits : mismatch_of platform old new ≡ None
+pub record HasTooMany (O N : World) : Type 0 where
+  pub fits : mismatch_of O N ≡ None
   pub verdict : Verdict
-  pub exact : IsVerdict (side platform old) (side platform new) verdict
+  pub exact : IsVerdict O N verdict
   pub many : MAX_FINDINGS < count_of verdict
 
 -- the releases go with the platform, their verdict hasn't too many findings and collisions, and there are too many warnings on them
-pub record HasTooManyWarnings (platform old new : List ClassFacts) : Type 0 where
-  pub fits : mismatch_of platform old new ≡ None
-  pub few : (v : Verdict) → IsVerdict (side platform old) (side platform new) v → count_of v ≤ MAX_FINDINGS
+pub record HasTooManyWarnings (O N : World) : Type 0 where
+  pub fits : mismatch_of O N ≡ None
+  pub few : (v : Verdict) → IsVerdict O N v → count_of v ≤ MAX_FINDINGS
   pub warnings : List Warning
-  pub exact : AreWarnings (side platform old) (side platform new) warnings
+  pub exact : AreWarnings O N warnings
   pub many : MAX_WARNINGS < length warnings
 
 -- the releases go with the platform, none of what is asked for before is too much, and there are too many dropped interfaces
-pub record HasTooManyDropped (check : CheckOf) (platform old new : List ClassFacts) : Type 0 where
-  pub fits : mismatch_of platform old new ≡ None
-  pub few : (v : Verdict) → IsVerdict (side platform old) (side platform new) v → count_of v ≤ MAX_FINDINGS
-  pub few_warnings : IsTrue check.warn → (ws : List Warning) → AreWarnings (side platform old) (side platform new) ws → length ws ≤ MAX_WARNINGS
+pub record HasTooManyDropped (check : CheckOf) (O N : World) : Type 0 where
+  pub fits : mismatch_of O N ≡ None
+  pub few : (v : Verdict) → IsVerdict O N v → count_of v ≤ MAX_FINDINGS
+  pub few_warnings : IsTrue check.warn → (ws : List Warning) → AreWarnings O N ws → length ws ≤ MAX_WARNINGS
   pub dropped : List Dropped
-  pub exact : AreDropped (side platform old) (side platform new) dropped
+  pub exact : AreDropped O N dropped
   pub many : MAX_DROPPED < length dropped
 
 -- the records are refused, and this is the first cause; warnings and dropped interfaces count where they are asked for alone
-pub data IsUnfit (check : CheckOf) (platform old new : List ClassFacts) (stop : Stop) : Type 0 where
-  is_apart : mismatch_of platform old new ≡ Some stop → IsUnfit check platform old new stop
-  over_findings : stop ≡ stops.TooMany parts.Findings → HasTooMany platform old new → IsUnfit check platform old new stop
-  over_warnings : IsTrue check.warn → stop ≡ stops.TooMany parts.Warnings → HasTooManyWarnings platform old new → IsUnfit check platform old new stop
-  over_dropped : IsTrue check.dropped → stop ≡ stops.TooMany parts.Dropped → HasTooManyDropped check platform old new → IsUnfit check platform old new stop
+pub data IsUnfit (check : CheckOf) (O N : World) (stop : Stop) : Type 0 where
+  is_apart : mismatch_of O N ≡ Some stop → IsUnfit check O N stop
+  over_findings : stop ≡ stops.TooMany parts.Findings → HasTooMany O N → IsUnfit check O N stop
+  over_warnings : IsTrue check.warn → stop ≡ stops.TooMany parts.Warnings → HasTooManyWarnings O N → IsUnfit check O N stop
+  over_dropped : IsTrue check.dropped → stop ≡ stops.TooMany parts.Dropped → HasTooManyDropped check O N → IsUnfit check O N stop
 
 -- no cause to refuse them stands
-pub record IsFit (check : CheckOf) (platform old new : List ClassFacts) : Type 0 where
-  pub fits : mismatch_of platform old new ≡ None
-  pub few : (v : Verdict) → IsVerdict (side platform old) (side platform new) v → count_of v ≤ MAX_FINDINGS
-  pub few_warnings : IsTrue check.warn → (ws : List Warning) → AreWarnings (side platform old) (side platform new) ws → length ws ≤ MAX_WARNINGS
-  pub few_dropped : IsTrue check.dropped → (ds : List Dropped) → AreDropped (side platform old) (side platform new) ds → length ds ≤ MAX_DROPPED
+pub record IsFit (check : CheckOf) (O N : World) : Type 0 where
+  pub fits : mismatch_of O N ≡ None
+  pub few : (v : Verdict) → IsVerdict O N v → count_of v ≤ MAX_FINDINGS
+  pub few_warnings : IsTrue check.warn → (ws : List Warning) → AreWarnings O N ws → length ws ≤ MAX_WARNINGS
+  pub few_dropped : IsTrue check.dropped → (ds : List Dropped) → AreDropped O N ds → length ds ≤ MAX_DROPPED
 
 -- ---- the verdict
 
--- the verdict on the two releases, where nothing refuses them
-pub record IsVerdictOn (platform old new : List ClassFacts) (v : Verdict) : Type 0 where
-  pub fits : mismatch_of platform old new ≡ None
-  pub exact : IsVerdict (side platform old) (side platform new) v
+-- the verdict on the two sides, where nothing refuses them
+pub record IsVerdictOn (O N : World) (v : Verdict) : Type 0 where
+  pub fits : mismatch_of O N ≡ None
+  pub exact : IsVerdict O N v
   pub few : count_of v ≤ MAX_FINDINGS
 
 -- ---- the warnings
@@ -129,7 +131,7 @@ report_of v ws ns ds = record { verdict = v; warnings = ws; signatures = ns; dro
 
 -- what each part of it is on these records, where nothing refuses them
 pub record IsCheckReport {files : List FileOf} {check : CheckOf} (records : CheckRecords files check) (report : CheckReport) : Type 0 where
-  pub verdict : IsVerdictOn records.platform records.old records.new report.verdict
+  pub verdict : IsVerdictOn (old_side records) (new_side records) report.verdict
   pub warnings : AreWarned check.warn (old_side records) (new_side records) report.warnings
   pub signatures : AreNoted check.signatures (old_side records) (new_side records) report.signatures
   pub dropped : AreAskedDropped check.dropped (old_side records) (new_side records) report.dropped
@@ -165,7 +167,7 @@ MeetsNone O cs = All (λ c. ¬ (Meets (with_clients O (facts_of cs)) cs c))
 -- and each assignment and use in reach, that held with the old
 pub record IsCompatible (files : List FileOf) (check : CheckOf) (v : Verdict) : Type 0 where
   pub records : CheckRecords files check
-  pub verdict : IsVerdictOn records.platform records.old records.new v
+  pub verdict : IsVerdictOn (old_side records) (new_side records) v
   pub none : v.findings ≡ []
   pub keeps : (cs : List ClientClass) → IsInScope (old_side records) (new_side records) cs → MeetsNone (old_side records) cs v.collisions
       → Keeps (old_side records) (new_side records) cs
@@ -201,7 +203,7 @@ pub record KeepsInterfaces (files : List FileOf) (check : CheckOf) (report : Che
 -- scope there is, each client's naming of a class that is gone, by H1, is Ok with the old release, and has the finding's error with the new
 pub record IsIncompatible (files : List FileOf) (check : CheckOf) (v : Verdict) : Type 0 where
   pub records : CheckRecords files check
-  pub verdict : IsVerdictOn records.platform records.old records.new v
+  pub verdict : IsVerdictOn (old_side records) (new_side records) v
   pub some : v.findings ≢ []
   pub broken : (cs : List ClientClass) × IsBroken (old_side records) (new_side records) v cs
   pub breaks : All (λ f. f.rule ≡ 1 → BreaksClass (old_side records) (new_side records) f.class f.error) v.findings
@@ -243,7 +245,7 @@ pub record IsBorneOut (files : List FileOf) (check : CheckOf) (report : CheckRep
 -- the folder holds below the path files that show each finding and each collision of the verdict, and every other path is as before
 pub record HoldsClients (files : List FileOf) (check : CheckOf) (v : Verdict) (dir : Bytes) (folder : Change FolderState) : Type 0 where
   pub records : CheckRecords files check
-  pub verdict : IsVerdictOn records.platform records.old records.new v
+  pub verdict : IsVerdictOn (old_side records) (new_side records) v
   pub puts : List PutFile
   pub put : PutsFiles folder puts
   pub shown : ShowEach dir (old_side records) (new_side records) v 1 (causes_of v) puts

@@ -1,19 +1,41 @@
--- Releases over one platform: their sides, and the first reason why they don't go with it.
+-- Releases over one platform: what their trees are read as, their sides, and the first reason why they don't go with it.
 use Rattle.std.specs.Prelude.{ℕ, ◌+◌, List, [], ◌∷◌, map, Option, None, option_map}
 use Rattle.jc_facts.specs.declared.class_facts.ClassFacts.{ClassFacts}
 use Rattle.jc_facts.specs.Options.{or_else}
-use Rattle.jc_facts.specs.world.World.{World, side}
+use Rattle.jc_facts.specs.world.World.{World, Modules, OneModule, Several, side_in}
 use Rattle.jc_table.specs.Root.{fault_of_root}
 use Rattle.jc_table.specs.Sides.{overlap_of}
 use Rattle.jc_trees.specs.declared.tree.TreeName.{TreeName}
 use Rattle.jc_trees.specs.declared.tree.TreeName.TheVariants as names
+use Rattle.jc_trees.specs.declared.tree_read.TreeRead.{TreeRead}
+use Rattle.jc_trees.specs.declared.tree_read.TreeRead.TheVariants as reads
 use Rattle.jc_commands.specs.declared.releases.Release.{Release}
+use Rattle.jc_commands.specs.declared.releases.ReleaseModules.{ReleaseModules}
+use Rattle.jc_commands.specs.declared.releases.ReleaseModules.TheVariants as modules
 use Rattle.jc_commands.specs.declared.stop.Stop.{Stop}
 use Rattle.jc_commands.specs.declared.stop.Stop.TheVariants as stops
 
--- a release whose tree is called this
+-- what the tree of a release in these modules is read as: its records, and with modules the packages that it exports too
+abbrev pub read_as : Modules → List ClassFacts → TreeRead
+read_as OneModule records = reads.Library records
+read_as (Several exports) records = reads.Modular (record { records = records; exports = exports })
+
+-- the modules of a release
+abbrev pub modules_in : ReleaseModules → Modules
+modules_in modules.One = OneModule
+modules_in (modules.Several exports) = Several exports
+
+-- what the tree of the release is read as
+abbrev pub read_of : Release → TreeRead
+read_of r = read_as (modules_in r.modules) r.records
+
+-- the platform with the release
+abbrev pub side_of : List ClassFacts → Release → World
+side_of platform r = side_in (modules_in r.modules) platform r.records
+
+-- a release without modules, whose tree is called this
 abbrev pub release_at : TreeName → List ClassFacts → Release
-release_at name records = record { name = name; records = records }
+release_at name records = record { name = name; records = records; modules = modules.One }
 
 -- the two releases of a check
 abbrev pub old_and_new : List ClassFacts → List ClassFacts → List Release
@@ -26,7 +48,7 @@ numbered n (r ∷ rs) = release_at (names.NthRelease n) r ∷ numbered (n + 1) r
 
 -- the platform with each of them
 abbrev pub sides_of : List ClassFacts → List Release → List World
-sides_of platform releases = map (λ r. side platform r.records) releases
+sides_of platform releases = map (side_of platform) releases
 
 -- the first of them that declares a name which the platform declares
 abbrev pub first_overlap : List ClassFacts → List Release → Option Stop

@@ -13,7 +13,7 @@ use Rattle.jc_commands.specs.Check.{CheckRecords, CheckReport, IsUnfit, IsFit, I
 use Rattle.jc_trees.specs.ClassFiles.{Told}
 use Rattle.jc_commands.specs.Command.{CommandOf, CheckCommand, LinkCommand, MakeCommand, HistoryCommand, step_of_check}
 use Rattle.jc_commands.specs.History.{HistoryRecords, IsUnfitRow, IsFitRow, AreVerdictsOn}
-use Rattle.jc_commands.specs.Link.{LinkRecords, refusal_of, AreOutcomesOf}
+use Rattle.jc_commands.specs.Link.{LinkRecords, release_side, refusal_of, AreOutcomesOf}
 use Rattle.jc_commands.specs.Make.{IsSize, IsVerdictOnMade}
 use Rattle.jc_commands.specs.Witness.{PutFile}
 use Rattle.jc_commands.specs.declared.stop.Stop.{Stop}
@@ -36,15 +36,15 @@ RecordsOf files (HistoryCommand h) = HistoryRecords files h
 
 -- they are refused, and this is the first cause
 abbrev pub Refuses : (files : List FileOf) → (command : CommandOf) → RecordsOf files command → Stop → Type 0
-Refuses files (CheckCommand check) r stop = IsUnfit check r.platform r.old r.new stop
-Refuses files (LinkCommand link) r stop = refusal_of r.platform r.release r.clients ≡ Some stop
+Refuses files (CheckCommand check) r stop = IsUnfit check (old_side r) (new_side r) stop
+Refuses files (LinkCommand link) r stop = refusal_of (release_side r) r.clients ≡ Some stop
 Refuses files (MakeCommand n) r stop = ⊥
 Refuses files (HistoryCommand h) r stop = IsUnfitRow r.platform r.releases stop
 
 -- no cause to refuse them stands
 abbrev pub Accepts : (files : List FileOf) → (command : CommandOf) → RecordsOf files command → Type 0
-Accepts files (CheckCommand check) r = IsFit check r.platform r.old r.new
-Accepts files (LinkCommand link) r = refusal_of r.platform r.release r.clients ≡ None
+Accepts files (CheckCommand check) r = IsFit check (old_side r) (new_side r)
+Accepts files (LinkCommand link) r = refusal_of (release_side r) r.clients ≡ None
 Accepts files (MakeCommand n) r = Unit {0}
 Accepts files (HistoryCommand h) r = IsFitRow r.platform r.releases
 
@@ -61,7 +61,7 @@ ReportOf (HistoryCommand h) = List Verdict
 -- the report on these records, where nothing refuses them
 abbrev pub IsReportOn : (files : List FileOf) → (command : CommandOf) → RecordsOf files command → ReportOf command → Type 0
 IsReportOn files (CheckCommand check) r report = IsCheckReport r report
-IsReportOn files (LinkCommand link) r list = AreOutcomesOf r.platform r.release r.clients list
+IsReportOn files (LinkCommand link) r list = AreOutcomesOf (release_side r) r.clients list
 IsReportOn files (MakeCommand n) r v = IsVerdictOnMade n v
 IsReportOn files (HistoryCommand h) r vs = AreVerdictsOn r.platform r.releases vs
 

@@ -1,7 +1,8 @@
 -- What is shown by witnesses.
-use Rattle.std.specs.Prelude.{◌≡◌, ◌≤◌}
+use Rattle.std.specs.Prelude.{◌≤◌}
 use Rattle.std.specs.List.{All}
 use Rattle.jc_facts.specs.declared.verdict.Verdict.{Verdict}
+use Rattle.jc_facts.specs.world.Pairs.{AreOfOneRun}
 use Rattle.jc_facts.specs.rule.Verdict.{IsVerdict, count_of}
 use Rattle.jc_witness.specs.Ground.{HasShortSide}
 use Rattle.jc_witness.specs.Witnesses.{IsWitnessOf, witness_files}
@@ -9,10 +10,10 @@ use Rattle.jc_commands.specs.Witness.{causes_of}
 use Rattle.jc_commands.specs.declared.limits.TheConstants.{MAX_FINDINGS}
 use Rattle.jc_commands.specs.declared.shown.Shown.{Shown}
 
--- the verdict is that on the two sides, which have one platform and short names, it has at most as many findings and collisions as the limit,
+-- the verdict is that on the two sides, which are of one run and have short names, it has at most as many findings and collisions as the limit,
 -- and the witness of each shows it
 pub record CanShow (of : Shown) (v : Verdict) : Type 0 where
-  pub platform : of.old.platform ≡ of.new.platform
+  pub run : AreOfOneRun of.old of.new
   pub verdict : IsVerdict of.old of.new v
   pub few : count_of v ≤ MAX_FINDINGS
   pub old_names : HasShortSide of.old

@@ -8,11 +8,13 @@ ghost use Rattle.jc_commands.specs.ReportValue.{IsReportOf};
 
 use crate::command::trees_of_check;
 use crate::comparison::Comparison;
+use crate::releases::take_release;
 use crate::report::Report;
 use crate::stop::Stop;
 use crate::unread::stop_of;
 use jc_base::trees::Trees;
 use jc_trees::read_trees::read_trees;
+use jc_trees::tree::TreeName;
 use jc_trees::tree_read::take_records;
 use jc_words::check::Check;
 use std::alloc::Global;
@@ -38,8 +40,8 @@ pub fn check<'a, T: Trees>(
         Err(error) => return Err(stop_of(error)),
     };
     let platform = take_records(&mut all);
-    let old = take_records(&mut all);
-    let new = take_records(&mut all);
+    let old = take_release(&mut all, TreeName::Old, check.modular);
+    let new = take_release(&mut all, TreeName::New, check.modular);
     let comparison = match Comparison::of_records(alloc, platform, old, new, check) {
         Ok(comparison) => comparison,
         Err(stop) => return Err(stop),

@@ -2,7 +2,7 @@
 ghost use Rattle.std.specs.Prelude.{◌≡◌, ◌≤◌, List, [], ◌∷◌, None, length, IfOk, IfErr, IfSome, option_map};
 ghost use Rattle.std.specs.List.{All};
 ghost use Rattle.jc_facts.specs.declared.client.ClientClass.{ClientClass};
-ghost use Rattle.jc_facts.specs.world.World.{side};
+ghost use Rattle.jc_facts.specs.world.Pairs.{AreOfOneRun};
 ghost use Rattle.jc_facts.specs.client.Clients.{IsInScope, Keeps};
 ghost use Rattle.jc_facts.specs.client.Kept.{BreaksClass};
 ghost use Rattle.jc_facts.specs.rule.Verdict.{IsVerdict, count_of};
@@ -10,15 +10,17 @@ ghost use Rattle.jc_bodies.specs.Files.{CanWrite};
 ghost use Rattle.jc_witness.specs.Ground.{HasShortSide};
 ghost use Rattle.jc_commands.specs.Check.{mismatch_of, AreWarned, MeetsNone};
 ghost use Rattle.jc_commands.specs.DroppedPart.{AreAskedDropped};
+ghost use Rattle.jc_commands.specs.Releases.{side_of};
 ghost use Rattle.jc_commands.specs.Signatures.{AreNoted};
 ghost use Rattle.jc_commands.specs.steps.Check.{IsComparison, StopsComparing, StopsCounting, StopsMatching, StopsWarning, StopsDropping};
+ghost use Rattle.jc_commands.specs.steps.Releases.{AreOldAndNew};
 ghost use Rattle.jc_select.specs.DroppedWithin.{InterfacesStill};
 ghost use Rattle.jc_select.specs.Within.{AnswersStill};
 ghost use Rattle.jc_trees.specs.ClassLists.{IsRecordList};
 ghost use Rattle.jc_words.specs.CommandView.{check_of};
 
 use crate::limits::{MAX_DROPPED, MAX_FINDINGS, MAX_WARNINGS};
-use crate::releases::{tables_over, two_releases};
+use crate::releases::{Release, tables_over, two_releases};
 use crate::stop::{Part, Stop};
 use jc_dropped::dropped::Dropped;
 use jc_facts::class_facts::ClassFacts;
@@ -56,11 +58,12 @@ pub struct Sides {
 impl Sides {
     // The sides of these tables.
     fn of_tables(old: Table, new: Table) -> Sides
-        requires platform { old.platform ≡ new.platform }
+        requires run { AreOfOneRun old new }
         requires short_old { HasShortSide old }
         requires short_new { HasShortSide new }
         ensures old { result.old ≡ old }
         ensures new { result.new ≡ new }
+        ensures run { AreOfOneRun result.old result.new }
         ensures can { CanWrite result.old result.new }
     {
         // Counts say what always holds of a table.
@@ -83,20 +86,15 @@ fn both_of(mut tables: Vec<Table>) -> (Table, Table)
 }
 
 // The tables of the two sides of this platform, or why there are none.
-fn sides_over(
-    alloc: Global,
-    platform: &Platform,
-    old: Vec<ClassFacts>,
-    new: Vec<ClassFacts>,
-) -> Result<Sides, Stop>
+fn sides_over(alloc: Global, platform: &Platform, old: Release, new: Release) -> Result<Sides, Stop>
     requires platform { IsRecordList platform.now }
-    requires old { IsRecordList old.items }
-    requires new { IsRecordList new.items }
-    ensures old { IfOk result (λ s. s.old ≡ side platform.now old.items) }
-    ensures new { IfOk result (λ s. s.new ≡ side platform.now new.items) }
-    ensures fits { IfOk result (λ s. mismatch_of platform.now old.items new.items ≡ None) }
+    requires releases { AreOldAndNew old new }
+    ensures old { IfOk result (λ s. s.old ≡ side_of platform.now old) }
+    ensures new { IfOk result (λ s. s.new ≡ side_of platform.now new) }
+    ensures fits { IfOk result (λ s. mismatch_of (side_of platform.now old) (side_of platform.now new) ≡ None) }
+    ensures run { IfOk result (λ s. AreOfOneRun s.old s.new) }
     ensures can { IfOk result (λ s. CanWrite s.old s.new) }
-    ensures stopped { IfErr result (StopsMatching platform.now old.items new.items) }
+    ensures stopped { IfErr result (StopsMatching (side_of platform.now old) (side_of platform.now new)) }
 {
     let Ok(releases) = two_releases(alloc, old, new) else {
         return Err(Stop::Memory);
@@ -118,17 +116,17 @@ fn sides_over(
 pub fn both_sides(
     alloc: Global,
     platform: Vec<ClassFacts>,
-    old: Vec<ClassFacts>,
-    new: Vec<ClassFacts>,
+    old: Release,
+    new: Release,
 ) -> Result<Sides, Stop>
     requires platform { IsRecordList platform.items }
-    requires old { IsRecordList old.items }
-    requires new { IsRecordList new.items }
-    ensures old { IfOk result (λ s. s.old ≡ side platform.items old.items) }
-    ensures new { IfOk result (λ s. s.new ≡ side platform.items new.items) }
-    ensures fits { IfOk result (λ s. mismatch_of platform.items old.items new.items ≡ None) }
+    requires releases { AreOldAndNew old new }
+    ensures old { IfOk result (λ s. s.old ≡ side_of platform.items old) }
+    ensures new { IfOk result (λ s. s.new ≡ side_of platform.items new) }
+    ensures fits { IfOk result (λ s. mismatch_of (side_of platform.items old) (side_of platform.items new) ≡ None) }
+    ensures run { IfOk result (λ s. AreOfOneRun s.old s.new) }
     ensures can { IfOk result (λ s. CanWrite s.old s.new) }
-    ensures stopped { IfErr result (StopsMatching platform.items old.items new.items) }
+    ensures stopped { IfErr result (StopsMatching (side_of platform.items old) (side_of platform.items new)) }
 {
     let Ok(platform) = Platform::new(alloc, platform) else {
         return Err(Stop::Memory);
@@ -141,7 +139,7 @@ pub fn both_sides(
 
 // The verdict on two sides, unless there are too many findings.
 fn counted(alloc: Global, old: &Table, new: &Table) -> Result<Verdict, Stop>
-    requires { old.now.platform ≡ new.now.platform }
+    requires { AreOfOneRun old.now new.now }
     ensures exact { IfOk result (IsVerdict old.now new.now) }
     ensures few { IfOk result (λ v. count_of v ≤ MAX_FINDINGS) }
     ensures kept { IfOk result (λ v. v.findings ≡ [] → (cs : List ClientClass) → IsInScope old.now new.now cs → MeetsNone old.now cs v.collisions → Keeps old.now new.now cs) }
@@ -157,7 +155,7 @@ fn counted(alloc: Global, old: &Table, new: &Table) -> Result<Verdict, Stop>
 
 // The warnings on two sides, where they are asked for, unless there are too many.
 fn warned(alloc: Global, old: &Table, new: &Table, warn: bool) -> Result<Option<Vec<Warning>>, Stop>
-    requires { old.now.platform ≡ new.now.platform }
+    requires { AreOfOneRun old.now new.now }
     ensures exact { IfOk result (λ made. AreWarned warn old.now new.now (option_map (λ ws. ws.items) made)) }
     ensures answered { IfOk result (λ made. IfSome (option_map (λ ws. ws.items) made) (AnswersStill old.now new.now)) }
     ensures stopped { IfErr result (StopsWarning warn old.now new.now) }
@@ -179,7 +177,7 @@ fn noted(
     new: &Table,
     signatures: bool,
 ) -> Result<Option<Vec<SigNote>>, AllocError>
-    requires { old.now.platform ≡ new.now.platform }
+    requires { AreOfOneRun old.now new.now }
     ensures { IfOk result (λ made. AreNoted signatures old.now new.now (option_map (λ ns. ns.items) made)) }
 {
     if !signatures {
@@ -196,7 +194,7 @@ fn lost(
     new: &Table,
     dropped: bool,
 ) -> Result<Option<Vec<Dropped>>, Stop>
-    requires { old.now.platform ≡ new.now.platform }
+    requires { AreOfOneRun old.now new.now }
     ensures exact { IfOk result (λ made. AreAskedDropped dropped old.now new.now (option_map (λ ds. ds.items) made)) }
     ensures kept { IfOk result (λ made. IfSome (option_map (λ ds. ds.items) made) (InterfacesStill old.now new.now)) }
     ensures stopped { IfErr result (StopsDropping dropped old.now new.now) }
@@ -221,15 +219,14 @@ impl Comparison {
     pub fn of_records(
         alloc: Global,
         platform: Vec<ClassFacts>,
-        old: Vec<ClassFacts>,
-        new: Vec<ClassFacts>,
+        old: Release,
+        new: Release,
         check: &Check<'_>,
     ) -> Result<Comparison, Stop>
         requires platform { IsRecordList platform.items }
-        requires old { IsRecordList old.items }
-        requires new { IsRecordList new.items }
-        ensures compared { IfOk result (IsComparison (check_of check.now) platform.items old.items new.items) }
-        ensures stopped { IfErr result (StopsComparing (check_of check.now) platform.items old.items new.items) }
+        requires releases { AreOldAndNew old new }
+        ensures compared { IfOk result (IsComparison (check_of check.now) (side_of platform.items old) (side_of platform.items new)) }
+        ensures stopped { IfErr result (StopsComparing (check_of check.now) (side_of platform.items old) (side_of platform.items new)) }
     {
         let Sides { old, new } = match both_sides(alloc, platform, old, new) {
             Ok(sides) => sides,

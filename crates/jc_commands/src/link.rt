@@ -4,12 +4,18 @@ ghost use Rattle.jc_base.specs.States.{change};
 ghost use Rattle.jc_commands.specs.Causes.{StopsCommand};
 ghost use Rattle.jc_commands.specs.Command.{LinkCommand};
 ghost use Rattle.jc_commands.specs.Link.{AreOutcomesOf};
+ghost use Rattle.jc_commands.specs.Releases.{modules_in, side_of};
+ghost use Rattle.jc_facts.specs.client.Linked.{outcomes};
+ghost use Rattle.jc_facts.specs.world.World.{side_in};
+ghost use Rattle.jc_link.specs.Refusals.{RefusesLink, MayLink};
 ghost use Rattle.jc_words.specs.CommandView.{link_of};
 ghost use Rattle.jc_commands.specs.steps.Link.{StopsLinking, stop_by_refusal};
+ghost use Rattle.jc_commands.specs.steps.Releases.{IsReleaseList};
 ghost use Rattle.jc_trees.specs.ClassLists.{IsClassList, IsRecordList};
 ghost use Rattle.jc_commands.specs.ReportValue.{IsReportOf};
 
 use crate::command::trees_of_link;
+use crate::releases::{Release, ReleaseModules, packages_of, take_release};
 use crate::report::Report;
 use crate::stop::Stop;
 use crate::unread::stop_of;
@@ -18,6 +24,7 @@ use jc_facts::class_facts::ClassFacts;
 use jc_facts::client::ClientClass;
 use jc_facts::outcome::Outcome;
 use jc_link::link::link_over;
+use jc_link::modular::link_modular_over;
 use jc_link::refusal::LinkRefusal;
 use jc_table::platform::Platform;
 use jc_trees::read_trees::read_trees;
@@ -38,23 +45,58 @@ fn unlinked(refusal: LinkRefusal) -> Stop
     }
 }
 
+// The outcomes of the clients over the records of a release in these modules, or why they aren't linked.
+fn linked_in(
+    alloc: Global,
+    platform: &Platform,
+    records: Vec<ClassFacts>,
+    modules: ReleaseModules,
+    clients: Vec<ClientClass>,
+) -> Result<Vec<Outcome>, LinkRefusal>
+    requires platform { IsRecordList platform.now }
+    requires records { IsRecordList records.items }
+    requires clients { IsClassList clients.items }
+    ensures value { IfOk result (λ list. list.items ≡ outcomes (side_in (modules_in modules) platform.now records.items) clients.items) }
+    ensures linked { IfOk result (λ _. MayLink platform.now records.items clients.items) }
+    ensures refused { IfErr result (RefusesLink platform.now records.items clients.items) }
+{
+    match modules {
+        ReleaseModules::One => match link_over(alloc, platform, records, clients) {
+            Ok(outcomes) => Ok(outcomes),
+            Err(refusal) => Err(refusal),
+        },
+        ReleaseModules::Several(exports) => {
+            let packages = packages_of(exports);
+            match link_modular_over(alloc, platform, records, packages, clients) {
+                Ok(outcomes) => Ok(outcomes),
+                Err(refusal) => Err(refusal),
+            }
+        }
+    }
+}
+
 // The outcomes of the clients, or why they aren't linked.
 fn linked(
     alloc: Global,
     platform: Vec<ClassFacts>,
-    release: Vec<ClassFacts>,
+    release: Release,
     clients: Vec<ClientClass>,
 ) -> Result<Vec<Outcome>, Stop>
     requires platform { IsRecordList platform.items }
-    requires release { IsRecordList release.items }
+    requires release { IsReleaseList release }
     requires clients { IsClassList clients.items }
-    ensures outcomes { IfOk result (λ list. AreOutcomesOf platform.items release.items clients.items list.items) }
-    ensures stopped { IfErr result (StopsLinking platform.items release.items clients.items) }
+    ensures outcomes { IfOk result (λ list. AreOutcomesOf (side_of platform.items release) clients.items list.items) }
+    ensures stopped { IfErr result (StopsLinking (side_of platform.items release) clients.items) }
 {
     let Ok(shared) = Platform::new(alloc, platform) else {
         return Err(Stop::Memory);
     };
-    match link_over(alloc, &shared, release, clients) {
+    let Release {
+        name: _,
+        records,
+        modules,
+    } = release;
+    match linked_in(alloc, &shared, records.into_vec(), modules, clients) {
         Ok(outcomes) => Ok(outcomes),
         Err(refusal) => Err(unlinked(refusal)),
     }
@@ -82,7 +124,7 @@ pub fn link_clients<'a, T: Trees>(
         Err(error) => return Err(stop_of(error)),
     };
     let platform = take_records(&mut all);
-    let release = take_records(&mut all);
+    let release = take_release(&mut all, TreeName::Release, asked.modular);
     let clients = take_clients(&mut all);
     let outcomes = match linked(alloc, platform, release, clients) {
         Ok(outcomes) => outcomes,

@@ -11,11 +11,13 @@ ghost use Rattle.jc_trees.specs.ClassLists.{IsRecordList};
 ghost use Rattle.jc_commands.specs.ReportValue.{IsReportOf};
 
 use crate::comparison::both_sides;
+use crate::releases::Release;
 use crate::report::Report;
 use crate::stop::Stop;
 use jc_facts::generate::{Made, generate};
 use jc_facts::verdict::Verdict;
 use jc_rules::compare::compare;
+use jc_trees::tree::TreeName;
 use jc_words::make::Make;
 use std::alloc::Global;
 
@@ -25,10 +27,12 @@ fn verdict_on(alloc: Global, made: Made) -> Result<Verdict, Stop>
     requires old { IsRecordList made.old }
     requires new { IsRecordList made.new }
     ensures exact { IfOk result (IsVerdict (side made.platform made.old) (side made.platform made.new)) }
-    ensures stopped { IfErr result (StopsMatching made.platform made.old made.new) }
+    ensures stopped { IfErr result (StopsMatching (side made.platform made.old) (side made.platform made.new)) }
 {
     let Made { platform, old, new } = made;
-    let sides = match both_sides(alloc, platform.into_vec(), old.into_vec(), new.into_vec()) {
+    let old = Release::plain(TreeName::Old, old.into_vec());
+    let new = Release::plain(TreeName::New, new.into_vec());
+    let sides = match both_sides(alloc, platform.into_vec(), old, new) {
         Ok(sides) => sides,
         Err(stop) => return Err(stop),
     };

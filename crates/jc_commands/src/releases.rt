@@ -1,29 +1,85 @@
 //! Releases over one platform, and their tables.
-ghost use Rattle.std.specs.Prelude.{◌≡◌, ◌<◌, ◌≤◌, None, length, map, IfOk, IfErr};
+ghost use Rattle.std.specs.Prelude.{◌≡◌, ◌<◌, ◌≤◌, [], ◌∷◌, true, None, length, map, option_map, IfOk, IfErr};
 ghost use Rattle.std.specs.List.{All};
-ghost use Rattle.jc_facts.specs.world.World.{side};
-ghost use Rattle.jc_commands.specs.Releases.{old_and_new, numbered, sides_of, mismatch_among};
+ghost use Rattle.jc_facts.specs.world.World.{is_modular, side_in, modular_side};
+ghost use Rattle.jc_commands.specs.Command.{release_kind};
+ghost use Rattle.jc_commands.specs.Releases.{modules_in, read_of, side_of, release_at, numbered, sides_of, mismatch_among};
 ghost use Rattle.jc_commands.specs.steps.Releases.{IsReleaseList, StopsRelease, StopsOver, unfit_by};
 ghost use Rattle.jc_table.specs.Root.{fault_of_root};
 ghost use Rattle.jc_table.specs.Sides.{overlap_of};
-ghost use Rattle.jc_trees.specs.ClassLists.{IsRecordList, kind_of};
+ghost use Rattle.jc_table.specs.Tables.{HasCause as HasTableCause};
+ghost use Rattle.jc_trees.specs.ClassLists.{IsRecordList, StartsAs, kind_of};
 ghost use Rattle.jc_trees.specs.declared.tree.TreeKind.TheVariants as kinds;
 ghost use Rattle.jc_trees.specs.declared.tree_read.TreeRead.{TreeRead};
 
 use crate::stop::Stop;
 use jc_base::items::Items;
+use jc_base::name::Name;
 use jc_facts::class_facts::ClassFacts;
 use jc_table::platform::Platform;
 use jc_table::table::{Table, TableError};
 use jc_trees::tree::TreeName;
-use jc_trees::tree_read::TreeRead;
+use jc_trees::tree_read::{ModularRead, TreeRead, take_modular, take_records};
 use std::alloc::{AllocError, Global};
 
-/// A release: what its tree is called, and its records.
+/// The modules of a release.
+#[derive(Drop)]
+pub enum ReleaseModules {
+    /// One, in which all classes are: that of a run without modules.
+    One,
+    /// That of the platform, that of the clients, and that of the release, which exports these packages.
+    /// Where there is no such list, the release is in that of the clients (JVMS 4.7.25, 5.3.6).
+    Several(Option<Items<Name>>),
+}
+
+/// A release: what its tree is called, its records, and its modules.
 #[derive(Drop)]
 pub struct Release {
     pub name: TreeName,
     pub records: Items<ClassFacts>,
+    pub modules: ReleaseModules,
+}
+
+impl Release {
+    /// A release of a run without modules.
+    pub fn plain(name: TreeName, records: Vec<ClassFacts>) -> Release
+        ensures { result ≡ release_at name records.items }
+    {
+        Release {
+            name,
+            records: Items::from_vec(records),
+            modules: ReleaseModules::One,
+        }
+    }
+
+    /// A release of a run with modules.
+    fn modular(name: TreeName, read: ModularRead) -> Release
+        ensures read { read_of result ≡ TreeRead.Modular read }
+        ensures name { result.name ≡ name }
+        ensures kind { is_modular (modules_in result.modules) ≡ true }
+    {
+        let ModularRead { records, exports } = read;
+        Release {
+            name,
+            records,
+            modules: ReleaseModules::Several(exports),
+        }
+    }
+}
+
+/// Takes a release from the front of what trees are read as. `modular` says whether the run is one with
+/// modules.
+pub fn take_release(all: &mut Vec<TreeRead>, name: TreeName, modular: bool) -> Release
+    requires { StartsAs (release_kind modular) all.now.items }
+    ensures read { all.old.items ≡ read_of result ∷ all.new.items }
+    ensures name { result.name ≡ name }
+    ensures kind { is_modular (modules_in result.modules) ≡ modular }
+{
+    if modular {
+        Release::modular(name, take_modular(all))
+    } else {
+        Release::plain(name, take_records(all))
+    }
 }
 
 /// The old release and the new one.
@@ -31,22 +87,12 @@ pub struct Release {
 /// # Errors
 ///
 /// `AllocError` where memory runs out.
-pub fn two_releases(
-    alloc: Global,
-    old: Vec<ClassFacts>,
-    new: Vec<ClassFacts>,
-) -> Result<Vec<Release>, AllocError>
-    ensures { IfOk result (λ releases. releases.items ≡ old_and_new old.items new.items) }
+pub fn two_releases(alloc: Global, old: Release, new: Release) -> Result<Vec<Release>, AllocError>
+    ensures { IfOk result (λ releases. releases.items ≡ old ∷ new ∷ []) }
 {
     let mut releases = Vec::new(alloc);
-    releases.push(Release {
-        name: TreeName::Old,
-        records: Items::from_vec(old),
-    })?;
-    releases.push(Release {
-        name: TreeName::New,
-        records: Items::from_vec(new),
-    })?;
+    releases.push(old)?;
+    releases.push(new)?;
     Ok(releases)
 }
 
@@ -67,6 +113,7 @@ pub fn numbered_releases(alloc: Global, all: Vec<TreeRead>) -> Result<Vec<Releas
         releases.push(Release {
             name: TreeName::NthRelease(number),
             records: Items::from_vec(read.into_records()),
+            modules: ReleaseModules::One,
         })?;
         number += 1;
     }
@@ -84,16 +131,78 @@ fn unfit(name: TreeName, error: TableError) -> Stop
     }
 }
 
+// The packages that a release exports, as a table takes them.
+pub(crate) fn packages_of(exports: Option<Items<Name>>) -> Option<Vec<Name>>
+    ensures { option_map (λ names. names.items) result ≡ exports }
+{
+    match exports {
+        Some(packages) => Some(packages.into_vec()),
+        None => None,
+    }
+}
+
+// The table of the platform with the records of a release in a run with modules.
+fn modular_table(
+    alloc: Global,
+    platform: &Platform,
+    records: Vec<ClassFacts>,
+    exports: Option<Items<Name>>,
+) -> Result<Table, TableError>
+    requires platform { IsRecordList platform.now }
+    requires records { IsRecordList records.items }
+    ensures built { IfOk result (λ table. table ≡ modular_side exports platform.now records.items) }
+    ensures sound { IfOk result (λ _. (fault_of_root platform.now ≡ None) × (overlap_of platform.now records.items ≡ None)) }
+    ensures refused { IfErr result (HasTableCause platform.now records.items) }
+{
+    let packages = packages_of(exports);
+    let clients = Vec::new(alloc);
+    match Table::over_modular(alloc, platform, records, clients, packages) {
+        Ok(table) => Ok(table),
+        Err(error) => Err(error),
+    }
+}
+
+// The table of the platform with the records of a release in these modules.
+fn table_in(
+    alloc: Global,
+    platform: &Platform,
+    records: Vec<ClassFacts>,
+    modules: ReleaseModules,
+) -> Result<Table, TableError>
+    requires platform { IsRecordList platform.now }
+    requires records { IsRecordList records.items }
+    ensures built { IfOk result (λ table. table ≡ side_in (modules_in modules) platform.now records.items) }
+    ensures sound { IfOk result (λ _. (fault_of_root platform.now ≡ None) × (overlap_of platform.now records.items ≡ None)) }
+    ensures refused { IfErr result (HasTableCause platform.now records.items) }
+{
+    match modules {
+        ReleaseModules::One => match Table::over(alloc, platform, records) {
+            Ok(table) => Ok(table),
+            Err(error) => Err(error),
+        },
+        ReleaseModules::Several(exports) => {
+            match modular_table(alloc, platform, records, exports) {
+                Ok(table) => Ok(table),
+                Err(error) => Err(error),
+            }
+        }
+    }
+}
+
 // The table of the platform with the release.
 fn table_of(alloc: Global, platform: &Platform, release: Release) -> Result<Table, Stop>
     requires platform { IsRecordList platform.now }
     requires release { IsReleaseList release }
-    ensures built { IfOk result (λ table. table ≡ side platform.now release.records) }
+    ensures built { IfOk result (λ table. table ≡ side_of platform.now release) }
     ensures sound { IfOk result (λ _. (fault_of_root platform.now ≡ None) × (overlap_of platform.now release.records ≡ None)) }
     ensures stopped { IfErr result (StopsRelease platform.now release) }
 {
-    let Release { name, records } = release;
-    match Table::over(alloc, platform, records.into_vec()) {
+    let Release {
+        name,
+        records,
+        modules,
+    } = release;
+    match table_in(alloc, platform, records.into_vec(), modules) {
         Ok(table) => Ok(table),
         Err(error) => Err(unfit(name, error)),
     }

@@ -12,6 +12,7 @@ use jc_base::text::Text;
 use jc_base::trees::{TreeError, Trees};
 use jc_trees::class_file::is_class_path;
 use jc_trees::limits::MAX_PATH;
+use jc_trees::tree::TreeKind;
 use std::alloc::{AllocError, Global};
 use std::fs::{DirEntry, Metadata, OpenFile, metadata, open, read_dir};
 use std::io;
@@ -52,10 +53,10 @@ fn joined(alloc: Global, folder: &str, name: &str) -> Result<String, AllocError>
     Ok(path)
 }
 
-// Whether it is a class file's path past the limit. No call of the system takes one, so what is there
-// can't be asked, and nobody opens it.
+// Whether it is a class file's path past the limit, in trees of all kinds: it isn't that of a module's file,
+// which is short. No call of the system takes one, so what is there can't be asked, and nobody opens it.
 fn is_past_limit(path: &str) -> bool {
-    path.len() > MAX_PATH && is_class_path(path.as_bytes())
+    path.len() > MAX_PATH && is_class_path(TreeKind::Library, path.as_bytes())
 }
 
 // Whether the link at the path leads to a folder.

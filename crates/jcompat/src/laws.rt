@@ -1,16 +1,13 @@
 //! Laws of the definitions that the top call's contract cites, each the contract of a function that
 //! does nothing, and the top call over trees, sinks and a folder that don't fail.
 ghost use Rattle.std.specs.Prelude.{◌≡◌, ◌≢◌, ◌⊎◌, ℕ, List, map, Ok};
-ghost use Rattle.std.specs.List.{All};
 ghost use Rattle.jc_base.specs.Outside.{FileOf};
 ghost use Rattle.jc_base.specs.States.{change};
-ghost use Rattle.jc_facts.specs.declared.class_facts.ClassFacts.{ClassFacts};
 ghost use Rattle.jc_facts.specs.declared.verdict.Verdict.{Verdict};
-ghost use Rattle.jc_facts.specs.client.Clients.{HasRoot};
-ghost use Rattle.jc_facts.specs.file.Valid.{IsValidClass};
 ghost use Rattle.jc_facts.specs.print.MadeText.{made_text_of};
 ghost use Rattle.jc_facts.specs.rule.Verdict.{IsVerdict};
-ghost use Rattle.jc_facts.specs.world.World.{side};
+ghost use Rattle.jc_facts.specs.world.Pairs.{IsPair};
+ghost use Rattle.jc_facts.specs.world.World.{World};
 ghost use Rattle.jc_gate.specs.Gates.{GateOf, gate_of};
 ghost use Rattle.jc_commands.specs.Causes.{IsRefused, IsAccepted};
 ghost use Rattle.jcompat.specs.Alike.{OneAnswer};
@@ -43,10 +40,10 @@ pub fn refused_or_accepted()
     ensures not_both { (gates : List GateOf) (words : List (List ℕ)) (files : List FileOf) (stop : Stop) → IsAccepted gates words files → IsRefused gates words files stop → ⊥ }
 {}
 
-/// Two releases of valid classes have a verdict, where the platform has its root.
+/// Two sides of one run, with modules or without, have a verdict: sides of valid classes over a platform that
+/// has its root.
 pub fn there_is_a_verdict()
-    ensures { (platform old new : List ClassFacts) → HasRoot platform → All IsValidClass platform → All IsValidClass old → All IsValidClass new
-        → (v : Verdict) × IsVerdict (side platform old) (side platform new) v }
+    ensures { (O N : World) → IsPair O N → (v : Verdict) × IsVerdict O N v }
 {}
 
 /// What is accepted has one report, and what isn't has none.

@@ -9,6 +9,7 @@ mod history;
 mod hostile;
 mod limits;
 mod links;
+mod modules;
 mod outside;
 mod refusals;
 mod rows;

@@ -3,7 +3,6 @@ use Rattle.std.specs.Prelude.{◌≡◌, ◌<◌, ◌⊎◌, Bool, IsTrue, List,
 use Rattle.std.specs.List.{All}
 use Rattle.jc_dropped.specs.declared.dropped.Dropped.{Dropped}
 use Rattle.jc_dropped.specs.Dropped.{AreDropped}
-use Rattle.jc_facts.specs.declared.class_facts.ClassFacts.{ClassFacts}
 use Rattle.jc_facts.specs.declared.client.ClientClass.{ClientClass}
 use Rattle.jc_facts.specs.declared.verdict.Verdict.{Verdict}
 use Rattle.jc_facts.specs.client.Clients.{IsInScope, Keeps}
@@ -13,7 +12,7 @@ use Rattle.jc_facts.specs.rule.Warnings.{AreWarnings}
 use Rattle.jc_facts.specs.declared.warning.Warning.{Warning}
 use Rattle.jc_select.specs.DroppedWithin.{InterfacesStill}
 use Rattle.jc_select.specs.Within.{AnswersStill}
-use Rattle.jc_facts.specs.world.World.{World, side}
+use Rattle.jc_facts.specs.world.World.{World}
 use Rattle.jc_bodies.specs.Files.{CanWrite}
 use Rattle.jc_commands.specs.Check.{CheckReport, IsUnfit, IsVerdictOn, AreWarned, MeetsNone, mismatch_of, report_of}
 use Rattle.jc_commands.specs.Command.{CheckOf}
@@ -29,28 +28,28 @@ use Rattle.jc_commands.specs.declared.stop.Stop.TheVariants as stops
 abbrev pub report_made : Comparison → CheckReport
 report_made c = report_of c.verdict (option_map (λ ws. ws.items) c.warnings) (option_map (λ ns. ns.items) c.signatures) (option_map (λ ds. ds.items) c.dropped)
 
--- what is known of the comparison of these records, with the parts that the check asks for
-pub record IsComparison (check : CheckOf) (platform old new : List ClassFacts) (c : Comparison) : Type 0 where
-  pub old_is : c.old ≡ side platform old
-  pub new_is : c.new ≡ side platform new
-  pub can : CanWrite (side platform old) (side platform new)
-  pub verdict : IsVerdictOn platform old new c.verdict
-  pub kept : c.verdict.findings ≡ [] → (cs : List ClientClass) → IsInScope (side platform old) (side platform new) cs → MeetsNone (side platform old) cs c.verdict.collisions
-      → Keeps (side platform old) (side platform new) cs
-  pub breaks : All (λ f. f.rule ≡ 1 → BreaksClass (side platform old) (side platform new) f.class f.error) c.verdict.findings
-  pub warned : AreWarned check.warn (side platform old) (side platform new) (option_map (λ ws. ws.items) c.warnings)
-  pub noted : AreNoted check.signatures (side platform old) (side platform new) (option_map (λ ns. ns.items) c.signatures)
-  pub dropped : AreAskedDropped check.dropped (side platform old) (side platform new) (option_map (λ ds. ds.items) c.dropped)
-  pub answered : IfSome (option_map (λ ws. ws.items) c.warnings) (AnswersStill (side platform old) (side platform new))
-  pub interfaces : IfSome (option_map (λ ds. ds.items) c.dropped) (InterfacesStill (side platform old) (side platform new))
+-- what is known of the comparison of these two sides, with the parts that the check asks for
+pub record IsComparison (check : CheckOf) (O N : World) (c : Comparison) : Type 0 where
+  pub old_is : c.old ≡ O
+  pub new_is : c.new ≡ N
+  pub can : CanWrite O N
+  pub verdict : IsVerdictOn O N c.verdict
+  pub kept : c.verdict.findings ≡ [] → (cs : List ClientClass) → IsInScope O N cs → MeetsNone O cs c.verdict.collisions
+      → Keeps O N cs
+  pub breaks : All (λ f. f.rule ≡ 1 → BreaksClass O N f.class f.error) c.verdict.findings
+  pub warned : AreWarned check.warn O N (option_map (λ ws. ws.items) c.warnings)
+  pub noted : AreNoted check.signatures O N (option_map (λ ns. ns.items) c.signatures)
+  pub dropped : AreAskedDropped check.dropped O N (option_map (λ ds. ds.items) c.dropped)
+  pub answered : IfSome (option_map (λ ws. ws.items) c.warnings) (AnswersStill O N)
+  pub interfaces : IfSome (option_map (λ ds. ds.items) c.dropped) (InterfacesStill O N)
 
 -- why there are no tables of the two sides
-abbrev pub StopsMatching : List ClassFacts → List ClassFacts → List ClassFacts → Stop → Type 0
-StopsMatching platform old new stop = (mismatch_of platform old new ≡ Some stop) ⊎ (stop ≡ stops.Memory)
+abbrev pub StopsMatching : World → World → Stop → Type 0
+StopsMatching O N stop = (mismatch_of O N ≡ Some stop) ⊎ (stop ≡ stops.Memory)
 
--- why comparing the records stopped
-abbrev pub StopsComparing : CheckOf → List ClassFacts → List ClassFacts → List ClassFacts → Stop → Type 0
-StopsComparing check platform old new stop = IsUnfit check platform old new stop ⊎ (stop ≡ stops.Memory)
+-- why comparing the sides stopped
+abbrev pub StopsComparing : CheckOf → World → World → Stop → Type 0
+StopsComparing check O N stop = IsUnfit check O N stop ⊎ (stop ≡ stops.Memory)
 
 -- why the verdict on the sides isn't printed
 abbrev pub StopsCounting : World → World → Stop → Type 0

@@ -1,7 +1,7 @@
 -- What is found in the records of a link, on the way.
 use Rattle.std.specs.Prelude.{◌≡◌, ◌⊎◌, List, Some}
-use Rattle.jc_facts.specs.declared.class_facts.ClassFacts.{ClassFacts}
 use Rattle.jc_facts.specs.declared.client.ClientClass.{ClientClass}
+use Rattle.jc_facts.specs.world.World.{World}
 use Rattle.jc_link.specs.declared.refusal.LinkRefusal.{LinkRefusal}
 use Rattle.jc_link.specs.declared.refusal.LinkRefusal.TheVariants as refusals
 use Rattle.jc_commands.specs.Link.{refusal_of}
@@ -10,8 +10,8 @@ use Rattle.jc_commands.specs.declared.stop.Stop.{Stop}
 use Rattle.jc_commands.specs.declared.stop.Stop.TheVariants as stops
 
 -- why linking the clients stopped
-abbrev pub StopsLinking : List ClassFacts → List ClassFacts → List ClientClass → Stop → Type 0
-StopsLinking platform release clients stop = (refusal_of platform release clients ≡ Some stop) ⊎ (stop ≡ stops.Memory)
+abbrev pub StopsLinking : World → List ClientClass → Stop → Type 0
+StopsLinking W clients stop = (refusal_of W clients ≡ Some stop) ⊎ (stop ≡ stops.Memory)
 
 -- how a refusal stops it
 abbrev pub stop_by_refusal : LinkRefusal → Stop

@@ -1,12 +1,14 @@
 -- What is found of releases over a platform, on the way.
 use Rattle.std.specs.Prelude.{◌≡◌, ◌⊎◌, List, Some}
 use Rattle.jc_facts.specs.declared.class_facts.ClassFacts.{ClassFacts}
+use Rattle.jc_facts.specs.world.World.{is_modular}
 use Rattle.jc_table.specs.Tables.{HasCause as HasTableCause}
 use Rattle.jc_table.specs.declared.table.TableError.{TableError}
 use Rattle.jc_table.specs.declared.table.TableError.TheVariants as errors
 use Rattle.jc_trees.specs.ClassLists.{IsRecordList}
 use Rattle.jc_trees.specs.declared.tree.TreeName.{TreeName}
-use Rattle.jc_commands.specs.Releases.{mismatch_among}
+use Rattle.jc_trees.specs.declared.tree.TreeName.TheVariants as names
+use Rattle.jc_commands.specs.Releases.{modules_in, mismatch_among}
 use Rattle.jc_commands.specs.declared.releases.Release.{Release}
 use Rattle.jc_commands.specs.declared.stop.Stop.{Stop}
 use Rattle.jc_commands.specs.declared.stop.Stop.TheVariants as stops
@@ -14,6 +16,14 @@ use Rattle.jc_commands.specs.declared.stop.Stop.TheVariants as stops
 -- its records are as those of a tree
 abbrev pub IsReleaseList : Release → Type 0
 IsReleaseList release = IsRecordList release.records
+
+-- the two releases of a check: their records are as those of trees, they are called so, and both are of a run with modules, or of one without
+pub record AreOldAndNew (old new : Release) : Type 0 where
+  pub old_list : IsReleaseList old
+  pub new_list : IsReleaseList new
+  pub old_name : old.name ≡ names.Old
+  pub new_name : new.name ≡ names.New
+  pub kind : is_modular (modules_in old.modules) ≡ is_modular (modules_in new.modules)
 
 -- how a table that isn't built stops a command
 abbrev pub unfit_by : TreeName → TableError → Stop

@@ -31,13 +31,29 @@ fn client_file(rt: &impl Host, folder: &MemFolder, path: &str) -> MemFile {
     file(rt, "C", place, bytes)
 }
 
-// The link of the files of a witness with a release, over the files of the row.
-fn linked(rt: &impl Host, row: &Row<'_>, release: &str, folder: &MemFolder, paths: &str) -> Ended {
+// The flag of a link of the witnesses of a check, which stands there where the check has it.
+fn flag_of(line: &str) -> &'static str {
+    if line.split_whitespace().any(|word| word == "--modular") {
+        "--modular"
+    } else {
+        ""
+    }
+}
+
+/// The link of the files of a witness with a release, over the files of the row.
+pub(super) fn linked(
+    rt: &impl Host,
+    row: &Row<'_>,
+    release: &str,
+    folder: &MemFolder,
+    paths: &str,
+) -> Ended {
     let mut files = row.files(rt);
     for path in paths.split_whitespace() {
         put_last(rt, &mut files, client_file(rt, folder, path));
     }
-    let line = format!(in rt.alloc(); "link --platform P --release {release} --client C");
+    let flag = flag_of(row.line());
+    let line = format!(in rt.alloc(); "link --platform P --release {release} --client C {flag}");
     run_on(rt, line.expect(rt, "memory").as_str(), files, "")
 }
 
@@ -69,8 +85,8 @@ fn count_files(witnesses: &[&str]) -> usize {
     count
 }
 
-// The check of the row with its witnesses, of which the call on the folder after so many puts would fail.
-fn checked(rt: &impl Host, row: &Row<'_>, puts: usize) -> Ended {
+/// The check of the row with its witnesses, of which the call on the folder after so many puts would fail.
+pub(super) fn checked(rt: &impl Host, row: &Row<'_>, puts: usize) -> Ended {
     let next = puts.saturating_add(1);
     let calls = format!(in rt.alloc(); "folder={next}").expect(rt, "memory");
     let line = format!(in rt.alloc(); "{} --witness d", row.line()).expect(rt, "memory");

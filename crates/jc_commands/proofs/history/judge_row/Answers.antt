@@ -4,7 +4,7 @@ use Rattle.jc_commands.specs.Command.{HistoryCommand}
 use Rattle.jc_trees.specs.TreeView.{tree_of}
 use Rattle.jc_words.specs.CommandView.{history_of}
 use Rattle.jc_commands.proofs.Causes.{cause_reading, cause_judging, row_reported}
-use Rattle.jc_commands.proofs.TreesTaken.{all_kinds, platform_taken, releases_taken, count_taken, some_taken, few_taken, release_lists, mapped_records, row_taken}
+use Rattle.jc_commands.proofs.TreesTaken.{all_kinds, platform_taken, releases_taken, count_taken, some_taken, few_taken, release_lists, row_taken}
 use Rattle.jc_trees.proofs.TakenReads.{rest_of_lists}
 use Rattle.jc_commands.proofs.history.judge_row.Goals as goal
 

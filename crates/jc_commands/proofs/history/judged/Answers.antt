@@ -1,11 +1,12 @@
-use Rattle.std.proofs.Common.{◌≡◌, ◌∙◌, List, map, subst, sym, ap}
+use Rattle.std.proofs.Common.{◌∙◌, List, [], map, subst, sym}
 use Rattle.jc_facts.specs.declared.class_facts.ClassFacts.{ClassFacts}
 use Rattle.jc_trees.specs.ClassLists.{IsRecordList}
 use Rattle.jc_commands.specs.declared.releases.Release.{Release}
 use Rattle.jc_commands.specs.steps.History.{IsJudged, StopsJudging}
 use Rattle.jc_commands.specs.declared.stop.Part.TheVariants as parts
 use Rattle.jc_commands.specs.declared.stop.Stop.TheVariants as stops
-use Rattle.jc_commands.proofs.RowJudged.{have_platform, row_judged, row_refused, row_stopped, row_fits, valid_row, row_is}
+use Rattle.jc_facts.specs.world.World.{side}
+use Rattle.jc_commands.proofs.RowJudged.{are_of_run, row_judged, row_refused, row_stopped, row_fits, valid_row, row_is}
 use Rattle.jc_commands.proofs.history.judged.Goals as goal
 
 pub tables_over-requires-clause-platform : goal.tables_over-requires-clause-platform
@@ -18,8 +19,8 @@ returns-in-Err-clause-stopped c =
 
 pub history_within-requires : goal.history_within-requires
 history_within-requires c = (
-  c.in-Ok.shared,
-  have_platform c.in-Ok.shared (map (λ (r : Release). r.records) c.args.releases.items) c.as_slice.result.now
+  side c.in-Ok.shared [],
+  are_of_run c.in-Ok.shared (map (λ (r : Release). r.records) c.args.releases.items) c.as_slice.result.now
       (c.as_slice.ensures.value ∙ row_is c.in-Ok.shared c.args.releases.items _ c.requires.numbers c.in-Ok-tables_over.ensures.built),
 )
 

@@ -1,5 +1,7 @@
 use Rattle.jc_words.specs.CommandView.{check_of}
+use Rattle.jc_commands.specs.Releases.{side_of}
 use Rattle.jc_commands.proofs.Causes.{unmatched, unfit_counting, unfit_warning, unfit_dropping}
+use Rattle.jc_commands.proofs.ReleasesOver.{two_paired}
 use Rattle.jc_commands.proofs.comparison.Comparison.of_records.Goals as goal
 
 pub returns-in-Ok-lost-clause-compared : goal.returns-in-Ok-lost-clause-compared
@@ -18,21 +20,24 @@ returns-in-Ok-lost-clause-compared c = record {
 }
 
 pub returns-in-Err-clause-stopped : goal.returns-in-Err-clause-stopped
-returns-in-Err-clause-stopped c = unmatched c.args.platform.items c.args.old.items c.args.new.items c.in-Err.stop c.in-Err.ensures.stopped (check_of c.args.check.now)
+returns-in-Err-clause-stopped c =
+    unmatched (side_of c.args.platform.items c.args.old) (side_of c.args.platform.items c.args.new) c.in-Err.stop c.in-Err.ensures.stopped (check_of c.args.check.now)
 
 pub returns-in-Err-counted-clause-stopped : goal.returns-in-Err-counted-clause-stopped
 returns-in-Err-counted-clause-stopped c =
-    unfit_counting c.args.platform.items c.args.old.items c.args.new.items c.in-Err-counted.stop c.requires.platform c.requires.old c.requires.new c.in-Ok.ensures.fits
+    unfit_counting (side_of c.args.platform.items c.args.old) (side_of c.args.platform.items c.args.new) c.in-Err-counted.stop
+    (two_paired c.args.platform.items c.args.old c.args.new c.requires.platform c.requires.releases c.in-Ok.ensures.fits) c.in-Ok.ensures.fits
     (rw (c.in-Ok.ensures.old, c.in-Ok.ensures.new) at c.in-Err-counted.ensures.stopped) (check_of c.args.check.now)
 
 pub returns-in-Err-warned-clause-stopped : goal.returns-in-Err-warned-clause-stopped
 returns-in-Err-warned-clause-stopped c =
-    unfit_warning c.args.platform.items c.args.old.items c.args.new.items c.in-Err-warned.stop c.requires.platform c.requires.old c.requires.new c.in-Ok.ensures.fits
+    unfit_warning (side_of c.args.platform.items c.args.old) (side_of c.args.platform.items c.args.new) c.in-Err-warned.stop
+    (two_paired c.args.platform.items c.args.old c.args.new c.requires.platform c.requires.releases c.in-Ok.ensures.fits) c.in-Ok.ensures.fits
     c.in-Ok-counted.verdict (rw (c.in-Ok.ensures.old, c.in-Ok.ensures.new) at c.in-Ok-counted.ensures.exact) c.in-Ok-counted.ensures.few (check_of c.args.check.now)
     (rw (c.in-Ok.ensures.old, c.in-Ok.ensures.new) at c.in-Err-warned.ensures.stopped)
 
 pub returns-in-Err-lost-clause-stopped : goal.returns-in-Err-lost-clause-stopped
 returns-in-Err-lost-clause-stopped c =
-    unfit_dropping c.args.platform.items c.args.old.items c.args.new.items c.in-Err-lost.stop c.in-Ok.ensures.fits
+    unfit_dropping (side_of c.args.platform.items c.args.old) (side_of c.args.platform.items c.args.new) c.in-Err-lost.stop c.in-Ok.ensures.fits
     c.in-Ok-counted.verdict (rw (c.in-Ok.ensures.old, c.in-Ok.ensures.new) at c.in-Ok-counted.ensures.exact) c.in-Ok-counted.ensures.few (check_of c.args.check.now) _
     (rw (c.in-Ok.ensures.old, c.in-Ok.ensures.new) at c.in-Ok-warned.ensures.exact) (rw (c.in-Ok.ensures.old, c.in-Ok.ensures.new) at c.in-Err-lost.ensures.stopped)
