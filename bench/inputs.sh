@@ -8,6 +8,7 @@
 #   nothing/        an empty release
 #   api/old, new    the API of JDK 7 and of JDK 8, from the ct.sym of that javac
 #   update/old, new two updates of OpenJDK 17, all modules, from Debian packages
+#   openjfx/old, new  a library that became a module: the classes of one jar, of which the new release has the module's file too
 #   NAME/old, new   two releases of a library, the jars of Debian packages, by apt-get download; NAME/with has libraries that they need, and
 #                   NAME/clients classes that were compiled against the old release, or against one between the two
 #
@@ -166,11 +167,21 @@ pair() {
 update() {
     local made=$scratch/jdk-$1
     mkdir -p "$made"
-    files "$made/files" "openjdk-17-jre-headless=$2" && modules "$made"/files/usr/lib/jvm/*/lib/modules "$made/modules" || return
+    # a package may have a link to the folder of its JDK beside that
+    files "$made/files" "openjdk-17-jre-headless=$2" && modules "$(find "$made/files" -path '*/lib/modules' -type f | head -n 1)" "$made/modules" || return
     together "$made/modules" "$scratch/$1"
     rm -f "$scratch/$1/java/lang/Object.class"
     keep "$scratch/$1" "$scratch/update/$1"
     rm -rf "$made"
+}
+
+# became_module NAME PACKAGE JAR: the classes of a modular jar of a package, first without its module's file and then with it
+became_module() {
+    local made=$scratch/$1
+    mkdir -p "$made"
+    files "$made/files" "$2" && unzip -qq "$made/files/usr/share/java/$3" '*.class' -d "$made/new" || return
+    rm -rf "$made/files" "$made/new/META-INF"
+    cp -al "$made/new" "$made/old" && rm "$made/old/module-info.class" && mv -- "$made" "$out/$1"
 }
 
 # is_wanted NAME: whether it is to be made
@@ -185,7 +196,9 @@ packages=()
 while IFS='|' read -r name words; do
     ! is_wanted "${name// /}" || packages+=(${words//|/ })
 done < <(pairs)
+! is_wanted openjfx || packages+=(libopenjfx-java)
 [ ${#packages[@]} -eq 0 ] || fetch "${packages[@]}"
+! is_wanted openjfx || became_module openjfx libopenjfx-java javafx-base-11.jar
 ! is_wanted update || { update old "${updates% *}" && update new "${updates#* }" && mv "$scratch/update" "$out/update"; }
 while IFS='|' read -r name old new libraries clients; do
     ! is_wanted "${name// /}" || pair "${name// /}" "$old" "$new" "${libraries# }" "${clients# }"

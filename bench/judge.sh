@@ -7,6 +7,9 @@
 # folder clients, with classes that were compiled against the old release, these are linked by the program with both releases, and bench/Resolve.java
 # asks the machine for each outcome.
 #
+# A pair in which a release has a module-info.class is checked with --modular, and each of its witnesses is run from the class path, beside the release on
+# the module path; its clients aren't asked.
+#
 # PROGRAM is the program, ./jcompat of this clone where it isn't set. With SAMPLE=N at most N witnesses of each rule of a pair are run, spread evenly.
 #
 # What is printed are tables in Markdown: of the pairs, with the commit, the date and the machine, of the rules, of warnings and of the clients; and why
@@ -51,16 +54,17 @@ sampled() {
 
 # judge NAME FOLDER: adds a row
 judge() {
-    local name=$1 code=0 over libraries=() findings collisions
+    local name=$1 code=0 over libraries=() modular=() findings collisions
+    [ ! -f "$2/old/module-info.class" ] && [ ! -f "$2/new/module-info.class" ] || modular=(--modular)
     [ ! -d "$2/with" ] || libraries=("$2/with/")
     over=$(over "$2")
     rm -rf -- "$made/witnesses"
-    "$program" check --platform "$over" --old "$2/old" --new "$2/new" --warn --witness "$made/witnesses" >"$made/report" || code=$?
+    "$program" check --platform "$over" --old "$2/old" --new "$2/new" --warn "${modular[@]}" --witness "$made/witnesses" >"$made/report" || code=$?
     [ "$code" -le 1 ] || { echo "judge: $name can't be checked" >&2; status=1; return; }
     : >"$made/replay"
     if [ -d "$made/witnesses" ]; then
         sampled >"$made/sampled"
-        java_alone Replay "$2/old" "$2/new" "$made/witnesses" "$made/sampled" "${libraries[@]}" >"$made/replay" || status=1
+        java_alone Replay "${modular[@]}" "$2/old" "$2/new" "$made/witnesses" "$made/sampled" "${libraries[@]}" >"$made/replay" || status=1
     fi
     read -r _ findings _ collisions _ < <(grep -E "^(in)?compatible: " "$made/report")
     printf '| %s | %s to %s | %s | %s | %s | %s | %s | %s | %s | %s |\n' "$name" "$(classes "$2/old")" "$(classes "$2/new")" \
@@ -68,7 +72,7 @@ judge() {
     sed "s|^|$name: |" "$made/replay" >>"$made/all"
     java_alone Warned "$2/old" "$2/new" "$made/report" "${libraries[@]}" >"$made/warned" 2>/dev/null || status=1
     sed -n "s|^count |$name |p" "$made/warned" >>"$made/warnings"
-    [ ! -d "$2/clients" ] || for side in old new; do link "$name" "$2" "$over" "$side" "${libraries[@]}"; done
+    [ ! -d "$2/clients" ] || [ ${#modular[@]} -gt 0 ] || for side in old new; do link "$name" "$2" "$over" "$side" "${libraries[@]}"; done
 }
 
 # link NAME FOLDER PLATFORM SIDE [LIBRARY]: what comes of the clients, and what the machine says of it

@@ -32,6 +32,11 @@ import javax.tools.ToolProvider;
  * <code>dropped</code>, where these stand. Sources in <code>needs</code> are there when the new release is
  * compiled, file by file, and not when the client is run.
  *
+ * <p>A release with a <code>module-info.java</code> stands on the module path, and the client on the class path; the report is that with
+ * <code>--modular</code> then, and the file <code>links</code> has what <code>jcompat link --modular</code> says of the report's first witness over the
+ * old and then over the new release, in which <code>Replay.java</code> finds the errors too. An old release without such a file, beside a new one that
+ * has it, is compiled with that and the client, as if all were one module: there alone a compiler lets a sealed class permit a class of another package.
+ *
  * <p>PAGE links each folder, and each line of a block of it is a line of these files. There is a line of output for each folder, in the order
  * of the rules, and a last one with the numbers. The status is 1 where something isn't so.
  */
@@ -42,6 +47,12 @@ public final class ReplayClients {
     /** The rules of findings and collisions, and the kinds of notes. */
     private static final Set<String> RULES =
             Set.of("H1", "H2", "H3", "H4", "H5", "H6", "H7", "H8", "H9", "Constant", "Capture", "Final", "unloadable", "constant");
+
+    /** The name of a module's file, without its ending. */
+    private static final String MODULE = "module-info";
+
+    /** What replays witnesses. */
+    private static final String REPLAY = "examples/Replay.java";
 
     private final Path platform;
     private final Path made;
@@ -166,7 +177,22 @@ public final class ReplayClients {
             this.classes = classes;
         }
 
+        /** Whether the release has a module's file, in sources. */
+        private boolean isModule(String release) {
+            return Files.exists(sources.resolve(release).resolve(MODULE + ".java"));
+        }
+
+        private boolean isModular() {
+            return isModule("old") || isModule("new");
+        }
+
         void compile() throws IOException, Fault {
+            if (isModule("new") && !isModule("old")) {
+                for (String part : List.of("old", "new", "client")) {
+                    compileInOneModule(part);
+                }
+                return;
+            }
             compile("old", files(sources.resolve("old"), ".java"), "old");
             List<Path> needs = files(sources.resolve("needs"), ".java");
             List<Path> after = files(sources.resolve("new"), ".java");
@@ -179,6 +205,23 @@ public final class ReplayClients {
                 }
             }
             compile("client", files(sources.resolve("client"), ".java"), "old");
+        }
+
+        /** Compiles a part, with the client or the old release and the new one's module's file beside it. */
+        private void compileInOneModule(String part) throws IOException, Fault {
+            String other = part.equals("client") ? "old" : "client";
+            List<Path> all = new ArrayList<>(files(sources.resolve(part), ".java"));
+            all.addAll(files(sources.resolve(other), ".java"));
+            if (!isModule(part)) {
+                all.add(sources.resolve("new").resolve(MODULE + ".java"));
+            }
+            compile(part, all, part);
+            for (Path file : files(classes.resolve(part), ".class")) {
+                String source = classes.resolve(part).relativize(file).toString().replaceAll("\\.class$", ".java");
+                if (!Files.exists(sources.resolve(part).resolve(source))) {
+                    Files.delete(file);
+                }
+            }
         }
 
         private void compile(String to, List<Path> from, String beside) throws IOException, Fault {
@@ -241,13 +284,24 @@ public final class ReplayClients {
         /** The first line of an error, or its class alone where another version of Java says it. */
         private static String judged(String line) {
             int colon = line.indexOf(':');
+            // a module without a name has a number that differs from run to run
+            line = line.replaceAll(" @0x[0-9a-f]+", "");
             return Runtime.version().feature() == RECORDED || colon < 0 ? line : line.substring(0, colon);
         }
 
         private Output runMain(String release) throws IOException {
-            String path = classes.resolve(release) + System.getProperty("path.separator") + classes.resolve("client");
-            String java = Path.of(System.getProperty("java.home"), "bin", "java").toString();
-            return run(List.of(java, "-XX:TieredStopAtLevel=1", "-cp", path, "app.Main"));
+            String client = classes.resolve("client").toString();
+            String folder = classes.resolve(release).toString();
+            if (isModule(release)) {
+                return java("-p", folder, "--add-modules", "ALL-MODULE-PATH", "-cp", client, "app.Main");
+            }
+            return java("-cp", folder + System.getProperty("path.separator") + client, "app.Main");
+        }
+
+        private Output java(String... words) throws IOException {
+            List<String> all = new ArrayList<>(List.of(Path.of(System.getProperty("java.home"), "bin", "java").toString(), "-XX:TieredStopAtLevel=1"));
+            all.addAll(List.of(words));
+            return run(all);
         }
 
         void compareReport(Path platform, List<String> program) throws IOException, Fault {
@@ -256,8 +310,43 @@ public final class ReplayClients {
             words.addAll(List.of("--old", classes.resolve("old").toString(), "--new", classes.resolve("new").toString()));
             String wanted = Files.readString(sources.resolve("report"));
             wanted += asked("warnings", "--warn", words) + asked("signatures", "--signatures", words) + asked("dropped", "--dropped", words);
+            Path witnesses = classes.resolve("witnesses");
+            if (isModular()) {
+                words.addAll(List.of("--modular", "--witness", witnesses.toString()));
+            }
             Output report = run(words);
             same("the report is", wanted, report.text + report.error);
+            if (isModular()) {
+                compareLinks(platform, program, witnesses.resolve("000001"));
+                replayWitnesses(witnesses);
+            }
+        }
+
+        /** Compares what the program says of a witness over both releases. */
+        private void compareLinks(Path platform, List<String> program, Path witness) throws IOException, Fault {
+            String links = "";
+            for (String release : List.of("old", "new")) {
+                List<String> words = new ArrayList<>(program);
+                words.addAll(List.of("link", "--modular", "--platform", platform.toString(), "--release", classes.resolve(release).toString()));
+                words.addAll(List.of("--client", witness.toString()));
+                Output linked = run(words);
+                links += linked.text + linked.error;
+            }
+            same("the witness links so:", Files.readString(sources.resolve("links")), links);
+        }
+
+        /** Runs the witnesses of the report on this machine, from the class path. */
+        private void replayWitnesses(Path witnesses) throws IOException, Fault {
+            Path compiled = Files.createDirectories(classes.resolve("replay"));
+            JavaCompiler compiler = ToolProvider.getSystemJavaCompiler();
+            if (compiler.run(null, null, null, "-d", compiled.toString(), REPLAY) != 0) {
+                throw new Fault(REPLAY + " doesn't compile");
+            }
+            Output replayed = java("-cp", compiled.toString(), "Replay", "--modular", classes.resolve("old").toString(), classes.resolve("new").toString(),
+                    witnesses.toString(), sources.resolve("report").toString());
+            if (replayed.status != 0) {
+                throw new Fault("a witness fails:\n" + replayed.text + replayed.error);
+            }
         }
 
         /** What a flag adds to the report, where the example has it in this file; then the flag is one of the words. */

@@ -21,12 +21,6 @@ command -v jimage >/dev/null || skip 'jimage of a JDK is not on the path'
 version=$(jimage --version)
 [ "${version%%[!0-9]*}" -le 21 ] || skip "the JDK is version $version, and jcompat reads class files up to Java 21"
 
-# a program may be an older one, which tells of no dropped interfaces: check-jars doesn't ask it for them
-./jcompat make 1 >/dev/null
-status=0
-./jcompat check --platform none --old none --new none --dropped 2>/dev/null || status=$?
-if [ "$status" -ne 2 ]; then dropped=--dropped none=0 one=1; else dropped='' none=- one=-; fi
-
 top=$PWD
 made=$(mktemp -d)
 trap 'rm -rf "$made"' EXIT
@@ -81,7 +75,7 @@ same() {
 same_check() {
     file=$1
     shift
-    same "$file" check --old examples/old --new examples/new --warn $dropped "$@"
+    same "$file" check --old examples/old --new examples/new --warn --dropped "$@"
 }
 
 # folded REPORT: each line that was printed stands in the report, and those of it that weren't are as many as the printed ones say
@@ -117,10 +111,10 @@ try 'two releases' 1 '1 H1 shapes/Square' old.jar new.jar --report report
 same_check report
 folded "$made/report"
 too 'in shapes: 1 H1, 1 H2, 1 H3, 1 H4, 1 H5, 1 H6, 1 H7, 4 H8, 1 H9, 1 Constant, 1 Capture, 1 Final' 'incompatible: 12 findings, 3 collisions, 1 notes$'
-too 'warning shapes/Canvas draw(Lshapes/Shape;)V lost$' 'warning shapes/Painter paint()V defaults$' "2 warnings${dropped:+, 1 dropped interfaces}\$"
+too 'warning shapes/Canvas draw(Lshapes/Shape;)V lost$' 'warning shapes/Painter paint()V defaults$' '2 warnings, 1 dropped interfaces$'
 try 'options of jcompat' 1 '{' old.jar new.jar -- --json
 same_check out --json
-too "check-jars: 2 warnings${dropped:+, 1 dropped interfaces}\$"
+too 'check-jars: 2 warnings, 1 dropped interfaces$'
 try 'one release' 0 'compatible: 0 findings' old.jar old.jar
 try 'the version' 0 'jcompat 0\.' --version
 try 'folders' 1 '15 Final shapes/Canvas' "$top/examples/old" "$top/examples/new" --report report
@@ -206,8 +200,8 @@ cp "$made/new.jar" "$made/target/shapes.jar"
 (cd "$made" && PATH=$top/tools:$PATH sh ./due) >"$made/out" 2>"$made/err"
 if [ "$(cat "$made/out")" = '2.0.0 is due' ]; then printf 'check-jars: %s: ok\n' "$name"; else wrong 'it is not 2.0.0'; fi
 
-# warnings and dropped interfaces: releases of the examples of rules, which are compatible
-for rule in method_made_abstract interface_left; do
+# warnings, dropped interfaces and modules: releases of the examples of rules
+for rule in method_made_abstract interface_left package_not_exported; do
     for side in old new; do
         mkdir -p "$made/$rule-$side"
         cp -R "examples/rules/$rule/$side/." "$made/$rule-$side"
@@ -215,7 +209,7 @@ for rule in method_made_abstract interface_left; do
     done
 done
 try 'a warning' 0 'warning shapes/Canvas clean()V lost$' method_made_abstract-old.jar method_made_abstract-new.jar --explain
-too 'compatible: 0 findings, 0 collisions, 0 notes$' "1 warnings${dropped:+, 0 dropped interfaces}\$" '    class Canvas gives classes no method void clean() to run any more$'
+too 'compatible: 0 findings, 0 collisions, 0 notes$' '1 warnings, 0 dropped interfaces$' '    class Canvas gives classes no method void clean() to run any more$'
 try 'a warning, as JSON' 72 '{"warnings":\[{"class":"shapes/Canvas","kind":"lost","member":"clean()V"}\]}$' method_made_abstract-old.jar method_made_abstract-new.jar --strict -- --json
 too 'check-jars: 1 warnings'
 try 'a warning where none is meant' 72 "1 warnings" method_made_abstract-old.jar method_made_abstract-new.jar --strict
@@ -224,15 +218,34 @@ says 'warning ' && wrong 'there is a warning'
 echo 'warning shapes/Canvas clean()V lost   # nobody extends it' >"$made/accepted"
 try 'a warning that is meant' 0 'check-jars: accepted: warning shapes/Canvas clean()V lost$' method_made_abstract-old.jar method_made_abstract-new.jar --strict --accepted accepted
 try 'findings and warnings' 1 "2 warnings" old.jar new.jar --strict
-if [ -n "$dropped" ]; then
-    try 'a dropped interface' 0 'dropped shapes/Canvas shapes/Painter$' interface_left-old.jar interface_left-new.jar --explain
-    too 'compatible: 0 findings, 0 collisions, 0 notes$' '0 warnings, 1 dropped interfaces$' '    class Canvas no longer implements Painter$' '    Painter i = canvas;   i.paint();$'
-    try 'a dropped interface, as JSON' 72 '{"dropped":\[{"class":"shapes/Canvas","interface":"shapes/Painter"}\]}$' interface_left-old.jar interface_left-new.jar --strict -- --json
-    try 'a dropped interface where none is meant' 72 '0 warnings, 1 dropped interfaces$' interface_left-old.jar interface_left-new.jar --strict
-    try 'dropped interfaces that nobody asks for' 0 '0 warnings$' interface_left-old.jar interface_left-new.jar --strict --no-dropped
-else
-    printf 'check-jars: dropped interfaces: skipped: the program does not tell of them\n'
-fi
+try 'a dropped interface' 0 'dropped shapes/Canvas shapes/Painter$' interface_left-old.jar interface_left-new.jar --explain
+too 'compatible: 0 findings, 0 collisions, 0 notes$' '0 warnings, 1 dropped interfaces$' '    class Canvas no longer implements Painter$' '    Painter i = canvas;   i.paint();$'
+try 'a dropped interface, as JSON' 72 '{"dropped":\[{"class":"shapes/Canvas","interface":"shapes/Painter"}\]}$' interface_left-old.jar interface_left-new.jar --strict -- --json
+try 'a dropped interface where none is meant' 72 '0 warnings, 1 dropped interfaces$' interface_left-old.jar interface_left-new.jar --strict
+try 'dropped interfaces that nobody asks for' 0 '0 warnings$' interface_left-old.jar interface_left-new.jar --strict --no-dropped
+
+# modules: one that no longer exports a package, a release that became one, and a module's file that is for newer versions of Java alone
+cp -R "$made/package_not_exported-old-classes" "$made/plain"
+rm "$made/plain/module-info.class"
+jar --create --file "$made/plain.jar" -C "$made/plain" .
+mkdir -p "$made/versions/META-INF/versions/9" "$made/versions/META-INF/versions/99"
+cp -R "$made/plain/." "$made/versions"
+cp "$made/package_not_exported-new-classes/module-info.class" "$made/versions/META-INF/versions/9"
+cp "$made/package_not_exported-old-classes/module-info.class" "$made/versions/META-INF/versions/99"
+jar --create --file "$made/later.jar" -C "$made/versions" . 2>"$made/err"
+unexported='1 H1 shapes/tools/Ruler - class - IllegalAccessError$'
+try 'a package that is no longer exported' 1 "$unexported" package_not_exported-old.jar package_not_exported-new.jar --explain
+too 'check-jars: --modular: the old release and the new release compared as a module' "    class Ruler is in a package that its module doesn't export\$"
+try 'clients that have all on the class path' 0 'compatible: 0 findings, 0 collisions, 0 notes$' package_not_exported-old.jar package_not_exported-new.jar --no-modular
+! says 'check-jars: --modular' || wrong 'the releases are compared as modules'
+try 'a release that became a module' 1 "$unexported" plain.jar package_not_exported-new.jar
+too 'check-jars: --modular: the new release compared as a module'
+try 'a module of a multi-release jar' 1 "$unexported" plain later.jar
+try 'no module' 0 'compatible: 0 findings, 0 collisions, 0 notes$' plain plain.jar
+! says 'check-jars: --modular' || wrong 'the releases are compared as modules'
+try 'a module in a row' 0 'history: 1 steps, 0 incompatible$' --row package_not_exported-old.jar package_not_exported-new.jar
+printf 'no class\n' >"$made/plain/module-info.class"
+try "a module's file that can't be read" 3 "check-jars: the module's file of the new release can't be read: --no-modular" plain.jar plain
 
 # applications: a jar of Spring Boot, and a web archive, with a library inside
 for inside in BOOT-INF WEB-INF; do
@@ -327,8 +340,8 @@ if command -v dpkg-deb >/dev/null; then
     package 1.0 old
     package 1.1 new
     try 'two packages' 1 'status  findings collisions warnings dropped  not compared  jar' shapes-1.0.deb shapes-1.1.deb --whole --report reports
-    too "     0         0          0        0       $none             0  gallery\$" \
-        "     1        12          3        2       $one             0  shapes\$" '     -  .*texts: has no class file$' '1 H1 shapes/Square'
+    too '     0         0          0        0       0             0  gallery$' \
+        '     1        12          3        2       1             0  shapes$' '     -  .*texts: has no class file$' '1 H1 shapes/Square'
     says 'gallery:' && wrong 'a jar of which there is nothing to tell'
     same_check reports/shapes
     rm "$made/package1.1/usr/share/java/shapes.jar"

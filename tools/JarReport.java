@@ -3,7 +3,10 @@ import java.io.ByteArrayOutputStream;
 import java.io.FileDescriptor;
 import java.io.FileOutputStream;
 import java.io.IOException;
+import java.io.InputStream;
 import java.io.PrintStream;
+import java.lang.module.InvalidModuleDescriptorException;
+import java.lang.module.ModuleDescriptor;
 import java.nio.charset.StandardCharsets;
 import java.nio.file.Files;
 import java.nio.file.InvalidPathException;
@@ -664,6 +667,8 @@ public final class JarReport {
         private final Map<String, Set<String>> above = new HashMap<>();
         private final Map<String, Set<String>> missing = new HashMap<>();
         private final Path folder;
+        /** The packages that its module exports to all, or null where it is no module. */
+        private final Set<String> exports;
 
         Classes(Path release, Path platform) throws IOException {
             folder = platform;
@@ -677,6 +682,28 @@ public final class JarReport {
                 ClassFile read = new ClassFile(Files.readAllBytes(file));
                 own.put(read.name, read);
             }
+            exports = exports(release.resolve("module-info.class"));
+        }
+
+        private static Set<String> exports(Path file) throws IOException {
+            if (!Files.isRegularFile(file)) {
+                return null;
+            }
+            try (InputStream bytes = Files.newInputStream(file)) {
+                return ModuleDescriptor.read(bytes).exports().stream().filter(exported -> !exported.isQualified())
+                        .map(exported -> exported.source().replace('.', '/')).collect(Collectors.toSet());
+            } catch (InvalidModuleDescriptorException none) {
+                return null;
+            }
+        }
+
+        boolean isModule() {
+            return exports != null;
+        }
+
+        /** Whether the release is a module that exports the class's package to nobody, or to some. */
+        boolean isUnexported(String name) {
+            return isModule() && has(name) && !exports.contains(name.substring(0, Math.max(name.lastIndexOf('/'), 0)));
         }
 
         int size() {
@@ -966,7 +993,7 @@ public final class JarReport {
                 case "H2":
                     return Arrays.asList(kind(line.type) + " " + type + " can no longer be " + (line.act.equals("extend") ? "extended" : "implemented") + ": it is "
                             + (now.is(ClassFile.INTERFACE) != oldRelease.find(line.type).is(ClassFile.INTERFACE) ? now.is(ClassFile.INTERFACE) ? "an interface"
-                            : "a class" : now.is(ClassFile.FINAL) ? "final" : "sealed"),
+                            : "a class" : now.is(ClassFile.FINAL) ? "final" : newRelease.isModule() ? "sealed, in a module" : "sealed"),
                             "class Y " + (line.act.equals("extend") ? "extends " : "implements ") + type + " { }");
                 case "H3":
                     if (line.isOfHidden()) {
@@ -1043,6 +1070,9 @@ public final class JarReport {
                 return "is no longer public";
             }
             Set<String> missing = newRelease.missingAbove(line.type);
+            if (missing.isEmpty() && line.error.equals("IllegalAccessError") && newRelease.isUnexported(line.type)) {
+                return "is in a package that its module doesn't export";
+            }
             return "doesn't load any more: " + (missing.isEmpty() ? line.error : "there is no " + String.join(", ", missing));
         }
 

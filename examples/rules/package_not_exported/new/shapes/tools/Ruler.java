@@ -1,0 +1,6 @@
+package shapes.tools;
+
+public class Ruler {
+    public Ruler() {
+    }
+}

@@ -1,0 +1,4 @@
+module shapes {
+    exports shapes;
+    exports shapes.tools;
+}

@@ -1,0 +1,6 @@
+package app;
+
+import shapes.Named;
+
+public final class Label implements Named {
+}

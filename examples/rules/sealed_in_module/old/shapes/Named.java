@@ -1,0 +1,4 @@
+package shapes;
+
+public sealed interface Named permits Tag, app.Label {
+}

@@ -1,0 +1,6 @@
+package shapes;
+
+public final class Tag implements Named {
+    public Tag() {
+    }
+}
