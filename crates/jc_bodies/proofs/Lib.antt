@@ -15,7 +15,6 @@ pub mod SoundWorlds
 pub mod ClassFiles
 pub mod RowFiles
 pub mod ShortKeys
-pub mod ShortNames
 pub mod CauseFiles
 pub mod FilesInOrder
 pub mod FilesWhole

@@ -13,7 +13,8 @@ use Rattle.jc_facts.specs.file.Valid.{IsValidClass}
 use Rattle.jc_facts.specs.world.World.{World, classes, find_class, with_clients}
 use Rattle.jc_lemmas.proofs.Listed.{EachOf, EachOf-append, EachOf-both}
 use Rattle.jc_facts.proofs.World.{class_named-each}
-use Rattle.jc_bodies.specs.Files.{IsShortMember, HasShortNames, CanWrite}
+use Rattle.jc_bodies.specs.Files.{CanWrite}
+use Rattle.jc_facts.specs.file.ShortNames.{IsShortMember, HasShortNames}
 use Rattle.jc_bodies.proofs.Linking.{IsShort, IsSound}
 use Rattle.jc_bodies.proofs.Written.{is_short_text, is_short_member}
 

@@ -26,7 +26,8 @@ use Rattle.jc_complete.proofs.WorkedPlans.{clients_can_be_planned}
 use Rattle.jc_sound.proofs.Examples.{computes, init, member, a_class, plain, public_class, over, object}
 use Rattle.jc_lemmas.proofs.Listed.{EachOf}
 use Rattle.jc_sound.proofs.WorkedClients.{p_A, run, run_key}
-use Rattle.jc_bodies.specs.Files.{IsShortMember, HasShortNames, CanWrite}
+use Rattle.jc_bodies.specs.Files.{CanWrite}
+use Rattle.jc_facts.specs.file.ShortNames.{IsShortMember, HasShortNames}
 
 -- p/A, and p/A with a private run
 abbrev capture : Cause

@@ -1,8 +1,6 @@
 -- The class files of planned clients: what is written of them is read back as the clients, so the bytes show each finding and each collision.
-use Rattle.std.specs.Prelude.{◌≡◌, ◌≤◌, length, List, [], ◌∷◌, All, Ok, IsTrue, is_some, count_by}
+use Rattle.std.specs.Prelude.{◌≡◌, List, [], ◌∷◌, All, Ok, IsTrue, is_some, count_by}
 use Rattle.jc_facts.specs.declared.blueprint.Blueprint.{Blueprint}
-use Rattle.jc_facts.specs.declared.class_facts.ClassFacts.{ClassFacts}
-use Rattle.jc_facts.specs.declared.class_facts.Member.{Member}
 use Rattle.jc_facts.specs.declared.client.ClientClass.{ClientClass}
 use Rattle.jc_facts.specs.declared.link_error.LinkError.{LinkError}
 use Rattle.jc_facts.specs.declared.verdict.Cause.{Cause}
@@ -10,6 +8,7 @@ use Rattle.jc_facts.specs.declared.verdict.Cause.TheVariants as cause
 use Rattle.jc_facts.specs.declared.verdict.Verdict.{Verdict}
 use Rattle.jc_facts.specs.world.World.{World}
 use Rattle.jc_facts.specs.file.ClassGrammar.{Reads}
+use Rattle.jc_facts.specs.file.ShortNames.{HasShortNames}
 use Rattle.jc_facts.specs.code.ClientItems.{items as items_in}
 use Rattle.jc_facts.specs.written.Written.{written, HasShortFlags, fits_whole}
 use Rattle.jc_facts.specs.written.TypedItems.{typed_items, IsWritable}
@@ -19,16 +18,6 @@ use Rattle.jc_facts.specs.rule.Verdict.{IsVerdict}
 use Rattle.jc_complete.specs.Completeness.{CanPlan, PlannedShow, PlannedMeet}
 
 -- ---- of what releases it is said
-
--- a text of a class file has at most 65,535 bytes (JVMS 4.4.7)
-abbrev pub IsShortMember : Member → Type 0
-IsShortMember m = (length m.name ≤ 65535) × (length m.descriptor ≤ 65535)
-
--- the class's name has at most 4,090 bytes, as a path of 4,096 bytes allows that ends in .class, and its members' names and descriptors are texts
-pub record HasShortNames (c : ClassFacts) : Type 0 where
-  pub name : length c.name ≤ 4090
-  pub fields : All IsShortMember c.fields
-  pub methods : All IsShortMember c.methods
 
 -- clients can be planned for the two sides, and all names are short
 pub record CanWrite (O N : World) : Type 0 where

@@ -18,7 +18,8 @@ use Rattle.jc_lemmas.proofs.Listed.{EachOf, EachOf-map, EachOf-append}
 use Rattle.jc_sound.proofs.VerdictLaw.{verdict_is_one}
 use Rattle.jc_complete.specs.Completeness.{IsBroken, PlannedMeet}
 use Rattle.jc_complete.proofs.CompletenessWhole.{verdict_is_exact}
-use Rattle.jc_bodies.specs.Files.{HasShortNames, CanWrite, FilesShow}
+use Rattle.jc_bodies.specs.Files.{CanWrite, FilesShow}
+use Rattle.jc_facts.specs.file.ShortNames.{HasShortNames}
 use Rattle.jc_bodies.proofs.FilesWhole.{each_has_its_files}
 use Rattle.jc_table.specs.Sides.{IsSide}
 use Rattle.jc_witness.specs.Ground.{HasShortSide}

@@ -3,7 +3,7 @@ use Rattle.std.proofs.Common.{◌≡◌, ◌∙◌, List, [], ◌∷◌, Option,
 use Rattle.std.specs.Prelude.{Ok, false}
 use Rattle.std.proofs.lemmas.List.Elements.{All-from_recursion, recursion_from_All}
 use Rattle.jc_base.specs.Outside.{FileOf}
-use Rattle.jc_bodies.specs.Files.{HasShortNames}
+use Rattle.jc_facts.specs.file.ShortNames.{HasShortNames}
 use Rattle.jc_facts.specs.declared.class_facts.ClassFacts.{ClassFacts}
 use Rattle.jc_facts.specs.declared.client.ClientClass.{ClientClass}
 use Rattle.jc_facts.specs.declared.client.Item.{Item}

@@ -4,8 +4,8 @@ use Rattle.std.specs.Prelude.{nat_lt, false}
 use Rattle.std.specs.List.{All, list_any}
 use Rattle.std.proofs.lemmas.Bool.{ltb-false}
 use Rattle.std.proofs.lemmas.List.Elements.{All-from_recursion, recursion_from_All}
-use Rattle.jc_bodies.specs.Files.{HasShortNames}
-use Rattle.jc_bodies.proofs.ShortNames.{short_names}
+use Rattle.jc_facts.specs.file.ShortNames.{HasShortNames}
+use Rattle.jc_facts.proofs.ShortNames.{short_names}
 use Rattle.jc_desc.proofs.ShortTexts.{AreBytes}
 use Rattle.jc_facts.specs.declared.class_facts.ClassFacts.{ClassFacts}
 use Rattle.jc_facts.specs.declared.client.ClientClass.{ClientClass}

@@ -1,7 +1,7 @@
 -- What is read of a tree, whether its files are told or not.
 use Rattle.std.specs.Prelude.{◌≡◌, ◌≤◌, List, [], ◌∷◌, length, IsTrue}
 use Rattle.std.specs.List.{All}
-use Rattle.jc_bodies.specs.Files.{HasShortNames}
+use Rattle.jc_facts.specs.file.ShortNames.{HasShortNames}
 use Rattle.jc_facts.specs.declared.class_facts.ClassFacts.{ClassFacts}
 use Rattle.jc_facts.specs.declared.client.ClientClass.{ClientClass}
 use Rattle.jc_facts.specs.client.Clients.{IsValidClient, differ_by_name, facts_of}

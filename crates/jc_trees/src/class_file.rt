@@ -1,7 +1,7 @@
 //! A class file at its path.
 ghost use Rattle.std.specs.Prelude.{◌≡◌, ◌≤◌, ◌↔◌, ℕ, List, Ok, false, true, length, nat_lt, IfOk, IfErr, IsTrue};
 ghost use Rattle.jc_facts.specs.declared.class_facts.ClassFacts.{ClassFacts};
-ghost use Rattle.jc_bodies.specs.Files.{HasShortNames};
+ghost use Rattle.jc_facts.specs.file.ShortNames.{HasShortNames};
 ghost use Rattle.jc_facts.specs.client.Clients.{IsValidClient};
 ghost use Rattle.jc_facts.specs.Names.{same};
 ghost use Rattle.jc_facts.specs.file.ClassGrammar.{Reads};

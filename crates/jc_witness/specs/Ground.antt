@@ -9,7 +9,7 @@ use Rattle.jc_facts.specs.world.World.{World}
 use Rattle.jc_facts.specs.world.Assignment.{is_interface_of}
 use Rattle.jc_facts.specs.world.Loading.{load_fault}
 use Rattle.jc_facts.specs.world.Mentioned.{mentioned}
-use Rattle.jc_bodies.specs.Files.{HasShortNames}
+use Rattle.jc_facts.specs.file.ShortNames.{HasShortNames}
 use Rattle.jc_sides.specs.SidesOf.{SidesOf, AreSides}
 
 -- two sides of one run, which mention fewer than 2^64 names

@@ -1,7 +1,7 @@
 //! Whether names are short enough for class files and paths.
 ghost use Rattle.std.specs.Prelude.{◌↔◌, IsTrue};
 ghost use Rattle.std.specs.List.{All};
-ghost use Rattle.jc_bodies.specs.Files.{HasShortNames, IsShortMember};
+ghost use Rattle.jc_facts.specs.file.ShortNames.{HasShortNames, IsShortMember};
 
 use jc_facts::class_facts::{ClassFacts, Member};
 

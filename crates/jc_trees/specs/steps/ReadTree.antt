@@ -1,6 +1,6 @@
 -- What is found in a tree, on the way.
 use Rattle.std.specs.Prelude.{◌≡◌, List, [], ◌∷◌, ◌++◌}
-use Rattle.jc_bodies.specs.Files.{HasShortNames}
+use Rattle.jc_facts.specs.file.ShortNames.{HasShortNames}
 use Rattle.jc_base.specs.Causes.{Rose}
 use Rattle.jc_base.specs.Outside.{FileOf, IsFileAt}
 use Rattle.jc_base.specs.States.{TreesState, Change}
