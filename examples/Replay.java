@@ -152,7 +152,7 @@ public final class Replay {
 
     private static String told(String before, Run run) {
         return (run.errors.isEmpty() ? "" : before + run.errors) + (run.faults.isEmpty() ? "" : before + "the library's own code fails in " + run.faults)
-                + (run.missing.isEmpty() ? "" : " for want of " + String.join(", ", run.missing));
+                + (run.missing.isEmpty() ? "" : " for lack of " + String.join(", ", run.missing));
     }
 
     /** Why the machine gives another error with the new release, as LINKING.md has it; null where it shouldn't. */

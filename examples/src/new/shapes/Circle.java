@@ -1,6 +1,6 @@
 package shapes;
 
-/** A circle. It may be extended no more. */
+/** A circle. It may no longer be extended. */
 public final class Circle extends Shape {
     private final double radius;
 

@@ -1,6 +1,6 @@
 package shapes;
 
-/** What has a name. It is an interface no more. */
+/** What has a name. It is no longer an interface. */
 public abstract class Named {
     public abstract String name();
 }

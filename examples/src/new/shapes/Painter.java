@@ -1,5 +1,5 @@
 package shapes;
 
-/** What paints shapes. It is a brush no more. */
+/** What paints shapes. It is no longer a brush. */
 public interface Painter {
 }

@@ -1,6 +1,6 @@
 package shapes;
 
-/** A rectangle. It is a polygon no more. */
+/** A rectangle. It is no longer a polygon. */
 public class Rectangle extends Shape {
     private final double width;
     private final double height;
