@@ -26,11 +26,11 @@ use Rattle.jc_complete.specs.Completeness.{FailsBy, PlannedMeet}
 use Rattle.jc_bodies.specs.Files.{AreFilesOf, CanWrite, FilesShow, IsFileOf}
 use Rattle.jc_bodies.proofs.FilesWhole.{each_has_its_files}
 use Rattle.jc_sides.specs.SidesOf.{SidesOf}
-use Rattle.jc_witness.specs.declared.row.Row.{Row}
+use Rattle.jc_witness.specs.declared.planned_files.PlannedFiles.{PlannedFiles}
 use Rattle.jc_witness.specs.declared.witness.WitnessFile.{WitnessFile}
 use Rattle.jc_witness.specs.Ground.{HasShortSide, IsGround}
 use Rattle.jc_witness.specs.Witnesses.{HasCause, StandsInVerdict, error_of, written_file, witness_files, AreReadAs, FailsAt, FailAtSpots, IsWitness, IsWitnessOf, MeetsOnly}
-use Rattle.jc_witness.specs.steps.RowOf.{IsReady, IsRowOf, CanBeWritten, class_of_file, files_of_row, in_order}
+use Rattle.jc_witness.specs.steps.PlanFiles.{IsReady, AreFilesOfPlan, CanBeWritten, class_of_file, written_files, in_order}
 use Rattle.jc_witness.proofs.Ground.{can_write}
 use Rattle.jc_witness.proofs.Sorted.{one_of_name}
 
@@ -129,14 +129,14 @@ module _ (O N : World) (can : CanWrite O N) where
 
 -- ---- over two sides on which clients can be planned
 
-module _ (s : SidesOf) (g : IsGround s) (old : HasShortSide s.old) (new : HasShortSide s.new) (e : Cause) (k : StandsInVerdict s.old s.new e) (r : Row) (is : IsRowOf s e r) where
+module _ (s : SidesOf) (g : IsGround s) (old : HasShortSide s.old) (new : HasShortSide s.new) (e : Cause) (k : StandsInVerdict s.old s.new e) (r : PlannedFiles) (is : AreFilesOfPlan s e r) where
   show : FilesShow s.old s.new e (error_of e)
   show = shown s.old s.new (can_write s g old new) e k
 
   pub can_be_written : CanBeWritten r
   can_be_written = let p = ready s.old s.new e (error_of e) show in subst CanBeWritten (sym is) (record { differ = p.0; ready = p.1 })
 
-  pub witnessed : (fs : List WitnessFile) → fs ≡ files_of_row (in_order r) → IsWitnessOf s.old s.new e fs
+  pub witnessed : (fs : List WitnessFile) → fs ≡ written_files (in_order r) → IsWitnessOf s.old s.new e fs
   witnessed fs q = record {
     files = files;
     shows = subst (λ (xs : List WitnessFile). IsWitness s.old s.new (error_of e) xs (planned s.old s.new e)) (sym files) (is_witness s.old s.new e (error_of e) show);
@@ -144,4 +144,4 @@ module _ (s : SidesOf) (g : IsGround s) (old : HasShortSide s.old) (new : HasSho
   }
     where
       files : fs ≡ witness_files s.old s.new e
-      files = ◌∙◌ {A = List WitnessFile} q (ap (λ (x : Row). files_of_row (in_order x)) is)
+      files = ◌∙◌ {A = List WitnessFile} q (ap (λ (x : PlannedFiles). written_files (in_order x)) is)

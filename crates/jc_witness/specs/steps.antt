@@ -1,4 +1,4 @@
 pub mod Found
 pub mod Drafted
 pub mod DraftView
-pub mod RowOf
+pub mod PlanFiles

@@ -2,21 +2,21 @@
 #![tactic(auto)]
 
 mod bodies;
-mod class_rows;
+mod class_plans;
 mod classes;
-mod collision_rows;
+mod collision_plans;
 mod constructor;
 mod draft;
-mod exposed_rows;
+mod exposed_plans;
 mod exposing;
 mod lowest;
-mod member_rows;
+mod member_plans;
 mod package;
 mod permitted;
+mod planned_files;
 pub mod planner;
+mod plans;
 mod receiver;
-mod row;
-mod rows;
 pub mod short_names;
 mod texts;
 pub mod witness;

@@ -6,11 +6,11 @@ ghost use Rattle.jc_facts.specs.written.Written.{written};
 ghost use Rattle.jc_facts.specs.declared.verdict.Cause.TheVariants as cause;
 ghost use Rattle.jc_witness.specs.Ground.{HasShortSide};
 ghost use Rattle.jc_witness.specs.Witnesses.{IsWitnessOf, StandsInVerdict};
-ghost use Rattle.jc_witness.specs.steps.RowOf.{file_of_row, files_of_row, in_order, spot_in, CanBeWritten, IsReady};
+ghost use Rattle.jc_witness.specs.steps.PlanFiles.{written_file, written_files, in_order, spot_in, CanBeWritten, IsReady};
 
+use crate::planned_files::PlannedFiles;
 use crate::planner::Planner;
-use crate::row::Row;
-use crate::rows::{collision_row, finding_row};
+use crate::plans::{collision_plan, finding_plan};
 use crate::witnessed::Witnessed;
 use jc_base::items::Items;
 use jc_base::name::Name;
@@ -43,48 +43,52 @@ fn bytes_of(alloc: Global, file: &Blueprint) -> Result<Vec<u8>, AllocError>
     }
 }
 
-// The spot of the row, where it is that of the class of this name.
-fn spot_for(row: &Row, name: &Name) -> Option<Spot>
-    ensures { result ≡ spot_in row.now name.now }
+// The spot, where it is that of the class of this name.
+fn spot_for(planned: &PlannedFiles, name: &Name) -> Option<Spot>
+    ensures { result ≡ spot_in planned.now name.now }
 {
-    if *name == row.name {
-        Some(row.spot)
+    if *name == planned.name {
+        Some(planned.spot)
     } else {
         None
     }
 }
 
-fn witness_file(alloc: Global, row: &Row, file: &Blueprint) -> Result<WitnessFile, AllocError>
+fn witness_file(
+    alloc: Global,
+    planned: &PlannedFiles,
+    file: &Blueprint,
+) -> Result<WitnessFile, AllocError>
     requires { IsReady file.now }
-    ensures { IfOk result (λ made. made ≡ file_of_row row.now file.now) }
+    ensures { IfOk result (λ made. made ≡ written_file planned.now file.now) }
 {
     let bytes = bytes_of(alloc, file)?;
     Ok(WitnessFile {
         class: file.facts.name.copy(alloc)?,
         bytes: Items::from_vec(bytes),
-        spot: spot_for(row, &file.facts.name),
+        spot: spot_for(planned, &file.facts.name),
     })
 }
 
-// The files of a row, as they stand.
-fn write_row(alloc: Global, row: &Row) -> Result<Vec<WitnessFile>, AllocError>
-    requires { All IsReady row.now.files }
-    ensures { IfOk result (λ files. files.items ≡ files_of_row row.now) }
+// The planned files as they are written.
+fn write_files(alloc: Global, planned: &PlannedFiles) -> Result<Vec<WitnessFile>, AllocError>
+    requires { All IsReady planned.now.files }
+    ensures { IfOk result (λ files. files.items ≡ written_files planned.now) }
 {
     let mut files = Vec::new(alloc);
-    for file in row.files.as_slice() {
-        files.push(witness_file(alloc, row, file)?)?;
+    for file in planned.files.as_slice() {
+        files.push(witness_file(alloc, planned, file)?)?;
     }
     Ok(files)
 }
 
-// The files of a row, in byte order of names.
-fn files_of(alloc: Global, row: Row) -> Result<Vec<WitnessFile>, AllocError>
-    requires { CanBeWritten row }
-    ensures { IfOk result (λ files. files.items ≡ files_of_row (in_order row)) }
+// The same in byte order of names.
+fn files_of(alloc: Global, planned: PlannedFiles) -> Result<Vec<WitnessFile>, AllocError>
+    requires { CanBeWritten planned }
+    ensures { IfOk result (λ files. files.items ≡ written_files (in_order planned)) }
 {
-    let sorted = row.sorted()?;
-    write_row(alloc, &sorted)
+    let sorted = planned.sorted()?;
+    write_files(alloc, &sorted)
 }
 
 impl Witnessed for Finding {
@@ -93,7 +97,7 @@ impl Witnessed for Finding {
     fn show(&self, alloc: Global, planner: &Planner<'_>) -> Result<Vec<WitnessFile>, AllocError> {
         // The package says what always holds of the two sides.
         let _package = planner.package();
-        files_of(alloc, finding_row(alloc, planner, self)?)
+        files_of(alloc, finding_plan(alloc, planner, self)?)
     }
 }
 
@@ -103,7 +107,7 @@ impl Witnessed for Collision {
     fn show(&self, alloc: Global, planner: &Planner<'_>) -> Result<Vec<WitnessFile>, AllocError> {
         // The package says what always holds of the two sides.
         let _package = planner.package();
-        files_of(alloc, collision_row(alloc, planner, self)?)
+        files_of(alloc, collision_plan(alloc, planner, self)?)
     }
 }
 

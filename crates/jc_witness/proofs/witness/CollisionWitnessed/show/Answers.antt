@@ -5,10 +5,10 @@ use Rattle.jc_witness.proofs.witness.CollisionWitnessed.show.Goals as goal
 
 pub files_of-requires : goal.files_of-requires
 files_of-requires c =
-    can_be_written c.args.planner.now c.package-package.ensures.ground c.requires.old_names c.requires.new_names (cause.Collision c.args.self.now) c.requires.stands c.in_ok-collision_row.field-0 c.in_ok-collision_row.ensures
+    can_be_written c.args.planner.now c.package-package.ensures.ground c.requires.old_names c.requires.new_names (cause.Collision c.args.self.now) c.requires.stands c.in_ok-collision_plan.field-0 c.in_ok-collision_plan.ensures
 
 pub returns : goal.returns
 returns c =
     IfOk-weaker _ _ _
-    (λ files. witnessed c.args.planner.now c.package-package.ensures.ground c.requires.old_names c.requires.new_names (cause.Collision c.args.self.now) c.requires.stands c.in_ok-collision_row.field-0 c.in_ok-collision_row.ensures files.items)
+    (λ files. witnessed c.args.planner.now c.package-package.ensures.ground c.requires.old_names c.requires.new_names (cause.Collision c.args.self.now) c.requires.stands c.in_ok-collision_plan.field-0 c.in_ok-collision_plan.ensures files.items)
     c.files_of.ensures

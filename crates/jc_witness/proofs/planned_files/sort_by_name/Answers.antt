@@ -4,9 +4,9 @@ use Rattle.std.proofs.lemmas.Cmp.{nat_list_cmp_total}
 use Rattle.std.specs.Ordering.{is_lt}
 use Rattle.jc_facts.specs.declared.blueprint.Blueprint.{Blueprint}
 use Rattle.jc_facts.specs.Exactly.{name_order}
-use Rattle.jc_witness.specs.steps.RowOf.{class_of_file}
+use Rattle.jc_witness.specs.steps.PlanFiles.{class_of_file}
 use Rattle.jc_witness.proofs.Sorted.{sorted_is}
-use Rattle.jc_witness.proofs.row.sort_by_name.Goals as goal
+use Rattle.jc_witness.proofs.planned_files.sort_by_name.Goals as goal
 
 pub returns : goal.returns
 returns c =

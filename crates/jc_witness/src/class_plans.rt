@@ -2,24 +2,28 @@
 ghost use Rattle.std.specs.Prelude.{◌≡◌, ◌∷◌, [], IfOk};
 ghost use Rattle.jc_facts.specs.plan.Planned.{assigns, names_above, names_class};
 ghost use Rattle.jc_facts.specs.plan.PlannedBodies.{above_bodies, cast_steps, turn_steps, user_bodies};
-ghost use Rattle.jc_witness.specs.steps.RowOf.{package_of, row_of};
+ghost use Rattle.jc_witness.specs.steps.PlanFiles.{package_of, files_of_plan};
 
 use crate::bodies::{cast_to, return_parameter};
 use crate::draft::{Draft, PUBLIC_CLASS};
+use crate::planned_files::{PlannedFiles, user_of};
 use crate::planner::Planner;
-use crate::row::{Row, user_of};
 use crate::texts::{from_to, root_name, with_parameter};
 use jc_base::name::Name;
 use jc_facts::verdict::Spot;
 use std::alloc::{AllocError, Global};
 
 /// A class casts an object to one that is gone.
-pub(crate) fn naming(alloc: Global, planner: &Planner<'_>, class: &Name) -> Result<Row, AllocError>
-    ensures { IfOk result (λ row. row ≡ row_of (names_class (package_of planner.now) class.now) (user_bodies (cast_steps class.now) ∷ [])) }
+pub(crate) fn naming(
+    alloc: Global,
+    planner: &Planner<'_>,
+    class: &Name,
+) -> Result<PlannedFiles, AllocError>
+    ensures { IfOk result (λ files. files ≡ files_of_plan (names_class (package_of planner.now) class.now) (user_bodies (cast_steps class.now) ∷ [])) }
 {
     let descriptor = with_parameter(alloc, &root_name(alloc)?)?;
     let user = user_of(alloc, planner, descriptor, cast_to(alloc, class)?)?;
-    Row::one(alloc, user, Spot::Item(1))
+    PlannedFiles::one(alloc, user, Spot::Item(1))
 }
 
 /// A class extends one that is closed now, or implements an interface that is closed now.
@@ -27,8 +31,8 @@ pub(crate) fn extending(
     alloc: Global,
     planner: &Planner<'_>,
     class: &Name,
-) -> Result<Row, AllocError>
-    ensures { IfOk result (λ row. row ≡ row_of (names_above planner.now.old planner.now.new (package_of planner.now) class.now) (above_bodies planner.now.old class.now ∷ [])) }
+) -> Result<PlannedFiles, AllocError>
+    ensures { IfOk result (λ files. files ≡ files_of_plan (names_above planner.now.old planner.now.new (package_of planner.now) class.now) (above_bodies planner.now.old class.now ∷ [])) }
 {
     let name = planner.closed_name(alloc, b"Y", class)?;
     let above = class.copy(alloc)?;
@@ -38,7 +42,7 @@ pub(crate) fn extending(
         let constructor = planner.constructor(class);
         Draft::class(alloc, name, PUBLIC_CLASS, above, constructor)?
     };
-    Row::one(alloc, draft.finish(alloc), Spot::Load)
+    PlannedFiles::one(alloc, draft.finish(alloc), Spot::Load)
 }
 
 /// A class returns an object of one class as one of another.
@@ -47,10 +51,10 @@ pub(crate) fn assigning(
     planner: &Planner<'_>,
     from: &Name,
     to: &Name,
-) -> Result<Row, AllocError>
-    ensures { IfOk result (λ row. row ≡ row_of (assigns (package_of planner.now) from.now to.now) (user_bodies turn_steps ∷ [])) }
+) -> Result<PlannedFiles, AllocError>
+    ensures { IfOk result (λ files. files ≡ files_of_plan (assigns (package_of planner.now) from.now to.now) (user_bodies turn_steps ∷ [])) }
 {
     let descriptor = from_to(alloc, from, to)?;
     let user = user_of(alloc, planner, descriptor, return_parameter(alloc)?)?;
-    Row::one(alloc, user, Spot::Item(1))
+    PlannedFiles::one(alloc, user, Spot::Item(1))
 }

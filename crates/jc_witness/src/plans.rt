@@ -1,4 +1,4 @@
-//! The row of planned clients for a finding or a collision.
+//! The class files of the clients that are planned for a finding or a collision.
 ghost use Rattle.std.specs.Prelude.{◌≡◌, IfOk, None, Some};
 ghost use Rattle.jc_facts.specs.declared.verdict.Cause.TheVariants as cause;
 ghost use Rattle.jc_facts.specs.plan.Planned.{finding_plan, member_plan};
@@ -7,14 +7,14 @@ ghost use Rattle.jc_facts.specs.rule.Findings.{Stands};
 ghost use Rattle.jc_facts.specs.Names.{object_name};
 ghost use Rattle.jc_witness.specs.Ground.{IsGround};
 ghost use Rattle.jc_witness.specs.Exposing.{CanExpose};
-ghost use Rattle.jc_witness.specs.steps.RowOf.{package_of, row_of, IsRowOf};
+ghost use Rattle.jc_witness.specs.steps.PlanFiles.{package_of, files_of_plan, AreFilesOfPlan};
 
-use crate::class_rows::{extending, naming};
-use crate::collision_rows::{capturing, reading};
-use crate::exposed_rows::assigning_from;
-use crate::member_rows::{acting, constructing, inheriting, making, overriding};
+use crate::class_plans::{extending, naming};
+use crate::collision_plans::{capturing, reading};
+use crate::exposed_plans::assigning_from;
+use crate::member_plans::{acting, constructing, inheriting, making, overriding};
+use crate::planned_files::PlannedFiles;
 use crate::planner::Planner;
-use crate::row::Row;
 use crate::texts::root_name;
 use jc_facts::act::Act;
 use jc_facts::finding::Finding;
@@ -26,9 +26,13 @@ use jc_facts::verdict::Collision;
 use std::alloc::{AllocError, Global};
 
 // Of a rule on classes alone.
-fn class_row(alloc: Global, planner: &Planner<'_>, finding: &Finding) -> Result<Row, AllocError>
+fn class_plan(
+    alloc: Global,
+    planner: &Planner<'_>,
+    finding: &Finding,
+) -> Result<PlannedFiles, AllocError>
     requires { CanExpose planner.now.old finding.now.seat object_name finding.now.class }
-    ensures { IfOk result (λ row. row ≡ row_of (finding_plan planner.now.old planner.now.new (package_of planner.now) finding.now None None) (finding_bodies planner.now.old planner.now.new (package_of planner.now) finding.now None None)) }
+    ensures { IfOk result (λ files. files ≡ files_of_plan (finding_plan planner.now.old planner.now.new (package_of planner.now) finding.now None None) (finding_bodies planner.now.old planner.now.new (package_of planner.now) finding.now None None)) }
 {
     match finding.rule {
         CLASS_GONE => naming(alloc, planner, &finding.class),
@@ -44,13 +48,13 @@ fn class_row(alloc: Global, planner: &Planner<'_>, finding: &Finding) -> Result<
 }
 
 // Of a rule on members that names no seat.
-fn seatless_row(
+fn seatless_plan(
     alloc: Global,
     planner: &Planner<'_>,
     finding: &Finding,
     key: &Key,
-) -> Result<Row, AllocError>
-    ensures { IfOk result (λ row. row ≡ row_of (member_plan planner.now.old planner.now.new (package_of planner.now) finding.now key.now None) (member_bodies planner.now.old planner.now.new (package_of planner.now) finding.now key.now None)) }
+) -> Result<PlannedFiles, AllocError>
+    ensures { IfOk result (λ files. files ≡ files_of_plan (member_plan planner.now.old planner.now.new (package_of planner.now) finding.now key.now None) (member_bodies planner.now.old planner.now.new (package_of planner.now) finding.now key.now None)) }
 {
     match finding.rule {
         CONSTRUCTOR_CLOSED => match finding.act {
@@ -63,30 +67,34 @@ fn seatless_row(
 }
 
 // Of a rule on members.
-fn member_row(
+fn member_plan(
     alloc: Global,
     planner: &Planner<'_>,
     finding: &Finding,
     key: &Key,
-) -> Result<Row, AllocError>
+) -> Result<PlannedFiles, AllocError>
     requires stands { Stands planner.now.old planner.now.new finding.now }
     requires key { finding.now.key ≡ Some key.now }
-    ensures { IfOk result (λ row. row ≡ row_of (member_plan planner.now.old planner.now.new (package_of planner.now) finding.now key.now finding.now.seat) (member_bodies planner.now.old planner.now.new (package_of planner.now) finding.now key.now finding.now.seat)) }
+    ensures { IfOk result (λ files. files ≡ files_of_plan (member_plan planner.now.old planner.now.new (package_of planner.now) finding.now key.now finding.now.seat) (member_bodies planner.now.old planner.now.new (package_of planner.now) finding.now key.now finding.now.seat)) }
 {
     match &finding.seat {
         Some(seat) => acting(alloc, planner, &finding.class, key, finding.act, seat),
-        None => seatless_row(alloc, planner, finding, key),
+        None => seatless_plan(alloc, planner, finding, key),
     }
 }
 
 // Of a finding with this key and this target. None that stands has both.
-fn row_by_parts(alloc: Global, planner: &Planner<'_>, finding: &Finding) -> Result<Row, AllocError>
+fn plan_by_parts(
+    alloc: Global,
+    planner: &Planner<'_>,
+    finding: &Finding,
+) -> Result<PlannedFiles, AllocError>
     requires stands { Stands planner.now.old planner.now.new finding.now }
     requires ground { IsGround planner.now }
-    ensures { IfOk result (λ row. row ≡ row_of (finding_plan planner.now.old planner.now.new (package_of planner.now) finding.now finding.now.key finding.now.target) (finding_bodies planner.now.old planner.now.new (package_of planner.now) finding.now finding.now.key finding.now.target)) }
+    ensures { IfOk result (λ files. files ≡ files_of_plan (finding_plan planner.now.old planner.now.new (package_of planner.now) finding.now finding.now.key finding.now.target) (finding_bodies planner.now.old planner.now.new (package_of planner.now) finding.now finding.now.key finding.now.target)) }
 {
     match (&finding.key, &finding.target) {
-        (None, None) => class_row(alloc, planner, finding),
+        (None, None) => class_plan(alloc, planner, finding),
         (None, Some(target)) => assigning_from(
             alloc,
             planner,
@@ -94,33 +102,33 @@ fn row_by_parts(alloc: Global, planner: &Planner<'_>, finding: &Finding) -> Resu
             target,
             &finding.seat,
         ),
-        (Some(key), None) => member_row(alloc, planner, finding, key),
-        (Some(_), Some(_)) => Row::none(alloc),
+        (Some(key), None) => member_plan(alloc, planner, finding, key),
+        (Some(_), Some(_)) => PlannedFiles::none(alloc),
     }
 }
 
 /// Of a finding.
 #[tactic(auto, unfolding(jc_facts::specs::plan::Planned::plan, jc_facts::specs::plan::PlannedBodies::plan_bodies))]
-pub(crate) fn finding_row(
+pub(crate) fn finding_plan(
     alloc: Global,
     planner: &Planner<'_>,
     finding: &Finding,
-) -> Result<Row, AllocError>
+) -> Result<PlannedFiles, AllocError>
     requires stands { Stands planner.now.old planner.now.new finding.now }
     requires ground { IsGround planner.now }
-    ensures { IfOk result (λ row. IsRowOf planner.now (cause.Finding finding.now) row) }
+    ensures { IfOk result (λ files. AreFilesOfPlan planner.now (cause.Finding finding.now) files) }
 {
-    row_by_parts(alloc, planner, finding)
+    plan_by_parts(alloc, planner, finding)
 }
 
 /// Of a collision.
 #[tactic(auto, unfolding(jc_facts::specs::plan::Planned::plan, jc_facts::specs::plan::PlannedBodies::plan_bodies))]
-pub(crate) fn collision_row(
+pub(crate) fn collision_plan(
     alloc: Global,
     planner: &Planner<'_>,
     collision: &Collision,
-) -> Result<Row, AllocError>
-    ensures { IfOk result (λ row. IsRowOf planner.now (cause.Collision collision.now) row) }
+) -> Result<PlannedFiles, AllocError>
+    ensures { IfOk result (λ files. AreFilesOfPlan planner.now (cause.Collision collision.now) files) }
 {
     match collision.rule {
         CONSTANT_ADDED => reading(alloc, planner, &collision.class, &collision.key),

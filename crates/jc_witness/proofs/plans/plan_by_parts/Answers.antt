@@ -1,8 +1,8 @@
 use Rattle.jc_witness.proofs.CanExpose.{exposed_by, exposed_class, exposed_target}
-use Rattle.jc_witness.proofs.rows.row_by_parts.Goals as goal
+use Rattle.jc_witness.proofs.plans.plan_by_parts.Goals as goal
 
-pub class_row-requires : goal.class_row-requires
-class_row-requires c =
+pub class_plan-requires : goal.class_plan-requires
+class_plan-requires c =
     let f = c.args.finding.now in
     exposed_class c.args.planner.now.old f.key f.target f.seat f.«class» (exposed_by c.args.planner.now c.requires.ground f c.requires.stands) c.in-None-None.is-0 c.in-None-None.is-1
 

@@ -8,13 +8,13 @@ ghost use Rattle.jc_facts.specs.plan.PlannedBodies.{assigns_bodies, body_of, ini
 ghost use Rattle.jc_facts.specs.plan.PlannedNames.{constructor};
 ghost use Rattle.jc_witness.specs.Ground.{CanRefer};
 ghost use Rattle.jc_witness.specs.Exposing.{CanExpose};
-ghost use Rattle.jc_witness.specs.steps.RowOf.{package_of, row_of};
+ghost use Rattle.jc_witness.specs.steps.PlanFiles.{package_of, files_of_plan};
 
 use crate::bodies::expose_and_return;
-use crate::class_rows::assigning;
+use crate::class_plans::assigning;
 use crate::draft::{Draft, PUBLIC_CLASS, body};
+use crate::planned_files::{PlannedFiles, static_use};
 use crate::planner::Planner;
-use crate::row::{Row, static_use};
 use crate::texts::from_behind;
 use jc_base::name::Name;
 use jc_facts::member_act::MemberAct;
@@ -67,10 +67,10 @@ fn assigning_behind(
     from: &Name,
     to: &Name,
     seat: &Name,
-) -> Result<Row, AllocError>
+) -> Result<PlannedFiles, AllocError>
     requires few { length acts.now ≤ 254 }
     requires refers { All (λ (s : MemberAct). CanRefer planner.now.old s.act s.«class» s.key) acts.now }
-    ensures { IfOk result (λ row. row ≡ row_of (assigns_behind planner.now.old planner.now.new (package_of planner.now) acts.now from.now to.now seat.now) ((init_body seat.now (constructor planner.now.old seat.now) ∷ body_of (exposed_steps 0 acts.now) ∷ []) ∷ [])) }
+    ensures { IfOk result (λ files. files ≡ files_of_plan (assigns_behind planner.now.old planner.now.new (package_of planner.now) acts.now from.now to.now seat.now) ((init_body seat.now (constructor planner.now.old seat.now) ∷ body_of (exposed_steps 0 acts.now) ∷ []) ∷ [])) }
 {
     let name = planner.own_name(alloc, b"Y", seat)?;
     let before = receivers(alloc, planner, acts, &name)?;
@@ -80,7 +80,7 @@ fn assigning_behind(
     let draft = Draft::class(alloc, name, PUBLIC_CLASS, above, constructor)?;
     let steps = expose_and_return(alloc, acts)?;
     let draft = draft.method(static_use(alloc, descriptor)?, body(steps))?;
-    Row::one(
+    PlannedFiles::one(
         alloc,
         draft.finish(alloc),
         Spot::Item(acts.len() as u32 + 1),
@@ -95,9 +95,9 @@ pub(crate) fn assigning_from(
     from: &Name,
     to: &Name,
     seat: &Option<Name>,
-) -> Result<Row, AllocError>
+) -> Result<PlannedFiles, AllocError>
     requires { CanExpose planner.now.old seat.now from.now to.now }
-    ensures { IfOk result (λ row. row ≡ row_of (assigns_from planner.now.old planner.now.new (package_of planner.now) from.now to.now seat.now) (assigns_bodies planner.now.old from.now to.now seat.now ∷ [])) }
+    ensures { IfOk result (λ files. files ≡ files_of_plan (assigns_from planner.now.old planner.now.new (package_of planner.now) from.now to.now seat.now) (assigns_bodies planner.now.old from.now to.now seat.now ∷ [])) }
 {
     match seat {
         None => assigning(alloc, planner, from, to),

@@ -4,7 +4,7 @@ ghost use Rattle.jc_facts.specs.ByName.{by_name};
 ghost use Rattle.jc_facts.specs.Exactly.{NamesRise};
 ghost use Rattle.jc_facts.specs.plan.Planned.{no_plan, use_method, user};
 ghost use Rattle.jc_facts.specs.plan.PlannedBodies.{blueprint, user_bodies};
-ghost use Rattle.jc_witness.specs.steps.RowOf.{class_of_file, ending_with, in_order, package_of, row_of};
+ghost use Rattle.jc_witness.specs.steps.PlanFiles.{class_of_file, ending_with, in_order, package_of, files_of_plan};
 
 use crate::draft::{Draft, PUBLIC_STATIC, body};
 use crate::planner::Planner;
@@ -17,7 +17,7 @@ use std::alloc::{AllocError, Global};
 
 /// Class files, the name of the one that fails with the new release, and its spot.
 #[derive(Drop)]
-pub(crate) struct Row {
+pub(crate) struct PlannedFiles {
     pub(crate) files: Items<Blueprint>,
     pub(crate) name: Name,
     pub(crate) spot: Spot,
@@ -32,12 +32,12 @@ fn sort_by_name(files: &mut Vec<Blueprint>) -> Result<(), AllocError>
     Ok(())
 }
 
-impl Row {
+impl PlannedFiles {
     /// No class files.
-    pub(crate) fn none(alloc: Global) -> Result<Row, AllocError>
-        ensures { IfOk result (λ row. row ≡ row_of no_plan []) }
+    pub(crate) fn none(alloc: Global) -> Result<PlannedFiles, AllocError>
+        ensures { IfOk result (λ files. files ≡ files_of_plan no_plan []) }
     {
-        Ok(Row {
+        Ok(PlannedFiles {
             files: Items::from_vec(Vec::new(alloc)),
             name: Name::from_bytes(alloc, b"")?,
             spot: Spot::Load,
@@ -50,13 +50,13 @@ impl Row {
         before: Vec<Blueprint>,
         last: Blueprint,
         spot: Spot,
-    ) -> Result<Row, AllocError>
-        ensures { IfOk result (λ row. row ≡ ending_with before.items last spot) }
+    ) -> Result<PlannedFiles, AllocError>
+        ensures { IfOk result (λ files. files ≡ ending_with before.items last spot) }
     {
         let name = last.facts.name.copy(alloc)?;
         let mut files = before;
         files.push(last)?;
-        Ok(Row {
+        Ok(PlannedFiles {
             files: Items::from_vec(files),
             name,
             spot,
@@ -64,20 +64,24 @@ impl Row {
     }
 
     /// This class file, which has the spot.
-    pub(crate) fn one(alloc: Global, file: Blueprint, spot: Spot) -> Result<Row, AllocError>
-        ensures { IfOk result (λ row. row ≡ ending_with [] file spot) }
+    pub(crate) fn one(
+        alloc: Global,
+        file: Blueprint,
+        spot: Spot,
+    ) -> Result<PlannedFiles, AllocError>
+        ensures { IfOk result (λ files. files ≡ ending_with [] file spot) }
     {
-        Row::ending_with(alloc, Vec::new(alloc), file, spot)
+        PlannedFiles::ending_with(alloc, Vec::new(alloc), file, spot)
     }
 
-    /// The row in byte order of names.
-    pub(crate) fn sorted(self) -> Result<Row, AllocError>
+    /// The same in byte order of names.
+    pub(crate) fn sorted(self) -> Result<PlannedFiles, AllocError>
         requires { NamesRise class_of_file (by_name class_of_file self.files) }
-        ensures { IfOk result (λ row. row ≡ in_order self) }
+        ensures { IfOk result (λ files. files ≡ in_order self) }
     {
         let mut files = self.files.into_vec();
         sort_by_name(&mut files)?;
-        Ok(Row {
+        Ok(PlannedFiles {
             files: Items::from_vec(files),
             name: self.name,
             spot: self.spot,

@@ -3,12 +3,12 @@ ghost use Rattle.std.specs.Prelude.{◌≡◌, ◌∷◌, [], IfOk, None, codes}
 ghost use Rattle.jc_facts.specs.plan.Planned.{a_class, abstract_method, an_interface, calls_captured, field_class, reads_field};
 ghost use Rattle.jc_facts.specs.plan.PlannedBodies.{blueprint, captured_bodies, init_body, object_init, reads_bodies};
 ghost use Rattle.jc_facts.specs.plan.PlannedNames.{constructor, in_package};
-ghost use Rattle.jc_witness.specs.steps.RowOf.{package_of, row_of};
+ghost use Rattle.jc_witness.specs.steps.PlanFiles.{package_of, files_of_plan};
 
 use crate::draft::{ABSTRACT_CLASS, Draft, PUBLIC, PUBLIC_CLASS};
-use crate::member_rows::{abstract_of, user_acting};
+use crate::member_plans::{abstract_of, user_acting};
+use crate::planned_files::{PlannedFiles, both};
 use crate::planner::Planner;
-use crate::row::{Row, both};
 use jc_base::name::Name;
 use jc_facts::act::Act;
 use jc_facts::blueprint::Blueprint;
@@ -51,14 +51,14 @@ pub(crate) fn reading(
     planner: &Planner<'_>,
     interface: &Name,
     key: &Key,
-) -> Result<Row, AllocError>
-    ensures { IfOk result (λ row. row ≡ row_of (reads_field planner.now.old planner.now.new (package_of planner.now) interface.now key.now) (reads_bodies planner.now.old planner.now.new (package_of planner.now) interface.now key.now)) }
+) -> Result<PlannedFiles, AllocError>
+    ensures { IfOk result (λ files. files ≡ files_of_plan (reads_field planner.now.old planner.now.new (package_of planner.now) interface.now key.now) (reads_bodies planner.now.old planner.now.new (package_of planner.now) interface.now key.now)) }
 {
     let name = planner.own_name(alloc, b"Y", interface)?;
     let user = user_acting(alloc, planner, Act::GetField, &name, key)?;
     let owner = field_owner(alloc, planner, key)?;
     let below = implementing(alloc, planner, name, interface)?;
-    Row::ending_with(alloc, both(alloc, owner, below)?, user, Spot::Item(1))
+    PlannedFiles::ending_with(alloc, both(alloc, owner, below)?, user, Spot::Item(1))
 }
 
 // The interface J, which declares the key.
@@ -92,12 +92,12 @@ pub(crate) fn capturing(
     planner: &Planner<'_>,
     class: &Name,
     key: &Key,
-) -> Result<Row, AllocError>
-    ensures { IfOk result (λ row. row ≡ row_of (calls_captured planner.now.old planner.now.new (package_of planner.now) class.now key.now) (captured_bodies planner.now.old planner.now.new (package_of planner.now) class.now key.now)) }
+) -> Result<PlannedFiles, AllocError>
+    ensures { IfOk result (λ files. files ≡ files_of_plan (calls_captured planner.now.old planner.now.new (package_of planner.now) class.now key.now) (captured_bodies planner.now.old planner.now.new (package_of planner.now) class.now key.now)) }
 {
     let name = planner.own_name(alloc, b"Y", class)?;
     let user = user_acting(alloc, planner, Act::InvokeVirtual, &name, key)?;
     let declared = declaring(alloc, planner, key)?;
     let below = extending_with_interface(alloc, planner, name, class)?;
-    Row::ending_with(alloc, both(alloc, declared, below)?, user, Spot::Item(1))
+    PlannedFiles::ending_with(alloc, both(alloc, declared, below)?, user, Spot::Item(1))
 }

@@ -4,12 +4,12 @@ ghost use Rattle.jc_facts.specs.plan.Planned.{abstract_method, acts_from, an_int
 ghost use Rattle.jc_facts.specs.plan.PlannedBodies.{act_steps, acts_bodies, blueprint, inherited_bodies, init_body, make_steps, overrides_bodies, user_bodies};
 ghost use Rattle.jc_facts.specs.client.Acts.{is_act_on_static};
 ghost use Rattle.jc_witness.specs.Ground.{CanRefer};
-ghost use Rattle.jc_witness.specs.steps.RowOf.{package_of, row_of};
+ghost use Rattle.jc_witness.specs.steps.PlanFiles.{package_of, files_of_plan};
 
 use crate::bodies::{act_on, make_object};
 use crate::draft::{ABSTRACT_CLASS, Draft, PUBLIC_ABSTRACT, PUBLIC_CLASS, body};
+use crate::planned_files::{PlannedFiles, static_use, user_of};
 use crate::planner::Planner;
-use crate::row::{Row, static_use, user_of};
 use crate::texts::{with_parameter, without_parameters};
 use jc_base::name::Name;
 use jc_facts::act::Act;
@@ -36,12 +36,12 @@ pub(crate) fn making(
     planner: &Planner<'_>,
     class: &Name,
     descriptor: &Name,
-) -> Result<Row, AllocError>
-    ensures { IfOk result (λ row. row ≡ row_of (makes_object (package_of planner.now) class.now descriptor.now) (user_bodies (make_steps class.now descriptor.now) ∷ [])) }
+) -> Result<PlannedFiles, AllocError>
+    ensures { IfOk result (λ files. files ≡ files_of_plan (makes_object (package_of planner.now) class.now descriptor.now) (user_bodies (make_steps class.now descriptor.now) ∷ [])) }
 {
     let steps = make_object(alloc, class, descriptor.as_bytes())?;
     let user = user_of(alloc, planner, without_parameters(alloc)?, steps)?;
-    Row::one(alloc, user, Spot::Item(2))
+    PlannedFiles::one(alloc, user, Spot::Item(2))
 }
 
 /// A class extends another and calls this initializer of it.
@@ -50,13 +50,13 @@ pub(crate) fn constructing(
     planner: &Planner<'_>,
     class: &Name,
     descriptor: &Name,
-) -> Result<Row, AllocError>
-    ensures { IfOk result (λ row. row ≡ row_of (calls_constructor planner.now.old planner.now.new (package_of planner.now) class.now descriptor.now) ((init_body class.now descriptor.now ∷ []) ∷ [])) }
+) -> Result<PlannedFiles, AllocError>
+    ensures { IfOk result (λ files. files ≡ files_of_plan (calls_constructor planner.now.old planner.now.new (package_of planner.now) class.now descriptor.now) ((init_body class.now descriptor.now ∷ []) ∷ [])) }
 {
     let name = planner.own_name(alloc, b"Y", class)?;
     let above = class.copy(alloc)?;
     let draft = Draft::class(alloc, name, PUBLIC_CLASS, above, descriptor.as_bytes())?;
-    Row::one(alloc, draft.finish(alloc), Spot::Item(0))
+    PlannedFiles::one(alloc, draft.finish(alloc), Spot::Item(0))
 }
 
 /// An abstract class extends another and declares the key.
@@ -65,15 +65,15 @@ pub(crate) fn overriding(
     planner: &Planner<'_>,
     class: &Name,
     key: &Key,
-) -> Result<Row, AllocError>
-    ensures { IfOk result (λ row. row ≡ row_of (overrides_method planner.now.old planner.now.new (package_of planner.now) class.now key.now) (overrides_bodies planner.now.old class.now ∷ [])) }
+) -> Result<PlannedFiles, AllocError>
+    ensures { IfOk result (λ files. files ≡ files_of_plan (overrides_method planner.now.old planner.now.new (package_of planner.now) class.now key.now) (overrides_bodies planner.now.old class.now ∷ [])) }
 {
     let name = planner.own_name(alloc, b"Y", class)?;
     let above = class.copy(alloc)?;
     let constructor = planner.constructor(class);
     let draft = Draft::class(alloc, name, ABSTRACT_CLASS, above, constructor)?;
     let draft = draft.method(abstract_of(alloc, key)?, None)?;
-    Row::one(alloc, draft.finish(alloc), Spot::Load)
+    PlannedFiles::one(alloc, draft.finish(alloc), Spot::Load)
 }
 
 // What the method takes that acts from the class of this name.
@@ -104,9 +104,9 @@ pub(crate) fn acting(
     key: &Key,
     act: Act,
     seat: &Name,
-) -> Result<Row, AllocError>
+) -> Result<PlannedFiles, AllocError>
     requires { CanRefer planner.now.old act class.now key.now }
-    ensures { IfOk result (λ row. row ≡ row_of (acts_from planner.now.old planner.now.new (package_of planner.now) class.now key.now act seat.now) (acts_bodies planner.now.old class.now key.now act seat.now ∷ [])) }
+    ensures { IfOk result (λ files. files ≡ files_of_plan (acts_from planner.now.old planner.now.new (package_of planner.now) class.now key.now act seat.now) (acts_bodies planner.now.old class.now key.now act seat.now ∷ [])) }
 {
     let name = planner.own_name(alloc, b"Y", seat)?;
     let descriptor = taken_by_act(alloc, planner, act, class, key, &name)?;
@@ -115,7 +115,7 @@ pub(crate) fn acting(
     let draft = Draft::class(alloc, name, PUBLIC_CLASS, above, constructor)?;
     let steps = act_on(alloc, act, class, key)?;
     let draft = draft.method(static_use(alloc, descriptor)?, body(steps))?;
-    Row::one(alloc, draft.finish(alloc), Spot::Item(1))
+    PlannedFiles::one(alloc, draft.finish(alloc), Spot::Item(1))
 }
 
 /// The class U acts on the key of the class, by an object of it.
@@ -146,12 +146,12 @@ pub(crate) fn inheriting(
     planner: &Planner<'_>,
     class: &Name,
     key: &Key,
-) -> Result<Row, AllocError>
-    ensures { IfOk result (λ row. row ≡ row_of (calls_inherited planner.now.old planner.now.new (package_of planner.now) class.now key.now) (inherited_bodies planner.now.old planner.now.new (package_of planner.now) class.now key.now)) }
+) -> Result<PlannedFiles, AllocError>
+    ensures { IfOk result (λ files. files ≡ files_of_plan (calls_inherited planner.now.old planner.now.new (package_of planner.now) class.now key.now) (inherited_bodies planner.now.old planner.now.new (package_of planner.now) class.now key.now)) }
 {
     let name = planner.own_name(alloc, b"J", class)?;
     let user = user_acting(alloc, planner, Act::InvokeInterface, &name, key)?;
     let mut before = Vec::new(alloc);
     before.push(interface_below(alloc, name, class)?)?;
-    Row::ending_with(alloc, before, user, Spot::Item(1))
+    PlannedFiles::ending_with(alloc, before, user, Spot::Item(1))
 }
