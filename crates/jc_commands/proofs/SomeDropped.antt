@@ -1,10 +1,9 @@
--- Two sides have a list of the interfaces that classes drop: what stands on their subjects, in order. There is one, and one form of it in bytes.
+-- Two sides have a list of the interfaces that classes drop: what stands on their subjects, in order. There is one.
 --     some_dropped      there is a list
 --     dropped_are_one      there is no other
 --     dropped_on, dropped_one, dropped_few      what is reported of it
---     dropped_listing      its bytes as a listing
 use Rattle.std.proofs.Common.{◌≡◌, ◌≤◌, ◌∙◌, ◌==◌, ◌⊎◌, inl, inr, Bool, true, false, cond, ◌&&◌, ℕ, List, [], ◌∷◌, length, Option, Some, None, refl, sym, ap, subst}
-use Rattle.std.specs.Prelude.{IsTrue, codes, if◌then◌else◌}
+use Rattle.std.specs.Prelude.{IsTrue}
 use Rattle.std.specs.List.{Contains, filter_map}
 use Rattle.std.specs.Cmp.{IsTotalOrder, then_total, on_total}
 use Rattle.std.specs.Cmp.Lexicographic.{nat_list_cmp_total}
@@ -29,9 +28,6 @@ use Rattle.jc_worlds.proofs.Descent.{descend-absent}
 use Rattle.jc_sound.proofs.ExactLists.{exact_list}
 use Rattle.jc_sound.proofs.VerdictLaw.{exactly_one}
 use Rattle.jc_sides.proofs.Subjects.{subject_order}
-use Rattle.jc_report.specs.DroppedForms.{line_of_dropped, dropped_value_of, dropped_json_of, dropped_text_of}
-use Rattle.jc_report.specs.Listing.{listing_bytes}
-use Rattle.jc_report.proofs.DroppedLines.{dropped_lines}
 use Rattle.jc_commands.specs.DroppedPart.{AreAskedDropped}
 use Rattle.jc_commands.specs.declared.limits.TheConstants.{MAX_DROPPED}
 use Rattle.jc_commands.proofs.Declarations.{found_in_world, super_all}
@@ -159,11 +155,3 @@ dropped_one true O N None q h k = absurd h
 dropped_one false O N None None h k = refl
 dropped_one false O N None (Some es) h k = absurd k
 dropped_one false O N (Some ds) q h k = absurd h
-
--- ---- what is put
-
-pub dropped_listing : (json : Bool) (ds : List Dropped)
-    → listing_bytes json (codes "dropped") (λ (d : Dropped) number. line_of_dropped d) (λ (d : Dropped) number. dropped_value_of d) ds ≡ (if json then dropped_json_of ds else dropped_text_of ds)
-unfolding dropped_json_of
-dropped_listing true ds = refl
-dropped_listing false ds = dropped_lines 1 ds

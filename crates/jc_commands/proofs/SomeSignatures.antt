@@ -1,10 +1,9 @@
--- Two sides have notes on signatures: what stands on their subjects, in order. There is one list of them, and one form of it in bytes.
+-- Two sides have notes on signatures: what stands on their subjects, in order. There is one list of them.
 --     some_sig_notes      there is a list
 --     sig_notes_are_one      there is no other
 --     noted_one      what is reported of them is one
---     sig_listing      their bytes as a listing
 use Rattle.std.proofs.Common.{◌≡◌, ◌∙◌, ◌==◌, ◌&&◌, Bool, true, false, cond, ℕ, List, ◌++◌, Option, Some, None, refl, sym, ap, subst}
-use Rattle.std.specs.Prelude.{codes, option_map}
+use Rattle.std.specs.Prelude.{option_map}
 use Rattle.std.specs.List.{Contains, filter_map}
 use Rattle.std.specs.Cmp.{IsTotalOrder, then_total, on_total}
 use Rattle.std.specs.Cmp.Lexicographic.{nat_list_cmp_total, options_total}
@@ -19,7 +18,6 @@ use Rattle.jc_facts.specs.Exactly.{HasExactly, name_order}
 use Rattle.jc_facts.specs.Flags.{public_flag}
 use Rattle.jc_facts.specs.KeyOrder.{key_cmp, key_total}
 use Rattle.jc_facts.specs.Names.{Bytes}
-use Rattle.jc_facts.specs.print.SigText.{line_of_sig_note}
 use Rattle.jc_facts.specs.rule.Findings.{Subject}
 use Rattle.jc_facts.specs.world.World.{World, classes, find_class}
 use Rattle.jc_facts.proofs.InOrder.{exact_same}
@@ -32,10 +30,7 @@ use Rattle.jc_sig.specs.steps.Changes.{changed}
 use Rattle.jc_sig.specs.steps.OnRecords.{noted, note_with, note_at}
 use Rattle.jc_sig.proofs.Changes.{changed_is, changed_as}
 use Rattle.jc_sig.proofs.RecordNotes.{note_of}
-use Rattle.jc_report.specs.Listing.{listing_bytes}
-use Rattle.jc_report.specs.SigJson.{sig_note_json, sig_json_of}
-use Rattle.jc_report.proofs.SigNotes.{sig_lines}
-use Rattle.jc_commands.specs.Signatures.{AreSigNotes, AreNoted, sig_notes_bytes}
+use Rattle.jc_commands.specs.Signatures.{AreSigNotes, AreNoted}
 use Rattle.jc_commands.proofs.Declarations.{found_in_world, class_key}
 use Rattle.jc_commands.proofs.SomeVerdict.{last_tied}
 use Rattle.jc_commands.proofs.Subjects.{on_subject, is_rule, none_or, names, keys, name_of, subjects, covered}
@@ -171,11 +166,3 @@ pub noted_list : (b : Bool) (O N : World) (o : Option (List SigNote)) → b ≡ 
 noted_list true O N (Some ns) e h = (ns, refl, h)
 noted_list true O N None e h = absurd h
 noted_list false O N o e h = absurd (let clash : false ≡ true = e in cc)
-
--- ---- what is put
-
-pub sig_listing : (json : Bool) (ns : List SigNote)
-    → listing_bytes json (codes "signatures") (λ (n : SigNote) number. line_of_sig_note n) (λ (n : SigNote) number. sig_note_json n) ns ≡ sig_notes_bytes json ns
-unfolding sig_json_of
-sig_listing true ns = refl
-sig_listing false ns = sig_lines 1 ns

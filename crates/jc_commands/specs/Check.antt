@@ -23,7 +23,7 @@ use Rattle.jc_facts.specs.print.WarnText.{line_of_warning}
 use Rattle.jc_facts.specs.rule.Verdict.{IsVerdict, count_of}
 use Rattle.jc_facts.specs.rule.Warnings.{AreWarnings}
 use Rattle.jc_report.specs.Json.{json_of, warning_json}
-use Rattle.jc_report.specs.Listing.{listing_bytes}
+use Rattle.jc_report.specs.Listing.{part_bytes}
 use Rattle.jc_selection.specs.SelectionKept.{MeetsNoFinal, StaysAnswered}
 use Rattle.jc_complete.specs.Completeness.{IsBroken}
 use Rattle.jc_witness.specs.declared.witness.WitnessFile.{WitnessFile}
@@ -140,10 +140,9 @@ pub record IsCheckReport {files : List FileOf} {check : CheckOf} (records : Chec
 abbrev pub verdict_bytes : Bool → Verdict → Bytes
 verdict_bytes json v = if json then json_of v else text_of v
 
--- the bytes of warnings, where they are asked for: the JSON of one object whose one key is `warnings`, or a line for each
+-- the bytes of warnings, where they are asked for
 abbrev pub warn_bytes : Bool → Option (List Warning) → Bytes
-warn_bytes json None = []
-warn_bytes json (Some ws) = listing_bytes json (codes "warnings") (λ (w : Warning) n. line_of_warning w) (λ (w : Warning) n. warning_json w) ws
+warn_bytes json ws = part_bytes json (codes "warnings") (λ (w : Warning) n. line_of_warning w) (λ (w : Warning) n. warning_json w) ws
 
 -- the bytes of what stands behind the warnings, in this order
 abbrev pub behind_bytes : Bool → CheckReport → Bytes

@@ -2,15 +2,14 @@
 ghost use Rattle.std.specs.Prelude.{◌≡◌, ◌≢◌, ◌≤◌, ◌⊎◌, List, ℕ, None, Some, option_map, OnOk, OnErr, IsErrOf, map};
 ghost use Rattle.jc_base.specs.States.{change};
 ghost use Rattle.jc_gate.specs.Gates.{gate_of};
-ghost use Rattle.jc_commands.specs.Check.{verdict_bytes, warn_bytes, behind_bytes, besides_bytes, check_bytes};
-ghost use Rattle.jc_commands.specs.DroppedPart.{dropped_bytes};
-ghost use Rattle.jc_commands.specs.Signatures.{sig_bytes};
+ghost use Rattle.jc_commands.specs.Check.{verdict_bytes, behind_bytes, besides_bytes, check_bytes};
 ghost use Rattle.jc_commands.specs.Outputs.{PutsAll, PutsFront, HasPutFault, HasFolderFault, IsUntouched};
 ghost use Rattle.jc_commands.specs.Stop.{line_of, status_of};
 ghost use Rattle.jc_commands.specs.Witness.{PutsFiles, PutsSome};
 ghost use Rattle.jc_commands.specs.ReportValue.{CanShowAll, CanShowAny, report_in, bytes_in, dir_shown, dir_in, puts_shown, puts_in, passes_by, status_by};
 ghost use Rattle.jc_commands.specs.Putting.{IsPutWith, IsPutAfter, IsCutBefore};
 ghost use Rattle.jc_commands.specs.declared.stop.Stop.{Stop};
+ghost use Rattle.jc_report.specs.Listing.{part_bytes};
 
 use crate::body::{Body, CheckBody};
 use crate::put_witnesses::put_witnesses;
@@ -19,11 +18,9 @@ use crate::status::{NO_MEMORY, WRITE_FAULT};
 use crate::stop::Stop;
 use jc_base::folder::{Folder, FolderError};
 use jc_base::sink::{Sink, SinkError};
-use jc_dropped::dropped::Dropped;
-use jc_facts::sig_note::SigNote;
 use jc_facts::verdict::Verdict;
-use jc_facts::warning::Warning;
 use jc_gate::gate::Gate;
+use jc_report::entry::Entry;
 use jc_report::json::put_json;
 use jc_report::put_history::put_history;
 use jc_report::put_lines::put_lines;
@@ -55,63 +52,22 @@ fn put_verdict<O: Sink>(
     }
 }
 
-// Puts the warnings where they are asked for, as JSON or line by line.
-fn put_warnings<O: Sink>(
+// Puts a part where it is asked for, as JSON whose one key is this or line by line.
+fn put_part<O: Sink, E: Entry>(
     alloc: Global,
     as_json: bool,
-    warnings: &Option<Vec<Warning>>,
+    key: &str,
+    part: &Option<Vec<E>>,
     out: &mut O,
 ) -> Result<(), SinkError>
-    ensures ok { OnOk result (PutsAll (change O.state out.old out.new) (warn_bytes as_json (option_map (λ ws. ws.items) warnings.now))) }
-    ensures err { OnErr result (PutsFront (change O.state out.old out.new) (warn_bytes as_json (option_map (λ ws. ws.items) warnings.now))) }
+    ensures ok { OnOk result (PutsAll (change O.state out.old out.new) (part_bytes as_json key.now E.printed E.shaped (option_map (λ xs. xs.items) part.now))) }
+    ensures err { OnErr result (PutsFront (change O.state out.old out.new) (part_bytes as_json key.now E.printed E.shaped (option_map (λ xs. xs.items) part.now))) }
     ensures never_falls { (O.state out.old).faults ≤ (O.state out.new).faults }
     ensures cause { IsErrOf result SinkError.Fault → HasPutFault (change O.state out.old out.new) }
 {
-    match warnings {
+    match part {
         None => Ok(()),
-        Some(warnings) => match put_listing(alloc, as_json, "warnings", warnings.as_slice(), out) {
-            Ok(()) => Ok(()),
-            Err(error) => Err(error),
-        },
-    }
-}
-
-// Puts the notes on signatures where they are asked for, as JSON or line by line.
-fn put_signatures<O: Sink>(
-    alloc: Global,
-    as_json: bool,
-    notes: &Option<Vec<SigNote>>,
-    out: &mut O,
-) -> Result<(), SinkError>
-    ensures ok { OnOk result (PutsAll (change O.state out.old out.new) (sig_bytes as_json (option_map (λ ns. ns.items) notes.now))) }
-    ensures err { OnErr result (PutsFront (change O.state out.old out.new) (sig_bytes as_json (option_map (λ ns. ns.items) notes.now))) }
-    ensures never_falls { (O.state out.old).faults ≤ (O.state out.new).faults }
-    ensures cause { IsErrOf result SinkError.Fault → HasPutFault (change O.state out.old out.new) }
-{
-    match notes {
-        None => Ok(()),
-        Some(notes) => match put_listing(alloc, as_json, "signatures", notes.as_slice(), out) {
-            Ok(()) => Ok(()),
-            Err(error) => Err(error),
-        },
-    }
-}
-
-// Puts the dropped interfaces where they are asked for, as JSON or line by line.
-fn put_dropped<O: Sink>(
-    alloc: Global,
-    as_json: bool,
-    dropped: &Option<Vec<Dropped>>,
-    out: &mut O,
-) -> Result<(), SinkError>
-    ensures ok { OnOk result (PutsAll (change O.state out.old out.new) (dropped_bytes as_json (option_map (λ ds. ds.items) dropped.now))) }
-    ensures err { OnErr result (PutsFront (change O.state out.old out.new) (dropped_bytes as_json (option_map (λ ds. ds.items) dropped.now))) }
-    ensures never_falls { (O.state out.old).faults ≤ (O.state out.new).faults }
-    ensures cause { IsErrOf result SinkError.Fault → HasPutFault (change O.state out.old out.new) }
-{
-    match dropped {
-        None => Ok(()),
-        Some(dropped) => match put_listing(alloc, as_json, "dropped", dropped.as_slice(), out) {
+        Some(items) => match put_listing(alloc, as_json, key, items.as_slice(), out) {
             Ok(()) => Ok(()),
             Err(error) => Err(error),
         },
@@ -125,11 +81,11 @@ fn put_behind<O: Sink>(alloc: Global, body: &CheckBody<'_>, out: &mut O) -> Resu
     ensures never_falls { (O.state out.old).faults ≤ (O.state out.new).faults }
     ensures cause { IsErrOf result SinkError.Fault → HasPutFault (change O.state out.old out.new) }
 {
-    match put_signatures(alloc, body.json, &body.signatures, out) {
+    match put_part(alloc, body.json, "signatures", &body.signatures, out) {
         Ok(()) => {}
         Err(error) => return Err(error),
     }
-    match put_dropped(alloc, body.json, &body.dropped, out) {
+    match put_part(alloc, body.json, "dropped", &body.dropped, out) {
         Ok(()) => Ok(()),
         Err(error) => Err(error),
     }
@@ -142,7 +98,7 @@ fn put_besides<O: Sink>(alloc: Global, body: &CheckBody<'_>, out: &mut O) -> Res
     ensures never_falls { (O.state out.old).faults ≤ (O.state out.new).faults }
     ensures cause { IsErrOf result SinkError.Fault → HasPutFault (change O.state out.old out.new) }
 {
-    match put_warnings(alloc, body.json, &body.warnings, out) {
+    match put_part(alloc, body.json, "warnings", &body.warnings, out) {
         Ok(()) => {}
         Err(error) => return Err(error),
     }

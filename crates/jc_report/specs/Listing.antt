@@ -2,7 +2,8 @@
 --     lines_from printed number xs      their lines, whose numbers go on from this one
 --     values_from shaped number xs      their objects, whose numbers go on from this one
 --     listing_bytes json key printed shaped xs      the text, or the JSON of one object whose one key has the objects
-use Rattle.std.specs.Prelude.{ℕ, ◌+◌, List, [], ◌∷◌, ◌++◌, Bool, codes, if◌then◌else◌}
+--     part_bytes json key printed shaped xs      the same, where it is asked for
+use Rattle.std.specs.Prelude.{ℕ, ◌+◌, List, [], ◌∷◌, ◌++◌, Bool, Option, Some, None, codes, if◌then◌else◌}
 use Rattle.serde_json.specs.Data.{Data, array, object, Members, no_members, member as one_member}
 use Rattle.serde_json.specs.View.{items_of}
 use Rattle.serde_json.specs.Written.{compact_text}
@@ -34,3 +35,8 @@ json_line value = compact_text value ++ codes "\n"
 -- the JSON of a listing where it is asked for, and else its lines, numbered from 1
 abbrev pub listing_bytes : {A : Type 0} → Bool → Bytes → (A → ℕ → Bytes) → (A → ℕ → Data) → List A → Bytes
 listing_bytes json key printed shaped xs = if json then json_line (listing_json key (values_from shaped 1 xs)) else lines_from printed 1 xs
+
+-- the same of a part of a report, where it is asked for
+abbrev pub part_bytes : {A : Type 0} → Bool → Bytes → (A → ℕ → Bytes) → (A → ℕ → Data) → Option (List A) → Bytes
+part_bytes json key printed shaped None = []
+part_bytes json key printed shaped (Some xs) = listing_bytes json key printed shaped xs

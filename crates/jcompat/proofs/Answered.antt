@@ -23,7 +23,7 @@ use Rattle.jc_commands.specs.Outputs.{IsQuiet, IsUntouched, PutsAll, PutsFront}
 use Rattle.jcompat.specs.Answers.{Ran, Answers, Due, due_bytes, Puts, IsStopped, CutsWitnesses, CutsReport, CutsRefusal, Planned, IsPut, Leaves, OfFiles}
 use Rattle.jc_commands.specs.Check.{CheckReport, IsAnswered, IsCompatible, IsIncompatible, IsBorneOut, IsNoted, KeepsInterfaces, HoldsClients, verdict_bytes, warn_bytes, check_bytes, old_side, new_side, puts_below}
 use Rattle.jc_commands.specs.DroppedPart.{dropped_bytes}
-use Rattle.jc_commands.specs.Signatures.{sig_notes_bytes, sig_bytes}
+use Rattle.jc_commands.specs.Signatures.{sig_bytes}
 use Rattle.jc_commands.proofs.SomeSignatures.{noted_list}
 use Rattle.jc_trees.specs.ClassFiles.{Told}
 use Rattle.jc_commands.specs.Command.{CommandOf, CheckOf, HistoryOf, CheckCommand, LinkCommand, MakeCommand, HistoryCommand, step_of_check, witness_dir, asked}
@@ -250,11 +250,11 @@ module _ (r : Ran) (report : Report) (is : Reports r.gates r.words r.trees.befor
 
     noted : IsTrue check.signatures → IsWhole
         → OfFiles r (λ files. (report : CheckReport) × (notes : List SigNote)
-        × Puts r (verdict_bytes check.json report.verdict ++ (warn_bytes check.json report.warnings ++ (sig_notes_bytes check.json notes ++ dropped_bytes check.json report.dropped))) × IsNoted files check report notes)
+        × Puts r (verdict_bytes check.json report.verdict ++ (warn_bytes check.json report.warnings ++ (sig_bytes check.json (Some notes) ++ dropped_bytes check.json report.dropped))) × IsNoted files check report notes)
     noted wanted p files told =
         let c = up.checked files told in
         let ns = noted_list check.signatures (old_side c.records) (new_side c.records) up.of.signatures wanted c.parts.signatures in
-        let parts : List SigNote → List ℕ = λ notes. verdict_bytes check.json up.of.verdict ++ (warn_bytes check.json up.of.warnings ++ (sig_notes_bytes check.json notes ++ dropped_bytes check.json up.of.dropped)) in (
+        let parts : List SigNote → List ℕ = λ notes. verdict_bytes check.json up.of.verdict ++ (warn_bytes check.json up.of.warnings ++ (sig_bytes check.json (Some notes) ++ dropped_bytes check.json up.of.dropped)) in (
           up.of,
           ns.0,
           p.puts (parts ns.0) (up.text ∙ ap (λ (o : Option (List SigNote)). verdict_bytes check.json up.of.verdict ++ (warn_bytes check.json up.of.warnings ++ (sig_bytes check.json o ++ dropped_bytes check.json up.of.dropped))) ns.1),

@@ -10,7 +10,7 @@ use Rattle.jc_gate.specs.Meanings.{HasLinksGate}
 use Rattle.jc_commands.specs.Causes.{HasCause, IsRefused, IsAccepted, HasFailed}
 use Rattle.jc_commands.specs.Check.{CheckReport, IsAnswered, IsCompatible, IsIncompatible, IsBorneOut, IsNoted, KeepsInterfaces, HoldsClients, verdict_bytes, warn_bytes, check_bytes}
 use Rattle.jc_commands.specs.DroppedPart.{dropped_bytes}
-use Rattle.jc_commands.specs.Signatures.{sig_notes_bytes}
+use Rattle.jc_commands.specs.Signatures.{sig_bytes}
 use Rattle.jc_trees.specs.ClassFiles.{Told}
 use Rattle.jc_commands.specs.Command.{CommandOf, CheckOf, HistoryOf, CheckCommand, HistoryCommand, witness_dir, step_of_check, asked, asked_of}
 use Rattle.jc_commands.specs.History.{IsKeptRow}
@@ -144,7 +144,7 @@ pub record Answers (r : Ran) : Type 0 where
   -- or one JSON object of all, and then its dropped interfaces where they are asked for. The notes are exactly those on the generic signatures of the two releases
   pub noted : (r.status ≡ PASSED) ⊎ (r.status ≡ NOT_PASSED) → (check : CheckOf) → asked r.words ≡ Ok (CheckCommand check) → IsTrue check.signatures
       → OfFiles r (λ files. (report : CheckReport) × (notes : List SigNote)
-      × Puts r (verdict_bytes check.json report.verdict ++ (warn_bytes check.json report.warnings ++ (sig_notes_bytes check.json notes ++ dropped_bytes check.json report.dropped))) × IsNoted files check report notes)
+      × Puts r (verdict_bytes check.json report.verdict ++ (warn_bytes check.json report.warnings ++ (sig_bytes check.json (Some notes) ++ dropped_bytes check.json report.dropped))) × IsNoted files check report notes)
   -- of a check that asks for dropped interfaces: where the verdict in what was put has no finding and no interface was put as dropped, each client world in scope
   -- that meets none of its collisions keeps, above each class that is a client or whose values clients can hold, each interface that clients can name
   pub interfaces : (r.status ≡ PASSED) ⊎ (r.status ≡ NOT_PASSED) → (check : CheckOf) → asked r.words ≡ Ok (CheckCommand check)
