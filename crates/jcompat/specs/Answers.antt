@@ -174,7 +174,7 @@ pub record Answers (r : Ran) : Type 0 where
   pub bad_input : r.status ≡ BAD_INPUT → IsStopped r
   -- a call on a tree failed
   pub read_fault : r.status ≡ READ_FAULT → IsStopped r
-  -- a tree, a class file or a verdict past a limit
+  -- a tree, a class file or a part of a report past a limit
   pub limit : r.status ≡ LIMIT → IsStopped r
   -- a put failed, into the folder where witnesses are asked for, on the output of a report that was due, or on the error stream of a line that was
   pub write_fault : r.status ≡ WRITE_FAULT → IsCutShort r
