@@ -22,12 +22,12 @@ use std::alloc::Global;
 ///   the step between the versions, where the check says them, saw the rules of all findings and collisions
 ///   in their order, and was asked.
 /// - 2: the words ask for nothing, name a gate that isn't there, or say versions without a step between
-///   them. 3: a class file is malformed or misplaced or a
-///   client's code is refused, the platform's `java/lang/Object` isn't as it has to be, a release
-///   declares a name that the platform declares, or a client has a name that they don't allow. 4: a
-///   call on a tree failed. 7: a tree has more than 40,000 class files, a class file's path more than
-///   4,096 bytes, a class file more than 4,194,304 bytes, or a verdict more than 999,999 findings and
-///   collisions. A line was put to `err`.
+///   them. 3: a class file is malformed or misplaced or a client's code is refused, the platform's
+///   `java/lang/Object` isn't as it has to be, a release declares a name that the platform declares, or
+///   a client has a name that they don't allow. 4: a call on a tree failed. 7: a tree has more than
+///   40,000 class files, a class file's path more than 4,096 bytes, a class file more than 4,194,304
+///   bytes, or a report more than 999,999 findings and collisions, warnings or dropped interfaces. A
+///   line was put to `err`.
 /// - 5: a put failed. 6: there was no memory. Nothing was put after the failure.
 ///
 /// No gate is asked but with 0 and 1, and all are dropped.
