@@ -9,17 +9,16 @@ ghost use Rattle.jc_facts.specs.rule.Verdict.{IsVerdict, count_of};
 ghost use Rattle.jc_bodies.specs.Files.{CanWrite};
 ghost use Rattle.jc_witness.specs.Ground.{HasShortSide};
 ghost use Rattle.jc_commands.specs.Check.{mismatch_of, AreWarned, MeetsNone};
-ghost use Rattle.jc_commands.specs.DroppedPart.{AreAskedDropped};
 ghost use Rattle.jc_commands.specs.Releases.{side_of};
 ghost use Rattle.jc_commands.specs.Signatures.{AreNoted};
-ghost use Rattle.jc_commands.specs.steps.Check.{IsComparison, StopsComparing, StopsCounting, StopsMatching, StopsWarning, StopsDropping};
+ghost use Rattle.jc_commands.specs.steps.Check.{AreFound, IsComparison, StopsComparing, StopsCounting, StopsMatching, StopsWarning};
 ghost use Rattle.jc_commands.specs.steps.Releases.{AreOldAndNew};
-ghost use Rattle.jc_select.specs.DroppedWithin.{InterfacesStill};
 ghost use Rattle.jc_select.specs.Within.{AnswersStill};
 ghost use Rattle.jc_trees.specs.ClassLists.{IsRecordList};
 ghost use Rattle.jc_words.specs.CommandView.{check_of};
 
-use crate::limits::{MAX_DROPPED, MAX_FINDINGS, MAX_WARNINGS};
+use crate::found::{Found, verdict_and_dropped};
+use crate::limits::{MAX_FINDINGS, MAX_WARNINGS};
 use crate::releases::{Release, tables_over, two_releases};
 use crate::stop::{Part, Stop};
 use jc_dropped::dropped::Dropped;
@@ -28,7 +27,6 @@ use jc_facts::sig_note::SigNote;
 use jc_facts::verdict::Verdict;
 use jc_facts::warning::Warning;
 use jc_rules::compare::compare_within;
-use jc_select::dropped::dropped_within;
 use jc_select::warnings::warnings_within;
 use jc_sig::notes::signature_notes;
 use jc_table::platform::Platform;
@@ -153,6 +151,48 @@ fn counted(alloc: Global, old: &Table, new: &Table) -> Result<Verdict, Stop>
     }
 }
 
+// The verdict, where dropped interfaces aren't asked for.
+fn found_alone(alloc: Global, old: &Table, new: &Table) -> Result<Found, Stop>
+    requires { AreOfOneRun old.now new.now }
+    ensures found { IfOk result (AreFound false old.now new.now) }
+    ensures stopped { IfErr result (StopsCounting old.now new.now) }
+{
+    match counted(alloc, old, new) {
+        Ok(verdict) => Ok(Found {
+            verdict,
+            dropped: Ok(None),
+        }),
+        Err(stop) => Err(stop),
+    }
+}
+
+// The verdict, and the interfaces that classes drop.
+fn found_together(alloc: Global, old: &Table, new: &Table) -> Result<Found, Stop>
+    requires { AreOfOneRun old.now new.now }
+    ensures found { IfOk result (AreFound true old.now new.now) }
+    ensures stopped { IfErr result (StopsCounting old.now new.now) }
+{
+    match verdict_and_dropped(alloc, old, new) {
+        Ok(Some(found)) => Ok(found),
+        Ok(None) => Err(Stop::TooMany(Part::Findings)),
+        Err(_) => Err(Stop::Memory),
+    }
+}
+
+// The verdict on two sides, unless there are too many findings, and the interfaces that classes drop
+// between them, where they are asked for, or why these aren't reported.
+fn found_between(alloc: Global, old: &Table, new: &Table, dropped: bool) -> Result<Found, Stop>
+    requires { AreOfOneRun old.now new.now }
+    ensures found { IfOk result (AreFound dropped old.now new.now) }
+    ensures stopped { IfErr result (StopsCounting old.now new.now) }
+{
+    if dropped {
+        found_together(alloc, old, new)
+    } else {
+        found_alone(alloc, old, new)
+    }
+}
+
 // The warnings on two sides, where they are asked for, unless there are too many.
 fn warned(alloc: Global, old: &Table, new: &Table, warn: bool) -> Result<Option<Vec<Warning>>, Stop>
     requires { AreOfOneRun old.now new.now }
@@ -187,28 +227,6 @@ fn noted(
     Ok(Some(notes))
 }
 
-// The interfaces that classes drop between two sides, where they are asked for, unless there are too many.
-fn lost(
-    alloc: Global,
-    old: &Table,
-    new: &Table,
-    dropped: bool,
-) -> Result<Option<Vec<Dropped>>, Stop>
-    requires { AreOfOneRun old.now new.now }
-    ensures exact { IfOk result (λ made. AreAskedDropped dropped old.now new.now (option_map (λ ds. ds.items) made)) }
-    ensures kept { IfOk result (λ made. IfSome (option_map (λ ds. ds.items) made) (InterfacesStill old.now new.now)) }
-    ensures stopped { IfErr result (StopsDropping dropped old.now new.now) }
-{
-    if !dropped {
-        return Ok(None);
-    }
-    match dropped_within(alloc, old, new, MAX_DROPPED) {
-        Ok(Some(dropped)) => Ok(Some(dropped)),
-        Ok(None) => Err(Stop::TooMany(Part::Dropped)),
-        Err(_) => Err(Stop::Memory),
-    }
-}
-
 impl Comparison {
     /// The comparison of these records, with the parts that the check asks for, or why there is none.
     ///
@@ -232,10 +250,11 @@ impl Comparison {
             Ok(sides) => sides,
             Err(stop) => return Err(stop),
         };
-        let verdict = match counted(alloc, &old, &new) {
-            Ok(verdict) => verdict,
+        let found = match found_between(alloc, &old, &new, check.dropped) {
+            Ok(found) => found,
             Err(stop) => return Err(stop),
         };
+        let Found { verdict, dropped } = found;
         let warnings = match warned(alloc, &old, &new, check.warn) {
             Ok(warnings) => warnings,
             Err(stop) => return Err(stop),
@@ -243,7 +262,7 @@ impl Comparison {
         let Ok(signatures) = noted(alloc, &old, &new, check.signatures) else {
             return Err(Stop::Memory);
         };
-        match lost(alloc, &old, &new, check.dropped) {
+        match dropped {
             Ok(dropped) => Ok(Comparison {
                 old,
                 new,

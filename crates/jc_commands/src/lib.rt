@@ -7,6 +7,7 @@ mod check;
 mod command;
 mod comparison;
 pub mod decide;
+mod found;
 mod history;
 pub mod limits;
 mod link;

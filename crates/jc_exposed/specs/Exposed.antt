@@ -1,6 +1,7 @@
 -- To which seats hidden classes are exposed, as it is kept of the old side.
 --     AreExposed s e      e tells of each wanted hidden class and each seat whether the class is exposed to it
-use Rattle.std.specs.Prelude.{◌<◌, ◌≡◌, ℕ, Bool, false, List, take, length, slice_index_or}
+--     AreWanted s on e      each class whose number passes the test is wanted
+use Rattle.std.specs.Prelude.{◌<◌, ◌≡◌, ℕ, Bool, true, false, List, take, length, slice_index_or}
 use Rattle.std.specs.List.{list_any, list_all}
 use Rattle.jc_facts.specs.Names.{Bytes}
 use Rattle.jc_facts.specs.world.World.{World, size}
@@ -20,6 +21,10 @@ wanted_of e = e.wanted.items
 -- the class of the number t is wanted
 abbrev pub is_wanted : Exposed → ℕ → Bool
 is_wanted e t = flag_at (wanted_of e) t
+
+-- each class of the old side whose number passes the test is wanted, and maybe others
+abbrev pub AreWanted : SidesOf → (ℕ → Bool) → Exposed → Type 0
+AreWanted s on e = (n : ℕ) → n < size s.old → on n ≡ true → is_wanted e n ≡ true
 
 -- how many of the first seats are known to see nothing of the class of the number t
 abbrev pub start_at : List ℕ → ℕ → ℕ

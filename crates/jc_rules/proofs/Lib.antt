@@ -6,6 +6,7 @@ mod InterfaceBecameClass
 mod Assignments
 mod ChainLost
 mod LostFlags
+mod JoinedFlags
 mod ConstructorClosed
 mod MethodMadeFinal
 mod NewlyFinal

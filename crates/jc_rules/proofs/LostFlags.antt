@@ -6,9 +6,9 @@ use Rattle.std.proofs.lemmas.List.{take_all}
 use Rattle.std.proofs.lemmas.List.Folds.{list_any_at, list_any_more}
 use Rattle.jc_acts.proofs.LostChains.{set_as}
 use Rattle.jc_acts.proofs.SetFlags.{none_set}
-use Rattle.jc_acts.specs.Touched.{AreFlags, AreSet, flag_at, left_chain_of}
+use Rattle.jc_acts.specs.Touched.{AreSet, flag_at, left_chain_of}
 use Rattle.jc_exposed.specs.declared.exposed.Exposed.{Exposed}
-use Rattle.jc_exposed.specs.Exposed.{wanted_of}
+use Rattle.jc_exposed.specs.Exposed.{AreWanted}
 use Rattle.jc_facts.specs.Names.{Bytes}
 use Rattle.jc_facts.specs.world.Assignment.{is_interface_of}
 use Rattle.jc_facts.specs.world.Hierarchy.{in_chain}
@@ -59,9 +59,9 @@ lost_all s n before flags l a =
 
 -- ---- which are covered
 
-module _ (s : SidesOf) (e : Exposed) (wanted : AreFlags s.old (matters s) (wanted_of e)) where
+module _ (s : SidesOf) (e : Exposed) (wanted : AreWanted s (λ n. matters s (name_at s.old n)) e) where
   covered : (n : ℕ) → n < size s.old → (changed_place s (name_at s.old n) || loses s (name_at s.old n)) ≡ true → IsCovered s.old e n
-  covered n l h hidden = wanted.each n l ∙ ap (λ b. b && (changed_place s (name_at s.old n) || loses s (name_at s.old n))) hidden ∙ h
+  covered n l h hidden = wanted n l (ap (λ b. b && (changed_place s (name_at s.old n) || loses s (name_at s.old n))) hidden ∙ h)
 
   pub of_interface : (n : ℕ) → n < size s.old → was_interface s (name_at s.old n) ≡ true → IsCovered s.old e n
   of_interface n l h =

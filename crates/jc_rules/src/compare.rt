@@ -255,25 +255,28 @@ fn notes(alloc: Global, sides: &Sides<'_>) -> Result<Vec<Note>, AllocError>
     Ok(notes)
 }
 
-// The verdict; None where it has more findings and collisions than the limit allows.
-fn limited(
+// The verdict, over the seats and what was lost; None where it has more findings and collisions than
+// the limit allows.
+fn limited_over(
     alloc: Global,
     sides: &Sides<'_>,
+    seats: &Seats<'_>,
+    losses: &Losses,
     most: Option<usize>,
 ) -> Result<Option<Verdict>, AllocError>
+    requires seats { AreSeats sides.now seats.now }
+    requires losses { AreLosses sides.now losses.now }
     ensures { IfOk result (λ v. IsLimited sides.now most v × AreSides sides.now) }
 {
     let steady = steady_classes(alloc, sides)?;
     let interfaces = base_interfaces(alloc, sides)?;
-    let seats = Seats::new(alloc, sides, base_classes(alloc, sides)?)?;
     let translation = Translation::new(alloc, sides)?;
-    let losses = Losses::new(alloc, sides, &seats)?;
     let found = findings(
         alloc,
         sides,
         &translation,
-        &seats,
-        &losses,
+        seats,
+        losses,
         steady.as_slice(),
         interfaces.as_slice(),
         most,
@@ -286,7 +289,7 @@ fn limited(
         alloc,
         sides,
         &translation,
-        &seats,
+        seats,
         interfaces.as_slice(),
         room,
     )?;
@@ -299,6 +302,20 @@ fn limited(
         collisions: Items::from_vec(collisions),
         notes: Items::from_vec(notes),
     }))
+}
+
+// The same, where nobody else asks for seats and what was lost.
+fn limited(
+    alloc: Global,
+    sides: &Sides<'_>,
+    most: Option<usize>,
+) -> Result<Option<Verdict>, AllocError>
+    ensures { IfOk result (λ v. IsLimited sides.now most v × AreSides sides.now) }
+{
+    let seats = Seats::new(alloc, sides, base_classes(alloc, sides)?)?;
+    let losses = Losses::new(alloc, sides, &seats, &[])?;
+    let verdict = limited_over(alloc, sides, &seats, &losses, most)?;
+    Ok(verdict)
 }
 
 /// The verdict on a new release, after an old one: what it breaks of what clients could do, which
@@ -341,5 +358,28 @@ pub fn compare_within(
 {
     let sides = Sides::new(alloc, old, new)?;
     let verdict = limited(alloc, &sides, Some(most))?;
+    Ok(verdict)
+}
+
+/// The same verdict within a limit, over sides, seats and losses that the caller made, for other parts
+/// of a report too.
+///
+/// # Errors
+///
+/// `AllocError` where memory runs out.
+pub fn compare_over(
+    alloc: Global,
+    sides: &Sides<'_>,
+    seats: &Seats<'_>,
+    losses: &Losses,
+    most: usize,
+) -> Result<Option<Verdict>, AllocError>
+    requires seats { AreSeats sides.now seats.now }
+    requires losses { AreLosses sides.now losses.now }
+    ensures exact { IfOk result (IsVerdictWithin sides.now.old sides.now.new most) }
+    ensures kept { IfOk result (λ made. IfSome made (KeepsAll sides.now.old sides.now.new)) }
+    ensures broken { IfOk result (λ made. IfSome made (BreaksEach sides.now.old sides.now.new)) }
+{
+    let verdict = limited_over(alloc, sides, seats, losses, Some(most))?;
     Ok(verdict)
 }

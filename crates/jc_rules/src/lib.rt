@@ -14,7 +14,7 @@ mod final_added;
 mod final_methods;
 mod interface_became_class;
 mod interface_method_lost;
-mod losses;
+pub mod losses;
 mod method_closed;
 mod method_made_final;
 mod newly_final;

@@ -1,9 +1,9 @@
 //! Classes that lost some of their chain, and the members that expose those that are hidden.
-ghost use Rattle.std.specs.Prelude.{◌≡◌, ◌<◌, ◌&&◌, IfOk, length};
+ghost use Rattle.std.specs.Prelude.{◌≡◌, ◌<◌, ◌&&◌, ℕ, IfOk, length, true};
 ghost use Rattle.jc_acts.specs.Seats.{AreSeats};
-ghost use Rattle.jc_acts.specs.Touched.{AreFlags, AreSet, left_chain_of};
+ghost use Rattle.jc_acts.specs.Touched.{AreFlags, AreSet, flag_at, left_chain_of};
 ghost use Rattle.jc_facts.specs.world.World.{size};
-ghost use Rattle.jc_rules.specs.steps.Losses.{may_take_part, loses, is_lost, was_interface, changed_place, matters};
+ghost use Rattle.jc_rules.specs.steps.Losses.{AreJoined, may_take_part, loses, is_lost, was_interface, changed_place, matters};
 ghost use Rattle.jc_table.specs.Ids.{name_at};
 
 use crate::interface_became_class::is_no_interface_now;
@@ -15,8 +15,8 @@ use jc_sides::sides::Sides;
 use jc_table::ids::ClassId;
 use std::alloc::{AllocError, Global};
 
-/// Which classes lost some of their chain, and which members expose hidden classes, where a rule may
-/// ask for that.
+/// Which classes lost some of their chain, and which members expose hidden classes, where a rule or
+/// another part of the report may ask for that.
 #[derive(Drop)]
 pub struct Losses {
     // For each class of the old side, whether it is kept or hidden and has lost a class of its chain.
@@ -27,25 +27,42 @@ pub struct Losses {
 impl Losses {
     ghost use Rattle.std.specs.Prelude.{◌≡◌, ◌<◌, IfOk};
     ghost use Rattle.jc_acts.specs.Seats.{AreSeats};
+    ghost use Rattle.jc_acts.specs.Touched.{flag_at};
+    ghost use Rattle.jc_exposed.specs.Exposed.{AreWanted};
     ghost use Rattle.jc_facts.specs.world.World.{size};
-    ghost use Rattle.jc_rules.specs.steps.Losses.{AreLosses, loses};
+    ghost use Rattle.jc_rules.specs.steps.Losses.{AreLosses, exposed_of, loses};
     ghost use Rattle.jc_table.specs.Ids.{name_at};
 
     /// What was lost between the two sides. Members are looked at only where a hidden class was an
     /// interface and isn't one any more, or lost some of its chain, or was lost by a class that is kept
-    /// or hidden.
+    /// or hidden, or where another part of the report asks for a class, whose flag is set then: one pass
+    /// over the members is for all.
     ///
     /// # Errors
     ///
     /// `AllocError` where memory runs out.
-    pub fn new(alloc: Global, sides: &Sides<'_>, seats: &Seats<'_>) -> Result<Losses, AllocError>
+    pub fn new(
+        alloc: Global,
+        sides: &Sides<'_>,
+        seats: &Seats<'_>,
+        others: &[bool],
+    ) -> Result<Losses, AllocError>
         requires { AreSeats sides.now seats.now }
-        ensures { IfOk result (λ losses. AreLosses sides.now losses) }
+        ensures losses { IfOk result (λ losses. AreLosses sides.now losses) }
+        ensures others { IfOk result (λ losses. AreWanted sides.now (flag_at others.now) (exposed_of losses)) }
     {
         let losing = losing(alloc, sides, seats)?;
-        let wanted = wanted(alloc, sides, losing.as_slice())?;
+        let mut wanted = wanted(alloc, sides, losing.as_slice())?;
+        join(&mut wanted, others);
         let exposed = Exposed::new(alloc, sides, seats, wanted)?;
         Ok(Losses { losing, exposed })
+    }
+
+    /// The members that expose hidden classes.
+    pub fn exposed(&self) -> &Exposed
+        ensures { result.now ≡ exposed_of self.now }
+    {
+        &self.exposed
     }
 
     /// Whether the class is kept or hidden, and a class of its old chain isn't in its new one.
@@ -166,4 +183,29 @@ fn wanted(alloc: Global, sides: &Sides<'_>, losing: &[bool]) -> Result<Vec<bool>
         flags.push(is_asked(sides, losing, moved.as_slice(), id))?;
     }
     Ok(flags)
+}
+
+// ---- those that are asked for besides
+
+// Sets the flag of the number, where there is one and the test passed.
+fn set_if(flags: &mut Vec<bool>, n: usize, passes: bool)
+    ensures count { length flags.new.items ≡ length flags.old.items }
+    ensures kept { (k : ℕ) → flag_at flags.old.items k ≡ true → flag_at flags.new.items k ≡ true }
+    ensures set { passes ≡ true → n < length flags.old.items → flag_at flags.new.items n ≡ true }
+{
+    if !passes {
+        return;
+    }
+    if n < flags.len() {
+        flags[n] = true;
+    }
+}
+
+// Sets each flag that is set among the others.
+fn join(flags: &mut Vec<bool>, others: &[bool])
+    ensures { AreJoined flags.old.items others.now (length others.now) flags.new.items }
+{
+    for n in 0..others.len() {
+        set_if(flags, n, others[n]);
+    }
 }

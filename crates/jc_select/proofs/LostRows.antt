@@ -1,6 +1,7 @@
 -- Rows of interfaces that classes lost.
 --     done_none, done_more, done_all      a thing for one class after the other
 --     filtered, nothing_lost      what a class has lost
+--     asked_wanted      of which hidden classes members are kept
 --     held_empty, held_none, held_as      of which classes clients can hold values
 use Rattle.std.proofs.Common.{◌≡◌, ◌<◌, ◌+◌, ◌==◌, ◌∷◌, ◌++◌, ℕ, Bool, true, false, not, ◌||◌, ◌&&◌, List, [], length, refl, sym, ◌∙◌, ap, subst, Option, Some, None, is_none, is_some, nat_lt, arith}
 use Rattle.std.specs.Prelude.{slice_index_or}
@@ -9,8 +10,11 @@ use Rattle.std.proofs.Math.Seq.{get_or-append_seam}
 use Rattle.std.proofs.lemmas.Bool.{eqb-true, ltb-true, ltb-false, and_parts}
 use Rattle.std.proofs.lemmas.List.{get_or_append_left, length-append}
 use Rattle.std.proofs.lemmas.List.Elements.{recursion_from_All, All-from_recursion}
+use Rattle.jc_acts.specs.Touched.{flag_at}
 use Rattle.jc_dropped.proofs.Held.{exposed_hidden, held_loads}
 use Rattle.jc_dropped.specs.Dropped.{is_exposed_to_some, stays_exposed, is_held, has_lost, loses_interface}
+use Rattle.jc_exposed.specs.declared.exposed.Exposed.{Exposed}
+use Rattle.jc_exposed.specs.Exposed.{AreWanted}
 use Rattle.jc_facts.specs.declared.link_error.LinkError.{LinkError}
 use Rattle.jc_facts.specs.Names.{Bytes, same}
 use Rattle.jc_facts.specs.rule.Bases.{is_kept, is_steady}
@@ -28,7 +32,8 @@ use Rattle.jc_sides.specs.SidesOf.{SidesOf, AreSides}
 use Rattle.jc_table.specs.Ids.{name_at, id_of}
 use Rattle.jc_table.specs.Sides.{IsSide}
 use Rattle.jc_select.proofs.Collected.{filtered_number}
-use Rattle.jc_select.specs.steps.Losing.{AreDone, AreNumbersOf, has_left, is_asked, is_found, lost_at, loses, row_at}
+use Rattle.jc_select.specs.declared.losing.Lost.{Lost}
+use Rattle.jc_select.specs.steps.Losing.{AreDone, AreLost, AreNumbersOf, has_left, hidden_of, is_asked, is_found, lost_at, loses, row_at}
 use Rattle.jc_select.specs.steps.Parts.{AreNamed}
 
 -- ---- a thing for one class after the other
@@ -149,6 +154,12 @@ lost_unloaded s x ids e o b f g h = lost_not_after s x ids e (ap (λ p. is_none 
 
 pub lost_absent : (s : SidesOf) (x : Bytes) (ids : List ℕ) → ids ≡ [] → id_of s.new x ≡ None → AreNumbersOf s.old (lost_at s x) ids
 lost_absent s x ids e h = lost_not_after s x ids e (ap (λ o. is_none {T = LinkError} o) (absent s.new x (find-None s.new x h)))
+
+-- ---- hidden classes among them
+
+-- where members are kept of the classes whose marks are set, they are of those that are asked
+pub asked_wanted : (s : SidesOf) (l : Lost) (e : Exposed) → AreLost s l → AreWanted s (flag_at (hidden_of l)) e → AreWanted s (is_asked s l.rows.items) e
+asked_wanted s l e are wanted = λ n i h. wanted n i (are.hidden.each n i ∙ h)
 
 -- ---- of which classes clients can hold values
 

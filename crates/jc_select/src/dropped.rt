@@ -1,24 +1,30 @@
 //! The interfaces that classes have no more above them, after an old release.
 ghost use Rattle.std.specs.Prelude.{◌≡◌, ◌<◌, IfOk, IfSome, IsTrue, option_map};
 ghost use Rattle.std.specs.List.{All, list_any};
+ghost use Rattle.jc_acts.specs.Seats.{AreSeats};
+ghost use Rattle.jc_acts.specs.Touched.{flag_at};
 ghost use Rattle.jc_dropped.specs.Dropped.{AreDropped, IsDropped, dropped_order, loses_interface};
+ghost use Rattle.jc_exposed.specs.Exposed.{AreExposed, AreWanted};
 ghost use Rattle.jc_facts.specs.Exactly.{HasExactly};
 ghost use Rattle.jc_facts.specs.Options.{some_and};
 ghost use Rattle.jc_facts.specs.world.Pairs.{AreOfOneRun};
 ghost use Rattle.jc_facts.specs.world.Search.{supers};
 ghost use Rattle.jc_facts.specs.world.World.{size};
 ghost use Rattle.jc_select.specs.DroppedWithin.{AreDroppedWithin, InterfacesStill};
-ghost use Rattle.jc_select.specs.steps.Losing.{AreRowsOf, HasNumbers, dropped_at, loses, row_at};
+ghost use Rattle.jc_select.specs.steps.Losing.{AreLost, AreRowsOf, HasNumbers, dropped_at, hidden_of, loses, row_at};
 ghost use Rattle.jc_sides.specs.Limit.{IsWithin};
 ghost use Rattle.jc_sides.specs.Rules.{IsOf};
 ghost use Rattle.jc_table.specs.Ids.{name_at};
 
-use crate::losing::losing;
+use crate::losing::{Lost, losing};
 use crate::parts::is_among;
+use jc_acts::seats::Seats;
 use jc_base::items::Items;
 use jc_base::name::Name;
 use jc_dropped::dropped::Dropped;
+use jc_exposed::exposed::Exposed;
 use jc_facts::class_facts::ClassFacts;
+use jc_sides::classes::base_classes;
 use jc_sides::found::push_some;
 use jc_sides::limit::is_over;
 use jc_sides::sides::Sides;
@@ -180,7 +186,45 @@ fn of_classes(
     Ok(Some(dropped))
 }
 
-// The same.
+// The same, over the seats, what classes have lost, and the members that expose hidden ones.
+fn limited_over(
+    alloc: Global,
+    sides: &Sides<'_>,
+    seats: &Seats<'_>,
+    exposed: &Exposed,
+    lost: &Lost,
+    most: Option<usize>,
+) -> Result<Option<Vec<Dropped>>, AllocError>
+    requires seats { AreSeats sides.now seats.now }
+    requires exposed { AreExposed sides.now exposed.now }
+    requires lost { AreLost sides.now lost.now }
+    requires wanted { AreWanted sides.now (flag_at (hidden_of lost.now)) exposed.now }
+    ensures { IfOk result (λ made. IsWithin dropped_order (IsDropped sides.now.old sides.now.new) most (option_map (λ ds. ds.items) made)) }
+{
+    let rows = losing(alloc, sides, seats, exposed, lost)?;
+    let made = of_classes(alloc, sides, rows.as_slice(), most)?;
+    Ok(made)
+}
+
+// The members that expose hidden classes that have lost something.
+fn exposed_of(
+    alloc: Global,
+    sides: &Sides<'_>,
+    seats: &Seats<'_>,
+    lost: &Lost,
+) -> Result<Exposed, AllocError>
+    requires seats { AreSeats sides.now seats.now }
+    requires lost { AreLost sides.now lost.now }
+    ensures exposed { IfOk result (λ exposed. AreExposed sides.now exposed) }
+    ensures wanted { IfOk result (λ exposed. AreWanted sides.now (flag_at (hidden_of lost.now)) exposed) }
+{
+    let wanted = Vec::from_slice(alloc, lost.hidden())?;
+    let exposed = Exposed::new(alloc, sides, seats, wanted)?;
+    Ok(exposed)
+}
+
+// What all classes drop, where nobody else asks for seats and for members; None where that is more than
+// the limit allows.
 fn limited(
     alloc: Global,
     sides: &Sides<'_>,
@@ -188,8 +232,10 @@ fn limited(
 ) -> Result<Option<Vec<Dropped>>, AllocError>
     ensures { IfOk result (λ made. IsWithin dropped_order (IsDropped sides.now.old sides.now.new) most (option_map (λ ds. ds.items) made)) }
 {
-    let rows = losing(alloc, sides)?;
-    let made = of_classes(alloc, sides, rows.as_slice(), most)?;
+    let lost = Lost::new(alloc, sides)?;
+    let seats = Seats::new(alloc, sides, base_classes(alloc, sides)?)?;
+    let exposed = exposed_of(alloc, sides, &seats, &lost)?;
+    let made = limited_over(alloc, sides, &seats, &exposed, &lost, most)?;
     Ok(made)
 }
 
@@ -238,5 +284,31 @@ pub fn dropped_within(
     let _new = new.count();
     let sides = Sides::new(alloc, old, new)?;
     let made = limited(alloc, &sides, Some(most))?;
+    Ok(made)
+}
+
+/// The same interfaces within a limit, over sides, seats, losses and members that the caller made, for
+/// other parts of a report too. The members are those that expose at least the hidden classes that have
+/// lost an interface.
+///
+/// # Errors
+///
+/// `AllocError` where memory runs out.
+pub fn dropped_over(
+    alloc: Global,
+    sides: &Sides<'_>,
+    seats: &Seats<'_>,
+    exposed: &Exposed,
+    lost: &Lost,
+    most: usize,
+) -> Result<Option<Vec<Dropped>>, AllocError>
+    requires seats { AreSeats sides.now seats.now }
+    requires exposed { AreExposed sides.now exposed.now }
+    requires lost { AreLost sides.now lost.now }
+    requires wanted { AreWanted sides.now (flag_at (hidden_of lost.now)) exposed.now }
+    ensures exact { IfOk result (λ made. AreDroppedWithin sides.now.old sides.now.new most (option_map (λ ds. ds.items) made)) }
+    ensures kept { IfOk result (λ made. IfSome (option_map (λ ds. ds.items) made) (InterfacesStill sides.now.old sides.now.new)) }
+{
+    let made = limited_over(alloc, sides, seats, exposed, lost, Some(most))?;
     Ok(made)
 }

@@ -6,7 +6,7 @@ mod asked;
 mod chain;
 mod changes;
 pub mod dropped;
-mod losing;
+pub mod losing;
 mod parts;
 mod walks;
 mod warned;

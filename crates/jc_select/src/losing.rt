@@ -1,27 +1,68 @@
 //! Interfaces that classes of both sides have lost, where clients can hold values of these.
 ghost use Rattle.std.specs.Prelude.{◌≡◌, ◌<◌, ◌||◌, IfOk, IsTrue, Some};
-ghost use Rattle.std.specs.List.{All, filter, list_any};
+ghost use Rattle.std.specs.List.{All, filter};
 ghost use Rattle.jc_acts.specs.Seats.{AreSeats};
-ghost use Rattle.jc_exposed.specs.Exposed.{AreExposed, wanted_of};
+ghost use Rattle.jc_acts.specs.Touched.{flag_at};
+ghost use Rattle.jc_exposed.specs.Exposed.{AreExposed, AreWanted};
 ghost use Rattle.jc_dropped.specs.Dropped.{is_exposed_to_some};
 ghost use Rattle.jc_facts.specs.rule.Bases.{is_kept, is_steady};
 ghost use Rattle.jc_facts.specs.rule.Exposed.{is_hidden};
 ghost use Rattle.jc_facts.specs.world.Loading.{loads};
 ghost use Rattle.jc_facts.specs.world.World.{size};
-ghost use Rattle.jc_select.specs.steps.Losing.{AreMarks, AreNumbersOf, AreRowsOf, has_left, is_asked, is_found, lost_at, loses};
+ghost use Rattle.jc_select.specs.steps.Losing.{AreLost, AreMarks, AreNumbersOf, AreRowsOf, has_left, hidden_of, is_asked, is_found, lost_at, loses};
 ghost use Rattle.jc_table.specs.Ids.{name_at, id_of};
 
 use crate::parts::{above, is_below_now};
 use jc_acts::seats::Seats;
 use jc_base::items::Items;
 use jc_exposed::exposed::{Exposed, first_exposed};
-use jc_sides::classes::base_classes;
 use jc_sides::clients::is_steady;
 use jc_sides::kept::{is_hidden_class, kept};
 use jc_sides::sides::Sides;
 use jc_table::ids::ClassId;
 use jc_table::table::Table;
 use std::alloc::{AllocError, Global};
+
+/// What classes have lost, whether clients can hold values of them or not.
+pub struct Lost {
+    // For each class of the old side, what it has lost, if it loads on both.
+    rows: Vec<Items<ClassId>>,
+    // For each class, whether it is hidden, and has lost something.
+    hidden: Vec<bool>,
+}
+
+// One call at each exit of a function that owns it, where a derived drop is written out.
+impl Drop for Lost {
+    fn drop(self) {
+        let Lost { rows: _, hidden: _ } = self;
+    }
+}
+
+impl Lost {
+    ghost use Rattle.std.specs.Prelude.{◌≡◌, IfOk};
+    ghost use Rattle.jc_select.specs.steps.Losing.{AreLost, hidden_of};
+
+    /// What classes have lost between the two sides. No member is looked at.
+    ///
+    /// # Errors
+    ///
+    /// `AllocError` where memory runs out.
+    pub fn new(alloc: Global, sides: &Sides<'_>) -> Result<Lost, AllocError>
+        ensures { IfOk result (λ lost. AreLost sides.now lost) }
+    {
+        let rows = lost_rows(alloc, sides)?;
+        let hidden = asked(alloc, sides, rows.as_slice())?;
+        Ok(Lost { rows, hidden })
+    }
+
+    /// For each class of the old side, whether it is hidden, and has lost something. Of such classes
+    /// alone it matters which members expose them.
+    pub fn hidden(&self) -> &[bool]
+        ensures { result.now ≡ hidden_of self.now }
+    {
+        self.hidden.as_slice()
+    }
+}
 
 // ---- of one class
 
@@ -142,18 +183,6 @@ fn asked(alloc: Global, sides: &Sides<'_>, rows: &[Items<ClassId>]) -> Result<Ve
     Ok(marks)
 }
 
-// Whether one of the marks is set.
-fn is_any_set(marks: &[bool]) -> bool
-    ensures { result ≡ list_any (λ w. w) marks.now }
-{
-    for mark in marks {
-        if *mark {
-            return true;
-        }
-    }
-    false
-}
-
 // Whether the class is hidden, has lost something, and is exposed to the clients of some seat.
 fn is_found(
     sides: &Sides<'_>,
@@ -165,7 +194,7 @@ fn is_found(
     requires seats { AreSeats sides.now seats.now }
     requires rows { AreRowsOf sides.now.old (lost_at sides.now) rows.now }
     requires exposed { AreExposed sides.now exposed.now }
-    requires wanted { AreMarks sides.now.old (is_asked sides.now rows.now) (wanted_of exposed.now) }
+    requires wanted { AreWanted sides.now (is_asked sides.now rows.now) exposed.now }
     requires id { id < size sides.now.old }
     ensures { result ≡ is_found sides.now rows.now id }
 {
@@ -186,7 +215,7 @@ fn found_among(
     requires seats { AreSeats sides.now seats.now }
     requires rows { AreRowsOf sides.now.old (lost_at sides.now) rows.now }
     requires exposed { AreExposed sides.now exposed.now }
-    requires wanted { AreMarks sides.now.old (is_asked sides.now rows.now) (wanted_of exposed.now) }
+    requires wanted { AreWanted sides.now (is_asked sides.now rows.now) exposed.now }
     ensures { IfOk result (λ marks. AreMarks sides.now.old (is_found sides.now rows.now) marks.items) }
 {
     let mut marks = Vec::with_capacity(alloc, sides.old.count() as usize)?;
@@ -194,21 +223,6 @@ fn found_among(
         let id = sides.old.id(n).unwrap();
         marks.push(is_found(sides, seats, exposed, rows, id))?;
     }
-    Ok(marks)
-}
-
-// The same. Where no hidden class has lost anything, no seat and no member is looked at.
-fn found(alloc: Global, sides: &Sides<'_>, rows: &[Items<ClassId>]) -> Result<Vec<bool>, AllocError>
-    requires rows { AreRowsOf sides.now.old (lost_at sides.now) rows.now }
-    ensures { IfOk result (λ marks. AreMarks sides.now.old (is_found sides.now rows.now) marks.items) }
-{
-    let asked = asked(alloc, sides, rows)?;
-    if !is_any_set(asked.as_slice()) {
-        return Ok(asked);
-    }
-    let seats = Seats::new(alloc, sides, base_classes(alloc, sides)?)?;
-    let exposed = Exposed::new(alloc, sides, &seats, asked)?;
-    let marks = found_among(alloc, sides, &seats, &exposed, rows)?;
     Ok(marks)
 }
 
@@ -271,16 +285,27 @@ fn held_rows(
 }
 
 /// For each class of the old side, the interfaces that it has lost, if clients can hold values of it,
-/// in any order, and maybe twice. Members are looked at only where a hidden class has lost one.
+/// in any order, and maybe twice. The members are those that expose at least the hidden classes that
+/// have lost one.
 ///
 /// # Errors
 ///
 /// `AllocError` where memory runs out.
-pub fn losing(alloc: Global, sides: &Sides<'_>) -> Result<Vec<Items<ClassId>>, AllocError>
+pub(crate) fn losing(
+    alloc: Global,
+    sides: &Sides<'_>,
+    seats: &Seats<'_>,
+    exposed: &Exposed,
+    lost: &Lost,
+) -> Result<Vec<Items<ClassId>>, AllocError>
+    requires seats { AreSeats sides.now seats.now }
+    requires exposed { AreExposed sides.now exposed.now }
+    requires lost { AreLost sides.now lost.now }
+    requires wanted { AreWanted sides.now (flag_at (hidden_of lost.now)) exposed.now }
     ensures { IfOk result (λ rows. AreRowsOf sides.now.old (loses sides.now) rows.items) }
 {
-    let lost = lost_rows(alloc, sides)?;
-    let found = found(alloc, sides, lost.as_slice())?;
-    let held = held_rows(alloc, sides, lost.as_slice(), found.as_slice())?;
+    let rows = lost.rows.as_slice();
+    let found = found_among(alloc, sides, seats, exposed, rows)?;
+    let held = held_rows(alloc, sides, rows, found.as_slice())?;
     Ok(held)
 }

@@ -1,5 +1,5 @@
 -- What is found in the records of a check, on the way.
-use Rattle.std.specs.Prelude.{◌≡◌, ◌<◌, ◌⊎◌, Bool, IsTrue, List, [], length, Some, IfSome, option_map}
+use Rattle.std.specs.Prelude.{◌≡◌, ◌<◌, ◌≤◌, ◌⊎◌, Bool, true, IsTrue, List, [], length, Option, None, Some, IfSome, IfOk, IfErr, option_map}
 use Rattle.std.specs.List.{All}
 use Rattle.jc_dropped.specs.declared.dropped.Dropped.{Dropped}
 use Rattle.jc_dropped.specs.Dropped.{AreDropped}
@@ -10,6 +10,7 @@ use Rattle.jc_facts.specs.client.Kept.{BreaksClass}
 use Rattle.jc_facts.specs.rule.Verdict.{IsVerdict, count_of}
 use Rattle.jc_facts.specs.rule.Warnings.{AreWarnings}
 use Rattle.jc_facts.specs.declared.warning.Warning.{Warning}
+use Rattle.jc_rules.specs.Verdicts.{IsVerdictWithin, KeepsAll, BreaksEach}
 use Rattle.jc_select.specs.DroppedWithin.{InterfacesStill}
 use Rattle.jc_select.specs.Within.{AnswersStill}
 use Rattle.jc_facts.specs.world.World.{World}
@@ -19,6 +20,7 @@ use Rattle.jc_commands.specs.Command.{CheckOf}
 use Rattle.jc_commands.specs.DroppedPart.{AreAskedDropped}
 use Rattle.jc_commands.specs.Signatures.{AreNoted}
 use Rattle.jc_commands.specs.declared.comparison.Comparison.{Comparison}
+use Rattle.jc_commands.specs.declared.found.Found.{Found}
 use Rattle.jc_commands.specs.declared.limits.TheConstants.{MAX_FINDINGS, MAX_WARNINGS, MAX_DROPPED}
 use Rattle.jc_commands.specs.declared.stop.Part.TheVariants as parts
 use Rattle.jc_commands.specs.declared.stop.Stop.{Stop}
@@ -62,3 +64,18 @@ StopsWarning warn O N stop = (IsTrue warn × (stop ≡ stops.TooMany parts.Warni
 -- why the dropped interfaces of the sides aren't printed
 abbrev pub StopsDropping : Bool → World → World → Stop → Type 0
 StopsDropping dropped O N stop = (IsTrue dropped × (stop ≡ stops.TooMany parts.Dropped) × ((ds : List Dropped) → AreDropped O N ds → MAX_DROPPED < length ds)) ⊎ (stop ≡ stops.Memory)
+
+-- the verdict on the sides, within its limit, and the dropped interfaces where they are asked for, or why these aren't printed
+pub record AreFound (asked : Bool) (O N : World) (f : Found) : Type 0 where
+  pub exact : IsVerdict O N f.verdict
+  pub few : count_of f.verdict ≤ MAX_FINDINGS
+  pub kept : KeepsAll O N f.verdict
+  pub broken : BreaksEach O N f.verdict
+  pub listed : IfOk f.dropped (λ made. AreAskedDropped asked O N (option_map (λ ds. ds.items) made))
+  pub still : IfOk f.dropped (λ made. IfSome (option_map (λ ds. ds.items) made) (InterfacesStill O N))
+  pub stopped : IfErr f.dropped (StopsDropping asked O N)
+
+-- both are asked for; there is none where the verdict is over its limit
+abbrev pub AreFoundWithin : World → World → Option Found → Type 0
+AreFoundWithin O N None = IsVerdictWithin O N MAX_FINDINGS None
+AreFoundWithin O N (Some f) = AreFound true O N f

@@ -14,6 +14,7 @@ use Rattle.jc_facts.specs.rule.Exposed.{is_hidden}
 use Rattle.jc_facts.specs.rule.Warnings.{is_below_other}
 use Rattle.jc_facts.specs.world.Loading.{loads}
 use Rattle.jc_facts.specs.world.World.{World, size}
+use Rattle.jc_select.specs.declared.losing.Lost.{Lost}
 use Rattle.jc_sides.specs.SidesOf.{SidesOf}
 use Rattle.jc_table.specs.Ids.{name_at}
 
@@ -68,6 +69,15 @@ is_asked s rows n = is_hidden s.old (name_at s.old n) && not (length (row_at row
 -- and a member exposes it to the clients of some seat
 abbrev pub is_found : SidesOf → List (List ℕ) → ℕ → Bool
 is_found s rows n = is_asked s rows n && is_exposed_to_some s.old s.new (name_at s.old n)
+
+-- for each class there is a row of what it has lost, and a mark that tells whether it is hidden and has lost something
+pub record AreLost (s : SidesOf) (l : Lost) : Type 0 where
+  pub rows : AreRowsOf s.old (lost_at s) l.rows.items
+  pub hidden : AreMarks s.old (is_asked s l.rows.items) l.hidden.items
+
+-- those marks
+abbrev pub hidden_of : Lost → List Bool
+hidden_of l = l.hidden.items
 
 -- ---- what is dropped
 
