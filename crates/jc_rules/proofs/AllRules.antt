@@ -1,7 +1,6 @@
--- What all rules find together, and what it means.
-use Rattle.std.proofs.Common.{◌≡◌, ◌≤◌, ◌<◌, ℕ, suc, Bool, true, false, cond, List, [], ◌++◌, length, refl, sym, ◌∙◌, ap, subst, Option, Some, None, ◌==◌, ◌⊎◌, inl, inr, arith}
+-- Which rules there are, in which order, and what all find together means.
+use Rattle.std.proofs.Common.{◌≡◌, ◌≤◌, ◌<◌, ℕ, Bool, true, false, cond, List, [], ◌++◌, refl, sym, ◌∙◌, ap, subst, Option, Some, None, ◌==◌, ◌⊎◌, inl, inr, arith}
 use Rattle.std.specs.List.{All}
-use Rattle.std.specs.declared.cmp.Ordering.{Ordering}
 use Rattle.std.specs.declared.cmp.Ordering.TheVariants.{Less}
 use Rattle.std.specs.Cmp.{nat_cmp_is}
 use Rattle.std.proofs.lemmas.Bool.{eqb-true}
@@ -28,10 +27,7 @@ use Rattle.jc_sound.proofs.ClassGoneLaw.{class_gone_breaks}
 use Rattle.jc_facts.proofs.InOrder.{exact_same, exact_append}
 use Rattle.jc_sound.proofs.SoundnessLaws.{keeps}
 use Rattle.jc_rules.specs.steps.Notes.{NoteIn, IsUnloadable, IsFixed, IsConstantNote}
-use Rattle.jc_rules.proofs.ByRule.{first_rule, next_rule, next_group, all_rules, rule_past, next_past, group_past}
 use Rattle.jc_rules.proofs.NoteUnloadable.{notes_exact}
-use Rattle.jc_sides.specs.Limit.{HasMore, over, beside}
-use Rattle.jc_sides.proofs.Limits.{past_weaker, within_both}
 use Rattle.jc_sides.proofs.Pair.{pair_of}
 use Rattle.jc_sides.specs.SidesOf.{SidesOf, AreSides}
 
@@ -78,59 +74,17 @@ known_collision O N c h =
     (is_rule c.rule 11 _ _ c (IsWithin 10 13 c.rule) (within 10 13 c.rule 11 (omega arith) (omega arith))
     (is_rule c.rule 12 _ _ c (IsWithin 10 13 c.rule) (within 10 13 c.rule 12 (omega arith) (omega arith)) (none_of c (IsWithin 10 13 c.rule)))) h
 
--- ---- together
+-- of a number that no rule has there is nothing
+pub no_finding : (O N : World) (n : ℕ) → (1 ≤ n → n < 10 → ⊥) → (f : Finding) → Stands O N f → f.rule ≡ n → ⊥
+no_finding O N n never f h e = let k = subst (IsWithin 1 10) e (known_finding O N f h) in never k.0 k.1
+
+pub no_collision : (O N : World) (n : ℕ) → (10 ≤ n → n < 13 → ⊥) → (c : Collision) → CollisionStands O N c → c.rule ≡ n → ⊥
+no_collision O N n never c h e = let k = subst (IsWithin 10 13) e (known_collision O N c h) in never k.0 k.1
+
+-- ---- the order
 
 pub collision_rule_before : (c d : Collision) → c.rule < d.rule → collision_order c d ≡ Less
 collision_rule_before c d h = rw (sym (nat_cmp_is c.rule d.rule Less h)) refl
-
--- the list is exact, and within the limit
-abbrev pub Listed : {F : Type 0} → (F → F → Ordering) → (F → Type 0) → Option ℕ → List F → Type 0
-Listed order Stand most xs = HasExactly order Stand xs × (over (length xs) most ≡ false)
-
--- the room beside a list, whose length is n
-room_beside : {F : Type 0} (order : F → F → Ordering) (Stand : F → Type 0) (most room : Option ℕ) (xs : List F) (n : ℕ) → n ≡ length xs → room ≡ beside most n → HasMore order Stand room → HasMore order Stand (beside most (length xs))
-room_beside order Stand most room xs n e r h = subst (HasMore order Stand) (r ∙ ap (beside most) e) h
-
-listed_both : {F : Type 0} (most room : Option ℕ) (xs ys zs : List F) (n : ℕ) → n ≡ length xs → room ≡ beside most n → zs ≡ xs ++ ys → over (length xs) most ≡ false → over (length ys) room ≡ false → over (length zs) most ≡ false
-listed_both most room xs ys zs n e r q a b = within_both most xs ys zs q a (subst (λ (o : Option ℕ). over (length ys) o ≡ false) (r ∙ ap (beside most) e) b)
-
--- things that have a rule, by which they are in order; what stands of them, of one rule, or of those from one to before another
-module _ {F : Type 0} (order : F → F → Ordering) (rule_of : F → ℕ) (Stand : F → Type 0) (apart : (f g : F) → rule_of f < rule_of g → order f g ≡ Less) (most : Option ℕ) where
-  abbrev pub Rule : ℕ → F → Type 0
-  Rule rule f = (rule_of f ≡ rule) × Stand f
-
-  abbrev pub Rules : ℕ → ℕ → F → Type 0
-  Rules low high f = ((low ≤ rule_of f) × (rule_of f < high)) × Stand f
-
-  pub first : (low : ℕ) (xs : List F) → Listed order (Rule low) most xs → Listed order (Rules low (suc low)) most xs
-  first low xs h = (first_rule order rule_of Stand apart low xs h.0, h.1)
-
-  pub next : (low rule : ℕ) → low ≤ rule → (room : Option ℕ) (n : ℕ) (xs ys zs : List F) → Listed order (Rules low rule) most xs → n ≡ length xs → room ≡ beside most n → Listed order (Rule rule) room ys → zs ≡ xs ++ ys
-      → Listed order (Rules low (suc rule)) most zs
-  next low rule l room n xs ys zs h e r k q =
-      (subst (HasExactly order (Rules low (suc rule))) (sym q) (next_rule order rule_of Stand apart low rule l xs ys h.0 k.0), listed_both most room xs ys zs n e r q h.1 k.1)
-
-  pub next_is_past : (low rule high : ℕ) → low ≤ rule → rule < high → (room : Option ℕ) (n : ℕ) (xs : List F) → Listed order (Rules low rule) most xs → n ≡ length xs → room ≡ beside most n → HasMore order (Rule rule) room
-      → HasMore order (Rules low high) most
-  next_is_past low rule high a b room n xs h e r more = next_past order rule_of Stand apart most low rule high a b xs h.0 h.1 (room_beside order (Rule rule) most room xs n e r more)
-
-  pub first_is_past : (low high : ℕ) → low < high → HasMore order (Rule low) most → HasMore order (Rules low high) most
-  first_is_past low high l h = rule_past order rule_of Stand apart most low low high (omega arith) l h
-
-  pub group : (low mid high : ℕ) → low ≤ mid → mid ≤ high → (room : Option ℕ) (n : ℕ) (xs ys zs : List F) → Listed order (Rules low mid) most xs → n ≡ length xs → room ≡ beside most n → Listed order (Rules mid high) room ys → zs ≡ xs ++ ys
-      → Listed order (Rules low high) most zs
-  group low mid high a b room n xs ys zs h e r k q =
-      (subst (HasExactly order (Rules low high)) (sym q) (next_group order rule_of Stand apart low mid high a b xs ys h.0 k.0), listed_both most room xs ys zs n e r q h.1 k.1)
-
-  pub group_is_past : (low mid high : ℕ) → low ≤ mid → mid ≤ high → (room : Option ℕ) (n : ℕ) (xs : List F) → Listed order (Rules low mid) most xs → n ≡ length xs → room ≡ beside most n → HasMore order (Rules mid high) room
-      → HasMore order (Rules low high) most
-  group_is_past low mid high a b room n xs h e r more = group_past order rule_of Stand apart most low mid high a b xs h.0 h.1 (room_beside order (Rules mid high) most room xs n e r more)
-
-  pub stands_past : (low high : ℕ) → HasMore order (Rules low high) most → HasMore order Stand most
-  stands_past low high h = past_weaker order (Rules low high) Stand most (λ f p. p.1) h
-
-  pub stands_whole : (low high : ℕ) → ((f : F) → Stand f → (low ≤ rule_of f) × (rule_of f < high)) → (xs : List F) → Listed order (Rules low high) most xs → Listed order Stand most xs
-  stands_whole low high known xs h = (all_rules order rule_of Stand apart low high known xs h.0, h.1)
 
 module _ (s : SidesOf) where
   -- notes on classes, and then on constants

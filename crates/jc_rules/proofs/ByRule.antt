@@ -1,135 +1,76 @@
--- What stands of one rule after another.
-use Rattle.std.proofs.Common.{◌≡◌, ◌≢◌, ◌<◌, ◌≤◌, ℕ, suc, Bool, true, false, List, ◌++◌, length, refl, sym, subst, Option, ◌⊎◌, inl, inr, arith, nat_lt}
+-- Rules one after another, by their numbers: what one makes stands behind what those before it have made.
+use Rattle.std.proofs.Common.{◌≡◌, ◌≢◌, ◌<◌, ◌≤◌, ◌+◌, ◌++◌, [], ℕ, true, false, List, length, sym, ◌∙◌, ap, subst, Option, Some, ◌⊎◌, inl, inr, arith}
 use Rattle.std.proofs.Math.Dec.{eqb}
-use Rattle.std.proofs.lemmas.Bool.{ltb-true, ltb-false}
 use Rattle.std.proofs.lemmas.Bool.Decides.{eqb_tells}
 use Rattle.std.specs.declared.cmp.Ordering.{Ordering}
 use Rattle.std.specs.declared.cmp.Ordering.TheVariants.{Less}
 use Rattle.jc_facts.specs.Exactly.{HasExactly}
-use Rattle.jc_facts.proofs.InOrder.{exact_same, exact_append}
-use Rattle.jc_sides.specs.Limit.{HasMore, over, beside}
-use Rattle.jc_sides.proofs.Limits.{past_beside, past_weaker}
+use Rattle.jc_facts.proofs.InOrder.{exact_none, exact_same, exact_append}
+use Rattle.jc_sides.specs.Limit.{HasMore, IsWithin, over, beside}
+use Rattle.jc_sides.proofs.Limits.{over_none, past_beside, within_both}
 
--- the rules of things, which decide their order
-module _ {F : Type 0} (order : F → F → Ordering) (rule_of : F → ℕ) (Stand : F → Type 0) (apart : (f g : F) → rule_of f < rule_of g → order f g ≡ Less) where
+-- things that have a rule, by which they are in order
+module _ {F : Type 0} (order : F → F → Ordering) (rule_of : F → ℕ) (Stand : F → Type 0) (most : Option ℕ) where
   -- what stands, of this rule
   abbrev pub Of : ℕ → F → Type 0
   Of rule f = (rule_of f ≡ rule) × Stand f
 
-  -- what stands, of a rule between these two, the second not among them
-  abbrev pub Between : ℕ → ℕ → F → Type 0
-  Between low high f = ((low ≤ rule_of f) × (rule_of f < high)) × Stand f
+  -- what stands, of the rules before this one
+  abbrev pub Before : ℕ → F → Type 0
+  Before rule f = (rule_of f < rule) × Stand f
 
-  -- the first rule
-  pub first_rule : (low : ℕ) (xs : List F) → HasExactly order (Of low) xs → HasExactly order (Between low (suc low)) xs
-  first_rule low xs h = exact_same order (Of low) (Between low (suc low)) xs (λ f p. ((low_le (rule_of f) p.0, low_lt (rule_of f) p.0), p.1)) (λ f p. (is_low (rule_of f) p.0.0 p.0.1, p.1)) h
+  -- the list is just that, in order, and within the limit
+  abbrev pub Made : ℕ → List F → Type 0
+  Made rule xs = HasExactly order (Before rule) xs × (over (length xs) most ≡ false)
+
+  -- the first rule has none before it
+  pub start : (first : ℕ) → ((f : F) → Stand f → first ≤ rule_of f) → (xs : List F) → xs ≡ [] → Made first xs
+  start first from xs e = subst (Made first) (sym e) (exact_none order (Before first) (λ f p. never (rule_of f) p.0 (from f p.1)), over_none most)
     where
-      low_le : (r : ℕ) → r ≡ low → low ≤ r
-      low_le r e = omega arith
+      never : (r : ℕ) → r < first → first ≤ r → ⊥
+      never r a b = omega arith
 
-      low_lt : (r : ℕ) → r ≡ low → r < suc low
-      low_lt r e = omega arith
+  -- behind the last one, of a number before this, all is made
+  pub whole : (rule : ℕ) → ((f : F) → Stand f → rule_of f < rule) → (xs : List F) → Made rule xs → IsWithin order Stand most (Some xs)
+  whole rule to xs made = (exact_same order (Before rule) Stand xs (λ f p. p.1) (λ f s. (to f s, s)) made.0, made.1)
 
-      is_low : (r : ℕ) → low ≤ r → r < suc low → r ≡ low
-      is_low r a b = omega arith
+  -- what no rule makes, of a number that nothing has
+  pub none_of : (rule : ℕ) → ((f : F) → Stand f → rule_of f ≡ rule → ⊥) → (xs : List F) → xs ≡ [] → IsWithin order (Of rule) most (Some xs)
+  none_of rule never xs e = subst (λ (ys : List F). IsWithin order (Of rule) most (Some ys)) (sym e) (exact_none order (Of rule) (λ f p. never f p.1 p.0), over_none most)
 
-  -- one more rule
-  pub next_rule : (low high : ℕ) → low ≤ high → (xs ys : List F) → HasExactly order (Between low high) xs → HasExactly order (Of high) ys → HasExactly order (Between low (suc high)) (xs ++ ys)
-  next_rule low high l xs ys h k =
-      exact_same order (λ f. Between low high f ⊎ Of high f) (Between low (suc high)) (xs ++ ys) to from
-      (exact_append order (Between low high) (Of high) xs ys h k (λ f g p q. apart f g (subst (λ n. rule_of f < n) (sym q.0) p.0.1)))
-    where
-      above : (r : ℕ) → r < high → r < suc high
-      above r a = omega arith
+  -- one more rule, with the room that the list leaves, whose length is n
+  module _ (apart : (f g : F) → rule_of f < rule_of g → order f g ≡ Less) (rule : ℕ) (xs : List F) (made : Made rule xs) (n : ℕ) (room : Option ℕ) (is : n ≡ length xs) (rest : room ≡ beside most n) where
+    later : (f g : F) → Before rule f → Of rule g → order f g ≡ Less
+    later f g p q = apart f g (subst (λ r. rule_of f < r) (sym q.0) p.0)
 
-      at_low : (r : ℕ) → r ≡ high → low ≤ r
-      at_low r e = omega arith
+    left : room ≡ beside most (length xs)
+    left = rest ∙ ap (beside most) is
 
-      at_high : (r : ℕ) → r ≡ high → r < suc high
-      at_high r e = omega arith
-
-      to : (f : F) → Between low high f ⊎ Of high f → Between low (suc high) f
-      to f (inl p) = ((p.0.0, above (rule_of f) p.0.1), p.1)
-      to f (inr q) = ((at_low (rule_of f) q.0, at_high (rule_of f) q.0), q.1)
-
-      below : (r : ℕ) → r < suc high → r ≢ high → r < high
-      below r a b = omega arith
-
-      split : (r : ℕ) → r < suc high → (r < high) ⊎ (r ≡ high)
-      split r a = go (eqb_tells r high)
-        where
-          go : ((eqb r high ≡ true) × (r ≡ high)) ⊎ ((eqb r high ≡ false) × (r ≢ high)) → (r < high) ⊎ (r ≡ high)
-          go (inl p) = inr p.1
-          go (inr p) = inl (below r a p.1)
-
-      from : (f : F) → Between low (suc high) f → Between low high f ⊎ Of high f
-      from f p = go (split (rule_of f) p.0.1)
-        where
-          go : (rule_of f < high) ⊎ (rule_of f ≡ high) → Between low high f ⊎ Of high f
-          go (inl a) = inl ((p.0.0, a), p.1)
-          go (inr e) = inr (e, p.1)
-
-  -- one group of rules, and then another
-  pub next_group : (low mid high : ℕ) → low ≤ mid → mid ≤ high → (xs ys : List F) → HasExactly order (Between low mid) xs → HasExactly order (Between mid high) ys → HasExactly order (Between low high) (xs ++ ys)
-  next_group low mid high a b xs ys h k =
-      exact_same order (λ f. Between low mid f ⊎ Between mid high f) (Between low high) (xs ++ ys) to from
-      (exact_append order (Between low mid) (Between mid high) xs ys h k (λ f g p q. apart f g (less (rule_of f) (rule_of g) p.0.1 q.0.0)))
-    where
-      less : (r q : ℕ) → r < mid → mid ≤ q → r < q
-      less r q u v = omega arith
-
-      more : (r : ℕ) → r < mid → r < high
-      more r u = omega (arith, b)
-
-      before : (r : ℕ) → mid ≤ r → low ≤ r
-      before r u = omega (arith, a)
-
-      to : (f : F) → Between low mid f ⊎ Between mid high f → Between low high f
-      to f (inl p) = ((p.0.0, more (rule_of f) p.0.1), p.1)
-      to f (inr q) = ((before (rule_of f) q.0.0, q.0.1), q.1)
-
-      from : (f : F) → Between low high f → Between low mid f ⊎ Between mid high f
-      from f p = go (nat_lt (rule_of f) mid) refl
-        where
-          go : (t : Bool) → nat_lt (rule_of f) mid ≡ t → Between low mid f ⊎ Between mid high f
-          go true e = inl ((p.0.0, ltb-true (rule_of f) mid e), p.1)
-          go false e = inr ((ltb-false (rule_of f) mid e, p.0.1), p.1)
-
-  -- ---- past the limit
-
-  module _ (most : Option ℕ) where
-    -- one of the rules alone
-    pub rule_past : (low rule high : ℕ) → low ≤ rule → rule < high → HasMore order (Of rule) most → HasMore order (Between low high) most
-    rule_past low rule high a b h = past_weaker order (Of rule) (Between low high) most (λ f p. ((subst (λ r. low ≤ r) (sym p.0) a, subst (λ r. r < high) (sym p.0) b), p.1)) h
-
-    -- a group of rules, within the limit, and then one
-    pub next_past : (low rule high : ℕ) → low ≤ rule → rule < high → (xs : List F) → HasExactly order (Between low rule) xs → over (length xs) most ≡ false → HasMore order (Of rule) (beside most (length xs))
-        → HasMore order (Between low high) most
-    next_past low rule high a b xs h within more =
-        past_beside order (Between low rule) (Of rule) (Between low high) most xs
-        (λ f p. ((p.0.0, before (rule_of f) p.0.1), p.1)) (λ f p. ((subst (λ r. low ≤ r) (sym p.0) a, subst (λ r. r < high) (sym p.0) b), p.1))
-        (λ f g p q. apart f g (subst (λ n. rule_of f < n) (sym q.0) p.0.1)) h within more
+    pub next : (ys zs : List F) → HasExactly order (Of rule) ys × (over (length ys) room ≡ false) → zs ≡ xs ++ ys → Made (rule + 1) zs
+    next ys zs h e = (
+      subst (HasExactly order (Before (rule + 1))) (sym e) (exact_same order (λ f. Before rule f ⊎ Of rule f) (Before (rule + 1)) (xs ++ ys) to from (exact_append order (Before rule) (Of rule) xs ys made.0 h.0 later)),
+      within_both most xs ys zs e made.1 (subst (λ (o : Option ℕ). over (length ys) o ≡ false) left h.1),
+    )
       where
-        before : (r : ℕ) → r < rule → r < high
-        before r u = omega (arith, b)
+        below : (r : ℕ) → r < rule → r < rule + 1
+        below r a = omega arith
 
-    -- a group of rules, within the limit, and then another group
-    pub group_past : (low mid high : ℕ) → low ≤ mid → mid ≤ high → (xs : List F) → HasExactly order (Between low mid) xs → over (length xs) most ≡ false → HasMore order (Between mid high) (beside most (length xs))
-        → HasMore order (Between low high) most
-    group_past low mid high a b xs h within more =
-        past_beside order (Between low mid) (Between mid high) (Between low high) most xs
-        (λ f p. ((p.0.0, before (rule_of f) p.0.1), p.1)) (λ f q. ((after (rule_of f) q.0.0, q.0.1), q.1))
-        (λ f g p q. apart f g (less (rule_of f) (rule_of g) p.0.1 q.0.0)) h within more
-      where
-        before : (r : ℕ) → r < mid → r < high
-        before r u = omega (arith, b)
+        at : (r : ℕ) → r ≡ rule → r < rule + 1
+        at r a = omega arith
 
-        after : (r : ℕ) → mid ≤ r → low ≤ r
-        after r u = omega (arith, a)
+        before : (r : ℕ) → r < rule + 1 → r ≢ rule → r < rule
+        before r a b = omega arith
 
-        less : (r q : ℕ) → r < mid → mid ≤ q → r < q
-        less r q u v = omega arith
+        to : (f : F) → Before rule f ⊎ Of rule f → Before (rule + 1) f
+        to f (inl p) = (below (rule_of f) p.0, p.1)
+        to f (inr q) = (at (rule_of f) q.0, q.1)
 
-  -- all rules
-  pub all_rules : (low high : ℕ) → ((f : F) → Stand f → (low ≤ rule_of f) × (rule_of f < high)) → (xs : List F) → HasExactly order (Between low high) xs → HasExactly order Stand xs
-  all_rules low high known xs h = exact_same order (Between low high) Stand xs (λ f p. p.1) (λ f s. (known f s, s)) h
+        from : (f : F) → Before (rule + 1) f → Before rule f ⊎ Of rule f
+        from f p = go (eqb_tells (rule_of f) rule)
+          where
+            go : ((eqb (rule_of f) rule ≡ true) × (rule_of f ≡ rule)) ⊎ ((eqb (rule_of f) rule ≡ false) × (rule_of f ≢ rule)) → Before rule f ⊎ Of rule f
+            go (inl q) = inr (q.1, p.1)
+            go (inr q) = inl (before (rule_of f) p.0 q.1, p.1)
+
+    pub past : HasMore order (Of rule) room → HasMore order Stand most
+    past more = past_beside order (Before rule) (Of rule) Stand most xs (λ f p. p.1) (λ f q. q.1) later made.0 made.1 (subst (HasMore order (Of rule)) left more)

@@ -32,13 +32,16 @@ use Rattle.jc_sides.specs.Rules.{key_collision, IsCollision, IsItemRule}
 use Rattle.jc_sides.proofs.BrokenActs.{collided_where}
 use Rattle.jc_sides.specs.SidesOf.{SidesOf}
 use Rattle.jc_sides.proofs.BaseParts.{base_class_parts}
-use Rattle.jc_sides.proofs.ItemRules.{made_where, collision_rule}
+use Rattle.jc_sides.proofs.ItemRules.{made_where}
 use Rattle.jc_sides.proofs.NamedAbove.{class_unkept}
 use Rattle.jc_table.specs.Sides.{IsSide}
 use Rattle.jc_table.specs.Lookups.{IsChoice}
 use Rattle.jc_table.specs.Rows.{choices_by}
 use Rattle.jc_table.proofs.Sides.{classes_valid}
 use Rattle.jc_index.specs.declared.ids.Found.{Found}
+use Rattle.jc_acts.proofs.Untouched.{looks_alike}
+use Rattle.jc_rules.proofs.ChangedClasses.{collision_of_changed}
+use Rattle.jc_rules.specs.steps.Changed.{changed_class}
 
 -- the table's lookup finds none where the world's finds nothing
 pub choice_none : (W : World) (f : Option Found) (ms : List DeclaredMember) → IsChoice W f ms → is_none f ≡ are_none ms
@@ -221,8 +224,9 @@ of_methods s x k c e = go (is_interface_of s.new x) (no_interface_now s x p.base
     go true n = absurd (let clash : true ≡ false = n in cc)
     go false n = some (are_none (method_choices s.new x k)) refl
 
-pub of_none : (s : SidesOf) (x : Bytes) → LooksTheSame s.old s.new x → OfPassing (key_collision 11 s x) (is_member members.Nothing s x)
+of_none : (s : SidesOf) (x : Bytes) → LooksTheSame s.old s.new x → OfPassing (key_collision 11 s x) (λ k. false)
 of_none s x same k c e = let p = capture_parts s x k c e in absurd (found_none s.new x k p.declared (ap are_none (sym (same.method k)) ∙ p.unknown))
 
-pub is_rule : IsItemRule collision_order (λ (c : Collision). c.«class») (key_collision 11) (IsCollision 11) (λ s x. is_base_class s.old s.new x)
-is_rule = collision_rule 11 (λ s x. is_base_class s.old s.new x) class_unkept (λ s x k c e. (capture_parts s x k c e).base)
+pub is_rule : IsItemRule collision_order (λ (c : Collision). c.«class») (key_collision 11) (IsCollision 11) changed_class
+is_rule = collision_of_changed (λ s x. is_base_class s.old s.new x) class_unkept 11 (λ s x k c e. (capture_parts s x k c e).base)
+    (λ s are x is free. of_none s x (looks_alike s are x free (base_class_parts s x is).both.loads_now))

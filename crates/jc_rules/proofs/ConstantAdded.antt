@@ -19,10 +19,14 @@ use Rattle.jc_sides.specs.declared.members.Members.TheVariants as members
 use Rattle.jc_sides.specs.Rules.{key_collision, IsCollision, IsItemRule}
 use Rattle.jc_sides.specs.SidesOf.{SidesOf}
 use Rattle.jc_sides.proofs.BrokenActs.{collided_where}
-use Rattle.jc_sides.proofs.ItemRules.{made_where, collision_rule}
+use Rattle.jc_sides.proofs.ItemRules.{made_where}
 use Rattle.jc_sides.proofs.NamedAbove.{interface_unkept}
 use Rattle.jc_table.specs.Lookups.{IsAnswer}
 use Rattle.jc_index.specs.declared.ids.Found.{Found}
+use Rattle.jc_acts.proofs.Untouched.{looks_alike}
+use Rattle.jc_rules.proofs.ChangedClasses.{collision_of_changed}
+use Rattle.jc_rules.specs.steps.Changed.{changed_interface}
+use Rattle.jc_sides.proofs.BaseParts.{base_interface_parts}
 
 -- the table's lookup finds something where the world's does
 answer_there : (W : World) (f : Option Found) (m : Option DeclaredMember) → IsAnswer W f m → is_some f ≡ is_some m
@@ -86,12 +90,13 @@ pub of_fields : (s : SidesOf) (x : Bytes) → OfPassing (key_collision 10 s x) (
 of_fields s x k c e = (constant_parts s x k c e).found
 
 -- nothing is added where all lookups are as they were
-pub of_none : (s : SidesOf) (x : Bytes) → LooksTheSame s.old s.new x → OfPassing (key_collision 10 s x) (is_member members.Nothing s x)
+of_none : (s : SidesOf) (x : Bytes) → LooksTheSame s.old s.new x → OfPassing (key_collision 10 s x) (λ k. false)
 of_none s x same k c e = let p = constant_parts s x k c e in absurd (go (field_found s.new x k) (ap is_none (sym (same.field k)) ∙ p.unknown) p.found)
   where
     go : (o : Option DeclaredMember) → is_none o ≡ true → is_some o ≡ true → ⊥
     go None n h = let clash : false ≡ true = h in cc
     go (Some m) n h = let clash : false ≡ true = n in cc
 
-pub is_rule : IsItemRule collision_order (λ (c : Collision). c.«class») (key_collision 10) (IsCollision 10) (λ s x. is_base_interface s.old s.new x)
-is_rule = collision_rule 10 (λ s x. is_base_interface s.old s.new x) interface_unkept (λ s x k c e. (constant_parts s x k c e).base)
+pub is_rule : IsItemRule collision_order (λ (c : Collision). c.«class») (key_collision 10) (IsCollision 10) changed_interface
+is_rule = collision_of_changed (λ s x. is_base_interface s.old s.new x) interface_unkept 10 (λ s x k c e. (constant_parts s x k c e).base)
+    (λ s are x is free. of_none s x (looks_alike s are x free (base_interface_parts s x is).both.loads_now))

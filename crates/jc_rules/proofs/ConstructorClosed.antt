@@ -33,9 +33,11 @@ use Rattle.jc_sides.proofs.BaseParts.{steady_parts}
 use Rattle.jc_sides.proofs.BrokenActs.{found_where}
 use Rattle.jc_sides.proofs.KeySets.{some_member}
 use Rattle.jc_sides.specs.SidesOf.{SidesOf}
-use Rattle.jc_sides.proofs.ItemRules.{finding_rule}
 use Rattle.jc_sides.proofs.NamedAbove.{class_unsteady, steady_unkept}
 use Rattle.jc_sides.proofs.Subjects.{IsOnKey}
+use Rattle.jc_acts.proofs.Untouched.{one_record}
+use Rattle.jc_rules.proofs.ChangedClasses.{holds_where, finding_of_changed}
+use Rattle.jc_rules.specs.steps.Changed.{changed_steady}
 
 abbrev on_5 : IsOnKey 5
 on_5 = record { not_1 = refl; not_2 = refl; not_3 = refl; not_4 = refl }
@@ -178,7 +180,7 @@ none_of_super b k was = go b (declares_init (λ f. open_flags f) k was) refl
     go false d e = refl
 
 -- a class that has one record on both sides has no finding
-pub of_none : (s : SidesOf) (x : Bytes) → is_steady s.old s.new x ≡ true → find_class s.old x ≡ find_class s.new x → OfPassing (key_finding 5 s x) (is_member members.Nothing s x)
+of_none : (s : SidesOf) (x : Bytes) → is_steady s.old s.new x ≡ true → find_class s.old x ≡ find_class s.new x → OfPassing (key_finding 5 s x) (λ k. false)
 unfolding and_then or_else
 of_none s x steady same k f m =
     let t = loads-found s.old x (steady_parts s x steady).both.loads in
@@ -189,12 +191,6 @@ not_found : (s : SidesOf) (x : Bytes) (k : Key) → is_steady s.old s.new x ≡ 
 unfolding and_then or_else
 not_found s x k h = init_is s x k ∙ rw (h, class_unsteady s x h) refl
 
-steady_where : (s : SidesOf) (x : Bytes) (k : Key) (f : Finding) → key_finding 5 s x k ≡ Some f → is_steady s.old s.new x ≡ true
-steady_where s x k f h = go (is_steady s.old s.new x) refl
-  where
-    go : (b : Bool) → is_steady s.old s.new x ≡ b → b ≡ true
-    go true e = refl
-    go false e = absurd (let z : None ≡ Some f = sym (not_found s x k e) ∙ h in cc)
-
-pub is_rule : IsItemRule finding_order (λ (f : Finding). f.«class») (key_finding 5) (IsFinding 5) (λ s x. is_steady s.old s.new x)
-is_rule = finding_rule 5 on_5 (λ s x. is_steady s.old s.new x) steady_unkept steady_where
+pub is_rule : IsItemRule finding_order (λ (f : Finding). f.«class») (key_finding 5) (IsFinding 5) changed_steady
+is_rule = finding_of_changed (λ s x. is_steady s.old s.new x) steady_unkept 5 on_5 (λ s x k f h. holds_where (is_steady s.old s.new x) (key_finding 5 s x k) f (not_found s x k) h)
+    (λ s are x is free. of_none s x is (one_record s are x free))

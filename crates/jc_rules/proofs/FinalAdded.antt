@@ -20,8 +20,12 @@ use Rattle.jc_sides.specs.declared.members.Members.TheVariants as members
 use Rattle.jc_sides.specs.Rules.{key_collision, IsCollision, IsItemRule}
 use Rattle.jc_sides.specs.SidesOf.{SidesOf}
 use Rattle.jc_sides.proofs.BrokenActs.{collided_where}
-use Rattle.jc_sides.proofs.ItemRules.{made_where, collision_rule}
+use Rattle.jc_sides.proofs.ItemRules.{made_where}
 use Rattle.jc_sides.proofs.NamedAbove.{class_unkept}
+use Rattle.jc_acts.proofs.Untouched.{looks_alike}
+use Rattle.jc_rules.proofs.ChangedClasses.{collision_of_changed}
+use Rattle.jc_rules.specs.steps.Changed.{changed_class}
+use Rattle.jc_sides.proofs.BaseParts.{base_class_parts}
 
 met_is : (s : SidesOf) (x : Bytes) (k : Key) → key_collision 12 s x k ≡ some_where (final_added s.old s.new x k) (made_collision 12 x k Override IncompatibleClassChangeError)
 unfolding collision_at
@@ -60,11 +64,12 @@ pub of_finals : (s : SidesOf) (x : Bytes) → OfPassing (key_collision 12 s x) (
 of_finals s x k c m = third_of_five (is_key_of_method k) (is_base_class s.old s.new x) (is_final_in_chain s.new x k) (not (is_final_in_chain s.old x k)) (not (finds_overridable s.old x k)) (met_where s x k c m)
 
 -- no key is where all lookups are as they were
-pub of_none : (s : SidesOf) (x : Bytes) → LooksTheSame s.old s.new x → OfPassing (key_collision 12 s x) (is_member members.Nothing s x)
+of_none : (s : SidesOf) (x : Bytes) → LooksTheSame s.old s.new x → OfPassing (key_collision 12 s x) (λ k. false)
 of_none s x same k c m = absurd (not_newly s x k same (is_key_of_method k) (is_base_class s.old s.new x) (not (finds_overridable s.old x k)) (met_where s x k c m))
 
 met_base : (s : SidesOf) (x : Bytes) (k : Key) (c : Collision) → key_collision 12 s x k ≡ Some c → is_base_class s.old s.new x ≡ true
 met_base s x k c h = second_of_five (is_key_of_method k) (is_base_class s.old s.new x) (is_final_in_chain s.new x k) (not (is_final_in_chain s.old x k)) (not (finds_overridable s.old x k)) (met_where s x k c h)
 
-pub is_rule : IsItemRule collision_order (λ (c : Collision). c.«class») (key_collision 12) (IsCollision 12) (λ s x. is_base_class s.old s.new x)
-is_rule = collision_rule 12 (λ s x. is_base_class s.old s.new x) class_unkept met_base
+pub is_rule : IsItemRule collision_order (λ (c : Collision). c.«class») (key_collision 12) (IsCollision 12) changed_class
+is_rule = collision_of_changed (λ s x. is_base_class s.old s.new x) class_unkept 12 met_base
+    (λ s are x is free. of_none s x (looks_alike s are x free (base_class_parts s x is).both.loads_now))

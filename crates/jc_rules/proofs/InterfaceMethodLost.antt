@@ -38,12 +38,14 @@ use Rattle.jc_sides.specs.Rules.{on_key, key_finding, IsFinding, IsItemRule}
 use Rattle.jc_sides.proofs.BrokenActs.{found_where}
 use Rattle.jc_sides.specs.SidesOf.{SidesOf, AreSides}
 use Rattle.jc_sides.proofs.BaseParts.{base_interface_parts}
-use Rattle.jc_sides.proofs.ItemRules.{finding_rule}
 use Rattle.jc_sides.proofs.NamedAbove.{interface_unkept}
 use Rattle.jc_sides.proofs.Subjects.{IsOnKey}
 use Rattle.jc_table.specs.Ids.{name_at, id_of}
 use Rattle.jc_table.proofs.Numbers.{find-None, id_of-Some}
 use Rattle.jc_table.proofs.Sides.{root_at}
+use Rattle.jc_acts.proofs.Untouched.{looks_alike}
+use Rattle.jc_rules.proofs.ChangedClasses.{finding_of_changed}
+use Rattle.jc_rules.specs.steps.Changed.{changed_interface}
 
 -- the test of the rule
 abbrev is_lost : SidesOf → Bytes → Key → Bool
@@ -234,7 +236,7 @@ pub of_methods : (s : SidesOf) (x : Bytes) → is_base_interface s.old s.new x �
 of_methods s x base k f e = inherits_is_found s.old k x (base_interface_parts s x base).interface (lost_parts s x k f e).inherited
 
 -- nothing is lost where all lookups are as they were
-pub of_none : (s : SidesOf) (x : Bytes) → is_base_interface s.old s.new x ≡ true → LooksTheSame s.old s.new x → OfPassing (key_finding 9 s x) (is_member members.Nothing s x)
+of_none : (s : SidesOf) (x : Bytes) → is_base_interface s.old s.new x ≡ true → LooksTheSame s.old s.new x → OfPassing (key_finding 9 s x) (λ k. false)
 unfolding inherits
 of_none s x base same k f e =
     let both = (base_interface_parts s x base).both in
@@ -251,5 +253,6 @@ of_none s x base same k f e =
 abbrev on_9 : IsOnKey 9
 on_9 = record { not_1 = refl; not_2 = refl; not_3 = refl; not_4 = refl }
 
-pub is_rule : IsItemRule finding_order (λ (f : Finding). f.«class») (key_finding 9) (IsFinding 9) (λ s x. is_base_interface s.old s.new x)
-is_rule = finding_rule 9 on_9 (λ s x. is_base_interface s.old s.new x) interface_unkept (λ s x k f e. (lost_parts s x k f e).base)
+pub is_rule : IsItemRule finding_order (λ (f : Finding). f.«class») (key_finding 9) (IsFinding 9) changed_interface
+is_rule = finding_of_changed (λ s x. is_base_interface s.old s.new x) interface_unkept 9 on_9 (λ s x k f e. (lost_parts s x k f e).base)
+    (λ s are x is free. of_none s x is (looks_alike s are x free (base_interface_parts s x is).both.loads_now))

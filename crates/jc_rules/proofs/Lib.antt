@@ -1,3 +1,4 @@
+mod ChangedClasses
 mod OwnFlags
 mod FinalMethods
 mod ClassGone

@@ -16,10 +16,12 @@ use Rattle.jc_sides.specs.Members.{is_member, OfPassing}
 use Rattle.jc_sides.specs.declared.members.Members.TheVariants as members
 use Rattle.jc_sides.specs.Rules.{on_key, key_finding, IsFinding, IsItemRule}
 use Rattle.jc_sides.specs.SidesOf.{SidesOf}
-use Rattle.jc_sides.proofs.ItemRules.{finding_rule}
 use Rattle.jc_sides.proofs.NamedAbove.{steady_unkept}
 use Rattle.jc_sides.proofs.Subjects.{IsOnKey}
 use Rattle.jc_rules.proofs.ClosedActs.{NoField, found_open, looked_found}
+use Rattle.jc_acts.proofs.Untouched.{none_closed}
+use Rattle.jc_rules.proofs.ChangedClasses.{holds_where, finding_of_changed}
+use Rattle.jc_rules.specs.steps.Changed.{changed_steady}
 
 closed_is : (s : SidesOf) (x : Bytes) (k : Key) → is_key_of_method k ≡ true → is_steady s.old s.new x ≡ true → key_finding 8 s x k ≡ first_act s.old s.new (on_key 8 x k) k method_acts
 unfolding key_finding finding_at method_closed
@@ -41,7 +43,7 @@ method_where s x k f h = go (is_key_of_method k) refl
     go false e = absurd (let z : None ≡ Some f = initializer s x k e ∙ h in cc)
 
 -- a class that has none closed has no finding
-pub of_none : (s : SidesOf) (x : Bytes) → is_steady s.old s.new x ≡ true → HasNoneClosed s x → OfPassing (key_finding 8 s x) (is_member members.Nothing s x)
+of_none : (s : SidesOf) (x : Bytes) → is_steady s.old s.new x ≡ true → HasNoneClosed s x → OfPassing (key_finding 8 s x) (λ k. false)
 of_none s x steady never k f m = absurd (let z : None ≡ Some f = sym (closed_is s x k (method_where s x k f m) steady ∙ never k method_acts (on_key 8 x k) refl) ∙ m in cc)
 
 -- a reference to the class found a method of the key
@@ -62,15 +64,9 @@ not_found s x k h = rw h (go (is_key_of_method k))
     go true = refl
     go false = refl
 
-steady_where : (s : SidesOf) (x : Bytes) (k : Key) (f : Finding) → key_finding 8 s x k ≡ Some f → is_steady s.old s.new x ≡ true
-steady_where s x k f h = go (is_steady s.old s.new x) refl
-  where
-    go : (b : Bool) → is_steady s.old s.new x ≡ b → b ≡ true
-    go true e = refl
-    go false e = absurd (let z : None ≡ Some f = sym (not_found s x k e) ∙ h in cc)
-
 abbrev on_8 : IsOnKey 8
 on_8 = record { not_1 = refl; not_2 = refl; not_3 = refl; not_4 = refl }
 
-pub is_rule : IsItemRule finding_order (λ (f : Finding). f.«class») (key_finding 8) (IsFinding 8) (λ s x. is_steady s.old s.new x)
-is_rule = finding_rule 8 on_8 (λ s x. is_steady s.old s.new x) steady_unkept steady_where
+pub is_rule : IsItemRule finding_order (λ (f : Finding). f.«class») (key_finding 8) (IsFinding 8) changed_steady
+is_rule = finding_of_changed (λ s x. is_steady s.old s.new x) steady_unkept 8 on_8 (λ s x k f h. holds_where (is_steady s.old s.new x) (key_finding 8 s x k) f (not_found s x k) h)
+    (λ s are x is free. of_none s x is (none_closed s are x free is))

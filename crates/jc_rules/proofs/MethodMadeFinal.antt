@@ -20,9 +20,12 @@ use Rattle.jc_sides.specs.declared.members.Members.TheVariants as members
 use Rattle.jc_sides.specs.Rules.{on_key, key_finding, IsFinding, IsItemRule}
 use Rattle.jc_sides.specs.SidesOf.{SidesOf}
 use Rattle.jc_sides.proofs.BrokenActs.{found_where}
-use Rattle.jc_sides.proofs.ItemRules.{finding_rule}
 use Rattle.jc_sides.proofs.NamedAbove.{class_unkept}
 use Rattle.jc_sides.proofs.Subjects.{IsOnKey}
+use Rattle.jc_acts.proofs.Untouched.{looks_alike}
+use Rattle.jc_rules.proofs.ChangedClasses.{finding_of_changed}
+use Rattle.jc_rules.specs.steps.Changed.{changed_class}
+use Rattle.jc_sides.proofs.BaseParts.{base_class_parts}
 
 -- the test of the rule
 abbrev is_lost : SidesOf → Bytes → Key → Bool
@@ -63,7 +66,7 @@ pub of_finals : (s : SidesOf) (x : Bytes) → OfPassing (key_finding 6 s x) (is_
 of_finals s x k f m = third_of_five (is_key_of_method k) (is_base_class s.old s.new x) (is_final_in_chain s.new x k) (not (is_final_in_chain s.old x k)) (finds_overridable s.old x k) (lost_where s x k f m)
 
 -- no key is where all lookups are as they were
-pub of_none : (s : SidesOf) (x : Bytes) → LooksTheSame s.old s.new x → OfPassing (key_finding 6 s x) (is_member members.Nothing s x)
+of_none : (s : SidesOf) (x : Bytes) → LooksTheSame s.old s.new x → OfPassing (key_finding 6 s x) (λ k. false)
 of_none s x same k f m = absurd (not_newly s x k same (is_key_of_method k) (is_base_class s.old s.new x) (finds_overridable s.old x k) (lost_where s x k f m))
 
 abbrev on_6 : IsOnKey 6
@@ -72,5 +75,6 @@ on_6 = record { not_1 = refl; not_2 = refl; not_3 = refl; not_4 = refl }
 lost_base : (s : SidesOf) (x : Bytes) (k : Key) (f : Finding) → key_finding 6 s x k ≡ Some f → is_base_class s.old s.new x ≡ true
 lost_base s x k f h = second_of_five (is_key_of_method k) (is_base_class s.old s.new x) (is_final_in_chain s.new x k) (not (is_final_in_chain s.old x k)) (finds_overridable s.old x k) (lost_where s x k f h)
 
-pub is_rule : IsItemRule finding_order (λ (f : Finding). f.«class») (key_finding 6) (IsFinding 6) (λ s x. is_base_class s.old s.new x)
-is_rule = finding_rule 6 on_6 (λ s x. is_base_class s.old s.new x) class_unkept lost_base
+pub is_rule : IsItemRule finding_order (λ (f : Finding). f.«class») (key_finding 6) (IsFinding 6) changed_class
+is_rule = finding_of_changed (λ s x. is_base_class s.old s.new x) class_unkept 6 on_6 lost_base
+    (λ s are x is free. of_none s x (looks_alike s are x free (base_class_parts s x is).both.loads_now))

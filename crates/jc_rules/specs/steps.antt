@@ -1,5 +1,6 @@
 -- Words of the clauses of private functions.
 pub mod Chains
+pub mod Changed
 pub mod Classes
 pub mod Constructors
 pub mod Losses

@@ -1,26 +1,25 @@
 //! The collision of methods that are found before those of a client's interfaces.
 ghost use Rattle.std.specs.Prelude.{◌≡◌, ◌&&◌, not, cond, IsTrue};
-ghost use Rattle.jc_acts.specs.Seats.{AreSeats};
 ghost use Rattle.jc_facts.specs.declared.link_error.LinkError.TheVariants.{IllegalAccessError, IncompatibleClassChangeError};
 ghost use Rattle.jc_facts.specs.declared.rule_numbers.TheConstants.{CAPTURE_ADDED};
 ghost use Rattle.jc_facts.specs.rule.Collisions.{are_none, leaves_room};
 ghost use Rattle.jc_facts.specs.Flags.{public_flag, no_static_flag};
 ghost use Rattle.jc_facts.specs.world.Lookup.{method_choices};
 ghost use Rattle.jc_facts.specs.rule.Bases.{is_base_class, is_key_of_method};
+ghost use Rattle.jc_rules.specs.steps.Changed.{changed_class};
 ghost use Rattle.jc_sides.specs.Numbering.{AreNumbers};
 ghost use Rattle.jc_sides.specs.SharedOf.{IsShared, name_of};
 
-use jc_acts::seats::Seats;
 use jc_desc::method::slots;
 use jc_desc::names::is_initializer;
 use jc_facts::act::Act;
 use jc_facts::flags::{is_public, is_static};
 use jc_facts::key::Key;
 use jc_facts::link_error::LinkError;
-use jc_facts::rule_numbers::CAPTURE_ADDED;
+use jc_facts::verdict::Collision;
 use jc_method::find::find_method_by_number;
 use jc_sides::broken::{BrokenAct, broken_where};
-use jc_sides::collision_rule::CollisionRule;
+use jc_sides::item_rule::ItemRule;
 use jc_sides::key_numbers::KeyNumbers;
 use jc_sides::members::Members;
 use jc_sides::shared::Shared;
@@ -80,29 +79,17 @@ fn is_captured(
 /// Methods that base classes have now, where none of their key was found, and that are no public
 /// instance methods (JVMS 5.4.3.3): where a reference to a client class below found a method of an
 /// interface, it finds the base class's first, and fails.
-#[derive(Drop)]
-pub struct CaptureAdded<'a, 'b> {
-    /// The seats of clients.
-    pub seats: &'b Seats<'a>,
-}
+pub struct CaptureAdded;
 
-impl<'a, 'b> CollisionRule for CaptureAdded<'a, 'b> {
+impl ItemRule for CaptureAdded {
+    type Item = Collision;
+
     ghost rule = { CAPTURE_ADDED };
 
-    ghost covers = { λ s x. is_base_class s.old s.new x };
+    ghost covers = { changed_class };
 
-    ghost ready = { λ r s. AreSeats s r.seats.now };
-
-    fn number(&self) -> u8 {
-        CAPTURE_ADDED
-    }
-
-    fn members(&self, sides: &Sides<'_>, class: &Shared<'_>) -> Members {
-        if self.seats.may_close(sides, class) {
-            Members::NewMethods
-        } else {
-            Members::Nothing
-        }
+    fn members(&self) -> Members {
+        Members::NewMethods
     }
 
     fn on_key(

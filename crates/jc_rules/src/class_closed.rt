@@ -8,7 +8,6 @@ use jc_facts::act::Act;
 use jc_facts::class_facts::ClassFacts;
 use jc_facts::flags::is_interface;
 use jc_facts::link_error::LinkError;
-use jc_facts::rule_numbers::CLASS_CLOSED;
 use jc_sides::broken::{BrokenAct, broken_where};
 use jc_sides::class_rule::ClassRule;
 use jc_sides::clients::is_closed;
@@ -36,13 +35,7 @@ pub struct ClassClosed;
 impl ClassRule for ClassClosed {
     ghost rule = { CLASS_CLOSED };
 
-    ghost ready = { λ r s. Unit {0} };
-
     ghost alone = { record { not_4 = refl; not_5 = refl; not_6 = refl; not_7 = refl; not_8 = refl; not_9 = refl } };
-
-    fn number(&self) -> u8 {
-        CLASS_CLOSED
-    }
 
     fn on_class(
         &self,

@@ -7,7 +7,6 @@ ghost use Rattle.jc_rules.specs.steps.Classes.{why_unusable};
 
 use jc_facts::act::Act;
 use jc_facts::link_error::LinkError;
-use jc_facts::rule_numbers::CLASS_GONE;
 use jc_sides::broken::{BrokenAct, broken_where};
 use jc_sides::class_rule::ClassRule;
 use jc_sides::kept::is_usable;
@@ -40,13 +39,7 @@ pub struct ClassGone;
 impl ClassRule for ClassGone {
     ghost rule = { CLASS_GONE };
 
-    ghost ready = { λ r s. Unit {0} };
-
     ghost alone = { record { not_4 = refl; not_5 = refl; not_6 = refl; not_7 = refl; not_8 = refl; not_9 = refl } };
-
-    fn number(&self) -> u8 {
-        CLASS_GONE
-    }
 
     fn on_class(
         &self,

@@ -8,17 +8,17 @@ ghost use Rattle.jc_facts.specs.rule.Orders.{finding_order, collision_order, not
 ghost use Rattle.jc_facts.specs.Exactly.{HasExactly};
 ghost use Rattle.jc_facts.specs.world.Pairs.{AreOfOneRun};
 ghost use Rattle.jc_facts.specs.rule.Verdict.{IsVerdict};
-ghost use Rattle.jc_facts.specs.rule.Bases.{is_steady, is_base_interface};
 ghost use Rattle.jc_rules.specs.Verdicts.{IsVerdictWithin, KeepsAll, BreaksEach};
-ghost use Rattle.jc_rules.specs.steps.Classes.{OfRules};
+ghost use Rattle.jc_rules.specs.steps.Changed.{AreChanged};
 ghost use Rattle.jc_rules.specs.steps.Losses.{AreLosses};
 ghost use Rattle.jc_rules.specs.steps.Within.{IsLimited};
 ghost use Rattle.jc_sides.specs.Limit.{IsWithin};
 ghost use Rattle.jc_sides.specs.Numbering.{IsTranslation};
-ghost use Rattle.jc_sides.specs.SharedOf.{AreThose};
+ghost use Rattle.jc_sides.specs.Rules.{IsCollision, IsFinding};
 ghost use Rattle.jc_sides.specs.SidesOf.{AreSides};
 
 use crate::capture_added::CaptureAdded;
+use crate::changed::Changed;
 use crate::class_closed::ClassClosed;
 use crate::class_gone::ClassGone;
 use crate::constant_added::ConstantAdded;
@@ -36,128 +36,86 @@ use crate::superclass_lost::superclass_lost;
 use jc_acts::seats::Seats;
 use jc_base::items::Items;
 use jc_facts::finding::Finding;
+use jc_facts::rule_numbers::{
+    CAPTURE_ADDED, CLASS_CLOSED, CLASS_GONE, CONSTANT_ADDED, CONSTRUCTOR_CLOSED, FIELD_CLOSED,
+    FINAL_ADDED, INTERFACE_BECAME_CLASS, INTERFACE_METHOD_LOST, METHOD_CLOSED, METHOD_MADE_FINAL,
+    SUPERCLASS_LOST,
+};
 use jc_facts::verdict::{Collision, Note, Verdict};
 use jc_sides::class_rule::by_class;
-use jc_sides::classes::{base_classes, base_interfaces, names_of, steady_classes};
-use jc_sides::collision_rule::Collisions;
-use jc_sides::finding_rule::Findings;
+use jc_sides::classes::{base_classes, names_of};
 use jc_sides::item_rule::by_items;
 use jc_sides::limit::left;
-use jc_sides::shared::Shared;
 use jc_sides::sides::Sides;
 use jc_sides::translation::Translation;
 use jc_table::table::Table;
 use std::alloc::{AllocError, Global};
 
-// The findings on classes and their hierarchies, rule by rule; None where there are more than the
-// limit allows.
-fn findings_on_classes(
+// What the rule of this number finds; None where that is more than the limit allows.
+fn found_by(
     alloc: Global,
     sides: &Sides<'_>,
+    translation: &Translation,
     seats: &Seats<'_>,
     losses: &Losses,
+    changed: &Changed<'_>,
+    rule: u8,
     most: Option<usize>,
 ) -> Result<Option<Vec<Finding>>, AllocError>
     requires seats { AreSeats sides.now seats.now }
     requires losses { AreLosses sides.now losses.now }
-    ensures { IfOk result (λ found. IsWithin finding_order (OfRules 1 5 sides.now) most (option_map (λ fs. fs.items) found)) }
-{
-    let Some(mut findings) = by_class(alloc, sides, &ClassGone, most)? else {
-        return Ok(None);
-    };
-    let room = left(most, findings.len());
-    let Some(mut closed) = by_class(alloc, sides, &ClassClosed, room)? else {
-        return Ok(None);
-    };
-    findings.append(&mut closed)?;
-    let room = left(most, findings.len());
-    let rule = InterfaceBecameClass { seats, losses };
-    let Some(mut became_class) = by_class(alloc, sides, &rule, room)? else {
-        return Ok(None);
-    };
-    findings.append(&mut became_class)?;
-    let room = left(most, findings.len());
-    let Some(mut superclasses) = superclass_lost(alloc, sides, seats, losses, room)? else {
-        return Ok(None);
-    };
-    findings.append(&mut superclasses)?;
-    Ok(Some(findings))
-}
-
-// The findings on constructors and on methods that can't be overridden any more, rule by rule; None
-// where there are more than the limit allows.
-fn findings_below(
-    alloc: Global,
-    sides: &Sides<'_>,
-    translation: &Translation,
-    seats: &Seats<'_>,
-    steady: &[Shared<'_>],
-    most: Option<usize>,
-) -> Result<Option<Vec<Finding>>, AllocError>
-    requires seats { AreSeats sides.now seats.now }
-    requires steady { AreThose (is_steady sides.now.old sides.now.new) sides.now steady.now }
+    requires changed { AreChanged sides.now changed.now }
     requires translation { IsTranslation sides.now translation.now }
-    ensures { IfOk result (λ found. IsWithin finding_order (OfRules 5 7 sides.now) most (option_map (λ fs. fs.items) found)) }
+    ensures { IfOk result (λ found. IsWithin finding_order (IsFinding rule sides.now) most (option_map (λ fs. fs.items) found)) }
 {
-    let bases = names_of(alloc, seats.bases())?;
-    let constructors = Findings {
-        rule: ConstructorClosed { seats, bases },
-    };
-    let made_final = Findings {
-        rule: MethodMadeFinal { seats },
-    };
-    let Some(mut findings) = by_items(alloc, &constructors, sides, translation, steady, most)?
-    else {
-        return Ok(None);
-    };
-    let room = left(most, findings.len());
-    let Some(mut finals) = by_items(alloc, &made_final, sides, translation, seats.bases(), room)?
-    else {
-        return Ok(None);
-    };
-    findings.append(&mut finals)?;
-    Ok(Some(findings))
-}
-
-// The findings on members that are used, rule by rule; None where there are more than the limit allows.
-fn findings_on_uses(
-    alloc: Global,
-    sides: &Sides<'_>,
-    translation: &Translation,
-    seats: &Seats<'_>,
-    steady: &[Shared<'_>],
-    interfaces: &[Shared<'_>],
-    most: Option<usize>,
-) -> Result<Option<Vec<Finding>>, AllocError>
-    requires seats { AreSeats sides.now seats.now }
-    requires steady { AreThose (is_steady sides.now.old sides.now.new) sides.now steady.now }
-    requires interfaces { AreThose (is_base_interface sides.now.old sides.now.new) sides.now interfaces.now }
-    requires translation { IsTranslation sides.now translation.now }
-    ensures { IfOk result (λ found. IsWithin finding_order (OfRules 7 10 sides.now) most (option_map (λ fs. fs.items) found)) }
-{
-    let fields = Findings {
-        rule: FieldClosed { seats },
-    };
-    let methods = Findings {
-        rule: MethodClosed { seats },
-    };
-    let inherited = Findings {
-        rule: InterfaceMethodLost { seats },
-    };
-    let Some(mut findings) = by_items(alloc, &fields, sides, translation, steady, most)? else {
-        return Ok(None);
-    };
-    let room = left(most, findings.len());
-    let Some(mut closed) = by_items(alloc, &methods, sides, translation, steady, room)? else {
-        return Ok(None);
-    };
-    findings.append(&mut closed)?;
-    let room = left(most, findings.len());
-    let Some(mut lost) = by_items(alloc, &inherited, sides, translation, interfaces, room)? else {
-        return Ok(None);
-    };
-    findings.append(&mut lost)?;
-    Ok(Some(findings))
+    let steady = changed.steady.as_slice();
+    let classes = changed.classes.as_slice();
+    let interfaces = changed.interfaces.as_slice();
+    match rule {
+        CLASS_GONE => by_class(alloc, rule, &ClassGone, sides, most),
+        CLASS_CLOSED => by_class(alloc, rule, &ClassClosed, sides, most),
+        INTERFACE_BECAME_CLASS => {
+            let became_class = InterfaceBecameClass { seats, losses };
+            by_class(alloc, rule, &became_class, sides, most)
+        }
+        SUPERCLASS_LOST => superclass_lost(alloc, sides, seats, losses, most),
+        CONSTRUCTOR_CLOSED => {
+            let bases = names_of(alloc, seats.bases())?;
+            let constructors = ConstructorClosed { bases };
+            by_items(alloc, rule, &constructors, sides, translation, steady, most)
+        }
+        METHOD_MADE_FINAL => {
+            by_items(
+                alloc,
+                rule,
+                &MethodMadeFinal,
+                sides,
+                translation,
+                classes,
+                most,
+            )
+        }
+        FIELD_CLOSED => {
+            let fields = FieldClosed { seats };
+            by_items(alloc, rule, &fields, sides, translation, steady, most)
+        }
+        METHOD_CLOSED => {
+            let methods = MethodClosed { seats };
+            by_items(alloc, rule, &methods, sides, translation, steady, most)
+        }
+        INTERFACE_METHOD_LOST => {
+            by_items(
+                alloc,
+                rule,
+                &InterfaceMethodLost,
+                sides,
+                translation,
+                interfaces,
+                most,
+            )
+        }
+        _ => Ok(Some(Vec::new(alloc))),
+    }
 }
 
 // All findings, rule by rule; None where there are more than the limit allows.
@@ -167,40 +125,75 @@ fn findings(
     translation: &Translation,
     seats: &Seats<'_>,
     losses: &Losses,
-    steady: &[Shared<'_>],
-    interfaces: &[Shared<'_>],
+    changed: &Changed<'_>,
     most: Option<usize>,
 ) -> Result<Option<Vec<Finding>>, AllocError>
     requires seats { AreSeats sides.now seats.now }
     requires losses { AreLosses sides.now losses.now }
-    requires steady { AreThose (is_steady sides.now.old sides.now.new) sides.now steady.now }
-    requires interfaces { AreThose (is_base_interface sides.now.old sides.now.new) sides.now interfaces.now }
+    requires changed { AreChanged sides.now changed.now }
     requires translation { IsTranslation sides.now translation.now }
     ensures { IfOk result (λ found. IsWithin finding_order (Stands sides.now.old sides.now.new) most (option_map (λ fs. fs.items) found)) }
 {
-    let Some(mut findings) = findings_on_classes(alloc, sides, seats, losses, most)? else {
-        return Ok(None);
-    };
-    let room = left(most, findings.len());
-    let Some(mut below) = findings_below(alloc, sides, translation, seats, steady, room)? else {
-        return Ok(None);
-    };
-    findings.append(&mut below)?;
-    let room = left(most, findings.len());
-    let Some(mut uses) = findings_on_uses(
-        alloc,
-        sides,
-        translation,
-        seats,
-        steady,
-        interfaces,
-        room,
-    )?
-    else {
-        return Ok(None);
-    };
-    findings.append(&mut uses)?;
+    let mut findings = Vec::new(alloc);
+    for rule in CLASS_GONE..INTERFACE_METHOD_LOST + 1 {
+        let room = left(most, findings.len());
+        let found = found_by(
+            alloc,
+            sides,
+            translation,
+            seats,
+            losses,
+            changed,
+            rule,
+            room,
+        )?;
+        let Some(mut more) = found else {
+            return Ok(None);
+        };
+        findings.append(&mut more)?;
+    }
     Ok(Some(findings))
+}
+
+// The collisions that the rule of this number makes; None where they are more than the limit allows.
+fn made_by(
+    alloc: Global,
+    sides: &Sides<'_>,
+    translation: &Translation,
+    changed: &Changed<'_>,
+    rule: u8,
+    most: Option<usize>,
+) -> Result<Option<Vec<Collision>>, AllocError>
+    requires changed { AreChanged sides.now changed.now }
+    requires translation { IsTranslation sides.now translation.now }
+    ensures { IfOk result (λ made. IsWithin collision_order (IsCollision rule sides.now) most (option_map (λ cs. cs.items) made)) }
+{
+    let classes = changed.classes.as_slice();
+    let interfaces = changed.interfaces.as_slice();
+    match rule {
+        CONSTANT_ADDED => {
+            by_items(
+                alloc,
+                rule,
+                &ConstantAdded,
+                sides,
+                translation,
+                interfaces,
+                most,
+            )
+        }
+        CAPTURE_ADDED => by_items(
+            alloc,
+            rule,
+            &CaptureAdded,
+            sides,
+            translation,
+            classes,
+            most,
+        ),
+        FINAL_ADDED => by_items(alloc, rule, &FinalAdded, sides, translation, classes, most),
+        _ => Ok(Some(Vec::new(alloc))),
+    }
 }
 
 // All collisions, rule by rule; None where there are more than the limit allows.
@@ -208,39 +201,22 @@ fn collisions(
     alloc: Global,
     sides: &Sides<'_>,
     translation: &Translation,
-    seats: &Seats<'_>,
-    interfaces: &[Shared<'_>],
+    changed: &Changed<'_>,
     most: Option<usize>,
 ) -> Result<Option<Vec<Collision>>, AllocError>
-    requires seats { AreSeats sides.now seats.now }
-    requires interfaces { AreThose (is_base_interface sides.now.old sides.now.new) sides.now interfaces.now }
+    requires changed { AreChanged sides.now changed.now }
     requires translation { IsTranslation sides.now translation.now }
     ensures { IfOk result (λ made. IsWithin collision_order (CollisionStands sides.now.old sides.now.new) most (option_map (λ cs. cs.items) made)) }
 {
-    let classes = seats.bases();
-    let constants = Collisions {
-        rule: ConstantAdded { seats },
-    };
-    let captures = Collisions {
-        rule: CaptureAdded { seats },
-    };
-    let finals = Collisions {
-        rule: FinalAdded { seats },
-    };
-    let Some(mut collisions) = by_items(alloc, &constants, sides, translation, interfaces, most)?
-    else {
-        return Ok(None);
-    };
-    let room = left(most, collisions.len());
-    let Some(mut captured) = by_items(alloc, &captures, sides, translation, classes, room)? else {
-        return Ok(None);
-    };
-    collisions.append(&mut captured)?;
-    let room = left(most, collisions.len());
-    let Some(mut final_now) = by_items(alloc, &finals, sides, translation, classes, room)? else {
-        return Ok(None);
-    };
-    collisions.append(&mut final_now)?;
+    let mut collisions = Vec::new(alloc);
+    for rule in CONSTANT_ADDED..FINAL_ADDED + 1 {
+        let room = left(most, collisions.len());
+        let made = made_by(alloc, sides, translation, changed, rule, room)?;
+        let Some(mut more) = made else {
+            return Ok(None);
+        };
+        collisions.append(&mut more)?;
+    }
     Ok(Some(collisions))
 }
 
@@ -268,31 +244,14 @@ fn limited_over(
     requires losses { AreLosses sides.now losses.now }
     ensures { IfOk result (λ v. IsLimited sides.now most v × AreSides sides.now) }
 {
-    let steady = steady_classes(alloc, sides)?;
-    let interfaces = base_interfaces(alloc, sides)?;
+    let changed = Changed::new(alloc, sides, seats)?;
     let translation = Translation::new(alloc, sides)?;
-    let found = findings(
-        alloc,
-        sides,
-        &translation,
-        seats,
-        losses,
-        steady.as_slice(),
-        interfaces.as_slice(),
-        most,
-    )?;
+    let found = findings(alloc, sides, &translation, seats, losses, &changed, most)?;
     let Some(findings) = found else {
         return Ok(None);
     };
     let room = left(most, findings.len());
-    let made = collisions(
-        alloc,
-        sides,
-        &translation,
-        seats,
-        interfaces.as_slice(),
-        room,
-    )?;
+    let made = collisions(alloc, sides, &translation, &changed, room)?;
     let Some(collisions) = made else {
         return Ok(None);
     };

@@ -1,20 +1,19 @@
 //! The collision of fields that interfaces have now.
 ghost use Rattle.std.specs.Prelude.{◌≡◌, IsTrue};
-ghost use Rattle.jc_acts.specs.Seats.{AreSeats};
 ghost use Rattle.jc_facts.specs.declared.rule_numbers.TheConstants.{CONSTANT_ADDED};
 ghost use Rattle.jc_facts.specs.rule.Bases.{is_base_interface};
 ghost use Rattle.jc_facts.specs.rule.Collisions.{constant_added};
+ghost use Rattle.jc_rules.specs.steps.Changed.{changed_interface};
 ghost use Rattle.jc_sides.specs.Numbering.{AreNumbers};
 ghost use Rattle.jc_sides.specs.SharedOf.{IsShared, name_of};
 
-use jc_acts::seats::Seats;
 use jc_facts::act::Act;
 use jc_facts::key::Key;
 use jc_facts::link_error::LinkError;
-use jc_facts::rule_numbers::CONSTANT_ADDED;
+use jc_facts::verdict::Collision;
 use jc_field::find::find_field_by_number;
 use jc_sides::broken::{BrokenAct, broken_where};
-use jc_sides::collision_rule::CollisionRule;
+use jc_sides::item_rule::ItemRule;
 use jc_sides::key_numbers::KeyNumbers;
 use jc_sides::members::Members;
 use jc_sides::shared::Shared;
@@ -34,29 +33,17 @@ fn is_added(sides: &Sides<'_>, class: &Shared<'_>, key: &Key, numbers: &KeyNumbe
 /// Fields that interfaces have now and hadn't, their own or inherited ones (JVMS 5.4.3.2): a client
 /// class that implements the interface and has such a field in a superclass finds the interface's
 /// instead.
-#[derive(Drop)]
-pub struct ConstantAdded<'a, 'b> {
-    /// The seats of clients.
-    pub seats: &'b Seats<'a>,
-}
+pub struct ConstantAdded;
 
-impl<'a, 'b> CollisionRule for ConstantAdded<'a, 'b> {
+impl ItemRule for ConstantAdded {
+    type Item = Collision;
+
     ghost rule = { CONSTANT_ADDED };
 
-    ghost covers = { λ s x. is_base_interface s.old s.new x };
+    ghost covers = { changed_interface };
 
-    ghost ready = { λ r s. AreSeats s r.seats.now };
-
-    fn number(&self) -> u8 {
-        CONSTANT_ADDED
-    }
-
-    fn members(&self, sides: &Sides<'_>, class: &Shared<'_>) -> Members {
-        if self.seats.may_close(sides, class) {
-            Members::NewFields
-        } else {
-            Members::Nothing
-        }
+    fn members(&self) -> Members {
+        Members::NewFields
     }
 
     fn on_key(

@@ -1,23 +1,22 @@
 //! The rule on constructors: the instance initializers of classes.
 ghost use Rattle.std.specs.Prelude.{◌≡◌};
-ghost use Rattle.jc_acts.specs.Seats.{AreSeats};
 ghost use Rattle.jc_facts.specs.declared.rule_numbers.TheConstants.{CONSTRUCTOR_CLOSED};
 ghost use Rattle.jc_facts.specs.Flags.{public_flag};
-ghost use Rattle.jc_facts.specs.rule.Bases.{is_base_class, is_steady};
+ghost use Rattle.jc_facts.specs.rule.Bases.{is_base_class};
+ghost use Rattle.jc_rules.specs.steps.Changed.{changed_steady};
 ghost use Rattle.jc_rules.specs.steps.Constructors.{makes_no_objects, open_flags, declares_init, fault_of_new, fault_of_super};
 ghost use Rattle.jc_sides.specs.SharedOf.{HasThose};
 
 use crate::own::method_flags;
-use jc_acts::seats::Seats;
 use jc_desc::names::is_init;
 use jc_facts::act::Act;
 use jc_facts::class_facts::ClassFacts;
+use jc_facts::finding::Finding;
 use jc_facts::flags::{is_abstract, is_interface, is_protected, is_public};
 use jc_facts::key::Key;
 use jc_facts::link_error::LinkError;
-use jc_facts::rule_numbers::CONSTRUCTOR_CLOSED;
 use jc_sides::broken::{BrokenAct, broken_where};
-use jc_sides::finding_rule::FindingRule;
+use jc_sides::item_rule::ItemRule;
 use jc_sides::key_numbers::KeyNumbers;
 use jc_sides::members::Members;
 use jc_sides::shared::{Shared, after, before};
@@ -109,30 +108,22 @@ fn super_fault(key: &Key, was: Option<u16>, now: Option<u16>) -> Option<LinkErro
 /// Constructors by which clients could make objects of a class, or which their subclasses could
 /// call, and can't any more (JVMS 5.4.4, 6.5).
 #[derive(Drop)]
-pub struct ConstructorClosed<'a, 'b> {
-    /// The seats of clients. They tell of which classes the records may have changed.
-    pub seats: &'b Seats<'a>,
+pub struct ConstructorClosed {
     /// The names of the base classes. Whether a class is one is asked for each of its constructors.
     pub bases: NameSet,
 }
 
-impl<'a, 'b> FindingRule for ConstructorClosed<'a, 'b> {
+impl ItemRule for ConstructorClosed {
+    type Item = Finding;
+
     ghost rule = { CONSTRUCTOR_CLOSED };
 
-    ghost covers = { λ s x. is_steady s.old s.new x };
+    ghost covers = { changed_steady };
 
-    ghost ready = { λ r s. AreSeats s r.seats.now × HasThose (is_base_class s.old s.new) s r.bases };
+    ghost ready = { λ r s. HasThose (is_base_class s.old s.new) s r.bases };
 
-    fn number(&self) -> u8 {
-        CONSTRUCTOR_CLOSED
-    }
-
-    fn members(&self, sides: &Sides<'_>, class: &Shared<'_>) -> Members {
-        if self.seats.may_close(sides, class) {
-            Members::OldInitializers
-        } else {
-            Members::Nothing
-        }
+    fn members(&self) -> Members {
+        Members::OldInitializers
     }
 
     fn on_key(

@@ -1,15 +1,15 @@
 //! The rule on acts on fields that are closed to some clients.
 ghost use Rattle.jc_acts.specs.Seats.{AreSeats};
 ghost use Rattle.jc_facts.specs.declared.rule_numbers.TheConstants.{FIELD_CLOSED};
-ghost use Rattle.jc_facts.specs.rule.Bases.{is_steady};
+ghost use Rattle.jc_rules.specs.steps.Changed.{changed_steady};
 
 use jc_acts::closed_act::broken;
 use jc_acts::members::field_closed;
 use jc_acts::seats::Seats;
+use jc_facts::finding::Finding;
 use jc_facts::key::Key;
-use jc_facts::rule_numbers::FIELD_CLOSED;
 use jc_sides::broken::BrokenAct;
-use jc_sides::finding_rule::FindingRule;
+use jc_sides::item_rule::ItemRule;
 use jc_sides::key_numbers::KeyNumbers;
 use jc_sides::members::Members;
 use jc_sides::shared::Shared;
@@ -23,23 +23,17 @@ pub struct FieldClosed<'a, 'b> {
     pub seats: &'b Seats<'a>,
 }
 
-impl<'a, 'b> FindingRule for FieldClosed<'a, 'b> {
+impl<'a, 'b> ItemRule for FieldClosed<'a, 'b> {
+    type Item = Finding;
+
     ghost rule = { FIELD_CLOSED };
 
-    ghost covers = { λ s x. is_steady s.old s.new x };
+    ghost covers = { changed_steady };
 
     ghost ready = { λ r s. AreSeats s r.seats.now };
 
-    fn number(&self) -> u8 {
-        FIELD_CLOSED
-    }
-
-    fn members(&self, sides: &Sides<'_>, class: &Shared<'_>) -> Members {
-        if self.seats.may_close(sides, class) {
-            Members::OldFields
-        } else {
-            Members::Nothing
-        }
+    fn members(&self) -> Members {
+        Members::OldFields
     }
 
     fn on_key(

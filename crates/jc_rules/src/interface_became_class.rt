@@ -12,7 +12,6 @@ use jc_acts::seats::Seats;
 use jc_facts::act::Act;
 use jc_facts::flags::is_interface;
 use jc_facts::link_error::LinkError;
-use jc_facts::rule_numbers::INTERFACE_BECAME_CLASS;
 use jc_sides::broken::BrokenAct;
 use jc_sides::class_rule::ClassRule;
 use jc_sides::kept::kept;
@@ -51,10 +50,6 @@ impl<'a, 'b> ClassRule for InterfaceBecameClass<'a, 'b> {
     ghost ready = { λ r s. AreSeats s r.seats.now × AreLosses s r.losses.now };
 
     ghost alone = { record { not_4 = refl; not_5 = refl; not_6 = refl; not_7 = refl; not_8 = refl; not_9 = refl } };
-
-    fn number(&self) -> u8 {
-        INTERFACE_BECAME_CLASS
-    }
 
     fn on_class(
         &self,

@@ -1,6 +1,5 @@
 //! The rule on methods that interfaces don't inherit any more.
 ghost use Rattle.std.specs.Prelude.{◌≡◌, ◌<◌, ◌&&◌, not, None, is_some, IsTrue};
-ghost use Rattle.jc_acts.specs.Seats.{AreSeats};
 ghost use Rattle.jc_facts.specs.declared.rule_numbers.TheConstants.{INTERFACE_METHOD_LOST};
 ghost use Rattle.jc_facts.specs.Flags.{private_flag, no_static_flag};
 ghost use Rattle.jc_facts.specs.world.Assignment.{is_interface_of};
@@ -8,24 +7,24 @@ ghost use Rattle.jc_facts.specs.world.Loading.{load_fault};
 ghost use Rattle.jc_facts.specs.world.Lookup.{public_method_of_object};
 ghost use Rattle.jc_facts.specs.world.World.{size};
 ghost use Rattle.jc_facts.specs.rule.Bases.{is_base_interface, inherits};
+ghost use Rattle.jc_rules.specs.steps.Changed.{changed_interface};
 ghost use Rattle.jc_rules.specs.steps.Methods.{loses, has_lost_method};
 ghost use Rattle.jc_sides.specs.Numbering.{AreNumbers};
 ghost use Rattle.jc_sides.specs.SharedOf.{IsShared, name_of};
 ghost use Rattle.jc_table.specs.Ids.{name_at};
 ghost use Rattle.jc_table.specs.Keys.{numbered_keys, IsNumber};
 
-use jc_acts::seats::Seats;
 use jc_desc::names::is_initializer;
 use jc_facts::act::Act;
+use jc_facts::finding::Finding;
 use jc_facts::flags::{is_private, is_public, is_static};
 use jc_facts::key::Key;
 use jc_facts::key_set::KeyRef;
 use jc_facts::link_error::LinkError;
-use jc_facts::rule_numbers::INTERFACE_METHOD_LOST;
 use jc_index::choose::any_candidate;
 use jc_method::find::find_interface_method_by_number;
 use jc_sides::broken::{BrokenAct, broken_where};
-use jc_sides::finding_rule::FindingRule;
+use jc_sides::item_rule::ItemRule;
 use jc_sides::key_numbers::KeyNumbers;
 use jc_sides::members::Members;
 use jc_sides::shared::Shared;
@@ -103,29 +102,17 @@ fn loses_method(sides: &Sides<'_>, class: &Shared<'_>, key: &Key, numbers: &KeyN
 
 /// Methods that interfaces inherited and don't any more (JVMS 5.4.3.4). A public instance method of
 /// `java/lang/Object` is still found.
-#[derive(Drop)]
-pub struct InterfaceMethodLost<'a, 'b> {
-    /// The seats of clients.
-    pub seats: &'b Seats<'a>,
-}
+pub struct InterfaceMethodLost;
 
-impl<'a, 'b> FindingRule for InterfaceMethodLost<'a, 'b> {
+impl ItemRule for InterfaceMethodLost {
+    type Item = Finding;
+
     ghost rule = { INTERFACE_METHOD_LOST };
 
-    ghost covers = { λ s x. is_base_interface s.old s.new x };
+    ghost covers = { changed_interface };
 
-    ghost ready = { λ r s. AreSeats s r.seats.now };
-
-    fn number(&self) -> u8 {
-        INTERFACE_METHOD_LOST
-    }
-
-    fn members(&self, sides: &Sides<'_>, class: &Shared<'_>) -> Members {
-        if self.seats.may_close(sides, class) {
-            Members::OldMethods
-        } else {
-            Members::Nothing
-        }
+    fn members(&self) -> Members {
+        Members::OldMethods
     }
 
     fn on_key(

@@ -4,6 +4,7 @@
 mod assigned;
 pub mod bases;
 mod capture_added;
+mod changed;
 mod class_closed;
 mod class_gone;
 pub mod compare;

@@ -23,8 +23,7 @@ use Rattle.jc_index.specs.Sides.{IsSide}
 use Rattle.jc_index.proofs.Strictly.{interface_leads}
 use Rattle.jc_acts.specs.Seats.{may_be_closed}
 use Rattle.jc_acts.proofs.Untouched.{looks_alike, one_record, above_alike}
-use Rattle.jc_sides.specs.Members.{is_member, OfPassing}
-use Rattle.jc_sides.specs.declared.members.Members.TheVariants as members
+use Rattle.jc_sides.specs.Members.{OfPassing}
 use Rattle.jc_sides.specs.SidesOf.{SidesOf, AreSides}
 use Rattle.jc_facts.specs.declared.warning.ChainKind.{ChainKind}
 use Rattle.jc_facts.specs.declared.warning.ChainKind.TheVariants.{Nothing, Abstract, Concrete}
@@ -166,7 +165,7 @@ module _ (s : SidesOf) (are : AreSides s) (x : Bytes) (k : Key) (free : may_be_c
       ∙ ap (λ a. warn_kind a (chain_kind s.new x k) false) kind_same
       ∙ no_change (chain_kind s.new x k)
 
-pub of_none : (s : SidesOf) (x : Bytes) → AreSides s → is_base s.old s.new x ≡ true → may_be_closed s x ≡ false → OfPassing (warned s x) (is_member members.Nothing s x)
+pub of_none : (s : SidesOf) (x : Bytes) → AreSides s → is_base s.old s.new x ≡ true → may_be_closed s x ≡ false → OfPassing (warned s x) (λ k. false)
 of_none s x are base free k w e =
     let d = some_kind x k (warning_at s.old s.new x k) w e in
     let p = warned_parts s x k d.0 d.1 in

@@ -3,7 +3,6 @@ use Rattle.std.proofs.Common.{◌≡◌, ◌∙◌, ap, ℕ, Bool, true, false, 
 use Rattle.jc_facts.specs.declared.act.Act.{Act}
 use Rattle.jc_facts.specs.declared.finding.Finding.{Finding}
 use Rattle.jc_facts.specs.declared.key.Key.{Key}
-use Rattle.jc_facts.specs.declared.verdict.Collision.{Collision}
 use Rattle.jc_facts.specs.declared.link_error.LinkError.{LinkError}
 use Rattle.jc_facts.specs.Names.{Bytes}
 use Rattle.jc_facts.specs.Options.{some_where}
@@ -11,7 +10,7 @@ use Rattle.jc_facts.specs.rule.Collisions.{made_collision}
 use Rattle.jc_facts.specs.rule.Findings.{Subject, report_where}
 use Rattle.jc_table.specs.Ids.{name_at}
 use Rattle.jc_sides.specs.BrokenOf.{BrokenOf, broken_if, found, collided}
-use Rattle.jc_sides.specs.Rules.{on_class, on_key, class_finding, key_finding, key_collision}
+use Rattle.jc_sides.specs.Rules.{on_class, class_finding}
 use Rattle.jc_sides.specs.SidesOf.{SidesOf}
 
 -- an act that is broken where the test holds
@@ -27,9 +26,3 @@ collided_where rule x k false what e = refl
 pub class_found : (r n : ℕ) (t s : SidesOf) → t ≡ s → (y : Bytes) (b : Option BrokenOf) (o : Option Finding) → y ≡ name_at t.old n → found (on_class r (name_at s.old n)) b ≡ class_finding r s (name_at s.old n) → o ≡ found (on_class r y) b
     → o ≡ class_finding r s (name_at s.old n)
 class_found r n t s v y b o is e q = q ∙ ap (λ (z : Bytes). found (on_class r z) b) (is ∙ ap (λ (w : SidesOf). name_at w.old n) v) ∙ e
-
-pub key_found : (r : ℕ) (s : SidesOf) (x y : Bytes) (k : Key) (b : Option BrokenOf) (o : Option Finding) → y ≡ x → found (on_key r x k) b ≡ key_finding r s x k → o ≡ found (on_key r y k) b → o ≡ key_finding r s x k
-key_found r s x y k b o is e q = q ∙ ap (λ (z : Bytes). found (on_key r z k) b) is ∙ e
-
-pub key_collided : (r : ℕ) (s : SidesOf) (x y : Bytes) (k : Key) (b : Option BrokenOf) (o : Option Collision) → y ≡ x → collided r x k b ≡ key_collision r s x k → o ≡ collided r y k b → o ≡ key_collision r s x k
-key_collided r s x y k b o is e q = q ∙ ap (λ (z : Bytes). collided r z k b) is ∙ e

@@ -19,7 +19,7 @@ use Rattle.jc_facts.specs.rule.Bases.{is_kept}
 use Rattle.jc_table.proofs.Numbers.{names-in}
 use Rattle.jc_sides.specs.SharedOf.{OfKept}
 use Rattle.jc_sides.specs.Rules.{on_key, key_finding, key_collision, IsFinding, IsCollision, IsItemRule, IsOf}
-use Rattle.jc_sides.specs.SidesOf.{SidesOf}
+use Rattle.jc_sides.specs.SidesOf.{SidesOf, AreSides}
 use Rattle.jc_sides.proofs.BaseParts.{kept_parts}
 use Rattle.jc_sides.proofs.Subjects.{ordered_as, subject_key_before, finding_class_before, class_in, IsOnKey, of_key, to_key}
 
@@ -36,7 +36,7 @@ kept_where covers kept s x c = go (is_kept s.old s.new x) refl
 -- ---- findings
 
 -- a rule that finds something of such classes alone
-pub finding_rule : (r : ℕ) → IsOnKey r → (covers : SidesOf → Bytes → Bool) → OfKept covers → ((s : SidesOf) (x : Bytes) (k : Key) (f : Finding) → key_finding r s x k ≡ Some f → IsTrue (covers s x))
+pub finding_rule : (r : ℕ) → IsOnKey r → (covers : SidesOf → Bytes → Bool) → OfKept covers → ((s : SidesOf) → AreSides s → (x : Bytes) (k : Key) (f : Finding) → key_finding r s x k ≡ Some f → IsTrue (covers s x))
     → IsItemRule finding_order (λ f. f.«class») (key_finding r) (IsFinding r) covers
 finding_rule r i covers kept covered = record {
   stands = λ s x k f e. (to_key s r x k f e).1;
@@ -44,7 +44,7 @@ finding_rule r i covers kept covered = record {
   by_key = λ s x k l f g b e d. ordered_as (on_key r x k) (on_key r x l) f g (to_key s r x k f e).0 (to_key s r x l g d).0 (subject_key_before r x k l b);
   by_class = λ s f g p q b. finding_class_before f g (p.0 ∙ sym q.0) b;
   kept = λ s x c. kept_where covers kept s x c;
-  on_covered = λ s are f p. let w = of_key s r i f p in (class_in s r f p, covered s f.«class» w.0 f w.1);
+  on_covered = λ s are f p. let w = of_key s r i f p in (class_in s r f p, covered s are f.«class» w.0 f w.1);
 }
 
 -- ---- collisions
@@ -99,7 +99,7 @@ collision_class_before : (c d : Collision) → c.rule ≡ d.rule → Before c.«
 collision_class_before c d e h = rw (e, tied_itself nat_cmp_total d.rule, h) refl
 
 -- a rule that makes a collision of such classes alone
-pub collision_rule : (r : ℕ) (covers : SidesOf → Bytes → Bool) → OfKept covers → ((s : SidesOf) (x : Bytes) (k : Key) (c : Collision) → key_collision r s x k ≡ Some c → IsTrue (covers s x))
+pub collision_rule : (r : ℕ) (covers : SidesOf → Bytes → Bool) → OfKept covers → ((s : SidesOf) → AreSides s → (x : Bytes) (k : Key) (c : Collision) → key_collision r s x k ≡ Some c → IsTrue (covers s x))
     → IsItemRule collision_order (λ c. c.«class») (key_collision r) (IsCollision r) covers
 collision_rule r covers kept covered = record {
   stands = λ s x k c e. collision_stands s r x k c e;
@@ -107,7 +107,7 @@ collision_rule r covers kept covered = record {
   by_key = λ s x k l c d b e g. by_keys s x k l c d b (has s r x k c e) (has s r x l d g);
   by_class = λ s c d p q b. collision_class_before c d (p.0 ∙ sym q.0) b;
   kept = λ s x c. kept_where covers kept s x c;
-  on_covered = λ s are c p. let b = covered s c.«class» c.key c (itself s c p) in (names-in s.old c.«class» ((kept_parts s c.«class» (kept_where covers kept s c.«class» b)).there), b);
+  on_covered = λ s are c p. let b = covered s are c.«class» c.key c (itself s c p) in (names-in s.old c.«class» ((kept_parts s c.«class» (kept_where covers kept s c.«class» b)).there), b);
 }
   where
     itself : (s : SidesOf) (c : Collision) → IsCollision r s c → key_collision r s c.«class» c.key ≡ Some c

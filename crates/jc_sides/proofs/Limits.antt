@@ -51,9 +51,6 @@ always_some order Stand items None h = absurd (let clash : false ≡ true = h.ma
 always_some order Stand items (Some v) h = refl
 
 module _ {F : Type 0} (order : F → F → Ordering) where
-  pub past_weaker : (P Q : F → Type 0) (most : Option ℕ) → ((f : F) → P f → Q f) → HasMore order P most → HasMore order Q most
-  past_weaker P Q most to h = record { some = h.some; in_order = h.in_order; stand = All-weaker P Q to h.some h.stand; many = h.many }
-
   pub past_of : (P Q : F → Type 0) (most : Option ℕ) (xs : List F) → ((f : F) → P f → Q f) → HasExactly order P xs → over (length xs) most ≡ true → HasMore order Q most
   past_of P Q most xs to h o = record { some = xs; in_order = h.in_order; stand = All-weaker P Q to xs h.sound; many = o }
 

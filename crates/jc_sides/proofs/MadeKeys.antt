@@ -33,11 +33,11 @@ module _ {F : Type 0} (makes : Key → Option F) where
   abbrev pub made_key : Key → Option Key
   made_key k = some_where (is_some (makes k)) k
 
-  pub made_then : (k j : Key) (o : Option F) → j ≡ k → o ≡ makes k → is_some o ≡ true → Some j ≡ made_key k
-  made_then k j o e m h = ap (λ (i : Key). Some i) e ∙ ap (λ (b : Bool). some_where b k) (sym h ∙ ap is_some m)
+  pub made_then : (k j : Key) → j ≡ k → is_some (makes k) ≡ true → Some j ≡ made_key k
+  made_then k j e m = ap (λ (i : Key). Some i) e ∙ ap (λ (b : Bool). some_where b k) (sym m)
 
-  pub made_else : (k : Key) (o : Option F) → o ≡ makes k → is_some o ≡ false → None ≡ made_key k
-  made_else k o m h = ap (λ (b : Bool). some_where b k) (sym h ∙ ap is_some m)
+  pub made_else : (k : Key) → is_some (makes k) ≡ false → None ≡ made_key k
+  made_else k m = ap (λ (b : Bool). some_where b k) (sym m)
 
   -- a key of which something is made stays among them
   stays : (keys : List Key) (k : Key) → is_some (makes k) ≡ true → has_key k keys ≡ true → has_key k (filter_map made_key keys) ≡ true

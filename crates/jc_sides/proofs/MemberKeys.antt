@@ -1,5 +1,5 @@
 -- Lists of the keys of which a rule may speak.
-use Rattle.std.proofs.Common.{◌≡◌, Bool, true, false, List, Option, Some, ap, ◌∙◌, subst, sym}
+use Rattle.std.proofs.Common.{◌≡◌, Bool, List, Option, Some, ap, ◌∙◌, subst, sym}
 use Rattle.jc_facts.specs.declared.key.Key.{Key}
 use Rattle.jc_facts.specs.declared.class_facts.ClassFacts.{ClassFacts}
 use Rattle.jc_facts.specs.Names.{Bytes, is_init_name}
@@ -11,10 +11,6 @@ use Rattle.jc_sides.specs.Members.{HasAll, OfPassing, is_member}
 use Rattle.jc_sides.specs.declared.members.Members.{Members}
 use Rattle.jc_sides.specs.SidesOf.{SidesOf}
 use Rattle.jc_sides.specs.Rules.{HasEachKey}
-
--- no key passes
-pub none_pass : (keys : List Key) → HasAll (λ k. false) keys
-none_pass keys k p = absurd (let z : false ≡ true = p in cc)
 
 -- each key of which something is made is among those that pass
 pub each_key : {F : Type 0} (makes : Key → Option F) (passes : Key → Bool) (keys : List Key) → HasAll passes keys → OfPassing makes passes → HasEachKey makes keys

@@ -1,5 +1,5 @@
 -- The keys of which a rule may speak.
-use Rattle.std.specs.Prelude.{◌≡◌, Bool, true, false, List, Option, Some, is_some}
+use Rattle.std.specs.Prelude.{◌≡◌, Bool, true, List, Option, Some, is_some}
 use Rattle.jc_facts.specs.declared.key.Key.{Key}
 use Rattle.jc_facts.specs.Names.{Bytes, is_init_name}
 use Rattle.jc_facts.specs.file.Valid.{has_key}
@@ -15,7 +15,6 @@ use Rattle.jc_sides.specs.declared.members.Members.TheVariants as members
 
 -- the key is that of one of these members of the class x
 abbrev pub is_member : Members → SidesOf → Bytes → Key → Bool
-is_member members.Nothing s x k = false
 is_member members.OldInitializers s x k = some_and (λ c. has_member (λ m. is_init_name m.name) c.methods k) (find_class s.old x)
 is_member members.OldFields s x k = is_some (field_found s.old x k)
 is_member members.OldMethods s x k = finds_method s.old x k

@@ -1,13 +1,12 @@
-//! Findings and collisions, of what rules say.
+//! Findings, of what rules say, and what they are collected by.
 ghost use Rattle.std.specs.Prelude.{◌≡◌, ◌++◌, [], IfOk, OnOk, option_map};
 ghost use Rattle.std.specs.List.{cons_option};
-ghost use Rattle.jc_sides.specs.BrokenOf.{found, collided};
+ghost use Rattle.jc_sides.specs.BrokenOf.{found};
 
 use crate::broken::BrokenAct;
 use jc_base::name::Name;
 use jc_facts::finding::Finding;
 use jc_facts::key::Key;
-use jc_facts::verdict::Collision;
 use std::alloc::{AllocError, Global};
 
 // The name once more, if there is one.
@@ -56,32 +55,6 @@ pub fn finding(
         target: copy_name(alloc, target)?,
         act: broken.act,
         seat: copy_name(alloc, broken.seat)?,
-        error: broken.error,
-    }))
-}
-
-/// The collision of the rule on the class and the key, if an act is broken.
-///
-/// # Errors
-///
-/// `AllocError` where memory runs out.
-pub fn collision(
-    alloc: Global,
-    rule: u8,
-    class: &Name,
-    key: &Key,
-    broken: Option<BrokenAct<'_>>,
-) -> Result<Option<Collision>, AllocError>
-    ensures { IfOk result (λ c. c ≡ collided rule «class».now key.now broken.entry) }
-{
-    let Some(broken) = broken else {
-        return Ok(None);
-    };
-    Ok(Some(Collision {
-        rule,
-        class: class.copy(alloc)?,
-        key: key.copy(alloc)?,
-        act: broken.act,
         error: broken.error,
     }))
 }

@@ -1,8 +1,7 @@
 //! Rules that speak of a class and a key.
 ghost use Rattle.std.specs.BTreeSet.{IsOrdered};
-ghost use Rattle.std.specs.Prelude.{◌≡◌, ◌++◌, ◌∷◌, [], List, Bool, IfOk, IsTrue, Option, option_map, is_some, slice_get};
+ghost use Rattle.std.specs.Prelude.{◌≡◌, ◌++◌, ◌∷◌, [], ℕ, List, Bool, IfOk, IsTrue, option_map, is_some, slice_get};
 ghost use Rattle.std.specs.List.{filter_map};
-ghost use Rattle.std.specs.declared.cmp.Ordering.{Ordering};
 ghost use Rattle.jc_facts.specs.declared.key.Key.{Key as KeyOf};
 ghost use Rattle.jc_facts.specs.Names.{Bytes};
 ghost use Rattle.jc_facts.specs.Exactly.{HasExactly};
@@ -16,11 +15,13 @@ ghost use Rattle.jc_sides.specs.Numbering.{AreNumbers, AreOfKeys, IsTranslation}
 ghost use Rattle.jc_sides.specs.Rules.{HasEachKey, IsItemRule, IsOf};
 ghost use Rattle.jc_sides.specs.SharedOf.{IsShared, AreThose, name_of};
 ghost use Rattle.jc_sides.specs.steps.KeySets.{AreInOrder};
-ghost use Rattle.jc_sides.specs.SidesOf.{SidesOf, AreSides};
+ghost use Rattle.jc_sides.specs.SidesOf.{SidesOf};
 ghost use Rattle.jc_table.specs.Keys.{numbered_keys};
 ghost use Rattle.jc_table.specs.RowKeys.{keys_of_row};
 
+use crate::broken::BrokenAct;
 use crate::found::push_some;
+use crate::from_broken::FromBroken;
 use crate::key_numbers::KeyNumbers;
 use crate::limit::is_over;
 use crate::members::{Members, keys_of, new_row, old_row};
@@ -33,71 +34,81 @@ use jc_table::table::Table;
 use std::alloc::{AllocError, Global};
 use std::collections::BTreeSet;
 
-/// A rule that speaks of a class and a key, whatever it makes: findings, collisions or notes.
+/// A rule that speaks of a class and a key, and says what is broken.
 pub trait ItemRule {
-    type Item: Drop;
+    type Item: FromBroken;
 
-    // The order of what it makes, and the class of one.
-    ghost order: { Self.Item → Self.Item → Ordering };
-
-    ghost class_of: { Self.Item → Bytes };
-
-    // What it makes of a class and a key, and what stands.
-    ghost makes: { SidesOf → Bytes → KeyOf → Option Self.Item };
-
-    ghost stands: { SidesOf → Self.Item → Type 0 };
+    ghost rule: { ℕ };
 
     // The classes of which it speaks.
     ghost covers: { SidesOf → Bytes → Bool };
 
     // What has to be true of the rule's own values, as of lists that it keeps of the sides.
-    ghost ready: { Self → SidesOf → Type 0 };
+    ghost ready: { Self → SidesOf → Type 0 } = { λ _ _. Unit {0} };
 
-    /// Of which members of the class it may speak.
-    fn members(&self, sides: &Sides<'_>, class: &Shared<'_>) -> Members
-        requires sides { AreSides sides.now }
-        requires ready { ready self.now sides.now }
-        requires shared { IsShared sides.now «class».now }
-        requires covered { IsTrue (covers sides.now (name_of «class».now)) }
-        ensures { OfPassing (makes sides.now (name_of «class».now)) (is_member result sides.now (name_of «class».now)) };
+    /// Of which members of these classes it may speak.
+    fn members(&self) -> Members
+        ensures { (s : SidesOf) (x : Bytes) → IsTrue (covers s x) → OfPassing (Self.Item.makes rule s x) (is_member result s x) };
 
-    /// What it makes of the class and the key of these numbers.
-    ///
-    /// # Errors
-    ///
-    /// `AllocError` where memory runs out.
+    /// What is broken by the change of the member of the key of these numbers.
     fn on_key(
         &self,
-        alloc: Global,
         sides: &Sides<'_>,
         class: &Shared<'_>,
         key: &Key,
         numbers: &KeyNumbers,
-    ) -> Result<Option<Self::Item>, AllocError>
+    ) -> Option<BrokenAct<'_>>
         requires ready { ready self.now sides.now }
         requires shared { IsShared sides.now «class».now }
         requires covered { IsTrue (covers sides.now (name_of «class».now)) }
         requires numbers { AreNumbers sides.now key.now numbers.now }
-        ensures { IfOk result (λ made. made ≡ makes sides.now (name_of «class».now) key.now) };
+        ensures { Self.Item.made_of rule (name_of «class».now) key.now result ≡ Self.Item.makes rule sides.now (name_of «class».now) key.now };
+}
+
+// What the rule of this number makes of the class and the key of these numbers.
+fn made_on<R: ItemRule>(
+    alloc: Global,
+    number: u8,
+    rule: &R,
+    sides: &Sides<'_>,
+    class: &Shared<'_>,
+    key: &Key,
+    numbers: &KeyNumbers,
+) -> Result<Option<R::Item>, AllocError>
+    requires number { number ≡ R.rule }
+    requires ready { R.ready rule.now sides.now }
+    requires shared { IsShared sides.now «class».now }
+    requires covered { IsTrue (R.covers sides.now (name_of «class».now)) }
+    requires numbers { AreNumbers sides.now key.now numbers.now }
+    ensures { IfOk result (λ made. made ≡ R.Item.makes R.rule sides.now (name_of «class».now) key.now) }
+{
+    let broken = rule.on_key(sides, class, key, numbers);
+    let made = R::Item::from_broken(alloc, number, class.name, key, broken)?;
+    Ok(made)
 }
 
 // What the rule makes of the class and these keys, in their order. They are few, and looked up.
 fn on_keys<R: ItemRule>(
     alloc: Global,
+    number: u8,
     rule: &R,
     sides: &Sides<'_>,
     class: &Shared<'_>,
     keys: &[Key],
 ) -> Result<Vec<R::Item>, AllocError>
+    requires number { number ≡ R.rule }
     requires ready { R.ready rule.now sides.now }
     requires shared { IsShared sides.now «class».now }
     requires covered { IsTrue (R.covers sides.now (name_of «class».now)) }
-    ensures { IfOk result (λ made. made.items ≡ filter_map (R.makes sides.now (name_of «class».now)) keys.now) }
+    ensures { IfOk result (λ made. made.items ≡ filter_map (R.Item.makes R.rule sides.now (name_of «class».now)) keys.now) }
 {
     let mut items = Vec::new(alloc);
     for key in keys {
         let numbers = KeyNumbers::of(sides, key);
-        push_some(&mut items, rule.on_key(alloc, sides, class, key, &numbers)?)?;
+        push_some(
+            &mut items,
+            made_on(alloc, number, rule, sides, class, key, &numbers)?,
+        )?;
     }
     Ok(items)
 }
@@ -117,10 +128,10 @@ fn if_made<R: ItemRule>(
     requires shared { IsShared sides.now «class».now }
     requires covered { IsTrue (R.covers sides.now (name_of «class».now)) }
     requires numbers { AreNumbers sides.now key.now numbers.now }
-    ensures { IfOk result (λ made. made ≡ some_where (is_some (R.makes sides.now (name_of «class».now) key.now)) key.now) }
+    ensures { IfOk result (λ made. made ≡ some_where (is_some (R.Item.makes R.rule sides.now (name_of «class».now) key.now)) key.now) }
 {
-    let item = rule.on_key(alloc, sides, class, key, numbers)?;
-    if item.is_some() {
+    let broken = rule.on_key(sides, class, key, numbers);
+    if broken.is_some() {
         Ok(Some(key.copy(alloc)?))
     } else {
         Ok(None)
@@ -138,7 +149,7 @@ fn made_of_keys<R: ItemRule>(
     requires ready { R.ready rule.now sides.now }
     requires shared { IsShared sides.now «class».now }
     requires covered { IsTrue (R.covers sides.now (name_of «class».now)) }
-    ensures { IfOk result (λ made. made.items ≡ filter_map (λ k. some_where (is_some (R.makes sides.now (name_of «class».now) k)) k) keys.now) }
+    ensures { IfOk result (λ made. made.items ≡ filter_map (λ k. some_where (is_some (R.Item.makes R.rule sides.now (name_of «class».now) k)) k) keys.now) }
 {
     let mut made = Vec::new(alloc);
     for key in keys {
@@ -166,7 +177,7 @@ fn if_made_at<R: ItemRule>(
     requires shared { IsShared sides.now «class».now }
     requires covered { IsTrue (R.covers sides.now (name_of «class».now)) }
     requires numbers { AreOfKeys sides.now table.now numbers.now }
-    ensures { IfOk result (λ made. made ≡ and_then (λ k. some_where (is_some (R.makes sides.now (name_of «class».now) k)) k) (slice_get (numbered_keys table.now) item.now.key)) }
+    ensures { IfOk result (λ made. made ≡ and_then (λ k. some_where (is_some (R.Item.makes R.rule sides.now (name_of «class».now) k)) k) (slice_get (numbered_keys table.now) item.now.key)) }
 {
     let Some(numbers) = numbers_at(numbers, item.key) else {
         return Ok(None);
@@ -192,7 +203,7 @@ fn made_in_row<R: ItemRule>(
     requires shared { IsShared sides.now «class».now }
     requires covered { IsTrue (R.covers sides.now (name_of «class».now)) }
     requires numbers { AreOfKeys sides.now table.now numbers.now }
-    ensures { IfOk result (λ made. made.items ≡ filter_map (λ k. some_where (is_some (R.makes sides.now (name_of «class».now) k)) k) (keys_of_row table.now row.now)) }
+    ensures { IfOk result (λ made. made.items ≡ filter_map (λ k. some_where (is_some (R.Item.makes R.rule sides.now (name_of «class».now) k)) k) (keys_of_row table.now row.now)) }
 {
     let mut made = Vec::new(alloc);
     for item in row {
@@ -219,8 +230,8 @@ fn made_of<R: ItemRule>(
     requires kept { IsTrue (is_kept sides.now.old sides.now.new (name_of «class».now)) }
     requires covered { IsTrue (R.covers sides.now (name_of «class».now)) }
     requires translation { IsTranslation sides.now translation.now }
-    requires passing { OfPassing (R.makes sides.now (name_of «class».now)) (is_member members sides.now (name_of «class».now)) }
-    ensures { IfOk result (λ made. HasEachKey (R.makes sides.now (name_of «class».now)) made.items) }
+    requires passing { OfPassing (R.Item.makes R.rule sides.now (name_of «class».now)) (is_member members sides.now (name_of «class».now)) }
+    ensures { IfOk result (λ made. HasEachKey (R.Item.makes R.rule sides.now (name_of «class».now)) made.items) }
 {
     if let Some(row) = old_row(sides, class, members) {
         let numbers = translation.old.as_slice();
@@ -286,29 +297,29 @@ pub fn in_order(alloc: Global, keys: Vec<Key>) -> Result<Vec<Key>, AllocError>
 // alone of which it makes something are sorted.
 fn of_class<R: ItemRule>(
     alloc: Global,
+    number: u8,
     rule: &R,
     sides: &Sides<'_>,
     translation: &Translation,
     class: &Shared<'_>,
 ) -> Result<Vec<R::Item>, AllocError>
-    requires sides { AreSides sides.now }
+    requires number { number ≡ R.rule }
     requires ready { R.ready rule.now sides.now }
-    requires rule { IsItemRule R.order R.class_of R.makes R.stands R.covers }
+    requires rule { IsItemRule R.Item.order R.Item.class_of (R.Item.makes R.rule) (R.Item.stands R.rule) R.covers }
     requires shared { IsShared sides.now «class».now }
     requires covered { IsTrue (R.covers sides.now (name_of «class».now)) }
     requires translation { IsTranslation sides.now translation.now }
-    ensures { IfOk result (λ made. HasExactly R.order (IsOf R.class_of (R.stands sides.now) (name_of «class».now)) made.items) }
+    ensures { IfOk result (λ made. HasExactly R.Item.order (IsOf R.Item.class_of (R.Item.stands R.rule sides.now) (name_of «class».now)) made.items) }
 {
-    let members = rule.members(sides, class);
-    let made = made_of(alloc, rule, sides, translation, class, members)?;
+    let made = made_of(alloc, rule, sides, translation, class, rule.members())?;
     let sorted = in_order(alloc, made)?;
-    let items = on_keys(alloc, rule, sides, class, sorted.as_slice())?;
+    let items = on_keys(alloc, number, rule, sides, class, sorted.as_slice())?;
     Ok(items)
 }
 
-/// What the rule makes of these classes, in byte order of their names and in the order of the keys.
-/// They have to be all of which it speaks. None where that is more than the limit allows; no more is
-/// made then than what one class adds past it.
+/// What the rule of this number makes of these classes, in byte order of their names and in the order
+/// of the keys. They have to be all of which it speaks. None where that is more than the limit allows;
+/// no more is made then than what one class adds past it.
 ///
 /// A class is gone over along its row, by the numbers of keys and their translation; only members that
 /// stand in no row are walked to and looked up.
@@ -318,21 +329,23 @@ fn of_class<R: ItemRule>(
 /// `AllocError` where memory runs out.
 pub fn by_items<R: ItemRule>(
     alloc: Global,
+    number: u8,
     rule: &R,
     sides: &Sides<'_>,
     translation: &Translation,
     classes: &[Shared<'_>],
     most: Option<usize>,
 ) -> Result<Option<Vec<R::Item>>, AllocError>
+    requires number { number ≡ R.rule }
     requires ready { R.ready rule.now sides.now }
-    requires rule { IsItemRule R.order R.class_of R.makes R.stands R.covers }
+    requires rule { IsItemRule R.Item.order R.Item.class_of (R.Item.makes R.rule) (R.Item.stands R.rule) R.covers }
     requires translation { IsTranslation sides.now translation.now }
     requires classes { AreThose (R.covers sides.now) sides.now classes.now }
-    ensures { IfOk result (λ made. IsWithin R.order (R.stands sides.now) most (option_map (λ items. items.items) made)) }
+    ensures { IfOk result (λ made. IsWithin R.Item.order (R.Item.stands number sides.now) most (option_map (λ items. items.items) made)) }
 {
     let mut items = Vec::new(alloc);
     for class in classes {
-        items.append(&mut of_class(alloc, rule, sides, translation, class)?)?;
+        items.append(&mut of_class(alloc, number, rule, sides, translation, class)?)?;
         if is_over(items.len(), most) {
             return Ok(None);
         }

@@ -27,8 +27,6 @@ use std::alloc::{AllocError, Global};
 /// find (JVMS 5.4.3.2 to 5.4.3.4).
 #[derive(Clone, Copy)]
 pub enum Members {
-    /// Of none.
-    Nothing,
     /// The instance initializers that it declared (JVMS 2.9.1).
     OldInitializers,
     /// The fields that it had.
@@ -156,7 +154,6 @@ pub fn keys_of(
     ensures { IfOk result (λ keys. HasAll (is_member members sides.now (name_of «class».now)) keys.items) }
 {
     match members {
-        Members::Nothing => Ok(Vec::new(alloc)),
         Members::OldInitializers => init_keys(alloc, before(sides, class)),
         Members::OldFields => found_field_keys(alloc, sides.old, class.old),
         Members::OldMethods => found_method_keys(alloc, sides.old, class.old),

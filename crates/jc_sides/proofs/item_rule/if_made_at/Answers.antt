@@ -8,11 +8,11 @@ use Rattle.jc_sides.proofs.item_rule.if_made_at.Goals as goal
 
 pub returns-in_default : goal.returns-in_default
 returns-in_default g c =
-    at_none (g.R.ItemRule.makes c.args.sides.now (name_of c.args.class.now)) c.args.table.now c.args.item.now.key
+    at_none (g.R.Item.FromBroken.makes g.R.ItemRule.rule c.args.sides.now (name_of c.args.class.now)) c.args.table.now c.args.item.now.key
     (is_past c.args.sides.now (numbered_keys c.args.table.now) c.args.numbers.now c.args.item.now.key c.requires.numbers (sym c.numbers_at.ensures ∙ ap (option_map (λ p. p.now)) c.in_default.is))
 
 pub returns-in_default-key_at : goal.returns-in_default-key_at
-returns-in_default-key_at g c = at_none (g.R.ItemRule.makes c.args.sides.now (name_of c.args.class.now)) c.args.table.now c.args.item.now.key (sym c.key_at.ensures ∙ ap (option_map (λ k. k.now)) c.in_default-key_at.is)
+returns-in_default-key_at g c = at_none (g.R.Item.FromBroken.makes g.R.ItemRule.rule c.args.sides.now (name_of c.args.class.now)) c.args.table.now c.args.item.now.key (sym c.key_at.ensures ∙ ap (option_map (λ k. k.now)) c.in_default-key_at.is)
 
 pub if_made-requires-clause-numbers : goal.if_made-requires-clause-numbers
 if_made-requires-clause-numbers g c =
@@ -20,4 +20,4 @@ if_made-requires-clause-numbers g c =
 
 pub returns : goal.returns
 returns g c =
-    IfOk-weaker c.if_made.result _ _ (λ made h. at_some (g.R.ItemRule.makes c.args.sides.now (name_of c.args.class.now)) c.args.table.now c.args.item.now.key c.in-Some-key_at.key.now made (sym c.key_at.ensures ∙ ap (option_map (λ k. k.now)) c.in-Some-key_at.is) h) c.if_made.ensures
+    IfOk-weaker c.if_made.result _ _ (λ made h. at_some (g.R.Item.FromBroken.makes g.R.ItemRule.rule c.args.sides.now (name_of c.args.class.now)) c.args.table.now c.args.item.now.key c.in-Some-key_at.key.now made (sym c.key_at.ensures ∙ ap (option_map (λ k. k.now)) c.in-Some-key_at.is) h) c.if_made.ensures

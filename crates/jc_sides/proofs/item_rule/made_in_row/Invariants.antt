@@ -5,4 +5,4 @@ use Rattle.jc_sides.proofs.MadeKeys.{made_at}
 use Rattle.jc_sides.proofs.item_rule.made_in_row.Given as goal
 
 abbrev pub invariant-loop-item : goal.invariant-loop-item
-invariant-loop-item g l = l.made.items ≡ filter_map (made_at (g.R.ItemRule.makes l.sides (name_of l.class)) l.table) (take l.item-index l.row)
+invariant-loop-item g l = l.made.items ≡ filter_map (made_at (g.R.Item.FromBroken.makes g.R.ItemRule.rule l.sides (name_of l.class)) l.table) (take l.item-index l.row)

@@ -25,23 +25,23 @@ made_in_row-requires-in-Some-new_row-clause-numbers g c =
 pub returns-in-Some : goal.returns-in-Some
 returns-in-Some g c =
     IfOk-weaker c.made_in_row.result _ _
-    (λ made h. each_made (g.R.ItemRule.makes c.args.sides.now (name_of c.args.class.now)) (keys_of_row c.args.sides.now.old c.in-Some.row.now) made.items
-    (each_key (g.R.ItemRule.makes c.args.sides.now (name_of c.args.class.now)) (is_member c.args.members c.args.sides.now (name_of c.args.class.now)) (keys_of_row c.args.sides.now.old c.in-Some.row.now) c.in-Some.ensures c.requires.passing)
-    (subst (λ (s : SidesOf). made.items ≡ filter_map (made_key (g.R.ItemRule.makes c.args.sides.now (name_of c.args.class.now))) (keys_of_row s.old c.in-Some.row.now)) c.sides.view_is h))
+    (λ made h. each_made (g.R.Item.FromBroken.makes g.R.ItemRule.rule c.args.sides.now (name_of c.args.class.now)) (keys_of_row c.args.sides.now.old c.in-Some.row.now) made.items
+    (each_key (g.R.Item.FromBroken.makes g.R.ItemRule.rule c.args.sides.now (name_of c.args.class.now)) (is_member c.args.members c.args.sides.now (name_of c.args.class.now)) (keys_of_row c.args.sides.now.old c.in-Some.row.now) c.in-Some.ensures c.requires.passing)
+    (subst (λ (s : SidesOf). made.items ≡ filter_map (made_key (g.R.Item.FromBroken.makes g.R.ItemRule.rule c.args.sides.now (name_of c.args.class.now))) (keys_of_row s.old c.in-Some.row.now)) c.sides.view_is h))
     c.made_in_row.ensures
 
 pub returns-in-Some-new_row : goal.returns-in-Some-new_row
 returns-in-Some-new_row g c =
     IfOk-weaker c.made_in_row-in-Some-new_row.result _ _
-    (λ made h. each_made (g.R.ItemRule.makes c.args.sides.now (name_of c.args.class.now)) (keys_of_row c.args.sides.now.new c.in-Some-new_row.row.now) made.items
-    (each_key (g.R.ItemRule.makes c.args.sides.now (name_of c.args.class.now)) (is_member c.args.members c.args.sides.now (name_of c.args.class.now)) (keys_of_row c.args.sides.now.new c.in-Some-new_row.row.now) c.in-Some-new_row.ensures c.requires.passing)
-    (subst (λ (s : SidesOf). made.items ≡ filter_map (made_key (g.R.ItemRule.makes c.args.sides.now (name_of c.args.class.now))) (keys_of_row s.new c.in-Some-new_row.row.now)) c.sides.view_is h))
+    (λ made h. each_made (g.R.Item.FromBroken.makes g.R.ItemRule.rule c.args.sides.now (name_of c.args.class.now)) (keys_of_row c.args.sides.now.new c.in-Some-new_row.row.now) made.items
+    (each_key (g.R.Item.FromBroken.makes g.R.ItemRule.rule c.args.sides.now (name_of c.args.class.now)) (is_member c.args.members c.args.sides.now (name_of c.args.class.now)) (keys_of_row c.args.sides.now.new c.in-Some-new_row.row.now) c.in-Some-new_row.ensures c.requires.passing)
+    (subst (λ (s : SidesOf). made.items ≡ filter_map (made_key (g.R.Item.FromBroken.makes g.R.ItemRule.rule c.args.sides.now (name_of c.args.class.now))) (keys_of_row s.new c.in-Some-new_row.row.now)) c.sides.view_is h))
     c.made_in_row-in-Some-new_row.ensures
 
 pub returns : goal.returns
 returns g c =
     IfOk-weaker c.made_of_keys.result _ _
-    (λ made h. each_made (g.R.ItemRule.makes c.args.sides.now (name_of c.args.class.now)) c.in_ok-keys.keys.items made.items
-    (each_key (g.R.ItemRule.makes c.args.sides.now (name_of c.args.class.now)) (is_member c.args.members c.args.sides.now (name_of c.args.class.now)) c.in_ok-keys.keys.items c.in_ok-keys.ensures c.requires.passing)
-    (h ∙ ap (λ (ks : List Key). filter_map (made_key (g.R.ItemRule.makes c.args.sides.now (name_of c.args.class.now))) ks) c.as_slice.ensures.value))
+    (λ made h. each_made (g.R.Item.FromBroken.makes g.R.ItemRule.rule c.args.sides.now (name_of c.args.class.now)) c.in_ok-keys.keys.items made.items
+    (each_key (g.R.Item.FromBroken.makes g.R.ItemRule.rule c.args.sides.now (name_of c.args.class.now)) (is_member c.args.members c.args.sides.now (name_of c.args.class.now)) c.in_ok-keys.keys.items c.in_ok-keys.ensures c.requires.passing)
+    (h ∙ ap (λ (ks : List Key). filter_map (made_key (g.R.Item.FromBroken.makes g.R.ItemRule.rule c.args.sides.now (name_of c.args.class.now))) ks) c.as_slice.ensures.value))
     c.made_of_keys.ensures

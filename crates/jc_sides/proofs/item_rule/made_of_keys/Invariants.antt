@@ -5,4 +5,4 @@ use Rattle.jc_sides.proofs.MadeKeys.{made_key}
 use Rattle.jc_sides.proofs.item_rule.made_of_keys.Given as goal
 
 abbrev pub invariant-loop-key : goal.invariant-loop-key
-invariant-loop-key g l = l.made.items ≡ filter_map (made_key (g.R.ItemRule.makes l.sides (name_of l.class))) (take l.key-index l.keys)
+invariant-loop-key g l = l.made.items ≡ filter_map (made_key (g.R.Item.FromBroken.makes g.R.ItemRule.rule l.sides (name_of l.class))) (take l.key-index l.keys)

@@ -12,7 +12,7 @@ use Rattle.jc_sides.specs.SharedOf.{name_of}
 use Rattle.jc_sides.specs.SidesFields.{worlds}
 use Rattle.jc_sides.proofs.BaseParts.{kept_parts}
 use Rattle.jc_sides.proofs.Seen.{of_old, of_new, loads_before, loads_after}
-use Rattle.jc_sides.proofs.MemberKeys.{none_pass, named_so, inits}
+use Rattle.jc_sides.proofs.MemberKeys.{named_so, inits}
 use Rattle.jc_sides.proofs.members.keys_of.Goals as goal
 
 pub found_field_keys-requires-clause-loads : goal.found_field_keys-requires-clause-loads
@@ -26,9 +26,6 @@ found_field_keys-requires-in-NewFields-clause-loads c = loads_after (worlds c.si
 
 pub found_method_keys-requires-in-NewMethods-clause-loads : goal.found_method_keys-requires-in-NewMethods-clause-loads
 found_method_keys-requires-in-NewMethods-clause-loads c = loads_after (worlds c.sides.inside) c.args.sides.now c.sides.view_is (shared_of c.class.inside) c.args.class.now c.class.view_is c.requires.shared (kept_parts c.args.sides.now (name_of c.args.class.now) c.requires.kept)
-
-pub returns-in-Nothing : goal.returns-in-Nothing
-returns-in-Nothing c = named_so c.args.members members.Nothing c.in-Nothing.is c.args.sides.now (name_of c.args.class.now) c.new.result.items (none_pass c.new.result.items)
 
 pub returns-in-OldFields : goal.returns-in-OldFields
 returns-in-OldFields c =

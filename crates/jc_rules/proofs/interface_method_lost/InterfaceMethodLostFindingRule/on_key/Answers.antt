@@ -1,6 +1,0 @@
-use Rattle.jc_sides.specs.SharedOf.{name_of}
-use Rattle.jc_rules.proofs.InterfaceMethodLost.{lost}
-use Rattle.jc_rules.proofs.interface_method_lost.InterfaceMethodLostFindingRule.on_key.Goals as goal
-
-pub returns : goal.returns
-returns c = lost c.args.sides.now (name_of c.args.class.now) c.args.key.now c.requires.covered c.loses_method-lost.result c.broken_where.result c.loses_method-lost.ensures c.broken_where.ensures
