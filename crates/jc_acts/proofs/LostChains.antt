@@ -8,7 +8,7 @@ use Rattle.jc_facts.specs.world.World.{World, find_class, size}
 use Rattle.jc_facts.specs.world.Hierarchy.{chain, chain_step, in_chain, names_in}
 use Rattle.jc_facts.specs.world.Loading.{load_fault, loads}
 use Rattle.jc_facts.proofs.Same.{same_itself}
-use Rattle.jc_lemmas.proofs.Bools.{not_true}
+use Rattle.jc_lemmas.proofs.Bools.{not_true, and_true}
 use Rattle.jc_worlds.proofs.Descent.{descend-absent}
 use Rattle.jc_table.specs.Ids.{name_at}
 use Rattle.jc_table.proofs.Numbers.{is_none-None}
@@ -52,10 +52,6 @@ unchanged_loses s are x b t e =
 -- flags that are set by two tests which tell the same
 pub set_as : (W : World) (p q : Bytes → Bool) (before after : List Bool) → ((y : Bytes) → p y ≡ q y) → AreSet W p before after → AreSet W q before after
 set_as W p q before after same s = record { count = s.count; each = λ n l. s.each n l ∙ ap (λ b. flag_at before n || b) (same (name_at W n)) }
-
-and_true : (b : Bool) → (b && true) ≡ b
-and_true true = refl
-and_true false = refl
 
 -- all of a chain
 pub all_left : (W : World) (x : Bytes) (before after : List Bool) → AreSet W (λ y. in_chain W x y && true) before after → AreSet W (in_chain W x) before after

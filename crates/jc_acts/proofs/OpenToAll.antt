@@ -4,7 +4,7 @@ use Rattle.std.specs.Bool.{beq}
 use Rattle.std.specs.List.{All}
 use Rattle.std.proofs.lemmas.List.Elements.{All-from_recursion}
 use Rattle.std.proofs.lemmas.Bool.{and_parts, not-false}
-use Rattle.jc_lemmas.proofs.Bools.{not_true}
+use Rattle.jc_lemmas.proofs.Bools.{not_true, beq_is}
 use Rattle.jc_lemmas.proofs.Listed.{EachOf, each_from, each_in}
 use Rattle.jc_facts.specs.declared.act.Act.{Act}
 use Rattle.jc_facts.specs.declared.link_error.LinkError.{LinkError}
@@ -39,12 +39,6 @@ use Rattle.jc_acts.proofs.Wider.{through}
 
 -- ---- the steps after access, by the flags
 
-same_flag : (a b : Bool) → beq a b ≡ true → a ≡ b
-same_flag true true h = refl
-same_flag true false h = absurd (cc)
-same_flag false true h = absurd (cc)
-same_flag false false h = refl
-
 no_more : (put was now : Bool) → (was || not now) ≡ true → (put && was) ≡ false → (put && now) ≡ false
 no_more false was now h k = refl
 no_more true true now h k = absurd (cc)
@@ -55,7 +49,7 @@ usable_after : (what : Act) (m g : DeclaredMember) → as_usable m.member.flags 
 usable_after what m g u h =
     let p = and_parts (beq (static_flag g.member.flags) (static_flag m.member.flags)) (final_flag m.member.flags || not (final_flag g.member.flags)) u in
     let q = or_else-none (kind_fault what m) (fault_where (is_put_act what && final_flag m.member.flags) IllegalAccessError) h in
-    let s : static_flag g.member.flags ≡ static_flag m.member.flags = same_flag (static_flag g.member.flags) (static_flag m.member.flags) p.0 in
+    let s : static_flag g.member.flags ≡ static_flag m.member.flags = beq_is (static_flag g.member.flags) (static_flag m.member.flags) p.0 in
     or_else-both (kind_fault what g) (fault_where (is_put_act what && final_flag g.member.flags) IllegalAccessError)
     (ap (λ b. fault_where (cond (is_act_on_static what) (not b) b) IncompatibleClassChangeError) s ∙ q.0)
     (ap (λ b. fault_where b IllegalAccessError) (no_more (is_put_act what) (final_flag m.member.flags) (final_flag g.member.flags) p.1 (fault_where-none (is_put_act what && final_flag m.member.flags) IllegalAccessError q.1)))

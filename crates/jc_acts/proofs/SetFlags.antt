@@ -11,20 +11,16 @@ use Rattle.jc_facts.specs.world.Hierarchy.{chain, in_chain, names_in}
 use Rattle.jc_facts.specs.client.Clients.{differ_by_name}
 use Rattle.jc_facts.proofs.Same.{same_is, same_itself}
 use Rattle.jc_facts.proofs.World.{find-name}
-use Rattle.jc_lemmas.proofs.Bools.{or_assoc, or_false}
+use Rattle.jc_lemmas.proofs.Bools.{or_assoc, or_false, and_never}
 use Rattle.jc_table.specs.Ids.{id_of, name_at, names, superclass_of}
 use Rattle.jc_table.proofs.Numbers.{names-length, id_of-name_at}
 use Rattle.jc_acts.specs.Touched.{flag_at, AreFlags, AreSet}
 use Rattle.jc_acts.proofs.Covering.{put}
 use Rattle.jc_acts.proofs.Upwards.{any_from, any-from, any-step, any-out, any-end}
 
-and_false : (b : Bool) → (b && false) ≡ false
-and_false true = refl
-and_false false = refl
-
 within_or : (l n : Bool) → (l || (n && l)) ≡ l
 within_or true n = refl
-within_or false n = and_false n
+within_or false n = and_never n
 
 cond_or : (b f : Bool) → cond b true f ≡ (f || (b && true))
 cond_or true true = refl
@@ -141,7 +137,7 @@ module _ (W : World) where
           ap (λ fs. flag_at fs k) u ∙ put flags i k true false (subst (λ m. i < m) (sym e) l) ∙ cond_or (eqb i k) (flag_at flags k)
           ∙ ap (λ t. flag_at flags k || (t && true)) (sym (ap (λ y. same y (name_at W k)) n ∙ same_at i k l j)) ∙ ap (λ t. flag_at flags k || (same c.name (name_at W k) && t)) (sym h)
       flag_set flags after i k c false l j e n h u =
-          ap (λ fs. flag_at fs k) u ∙ sym (or_false (flag_at flags k)) ∙ ap (λ t. flag_at flags k || t) (sym (and_false (same c.name (name_at W k)))) ∙ ap (λ t. flag_at flags k || (same c.name (name_at W k) && t)) (sym h)
+          ap (λ fs. flag_at fs k) u ∙ sym (or_false (flag_at flags k)) ∙ ap (λ t. flag_at flags k || t) (sym (and_never (same c.name (name_at W k)))) ∙ ap (λ t. flag_at flags k || (same c.name (name_at W k) && t)) (sym h)
 
       set_length : (flags : List Bool) (i : ℕ) (b : Bool) → length (cond b (set flags i true) flags) ≡ length flags
       set_length flags i true = length-set flags i true

@@ -25,7 +25,7 @@ use Rattle.jc_facts.specs.rule.Bases.{is_steady}
 use Rattle.jc_facts.proofs.Hierarchy.{any_each}
 use Rattle.jc_facts.proofs.Same.{same_is, same_itself}
 use Rattle.jc_facts.proofs.World.{find-name}
-use Rattle.jc_lemmas.proofs.Bools.{and_not, imply, neither_first, neither_last, not_true}
+use Rattle.jc_lemmas.proofs.Bools.{and_not, imply, neither_first, neither_last, not_true, neither}
 use Rattle.jc_lemmas.proofs.Options.{none_from}
 use Rattle.jc_lemmas.proofs.Listed.{EachOf, EachOf-both, any_has, any_none, any_passes, each_from, each_of, not_any}
 use Rattle.jc_worlds.specs.Agreement.{AgreeOn, LooksTheSame, ModulesAgreeOn}
@@ -56,9 +56,6 @@ use Rattle.jc_acts.proofs.Changed.{platform_same, same_found}
 use Rattle.jc_acts.proofs.Firsts.{first_none, first_closed}
 use Rattle.jc_acts.proofs.Narrowed.{use_further}
 use Rattle.jc_acts.proofs.SetAbove.{above_is}
-
-neither : (a b : Bool) → a ≡ false → b ≡ false → (a || b) ≡ false
-neither a b e f = ap (λ c. c || b) e ∙ f
 
 supers_each : (P : Bytes → Type 0) (o : Option Bytes) (is : List Bytes) → ((s : Bytes) → o ≡ Some s → P s) → EachOf P is → EachOf P (supers_of o is)
 supers_each P None is f h = h

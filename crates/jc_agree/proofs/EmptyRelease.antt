@@ -31,7 +31,7 @@ use Rattle.jc_facts.specs.world.Search.{supers}
 use Rattle.jc_facts.specs.world.World.{World, find_class, class_named, classes, own_method_of, DeclaredMember}
 use Rattle.jc_lemmas.proofs.Bools.{both_first, both_last, imply, not_true}
 use Rattle.jc_lemmas.proofs.Listed.{EachOf-map, any_none}
-use Rattle.jc_lemmas.proofs.Options.{none_where}
+use Rattle.jc_lemmas.proofs.Options.{none_where, cond_none}
 use Rattle.jc_facts.proofs.Options.{or_else-both}
 use Rattle.jc_facts.proofs.Pairs.{side_valid, old_root, new_root}
 use Rattle.jc_facts.proofs.World.{class_named-front, find-name, find-platform}
@@ -41,10 +41,12 @@ use Rattle.jc_worlds.proofs.Allowed.{among_each}
 use Rattle.jc_worlds.proofs.Bare.{bare_loads}
 use Rattle.jc_worlds.proofs.Loaded.{loads-parts, loads-found}
 use Rattle.jc_worlds.proofs.VisibleFrom.{platform_visible, platform_module, within_platform}
-use Rattle.jc_agree.proofs.Nothing.{cond_none, where_none}
+use Rattle.jc_agree.proofs.Nothing.{where_none}
 use Rattle.jc_sound.proofs.OpenActs.{least-passes}
 use Rattle.jc_sound.proofs.Standing.{usable_parts, usable_from, class_is-there}
 use Rattle.jc_sound.proofs.UsableLaw.{findings_are_of_loaded, collisions_are_of_usable}
+use Rattle.jc_sound.proofs.Itself.{not_reported}
+use Rattle.jc_worlds.proofs.Alike.{found_or-same, first_of-same}
 
 -- ---- tests, and options
 
@@ -66,29 +68,15 @@ never true true false d e = absurd (cc)
 never true false c d e = refl
 never false b c d e = refl
 
-not_reported : (b : Bool) (s : Subject) (a : Act) (e : LinkError) → b ≡ false → report_where b s a e ≡ None
-not_reported true s a e h = absurd (cc)
-not_reported false s a e h = refl
-
 where_open-same : (o p : Option LinkError) → o ≡ p → where_open o p ≡ None
 where_open-same None p e = sym e
 where_open-same (Some x) p e = refl
 
--- a lookup of which two things are said that agree on each member
-found-then : (e : LinkError) (o : Option DeclaredMember) (f g : DeclaredMember → Option LinkError) → ((m : DeclaredMember) → f m ≡ g m) → found_or e o f ≡ found_or e o g
-found-then e None f g h = refl
-found-then e (Some m) f g h = h m
-
-first-then : (e : LinkError) (ms : List DeclaredMember) (f g : DeclaredMember → Option LinkError) → ((m : DeclaredMember) → f m ≡ g m) → first_of e ms f ≡ first_of e ms g
-unfolding first_of
-first-then e [] f g h = refl
-first-then e (m ∷ ms) f g h = h m
-
 look_up-then : (W : World) (x : Bytes) (k : Key) (form : Form) (f g : DeclaredMember → Option LinkError) → ((m : DeclaredMember) → f m ≡ g m) → look_up W form x k f ≡ look_up W form x k g
 unfolding look_up
-look_up-then W x k FieldForm f g h = found-then NoSuchFieldError (field_found W x k) f g h
-look_up-then W x k MethodForm f g h = ap (cond (is_interface_of W x) (Some IncompatibleClassChangeError)) (first-then NoSuchMethodError (method_choices W x k) f g h)
-look_up-then W x k InterfaceForm f g h = ap (λ o. cond (is_interface_of W x) o (Some IncompatibleClassChangeError)) (first-then NoSuchMethodError (interface_choices W x k) f g h)
+look_up-then W x k FieldForm f g h = found_or-same NoSuchFieldError (field_found W x k) f g h
+look_up-then W x k MethodForm f g h = ap (cond (is_interface_of W x) (Some IncompatibleClassChangeError)) (first_of-same NoSuchMethodError (method_choices W x k) f g h)
+look_up-then W x k InterfaceForm f g h = ap (λ o. cond (is_interface_of W x) o (Some IncompatibleClassChangeError)) (first_of-same NoSuchMethodError (interface_choices W x k) f g h)
 
 loads_is : (W : World) (x : Bytes) → load_fault W x ≡ None → loads W x ≡ true
 loads_is W x l = ap is_none l

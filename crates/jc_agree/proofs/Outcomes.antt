@@ -17,25 +17,17 @@ use Rattle.jc_facts.specs.world.Loading.{load_fault}
 use Rattle.jc_facts.specs.world.World.{World}
 use Rattle.jc_lemmas.proofs.Listed.{EachOf, here, there, cases}
 use Rattle.jc_lemmas.proofs.Options.{none_where}
+use Rattle.jc_worlds.proofs.ClientOrder.{placed_each}
 
 abbrev name_of : ClientClass → Bytes
 name_of c = c.facts.name
 
 -- ---- in byte order stand the same
 
-placed_all : (P : ClientClass → Type 0) (x : ClientClass) (xs : List ClientClass) → P x → EachOf P xs → EachOf P (placed name_of x xs)
-unfolding placed
-placed_all P x [] p h = (p, tt)
-placed_all P x (y ∷ ys) p h = go (is_lt (name_order (name_of y) (name_of x))) (placed_all P x ys p h.1)
-  where
-    go : (b : Bool) → EachOf P (placed name_of x ys) → EachOf P (cond b (y ∷ placed name_of x ys) (x ∷ y ∷ ys))
-    go true more = (h.0, more)
-    go false more = (p, h)
-
 pub ordered_all : (P : ClientClass → Type 0) (xs : List ClientClass) → EachOf P xs → EachOf P (in_order xs)
 unfolding by_name
 ordered_all P [] h = tt
-ordered_all P (x ∷ xs) h = placed_all P x (in_order xs) h.0 (ordered_all P xs h.1)
+ordered_all P (x ∷ xs) h = placed_each P x (in_order xs) h.0 (ordered_all P xs h.1)
 
 placed_new : (x : ClientClass) (xs : List ClientClass) → Contains (placed name_of x xs) x
 unfolding placed

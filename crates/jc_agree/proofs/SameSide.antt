@@ -13,7 +13,7 @@ use Rattle.jc_trees.specs.declared.tree.TreeName.{TreeName}
 use Rattle.jc_trees.specs.declared.tree.TreeName.TheVariants as names
 use Rattle.jc_trees.specs.declared.tree_read.TreeRead.{TreeRead}
 use Rattle.jc_trees.specs.declared.tree_read.TreeRead.TheVariants as reads
-use Rattle.jc_trees.proofs.OneRead.{one_read}
+use Rattle.jc_trees.proofs.OneRead.{one_read, one_given}
 use Rattle.jc_commands.specs.Check.{CheckRecords}
 use Rattle.jc_commands.specs.Command.{CheckOf, LinkOf, release_tree}
 use Rattle.jc_commands.specs.Link.{LinkRecords, release_side}
@@ -63,15 +63,12 @@ module _ (files : List FileOf) (name : TreeName) (t : TreeOf) where
   gives_to (reads.Modular m) h = (h.0, record { all = h.1.all; are = files_to h.1.all h.1.are; records_are = h.1.records_are; exports_are = h.1.exports_are })
   gives_to (reads.Clients cs) h = (h.0, files_to (map ClassRead cs) h.1)
 
-one_tree : (files : List FileOf) (t : TreeOf) (a b : TreeRead) → Gives files t a → Gives files t b → a ≡ b
-one_tree files t a b h k = let same : a ∷ [] ≡ b ∷ [] = one_read files (t ∷ []) (a ∷ []) (b ∷ []) (h, tt) (k, tt) in cc
-
 -- ---- two commands
 
 module _ (files : List FileOf) (check : CheckOf) (link : LinkOf) (r : CheckRecords files check) (s : LinkRecords files link) (platform : link.platform ≡ check.platform) (modular : link.modular ≡ check.modular) where
   one_platform : s.platform ≡ r.platform
   one_platform = same_library s.platform r.platform
-      (one_tree files (library_at names.Platform check.platform) (reads.Library s.platform) (reads.Library r.platform)
+      (one_given files (library_at names.Platform check.platform) (reads.Library s.platform) (reads.Library r.platform)
       (subst (λ (root : Bytes). Gives files (library_at names.Platform root) (reads.Library s.platform)) platform s.are.0) r.are.0)
 
   read_again : (name : TreeName) (root : Bytes) → link.release ≡ root → Gives files (release_tree check.modular name root) (read_as s.modules s.release)
@@ -84,7 +81,7 @@ module _ (files : List FileOf) (check : CheckOf) (link : LinkOf) (r : CheckRecor
       → release_side s ≡ side_in m r.platform records
   one_side name root m records h is =
       same_side s.modules m s.platform r.platform s.release records one_platform
-      (one_tree files (release_tree check.modular name root) (read_as s.modules s.release) (read_as m records) (read_again name root is) h)
+      (one_given files (release_tree check.modular name root) (read_as s.modules s.release) (read_as m records) (read_again name root is) h)
 
 pub same_sides : SeeTheSameSide
 same_sides files check link r s platform modular = (

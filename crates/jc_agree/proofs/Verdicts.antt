@@ -12,8 +12,9 @@ use Rattle.jc_facts.specs.world.World.{World}
 use Rattle.jc_facts.proofs.Pairs.{side_valid}
 use Rattle.jc_sound.proofs.Itself.{quiet_itself, no_constant, no_capture, no_final}
 use Rattle.jc_agree.specs.Compatible.{FindsNothing, SameRelease, EmptyRelease}
-use Rattle.jc_agree.proofs.Nothing.{cond_none, where_none}
+use Rattle.jc_agree.proofs.Nothing.{where_none}
 use Rattle.jc_agree.proofs.EmptyRelease.{nothing_found, nothing_added}
+use Rattle.jc_lemmas.proofs.Options.{cond_none}
 
 -- a list of things none of which stands
 none_listed : {A : Type 0} (P : A → Type 0) → ((x : A) → P x → ⊥) → (xs : List A) → All P xs → xs ≡ []

@@ -17,16 +17,9 @@ use Rattle.jc_facts.proofs.KeySets.{key-same}
 use Rattle.jc_sound.specs.Findings.{declares_key}
 use Rattle.jc_worlds.specs.Hierarchy.{above}
 use Rattle.jc_facts.proofs.Hierarchy.{each-all}
+use Rattle.jc_selection.proofs.Parts.{class_named-in}
 
 -- ---- lists of candidates
-
-pub mapped : {A B : Type 0} (f : A → B) (xs : List A) (x : A) → Contains xs x → Contains (map f xs) (f x)
-mapped f [] x c = absurd (none x c)
-mapped {A} {B} f (y ∷ ys) x c = go (cases y ys x c) (mapped f ys x)
-  where
-    go : (y ≡ x) ⊎ Contains ys x → (Contains ys x → Contains (map f ys) (f x)) → Contains (f y ∷ map f ys) (f x)
-    go (inl is) r = subst (λ (z : A). Contains (f y ∷ map f ys) (f z)) is (here (f y) (map f ys))
-    go (inr d) r = there (f x) (f y) (map f ys) (r d)
 
 -- what f gives of each of the list, in a row
 abbrev pub spread : {A B : Type 0} → (A → List B) → List A → List B
@@ -79,19 +72,10 @@ some_key k cs (x ∷ xs) h e = go (or_cases (declares_key k x) (list_any (declar
 
 -- ---- the classes of a world
 
-pub named_in : (cs : List ClassFacts) (x : Bytes) (c : ClassFacts) → class_named cs x ≡ Some c → Contains cs c
-unfolding class_named
-named_in [] x c e = absurd (cc)
-named_in (d ∷ ds) x c e = go (same d.name x) e (named_in ds x c)
-  where
-    go : (b : Bool) → cond b (Some d) (class_named ds x) ≡ Some c → (class_named ds x ≡ Some c → Contains ds c) → Contains (d ∷ ds) c
-    go true q r = let is : d ≡ c = cc in subst (Contains (d ∷ ds)) is (here d ds)
-    go false q r = there c d ds (r q)
-
 module _ (W : World) where
   pub found_in_world : (x : Bytes) (c : ClassFacts) → find_class W x ≡ Some c → Contains (classes W) c
   unfolding find_class
-  found_in_world x c e = named_in (classes W) x c e
+  found_in_world x c e = class_named-in (classes W) x c e
 
   chain_in : (n : ℕ) (x : Bytes) → EachOf (Contains (classes W)) (descend W [] [] chain_step n x)
   unfolding descend chain_step

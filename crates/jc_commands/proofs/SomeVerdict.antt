@@ -55,8 +55,9 @@ use Rattle.jc_lemmas.proofs.Bools.{both_first, both_last}
 use Rattle.jc_lemmas.proofs.Options.{none_where}
 use Rattle.jc_facts.proofs.World.{find-name, class_named-name}
 use Rattle.jc_sides.proofs.Subjects.{subject_order}
-use Rattle.jc_commands.proofs.Declarations.{named_in, found_in_world, above_in, chain_all, with_all, super_all, class_key, some_key}
+use Rattle.jc_commands.proofs.Declarations.{found_in_world, above_in, chain_all, with_all, super_all, class_key, some_key}
 use Rattle.jc_commands.proofs.Subjects.{on_subject, rules, is_rule, none_or, names, keys, name_of, subjects, covered}
+use Rattle.jc_selection.proofs.Parts.{class_named-in}
 
 -- ---- what a rule gives is of that rule
 
@@ -376,7 +377,7 @@ module _ (O N : World) (pair : IsPair O N) where
     where
       go : (o : Option ClassFacts) → in_release W x ≡ o → is_some o ≡ true → Contains (names O N) x
       go None e q = absurd (cc)
-      go (Some c) e q = name_of O N x c (among c (named_in W.release x c e)) (class_named-name W.release x c e)
+      go (Some c) e q = name_of O N x c (among c (class_named-in W.release x c e)) (class_named-name W.release x c e)
 
   in_old : (c : ClassFacts) → Contains O.release c → Contains (classes O ++ classes N) c
   in_old c m = of_old c (Contains-append_left (O.platform ++ O.release) O.clients c (Contains-append_right O.platform O.release c m))
@@ -402,7 +403,7 @@ module _ (O N : World) (pair : IsPair O N) where
           has test (Some m) q = refl
 
       go : (o : Option ClassFacts) → in_release O x ≡ o → (p : Option ClassFacts) → some_and (λ c. some_and (λ d. has_lost_constant c d k) p) o ≡ true → Contains (keys O N) k
-      go (Some c) e (Some d) q = class_key k (classes O ++ classes N) c (in_old c (named_in O.release x c e)) (or_left (is_some (own_field_of c k)) (is_some (own_method_of c k)) (field c d q))
+      go (Some c) e (Some d) q = class_key k (classes O ++ classes N) c (in_old c (class_named-in O.release x c e)) (or_left (is_some (own_field_of c k)) (is_some (own_method_of c k)) (field c d q))
       go (Some c) e None q = absurd (cc)
       go None e p q = absurd (cc)
 

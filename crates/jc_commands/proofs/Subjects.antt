@@ -22,7 +22,8 @@ use Rattle.jc_lemmas.proofs.Listed.{here, there}
 use Rattle.jc_facts.proofs.KeySets.{then_equal}
 use Rattle.jc_sides.proofs.Subjects.{subject_order}
 use Rattle.jc_trees.proofs.Gathered.{Gathered, gathered, name_tied}
-use Rattle.jc_commands.proofs.Declarations.{mapped, spread, spread_has, all_keys}
+use Rattle.jc_commands.proofs.Declarations.{spread, spread_has, all_keys}
+use Rattle.jc_facts.proofs.Mapped.{in_map}
 
 -- ---- subjects that tie are equal
 
@@ -80,7 +81,7 @@ or_none {T} xs = None ∷ map (λ (x : T). Some x) xs
 
 pub none_or : {T : Type 0} (xs : List T) (o : Option T) → ((x : T) → o ≡ Some x → Contains xs x) → Contains (or_none xs) o
 none_or {T} xs None h = here None (map (λ (x : T). Some x) xs)
-none_or {T} xs (Some x) h = there (Some x) None (map (λ (x : T). Some x) xs) (mapped (λ (x : T). Some x) xs x (h x refl))
+none_or {T} xs (Some x) h = there (Some x) None (map (λ (x : T). Some x) xs) (in_map (λ (x : T). Some x) xs x (h x refl))
 
 module _ (O N : World) where
   abbrev pub both_classes : List ClassFacts
@@ -96,7 +97,7 @@ module _ (O N : World) where
   candidates = spread (λ r. spread (λ x. spread (λ k. map (on_subject r x k) (or_none names)) (or_none keys)) names) rules
 
   pub name_of : (x : Bytes) (c : ClassFacts) → Contains (classes O ++ classes N) c → c.name ≡ x → Contains names x
-  name_of x c m e = subst (Contains names) e (mapped (λ (d : ClassFacts). d.name) (classes O ++ classes N) c m)
+  name_of x c m e = subst (Contains names) e (in_map (λ (d : ClassFacts). d.name) (classes O ++ classes N) c m)
 
   pub subjects : Gathered subject_order candidates
   subjects = gathered subject_order subject_total subject_tied candidates
@@ -106,4 +107,4 @@ module _ (O N : World) where
       (spread_has (λ r. spread (λ x. spread (λ k. map (on_subject r x k) (or_none names)) (or_none keys)) names) rules s.rule s r
       (spread_has (λ x. spread (λ k. map (on_subject s.rule x k) (or_none names)) (or_none keys)) names s.«class» s x
       (spread_has (λ k. map (on_subject s.rule s.«class» k) (or_none names)) (or_none keys) s.key s k
-      (mapped (on_subject s.rule s.«class» s.key) (or_none names) s.target t))))
+      (in_map (on_subject s.rule s.«class» s.key) (or_none names) s.target t))))

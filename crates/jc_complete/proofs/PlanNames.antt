@@ -20,9 +20,8 @@ use Rattle.jc_facts.specs.world.Mentioned.{permitted, mentions}
 use Rattle.jc_facts.specs.plan.PlannedNames.{in_package}
 use Rattle.jc_lemmas.proofs.Listed.{EachOf, EachOf-map, EachOf-append}
 use Rattle.jc_facts.proofs.Same.{same_is, same_itself}
-use Rattle.jc_facts.proofs.World.{find-name}
+use Rattle.jc_facts.proofs.World.{find-name, any-named}
 use Rattle.jc_lemmas.proofs.Bools.{neither_first, neither_last}
-use Rattle.jc_worlds.proofs.Allowed.{any_found}
 use Rattle.jc_sound.proofs.Examples.{ascii}
 use Rattle.jc_complete.proofs.PlanGround.{is_letter, letter}
 use Rattle.jc_complete.proofs.PlanPackage.{IsDigit, digits_of_number, IsFree, begins_again}
@@ -171,7 +170,7 @@ module _ (names : List Bytes) (w : Bytes) (f : IsFree names w) where
     absent : (l : ℕ) → (o : Option ClassFacts) → find_class W (letter w l) ≡ o → is_some o ≡ false
     unfolding find_class
     absent l None e = refl
-    absent l (Some c) e = absurd (both_ways (list_any Uses (classes W)) none (any_found Uses (classes W) (letter w l) c e
+    absent l (Some c) e = absurd (both_ways (list_any Uses (classes W)) none (any-named Uses (classes W) (letter w l) c e
         (uses_name c (letter w l) (l ∷ []) (in_it l) (or_left (same c.name (letter w l)) (is_name_among (supers c ++ permitted c.permits) (letter w l)) (subst (λ z. same z (letter w l) ≡ true) (sym (find-name W (letter w l) c e)) (same_itself (letter w l)))))))
 
     not_super : (l : ℕ) → is_named_above W (letter w l) ≡ false
@@ -184,7 +183,7 @@ module _ (names : List Bytes) (w : Bytes) (f : IsFree names w) where
       where
         go : (b : Bool) → is_name_among (permitted c.permits) (letter w l) ≡ b → b ≡ false
         go false p = refl
-        go true p = absurd (both_ways (list_any Uses (classes W)) none (any_found Uses (classes W) x c e (uses_name c (letter w l) (l ∷ []) (in_it l)
+        go true p = absurd (both_ways (list_any Uses (classes W)) none (any-named Uses (classes W) x c e (uses_name c (letter w l) (l ∷ []) (in_it l)
             (or_right (same c.name (letter w l)) (is_name_among (supers c ++ permitted c.permits) (letter w l)) (list_any-append (λ y. same y (letter w l)) (supers c) (permitted c.permits) ∙ or_right (is_name_among (supers c) (letter w l)) (is_name_among (permitted c.permits) (letter w l)) p)))))
 
     no_package : (l : ℕ) → (l == 47) ≡ false → has_package W (letter w l) ≡ false

@@ -34,7 +34,7 @@ use Rattle.jc_index.proofs.Numbers.{IsClass, class_at, names-in, names-length, n
 use Rattle.jc_lemmas.proofs.Bools.{contradicts, or_false}
 use Rattle.jc_lemmas.proofs.Listed.{EachOf, EachOf-append, EachOf-both, Passes, any_has, any_passes, cases, each_from, each_in, each_of, here, none, there}
 use Rattle.jc_lemmas.proofs.Lists.{any_weaker}
-use Rattle.jc_sound.proofs.ExposedAbove.{exposes_above}
+use Rattle.jc_sound.proofs.ExposedAbove.{exposes_above, above-each}
 use Rattle.jc_sound.proofs.Itself.{same_pair}
 use Rattle.jc_sound.proofs.Standing.{usable_parts}
 use Rattle.jc_sound.specs.ExposedAbove.{keys_above}
@@ -75,12 +75,6 @@ is_itself W s c i = each_in (λ d. class_named (classes W) d.name ≡ Some d) (c
 found_in : (W : World) (x : Bytes) (c : ClassFacts) → find_class W x ≡ Some c → Contains (classes W) c
 unfolding find_class
 found_in W x c e = class_named-each (Contains (classes W)) (classes W) x c (each_from (Contains (classes W)) (classes W) (λ d i. i)) e
-
--- the classes above one that loads are of the world
-each_above : (W : World) (x : Bytes) → load_fault W x ≡ None → EachOf (IsOf W) (above W x)
-each_above W x l = EachOf-append (IsOf W) (chain W x) (superinterfaces W x)
-    (chain-each W (IsOf W) (λ y c e h. ap (find_class W) (find-name W y c e) ∙ e) x l)
-    (superinterfaces-each W (IsOf W) (λ y c e h i. ap (find_class W) (find-name W y c e) ∙ e) x l)
 
 -- ---- the order of names
 
@@ -239,7 +233,7 @@ module _ (W : World) (s : IsSide W) (bare : W.clients ≡ []) (a : Bytes) (t : �
   back c e =
       let p = and_parts (is_class_usable W c) (list_any (opens_of W c a t) (above W c)) e in
       let d = any_passes (opens_of W c a t) (above W c) p.1 in
-      let is = each_in (IsOf W) (above W c) d.one (each_above W c (usable_parts W c p.0).loaded) d.is_in in
+      let is = each_in (IsOf W) (above W c) d.one (above-each W c (usable_parts W c p.0).loaded) d.is_in in
       let k = any_passes (λ l. descriptor_names l.descriptor (name_at W t) && opens W c a l) (keys_of d.one) d.passes in
       let q = and_parts (descriptor_names k.one.descriptor (name_at W t)) (opens W c a k.one) k.passes in (
         k.one,

@@ -24,32 +24,16 @@ use Rattle.jc_lemmas.proofs.Lists.{found_any, first_where-any, any_left, any_rig
 use Rattle.jc_lemmas.proofs.Options.{none_where}
 use Rattle.jc_facts.proofs.Mapped.{any-map, any-flat}
 use Rattle.jc_facts.proofs.Same.{same_is}
-use Rattle.jc_facts.proofs.World.{find-name}
+use Rattle.jc_facts.proofs.World.{find-name, any-named}
+use Rattle.jc_facts.proofs.KeySets.{key-same}
 
 -- ---- classes
-
--- a class that is found by its name is one that passes
-any-named : (p : ClassFacts → Bool) (cs : List ClassFacts) (x : Bytes) (c : ClassFacts) → class_named cs x ≡ Some c → p c ≡ true → list_any p cs ≡ true
-unfolding class_named
-any-named p [] x c e h = absurd (cc)
-any-named p (d ∷ cs) x c e h = go (same d.name x) e (any-named p cs x c)
-  where
-    go : (b : Bool) → cond b (Some d) (class_named cs x) ≡ Some c → (class_named cs x ≡ Some c → p c ≡ true → list_any p cs ≡ true) → (p d || list_any p cs) ≡ true
-    go true q r = let k : d ≡ c = cc in or_left (p d) (list_any p cs) (ap p k ∙ h)
-    go false q r = or_right (p d) (list_any p cs) (r q h)
 
 pub any-found : (W : World) (p : ClassFacts → Bool) (x : Bytes) (c : ClassFacts) → find_class W x ≡ Some c → p c ≡ true → list_any p (classes W) ≡ true
 unfolding find_class
 any-found W p x c e h = any-named p (classes W) x c e h
 
 -- ---- keys
-
-pub key-is : (k : Key) (m : Member) → is_key k m ≡ true → key_of m ≡ k
-key-is k m h =
-    let p = and_parts (same m.name k.name) (same m.descriptor k.descriptor) h in
-    let a = same_is m.name k.name p.0 in
-    let b = same_is m.descriptor k.descriptor p.1 in
-    λ i. record { name = a i; descriptor = b i }
 
 first_where-passes : {A : Type 0} (test : A → Bool) (xs : List A) (x : A) → first_where test xs ≡ Some x → test x ≡ true
 first_where-passes test [] x e = absurd (cc)
@@ -68,10 +52,10 @@ pub data DeclaresKey (W : World) (k : Key) : Type 0 where
 any-key : (W : World) (p : Key → Bool) (k : Key) → DeclaresKey W k → p k ≡ true → list_any p (flat_map keys_of (classes W)) ≡ true
 any-key W p k (a_field x c m f o) h =
     any-flat p keys_of (classes W) ∙ any-found W (λ c. list_any p (keys_of c)) x c f
-    (any-map p key_of (c.fields ++ c.methods) ∙ any_left (λ m. p (key_of m)) c.fields c.methods (first_where-any (is_key k) (λ m. p (key_of m)) c.fields m o (ap p (key-is k m (first_where-passes (is_key k) c.fields m o)) ∙ h)))
+    (any-map p key_of (c.fields ++ c.methods) ∙ any_left (λ m. p (key_of m)) c.fields c.methods (first_where-any (is_key k) (λ m. p (key_of m)) c.fields m o (ap p (key-same k m (first_where-passes (is_key k) c.fields m o)) ∙ h)))
 any-key W p k (a_method x c m f o) h =
     any-flat p keys_of (classes W) ∙ any-found W (λ c. list_any p (keys_of c)) x c f
-    (any-map p key_of (c.fields ++ c.methods) ∙ any_right (λ m. p (key_of m)) c.fields c.methods (first_where-any (is_key k) (λ m. p (key_of m)) c.methods m o (ap p (key-is k m (first_where-passes (is_key k) c.methods m o)) ∙ h)))
+    (any-map p key_of (c.fields ++ c.methods) ∙ any_right (λ m. p (key_of m)) c.fields c.methods (first_where-any (is_key k) (λ m. p (key_of m)) c.methods m o (ap p (key-same k m (first_where-passes (is_key k) c.methods m o)) ∙ h)))
 
 -- what passes of a class of the side and a key that one declares, one of its references does
 any-reference : (O : World) (p : Reference → Bool) (x : Bytes) (c : ClassFacts) (k : Key) → find_class O x ≡ Some c → DeclaresKey O k → p (record { «class» = x; key = k }) ≡ true → list_any p (references O) ≡ true

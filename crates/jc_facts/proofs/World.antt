@@ -1,10 +1,12 @@
 -- Finding a class by its name.
-use Rattle.std.proofs.Common.{◌≡◌, suc, Bool, true, false, cond, List, [], ◌∷◌, length, refl, sym, ◌∙◌, ap, subst, Some, ◌++◌, is_some, None}
+use Rattle.std.proofs.Common.{◌≡◌, suc, Bool, true, false, cond, List, [], ◌∷◌, length, refl, sym, ◌∙◌, ap, subst, Some, ◌++◌, is_some, None, ◌||◌}
 use Rattle.jc_facts.specs.declared.class_facts.ClassFacts.{ClassFacts}
 use Rattle.jc_facts.specs.Names.{Bytes, same}
 use Rattle.jc_facts.specs.world.World.{World, class_named, find_class, size, classes}
 use Rattle.jc_lemmas.proofs.Listed.{EachOf}
 use Rattle.jc_facts.proofs.Same.{same_is}
+use Rattle.std.specs.List.{list_any}
+use Rattle.std.proofs.lemmas.Bool.{or_left, or_right}
 
 abbrev pub names : List ClassFacts → List Bytes
 names [] = []
@@ -82,3 +84,13 @@ class_named-front (c ∷ cs) ds x h = rw (class_named-front cs ds x h) refl
 -- the world has the class under its name
 abbrev pub IsOf : World → ClassFacts → Type 0
 IsOf W c = find_class W c.name ≡ Some c
+
+-- a class that is found by its name is one that passes
+pub any-named : (p : ClassFacts → Bool) (cs : List ClassFacts) (x : Bytes) (c : ClassFacts) → class_named cs x ≡ Some c → p c ≡ true → list_any p cs ≡ true
+unfolding class_named
+any-named p [] x c e h = absurd (cc)
+any-named p (d ∷ cs) x c e h = go (same d.name x) e (any-named p cs x c)
+  where
+    go : (b : Bool) → cond b (Some d) (class_named cs x) ≡ Some c → (class_named cs x ≡ Some c → p c ≡ true → list_any p cs ≡ true) → (p d || list_any p cs) ≡ true
+    go true q r = let k : d ≡ c = cc in or_left (p d) (list_any p cs) (ap p k ∙ h)
+    go false q r = or_right (p d) (list_any p cs) (r q h)

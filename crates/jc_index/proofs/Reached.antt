@@ -30,7 +30,7 @@ any_at q (n ∷ ids) k h e = go (n == k) refl h (any_at q ids k)
     go false i h r = or_right (q n) (list_any q ids) (r h e)
 
 -- the world has each class that interfaces lead to under its name
-reached_of : (W : World) (n : ℕ) (x : Bytes) → EachOf (IsOf W) (descend W [] [] interfaces_step n x)
+pub reached_of : (W : World) (n : ℕ) (x : Bytes) → EachOf (IsOf W) (descend W [] [] interfaces_step n x)
 unfolding interfaces_step
 reached_of W zero x = start (find_class W x) refl
   where

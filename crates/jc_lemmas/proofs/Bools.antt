@@ -1,5 +1,6 @@
 -- Tests that are true or false, beside the lemmas of std.
 use Rattle.std.proofs.Common.{◌≡◌, Bool, true, false, not, ◌||◌, refl, ◌&&◌, sym}
+use Rattle.std.specs.Bool.{beq}
 
 pub imply : (i p : Bool) → (not i || p) ≡ true → i ≡ true → p ≡ true
 imply true p h e = h
@@ -74,3 +75,25 @@ second_of_five a b c d e h = both_last a b (both_first (a && b) c (both_first (a
 
 pub third_of_five : (a b c d e : Bool) → (a && b && c && d && e) ≡ true → c ≡ true
 third_of_five a b c d e h = both_last (a && b) c (both_first (a && b && c) d (both_first (a && b && c && d) e h))
+
+pub neither : (a b : Bool) → a ≡ false → b ≡ false → (a || b) ≡ false
+neither true b h k = absurd (cc)
+neither false b h k = k
+
+pub second_fails : (a b : Bool) → b ≡ false → (a && b) ≡ false
+second_fails true b h = h
+second_fails false b h = refl
+
+pub and_true : (b : Bool) → (b && true) ≡ b
+and_true true = refl
+and_true false = refl
+
+pub and_never : (b : Bool) → (b && false) ≡ false
+and_never true = refl
+and_never false = refl
+
+pub beq_is : (a b : Bool) → beq a b ≡ true → a ≡ b
+beq_is true true h = refl
+beq_is true false h = absurd (cc)
+beq_is false true h = absurd (cc)
+beq_is false false h = refl

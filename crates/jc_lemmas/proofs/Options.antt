@@ -23,3 +23,7 @@ taken false o p q e h = absurd (cc)
 pub passed : {A : Type 0} (b : Bool) (o p q : Option A) → b ≡ false → cond b o p ≡ q → p ≡ q
 passed true o p q e h = absurd (cc)
 passed false o p q e h = h
+
+pub cond_none : {A : Type 0} (b : Bool) (o p : Option A) → o ≡ None → p ≡ None → cond b o p ≡ None
+cond_none true o p e f = e
+cond_none false o p e f = f

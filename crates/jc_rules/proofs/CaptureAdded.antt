@@ -42,6 +42,7 @@ use Rattle.jc_index.specs.declared.ids.Found.{Found}
 use Rattle.jc_acts.proofs.Untouched.{looks_alike}
 use Rattle.jc_rules.proofs.ChangedClasses.{collision_of_changed}
 use Rattle.jc_rules.specs.steps.Changed.{changed_class}
+use Rattle.jc_sound.proofs.Opening.{one-is}
 
 -- the table's lookup finds none where the world's finds nothing
 pub choice_none : (W : World) (f : Option Found) (ms : List DeclaredMember) → IsChoice W f ms → is_none f ≡ are_none ms
@@ -111,13 +112,6 @@ none_passed true false n r h = refl
 none_passed true true n r (inl h) = absurd (cc)
 none_passed true true n r (inr h) = absurd (cc)
 
-only_one : (n m : DeclaredMember) → Contains (n ∷ []) m → n ≡ m
-only_one n m c = go (cases n [] m c)
-  where
-    go : (n ≡ m) ⊎ Contains [] m → n ≡ m
-    go (inl is) = is
-    go (inr d) = absurd (none m d)
-
 -- whatever the lookup chooses: the chain's method is the choice, and where there is none, no choice is passed
 pub captured : (s : SidesOf) (x : Bytes) (k : Key) (f : Found) (b : Bool) (e : LinkError) (o : Option BrokenOf) → is_base_class s.old s.new x ≡ true → IsSide s.new → load_fault s.new x ≡ None → IsChoice s.new (Some f) (method_choices s.new x k)
     → b ≡ is_passed s.old x k f.flags → e ≡ cond (public_flag f.flags) IncompatibleClassChangeError IllegalAccessError → o ≡ broken_if b InvokeVirtual e → collided 11 x k o ≡ key_collision 11 s x k
@@ -153,7 +147,7 @@ captured s x k f b e o base side loads a t q r =
 
     go : (m : Option DeclaredMember) → Contains (or_choices m (superinterface_choices s.new x k)) found → capture_of s x k m ≡ some_where (is_passed s.old x k f.flags) (made x k f.flags)
     go None h = nothing ∙ sym (unmade (unpassed h))
-    go (Some m) h = declared m (flags ∙ ap (λ (y : DeclaredMember). y.member.flags) (sym (only_one m found h)))
+    go (Some m) h = declared m (flags ∙ ap (λ (y : DeclaredMember). y.member.flags) (sym (one-is m found h)))
 
 -- ---- the kind of a base class
 

@@ -21,7 +21,7 @@ use Rattle.jc_worlds.proofs.Inherited.{found_passes}
 use Rattle.jc_worlds.proofs.Loaded.{loads-found}
 use Rattle.jc_sound.proofs.Standing.{usable_parts}
 use Rattle.jc_sound.proofs.UsableLaw.{Needs, or_else_needs, and_then_needs}
-use Rattle.jc_lemmas.proofs.Bools.{both_last}
+use Rattle.jc_lemmas.proofs.Bools.{both_last, and_never}
 use Rattle.jc_rules.specs.steps.Constructors.{makes_no_objects, open_flags, declares_init, why_closed, fault_of_new, fault_of_super}
 use Rattle.jc_rules.specs.steps.Own.{flags_of, method_flags_of}
 use Rattle.jc_sides.specs.BrokenOf.{BrokenOf, broken_if, found}
@@ -44,13 +44,9 @@ on_5 = record { not_1 = refl; not_2 = refl; not_3 = refl; not_4 = refl }
 
 -- ---- an initializer by its key
 
-never_and : (b : Bool) → (b && false) ≡ false
-never_and true = refl
-never_and false = refl
-
 -- by the flags of what the class declares
 had_flags : (test : ℕ → Bool) (k : Key) (o : Option Member) → (is_init_name k.name && some_and (λ (m : Member). test m.flags) o) ≡ declares_init test k (flags_of o)
-had_flags test k None = never_and (is_init_name k.name)
+had_flags test k None = and_never (is_init_name k.name)
 had_flags test k (Some m) = refl
 
 closed_flags : (test : ℕ → Bool) (o : Option Member) → missing_or (λ (m : Member). fault_where (not (test m.flags)) IllegalAccessError) o ≡ why_closed test (flags_of o)

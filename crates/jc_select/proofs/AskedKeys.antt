@@ -32,8 +32,9 @@ use Rattle.jc_select.specs.steps.Parts.{AreNamed, stands_at, was_at}
 use Rattle.jc_select.specs.steps.Warned.{warned, parts_differ}
 use Rattle.jc_select.proofs.ChainKeys.{not_listed}
 use Rattle.jc_select.proofs.StillAgree.{alike_agree, none_agree}
-use Rattle.jc_select.proofs.Unchanged.{of_none, no_change}
+use Rattle.jc_select.proofs.Unchanged.{of_none}
 use Rattle.jc_select.proofs.KindsWarned.{some_kind, warned_parts}
+use Rattle.jc_selection.proofs.Selected.{no_change}
 
 -- ---- loops over classes
 

@@ -32,6 +32,7 @@ use Rattle.jc_index.specs.steps.Choosing.{as_found, if_candidate}
 use Rattle.jc_table.specs.Ids.{name_at, superclass_of, id_of}
 use Rattle.jc_facts.specs.rule.Warnings.{interfaces_from, part, is_below_other}
 use Rattle.jc_select.specs.steps.Parts.{AreNamed, offers_at}
+use Rattle.jc_index.proofs.Reached.{reached_of}
 
 -- ---- lists of numbers
 
@@ -185,21 +186,6 @@ filtered_name W k cs g y c f = tests_agree (names_in (filter (offers k) cs) y) (
         any_has (λ (d : ClassFacts). same d.name y) (filter (offers k) cs) q.one (filter_in (offers k) cs q.one q.is_in (subst (λ d. offers k d ≡ true) (sym (is q.one q.is_in q.passes)) b.0)) q.passes
 
 -- ---- who is above is found
-
-reached_of : (W : World) (n : ℕ) (x : Bytes) → EachOf (IsOf W) (descend W [] [] interfaces_step n x)
-unfolding interfaces_step
-reached_of W zero x = start (find_class W x) refl
-  where
-    start : (o : Option ClassFacts) → find_class W x ≡ o → EachOf (IsOf W) (descend W [] [] interfaces_step zero x)
-    start None e = subst (EachOf (IsOf W)) (sym (descend-absent W [] [] interfaces_step zero x e)) tt
-    start (Some c) e = subst (EachOf (IsOf W)) (sym (descend-none_left W [] [] interfaces_step x c e)) tt
-reached_of W (suc n) x = go (find_class W x) refl (reached_of W n)
-  where
-    go : (o : Option ClassFacts) → find_class W x ≡ o → ((y : Bytes) → EachOf (IsOf W) (descend W [] [] interfaces_step n y)) → EachOf (IsOf W) (descend W [] [] interfaces_step (suc n) x)
-    go None e more = subst (EachOf (IsOf W)) (sym (descend-absent W [] [] interfaces_step (suc n) x e)) tt
-    go (Some c) e more =
-        subst (EachOf (IsOf W)) (sym (descend-found W [] [] interfaces_step n x c e))
-        (ap (find_class W) (find-name W x c e) ∙ e, each-all (IsOf W) (descend W [] [] interfaces_step n) c.interfaces (each_of (λ y. EachOf (IsOf W) (descend W [] [] interfaces_step n y)) more c.interfaces))
 
 with_of : (W : World) (x : Bytes) → EachOf (IsOf W) (with_interfaces W x)
 unfolding with_interfaces

@@ -35,6 +35,7 @@ use Rattle.jc_select.proofs.Collected.{filtered_number}
 use Rattle.jc_select.specs.declared.losing.Lost.{Lost}
 use Rattle.jc_select.specs.steps.Losing.{AreDone, AreLost, AreNumbersOf, has_left, hidden_of, is_asked, is_found, lost_at, loses, row_at}
 use Rattle.jc_select.specs.steps.Parts.{AreNamed}
+use Rattle.jc_lemmas.proofs.Bools.{neither, second_fails}
 
 -- ---- a thing for one class after the other
 
@@ -172,10 +173,6 @@ loses_is s x t = go (is_held s.old s.new x) refl
     go true e = let l = held_loads s.old s.new x e in ap (λ b. is_held s.old s.new x && b) (both_load s x t l.0 l.1)
     go false e = ap (λ b. b && has_lost s.old s.new x t) e ∙ sym (ap (λ b. b && lost_at s x t) e)
 
-unlost : (a b : Bool) → b ≡ false → (a && b) ≡ false
-unlost true b e = e
-unlost false b e = refl
-
 pub nil_of : (xs : List ℕ) → (length xs == 0) ≡ true → xs ≡ []
 nil_of [] h = refl
 nil_of (x ∷ xs) h = absurd (let e : length (x ∷ xs) ≡ 0 = eqb-true (length (x ∷ xs)) 0 h in omega arith)
@@ -186,12 +183,8 @@ held_empty s x row ids e z h = record {
   within = subst (All (λ n. n < size s.old)) (sym e) (All-from_recursion (λ n. n < size s.old) [] tt);
   exact = λ n l.
       let u : lost_at s x (name_at s.old n) ≡ false = sym (h.exact n l) ∙ ap (list_any (λ i. i == n)) z in
-      ap (list_any (λ i. i == n)) e ∙ sym (loses_is s x (name_at s.old n) ∙ unlost (is_held s.old s.new x) (lost_at s x (name_at s.old n)) u);
+      ap (list_any (λ i. i == n)) e ∙ sym (loses_is s x (name_at s.old n) ∙ second_fails (is_held s.old s.new x) (lost_at s x (name_at s.old n)) u);
 }
-
-neither : (a b : Bool) → a ≡ false → b ≡ false → (a || b) ≡ false
-neither true b e f = absurd (cc)
-neither false b e f = f
 
 first_of : (a b : Bool) → (a || b) ≡ false → (a ≡ false) × (b ≡ false)
 first_of true b e = absurd (cc)
@@ -244,4 +237,4 @@ held_as s rows n ids e h row = record {
         go true g = ap (λ b. b && lost_at s x t) (stays (is_kept s.old s.new x) (is_found s rows n) h (λ q. (and_parts (is_asked s rows n) (is_exposed_to_some s.old s.new x) q).1) g refl)
         go false g =
             let u : lost_at s x t ≡ false = ap (λ b. loads s.old x && b && has_lost s.old s.new x t) g ∙ not_after (loads s.old x) (has_lost s.old s.new x t) in
-            unlost (is_held s.old s.new x) (lost_at s x t) u ∙ sym u
+            second_fails (is_held s.old s.new x) (lost_at s x t) u ∙ sym u

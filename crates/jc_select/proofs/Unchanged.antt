@@ -31,6 +31,7 @@ use Rattle.jc_facts.specs.rule.Selection.{declares_abstract, first_kind, chain_k
 use Rattle.jc_facts.specs.rule.Warnings.{is_base, is_below_other, interfaces_from, part, stays_in, parts_agree, warn_kind, warning_at}
 use Rattle.jc_select.specs.steps.Warned.{warned, parts_differ}
 use Rattle.jc_select.proofs.KindsWarned.{warned_parts, some_kind, base_loads}
+use Rattle.jc_selection.proofs.Selected.{no_change}
 
 pub beq_same : (a b : Bool) → a ≡ b → beq a b ≡ true
 beq_same true true e = refl
@@ -114,11 +115,6 @@ module _ (W : World) (side : IsSide W) (x : Bytes) (loads : load_fault W x ≡ N
       go false i = above_from
 
 -- ---- both sides
-
-pub no_change : (a : ChainKind) → warn_kind a a false ≡ None
-no_change Nothing = refl
-no_change Abstract = refl
-no_change Concrete = refl
 
 module _ (s : SidesOf) (are : AreSides s) (x : Bytes) (k : Key) (free : may_be_closed s x ≡ false) (loads : load_fault s.old x ≡ None) (loads_now : load_fault s.new x ≡ None) where
   looks : LooksTheSame s.old s.new x

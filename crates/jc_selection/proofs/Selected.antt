@@ -55,7 +55,7 @@ empty_agree : (O N : World) (k : Key) → parts_agree O N k [] [] ≡ true
 unfolding parts_agree
 empty_agree O N k = refl
 
-no_change : (a : ChainKind) → warn_kind a a false ≡ None
+pub no_change : (a : ChainKind) → warn_kind a a false ≡ None
 no_change Nothing = refl
 no_change Abstract = refl
 no_change Concrete = refl

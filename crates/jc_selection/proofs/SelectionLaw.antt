@@ -21,10 +21,7 @@ use Rattle.jc_facts.specs.rule.Warnings.{AreWarnings, warning_at}
 use Rattle.jc_facts.specs.declared.warning.Warning.{Warning}
 use Rattle.jc_facts.specs.declared.warning.WarnKind.{WarnKind}
 use Rattle.jc_selection.proofs.Selected.{stays_answered}
-
-final_is : (O N : World) (a : Bytes) (k : Key) → final_added O N a k ≡ true → CollisionStands O N (made_collision 12 a k Override IncompatibleClassChangeError)
-unfolding collision_at
-final_is O N a k e = rw e refl
+use Rattle.jc_sound.proofs.SoundnessLaws.{final_is}
 
 -- an empty list of warnings says that none stands
 pub none_warned : (O N : World) (ws : List Warning) → AreWarnings O N ws → ws ≡ [] → (b : Bytes) (k : Key) → warning_at O N b k ≡ None

@@ -15,6 +15,7 @@ use Rattle.jc_table.specs.Ids.{names}
 use Rattle.jc_table.proofs.Numbers.{names-length}
 use Rattle.jc_sides.specs.SharedOf.{SharedOf, IsShared, AreThose, HasThose, name_of}
 use Rattle.jc_sides.specs.SidesOf.{SidesOf}
+use Rattle.jc_lemmas.proofs.Bools.{and_true}
 
 -- ---- names that are listed no more
 
@@ -43,10 +44,6 @@ module _ (p : Bytes → Bool) (ys : List Bytes) where
 
 -- ---- names of those that pass a test
 
-both_true : (b : Bool) → (b && true) ≡ b
-both_true true = refl
-both_true false = refl
-
 -- a class that both sides have is one of the old side's
 listed : (s : SidesOf) (b : SharedOf) → IsShared s b → is_name_among (names s.old) (name_of b) ≡ true
 listed s b h =
@@ -58,4 +55,4 @@ pub has_those : (test : Bytes → Bool) (s : SidesOf) (bs : List SharedOf) (set 
 has_those test s bs set those p b h =
     sym (list_any-IsPermutation (λ y. same y (name_of b)) (filter test (names s.old)) set (subst (λ (xs : List Bytes). IsPermutation xs set) those.all p))
     ∙ any-filter_same (λ y. same y (name_of b)) test (test (name_of b)) (λ k e. ap test (same_is k (name_of b) e)) (names s.old)
-    ∙ rw (listed s b h) (both_true (test (name_of b)))
+    ∙ rw (listed s b h) (and_true (test (name_of b)))

@@ -15,7 +15,7 @@ use Rattle.jc_facts.specs.world.Loading.{load_fault}
 use Rattle.jc_facts.specs.rule.Bases.{is_class_usable}
 use Rattle.jc_facts.specs.rule.OpenActs.{act_fault}
 use Rattle.jc_facts.specs.rule.Exposed.{is_hidden, Reference, keys_of, references, acts_on, open_act, exposes, is_exposed}
-use Rattle.jc_facts.proofs.Exposed.{key-is, any-found}
+use Rattle.jc_facts.proofs.Exposed.{any-found}
 use Rattle.jc_facts.proofs.Mapped.{any-map, any-flat}
 use Rattle.jc_facts.proofs.World.{find-name, IsOf}
 use Rattle.jc_lemmas.proofs.Bools.{tests_agree}
@@ -30,6 +30,7 @@ use Rattle.jc_sound.specs.ExposedAbove.{keys_above, exposes_by, ExposedByKeysAbo
 use Rattle.jc_sound.proofs.Standing.{usable_parts}
 use Rattle.jc_sound.proofs.Itself.{same_pair}
 use Rattle.jc_sound.proofs.KeyLaws.{open_above}
+use Rattle.jc_facts.proofs.KeySets.{key-same}
 
 -- what passes of a key that the class declares
 key-there : (p : Key → Bool) (k : Key) → p k ≡ true → (c : ClassFacts) → declares_key k c ≡ true → list_any p (keys_of c) ≡ true
@@ -37,18 +38,18 @@ key-there p k h c d = any-map p key_of (c.fields ++ c.methods) ∙ go (or_cases 
   where
     field : (o : Option Member) → own_field_of c k ≡ o → is_some o ≡ true → list_any (λ m. p (key_of m)) (c.fields ++ c.methods) ≡ true
     field None e q = absurd (cc)
-    field (Some m) e q = any_left (λ m. p (key_of m)) c.fields c.methods (first_where-any (is_key k) (λ m. p (key_of m)) c.fields m e (ap p (key-is k m (found_passes (is_key k) c.fields m e)) ∙ h))
+    field (Some m) e q = any_left (λ m. p (key_of m)) c.fields c.methods (first_where-any (is_key k) (λ m. p (key_of m)) c.fields m e (ap p (key-same k m (found_passes (is_key k) c.fields m e)) ∙ h))
 
     method : (o : Option Member) → own_method_of c k ≡ o → is_some o ≡ true → list_any (λ m. p (key_of m)) (c.fields ++ c.methods) ≡ true
     method None e q = absurd (cc)
-    method (Some m) e q = any_right (λ m. p (key_of m)) c.fields c.methods (first_where-any (is_key k) (λ m. p (key_of m)) c.methods m e (ap p (key-is k m (found_passes (is_key k) c.methods m e)) ∙ h))
+    method (Some m) e q = any_right (λ m. p (key_of m)) c.fields c.methods (first_where-any (is_key k) (λ m. p (key_of m)) c.methods m e (ap p (key-same k m (found_passes (is_key k) c.methods m e)) ∙ h))
 
     go : (is_some (own_field_of c k) ≡ true) ⊎ (is_some (own_method_of c k) ≡ true) → list_any (λ m. p (key_of m)) (c.fields ++ c.methods) ≡ true
     go (inl q) = field (own_field_of c k) refl q
     go (inr q) = method (own_method_of c k) refl q
 
 -- the classes above one that loads are of the world
-above-each : (W : World) (x : Bytes) → load_fault W x ≡ None → EachOf (IsOf W) (above W x)
+pub above-each : (W : World) (x : Bytes) → load_fault W x ≡ None → EachOf (IsOf W) (above W x)
 above-each W x l = EachOf-append (IsOf W) (chain W x) (superinterfaces W x)
     (chain-each W (IsOf W) (λ y c e h. ap (find_class W) (find-name W y c e) ∙ e) x l)
     (superinterfaces-each W (IsOf W) (λ y c e h i. ap (find_class W) (find-name W y c e) ∙ e) x l)

@@ -98,7 +98,7 @@ what-listed acts.InvokeSpecialInterface = (2, lit< tt, refl)
 what-listed _ = (0, lit< tt, refl)
 
 -- a list of one
-one-is : (v m : DeclaredMember) → Contains (v ∷ []) m → v ≡ m
+pub one-is : (v m : DeclaredMember) → Contains (v ∷ []) m → v ≡ m
 one-is v m c = by (cases v [] m c)
   where
     by : (v ≡ m) ⊎ Contains [] m → v ≡ m

@@ -129,10 +129,10 @@ protected_field_by_seat : Finds (over (hidden_base (f_I 0x0c ∷ []) ∷ extendi
 unfolding computes
 protected_field_by_seat = (refl, refl, refl)
 
-utf8_C : is_utf8 (codes "q/C") ≡ true
+pub utf8_C : is_utf8 (codes "q/C") ≡ true
 utf8_C = ascii (codes "q/C") (lit< tt, (lit< tt, (lit< tt, tt)))
 
-utf8_D : is_utf8 (codes "r/D") ≡ true
+pub utf8_D : is_utf8 (codes "r/D") ≡ true
 utf8_D = ascii (codes "r/D") (lit< tt, (lit< tt, (lit< tt, tt)))
 
 abbrev p_S : Bytes

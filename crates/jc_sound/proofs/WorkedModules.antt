@@ -19,6 +19,7 @@ use Rattle.jc_sound.proofs.Examples.{computes, init, a_class, extending, plain, 
 use Rattle.jc_facts.proofs.Pairs.{pair_in}
 use Rattle.jc_sound.proofs.WorkedClients.{p_A, root_is_valid}
 use Rattle.jc_sound.proofs.WorkedVerdict.{root, plain_is_valid}
+use Rattle.jc_sound.proofs.WorkedExamples.{utf8_C, utf8_D}
 
 abbrev p_S : Bytes
 p_S = codes "p/S"
@@ -102,12 +103,6 @@ unfolding computes
 superclass_out_of_sight = (refl, refl, refl)
 
 -- ---- a class with permitted names that came into a module
-
-utf8_C : is_utf8 (codes "q/C") ≡ true
-utf8_C = ascii (codes "q/C") (lit< tt, (lit< tt, (lit< tt, tt)))
-
-utf8_D : is_utf8 (codes "r/D") ≡ true
-utf8_D = ascii (codes "r/D") (lit< tt, (lit< tt, (lit< tt, tt)))
 
 abbrev sealed : List ClassFacts
 sealed = sealed_interface p_S (codes "q/C" ∷ codes "r/D" ∷ []) ∷ []

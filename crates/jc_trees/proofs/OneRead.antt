@@ -59,7 +59,7 @@ no_modular : {P : Type 0} (tree : TreeOf) → tree.kind ≡ kinds.Modular → tr
 no_modular tree h k = no_two_kinds tree kinds.Modular kinds.Clients modular_clients h k
 
 -- a tree
-one_given : (files : List FileOf) (tree : TreeOf) (a b : TreeRead) → Gives files tree a → Gives files tree b → a ≡ b
+pub one_given : (files : List FileOf) (tree : TreeOf) (a b : TreeRead) → Gives files tree a → Gives files tree b → a ≡ b
 one_given files tree (reads.Library rs) (reads.Library ss) h k = ap reads.Library (one_of_records files tree rs ss h.1 k.1)
 one_given files tree (reads.Library rs) (reads.Modular n) h k = two_libraries tree h.0 k.0
 one_given files tree (reads.Library rs) (reads.Clients ds) h k = two_kinds tree h.0 k.0

@@ -9,18 +9,8 @@ use Rattle.jc_facts.specs.world.Search.{supers}
 use Rattle.jc_facts.specs.client.Clients.{is_allowed_name, is_named_above}
 use Rattle.jc_lemmas.proofs.Listed.{EachOf, EachOf-map}
 use Rattle.jc_facts.proofs.Same.{same_itself}
-use Rattle.jc_facts.proofs.World.{EachOf-class_named, names}
+use Rattle.jc_facts.proofs.World.{EachOf-class_named, names, any-named}
 use Rattle.jc_worlds.proofs.Sides.{IsLibrary}
-
--- a class that is found passes a test that some class then passes
-pub any_found : (test : ClassFacts → Bool) (cs : List ClassFacts) (x : Bytes) (c : ClassFacts) → class_named cs x ≡ Some c → test c ≡ true → list_any test cs ≡ true
-unfolding class_named
-any_found test [] x c e h = absurd (cc)
-any_found test (d ∷ cs) x c e h = go (same d.name x) e (any_found test cs x c)
-  where
-    go : (b : Bool) → cond b (Some d) (class_named cs x) ≡ Some c → (class_named cs x ≡ Some c → test c ≡ true → list_any test cs ≡ true) → (test d || list_any test cs) ≡ true
-    go true q r = let k : d ≡ c = cc in or_left (test d) (list_any test cs) (rw k h)
-    go false q r = or_right (test d) (list_any test cs) (r q h)
 
 pub among_each : (xs : List Bytes) → EachOf (λ s. is_name_among xs s ≡ true) xs
 among_each [] = tt
@@ -28,7 +18,7 @@ among_each (x ∷ xs) = (or_left (same x x) (is_name_among xs x) (same_itself x)
 
 names_super-found : (W : World) (x : Bytes) (c : ClassFacts) (s : Bytes) → find_class W x ≡ Some c → is_name_among (supers c) s ≡ true → is_named_above W s ≡ true
 unfolding find_class
-names_super-found W x c s e h = any_found (λ d. is_name_among (supers d) s) (classes W) x c e h
+names_super-found W x c s e h = any-named (λ d. is_name_among (supers d) s) (classes W) x c e h
 
 allowed-unused : (W : World) (x : Bytes) → is_allowed_name W x ≡ true → is_named_above W x ≡ false
 unfolding is_allowed_name

@@ -23,7 +23,7 @@ use Rattle.jc_lemmas.proofs.Options.{none_where}
 
 -- ---- a rearranged list
 
-placed_each : (P : ClientClass → Type 0) (c : ClientClass) (ds : List ClientClass) → P c → EachOf P ds → EachOf P (placed name_of c ds)
+pub placed_each : (P : ClientClass → Type 0) (c : ClientClass) (ds : List ClientClass) → P c → EachOf P ds → EachOf P (placed name_of c ds)
 unfolding placed
 placed_each P c [] p h = (p, tt)
 placed_each P c (d ∷ ds) p h = go (is_lt (slice_cmp nat_cmp d.facts.name c.facts.name)) (placed_each P c ds p h.1)

@@ -8,8 +8,8 @@ use Rattle.jc_facts.specs.world.World.{World, find_class, classes}
 use Rattle.jc_facts.specs.world.Access.{host_of, are_nestmates}
 use Rattle.jc_facts.specs.client.Clients.{is_allowed_name, is_named_above, has_package}
 use Rattle.jc_facts.proofs.Same.{same_is, same_itself}
-use Rattle.jc_worlds.proofs.Allowed.{any_found}
 use Rattle.jc_lemmas.proofs.Options.{none_from}
+use Rattle.jc_facts.proofs.World.{any-named}
 
 pub record AllowedParts (W : World) (x : Bytes) : Type 0 where
   pub absent : find_class W x ≡ None
@@ -33,7 +33,7 @@ pub package_apart : (W : World) (x y : Bytes) (d : ClassFacts) → has_package W
 unfolding find_class
 package_apart W x y d h e p =
     let q : in_same_package d.name x ≡ true = rw p (same_itself (package_name d.name)) in
-    both_ways (has_package W x) h (any_found (λ c. in_same_package c.name x) (classes W) y d e q)
+    both_ways (has_package W x) h (any-named (λ c. in_same_package c.name x) (classes W) y d e q)
 
 pub same_package_apart : (W : World) (x y : Bytes) (d : ClassFacts) → has_package W x ≡ false → find_class W y ≡ Some d → in_same_package x d.name ≡ false
 same_package_apart W x y d h e = go (in_same_package x d.name) refl
