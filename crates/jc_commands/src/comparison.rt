@@ -48,14 +48,14 @@ pub struct Comparison {
 
 /// The platform with the old release, and with the new one.
 #[derive(Drop)]
-pub struct Sides {
+pub struct TwoTables {
     pub old: Table,
     pub new: Table,
 }
 
-impl Sides {
+impl TwoTables {
     // The sides of these tables.
-    fn of_tables(old: Table, new: Table) -> Sides
+    fn of_tables(old: Table, new: Table) -> TwoTables
         requires run { AreOfOneRun old new }
         requires short_old { HasShortSide old }
         requires short_new { HasShortSide new }
@@ -69,7 +69,7 @@ impl Sides {
         let _new_size = new.count();
         let _old_names = old.mention_count();
         let _new_names = new.mention_count();
-        Sides { old, new }
+        TwoTables { old, new }
     }
 }
 
@@ -84,7 +84,7 @@ fn both_of(mut tables: Vec<Table>) -> (Table, Table)
 }
 
 // The tables of the two sides of this platform, or why there are none.
-fn sides_over(alloc: Global, platform: &Platform, old: Release, new: Release) -> Result<Sides, Stop>
+fn sides_over(alloc: Global, platform: &Platform, old: Release, new: Release) -> Result<TwoTables, Stop>
     requires platform { IsRecordList platform.now }
     requires releases { AreOldAndNew old new }
     ensures old { IfOk result (λ s. s.old ≡ side_of platform.now old) }
@@ -102,7 +102,7 @@ fn sides_over(alloc: Global, platform: &Platform, old: Release, new: Release) ->
         Err(stop) => return Err(stop),
     };
     let (old, new) = both_of(tables);
-    Ok(Sides::of_tables(old, new))
+    Ok(TwoTables::of_tables(old, new))
 }
 
 /// The tables of the two sides, or why there are none.
@@ -116,7 +116,7 @@ pub fn both_sides(
     platform: Vec<ClassFacts>,
     old: Release,
     new: Release,
-) -> Result<Sides, Stop>
+) -> Result<TwoTables, Stop>
     requires platform { IsRecordList platform.items }
     requires releases { AreOldAndNew old new }
     ensures old { IfOk result (λ s. s.old ≡ side_of platform.items old) }
@@ -246,7 +246,7 @@ impl Comparison {
         ensures compared { IfOk result (IsComparison (check_of check.now) (side_of platform.items old) (side_of platform.items new)) }
         ensures stopped { IfErr result (StopsComparing (check_of check.now) (side_of platform.items old) (side_of platform.items new)) }
     {
-        let Sides { old, new } = match both_sides(alloc, platform, old, new) {
+        let TwoTables { old, new } = match both_sides(alloc, platform, old, new) {
             Ok(sides) => sides,
             Err(stop) => return Err(stop),
         };

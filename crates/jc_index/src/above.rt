@@ -9,7 +9,7 @@ ghost use Rattle.jc_index.specs.steps.Named.{edges_of};
 use crate::ids::ClassId;
 use crate::index::Index;
 use crate::parts::all_led_to;
-use crate::rows::Rows;
+use crate::class_lists::ClassLists;
 use jc_base::items::Items;
 use std::alloc::{AllocError, Global};
 
@@ -45,7 +45,7 @@ fn edges(alloc: Global, index: &Index) -> Result<Vec<Items<u32>>, AllocError>
 /// # Errors
 ///
 /// `AllocError` where memory runs out.
-pub fn interfaces_above(alloc: Global, index: &Index) -> Result<Rows, AllocError>
+pub fn interfaces_above(alloc: Global, index: &Index) -> Result<ClassLists, AllocError>
     ensures { IfOk result (λ rows. AreRows index.now rows) }
 {
     let edges = edges(alloc, index)?;

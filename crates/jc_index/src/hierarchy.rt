@@ -10,7 +10,7 @@ ghost use Rattle.jc_index.specs.Sides.{IsSide};
 use crate::above::interfaces_above;
 use crate::ids::ClassId;
 use crate::index::Index;
-use crate::rows::Rows;
+use crate::class_lists::ClassLists;
 use jc_facts::class_facts::ClassFacts;
 use std::alloc::{AllocError, Global};
 use std::marker::Model;
@@ -19,7 +19,7 @@ use std::marker::Model;
 pub struct Hierarchy {
     index: Index,
     // For each class the interfaces that it names, and those that they lead to.
-    interfaces: Rows,
+    interfaces: ClassLists,
 }
 
 // One call at each exit of a function that owns it, where a derived drop is written out.

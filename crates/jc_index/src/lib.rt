@@ -33,7 +33,7 @@ pub mod platform;
 mod platform_list;
 mod reach;
 pub mod root;
-mod rows;
+mod class_lists;
 pub mod search;
 pub mod shared_platform;
 pub mod side;

@@ -8,7 +8,7 @@ ghost use Rattle.jc_index.specs.steps.Parts.{LiesIn, Extends, IsLonger, IsPartOf
 use crate::ids::ClassId;
 use crate::part::Part;
 use crate::reach::led_to;
-use crate::rows::Rows;
+use crate::class_lists::ClassLists;
 use jc_base::items::Items;
 use std::alloc::{AllocError, Global};
 use std::collections::BTreeSet;
@@ -244,7 +244,7 @@ fn make_all(
 /// # Errors
 ///
 /// `AllocError` where memory runs out.
-pub fn all_led_to(alloc: Global, edges: &[Items<u32>]) -> Result<Rows, AllocError>
+pub fn all_led_to(alloc: Global, edges: &[Items<u32>]) -> Result<ClassLists, AllocError>
     requires within { All (λ ids. All (λ id. id < length edges.now) ids) edges.now }
     requires few { length edges.now < 4294967296 }
     ensures { IfOk result (λ rows. AllLedTo edges.now rows) }
@@ -252,5 +252,5 @@ pub fn all_led_to(alloc: Global, edges: &[Items<u32>]) -> Result<Rows, AllocErro
     let mut parts = vec![in alloc; None; edges.len()]?;
     let mut ids = Vec::new(alloc);
     make_all(alloc, edges, parts.as_mut_slice(), &mut ids)?;
-    Ok(Rows::new(ids, parts))
+    Ok(ClassLists::new(ids, parts))
 }

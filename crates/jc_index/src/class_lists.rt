@@ -8,19 +8,19 @@ use std::marker::Model;
 
 /// A list of classes for each class of a table. They are parts of one list, and may share what
 /// stands in it. A contract sees the lists.
-pub struct Rows {
+pub struct ClassLists {
     ids: Vec<ClassId>,
     parts: Vec<Option<Part>>,
 }
 
 // One call at each exit of a function that owns it, where a derived drop is written out.
-impl Drop for Rows {
+impl Drop for ClassLists {
     fn drop(self) {
-        let Rows { ids: _, parts: _ } = self;
+        let ClassLists { ids: _, parts: _ } = self;
     }
 }
 
-impl Model for Rows {
+impl Model for ClassLists {
     ghost use Rattle.std.specs.Prelude.{List, ℕ, map};
 
     ghost Value = { List (List ℕ) };
@@ -40,13 +40,13 @@ fn items_in(ids: &[ClassId], part: Part) -> &[ClassId]
     &ids[part.start..part.end]
 }
 
-impl Rows {
+impl ClassLists {
     /// The lists that these parts are; nothing stands in one that isn't made.
-    pub fn new(ids: Vec<ClassId>, parts: Vec<Option<Part>>) -> Rows
+    pub fn new(ids: Vec<ClassId>, parts: Vec<Option<Part>>) -> ClassLists
         requires { LieIn ids.items parts.items }
         ensures { result ≡ map (items_of ids.items) parts.items }
     {
-        Rows { ids, parts }
+        ClassLists { ids, parts }
     }
 
     /// The list of the class.

@@ -1,5 +1,5 @@
 use Rattle.jc_commands.proofs.Compared.{sides_can_write}
-use Rattle.jc_commands.proofs.comparison.Sides.of_tables.Goals as goal
+use Rattle.jc_commands.proofs.comparison.TwoTables.of_tables.Goals as goal
 
 pub returns-clause-can : goal.returns-clause-can
 returns-clause-can c =

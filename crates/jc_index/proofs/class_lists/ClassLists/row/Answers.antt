@@ -1,7 +1,7 @@
 use Rattle.std.proofs.Common.{List, ℕ, sym, subst}
 use Rattle.jc_index.specs.steps.Parts.{LiesIn}
 use Rattle.jc_index.proofs.Shares.{part-lies}
-use Rattle.jc_index.proofs.rows.Rows.row.Goals as goal
+use Rattle.jc_index.proofs.class_lists.ClassLists.row.Goals as goal
 
 pub items_in-requires : goal.items_in-requires
 items_in-requires c =
