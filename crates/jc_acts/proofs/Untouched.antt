@@ -1,5 +1,5 @@
 -- Where no class above x changed or left a chain, and x loads on both sides, lookups from x find the same on both, and no act on its members is
--- closed. That x loads on the new side doesn't follow: the records are the same, but what they name may be visible no more.
+-- closed. That x loads on the new side doesn't follow: the records are the same, but what they name may no longer be visible.
 use Rattle.std.proofs.Common.{◌≡◌, Bool, true, false, not, cond, List, [], ◌∷◌, ◌++◌, refl, sym, ◌∙◌, ap, subst, Option, Some, None, is_some, is_none, ◌||◌, ◌&&◌, ◌⊎◌, inl, inr}
 use Rattle.std.specs.List.{list_any, filter, Contains}
 use Rattle.std.proofs.lemmas.Bool.{and_parts, and_from, or_cases}

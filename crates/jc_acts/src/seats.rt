@@ -106,7 +106,7 @@ impl<'a> Seats<'a> {
     /// neither the class nor any above it changed or left the chain of a seat, the class is the same on
     /// both sides; and where it loads on the new side too, its chain is, and no act on its members is
     /// closed, whatever the key. That it loads doesn't follow where there are modules: what it names
-    /// may be visible no more.
+    /// may no longer be visible.
     pub fn may_close(&self, _sides: &Sides<'_>, class: &Shared<'_>) -> bool
         requires seats { AreSeats _sides.now self.now }
         requires class { IsShared _sides.now «class».now }

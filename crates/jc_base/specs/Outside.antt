@@ -67,7 +67,7 @@ abbrev pub TakesAll : Option (List ℕ) → Option (List ℕ) → List ℕ → T
 TakesAll None new piece = new ≡ None
 TakesAll (Some old) new piece = new ≡ Some (old ++ piece)
 
--- after a failure they are those before and then a front of the piece
+-- after a failure they are those before and then a prefix of the piece
 abbrev pub TakesFront : Option (List ℕ) → Option (List ℕ) → List ℕ → Type 0
 TakesFront None new piece = new ≡ None
 TakesFront (Some old) new piece = (k : ℕ) × (k ≤ length piece) × (new ≡ Some (old ++ take k piece))

@@ -34,7 +34,7 @@ impl FileMap {
         }
     }
 
-    // Puts the bytes at the path. For want of memory nothing is changed.
+    // Puts the bytes at the path. Where memory runs out nothing is changed.
     pub(crate) fn put(&mut self, path: &str, bytes: &[u8]) -> Result<(), AllocError>
         ensures holds { OnOk result (bytes_at self.new path.now ≡ Some bytes.now) }
         ensures others { KeepsAllBut path.now (bytes_at self.old) (bytes_at self.new) }

@@ -22,7 +22,7 @@ pub trait Sink {
     /// The bytes taken, where they are told, and how many calls have failed.
     ghost state: { Self → SinkState };
 
-    /// Puts the bytes at the end of those taken. After an error a front of them may have been taken.
+    /// Puts the bytes at the end of those taken. After an error a prefix of them may have been taken.
     fn put(&mut self, bytes: &[u8]) -> Result<(), SinkError>
         ensures ok { OnOk result (TakesAll (state self.old).taken (state self.new).taken bytes.now) }
         ensures err { OnErr result (TakesFront (state self.old).taken (state self.new).taken bytes.now) }

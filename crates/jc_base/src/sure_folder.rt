@@ -5,7 +5,7 @@ use crate::file_map::FileMap;
 use crate::folder::{Folder, FolderError};
 use std::alloc::Global;
 
-/// A folder in memory. No call fails but for want of memory, and its count of faults stays 0.
+/// A folder in memory. No call fails but for lack of memory, and its count of faults stays 0.
 #[derive(Drop)]
 pub struct SureFolder {
     files: FileMap,

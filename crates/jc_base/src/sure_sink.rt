@@ -5,7 +5,7 @@ ghost use Rattle.jc_base.specs.States.{SinkState};
 use crate::sink::{Sink, SinkError};
 use std::alloc::Global;
 
-/// A sink in memory. No call fails but for want of memory, and its count of faults stays 0.
+/// A sink in memory. No call fails but for lack of memory, and its count of faults stays 0.
 #[derive(Drop)]
 pub struct SureSink {
     bytes: Vec<u8>,

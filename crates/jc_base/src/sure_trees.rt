@@ -10,7 +10,7 @@ use crate::text::Text;
 use crate::trees::{TreeError, Trees};
 use std::alloc::Global;
 
-/// Trees in memory. No call fails but for want of memory, and each root's count of faults stays 0.
+/// Trees in memory. No call fails but for lack of memory, and each root's count of faults stays 0.
 #[derive(Drop)]
 pub struct SureTrees {
     files: Vec<MemFile>,

@@ -138,7 +138,7 @@ told_weaker (LinkCommand link) content P Q f h = λ files told. f files (h files
 told_weaker (MakeCommand n) content P Q f h = λ files. f files (h files)
 told_weaker (HistoryCommand row) content P Q f h = λ files told. f files (h files told)
 
--- a cause that the words and the files alone decide, or a failed call, or want of memory
+-- a cause that the words and the files alone decide, or a failed call, or lack of memory
 data Kind (gates : List GateOf) (words : List Bytes) (files : List FileOf) (stop : Stop) : Type 0 where
   decided : IsRefused gates words files stop → Kind gates words files stop
   failed : status_of stop ≡ READ_FAULT → Kind gates words files stop

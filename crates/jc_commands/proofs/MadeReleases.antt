@@ -1,6 +1,6 @@
 -- The generated releases go with their platform, have short names, and one verdict.
 --     made_lists      their lists as those of trees that are read
---     only_memory      want of memory alone stands in the way of their tables
+--     only_memory      lack of memory alone stands in the way of their tables
 --     made_verdict      they have a verdict
 --     made_reported      a report that tells of it is the command's
 use Rattle.std.proofs.Common.{◌≡◌, ◌≤◌, ℕ, ◌%◌, ◌==◌, Bool, true, false, List, [], ◌∷◌, map, length, None, refl, sym, inl, inr, arith, if◌then◌else◌}

@@ -13,7 +13,7 @@ IsQuiet sink = sink.after.taken ≡ sink.before.taken
 abbrev pub PutsAll : Change SinkState → Bytes → Type 0
 PutsAll sink = TakesAll sink.before.taken sink.after.taken
 
--- a front of the bytes was put
+-- a prefix of the bytes was put
 abbrev pub PutsFront : Change SinkState → Bytes → Type 0
 PutsFront sink = TakesFront sink.before.taken sink.after.taken
 

@@ -6,7 +6,7 @@ use Rattle.jc_commands.specs.Outputs.{PutsAll, PutsFront, HasPutFault, HasFolder
 use Rattle.jc_commands.specs.Witness.{PutFile, PutsFiles, PutsSome}
 use Rattle.jc_commands.specs.declared.status.TheConstants.{WRITE_FAULT, NO_MEMORY}
 
--- the bytes were put whole, and the status is the one that was due, or a front of them
+-- the bytes were put whole, and the status is the one that was due, or a prefix of them
 pub record IsPutWith (bytes : Bytes) (due : ℕ) (sink : Change SinkState) (status : ℕ) : Type 0 where
   pub known : (status ≡ due) ⊎ (status ≡ WRITE_FAULT) ⊎ (status ≡ NO_MEMORY)
   pub whole : status ≡ due → status ≢ NO_MEMORY → PutsAll sink bytes

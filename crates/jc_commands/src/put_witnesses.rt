@@ -147,7 +147,7 @@ fn put_all<F: Folder>(
 }
 
 /// Puts the witness of each finding and of each collision of the verdict into the folder, in their order, numbered
-/// from 1: each class file at `DIR/NNNNNN/NAME.class`, in byte order of names. At an error a front of
+/// from 1: each class file at `DIR/NNNNNN/NAME.class`, in byte order of names. At an error a prefix of
 /// the files stands, and the path of the next one may hold anything. All other paths stay as they
 /// were.
 ///

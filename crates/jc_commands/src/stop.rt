@@ -287,7 +287,7 @@ impl Stop {
         }
     }
 
-    /// The line on standard error, with its line end; nothing for want of memory.
+    /// The line on standard error, with its line end; nothing where memory runs out.
     pub fn line(&self, alloc: Global) -> Result<Vec<u8>, AllocError>
         ensures { IfOk result (λ line. line.items ≡ line_of self.now) }
     {

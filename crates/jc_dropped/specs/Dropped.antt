@@ -1,7 +1,7 @@
--- Interfaces that a class has no more. All that clients do still links, since every class is assignable to an interface (JVMS 4.10.1.2), but
+-- Interfaces that a class no longer has. All that clients do still links, since every class is assignable to an interface (JVMS 4.10.1.2), but
 -- invokeinterface on a value of the class fails (JVMS 6.5), and so do casts to the interface and stores into its arrays.
 --     is_held O N x      clients can hold values of the class x with both releases
---     loses_interface O N x t      such a class had the interface t above it, and has it no more
+--     loses_interface O N x t      such a class had the interface t above it, and no longer has it
 --     is_dropped O N x t      and no class that x names above itself loses t, so that x is where it is lost
 --     AreDropped O N ds      ds are all that are dropped
 use Rattle.std.specs.Prelude.{Bool, not, List, is_some, ◌||◌, ◌&&◌, IsTrue}

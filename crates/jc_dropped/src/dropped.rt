@@ -1,4 +1,4 @@
-//! Interfaces that classes have no more.
+//! Interfaces that classes no longer have.
 use jc_base::name::Name;
 
 /// A class whose values clients could hold and still can, and an interface that it had above it and has

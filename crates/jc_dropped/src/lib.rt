@@ -1,4 +1,4 @@
-//! Interfaces that a class has no more: what that means, and the laws of it.
+//! Interfaces that a class no longer has: what that means, and the laws of it.
 //!
 //! Each law is the contract of a function that does nothing.
 #![tactic(auto)]

@@ -44,7 +44,7 @@ pub enum Note {
         class: Name,
         error: LinkError,
     },
-    /// A constant field whose value has changed or is there no more.
+    /// A constant field whose value has changed or is no longer there.
     Fixed {
         class: Name,
         key: Key,

@@ -5,7 +5,7 @@ use Rattle.std.proofs.lemmas.List.{take-append-le, append-nil}
 use Rattle.jc_base.specs.Outside.{TakesAll, TakesFront}
 use Rattle.jc_base.specs.States.{SinkState}
 
--- a front of the text was put, and this is left
+-- a prefix of the text was put, and this is left
 pub record IsPut (before now : Option (List ℕ)) (left total : List ℕ) : Type 0 where
   pub put : List ℕ
   pub told : TakesAll before now put

@@ -1,4 +1,4 @@
-//! The interfaces that classes have no more above them, after an old release.
+//! The interfaces that classes no longer have above them, after an old release.
 ghost use Rattle.std.specs.Prelude.{◌≡◌, ◌<◌, IfOk, IfSome, IsTrue, option_map};
 ghost use Rattle.std.specs.List.{All, list_any};
 ghost use Rattle.jc_acts.specs.Seats.{AreSeats};
@@ -240,7 +240,7 @@ fn limited(
 }
 
 /// The interfaces that classes drop between an old release and a new one, in byte order of the classes'
-/// names and then of the interfaces': each that a class had above it and has no more, where clients can
+/// names and then of the interfaces': each that a class had above it and no longer has, where clients can
 /// hold values of the class and name the interface with both releases, and no class that it names above
 /// itself loses it too. All that clients do still links, but `invokeinterface` on such a value, a cast or
 /// a store fails when it runs (JVMS 6.5). The two sides are of one run.

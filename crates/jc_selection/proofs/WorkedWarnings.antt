@@ -55,13 +55,13 @@ added_to_class : warning_at (over (a_class p_A 0x421 (Some object_name) [] [] (i
 unfolding selects
 added_to_class = refl
 
--- an interface that is no more below the one whose default it overrides
+-- an interface that is no longer below the one whose default it overrides
 apart : warning_at (over (a_class p_A 0x21 (Some object_name) (p_I ∷ p_J ∷ []) [] (init 1 ∷ []) ∷ public_interface p_I [] [] (method 1 ∷ []) ∷ public_interface p_J (p_I ∷ []) [] (method 1 ∷ []) ∷ []))
     (over (a_class p_A 0x21 (Some object_name) (p_I ∷ p_J ∷ []) [] (init 1 ∷ []) ∷ public_interface p_I [] [] (method 1 ∷ []) ∷ public_interface p_J [] [] (method 1 ∷ []) ∷ [])) p_A k ≡ Some warn.Defaults
 unfolding selects
 apart = refl
 
--- and what a class below it then answers no more
+-- and what a class below it then no longer answers
 answered_before : is_answered (over (a_class p_A 0x21 (Some object_name) (p_I ∷ p_J ∷ []) [] (init 1 ∷ []) ∷ public_interface p_I [] [] (method 1 ∷ []) ∷ public_interface p_J (p_I ∷ []) [] (method 1 ∷ []) ∷ [])) p_A k ≡ true
 unfolding selects
 answered_before = refl

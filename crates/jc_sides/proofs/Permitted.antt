@@ -17,7 +17,7 @@ use Rattle.jc_sides.specs.SharedOf.{SharedOf, IsShared, AreThose, HasThose, name
 use Rattle.jc_sides.specs.SidesOf.{SidesOf}
 use Rattle.jc_lemmas.proofs.Bools.{and_true}
 
--- ---- names that are listed no more
+-- ---- names that are no longer listed
 
 never : (b : Bool) → ((b && false) || false) ≡ false
 never true = refl

@@ -23,7 +23,7 @@ Gives files tree (reads.Clients cs) = (tree.kind ≡ kinds.Clients) × AreClasse
 abbrev pub GiveAll : List FileOf → List TreeOf → List TreeRead → Type 0
 GiveAll files trees all = AllZip (Gives files) trees all
 
--- why reading the trees stopped: at the first tree that isn't read, at a failed call, or for want of memory
+-- why reading the trees stopped: at the first tree that isn't read, at a failed call, or for lack of memory
 abbrev pub StopsAmong : Change TreesState → List TreeOf → TreesError → Type 0
 StopsAmong c trees (trees_errors.Unread name fault) = Told c.before.content (λ files. IsFirstUnread files trees name fault)
 StopsAmong c trees (trees_errors.Fault name) = HasReadFault c trees name

@@ -98,7 +98,7 @@ const ON_CLASSES: &[Change] = &[
         findings: &[(2, &[(b"w0/Y", LOAD)])],
         collisions: &[],
     },
-    // An interface permits fewer classes; the client has the name that is permitted no more.
+    // An interface permits fewer classes; the client has the name that is no longer permitted.
     Change {
         old: &[Row {
             permits: Some(&[b"q/C", b"r/D"]),

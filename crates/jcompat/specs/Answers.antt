@@ -79,13 +79,13 @@ pub record CutsWitnesses (r : Ran) (due : Due r) : Type 0 where
   pub errors : IsQuiet r.err
   pub cause : r.status ≡ WRITE_FAULT → HasFolderFault r.folder
 
--- a report was due: a front of its bytes was put, and nothing to the error stream; a failed put was one on the output
+-- a report was due: a prefix of its bytes was put, and nothing to the error stream; a failed put was one on the output
 pub record CutsReport (r : Ran) (due : Due r) : Type 0 where
   pub output : PutsFront r.out (due_bytes due)
   pub errors : IsQuiet r.err
   pub cause : r.status ≡ WRITE_FAULT → HasPutFault r.out
 
--- a refusal was due, or there was no memory, which has no line: a front of the line was put, and nothing to the output or into the folder; a
+-- a refusal was due, or there was no memory, which has no line: a prefix of the line was put, and nothing to the output or into the folder; a
 -- failed put was one on the error stream, of a line that was due
 pub record CutsRefusal (r : Ran) (stop : Stop) : Type 0 where
   pub due : HasCause r.gates r.words r.trees stop

@@ -242,7 +242,7 @@ impl<R: Files + AllocGlobal + Clone + Drop> DiskTrees<R> {
         DiskTrees { rt, failed }
     }
 
-    // What a call on the root answers at this error, which is counted where it isn't want of memory.
+    // What a call on the root answers at this error, which is counted where it isn't lack of memory.
     fn fault(&mut self, alloc: Global, root: &str, error: io::Error) -> TreeError
         ensures never_falls { (r : List ℕ) → count_at self.old.failed r ≤ count_at self.new.failed r }
         ensures cause { result ≡ TreeError.Fault → Rose (count_at self.old.failed root.now) (count_at self.new.failed root.now) }

@@ -66,7 +66,7 @@ pub fn one_answer()
     ensures { OneAnswer }
 {}
 
-/// The top call over trees, sinks and a folder that don't fail. Only want of memory stands in the way
+/// The top call over trees, sinks and a folder that don't fail. Only a lack of memory stands in the way
 /// of its answer.
 pub fn run_surely(
     alloc: Global,

@@ -24,7 +24,7 @@ HoldsAfter files next _ _ = ⊥
 abbrev pub IsPutWhole : List PutFile → Change FolderState → Type 0
 IsPutWhole files folder = HoldsAfter files [] folder.before.content folder.after.content
 
--- a front of the files was put, and perhaps something at the path of the next one
+-- a prefix of the files was put, and perhaps something at the path of the next one
 pub record IsPutInPart (files : List PutFile) (folder : Change FolderState) : Type 0 where
   pub front : List PutFile
   pub rest : List PutFile

@@ -2,7 +2,7 @@
 use Rattle.std.specs.Prelude.{◌≡◌, ◌≤◌, ℕ, Bool, true, List, Option, length, take}
 use Rattle.std.specs.Io.KnownBytes.{Appends}
 
--- a front of the bytes was appended to what is known of the writer, and all of them where it says so
+-- a prefix of the bytes was appended to what is known of the writer, and all of them where it says so
 pub record IsWrittenSo (old new : Option (List ℕ)) (bytes : List ℕ) (whole : Bool) : Type 0 where
   pub count : ℕ
   pub within : count ≤ length bytes

@@ -3,7 +3,7 @@ use super::see_table;
 
 const DROPPED: &str = r#"$ check --dropped --platform P --old O --new N
 : P java/lang/Object init | O,N p/I flags=601 method=401:run:()V
-#0 a class that implements an interface no more : O p/A implements=p/I init method=1:run:()V | N p/A init method=1:run:()V
+#0 a class that no longer implements an interface : O p/A implements=p/I init method=1:run:()V | N p/A init method=1:run:()V
 > compatible: 0 findings, 0 collisions, 0 notes | dropped p/A p/I
 #0 the same as JSON : O p/A implements=p/I init method=1:run:()V | N p/A init method=1:run:()V
 $ check --json --dropped --platform P --old O --new N
