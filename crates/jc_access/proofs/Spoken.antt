@@ -8,16 +8,15 @@ use Rattle.std.proofs.lemmas.List.Folds.{list_any-append}
 use Rattle.jc_facts.specs.declared.class_facts.ClassFacts.{ClassFacts}
 use Rattle.jc_facts.specs.Names.{Bytes, same, in_same_package, package_name}
 use Rattle.jc_facts.specs.Flags.{public_flag}
-use Rattle.jc_facts.specs.world.World.{World, DeclaredMember, find_class, size, class_named, with_clients, is_client}
+use Rattle.jc_facts.specs.world.World.{World, DeclaredMember, find_class, size, class_named, with_clients, is_client, class_is}
 use Rattle.jc_facts.specs.world.Hierarchy.{chain, names_in, in_chain}
 use Rattle.jc_facts.specs.world.Loading.{load_fault}
 use Rattle.jc_facts.specs.world.Modules.{OfClients, module_of, is_visible, is_visible_from}
-use Rattle.jc_facts.specs.world.Access.{is_class_accessible, is_member_accessible}
+use Rattle.jc_facts.specs.world.Access.{is_class_accessible, is_member_accessible, is_member_open}
 use Rattle.jc_facts.specs.world.Assignment.{is_assignable, passes_protected_check}
-use Rattle.jc_facts.specs.rule.OpenActs.{is_member_open}
-use Rattle.jc_facts.specs.rule.Bases.{class_is}
 use Rattle.jc_facts.specs.Options.{some_and}
-use Rattle.jc_facts.specs.client.Clients.{is_allowed_name, seat}
+use Rattle.jc_facts.specs.client.Allowed.{is_allowed_name}
+use Rattle.jc_facts.specs.client.Seats.{seat}
 use Rattle.jc_facts.proofs.Same.{same_is}
 use Rattle.jc_lemmas.proofs.Bools.{or_false}
 use Rattle.jc_lemmas.proofs.Listed.{EachOf}

@@ -6,7 +6,7 @@ use Rattle.jc_facts.specs.declared.link_error.LinkError.{LinkError}
 use Rattle.jc_facts.specs.Names.{Bytes}
 use Rattle.jc_facts.specs.client.Acts.{form_of}
 use Rattle.jc_facts.specs.client.Forms.{form_view}
-use Rattle.jc_facts.specs.rule.OpenActs.{act_fault, where_open}
+use Rattle.jc_promises.specs.rule.OpenActs.{act_fault, where_open}
 use Rattle.jc_lemmas.proofs.Listed.{EachOf, EachOf-map, each_of}
 use Rattle.jc_sides.specs.SidesOf.{SidesOf}
 use Rattle.jc_acts.specs.Seats.{all_seats}

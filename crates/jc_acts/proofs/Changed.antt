@@ -10,10 +10,10 @@ use Rattle.jc_facts.proofs.World.{class_named-first}
 use Rattle.jc_table.specs.Ids.{id_of}
 use Rattle.jc_table.proofs.Numbers.{find-None}
 use Rattle.jc_sides.specs.SidesOf.{SidesOf}
-use Rattle.jc_acts.specs.Records.{same_facts}
+use Rattle.jc_facts.specs.Records.{same_facts}
 use Rattle.jc_acts.specs.Seats.{loses_class}
 use Rattle.jc_acts.specs.Touched.{is_changed, left_chain_of}
-use Rattle.jc_acts.proofs.SameRecords.{same_facts_itself, same_classes}
+use Rattle.jc_facts.proofs.SameRecords.{same_facts_itself, same_classes}
 use Rattle.jc_acts.proofs.SeatChains.{keeps}
 
 changed_by : (s : SidesOf) (y : Bytes) (o p : Option ClassFacts) → find_class s.old y ≡ o → find_class s.new y ≡ p → not (option_eq same_facts o p) ≡ is_changed s y

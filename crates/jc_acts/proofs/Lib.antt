@@ -1,5 +1,4 @@
 pub mod SeatChains
-pub mod SameRecords
 mod Changed
 pub mod SetFlags
 mod SetAbove

@@ -15,9 +15,9 @@ use Rattle.jc_facts.specs.world.Lookup.{field_found, first_declared, superinterf
 use Rattle.jc_facts.specs.world.Assignment.{is_interface_of}
 use Rattle.jc_facts.specs.client.Acts.{FieldForm, MethodForm, InterfaceForm, form_of, is_put_act, is_field_form}
 use Rattle.jc_facts.specs.client.Outcome.{look_up, found_or, first_of}
-use Rattle.jc_facts.specs.rule.OpenActs.{act_fault}
+use Rattle.jc_promises.specs.rule.OpenActs.{act_fault}
 use Rattle.jc_facts.specs.file.Valid.{IsValidClass}
-use Rattle.jc_facts.specs.rule.Bases.{is_key_of_method}
+use Rattle.jc_promises.specs.rule.Bases.{is_key_of_method}
 use Rattle.jc_lemmas.proofs.Listed.{EachOf, each_in, EachOf-map}
 use Rattle.jc_lemmas.proofs.Bools.{neither_last, not_true}
 use Rattle.jc_worlds.specs.Choices.{IsPublicInstance}

@@ -14,8 +14,9 @@ use Rattle.jc_facts.specs.world.Hierarchy.{in_chain}
 use Rattle.jc_facts.specs.world.Loading.{fault_where}
 use Rattle.jc_facts.specs.client.Acts.{is_put_act}
 use Rattle.jc_facts.specs.client.Outcome.{kind_fault}
-use Rattle.jc_facts.specs.rule.OpenActs.{is_member_open, where_open}
-use Rattle.jc_facts.specs.rule.Bases.{is_base_class}
+use Rattle.jc_facts.specs.world.Access.{is_member_open}
+use Rattle.jc_promises.specs.rule.OpenActs.{where_open}
+use Rattle.jc_promises.specs.rule.Bases.{is_base_class}
 use Rattle.jc_lemmas.proofs.Listed.{EachOf}
 use Rattle.jc_worlds.proofs.Above.{fault_where-none}
 use Rattle.jc_facts.proofs.Options.{or_else-none, or_else-both}

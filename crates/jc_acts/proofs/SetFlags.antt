@@ -6,9 +6,8 @@ use Rattle.std.proofs.lemmas.Bool.Decides.{eqb_tells}
 use Rattle.std.proofs.lemmas.List.{length-set, set-get_or, length-map, get_or-map, map-append, take_more, take_all, at_drop_more, at_drop_all}
 use Rattle.jc_facts.specs.declared.class_facts.ClassFacts.{ClassFacts}
 use Rattle.jc_facts.specs.Names.{Bytes, same}
-use Rattle.jc_facts.specs.world.World.{World, find_class, size, classes}
+use Rattle.jc_facts.specs.world.World.{World, find_class, size, classes, differ_by_name}
 use Rattle.jc_facts.specs.world.Hierarchy.{chain, in_chain, names_in}
-use Rattle.jc_facts.specs.client.Clients.{differ_by_name}
 use Rattle.jc_facts.proofs.Same.{same_is, same_itself}
 use Rattle.jc_facts.proofs.World.{find-name}
 use Rattle.jc_lemmas.proofs.Bools.{or_assoc, or_false, and_never}

@@ -20,8 +20,8 @@ use Rattle.jc_facts.specs.world.Loading.{load_fault, loads}
 use Rattle.jc_facts.specs.world.Lookup.{method_choices, interface_choices}
 use Rattle.jc_facts.specs.world.Assignment.{is_interface_of}
 use Rattle.jc_facts.specs.client.Acts.{Form, FieldForm, MethodForm, InterfaceForm, form_of}
-use Rattle.jc_facts.specs.rule.OpenActs.{act_fault, where_open}
-use Rattle.jc_facts.specs.rule.Bases.{is_steady}
+use Rattle.jc_promises.specs.rule.OpenActs.{act_fault, where_open}
+use Rattle.jc_promises.specs.rule.Bases.{is_steady}
 use Rattle.jc_facts.proofs.Hierarchy.{any_each}
 use Rattle.jc_facts.proofs.Same.{same_is, same_itself}
 use Rattle.jc_facts.proofs.World.{find-name}

@@ -7,7 +7,7 @@ use Rattle.jc_facts.specs.Flags.{static_flag, no_static_flag, final_flag}
 use Rattle.jc_facts.specs.Options.{or_else}
 use Rattle.jc_facts.specs.world.World.{World, DeclaredMember}
 use Rattle.jc_facts.specs.client.Acts.{is_act_on_static, is_put_act}
-use Rattle.jc_facts.specs.rule.OpenActs.{is_member_open}
+use Rattle.jc_facts.specs.world.Access.{is_member_open}
 use Rattle.jc_acts.specs.steps.LookedUp.{use_at}
 
 module _ (W : World) (a c : Bytes) (what : Act) (m : DeclaredMember) where

@@ -3,7 +3,7 @@ use Rattle.std.specs.Prelude.{◌≡◌, List, Option, None, Some}
 use Rattle.jc_facts.specs.declared.act.Act.{Act}
 use Rattle.jc_facts.specs.declared.finding.Finding.{Finding}
 use Rattle.jc_facts.specs.declared.key.Key.{Key}
-use Rattle.jc_facts.specs.rule.Findings.{Subject, report, first_act}
+use Rattle.jc_promises.specs.rule.Findings.{Subject, report, first_act}
 use Rattle.jc_facts.specs.Names.{Bytes}
 use Rattle.jc_sides.specs.SidesOf.{SidesOf}
 use Rattle.jc_acts.specs.declared.closed_act.ClosedAct.{ClosedAct}

@@ -1,5 +1,4 @@
 pub mod ClosedActs
-pub mod Records
 pub mod Seats
 pub mod Touched
 pub mod Untouched

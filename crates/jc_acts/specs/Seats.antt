@@ -3,7 +3,7 @@ use Rattle.std.specs.Prelude.{◌≡◌, ◌∷◌, Bool, not, List, map}
 use Rattle.std.specs.List.{filter, list_any, All}
 use Rattle.jc_facts.specs.Names.{Bytes, object_name}
 use Rattle.jc_facts.specs.world.Hierarchy.{chain, in_chain}
-use Rattle.jc_facts.specs.rule.Bases.{is_base_class}
+use Rattle.jc_promises.specs.rule.Bases.{is_base_class}
 use Rattle.jc_table.specs.Ids.{names}
 use Rattle.jc_sides.specs.SharedOf.{IsShared, name_of}
 use Rattle.jc_sides.specs.SidesOf.{SidesOf, AreSides}

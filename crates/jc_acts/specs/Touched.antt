@@ -9,7 +9,7 @@ use Rattle.jc_facts.specs.world.Loading.{load_fault}
 use Rattle.jc_worlds.specs.Hierarchy.{above}
 use Rattle.jc_table.specs.Ids.{name_at}
 use Rattle.jc_sides.specs.SidesOf.{SidesOf}
-use Rattle.jc_acts.specs.Records.{same_facts}
+use Rattle.jc_facts.specs.Records.{same_facts}
 
 -- the two sides don't have the same class of this name
 abbrev pub is_changed : SidesOf → Bytes → Bool

@@ -1,7 +1,7 @@
 -- What holds of a class where neither it nor any above it changed or left the chain of a seat.
 use Rattle.std.specs.Prelude.{◌≡◌, true, false, None}
 use Rattle.jc_facts.specs.Names.{Bytes}
-use Rattle.jc_facts.specs.rule.Bases.{is_steady}
+use Rattle.jc_promises.specs.rule.Bases.{is_steady}
 use Rattle.jc_facts.specs.world.Loading.{load_fault}
 use Rattle.jc_worlds.specs.Agreement.{LooksTheSame}
 use Rattle.jc_sides.specs.SidesOf.{SidesOf, AreSides}

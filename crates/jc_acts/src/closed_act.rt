@@ -1,6 +1,6 @@
 //! What an act on a member is now, and was not.
 ghost use Rattle.std.specs.Prelude.{◌≡◌};
-ghost use Rattle.jc_facts.specs.rule.Findings.{Subject};
+ghost use Rattle.jc_promises.specs.rule.Findings.{Subject};
 ghost use Rattle.jc_sides.specs.BrokenOf.{found};
 ghost use Rattle.jc_acts.specs.ClosedActs.{reported};
 

@@ -12,7 +12,6 @@ pub mod lost;
 pub mod members;
 mod open;
 pub mod plain;
-mod records;
 mod root;
 pub mod seats;
 mod touched;

@@ -4,7 +4,7 @@ ghost use Rattle.jc_facts.specs.client.Acts.{FieldForm, MethodForm, InterfaceFor
 ghost use Rattle.jc_facts.specs.client.Forms.{form_view};
 ghost use Rattle.jc_facts.specs.world.World.{size};
 ghost use Rattle.jc_facts.specs.world.Loading.{load_fault};
-ghost use Rattle.jc_facts.specs.rule.Bases.{is_key_of_method};
+ghost use Rattle.jc_promises.specs.rule.Bases.{is_key_of_method};
 ghost use Rattle.jc_table.specs.Ids.{name_at};
 ghost use Rattle.jc_table.specs.Keys.{numbered_keys, IsNumber};
 ghost use Rattle.jc_table.specs.Sides.{IsSide};

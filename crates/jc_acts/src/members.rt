@@ -1,8 +1,8 @@
 //! The first act on a member that is closed to a seat now.
 ghost use Rattle.std.specs.Prelude.{IsTrue};
 ghost use Rattle.jc_facts.specs.client.Forms.{form_view};
-ghost use Rattle.jc_facts.specs.rule.OpenActs.{field_acts, method_acts};
-ghost use Rattle.jc_facts.specs.rule.Bases.{is_key_of_method, is_steady};
+ghost use Rattle.jc_promises.specs.rule.OpenActs.{field_acts, method_acts};
+ghost use Rattle.jc_promises.specs.rule.Bases.{is_key_of_method, is_steady};
 ghost use Rattle.jc_sides.specs.Numbering.{AreNumbers};
 ghost use Rattle.jc_sides.specs.SharedOf.{IsShared, name_of};
 ghost use Rattle.jc_acts.specs.ClosedActs.{IsFirstClosed};

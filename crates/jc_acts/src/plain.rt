@@ -3,8 +3,8 @@ ghost use Rattle.std.specs.Prelude.{◌≡◌, ◌<◌, None, IsTrue, map, optio
 ghost use Rattle.std.specs.List.{All};
 ghost use Rattle.jc_facts.specs.client.Acts.{form_of};
 ghost use Rattle.jc_facts.specs.world.Loading.{load_fault};
-ghost use Rattle.jc_facts.specs.rule.OpenActs.{act_fault, field_acts, method_acts};
-ghost use Rattle.jc_facts.specs.rule.Bases.{is_key_of_method, is_steady};
+ghost use Rattle.jc_promises.specs.rule.OpenActs.{act_fault, field_acts, method_acts};
+ghost use Rattle.jc_promises.specs.rule.Bases.{is_key_of_method, is_steady};
 ghost use Rattle.jc_facts.specs.world.World.{size};
 ghost use Rattle.jc_table.specs.Ids.{name_at};
 ghost use Rattle.jc_table.specs.Sides.{IsSide};

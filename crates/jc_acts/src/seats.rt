@@ -51,7 +51,7 @@ fn root<'a>(sides: &Sides<'a>) -> Shared<'a>
 impl<'a> Seats<'a> {
     ghost use Rattle.std.specs.List.{All};
     ghost use Rattle.std.specs.Prelude.{◌≡◌, ◌<◌, IfOk, map};
-    ghost use Rattle.jc_facts.specs.rule.Bases.{is_base_class};
+    ghost use Rattle.jc_promises.specs.rule.Bases.{is_base_class};
     ghost use Rattle.jc_facts.specs.world.World.{size};
     ghost use Rattle.jc_table.specs.Ids.{name_at};
     ghost use Rattle.jc_sides.specs.SharedOf.{AreThose, IsShared, name_of};

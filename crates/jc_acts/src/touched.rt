@@ -12,8 +12,8 @@ ghost use Rattle.jc_acts.specs.Touched.{AreFlags, AreSet, flag_at, is_changed, i
 ghost use Rattle.jc_acts.specs.steps.Known.{fails_or_passes, passes_at, AreKnown};
 
 use crate::chains::{has_lost, is_met_or_above, look_beside};
-use crate::records::are_same;
 use jc_base::name::Name;
+use jc_facts::records::are_same;
 use jc_sides::shared::Shared;
 use jc_sides::sides::Sides;
 use jc_table::ids::ClassId;

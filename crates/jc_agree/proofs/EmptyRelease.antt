@@ -17,23 +17,26 @@ use Rattle.jc_facts.specs.Options.{or_else, and_then, some_and}
 use Rattle.jc_facts.specs.client.Acts.{Form, FieldForm, MethodForm, InterfaceForm, form_of, is_put_act}
 use Rattle.jc_facts.specs.client.Outcome.{look_up, found_or, first_of, kind_fault}
 use Rattle.jc_facts.specs.file.Valid.{IsValidClass}
-use Rattle.jc_facts.specs.rule.Bases.{class_is, is_class_usable, is_steady, is_class_closed, is_extendable, is_implementable, is_base_class, is_base_interface, is_open, permits_some, has_init, public_or_protected, allowed, leaves_out, newly_sealed, is_key_of_method, declares_as_final, is_final_in_chain, offers, itself_and, inherits}
-use Rattle.jc_facts.specs.rule.Collisions.{collision_at, constant_added, capture_added, captures, are_none, leaves_room, final_added}
-use Rattle.jc_facts.specs.rule.Findings.{Subject, finding_at, finding_by, report, report_where, assign_finding, class_gone, class_closed, interface_became_class, superclass_lost, constructor_closed, new_broken, init_broken, new_error, init_error, init_of, had_init, missing_or, method_made_final, finds_overridable, field_closed, method_closed, interface_method_lost, act_finding, first_act}
-use Rattle.jc_facts.specs.rule.OpenActs.{act_fault, where_open, closed_act, is_member_open, least, first_seat, field_acts, method_acts}
+use Rattle.jc_facts.specs.world.World.{class_is, World, find_class, class_named, classes, own_method_of, DeclaredMember}
+use Rattle.jc_promises.specs.rule.Bases.{is_class_usable, is_steady, is_class_closed, is_extendable, is_implementable, is_base_class, is_base_interface, is_open, permits_some, has_init, allowed, leaves_out, newly_sealed, is_key_of_method}
+use Rattle.jc_facts.specs.world.Inheritance.{public_or_protected, declares_as_final, is_final_in_chain, offers, itself_and, inherits}
+use Rattle.jc_promises.specs.rule.Collisions.{collision_at, constant_added, capture_added, captures, leaves_room, final_added}
+use Rattle.jc_facts.specs.world.Lookup.{are_none, field_found, method_choices, or_choices, superinterface_choices, first_declared, interface_choices, public_method_of_object}
+use Rattle.jc_promises.specs.rule.Findings.{Subject, finding_at, finding_by, report, report_where, assign_finding, class_gone, class_closed, interface_became_class, superclass_lost, constructor_closed, new_broken, init_broken, new_error, init_error, init_of, had_init, missing_or, method_made_final, finds_overridable, field_closed, method_closed, interface_method_lost, act_finding, first_act}
+use Rattle.jc_promises.specs.rule.OpenActs.{act_fault, where_open, closed_act, first_seat, field_acts, method_acts}
+use Rattle.jc_facts.specs.world.Access.{is_member_open}
+use Rattle.jc_facts.specs.ByName.{least}
 use Rattle.jc_facts.specs.world.Assignment.{is_interface_of}
 use Rattle.jc_facts.specs.world.Hierarchy.{chain, in_chain, superinterfaces}
 use Rattle.jc_facts.specs.world.Loading.{load_fault, loads, excludes, fault_where}
-use Rattle.jc_facts.specs.world.Lookup.{field_found, method_choices, or_choices, superinterface_choices, first_declared, interface_choices, public_method_of_object}
 use Rattle.jc_facts.specs.world.Modules.{OfClients, module_of, same_module}
-use Rattle.jc_facts.specs.world.Pairs.{IsPair}
+use Rattle.jc_promises.specs.Pairs.{IsPair}
 use Rattle.jc_facts.specs.world.Search.{supers}
-use Rattle.jc_facts.specs.world.World.{World, find_class, class_named, classes, own_method_of, DeclaredMember}
 use Rattle.jc_lemmas.proofs.Bools.{both_first, both_last, imply, not_true}
 use Rattle.jc_lemmas.proofs.Listed.{EachOf-map, any_none}
 use Rattle.jc_lemmas.proofs.Options.{none_where, cond_none}
 use Rattle.jc_facts.proofs.Options.{or_else-both}
-use Rattle.jc_facts.proofs.Pairs.{side_valid, old_root, new_root}
+use Rattle.jc_promises.proofs.Pairs.{side_valid, old_root, new_root}
 use Rattle.jc_facts.proofs.World.{class_named-front, find-name, find-platform}
 use Rattle.jc_worlds.specs.Agreement.{AgreeOn, ModulesAgreeOn, LooksTheSame}
 use Rattle.jc_worlds.proofs.AgreementLaw.{worlds_agree}

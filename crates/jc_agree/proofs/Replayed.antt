@@ -12,7 +12,9 @@ use Rattle.jc_facts.specs.declared.verdict.Spot.{Spot}
 use Rattle.jc_facts.specs.declared.verdict.Spot.TheVariants as spots
 use Rattle.jc_facts.specs.Names.{Bytes}
 use Rattle.jc_facts.specs.Options.{or_else}
-use Rattle.jc_facts.specs.client.Clients.{facts_of, is_allowed_name, is_in_reach}
+use Rattle.jc_facts.specs.client.Valid.{facts_of}
+use Rattle.jc_facts.specs.client.Allowed.{is_allowed_name}
+use Rattle.jc_promises.specs.client.Reach.{is_in_reach}
 use Rattle.jc_facts.specs.client.Linked.{outcomes, in_order, all_outcomes, client_outcomes, item_outcomes, loading, linking}
 use Rattle.jc_facts.specs.client.Outcome.{Links}
 use Rattle.jc_facts.specs.world.World.{World, with_clients}

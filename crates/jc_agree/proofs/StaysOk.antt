@@ -3,7 +3,9 @@ use Rattle.std.proofs.Common.{◌≡◌, true, List, ap, ◌∙◌, IsTrue}
 use Rattle.std.specs.List.{All, Contains}
 use Rattle.std.proofs.lemmas.List.Elements.{recursion_from_All, All-contains}
 use Rattle.jc_facts.specs.declared.client.ClientClass.{ClientClass}
-use Rattle.jc_facts.specs.client.Clients.{facts_of, is_in_reach, Keeps}
+use Rattle.jc_facts.specs.client.Valid.{facts_of}
+use Rattle.jc_promises.specs.client.Reach.{is_in_reach}
+use Rattle.jc_promises.specs.client.Keeps.{Keeps}
 use Rattle.jc_facts.specs.client.Linked.{outcomes, are_all_ok, in_order}
 use Rattle.jc_facts.specs.client.Outcome.{Links}
 use Rattle.jc_facts.specs.world.World.{World, with_clients}

@@ -5,11 +5,11 @@ use Rattle.std.proofs.lemmas.List.Elements.{recursion_from_All}
 use Rattle.jc_facts.specs.declared.key.Key.{Key}
 use Rattle.jc_facts.specs.declared.verdict.Verdict.{Verdict}
 use Rattle.jc_facts.specs.Names.{Bytes}
-use Rattle.jc_facts.specs.rule.Collisions.{CollisionStands, collision_at, constant_added, capture_added, final_added}
-use Rattle.jc_facts.specs.rule.Findings.{Stands, Subject, finding_at, subject_of}
-use Rattle.jc_facts.specs.rule.Verdict.{IsVerdict}
+use Rattle.jc_promises.specs.rule.Collisions.{CollisionStands, collision_at, constant_added, capture_added, final_added}
+use Rattle.jc_promises.specs.rule.Findings.{Stands, Subject, finding_at, subject_of}
+use Rattle.jc_promises.specs.rule.Verdict.{IsVerdict}
 use Rattle.jc_facts.specs.world.World.{World}
-use Rattle.jc_facts.proofs.Pairs.{side_valid}
+use Rattle.jc_promises.proofs.Pairs.{side_valid}
 use Rattle.jc_sound.proofs.Itself.{quiet_itself, no_constant, no_capture, no_final}
 use Rattle.jc_agree.specs.Compatible.{FindsNothing, SameRelease, EmptyRelease}
 use Rattle.jc_agree.proofs.Nothing.{where_none}

@@ -6,11 +6,13 @@ use Rattle.std.specs.Prelude.{◌≡◌, List, [], true, IsTrue}
 use Rattle.std.specs.List.{All}
 use Rattle.jc_facts.specs.declared.client.ClientClass.{ClientClass}
 use Rattle.jc_facts.specs.declared.verdict.Verdict.{Verdict}
-use Rattle.jc_facts.specs.client.Clients.{IsInScope, facts_of, is_in_reach}
+use Rattle.jc_promises.specs.client.Scope.{IsInScope}
+use Rattle.jc_facts.specs.client.Valid.{facts_of}
+use Rattle.jc_promises.specs.client.Reach.{is_in_reach}
 use Rattle.jc_facts.specs.client.Linked.{outcomes, are_all_ok}
-use Rattle.jc_facts.specs.client.Meets.{Meets}
-use Rattle.jc_facts.specs.rule.Verdict.{IsVerdict}
-use Rattle.jc_facts.specs.world.Pairs.{IsPair}
+use Rattle.jc_promises.specs.client.Meets.{Meets}
+use Rattle.jc_promises.specs.rule.Verdict.{IsVerdict}
+use Rattle.jc_promises.specs.Pairs.{IsPair}
 use Rattle.jc_facts.specs.world.World.{World, with_clients}
 
 -- ---- where there is nothing to find

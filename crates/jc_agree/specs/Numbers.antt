@@ -1,10 +1,11 @@
 -- The numbers by which the commands go, in digits. The clauses cite the constants of the code, whatever these are; here it is said what they are.
 use Rattle.std.specs.Prelude.{◌≡◌, Some, None, true, false, codes}
-use Rattle.jc_base.specs.declared.trees.TheConstants.{MAX_BYTES as READ_BYTES}
+use Rattle.jc_base.specs.declared.trees.TheConstants.{MAX_CLASS_BYTES as READ_BYTES}
 use Rattle.jc_desc.specs.declared.versions.TheConstants.{OLDEST_MAJOR, SIGNATURE_MAJOR, ABSTRACT_INTERFACE_MAJOR, BOOTSTRAP_MAJOR, INTERFACE_CODE_MAJOR, NEST_MAJOR, STRICT_MINOR_MAJOR, SEAL_MAJOR, NEWEST_MAJOR}
 use Rattle.jc_facts.specs.declared.rule_numbers.TheConstants.{CLASS_GONE, CLASS_CLOSED, INTERFACE_BECAME_CLASS, SUPERCLASS_LOST, CONSTRUCTOR_CLOSED, METHOD_MADE_FINAL, FIELD_CLOSED, METHOD_CLOSED, INTERFACE_METHOD_LOST, CONSTANT_ADDED, CAPTURE_ADDED, FINAL_ADDED}
-use Rattle.jc_index.specs.declared.limits.TheConstants.{MAX_SIDE_CLASSES}
-use Rattle.jc_trees.specs.declared.limits.TheConstants.{MAX_FILES, MAX_PATH, MAX_BYTES}
+use Rattle.jc_facts.specs.declared.limits.TheConstants.{MAX_SIDE_CLASSES, MAX_CLASS_NAME}
+use Rattle.jc_trees.specs.declared.limits.TheConstants.{MAX_FILES, MAX_PATH}
+use Rattle.jc_desc.specs.declared.limits.TheConstants.{MAX_CLASS_BYTES, MAX_TEXT, MAX_CODE}
 use Rattle.jc_words.specs.Command.{is_row}
 use Rattle.jc_words.specs.Number.{number_of}
 use Rattle.jc_commands.specs.declared.limits.TheConstants.{MAX_FINDINGS, MAX_WARNINGS, MAX_DROPPED}
@@ -36,14 +37,17 @@ pub record RulesAre : Type 0 where
   pub capture_added : CAPTURE_ADDED ≡ 11
   pub final_added : FINAL_ADDED ≡ 12
 
--- the limits on what is read and on what is reported: class files of a tree, bytes of a path and of a class file, classes of a side, findings and
+-- the limits on what is read and on what is reported: class files of a tree, bytes of a path and of a class file, classes of a side, bytes of a class's name, of a text and of code, findings and
 -- collisions of a verdict, warnings, dropped interfaces. A word asks for 1 to 4,096 generated classes, and a row has 2 to 20 releases
 pub record LimitsAre : Type 0 where
   pub files : MAX_FILES ≡ 40000
   pub path : MAX_PATH ≡ 4096
-  pub bytes : MAX_BYTES ≡ 4194304
+  pub bytes : MAX_CLASS_BYTES ≡ 4194304
   pub read_bytes : READ_BYTES ≡ 4194304
   pub side_classes : MAX_SIDE_CLASSES ≡ 120000
+  pub class_name : MAX_CLASS_NAME ≡ 4090
+  pub text : MAX_TEXT ≡ 65535
+  pub code : MAX_CODE ≡ 65535
   pub findings : MAX_FINDINGS ≡ 999999
   pub warnings : MAX_WARNINGS ≡ 999999
   pub dropped : MAX_DROPPED ≡ 999999

@@ -22,8 +22,8 @@ use Rattle.jc_facts.specs.written.Bodies.{tag_of_act}
 use Rattle.jc_facts.specs.code.Typing.{Kind, ref, Frame, basic_kind, kind_of, Kinds, method_kinds, field_kind, start_of, load, pop, pop_one, pop_two, leave, with_result, use_of, get_static, put_static, get_field, put_field, call_static, call, act_on, go, run}
 use Rattle.jc_facts.specs.written.TypedSteps.{typed_steps, step_len, reference}
 use Rattle.jc_facts.specs.written.TypedItems.{around_method, typed_body, is_callable, is_callable_step}
-use Rattle.jc_facts.specs.plan.Planned.{takes_nothing, takes, use_method, act_item}
-use Rattle.jc_facts.specs.plan.PlannedBodies.{zeros, params_of, result_of, taken_by, given_by, pops_of, first_local, act_steps}
+use Rattle.jc_promises.specs.plan.Planned.{takes_nothing, takes, use_method, act_item}
+use Rattle.jc_promises.specs.plan.PlannedBodies.{zeros, params_of, result_of, taken_by, given_by, pops_of, first_local, act_steps}
 use Rattle.jc_bodies.proofs.Zeros.{pushed, no_items, zeros_typed, zero_fits, zeros_fit, last_taken}
 use Rattle.jc_bodies.proofs.InitBody.{init_kinds}
 use Rattle.jc_bodies.proofs.UseBodies.{started, takes_kinds}

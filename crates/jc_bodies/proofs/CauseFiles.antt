@@ -12,16 +12,17 @@ use Rattle.jc_facts.specs.declared.class_facts.ClassFacts.{ClassFacts}
 use Rattle.jc_facts.specs.declared.finding.Finding.{Finding}
 use Rattle.jc_facts.specs.declared.verdict.Collision.{Collision}
 use Rattle.jc_facts.specs.declared.verdict.Cause.TheVariants as cause
-use Rattle.jc_facts.specs.rule.Collisions.{CollisionStands}
-use Rattle.jc_facts.specs.rule.Findings.{Stands, subject_of, takes_part, finds_overridable}
-use Rattle.jc_facts.specs.rule.Exposed.{acts_on}
+use Rattle.jc_promises.specs.rule.Collisions.{CollisionStands}
+use Rattle.jc_promises.specs.rule.Findings.{Stands, subject_of, takes_part, finds_overridable}
+use Rattle.jc_promises.specs.rule.Exposed.{acts_on}
 use Rattle.jc_facts.specs.Names.{Bytes, same, object_name}
-use Rattle.jc_facts.specs.rule.OpenActs.{field_acts, method_acts}
-use Rattle.jc_facts.specs.rule.Bases.{is_class_usable, is_kept, is_key_of_method, is_base_class, is_final_in_chain}
+use Rattle.jc_promises.specs.rule.OpenActs.{field_acts, method_acts}
+use Rattle.jc_promises.specs.rule.Bases.{is_class_usable, is_kept, is_key_of_method, is_base_class}
+use Rattle.jc_facts.specs.world.Inheritance.{is_final_in_chain}
 use Rattle.jc_facts.specs.world.World.{World, with_clients}
-use Rattle.jc_facts.specs.plan.PlannedNames.{fresh_package}
-use Rattle.jc_facts.specs.plan.Planned.{acts_exposing, assigns_exposed, assigns_from, plan}
-use Rattle.jc_facts.specs.plan.PlannedBodies.{exposed_bodies, assigns_bodies, plan_bodies}
+use Rattle.jc_promises.specs.plan.PlannedNames.{fresh_package}
+use Rattle.jc_promises.specs.plan.Planned.{acts_exposing, assigns_exposed, assigns_from, plan}
+use Rattle.jc_promises.specs.plan.PlannedBodies.{exposed_bodies, assigns_bodies, plan_bodies}
 use Rattle.jc_lemmas.proofs.Listed.{each_in, none, EachOf, EachOf-map, EachOf-append}
 use Rattle.jc_complete.specs.Completeness.{Shows}
 use Rattle.jc_complete.proofs.CompletenessWhole.{finding_shown, collision_shown}

@@ -9,9 +9,9 @@ use Rattle.jc_facts.specs.declared.key.Key.{Key}
 use Rattle.jc_facts.specs.Names.{Bytes, object_name}
 use Rattle.jc_facts.specs.file.Valid.{IsValidClass}
 use Rattle.jc_facts.specs.written.Written.{are_short}
-use Rattle.jc_facts.specs.plan.Planned.{a_client, a_class, an_interface, user, init_method, use_method, abstract_method, takes_nothing}
-use Rattle.jc_facts.specs.plan.PlannedNames.{in_package}
-use Rattle.jc_facts.specs.plan.PlannedBodies.{Bodies, body_of, init_body, user_bodies}
+use Rattle.jc_promises.specs.plan.Planned.{a_client, a_class, an_interface, user, init_method, use_method, abstract_method, takes_nothing}
+use Rattle.jc_promises.specs.plan.PlannedNames.{in_package}
+use Rattle.jc_promises.specs.plan.PlannedBodies.{Bodies, body_of, init_body, user_bodies}
 use Rattle.jc_bodies.proofs.RowTypes.{IsTypedAs}
 use Rattle.jc_bodies.proofs.Entries.{IsNamed, short_name, IsShortKey, IsConstructor, init_fine}
 use Rattle.jc_bodies.proofs.Rows.{nothing_is}

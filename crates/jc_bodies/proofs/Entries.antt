@@ -19,7 +19,7 @@ use Rattle.jc_facts.specs.Names.{Bytes}
 use Rattle.jc_facts.specs.file.Valid.{is_valid_name}
 use Rattle.jc_facts.specs.written.PoolEntries.{PoolEntry, class, member, is_good, use_is_good}
 use Rattle.jc_facts.specs.written.Bodies.{tag_of_act, init_name, step_needs, steps_needs}
-use Rattle.jc_facts.specs.plan.PlannedBodies.{basic_zero, zero_step, zeros, params_of, taken_by, given_by, pops_of, init_steps, cast_steps, turn_steps, make_steps, acting_steps, act_steps, exposed_steps}
+use Rattle.jc_promises.specs.plan.PlannedBodies.{basic_zero, zero_step, zeros, params_of, taken_by, given_by, pops_of, init_steps, cast_steps, turn_steps, make_steps, acting_steps, act_steps, exposed_steps}
 use Rattle.jc_facts.proofs.Same.{same_itself}
 use Rattle.jc_lemmas.proofs.Listed.{EachOf}
 use Rattle.jc_bodies.proofs.RowTypes.{IsAbove, IsUsable}

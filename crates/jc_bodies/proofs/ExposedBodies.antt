@@ -26,8 +26,8 @@ use Rattle.jc_facts.specs.code.Typing.{Kind, ref, empty, Frame, basic_kind, kind
 use Rattle.jc_facts.specs.written.Bodies.{tag_of_act}
 use Rattle.jc_facts.specs.written.TypedSteps.{typed_steps, step_len, reference}
 use Rattle.jc_facts.specs.written.TypedItems.{around_method, typed_body, is_callable_step}
-use Rattle.jc_facts.specs.plan.Planned.{class_type, turns_behind, use_method, act_item, receiver_exposed, receivers_exposed, item_exposed}
-use Rattle.jc_facts.specs.plan.PlannedBodies.{zeros, taken_by, given_by, pops_of, exposed_steps}
+use Rattle.jc_promises.specs.plan.Planned.{class_type, turns_behind, use_method, act_item, receiver_exposed, receivers_exposed, item_exposed}
+use Rattle.jc_promises.specs.plan.PlannedBodies.{zeros, taken_by, given_by, pops_of, exposed_steps}
 use Rattle.jc_lemmas.proofs.Listed.{EachOf}
 use Rattle.jc_complete.proofs.PlanValid.{are_class_types}
 use Rattle.jc_bodies.proofs.RowTypes.{IsUsable}

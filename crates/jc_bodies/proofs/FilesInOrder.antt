@@ -8,13 +8,13 @@ use Rattle.jc_facts.specs.declared.blueprint.Blueprint.{Blueprint}
 use Rattle.jc_facts.specs.declared.class_facts.ClassFacts.{ClassFacts}
 use Rattle.jc_facts.specs.declared.client.ClientClass.{ClientClass}
 use Rattle.jc_facts.specs.declared.client.Item.{Item}
-use Rattle.jc_facts.specs.client.Clients.{facts_of, differ_by_name}
+use Rattle.jc_facts.specs.client.Valid.{facts_of}
+use Rattle.jc_facts.specs.world.World.{differ_by_name, class_named}
 use Rattle.jc_facts.specs.ByName.{placed, by_name}
 use Rattle.jc_facts.specs.Names.{Bytes, same}
 use Rattle.jc_facts.specs.Exactly.{name_order}
-use Rattle.jc_facts.specs.world.World.{class_named}
-use Rattle.jc_facts.specs.plan.Planned.{Plan, spot_of}
-use Rattle.jc_facts.specs.plan.PlannedBodies.{Bodies, blueprint, blueprints}
+use Rattle.jc_promises.specs.plan.Planned.{Plan, spot_of}
+use Rattle.jc_promises.specs.plan.PlannedBodies.{Bodies, blueprint, blueprints}
 use Rattle.jc_facts.proofs.Clients.{name_of}
 use Rattle.jc_sound.proofs.SoundnessLaws.{client_there}
 use Rattle.jc_lemmas.proofs.Options.{none_where}

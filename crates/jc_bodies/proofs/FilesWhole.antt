@@ -4,12 +4,12 @@ use Rattle.std.proofs.lemmas.List.Elements.{All-from_recursion, recursion_from_A
 use Rattle.jc_facts.specs.declared.link_error.LinkError.{LinkError}
 use Rattle.jc_facts.specs.declared.verdict.Cause.{Cause}
 use Rattle.jc_facts.specs.declared.verdict.Cause.TheVariants as cause
-use Rattle.jc_facts.specs.rule.Collisions.{CollisionStands}
-use Rattle.jc_facts.specs.rule.Findings.{Stands}
+use Rattle.jc_promises.specs.rule.Collisions.{CollisionStands}
+use Rattle.jc_promises.specs.rule.Findings.{Stands}
 use Rattle.jc_facts.specs.world.World.{World}
-use Rattle.jc_facts.specs.plan.PlannedNames.{fresh_package}
-use Rattle.jc_facts.specs.plan.Planned.{plan, planned, planned_for}
-use Rattle.jc_facts.specs.plan.PlannedBodies.{blueprints, plan_bodies, planned_files}
+use Rattle.jc_promises.specs.plan.PlannedNames.{fresh_package}
+use Rattle.jc_promises.specs.plan.Planned.{plan, planned, planned_for}
+use Rattle.jc_promises.specs.plan.PlannedBodies.{blueprints, plan_bodies, planned_files}
 use Rattle.jc_complete.specs.Completeness.{PlannedShow, PlannedMeet}
 use Rattle.jc_complete.proofs.CompletenessWhole.{completeness}
 use Rattle.jc_lemmas.proofs.Listed.{EachOf-both}

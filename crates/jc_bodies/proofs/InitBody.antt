@@ -18,8 +18,8 @@ use Rattle.jc_facts.specs.written.Bodies.{init_name}
 use Rattle.jc_facts.specs.code.Typing.{Kind, unset, ref, Frame, kind_of, Kinds, method_kinds, start_of, initialized, construct, all_made, leave, run, load, go}
 use Rattle.jc_facts.specs.written.TypedSteps.{typed_steps, step_len, reference}
 use Rattle.jc_facts.specs.written.TypedItems.{around_method, typed_body}
-use Rattle.jc_facts.specs.plan.Planned.{init_method}
-use Rattle.jc_facts.specs.plan.PlannedBodies.{zeros, params_of, init_steps, first_local}
+use Rattle.jc_promises.specs.plan.Planned.{init_method}
+use Rattle.jc_promises.specs.plan.PlannedBodies.{zeros, params_of, init_steps, first_local}
 use Rattle.jc_bodies.proofs.Zeros.{pushed, on, no_items, zeros_typed, zeros_fit, last_taken}
 use Rattle.jc_facts.proofs.Typing.{pop_push}
 

@@ -24,7 +24,7 @@ use Rattle.jc_facts.specs.client.Outcome.{class_step, outcome, use_fault, init_k
 use Rattle.jc_facts.specs.world.Types.{is_array_text}
 use Rattle.jc_facts.specs.file.Valid.{IsValidClass}
 use Rattle.jc_facts.specs.world.World.{World, find_class, DeclaredMember, own_field_of, own_method_of}
-use Rattle.jc_facts.specs.plan.PlannedBodies.{zeros, params_of, param_of, taken_by}
+use Rattle.jc_promises.specs.plan.PlannedBodies.{zeros, params_of, param_of, taken_by}
 use Rattle.jc_facts.specs.file.Attributes.{is_array_name}
 use Rattle.jc_facts.specs.written.PoolEntries.{use_is_good}
 use Rattle.jc_worlds.proofs.Alike.{step_loads}

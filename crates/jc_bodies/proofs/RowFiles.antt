@@ -20,14 +20,16 @@ use Rattle.jc_facts.specs.client.Acts.{form_of, is_act_on_static}
 use Rattle.jc_facts.specs.Flags.{public_flag}
 use Rattle.jc_facts.specs.Options.{some_and}
 use Rattle.jc_facts.specs.world.Assignment.{is_interface_of}
-use Rattle.jc_facts.specs.client.Clients.{IsValidClient, is_allowed_name, is_in_reach, is_item_of, facts_of}
+use Rattle.jc_facts.specs.client.Valid.{IsValidClient, is_item_of, facts_of}
+use Rattle.jc_facts.specs.client.Allowed.{is_allowed_name}
+use Rattle.jc_promises.specs.client.Reach.{is_in_reach}
 use Rattle.jc_facts.specs.Names.{Bytes, same, object_name}
 use Rattle.jc_facts.specs.client.Outcome.{outcome}
 use Rattle.jc_facts.specs.file.Valid.{is_valid_name}
 use Rattle.jc_facts.specs.world.World.{World, with_clients}
-use Rattle.jc_facts.specs.plan.Planned.{Plan, class_type, takes_nothing, takes, turns, turns_behind, receiver_exposed, receivers_exposed, item_exposed, assigns_behind, use_method, a_class, user, field_class, abstract_method, an_interface, found_by, act_item, names_class, names_above, assigns, makes_object, calls_constructor, overrides_method, receiver_for, acts_from, calls_inherited, reads_field, calls_captured}
-use Rattle.jc_facts.specs.plan.PlannedNames.{in_package, own_name, closed_name, constructor}
-use Rattle.jc_facts.specs.plan.PlannedBodies.{Bodies, body_of, exposed_steps, init_body, object_init, cast_steps, turn_steps, make_steps, act_steps, user_bodies, above_bodies, overrides_bodies, acts_bodies, inherited_bodies, reads_bodies, captured_bodies}
+use Rattle.jc_promises.specs.plan.Planned.{Plan, class_type, takes_nothing, takes, turns, turns_behind, receiver_exposed, receivers_exposed, item_exposed, assigns_behind, use_method, a_class, user, field_class, abstract_method, an_interface, found_by, act_item, names_class, names_above, assigns, makes_object, calls_constructor, overrides_method, receiver_for, acts_from, calls_inherited, reads_field, calls_captured}
+use Rattle.jc_promises.specs.plan.PlannedNames.{in_package, own_name, closed_name, constructor}
+use Rattle.jc_promises.specs.plan.PlannedBodies.{Bodies, body_of, exposed_steps, init_body, object_init, cast_steps, turn_steps, make_steps, act_steps, user_bodies, above_bodies, overrides_bodies, acts_bodies, inherited_bodies, reads_bodies, captured_bodies}
 use Rattle.jc_complete.specs.Completeness.{LinksWhole, Shows}
 use Rattle.jc_lemmas.proofs.Listed.{EachOf, EachOf-map, EachOf-append}
 use Rattle.jc_bodies.proofs.RowTypes.{IsTypedAs, AreTypedAs}

@@ -9,7 +9,7 @@ use Rattle.jc_facts.specs.declared.key.Key.{Key}
 use Rattle.jc_facts.specs.file.Attributes.{is_array_name}
 use Rattle.jc_facts.specs.Names.{Bytes, same}
 use Rattle.jc_facts.specs.written.TypedItems.{typed_items, IsTyped, is_callable}
-use Rattle.jc_facts.specs.plan.PlannedBodies.{Bodies, blueprint}
+use Rattle.jc_promises.specs.plan.PlannedBodies.{Bodies, blueprint}
 
 -- the bodies type, to the items of the client
 pub record IsTypedAs (c : ClientClass) (bodies : Bodies) : Type 0 where

@@ -14,8 +14,8 @@ use Rattle.jc_facts.specs.declared.client.Item.TheVariants as item
 use Rattle.jc_facts.specs.declared.key.Key.{Key}
 use Rattle.jc_facts.specs.Names.{Bytes, same, object_name}
 use Rattle.jc_facts.specs.written.TypedItems.{typed_body, or_nothing, body_items, typed_items, body_typed, is_callable_step}
-use Rattle.jc_facts.specs.plan.Planned.{init_method, takes_nothing, takes, turns, use_method, a_class, an_interface, abstract_method, user}
-use Rattle.jc_facts.specs.plan.PlannedBodies.{body_of, basic_zero, zero_step, zeros, params_of, init_steps, init_body, cast_steps, turn_steps, make_steps, user_bodies}
+use Rattle.jc_promises.specs.plan.Planned.{init_method, takes_nothing, takes, turns, use_method, a_class, an_interface, abstract_method, user}
+use Rattle.jc_promises.specs.plan.PlannedBodies.{body_of, basic_zero, zero_step, zeros, params_of, init_steps, init_body, cast_steps, turn_steps, make_steps, user_bodies}
 use Rattle.jc_bodies.proofs.RowTypes.{IsTypedAs, IsAbove}
 use Rattle.jc_bodies.proofs.InitBody.{init_typed}
 use Rattle.jc_bodies.proofs.UseBodies.{cast_typed, turn_typed, make_typed}

@@ -7,7 +7,9 @@ use Rattle.std.proofs.lemmas.List.Elements.{recursion_from_All}
 use Rattle.jc_facts.specs.declared.class_facts.ClassFacts.{ClassFacts}
 use Rattle.jc_facts.specs.declared.class_facts.Member.{Member}
 use Rattle.jc_facts.specs.declared.client.ClientClass.{ClientClass}
-use Rattle.jc_facts.specs.client.Clients.{IsValidClient, is_allowed_name, is_named_above, has_package, facts_of}
+use Rattle.jc_facts.specs.client.Valid.{IsValidClient, facts_of}
+use Rattle.jc_facts.specs.client.Allowed.{is_allowed_name, has_package}
+use Rattle.jc_facts.specs.world.Mentioned.{is_named_above}
 use Rattle.jc_facts.specs.Names.{Bytes}
 use Rattle.jc_facts.specs.file.Valid.{IsValidClass}
 use Rattle.jc_facts.specs.world.World.{World, classes, find_class, with_clients}

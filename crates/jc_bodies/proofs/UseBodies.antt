@@ -16,8 +16,8 @@ use Rattle.jc_facts.specs.written.Bodies.{init_name}
 use Rattle.jc_facts.specs.code.Typing.{Kind, ref, fresh, Frame, kind_of, Kinds, method_kinds, start_of, load, pop, pop_one, dup, cast, value_fits, leave, fit, initialized, all_made, run}
 use Rattle.jc_facts.specs.written.TypedSteps.{typed_steps, step_len, reference}
 use Rattle.jc_facts.specs.written.TypedItems.{around_method, typed_body}
-use Rattle.jc_facts.specs.plan.Planned.{class_type, takes_nothing, takes, turns, use_method}
-use Rattle.jc_facts.specs.plan.PlannedBodies.{zeros, params_of, cast_steps, turn_steps, make_steps}
+use Rattle.jc_promises.specs.plan.Planned.{class_type, takes_nothing, takes, turns, use_method}
+use Rattle.jc_promises.specs.plan.PlannedBodies.{zeros, params_of, cast_steps, turn_steps, make_steps}
 use Rattle.jc_bodies.proofs.Zeros.{pushed, on, no_items, zeros_typed}
 use Rattle.jc_bodies.proofs.InitBody.{made_none, constructed, step_typed, init_kinds}
 

@@ -12,12 +12,12 @@ use Rattle.jc_facts.specs.declared.link_error.LinkError.TheVariants.{IllegalAcce
 use Rattle.jc_facts.specs.declared.verdict.Cause.{Cause}
 use Rattle.jc_facts.specs.declared.verdict.Cause.TheVariants as cause
 use Rattle.jc_facts.specs.ByName.{placed, by_name}
-use Rattle.jc_facts.specs.rule.Collisions.{made_collision}
+use Rattle.jc_promises.specs.rule.Collisions.{made_collision}
 use Rattle.jc_facts.specs.declared.key.Key.{Key}
 use Rattle.jc_facts.specs.Names.{Bytes, object_name}
-use Rattle.jc_facts.specs.plan.Planned.{plan}
-use Rattle.jc_facts.specs.plan.PlannedBodies.{Bodies, body_of, plan_bodies, planned_files}
-use Rattle.jc_facts.specs.plan.PlannedNames.{first_unused, least_name, constructors}
+use Rattle.jc_promises.specs.plan.Planned.{plan}
+use Rattle.jc_promises.specs.plan.PlannedBodies.{Bodies, body_of, plan_bodies, planned_files}
+use Rattle.jc_promises.specs.plan.PlannedNames.{first_unused, least_name, constructors}
 use Rattle.jc_facts.specs.world.World.{side}
 use Rattle.jc_facts.specs.written.PoolEntries.{entries_bytes}
 use Rattle.jc_facts.specs.written.Written.{pool_of_plan, written}

@@ -15,8 +15,8 @@ use Rattle.jc_facts.specs.file.Valid.{IsValidClass}
 use Rattle.jc_facts.specs.written.PoolEntries.{PoolEntry, class, is_good, fits, collected, all_parts}
 use Rattle.jc_facts.specs.written.Bodies.{steps_needs, steps_bytes, places_at_most}
 use Rattle.jc_facts.specs.written.Written.{classes_needs, member_needs, fields_needs, body_needs, body_first, bodies_other, methods_needs, needs_of, pool_of_plan, body_is_good, IsFormed, HasShortFlags, fits_count, fits_body, fits_bodies, fits_whole}
-use Rattle.jc_facts.specs.plan.Planned.{a_client}
-use Rattle.jc_facts.specs.plan.PlannedBodies.{Bodies, blueprint}
+use Rattle.jc_promises.specs.plan.Planned.{a_client}
+use Rattle.jc_promises.specs.plan.PlannedBodies.{Bodies, blueprint}
 use Rattle.jc_write.proofs.Collected.{collected_all}
 use Rattle.jc_bodies.proofs.RowTypes.{IsTypedAs}
 use Rattle.jc_bodies.proofs.Limits.{is_short, code_length, stack_height, parts_fit, parts_length, collected_length, needs_length}

@@ -11,7 +11,7 @@ use Rattle.jc_facts.specs.file.Attributes.{◌|>>◌}
 use Rattle.jc_facts.specs.code.Code.{Around}
 use Rattle.jc_facts.specs.code.Typing.{Kind, int, long, float, double, null, ref, Frame, basic_kind, kind_of, fit, fit_all, taken, run}
 use Rattle.jc_facts.specs.written.TypedSteps.{typed_steps, step_len}
-use Rattle.jc_facts.specs.plan.PlannedBodies.{basic_zero, zero_step, zeros}
+use Rattle.jc_promises.specs.plan.PlannedBodies.{basic_zero, zero_step, zeros}
 
 -- ---- what they push
 

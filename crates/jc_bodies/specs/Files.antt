@@ -12,9 +12,9 @@ use Rattle.jc_facts.specs.file.ShortNames.{HasShortNames}
 use Rattle.jc_facts.specs.code.ClientItems.{items as items_in}
 use Rattle.jc_facts.specs.written.Written.{written, HasShortFlags, fits_whole}
 use Rattle.jc_facts.specs.written.TypedItems.{typed_items, IsWritable}
-use Rattle.jc_facts.specs.plan.Planned.{planned, planned_for, spot_of}
-use Rattle.jc_facts.specs.plan.PlannedBodies.{planned_files}
-use Rattle.jc_facts.specs.rule.Verdict.{IsVerdict}
+use Rattle.jc_promises.specs.plan.Planned.{planned, planned_for, spot_of}
+use Rattle.jc_promises.specs.plan.PlannedBodies.{planned_files}
+use Rattle.jc_promises.specs.rule.Verdict.{IsVerdict}
 use Rattle.jc_complete.specs.Completeness.{CanPlan, PlannedShow, PlannedMeet}
 
 -- ---- of what releases it is said

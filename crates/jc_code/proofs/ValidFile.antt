@@ -8,7 +8,7 @@ use Rattle.jc_facts.specs.declared.client.Item.{Item}
 use Rattle.jc_facts.specs.declared.code_fault.CodeFault.{CodeFault}
 use Rattle.jc_facts.specs.declared.code_fault.CodeReason.TheVariants as reasons
 use Rattle.jc_facts.specs.Names.{Bytes}
-use Rattle.jc_facts.specs.client.Clients.{IsValidClient}
+use Rattle.jc_facts.specs.client.Valid.{IsValidClient}
 use Rattle.jc_facts.specs.file.Attributes.{CodeOf, BootstrapOf}
 use Rattle.jc_facts.specs.file.ClassParts.{Attribute}
 use Rattle.jc_facts.specs.file.ClassGrammar.{IsClassFile, Reads}

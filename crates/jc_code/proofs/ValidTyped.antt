@@ -16,7 +16,7 @@ use Rattle.jc_facts.specs.declared.code_fault.CodeReason.{CodeReason}
 use Rattle.jc_facts.specs.declared.code_fault.CodeReason.TheVariants as reasons
 use Rattle.jc_facts.specs.Names.{Bytes, same}
 use Rattle.jc_facts.specs.client.Acts.{is_act_on_field}
-use Rattle.jc_facts.specs.client.Clients.{is_item_of}
+use Rattle.jc_facts.specs.client.Valid.{is_item_of}
 use Rattle.jc_facts.specs.file.Attributes.{CodeOf, is_array_name, ◌|>>◌}
 use Rattle.jc_facts.specs.code.Code.{Around, member_at, plain_member, is_own, either, is_interface_ref, holds_tag, operand, used, instruction_at, next_at, scan_at}
 use Rattle.jc_facts.specs.code.Lengths.{is_between, instruction_length}

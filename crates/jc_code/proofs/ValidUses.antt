@@ -16,7 +16,7 @@ use Rattle.jc_facts.specs.declared.client.Place.TheVariants as place
 use Rattle.jc_facts.specs.declared.code_fault.CodeFault.{CodeFault}
 use Rattle.jc_facts.specs.declared.code_fault.CodeReason.TheVariants as reasons
 use Rattle.jc_facts.specs.Names.{Bytes}
-use Rattle.jc_facts.specs.client.Clients.{is_item_of}
+use Rattle.jc_facts.specs.client.Valid.{is_item_of}
 use Rattle.jc_facts.specs.file.Attributes.{BootstrapOf, ◌|>>◌}
 use Rattle.jc_facts.specs.code.Code.{Around, access, of_member, is_interface_ref, is_own, member_at, plain_member, place_of, either, handle_item, handle_items, class_item, argument_items, arguments_items, row_items, boot_items, dynamic_items, virtual_use, special_item, special_use, static_use, used, holds_tag, caught, catches_at}
 use Rattle.jc_facts.specs.file.Refusals.{◌>>=◌, want}

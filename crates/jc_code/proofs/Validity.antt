@@ -26,7 +26,7 @@ use Rattle.jc_facts.specs.file.ClassParts.{Attribute, ClassHead}
 use Rattle.jc_facts.specs.file.ClassSteps.{attribute_from, has_this_name, member_head_from}
 use Rattle.jc_facts.specs.code.ClientItems.{around, attribute_items, attributes_items, method_items, methods_items}
 use Rattle.jc_facts.specs.client.Acts.{is_act_on_field}
-use Rattle.jc_facts.specs.client.Clients.{is_item_of}
+use Rattle.jc_facts.specs.client.Valid.{is_item_of}
 use Rattle.jc_facts.specs.file.Attributes.{BootstrapOf, is_array_name, ◌|>>◌}
 use Rattle.jc_facts.specs.code.Code.{Around, access, of_member, is_own, member_at, named, place_of, field_use, interface_use, used, operand, instruction_at, next_at, scan_at}
 use Rattle.jc_facts.specs.file.Refusals.{◌>>=◌, read, want, placed}

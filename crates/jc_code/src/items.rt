@@ -5,10 +5,11 @@ ghost use Rattle.std.specs.Result.{result_map_both};
 ghost use Rattle.jc_facts.specs.declared.class_facts.ClassFacts.{ClassFacts};
 ghost use Rattle.jc_facts.specs.file.ClassGrammar.{Reads};
 ghost use Rattle.jc_facts.specs.code.ClientItems as client;
-ghost use Rattle.jc_facts.specs.client.Clients.{IsValidClient};
+ghost use Rattle.jc_facts.specs.client.Valid.{IsValidClient};
 ghost use Rattle.jc_facts.specs.file.Refusals.{◌>>=◌ as ◌>=>◌};
 ghost use Rattle.jc_attr.specs.Views.{head_view};
 ghost use Rattle.jc_code.specs.Fails.{CodeFails};
+ghost use Rattle.jc_desc.specs.declared.limits.TheConstants.{MAX_CLASS_BYTES};
 
 use crate::bootstrap_rows::{boots_body, lent, rows};
 use crate::method::unread;
@@ -93,7 +94,7 @@ pub enum CodeError {
 /// `BadCode` exactly where the code is refused, with the first refusal; where memory runs out,
 /// `Memory`, about which nothing is said.
 pub fn items_of(alloc: Global, bytes: &[u8]) -> Result<Vec<Item>, CodeError>
-    requires { length bytes.now ≤ 4194304 }
+    requires { length bytes.now ≤ MAX_CLASS_BYTES }
     ensures exact { MatchResult result (λ found. client.items bytes.now ≡ Ok found.items) (CodeFails bytes.now) }
     ensures valid { IfOk result (λ found. (facts : ClassFacts) → Reads bytes.now facts → IsValidClient (record { facts = facts; items = found.items })) }
 {

@@ -16,11 +16,12 @@ use crate::typing::typed_code;
 use jc_attr::attribute::{Attribute, attribute_at};
 use jc_attr::code::{CodeParts, code};
 use jc_desc::fault::Fault;
+use jc_desc::limits::MAX_CODE;
 use jc_facts::client::Item;
 use jc_facts::code_fault::{CodeFault, CodeReason};
 use std::alloc::{AllocError, Global};
 
-/// The parts of a Code, where it is of its form and its code is neither empty nor longer than 65,535 bytes.
+/// The parts of a Code, where it is of its form and its code is neither empty nor longer than `MAX_CODE` bytes.
 #[tactic(auto, unfolding(jc_facts::specs::code::ClientItems::layout_of))]
 fn layout(body: &[u8]) -> Option<CodeParts<'_>>
     ensures { option_map (λ c. code_view c) result ≡ client.layout_of body.now }
@@ -28,7 +29,7 @@ fn layout(body: &[u8]) -> Option<CodeParts<'_>>
     match code(body) {
         None => None,
         Some(c) => {
-            if 1 <= c.bytes.len() && c.bytes.len() <= 65535 {
+            if 1 <= c.bytes.len() && c.bytes.len() <= MAX_CODE {
                 Some(c)
             } else {
                 None

@@ -10,9 +10,10 @@ use Rattle.jc_facts.specs.declared.verdict.Verdict.{Verdict}
 use Rattle.jc_facts.specs.declared.warning.Warning.{Warning}
 use Rattle.jc_facts.specs.Names.{Bytes}
 use Rattle.jc_facts.specs.Options.{or_else}
-use Rattle.jc_facts.specs.rule.Verdict.{IsVerdict, count_of}
+use Rattle.jc_promises.specs.rule.Verdict.{IsVerdict}
+use Rattle.jc_facts.specs.Verdicts.{count_of}
 use Rattle.jc_facts.specs.client.Linked.{in_order}
-use Rattle.jc_facts.specs.world.Pairs.{IsPair}
+use Rattle.jc_promises.specs.Pairs.{IsPair}
 use Rattle.jc_facts.specs.world.World.{World, Modules, side, side_in, find_class}
 use Rattle.jc_sound.proofs.VerdictLaw.{verdict_is_one}
 use Rattle.jc_gate.specs.Gates.{GateOf}

@@ -9,10 +9,11 @@ use Rattle.jc_facts.specs.declared.verdict.Cause.TheVariants as cause
 use Rattle.jc_facts.specs.declared.verdict.Collision.{Collision}
 use Rattle.jc_facts.specs.declared.verdict.Verdict.{Verdict}
 use Rattle.jc_facts.specs.Names.{Bytes}
-use Rattle.jc_facts.specs.plan.Planned.{planned}
-use Rattle.jc_facts.specs.rule.Verdict.{IsVerdict, holds_some}
+use Rattle.jc_promises.specs.plan.Planned.{planned}
+use Rattle.jc_promises.specs.rule.Verdict.{IsVerdict}
+use Rattle.jc_facts.specs.Verdicts.{holds_some}
 use Rattle.jc_facts.specs.world.Mentioned.{all_mentions}
-use Rattle.jc_facts.specs.world.Pairs.{AreOfOneRun}
+use Rattle.jc_promises.specs.Pairs.{AreOfOneRun}
 use Rattle.jc_facts.specs.world.World.{World, classes}
 use Rattle.jc_lemmas.proofs.Listed.{EachOf, EachOf-map, EachOf-append}
 use Rattle.jc_sound.proofs.VerdictLaw.{verdict_is_one}

@@ -5,7 +5,7 @@ use Rattle.std.specs.List.{All}
 use Rattle.std.proofs.lemmas.Bool.{ltb-true, ltb-false}
 use Rattle.std.proofs.lemmas.List.Elements.{All-from_recursion, recursion_from_All}
 use Rattle.jc_base.specs.Outside.{FileOf}
-use Rattle.jc_dropped.specs.declared.dropped.Dropped.{Dropped}
+use Rattle.jc_facts.specs.declared.dropped.Dropped.{Dropped}
 use Rattle.jc_dropped.specs.Dropped.{AreDropped}
 use Rattle.jc_facts.specs.declared.class_facts.ClassFacts.{ClassFacts}
 use Rattle.jc_facts.specs.declared.client.ClientClass.{ClientClass}
@@ -14,12 +14,13 @@ use Rattle.jc_facts.specs.declared.warning.Warning.{Warning}
 use Rattle.jc_facts.specs.client.Linked.{outcomes}
 use Rattle.jc_facts.specs.Names.{Bytes}
 use Rattle.jc_facts.specs.file.Valid.{IsValidClass}
-use Rattle.jc_facts.specs.rule.Verdict.{IsVerdict, count_of}
-use Rattle.jc_facts.specs.rule.Warnings.{AreWarnings}
-use Rattle.jc_facts.specs.world.Pairs.{IsPair}
+use Rattle.jc_promises.specs.rule.Verdict.{IsVerdict}
+use Rattle.jc_facts.specs.Verdicts.{count_of}
+use Rattle.jc_promises.specs.rule.Warnings.{AreWarnings}
+use Rattle.jc_promises.specs.Pairs.{IsPair}
 use Rattle.jc_facts.specs.world.World.{World, Modules, OneModule, Several, is_modular}
 use Rattle.jc_lemmas.proofs.Listed.{EachOf}
-use Rattle.jc_facts.proofs.Pairs.{pair_in}
+use Rattle.jc_promises.proofs.Pairs.{pair_in}
 use Rattle.jc_facts.proofs.ReadLists.{read_valid}
 use Rattle.jc_sound.proofs.VerdictLaw.{verdict_is_one}
 use Rattle.jc_select.proofs.Limited.{warnings_are_one}

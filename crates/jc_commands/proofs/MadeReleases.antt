@@ -17,7 +17,7 @@ use Rattle.jc_facts.specs.Names.{Bytes}
 use Rattle.jc_facts.specs.Options.{or_else}
 use Rattle.jc_facts.specs.world.World.{class_named}
 use Rattle.jc_facts.proofs.Generated.{releases, nothing_least}
-use Rattle.jc_facts.proofs.Pairs.{plain_pair}
+use Rattle.jc_promises.proofs.Pairs.{plain_pair}
 use Rattle.jc_lemmas.proofs.Listed.{EachOf, each_of}
 use Rattle.jc_table.proofs.Roots.{has_root}
 use Rattle.jc_table.specs.Root.{faulty_part, fault_of_root}

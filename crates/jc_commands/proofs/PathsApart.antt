@@ -10,15 +10,15 @@ use Rattle.jc_facts.specs.declared.client.ClientClass.{ClientClass}
 use Rattle.jc_facts.specs.declared.verdict.Cause.{Cause}
 use Rattle.jc_facts.specs.declared.verdict.Cause.TheVariants as cause
 use Rattle.jc_facts.specs.declared.verdict.Verdict.{Verdict}
-use Rattle.jc_facts.specs.client.Clients.{is_allowed_name}
+use Rattle.jc_facts.specs.client.Allowed.{is_allowed_name}
 use Rattle.jc_facts.specs.Names.{Bytes}
-use Rattle.jc_facts.specs.plan.Planned.{planned}
+use Rattle.jc_promises.specs.plan.Planned.{planned}
 use Rattle.jc_facts.specs.world.World.{World}
 use Rattle.jc_facts.proofs.Apart.{ApartRec}
 use Rattle.jc_facts.proofs.Clients.{clients_apart, name_of}
 use Rattle.jc_witness.specs.declared.witness.WitnessFile.{WitnessFile}
 use Rattle.jc_witness.specs.Witnesses.{IsReadAs, AreReadAs, IsWitnessOf, witness_files}
-use Rattle.jc_facts.specs.rule.Verdict.{count_of}
+use Rattle.jc_facts.specs.Verdicts.{count_of}
 use Rattle.jc_commands.specs.Witness.{PutFile, PutsFiles, PutsFirst, PutsSome, causes_of, files_from, files_of_cause, put_file, witness_path, witness_puts}
 use Rattle.jc_commands.specs.steps.PutFiles.{IsPutWhole, IsPutInPart}
 use Rattle.jc_commands.proofs.FilesPut.{all_put, first_put}

@@ -10,8 +10,9 @@ use Rattle.jc_facts.specs.declared.warning.Warning.{Warning}
 use Rattle.jc_facts.specs.declared.sig_note.SigNote.{SigNote}
 use Rattle.jc_facts.specs.Options.{or_else}
 use Rattle.jc_facts.specs.client.Linked.{outcomes}
-use Rattle.jc_facts.specs.rule.Verdict.{IsVerdict, count_of}
-use Rattle.jc_facts.specs.rule.Warnings.{AreWarnings}
+use Rattle.jc_promises.specs.rule.Verdict.{IsVerdict}
+use Rattle.jc_facts.specs.Verdicts.{count_of}
+use Rattle.jc_promises.specs.rule.Warnings.{AreWarnings}
 use Rattle.jc_facts.specs.world.World.{World, Modules, OneModule, Several, side, side_in, modular_side}
 use Rattle.jc_sound.proofs.VerdictLaw.{verdict_is_one}
 use Rattle.jc_select.proofs.Limited.{warnings_are_one}

@@ -11,7 +11,7 @@ use Rattle.std.specs.List.{All}
 use Rattle.std.proofs.lemmas.List.Elements.{All-from_recursion, recursion_from_All}
 use Rattle.jc_facts.specs.declared.class_facts.ClassFacts.{ClassFacts}
 use Rattle.jc_facts.specs.Options.{or_else}
-use Rattle.jc_facts.specs.world.Pairs.{AreOfOneRun, IsPair}
+use Rattle.jc_promises.specs.Pairs.{AreOfOneRun, IsPair}
 use Rattle.jc_facts.specs.world.World.{World, side}
 use Rattle.jc_lemmas.proofs.Listed.{EachOf}
 use Rattle.jc_table.specs.declared.table.TableError.{TableError}

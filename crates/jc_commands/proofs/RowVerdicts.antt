@@ -7,11 +7,12 @@ use Rattle.std.specs.List.{All, Contains}
 use Rattle.std.proofs.lemmas.Bool.{ltb-true, ltb-false}
 use Rattle.jc_facts.specs.declared.class_facts.ClassFacts.{ClassFacts}
 use Rattle.jc_facts.specs.declared.verdict.Verdict.{Verdict}
-use Rattle.jc_facts.specs.client.Clients.{HasRoot}
+use Rattle.jc_facts.specs.world.Root.{HasRoot}
 use Rattle.jc_facts.specs.file.Valid.{IsValidClass}
-use Rattle.jc_facts.specs.rule.Verdict.{IsVerdict, count_of}
+use Rattle.jc_promises.specs.rule.Verdict.{IsVerdict}
+use Rattle.jc_facts.specs.Verdicts.{count_of}
 use Rattle.jc_facts.specs.world.World.{side}
-use Rattle.jc_facts.proofs.Pairs.{plain_pair}
+use Rattle.jc_promises.proofs.Pairs.{plain_pair}
 use Rattle.jc_lemmas.proofs.Listed.{EachOf, none, cases, here, there}
 use Rattle.jc_sound.proofs.VerdictLaw.{verdict_is_one}
 use Rattle.jc_history.specs.Row.{Step, steps_from, steps_of, AreVerdicts}

@@ -13,9 +13,10 @@ use Rattle.jc_facts.specs.declared.verdict.Verdict.{Verdict}
 use Rattle.jc_facts.specs.declared.key.Key.{Key}
 use Rattle.jc_facts.specs.Names.{Bytes}
 use Rattle.jc_facts.specs.world.World.{World}
-use Rattle.jc_facts.specs.rule.Findings.{Subject, Stands, finding_at, finding_by, subject_of}
-use Rattle.jc_facts.specs.rule.Collisions.{CollisionStands, collision_at}
-use Rattle.jc_facts.specs.rule.Verdict.{IsVerdict, is_incompatible, holds_some}
+use Rattle.jc_promises.specs.rule.Findings.{Subject, Stands, finding_at, finding_by, subject_of}
+use Rattle.jc_promises.specs.rule.Collisions.{CollisionStands, collision_at}
+use Rattle.jc_promises.specs.rule.Verdict.{IsVerdict}
+use Rattle.jc_facts.specs.Verdicts.{is_incompatible, holds_some}
 use Rattle.jc_gate.specs.Gates.{GateOf, all_pass}
 use Rattle.jc_gate.specs.Meanings.{IsGateBy, has_no_finding}
 use Rattle.jc_gate.specs.Rules.{is_of_finding}

@@ -9,14 +9,14 @@ use Rattle.std.specs.Cmp.{IsTotalOrder, then_total, on_total}
 use Rattle.std.specs.Cmp.Lexicographic.{nat_list_cmp_total}
 use Rattle.std.proofs.lemmas.Bool.{or_cases, eqb-true}
 use Rattle.std.proofs.lemmas.List.Elements.{Contains-append_left}
-use Rattle.jc_dropped.specs.declared.dropped.Dropped.{Dropped}
+use Rattle.jc_facts.specs.declared.dropped.Dropped.{Dropped}
 use Rattle.jc_dropped.specs.Dropped.{has_lost, loses_interface, is_dropped, dropped_order, IsDropped, AreDropped}
 use Rattle.jc_facts.specs.declared.class_facts.ClassFacts.{ClassFacts}
 use Rattle.jc_facts.specs.declared.key.Key.{Key}
 use Rattle.jc_facts.specs.Exactly.{HasExactly}
 use Rattle.jc_facts.specs.Names.{Bytes, same}
-use Rattle.jc_facts.specs.rule.Bases.{is_steady}
-use Rattle.jc_facts.specs.rule.Findings.{Subject}
+use Rattle.jc_promises.specs.rule.Bases.{is_steady}
+use Rattle.jc_promises.specs.rule.Findings.{Subject}
 use Rattle.jc_facts.specs.world.Hierarchy.{chain, chain_step, interfaces_of, superinterfaces, is_superinterface, names_in}
 use Rattle.jc_facts.specs.world.World.{World, classes, find_class, size}
 use Rattle.jc_facts.proofs.InOrder.{exact_same}

@@ -18,7 +18,7 @@ use Rattle.jc_facts.specs.Exactly.{HasExactly, name_order}
 use Rattle.jc_facts.specs.Flags.{public_flag}
 use Rattle.jc_facts.specs.KeyOrder.{key_cmp, key_total}
 use Rattle.jc_facts.specs.Names.{Bytes}
-use Rattle.jc_facts.specs.rule.Findings.{Subject}
+use Rattle.jc_promises.specs.rule.Findings.{Subject}
 use Rattle.jc_facts.specs.world.World.{World, classes, find_class}
 use Rattle.jc_facts.proofs.InOrder.{exact_same}
 use Rattle.jc_facts.proofs.World.{find-name}

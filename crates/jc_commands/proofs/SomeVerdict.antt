@@ -20,27 +20,28 @@ use Rattle.jc_facts.specs.declared.verdict.Verdict.{Verdict}
 use Rattle.jc_facts.specs.declared.warning.Warning.{Warning}
 use Rattle.jc_facts.specs.declared.warning.WarnKind.{WarnKind}
 use Rattle.jc_facts.specs.world.Assignment.{is_interface_of}
-use Rattle.jc_facts.specs.rule.Collisions.{CollisionStands, collision_at, made_collision}
-use Rattle.jc_facts.specs.rule.Findings.{Subject, Stands, finding_at, finding_by, subject_of, superclass_lost}
+use Rattle.jc_promises.specs.rule.Collisions.{CollisionStands, collision_at, made_collision}
+use Rattle.jc_promises.specs.rule.Findings.{Subject, Stands, finding_at, finding_by, subject_of, superclass_lost}
 use Rattle.jc_facts.specs.Flags.{static_flag, final_flag}
 use Rattle.jc_facts.specs.world.Hierarchy.{chain, in_chain, superinterfaces, with_interfaces}
 use Rattle.jc_facts.specs.KeyOrder.{key_cmp}
 use Rattle.jc_facts.specs.world.Loading.{load_fault}
 use Rattle.jc_facts.specs.Names.{Bytes, same}
-use Rattle.jc_facts.specs.rule.Notes.{NoteStands, in_release, has_lost_constant, has_static_final, value_of_constant, is_same_constant}
+use Rattle.jc_promises.specs.rule.Notes.{NoteStands, in_release, has_lost_constant, has_static_final, value_of_constant}
+use Rattle.jc_facts.specs.Records.{same_constant}
 use Rattle.jc_facts.specs.Options.{and_then, some_and, some_where}
-use Rattle.jc_facts.specs.rule.Orders.{finding_order, collision_order, note_order, group_of, noted_class, noted_key}
+use Rattle.jc_facts.specs.Orders.{finding_order, collision_order, note_order, group_of, noted_class, noted_key}
 use Rattle.jc_facts.specs.Exactly.{name_order, HasExactly}
-use Rattle.jc_facts.specs.rule.Verdict.{IsVerdict}
-use Rattle.jc_facts.specs.rule.Warnings.{AreWarnings, WarningStands, interfaces_from, is_base, warning_at, warning_order}
+use Rattle.jc_promises.specs.rule.Verdict.{IsVerdict}
+use Rattle.jc_promises.specs.rule.Warnings.{AreWarnings, WarningStands, interfaces_from, is_base, warning_at, warning_order}
 use Rattle.jc_select.specs.steps.Warned.{warning_of}
 use Rattle.jc_select.proofs.KindsWarned.{warned_parts}
 use Rattle.jc_select.proofs.WarnedKeys.{from_both, warned_declared}
 use Rattle.jc_sides.proofs.ItemRules.{kept_where}
 use Rattle.jc_sides.proofs.NamedAbove.{base_unkept}
-use Rattle.jc_facts.specs.rule.Bases.{is_class_usable, is_kept}
+use Rattle.jc_promises.specs.rule.Bases.{is_class_usable, is_kept}
 use Rattle.jc_facts.specs.world.World.{World, classes, find_class, own_field_of, own_method_of}
-use Rattle.jc_facts.specs.world.Pairs.{IsPair}
+use Rattle.jc_promises.specs.Pairs.{IsPair}
 use Rattle.jc_lemmas.proofs.Listed.{EachOf, EachOf-map, EachOf-append}
 use Rattle.jc_worlds.proofs.Loaded.{loads-found}
 use Rattle.jc_worlds.specs.Hierarchy.{above}
@@ -396,7 +397,7 @@ module _ (O N : World) (pair : IsPair O N) where
 
       field : (c d : ClassFacts) → has_lost_constant c d k ≡ true → is_some (own_field_of c k) ≡ true
       field c d e = has (λ m. static_flag m.flags && final_flag m.flags) (own_field_of c k) (both_first (has_static_final c k) (is_some (own_field_of d k))
-          (both_first (has_static_final c k && is_some (own_field_of d k)) (some_and (λ v. not (some_and (is_same_constant v) (value_of_constant d k))) (value_of_constant c k)) e))
+          (both_first (has_static_final c k && is_some (own_field_of d k)) (some_and (λ v. not (some_and (same_constant v) (value_of_constant d k))) (value_of_constant c k)) e))
         where
           has : (test : Member → Bool) (o : Option Member) → some_and test o ≡ true → is_some o ≡ true
           has test None q = absurd (cc)

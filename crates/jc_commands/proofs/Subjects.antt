@@ -16,7 +16,7 @@ use Rattle.jc_facts.specs.declared.key.Key.{Key}
 use Rattle.jc_facts.specs.Names.{Bytes}
 use Rattle.jc_facts.specs.KeyOrder.{key_cmp, key_total}
 use Rattle.jc_facts.specs.Exactly.{name_order}
-use Rattle.jc_facts.specs.rule.Findings.{Subject}
+use Rattle.jc_promises.specs.rule.Findings.{Subject}
 use Rattle.jc_facts.specs.world.World.{World, classes}
 use Rattle.jc_lemmas.proofs.Listed.{here, there}
 use Rattle.jc_facts.proofs.KeySets.{then_equal}

@@ -3,7 +3,8 @@ use Rattle.std.specs.Prelude.{◌≡◌, ◌≢◌, ◌≤◌, ◌<◌, ℕ, ◌
 use Rattle.std.specs.List.{All}
 use Rattle.jc_base.specs.Outside.{FileOf}
 use Rattle.jc_base.specs.States.{FolderState, Change}
-use Rattle.jc_dropped.specs.declared.dropped.Dropped.{Dropped}
+use Rattle.jc_facts.specs.declared.rule_numbers.TheConstants.{CLASS_GONE}
+use Rattle.jc_facts.specs.declared.dropped.Dropped.{Dropped}
 use Rattle.jc_dropped.specs.Dropped.{AreDropped}
 use Rattle.jc_dropped.specs.InterfacesKept.{InterfacesKept}
 use Rattle.jc_facts.specs.declared.class_facts.ClassFacts.{ClassFacts}
@@ -15,13 +16,16 @@ use Rattle.jc_facts.specs.declared.verdict.Verdict.{Verdict}
 use Rattle.jc_facts.specs.declared.warning.Warning.{Warning}
 use Rattle.jc_facts.specs.Names.{Bytes}
 use Rattle.jc_facts.specs.world.World.{World, Modules, side_in, with_clients}
-use Rattle.jc_facts.specs.client.Clients.{IsInScope, Keeps, facts_of}
-use Rattle.jc_facts.specs.client.Kept.{BreaksClass}
-use Rattle.jc_facts.specs.client.Meets.{Meets}
+use Rattle.jc_promises.specs.client.Scope.{IsInScope}
+use Rattle.jc_promises.specs.client.Keeps.{Keeps}
+use Rattle.jc_facts.specs.client.Valid.{facts_of}
+use Rattle.jc_promises.specs.client.Kept.{BreaksClass}
+use Rattle.jc_promises.specs.client.Meets.{Meets}
 use Rattle.jc_facts.specs.print.Text.{text_of}
 use Rattle.jc_facts.specs.print.WarnText.{line_of_warning}
-use Rattle.jc_facts.specs.rule.Verdict.{IsVerdict, count_of}
-use Rattle.jc_facts.specs.rule.Warnings.{AreWarnings}
+use Rattle.jc_promises.specs.rule.Verdict.{IsVerdict}
+use Rattle.jc_facts.specs.Verdicts.{count_of}
+use Rattle.jc_promises.specs.rule.Warnings.{AreWarnings}
 use Rattle.jc_report.specs.Json.{json_of, warning_json}
 use Rattle.jc_report.specs.Listing.{part_bytes}
 use Rattle.jc_selection.specs.SelectionKept.{MeetsNoFinal, StaysAnswered}
@@ -205,7 +209,7 @@ pub record IsIncompatible (files : List FileOf) (check : CheckOf) (v : Verdict) 
   pub verdict : IsVerdictOn (old_side records) (new_side records) v
   pub some : v.findings ≢ []
   pub broken : (cs : List ClientClass) × IsBroken (old_side records) (new_side records) v cs
-  pub breaks : All (λ f. f.rule ≡ 1 → BreaksClass (old_side records) (new_side records) f.class f.error) v.findings
+  pub breaks : All (λ f. f.rule ≡ CLASS_GONE → BreaksClass (old_side records) (new_side records) f.class f.error) v.findings
 
 -- ---- the witnesses, as they are planned and written
 

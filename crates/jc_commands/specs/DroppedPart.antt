@@ -1,6 +1,6 @@
 -- The interfaces that classes drop, as a check reports them, where they are asked for.
 use Rattle.std.specs.Prelude.{◌≤◌, List, length, Bool, true, false, Option, Some, None, codes}
-use Rattle.jc_dropped.specs.declared.dropped.Dropped.{Dropped}
+use Rattle.jc_facts.specs.declared.dropped.Dropped.{Dropped}
 use Rattle.jc_dropped.specs.Dropped.{AreDropped}
 use Rattle.jc_facts.specs.Names.{Bytes}
 use Rattle.jc_facts.specs.world.World.{World}

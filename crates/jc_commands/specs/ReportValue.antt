@@ -3,10 +3,12 @@ use Rattle.std.specs.Prelude.{◌≡◌, ◌≢◌, ◌≤◌, ℕ, List, [], le
 use Rattle.std.specs.List.{All}
 use Rattle.jc_base.specs.Outside.{FileOf}
 use Rattle.jc_base.specs.States.{TreesState}
+use Rattle.jc_facts.specs.declared.rule_numbers.TheConstants.{CLASS_GONE}
 use Rattle.jc_facts.specs.declared.client.ClientClass.{ClientClass}
 use Rattle.jc_facts.specs.declared.verdict.Verdict.{Verdict}
-use Rattle.jc_facts.specs.client.Clients.{IsInScope, Keeps}
-use Rattle.jc_facts.specs.client.Kept.{BreaksClass}
+use Rattle.jc_promises.specs.client.Scope.{IsInScope}
+use Rattle.jc_promises.specs.client.Keeps.{Keeps}
+use Rattle.jc_promises.specs.client.Kept.{BreaksClass}
 use Rattle.jc_facts.specs.Names.{Bytes}
 use Rattle.jc_facts.specs.world.World.{World}
 use Rattle.jc_gate.specs.Gates.{GateOf, all_pass}
@@ -121,7 +123,7 @@ pub record IsChecked (files : List FileOf) (check : CheckOf) (report : CheckRepo
   pub kept : report.verdict.findings ≡ [] → (cs : List ClientClass) → IsInScope (old_side records) (new_side records) cs → MeetsNone (old_side records) cs report.verdict.collisions
       → Keeps (old_side records) (new_side records) cs
   pub broken : report.verdict.findings ≢ [] → (cs : List ClientClass) × IsBroken (old_side records) (new_side records) report.verdict cs
-  pub breaks : All (λ f. f.rule ≡ 1 → BreaksClass (old_side records) (new_side records) f.class f.error) report.verdict.findings
+  pub breaks : All (λ f. f.rule ≡ CLASS_GONE → BreaksClass (old_side records) (new_side records) f.class f.error) report.verdict.findings
   pub answered : IfSome report.warnings (AnswersStill (old_side records) (new_side records))
   pub interfaces : IfSome report.dropped (InterfacesStill (old_side records) (new_side records))
   pub shown : All (IsShown (old_side records) (new_side records)) (causes_of report.verdict)

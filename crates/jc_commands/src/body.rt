@@ -1,6 +1,6 @@
 //! What is put of a command.
 use crate::shown::Shown;
-use jc_dropped::dropped::Dropped;
+use jc_facts::dropped::Dropped;
 use jc_facts::sig_note::SigNote;
 use jc_facts::verdict::Verdict;
 use jc_facts::warning::Warning;

@@ -1,11 +1,14 @@
 //! The comparison of two releases with a platform.
 ghost use Rattle.std.specs.Prelude.{◌≡◌, ◌≤◌, List, [], ◌∷◌, None, length, IfOk, IfErr, IfSome, option_map};
 ghost use Rattle.std.specs.List.{All};
+ghost use Rattle.jc_facts.specs.declared.rule_numbers.TheConstants.{CLASS_GONE};
 ghost use Rattle.jc_facts.specs.declared.client.ClientClass.{ClientClass};
-ghost use Rattle.jc_facts.specs.world.Pairs.{AreOfOneRun};
-ghost use Rattle.jc_facts.specs.client.Clients.{IsInScope, Keeps};
-ghost use Rattle.jc_facts.specs.client.Kept.{BreaksClass};
-ghost use Rattle.jc_facts.specs.rule.Verdict.{IsVerdict, count_of};
+ghost use Rattle.jc_promises.specs.Pairs.{AreOfOneRun};
+ghost use Rattle.jc_promises.specs.client.Scope.{IsInScope};
+ghost use Rattle.jc_promises.specs.client.Keeps.{Keeps};
+ghost use Rattle.jc_promises.specs.client.Kept.{BreaksClass};
+ghost use Rattle.jc_promises.specs.rule.Verdict.{IsVerdict};
+ghost use Rattle.jc_facts.specs.Verdicts.{count_of};
 ghost use Rattle.jc_bodies.specs.Files.{CanWrite};
 ghost use Rattle.jc_witness.specs.Ground.{HasShortSide};
 ghost use Rattle.jc_commands.specs.Check.{mismatch_of, AreWarned, MeetsNone};
@@ -21,8 +24,8 @@ use crate::found::{Found, verdict_and_dropped};
 use crate::limits::{MAX_FINDINGS, MAX_WARNINGS};
 use crate::releases::{Release, tables_over, two_releases};
 use crate::stop::{Part, Stop};
-use jc_dropped::dropped::Dropped;
 use jc_facts::class_facts::ClassFacts;
+use jc_facts::dropped::Dropped;
 use jc_facts::sig_note::SigNote;
 use jc_facts::verdict::Verdict;
 use jc_facts::warning::Warning;
@@ -84,7 +87,12 @@ fn both_of(mut tables: Vec<Table>) -> (Table, Table)
 }
 
 // The tables of the two sides of this platform, or why there are none.
-fn sides_over(alloc: Global, platform: &Platform, old: Release, new: Release) -> Result<TwoTables, Stop>
+fn sides_over(
+    alloc: Global,
+    platform: &Platform,
+    old: Release,
+    new: Release,
+) -> Result<TwoTables, Stop>
     requires platform { IsRecordList platform.now }
     requires releases { AreOldAndNew old new }
     ensures old { IfOk result (λ s. s.old ≡ side_of platform.now old) }
@@ -141,7 +149,7 @@ fn counted(alloc: Global, old: &Table, new: &Table) -> Result<Verdict, Stop>
     ensures exact { IfOk result (IsVerdict old.now new.now) }
     ensures few { IfOk result (λ v. count_of v ≤ MAX_FINDINGS) }
     ensures kept { IfOk result (λ v. v.findings ≡ [] → (cs : List ClientClass) → IsInScope old.now new.now cs → MeetsNone old.now cs v.collisions → Keeps old.now new.now cs) }
-    ensures broken { IfOk result (λ v. All (λ f. f.rule ≡ 1 → BreaksClass old.now new.now f.class f.error) v.findings) }
+    ensures broken { IfOk result (λ v. All (λ f. f.rule ≡ CLASS_GONE → BreaksClass old.now new.now f.class f.error) v.findings) }
     ensures stopped { IfErr result (StopsCounting old.now new.now) }
 {
     match compare_within(alloc, old, new, MAX_FINDINGS) {

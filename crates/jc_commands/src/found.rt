@@ -2,7 +2,7 @@
 //! ask of the sides.
 ghost use Rattle.std.specs.Prelude.{IfOk, IfErr, IfSome, option_map, true};
 ghost use Rattle.jc_acts.specs.Seats.{AreSeats};
-ghost use Rattle.jc_facts.specs.world.Pairs.{AreOfOneRun};
+ghost use Rattle.jc_promises.specs.Pairs.{AreOfOneRun};
 ghost use Rattle.jc_commands.specs.DroppedPart.{AreAskedDropped};
 ghost use Rattle.jc_commands.specs.steps.Check.{AreFoundWithin, StopsDropping};
 ghost use Rattle.jc_select.specs.DroppedWithin.{AreDroppedWithin, InterfacesStill};
@@ -10,7 +10,7 @@ ghost use Rattle.jc_select.specs.DroppedWithin.{AreDroppedWithin, InterfacesStil
 use crate::limits::{MAX_DROPPED, MAX_FINDINGS};
 use crate::stop::{Part, Stop};
 use jc_acts::seats::Seats;
-use jc_dropped::dropped::Dropped;
+use jc_facts::dropped::Dropped;
 use jc_facts::verdict::Verdict;
 use jc_rules::compare::compare_over;
 use jc_rules::losses::Losses;

@@ -7,14 +7,15 @@ use Rattle.jc_facts.specs.declared.link_error.LinkError.TheVariants.{VerifyError
 use Rattle.jc_facts.specs.Names.{Bytes, object_name}
 use Rattle.jc_facts.specs.world.World.{World, with_clients}
 use Rattle.jc_facts.specs.declared.verdict.Collision.{Collision}
-use Rattle.jc_facts.specs.client.Clients.{facts_of}
-use Rattle.jc_facts.specs.client.Meets.{Meets}
+use Rattle.jc_facts.specs.client.Valid.{facts_of}
+use Rattle.jc_promises.specs.client.Meets.{Meets}
 use Rattle.jc_facts.specs.world.Lookup.{public_method_of_object}
 use Rattle.jc_facts.specs.world.Assignment.{is_interface_of}
-use Rattle.jc_facts.specs.rule.Bases.{is_class_usable, is_kept, is_key_of_method, is_base_class, is_base_interface, is_final_in_chain, inherits}
-use Rattle.jc_facts.specs.rule.Findings.{takes_part, finds_overridable}
-use Rattle.jc_facts.specs.plan.PlannedNames.{fresh_package}
-use Rattle.jc_facts.specs.plan.Planned.{assigns_from, plan}
+use Rattle.jc_promises.specs.rule.Bases.{is_class_usable, is_kept, is_key_of_method, is_base_class, is_base_interface}
+use Rattle.jc_facts.specs.world.Inheritance.{is_final_in_chain, inherits}
+use Rattle.jc_promises.specs.rule.Findings.{takes_part, finds_overridable}
+use Rattle.jc_promises.specs.plan.PlannedNames.{fresh_package}
+use Rattle.jc_promises.specs.plan.Planned.{assigns_from, plan}
 use Rattle.jc_complete.specs.Completeness.{FindingsShown, CollisionsShown, Shows}
 use Rattle.jc_lemmas.proofs.Options.{none_where}
 use Rattle.jc_complete.proofs.PlanGround.{Ready}

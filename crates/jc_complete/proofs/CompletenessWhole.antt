@@ -12,13 +12,15 @@ use Rattle.jc_facts.specs.declared.client.ClientClass.{ClientClass}
 use Rattle.jc_facts.specs.declared.client.Item.{Item}
 use Rattle.jc_facts.specs.declared.link_error.LinkError.{LinkError}
 use Rattle.jc_facts.specs.client.Outcome.{outcome}
-use Rattle.jc_facts.specs.client.Clients.{facts_of, is_in_reach, Keeps}
-use Rattle.jc_facts.specs.client.Meets.{Meets}
-use Rattle.jc_facts.specs.rule.Findings.{Stands}
-use Rattle.jc_facts.specs.rule.Collisions.{CollisionStands}
-use Rattle.jc_facts.specs.rule.Verdict.{holds_some}
-use Rattle.jc_facts.specs.plan.PlannedNames.{fresh_package}
-use Rattle.jc_facts.specs.plan.Planned.{Plan, plan, planned, planned_for}
+use Rattle.jc_facts.specs.client.Valid.{facts_of}
+use Rattle.jc_promises.specs.client.Reach.{is_in_reach}
+use Rattle.jc_promises.specs.client.Keeps.{Keeps}
+use Rattle.jc_promises.specs.client.Meets.{Meets}
+use Rattle.jc_promises.specs.rule.Findings.{Stands}
+use Rattle.jc_promises.specs.rule.Collisions.{CollisionStands}
+use Rattle.jc_facts.specs.Verdicts.{holds_some}
+use Rattle.jc_promises.specs.plan.PlannedNames.{fresh_package}
+use Rattle.jc_promises.specs.plan.Planned.{Plan, plan, planned, planned_for}
 use Rattle.jc_complete.specs.Completeness.{Completeness, FindingsShown, CollisionsShown, Shows, MeetsNothing, PlannedShow, PlannedMeet, LinksWhole, FailsBy, IsBroken, VerdictIsExact}
 use Rattle.jc_sound.proofs.SoundnessLaws.{keeps}
 use Rattle.jc_complete.proofs.PlanRules.{OfRules, of_each_rule}

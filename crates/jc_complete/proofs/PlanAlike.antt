@@ -24,8 +24,9 @@ use Rattle.jc_facts.specs.client.Acts.{Form, FieldForm, MethodForm, InterfaceFor
 use Rattle.jc_facts.specs.world.Loading.{load_fault, load_step, fault_of_itself, fault_of_superclass, fault_of_interface, error_of_superclass, error_of_interface, fault_where}
 use Rattle.jc_facts.specs.world.Lookup.{field_found, field_step, first_declared, declared_by, is_concrete, only_or, superinterface_choices, or_choices, method_choices, if_public_instance, public_method_of_object, interface_choices}
 use Rattle.jc_facts.specs.client.Outcome.{array_fault, listed, may_find, outcome, class_step, class_fault, type_fault, element_fault, look_up, first_of, found_or, use_fault, assignment_ok, receiver_ok, is_direct_super, init_fault, init_key, instantiation_fault}
-use Rattle.jc_facts.specs.client.Clients.{is_in_reach, type_in_reach, text_in_reach, element_in_reach, class_in_reach, opens_members, is_opening, opens, seat, first_library}
-use Rattle.jc_facts.specs.client.Meets.{may_name}
+use Rattle.jc_promises.specs.client.Reach.{is_in_reach, type_in_reach, text_in_reach, element_in_reach, class_in_reach, opens_members, is_opening, opens}
+use Rattle.jc_facts.specs.client.Seats.{seat, first_library}
+use Rattle.jc_promises.specs.client.Meets.{may_name}
 use Rattle.jc_worlds.specs.Alike.{AreModulesAlike}
 use Rattle.jc_worlds.proofs.VisibleFrom.{same_superclass, same_interface, same_class_access}
 use Rattle.jc_desc.specs.Classes.{descriptor_names}

@@ -14,7 +14,7 @@ use Rattle.jc_facts.specs.declared.link_error.LinkError.{LinkError}
 use Rattle.jc_facts.specs.declared.link_error.LinkError.TheVariants.{IllegalAccessError}
 use Rattle.jc_facts.specs.Names.{Bytes, same}
 use Rattle.jc_facts.specs.Flags.{public_flag, protected_flag, static_flag, no_static_flag, interface_flag, final_flag}
-use Rattle.jc_facts.specs.world.World.{World, DeclaredMember, find_class, class_named, with_clients, own_method_of}
+use Rattle.jc_facts.specs.world.World.{World, DeclaredMember, find_class, class_named, with_clients, own_method_of, differ_by_name}
 use Rattle.jc_facts.specs.world.Hierarchy.{chain, in_chain, is_superinterface}
 use Rattle.jc_facts.specs.world.Lookup.{method_choices, MethodFound}
 use Rattle.jc_facts.specs.world.Overriding.{overrides_some_final}
@@ -22,12 +22,14 @@ use Rattle.jc_facts.specs.world.Loading.{load_fault, error_of_superclass, fault_
 use Rattle.jc_facts.specs.client.Outcome.{outcome}
 use Rattle.jc_facts.specs.file.Rules.{class_flags_fit}
 use Rattle.jc_facts.specs.file.Valid.{method_is_valid, keys_differ, keys_of}
-use Rattle.jc_facts.specs.client.Clients.{IsInScope, IsValidClient, is_item_of, differ_by_name, seat}
-use Rattle.jc_facts.specs.rule.Collisions.{constant_added, capture_added, final_added}
-use Rattle.jc_facts.specs.client.Meets.{MeetsConstant, MeetsCapture, MeetsFinal, may_name}
-use Rattle.jc_facts.specs.rule.OpenActs.{is_member_open}
-use Rattle.jc_facts.specs.rule.Bases.{public_or_protected}
-use Rattle.jc_facts.specs.plan.Planned.{a_class, init_method}
+use Rattle.jc_promises.specs.client.Scope.{IsInScope}
+use Rattle.jc_facts.specs.client.Valid.{IsValidClient, is_item_of}
+use Rattle.jc_facts.specs.client.Seats.{seat}
+use Rattle.jc_promises.specs.rule.Collisions.{constant_added, capture_added, final_added}
+use Rattle.jc_promises.specs.client.Meets.{MeetsConstant, MeetsCapture, MeetsFinal, may_name}
+use Rattle.jc_facts.specs.world.Access.{is_member_open}
+use Rattle.jc_facts.specs.world.Inheritance.{public_or_protected}
+use Rattle.jc_promises.specs.plan.Planned.{a_class, init_method}
 use Rattle.jc_lemmas.proofs.Listed.{none, cases, EachOf}
 use Rattle.jc_complete.specs.Completeness.{LinksWhole, Shows, MeetsNothing}
 use Rattle.jc_facts.proofs.Same.{same_itself}

@@ -20,11 +20,12 @@ use Rattle.jc_facts.specs.world.Access.{is_class_accessible, is_member_accessibl
 use Rattle.jc_facts.specs.world.Overriding.{overrides_some_final}
 use Rattle.jc_facts.specs.world.Loading.{load_fault, error_of_superclass, fault_where}
 use Rattle.jc_facts.specs.client.Outcome.{outcome, init_key, init_fault}
-use Rattle.jc_facts.specs.client.Clients.{is_item_of}
-use Rattle.jc_facts.specs.rule.Bases.{is_base_class, is_key_of_method, public_or_protected}
-use Rattle.jc_facts.specs.rule.Findings.{init_broken, init_error, had_init, missing_or}
-use Rattle.jc_facts.specs.plan.PlannedNames.{own_name}
-use Rattle.jc_facts.specs.plan.Planned.{a_class, init_method, calls_constructor}
+use Rattle.jc_facts.specs.client.Valid.{is_item_of}
+use Rattle.jc_promises.specs.rule.Bases.{is_base_class, is_key_of_method}
+use Rattle.jc_facts.specs.world.Inheritance.{public_or_protected}
+use Rattle.jc_promises.specs.rule.Findings.{init_broken, init_error, had_init, missing_or}
+use Rattle.jc_promises.specs.plan.PlannedNames.{own_name}
+use Rattle.jc_promises.specs.plan.Planned.{a_class, init_method, calls_constructor}
 use Rattle.jc_facts.proofs.Same.{same_is}
 use Rattle.jc_facts.proofs.World.{find-name}
 use Rattle.jc_lemmas.proofs.Bools.{neither_first, neither_last}

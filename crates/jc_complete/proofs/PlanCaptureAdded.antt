@@ -15,16 +15,19 @@ use Rattle.jc_facts.specs.Names.{Bytes, same, in_same_package, object_name}
 use Rattle.jc_facts.specs.Flags.{public_flag, static_flag, interface_flag, final_flag, no_static_flag}
 use Rattle.jc_facts.specs.world.Types.{is_array_text}
 use Rattle.jc_facts.specs.Options.{or_else, some_and}
-use Rattle.jc_facts.specs.world.World.{World, DeclaredMember, find_class, class_named, with_clients, own_method_of, found_in}
+use Rattle.jc_facts.specs.world.World.{World, DeclaredMember, find_class, class_named, with_clients, own_method_of, found_in, differ_by_name}
 use Rattle.jc_facts.specs.world.Hierarchy.{chain, in_chain, superinterfaces, each, with_interfaces, names_in}
 use Rattle.jc_facts.specs.world.Assignment.{is_interface_of, is_assignable}
 use Rattle.jc_facts.specs.world.Loading.{load_fault, sealed_by, excludes}
 use Rattle.jc_facts.specs.world.Lookup.{or_choices, superinterface_choices, first_declared, method_choices, declared_by, if_inheritable, is_concrete, is_maximal, only_or}
 use Rattle.jc_facts.specs.client.Outcome.{outcome, look_up, first_of, use_fault, assignment_ok, receiver_ok}
-use Rattle.jc_facts.specs.client.Clients.{type_in_reach, IsInScope, IsValidClient, is_allowed_name, differ_by_name}
-use Rattle.jc_facts.specs.client.Meets.{MeetsCapture}
-use Rattle.jc_facts.specs.plan.PlannedNames.{own_name, constructor}
-use Rattle.jc_facts.specs.plan.Planned.{an_interface, user, takes, use_method, act_item, a_class, init_method, abstract_method, calls_captured}
+use Rattle.jc_promises.specs.client.Reach.{type_in_reach}
+use Rattle.jc_promises.specs.client.Scope.{IsInScope}
+use Rattle.jc_facts.specs.client.Valid.{IsValidClient}
+use Rattle.jc_facts.specs.client.Allowed.{is_allowed_name}
+use Rattle.jc_promises.specs.client.Meets.{MeetsCapture}
+use Rattle.jc_promises.specs.plan.PlannedNames.{own_name, constructor}
+use Rattle.jc_promises.specs.plan.Planned.{an_interface, user, takes, use_method, act_item, a_class, init_method, abstract_method, calls_captured}
 use Rattle.jc_complete.specs.Completeness.{LinksWhole, Shows}
 use Rattle.jc_facts.proofs.Same.{same_itself, same_is}
 use Rattle.jc_worlds.proofs.Clients.{Fits, find-client, client_accessible}
@@ -44,7 +47,7 @@ use Rattle.jc_complete.proofs.PlanBase.{OwnName, own_is, own_other, IsBase, IsCo
 use Rattle.jc_complete.proofs.PlanActs.{access_says}
 use Rattle.std.specs.List.{filter}
 use Rattle.jc_facts.specs.declared.act.Act.TheVariants.{InvokeVirtual}
-use Rattle.jc_facts.specs.rule.Collisions.{captures, capture_error}
+use Rattle.jc_promises.specs.rule.Collisions.{captures, capture_error}
 use Rattle.jc_worlds.proofs.Bare.{has_root, bare_chain}
 use Rattle.jc_worlds.proofs.Above.{chain-each}
 use Rattle.jc_facts.proofs.World.{IsOf, find-name}

@@ -12,7 +12,7 @@ use Rattle.jc_facts.specs.Names.{Bytes, same, is_name_among, object_name}
 use Rattle.jc_facts.specs.Flags.{interface_flag, final_flag, abstract_flag, module_flag}
 use Rattle.jc_facts.specs.Options.{or_else}
 use Rattle.jc_facts.specs.world.Overriding.{overrides_some_final}
-use Rattle.jc_facts.specs.world.World.{World, find_class, class_named, with_clients}
+use Rattle.jc_facts.specs.world.World.{World, find_class, class_named, with_clients, differ_by_name, class_is}
 use Rattle.jc_facts.specs.world.Hierarchy.{chain}
 use Rattle.jc_facts.specs.world.Lookup.{field_found}
 use Rattle.jc_facts.specs.world.Access.{is_class_accessible}
@@ -20,12 +20,15 @@ use Rattle.jc_facts.specs.world.Assignment.{is_interface_of}
 use Rattle.jc_facts.specs.world.Loading.{load_fault, is_sealed_against, fault_where}
 use Rattle.jc_facts.specs.client.Outcome.{outcome}
 use Rattle.jc_facts.specs.file.Valid.{IsValidClass}
-use Rattle.jc_facts.specs.client.Clients.{IsInScope, IsValidClient, is_item_of, differ_by_name, seat}
-use Rattle.jc_facts.specs.rule.Collisions.{constant_added, capture_added, final_added}
-use Rattle.jc_facts.specs.client.Meets.{MeetsConstant, MeetsCapture, MeetsFinal, may_name}
-use Rattle.jc_facts.specs.rule.Bases.{is_class_usable, is_steady, became_class, is_kept, is_extendable, is_implementable, is_class_closed, is_base_interface, class_is, has_init, public_or_protected, is_open, newly_sealed}
-use Rattle.jc_facts.specs.plan.PlannedNames.{closed_name, constructor}
-use Rattle.jc_facts.specs.plan.Planned.{a_class, init_method, names_above}
+use Rattle.jc_promises.specs.client.Scope.{IsInScope}
+use Rattle.jc_facts.specs.client.Valid.{IsValidClient, is_item_of}
+use Rattle.jc_facts.specs.client.Seats.{seat}
+use Rattle.jc_promises.specs.rule.Collisions.{constant_added, capture_added, final_added}
+use Rattle.jc_promises.specs.client.Meets.{MeetsConstant, MeetsCapture, MeetsFinal, may_name}
+use Rattle.jc_promises.specs.rule.Bases.{is_class_usable, is_steady, became_class, is_kept, is_extendable, is_implementable, is_class_closed, is_base_interface, has_init, is_open, newly_sealed}
+use Rattle.jc_facts.specs.world.Inheritance.{public_or_protected}
+use Rattle.jc_promises.specs.plan.PlannedNames.{closed_name, constructor}
+use Rattle.jc_promises.specs.plan.Planned.{a_class, init_method, names_above}
 use Rattle.jc_lemmas.proofs.Listed.{none, cases}
 use Rattle.jc_complete.specs.Completeness.{LinksWhole, Shows, MeetsNothing}
 use Rattle.jc_facts.proofs.Same.{same_itself, same_is}

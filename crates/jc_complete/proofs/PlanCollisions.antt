@@ -9,7 +9,7 @@ use Rattle.jc_facts.specs.declared.link_error.LinkError.TheVariants.{Incompatibl
 use Rattle.jc_facts.specs.Names.{Bytes}
 use Rattle.jc_facts.specs.Options.{some_where}
 use Rattle.jc_facts.specs.world.World.{World}
-use Rattle.jc_facts.specs.rule.Collisions.{made_collision, collision_at, CollisionStands, constant_added, capture_added, final_added, capture_error}
+use Rattle.jc_promises.specs.rule.Collisions.{made_collision, collision_at, CollisionStands, constant_added, capture_added, final_added, capture_error}
 use Rattle.jc_complete.proofs.PlanRules.{chosen}
 
 told : (b : Bool) (n : ℕ) (x : Bytes) (k : Key) (a : Act) (e : LinkError) (c : Collision) → some_where b (made_collision n x k a e) ≡ Some c → (b ≡ true) × (made_collision n x k a e ≡ c)

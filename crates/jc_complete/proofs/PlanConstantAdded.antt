@@ -16,19 +16,22 @@ use Rattle.jc_facts.specs.Names.{Bytes, same, object_name, is_key}
 use Rattle.jc_facts.specs.Flags.{public_flag, interface_flag}
 use Rattle.jc_facts.specs.world.Types.{is_array_text}
 use Rattle.jc_facts.specs.Options.{or_else, and_then, first_some}
-use Rattle.jc_facts.specs.world.World.{World, DeclaredMember, find_class, class_named, with_clients, found_in, own_field_of, is_client}
+use Rattle.jc_facts.specs.world.World.{World, DeclaredMember, find_class, class_named, with_clients, found_in, own_field_of, is_client, differ_by_name}
 use Rattle.jc_facts.specs.world.Hierarchy.{chain, in_chain}
 use Rattle.jc_facts.specs.world.Assignment.{is_interface_of, is_assignable}
 use Rattle.jc_facts.specs.world.Loading.{load_fault, sealed_by, fault_where, excludes}
 use Rattle.jc_facts.specs.world.Lookup.{field_found, field_step}
 use Rattle.jc_facts.specs.client.Outcome.{outcome, look_up, use_fault, assignment_ok, receiver_ok, found_or}
 use Rattle.jc_facts.specs.file.Valid.{IsValidClass, field_is_valid}
-use Rattle.jc_facts.specs.client.Clients.{type_in_reach, IsInScope, IsValidClient, is_allowed_name, differ_by_name}
-use Rattle.jc_facts.specs.rule.Collisions.{constant_added}
-use Rattle.jc_facts.specs.client.Meets.{MeetsConstant}
-use Rattle.jc_facts.specs.rule.Bases.{is_base_interface}
-use Rattle.jc_facts.specs.plan.PlannedNames.{own_name}
-use Rattle.jc_facts.specs.plan.Planned.{user, takes, use_method, act_item, a_class, init_method, field_class, reads_field}
+use Rattle.jc_promises.specs.client.Reach.{type_in_reach}
+use Rattle.jc_promises.specs.client.Scope.{IsInScope}
+use Rattle.jc_facts.specs.client.Valid.{IsValidClient}
+use Rattle.jc_facts.specs.client.Allowed.{is_allowed_name}
+use Rattle.jc_promises.specs.rule.Collisions.{constant_added}
+use Rattle.jc_promises.specs.client.Meets.{MeetsConstant}
+use Rattle.jc_promises.specs.rule.Bases.{is_base_interface}
+use Rattle.jc_promises.specs.plan.PlannedNames.{own_name}
+use Rattle.jc_promises.specs.plan.Planned.{user, takes, use_method, act_item, a_class, init_method, field_class, reads_field}
 use Rattle.jc_complete.specs.Completeness.{LinksWhole, Shows}
 use Rattle.jc_facts.proofs.Same.{same_itself, same_is}
 use Rattle.jc_worlds.proofs.Clients.{Fits, find-client, client_accessible}

@@ -13,7 +13,7 @@ use Rattle.jc_facts.specs.Names.{Bytes, same, object_name}
 use Rattle.jc_facts.specs.Flags.{public_flag, protected_flag, interface_flag, abstract_flag, static_flag}
 use Rattle.jc_facts.specs.world.Types.{is_array_text}
 use Rattle.jc_facts.specs.Options.{or_else, and_then, some_and}
-use Rattle.jc_facts.specs.world.World.{World, DeclaredMember, find_class, with_clients, own_method_of}
+use Rattle.jc_facts.specs.world.World.{World, DeclaredMember, find_class, with_clients, own_method_of, class_is}
 use Rattle.jc_facts.specs.world.Hierarchy.{in_chain, names_in}
 use Rattle.jc_facts.specs.world.Access.{is_class_accessible, is_member_accessible}
 use Rattle.jc_facts.specs.world.Assignment.{passes_protected_check}
@@ -21,9 +21,9 @@ use Rattle.jc_facts.specs.world.Loading.{load_fault, fault_where}
 use Rattle.jc_facts.specs.world.Lookup.{method_choices}
 use Rattle.jc_facts.specs.client.Outcome.{outcome, class_step, look_up, first_of, init_key, init_fault}
 use Rattle.jc_facts.specs.file.Valid.{IsValidClass}
-use Rattle.jc_facts.specs.rule.Bases.{is_class_usable, is_kept, is_steady, became_class, class_is}
-use Rattle.jc_facts.specs.rule.Findings.{new_broken, new_error, had_init, init_of, missing_or}
-use Rattle.jc_facts.specs.plan.Planned.{makes_object, takes_nothing}
+use Rattle.jc_promises.specs.rule.Bases.{is_class_usable, is_kept, is_steady, became_class}
+use Rattle.jc_promises.specs.rule.Findings.{new_broken, new_error, had_init, init_of, missing_or}
+use Rattle.jc_promises.specs.plan.Planned.{makes_object, takes_nothing}
 use Rattle.jc_lemmas.proofs.Listed.{EachOf}
 use Rattle.jc_facts.proofs.Same.{same_is, same_itself}
 use Rattle.jc_facts.proofs.World.{find-name}

@@ -26,14 +26,15 @@ use Rattle.jc_facts.specs.world.Assignment.{is_class_assignable}
 use Rattle.jc_facts.specs.world.Loading.{load_fault, loads, fault_where}
 use Rattle.jc_facts.specs.client.Acts.{form_of, is_act_on_static}
 use Rattle.jc_facts.specs.client.Outcome.{outcome, may_find}
-use Rattle.jc_facts.specs.client.Clients.{opens_members, is_opening, opens, type_in_reach, is_item_of}
+use Rattle.jc_promises.specs.client.Reach.{opens_members, is_opening, opens, type_in_reach}
+use Rattle.jc_facts.specs.client.Valid.{is_item_of}
 use Rattle.jc_facts.specs.file.Valid.{IsValidClass, is_valid_name}
-use Rattle.jc_facts.specs.rule.Bases.{is_class_usable, is_kept}
-use Rattle.jc_facts.specs.rule.Findings.{takes_part}
-use Rattle.jc_facts.specs.rule.Exposed.{acts_on, is_hidden, exposes, references, is_exposed, exposing_act}
-use Rattle.jc_facts.specs.plan.PlannedNames.{own_name, constructor}
-use Rattle.jc_facts.specs.plan.Planned.{a_class, init_method, use_method, turns_behind, found_by, acts_exposing, receiver_exposed, receivers_exposed, item_exposed, assigns_behind, assigns_exposed}
-use Rattle.jc_facts.proofs.Exposed.{IsExposing, exposed-act}
+use Rattle.jc_promises.specs.rule.Bases.{is_class_usable, is_kept}
+use Rattle.jc_promises.specs.rule.Findings.{takes_part}
+use Rattle.jc_promises.specs.rule.Exposed.{acts_on, is_hidden, exposes, references, is_exposed, exposing_act}
+use Rattle.jc_promises.specs.plan.PlannedNames.{own_name, constructor}
+use Rattle.jc_promises.specs.plan.Planned.{a_class, init_method, use_method, turns_behind, found_by, acts_exposing, receiver_exposed, receivers_exposed, item_exposed, assigns_behind, assigns_exposed}
+use Rattle.jc_promises.proofs.Exposed.{IsExposing, exposed-act}
 use Rattle.jc_lemmas.proofs.Listed.{here, there, cases, each_in, none, EachOf, EachOf-append}
 use Rattle.jc_lemmas.proofs.Options.{none_where}
 use Rattle.jc_worlds.proofs.Clients.{Fits}

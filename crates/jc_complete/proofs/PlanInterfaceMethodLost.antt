@@ -18,7 +18,7 @@ use Rattle.jc_facts.specs.Names.{Bytes, same, object_name}
 use Rattle.jc_facts.specs.Flags.{public_flag, interface_flag, final_flag}
 use Rattle.jc_facts.specs.world.Types.{is_array_text}
 use Rattle.jc_facts.specs.Options.{or_else, and_then, first_some}
-use Rattle.jc_facts.specs.world.World.{World, DeclaredMember, find_class, class_named, with_clients, found_in, declared_method}
+use Rattle.jc_facts.specs.world.World.{World, DeclaredMember, find_class, class_named, with_clients, found_in, declared_method, differ_by_name, class_is}
 use Rattle.jc_facts.specs.world.Hierarchy.{chain, in_chain, superinterfaces, each, with_interfaces}
 use Rattle.jc_facts.specs.world.Assignment.{is_interface_of, is_assignable}
 use Rattle.jc_facts.specs.world.Loading.{load_fault, sealed_by, excludes}
@@ -26,12 +26,17 @@ use Rattle.jc_facts.specs.client.Acts.{form_of}
 use Rattle.jc_facts.specs.world.Lookup.{field_found, field_step, if_public_instance, public_method_of_object, or_choices, superinterface_choices, interface_choices}
 use Rattle.jc_facts.specs.client.Outcome.{outcome, look_up, first_of, use_fault, assignment_ok, receiver_ok}
 use Rattle.jc_facts.specs.file.Valid.{IsValidClass}
-use Rattle.jc_facts.specs.client.Clients.{type_in_reach, IsInScope, IsValidClient, is_allowed_name, differ_by_name, seat}
-use Rattle.jc_facts.specs.rule.Collisions.{constant_added, capture_added, final_added}
-use Rattle.jc_facts.specs.client.Meets.{MeetsConstant, MeetsCapture, MeetsFinal, may_name}
-use Rattle.jc_facts.specs.rule.Bases.{is_class_usable, is_steady, is_extendable, is_implementable, is_class_closed, is_base_interface, is_key_of_method, class_is, is_open, inherits, offers, newly_sealed}
-use Rattle.jc_facts.specs.plan.PlannedNames.{own_name}
-use Rattle.jc_facts.specs.plan.Planned.{an_interface, user, takes, use_method, act_item, calls_inherited}
+use Rattle.jc_promises.specs.client.Reach.{type_in_reach}
+use Rattle.jc_promises.specs.client.Scope.{IsInScope}
+use Rattle.jc_facts.specs.client.Valid.{IsValidClient}
+use Rattle.jc_facts.specs.client.Allowed.{is_allowed_name}
+use Rattle.jc_facts.specs.client.Seats.{seat}
+use Rattle.jc_promises.specs.rule.Collisions.{constant_added, capture_added, final_added}
+use Rattle.jc_promises.specs.client.Meets.{MeetsConstant, MeetsCapture, MeetsFinal, may_name}
+use Rattle.jc_promises.specs.rule.Bases.{is_class_usable, is_steady, is_extendable, is_implementable, is_class_closed, is_base_interface, is_key_of_method, is_open, newly_sealed}
+use Rattle.jc_facts.specs.world.Inheritance.{inherits, offers}
+use Rattle.jc_promises.specs.plan.PlannedNames.{own_name}
+use Rattle.jc_promises.specs.plan.Planned.{an_interface, user, takes, use_method, act_item, calls_inherited}
 use Rattle.jc_lemmas.proofs.Listed.{none, cases, EachOf}
 use Rattle.jc_worlds.specs.Choices.{IsPublicInstance}
 use Rattle.jc_complete.specs.Completeness.{LinksWhole, Shows}

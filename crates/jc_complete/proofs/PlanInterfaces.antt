@@ -8,7 +8,7 @@ use Rattle.jc_facts.specs.Flags.{interface_flag}
 use Rattle.jc_facts.specs.world.World.{World, find_class, class_named, with_clients, is_client}
 use Rattle.jc_facts.specs.world.Hierarchy.{chain, superinterfaces, each, with_interfaces}
 use Rattle.jc_facts.specs.world.Loading.{load_fault}
-use Rattle.jc_facts.specs.client.Meets.{may_name}
+use Rattle.jc_promises.specs.client.Meets.{may_name}
 use Rattle.jc_lemmas.proofs.Listed.{EachOf, EachOf-map, EachOf-append, any_none}
 use Rattle.jc_worlds.proofs.Above.{with_interfaces-each}
 use Rattle.jc_facts.proofs.Hierarchy.{each-all}

@@ -12,15 +12,18 @@ use Rattle.jc_facts.specs.Names.{Bytes, same, object_name}
 use Rattle.jc_facts.specs.Flags.{interface_flag}
 use Rattle.jc_facts.specs.world.Types.{is_array_text}
 use Rattle.jc_facts.specs.Options.{or_else, and_then}
-use Rattle.jc_facts.specs.world.World.{World, find_class, class_named, with_clients, own_method_of, found_in}
+use Rattle.jc_facts.specs.world.World.{World, find_class, class_named, with_clients, own_method_of, found_in, differ_by_name}
 use Rattle.jc_facts.specs.world.Hierarchy.{chain}
 use Rattle.jc_facts.specs.world.Access.{is_class_accessible, is_member_accessible}
 use Rattle.jc_facts.specs.world.Overriding.{overrides_some_final}
 use Rattle.jc_facts.specs.world.Loading.{load_fault, fault_where}
 use Rattle.jc_facts.specs.world.Lookup.{first_declared, or_choices, superinterface_choices, method_choices}
 use Rattle.jc_facts.specs.client.Outcome.{outcome, class_fault, class_step, look_up, first_of, init_key, init_fault}
-use Rattle.jc_facts.specs.client.Clients.{IsInScope, IsValidClient, CallsSuper, facts_of, is_allowed_name, differ_by_name, is_in_reach}
-use Rattle.jc_facts.specs.plan.Planned.{a_class}
+use Rattle.jc_promises.specs.client.Scope.{IsInScope, CallsSuper}
+use Rattle.jc_facts.specs.client.Valid.{IsValidClient, facts_of}
+use Rattle.jc_facts.specs.client.Allowed.{is_allowed_name}
+use Rattle.jc_promises.specs.client.Reach.{is_in_reach}
+use Rattle.jc_promises.specs.plan.Planned.{a_class}
 use Rattle.jc_complete.specs.Completeness.{LinksWhole}
 use Rattle.jc_lemmas.proofs.Listed.{EachOf}
 use Rattle.jc_facts.proofs.Same.{same_itself}

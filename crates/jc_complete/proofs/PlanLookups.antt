@@ -18,8 +18,8 @@ use Rattle.jc_facts.specs.world.Loading.{load_fault, fault_where}
 use Rattle.jc_facts.specs.world.Lookup.{or_choices, superinterface_choices, first_declared, declared_by}
 use Rattle.jc_facts.specs.client.Outcome.{outcome}
 use Rattle.jc_facts.specs.file.Valid.{IsValidClass, method_is_valid}
-use Rattle.jc_facts.specs.client.Clients.{is_allowed_name}
-use Rattle.jc_facts.specs.rule.Bases.{offers}
+use Rattle.jc_facts.specs.client.Allowed.{is_allowed_name}
+use Rattle.jc_facts.specs.world.Inheritance.{offers}
 use Rattle.jc_lemmas.proofs.Listed.{EachOf}
 use Rattle.jc_facts.proofs.Same.{same_itself, same_is}
 use Rattle.jc_worlds.proofs.Clients.{Fits}
@@ -29,7 +29,7 @@ use Rattle.jc_complete.proofs.PlanLoads.{lib_find, lib_fault}
 use Rattle.jc_desc.specs.Reading.{slots_of_method}
 use Rattle.jc_facts.specs.world.Access.{is_member_accessible, are_nestmates, is_class_accessible}
 use Rattle.jc_facts.specs.file.Rules.{slots_fit_in, method_descriptor_fits, method_flags_fit}
-use Rattle.jc_facts.specs.rule.Collisions.{leaves_room}
+use Rattle.jc_promises.specs.rule.Collisions.{leaves_room}
 use Rattle.jc_worlds.proofs.Unrolled.{own_chain}
 use Rattle.jc_facts.proofs.World.{IsOf, find-name}
 use Rattle.jc_worlds.proofs.Packages.{same_nest-package}

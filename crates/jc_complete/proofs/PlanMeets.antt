@@ -14,13 +14,15 @@ use Rattle.jc_facts.specs.Options.{or_else, some_and, some_where}
 use Rattle.jc_facts.specs.world.World.{World, DeclaredMember, find_class, class_named, with_clients, is_client, own_method_of, found_in}
 use Rattle.jc_facts.specs.world.Hierarchy.{chain, superinterfaces, is_superinterface, names_in, each, with_interfaces}
 use Rattle.jc_facts.specs.world.Loading.{load_fault}
-use Rattle.jc_facts.specs.world.Lookup.{first_declared, or_choices, superinterface_choices, method_choices, MethodFound}
-use Rattle.jc_facts.specs.client.Clients.{facts_of, seat, first_library}
-use Rattle.jc_facts.specs.client.Meets.{MeetsConstant, MeetsCapture, MeetsFinal, may_name}
-use Rattle.jc_facts.specs.rule.Bases.{is_final_in_chain, declares_as_final, is_base_class, is_key_of_method}
-use Rattle.jc_facts.specs.rule.Findings.{finds_overridable}
-use Rattle.jc_facts.specs.rule.Collisions.{collision_at, constant_added, capture_added, final_added, captures, are_none, leaves_room}
-use Rattle.jc_facts.specs.plan.Planned.{init_method, use_method}
+use Rattle.jc_facts.specs.world.Lookup.{first_declared, or_choices, superinterface_choices, method_choices, MethodFound, are_none}
+use Rattle.jc_facts.specs.client.Valid.{facts_of}
+use Rattle.jc_facts.specs.client.Seats.{seat, first_library}
+use Rattle.jc_promises.specs.client.Meets.{MeetsConstant, MeetsCapture, MeetsFinal, may_name}
+use Rattle.jc_facts.specs.world.Inheritance.{is_final_in_chain, declares_as_final}
+use Rattle.jc_promises.specs.rule.Bases.{is_base_class, is_key_of_method}
+use Rattle.jc_promises.specs.rule.Findings.{finds_overridable}
+use Rattle.jc_promises.specs.rule.Collisions.{collision_at, constant_added, capture_added, final_added, captures, leaves_room}
+use Rattle.jc_promises.specs.plan.Planned.{init_method, use_method}
 use Rattle.jc_lemmas.proofs.Listed.{none, cases, EachOf, EachOf-map, EachOf-append, any_none}
 use Rattle.jc_complete.specs.Completeness.{MeetsNothing}
 use Rattle.jc_facts.proofs.World.{find-name, class_named-name}

@@ -19,12 +19,13 @@ use Rattle.jc_facts.specs.world.Overriding.{directly_overrides, is_overridden_by
 use Rattle.jc_facts.specs.world.Loading.{load_fault}
 use Rattle.jc_facts.specs.file.Rules.{method_descriptor_fits, slots_fit_in, method_flags_fit}
 use Rattle.jc_facts.specs.file.Valid.{IsValidClass, method_is_valid}
-use Rattle.jc_facts.specs.client.Meets.{MeetsFinal}
-use Rattle.jc_facts.specs.rule.Collisions.{final_added}
-use Rattle.jc_facts.specs.rule.Bases.{is_key_of_method, is_open_final, declares_as_final, is_final_in_chain, public_or_protected}
-use Rattle.jc_facts.specs.rule.Findings.{finds_overridable}
-use Rattle.jc_facts.specs.plan.PlannedNames.{own_name, constructor}
-use Rattle.jc_facts.specs.plan.Planned.{a_class, init_method, abstract_method, overrides_method}
+use Rattle.jc_promises.specs.client.Meets.{MeetsFinal}
+use Rattle.jc_promises.specs.rule.Collisions.{final_added}
+use Rattle.jc_promises.specs.rule.Bases.{is_key_of_method}
+use Rattle.jc_facts.specs.world.Inheritance.{is_open_final, declares_as_final, is_final_in_chain, public_or_protected}
+use Rattle.jc_promises.specs.rule.Findings.{finds_overridable}
+use Rattle.jc_promises.specs.plan.PlannedNames.{own_name, constructor}
+use Rattle.jc_promises.specs.plan.Planned.{a_class, init_method, abstract_method, overrides_method}
 use Rattle.jc_complete.specs.Completeness.{Shows}
 use Rattle.jc_lemmas.proofs.Listed.{EachOf}
 use Rattle.jc_facts.proofs.Same.{same_is, same_itself}

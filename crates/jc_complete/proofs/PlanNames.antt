@@ -15,9 +15,9 @@ use Rattle.jc_facts.specs.Names.{Bytes, same, is_name_among, in_same_package, pa
 use Rattle.jc_facts.specs.world.Search.{supers}
 use Rattle.jc_facts.specs.world.World.{World, find_class, classes}
 use Rattle.jc_facts.specs.file.Valid.{is_valid_name}
-use Rattle.jc_facts.specs.client.Clients.{is_allowed_name, is_named_above, has_package}
-use Rattle.jc_facts.specs.world.Mentioned.{permitted, mentions}
-use Rattle.jc_facts.specs.plan.PlannedNames.{in_package}
+use Rattle.jc_facts.specs.client.Allowed.{is_allowed_name, has_package}
+use Rattle.jc_facts.specs.world.Mentioned.{is_named_above, permitted, mentions}
+use Rattle.jc_promises.specs.plan.PlannedNames.{in_package}
 use Rattle.jc_lemmas.proofs.Listed.{EachOf, EachOf-map, EachOf-append}
 use Rattle.jc_facts.proofs.Same.{same_is, same_itself}
 use Rattle.jc_facts.proofs.World.{find-name, any-named}

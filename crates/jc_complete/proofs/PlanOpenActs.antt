@@ -15,17 +15,18 @@ use Rattle.jc_facts.specs.world.Types.{is_array_text}
 use Rattle.jc_facts.specs.Options.{or_else, some_and}
 use Rattle.jc_facts.specs.world.World.{World, DeclaredMember, find_class, class_named, with_clients}
 use Rattle.jc_facts.specs.world.Hierarchy.{in_chain}
-use Rattle.jc_facts.specs.world.Access.{is_class_accessible, is_member_accessible}
+use Rattle.jc_facts.specs.world.Access.{is_class_accessible, is_member_accessible, is_member_open}
 use Rattle.jc_facts.specs.client.Acts.{Form, FieldForm, form_of, is_act_on_static, is_put_act, is_special, is_act_on_field}
 use Rattle.jc_facts.specs.world.Assignment.{is_interface_of, is_assignable, passes_protected_check}
 use Rattle.jc_facts.specs.world.Loading.{load_fault, fault_where}
 use Rattle.jc_facts.specs.client.Outcome.{outcome, use_fault, kind_fault, assignment_ok, receiver_ok}
-use Rattle.jc_facts.specs.client.Clients.{receiver_in_reach, type_in_reach, is_allowed_name}
+use Rattle.jc_promises.specs.client.Reach.{receiver_in_reach, type_in_reach}
+use Rattle.jc_facts.specs.client.Allowed.{is_allowed_name}
 use Rattle.jc_facts.specs.file.Valid.{IsValidClass}
-use Rattle.jc_facts.specs.rule.Bases.{is_key_of_method}
-use Rattle.jc_facts.specs.rule.OpenActs.{is_member_open, act_fault, field_acts, method_acts}
-use Rattle.jc_facts.specs.rule.Exposed.{acts_on}
-use Rattle.jc_facts.specs.plan.Planned.{act_item, receiver_for, found_by}
+use Rattle.jc_promises.specs.rule.Bases.{is_key_of_method}
+use Rattle.jc_promises.specs.rule.OpenActs.{act_fault, field_acts, method_acts}
+use Rattle.jc_promises.specs.rule.Exposed.{acts_on}
+use Rattle.jc_promises.specs.plan.Planned.{act_item, receiver_for, found_by}
 use Rattle.jc_facts.proofs.Same.{same_itself}
 use Rattle.jc_lemmas.proofs.Bools.{neither_last}
 use Rattle.jc_lemmas.proofs.Listed.{each_in, none, EachOf}

@@ -11,10 +11,10 @@ use Rattle.jc_facts.specs.world.World.{World, find_class, classes, class_named, 
 use Rattle.jc_facts.specs.client.Outcome.{init_key}
 use Rattle.jc_facts.specs.file.Valid.{IsValidClass}
 use Rattle.jc_facts.specs.world.Mentioned.{mentions, all_mentions, mentioned}
-use Rattle.jc_facts.specs.plan.PlannedNames.{in_package, fresh_package}
+use Rattle.jc_promises.specs.plan.PlannedNames.{in_package, fresh_package}
 use Rattle.jc_complete.specs.Completeness.{CanPlan}
 use Rattle.jc_lemmas.proofs.Bools.{neither_first, neither_last}
-use Rattle.jc_facts.proofs.Pairs.{side_valid, old_root, new_there, new_root, new_platform_valid}
+use Rattle.jc_promises.proofs.Pairs.{side_valid, old_root, new_there, new_root, new_platform_valid}
 use Rattle.jc_complete.proofs.PlanGround.{Root, Planned, Ready}
 use Rattle.jc_complete.proofs.PlanPackage.{IsFree, first_is_free}
 use Rattle.jc_complete.proofs.PlanNames.{free_name, free_allowed, not_permitted}

@@ -16,9 +16,11 @@ use Rattle.jc_facts.specs.world.World.{World, classes}
 use Rattle.jc_facts.specs.world.Hierarchy.{in_chain}
 use Rattle.jc_facts.specs.world.Lookup.{public_method_of_object}
 use Rattle.jc_facts.specs.world.Assignment.{is_interface_of}
-use Rattle.jc_facts.specs.rule.Bases.{is_class_usable, is_kept, is_steady, is_class_closed, is_base_class, is_base_interface, is_key_of_method, is_final_in_chain, inherits}
-use Rattle.jc_facts.specs.rule.OpenActs.{field_acts, method_acts, closed_act, first_seat, least}
-use Rattle.jc_facts.specs.rule.Findings.{Subject, report, report_where, takes_part, assign_finding, gone_error, new_broken, init_broken, act_finding, first_act, finds_overridable, class_gone, class_closed, interface_became_class, superclass_lost, constructor_closed, method_made_final, field_closed, method_closed, interface_method_lost, finding_by, finding_at, Stands, subject_of}
+use Rattle.jc_promises.specs.rule.Bases.{is_class_usable, is_kept, is_steady, is_class_closed, is_base_class, is_base_interface, is_key_of_method}
+use Rattle.jc_facts.specs.world.Inheritance.{is_final_in_chain, inherits}
+use Rattle.jc_promises.specs.rule.OpenActs.{field_acts, method_acts, closed_act, first_seat}
+use Rattle.jc_facts.specs.ByName.{least}
+use Rattle.jc_promises.specs.rule.Findings.{Subject, report, report_where, takes_part, assign_finding, gone_error, new_broken, init_broken, act_finding, first_act, finds_overridable, class_gone, class_closed, interface_became_class, superclass_lost, constructor_closed, method_made_final, field_closed, method_closed, interface_method_lost, finding_by, finding_at, Stands, subject_of}
 use Rattle.jc_facts.proofs.Options.{or_else-cases}
 use Rattle.jc_sound.proofs.OpenActs.{least-passes}
 

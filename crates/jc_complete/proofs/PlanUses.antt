@@ -13,10 +13,10 @@ use Rattle.jc_facts.specs.world.Hierarchy.{in_chain, names_in}
 use Rattle.jc_facts.specs.world.Assignment.{is_assignable, is_class_assignable, is_interface_of}
 use Rattle.jc_facts.specs.world.Loading.{fault_where}
 use Rattle.jc_facts.specs.client.Outcome.{outcome}
-use Rattle.jc_facts.specs.client.Clients.{type_in_reach}
-use Rattle.jc_facts.specs.rule.Bases.{is_class_usable, is_kept}
-use Rattle.jc_facts.specs.rule.Findings.{gone_error}
-use Rattle.jc_facts.specs.plan.Planned.{Plan, names_class, assigns, takes, turns}
+use Rattle.jc_promises.specs.client.Reach.{type_in_reach}
+use Rattle.jc_promises.specs.rule.Bases.{is_class_usable, is_kept}
+use Rattle.jc_promises.specs.rule.Findings.{gone_error}
+use Rattle.jc_promises.specs.plan.Planned.{Plan, names_class, assigns, takes, turns}
 use Rattle.jc_complete.specs.Completeness.{Shows, MeetsNothing}
 use Rattle.jc_facts.proofs.Same.{same_is}
 use Rattle.jc_facts.proofs.World.{find-name}

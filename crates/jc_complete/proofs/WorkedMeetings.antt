@@ -27,9 +27,13 @@ use Rattle.jc_facts.specs.world.Lookup.{field_found, method_choices, or_choices}
 use Rattle.jc_facts.specs.world.Assignment.{is_interface_of}
 use Rattle.jc_facts.specs.client.Outcome.{outcome, Links}
 use Rattle.jc_facts.specs.steps.ValidTests.{head_test, members_test, nest_test, texts_test}
-use Rattle.jc_facts.specs.client.Clients.{is_item_of, IsInScope, IsValidClient, CallsSuper, facts_of, is_allowed_name, seat, Keeps}
-use Rattle.jc_facts.specs.client.Meets.{ConstantHits, MeetsConstant, MeetsCapture, MeetsFinal, Meets}
-use Rattle.jc_facts.specs.rule.Collisions.{made_collision, CollisionStands, constant_added, capture_added, final_added}
+use Rattle.jc_facts.specs.client.Valid.{is_item_of, IsValidClient, facts_of}
+use Rattle.jc_promises.specs.client.Scope.{IsInScope, CallsSuper}
+use Rattle.jc_facts.specs.client.Allowed.{is_allowed_name}
+use Rattle.jc_facts.specs.client.Seats.{seat}
+use Rattle.jc_promises.specs.client.Keeps.{Keeps}
+use Rattle.jc_promises.specs.client.Meets.{ConstantHits, MeetsConstant, MeetsCapture, MeetsFinal, Meets}
+use Rattle.jc_promises.specs.rule.Collisions.{made_collision, CollisionStands, constant_added, capture_added, final_added}
 use Rattle.jc_lemmas.proofs.Listed.{EachOf, each_in, none, cases}
 use Rattle.jc_facts.proofs.Tests.{valid_exactly}
 use Rattle.jc_complete.specs.Completeness.{MeetsNothing}

@@ -15,17 +15,17 @@ use Rattle.jc_facts.specs.Names.{Bytes, object_name}
 use Rattle.jc_facts.specs.world.World.{World, with_clients}
 use Rattle.jc_facts.specs.world.Loading.{load_fault}
 use Rattle.jc_facts.specs.client.Outcome.{outcome}
-use Rattle.jc_facts.specs.client.Clients.{is_in_reach}
-use Rattle.jc_facts.specs.rule.Collisions.{made_collision}
-use Rattle.jc_facts.specs.plan.PlannedNames.{first_unused, least_name, constructors}
-use Rattle.jc_facts.specs.plan.Planned.{plan, planned}
+use Rattle.jc_promises.specs.client.Reach.{is_in_reach}
+use Rattle.jc_promises.specs.rule.Collisions.{made_collision}
+use Rattle.jc_promises.specs.plan.PlannedNames.{first_unused, least_name, constructors}
+use Rattle.jc_promises.specs.plan.Planned.{plan, planned}
 use Rattle.jc_facts.specs.ByName.{placed, by_name}
 use Rattle.jc_sound.proofs.Examples.{computes, init, key, member, a_class, plain, public_class, sealed_interface, over, ascii, object}
 use Rattle.jc_sound.proofs.WorkedClients.{p_A, run, run_key, root_is_valid}
 use Rattle.std.proofs.lemmas.List.Elements.{All-from_recursion}
 use Rattle.jc_facts.specs.file.Valid.{IsValidClass}
 use Rattle.jc_facts.specs.world.World.{side}
-use Rattle.jc_facts.proofs.Pairs.{plain_pair}
+use Rattle.jc_promises.proofs.Pairs.{plain_pair}
 use Rattle.jc_complete.specs.Completeness.{CanPlan}
 use Rattle.jc_complete.proofs.PlanRules.{made}
 

@@ -14,18 +14,22 @@ use Rattle.jc_facts.specs.declared.link_error.LinkError.{LinkError}
 use Rattle.jc_facts.specs.Flags.{public_flag, final_flag}
 use Rattle.jc_facts.specs.Options.{some_and}
 use Rattle.jc_facts.specs.world.World.{World, with_clients, own_method_of}
-use Rattle.jc_facts.specs.world.Pairs.{IsPair}
+use Rattle.jc_promises.specs.Pairs.{IsPair}
 use Rattle.jc_facts.specs.world.Loading.{load_fault}
 use Rattle.jc_facts.specs.client.Outcome.{outcome, Links, init_key}
-use Rattle.jc_facts.specs.client.Clients.{IsInScope, facts_of, is_in_reach, Keeps}
-use Rattle.jc_facts.specs.client.Meets.{Meets}
-use Rattle.jc_facts.specs.rule.Findings.{Stands}
-use Rattle.jc_facts.specs.rule.Collisions.{CollisionStands}
+use Rattle.jc_promises.specs.client.Scope.{IsInScope}
+use Rattle.jc_facts.specs.client.Valid.{facts_of}
+use Rattle.jc_promises.specs.client.Reach.{is_in_reach}
+use Rattle.jc_promises.specs.client.Keeps.{Keeps}
+use Rattle.jc_promises.specs.client.Meets.{Meets}
+use Rattle.jc_promises.specs.rule.Findings.{Stands}
+use Rattle.jc_promises.specs.rule.Collisions.{CollisionStands}
 use Rattle.jc_facts.specs.world.Mentioned.{mentioned}
-use Rattle.jc_facts.specs.plan.PlannedNames.{fresh_package}
-use Rattle.jc_facts.specs.plan.Planned.{Plan, plan, planned, planned_for}
+use Rattle.jc_promises.specs.plan.PlannedNames.{fresh_package}
+use Rattle.jc_promises.specs.plan.Planned.{Plan, plan, planned, planned_for}
 use Rattle.jc_facts.specs.Exactly.{NamesRise}
-use Rattle.jc_facts.specs.rule.Verdict.{IsVerdict, is_incompatible}
+use Rattle.jc_promises.specs.rule.Verdict.{IsVerdict}
+use Rattle.jc_facts.specs.Verdicts.{is_incompatible}
 
 -- ---- of what releases it is said
 

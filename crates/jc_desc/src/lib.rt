@@ -6,6 +6,7 @@ pub mod bytes;
 pub mod fault;
 pub mod field;
 pub mod laws;
+pub mod limits;
 pub mod method;
 pub mod names;
 pub mod pool_texts;

@@ -15,10 +15,11 @@ use Rattle.jc_facts.specs.world.Access.{is_class_accessible}
 use Rattle.jc_facts.specs.world.Hierarchy.{chain, of_super, each, with_interfaces, interfaces_of, superinterfaces, is_superinterface, names_in}
 use Rattle.jc_facts.specs.world.Loading.{load_fault, fault_of_interface}
 use Rattle.jc_facts.specs.world.Assignment.{is_interface_of}
-use Rattle.jc_facts.specs.client.Clients.{facts_of, is_allowed_name}
+use Rattle.jc_facts.specs.client.Valid.{facts_of}
+use Rattle.jc_facts.specs.client.Allowed.{is_allowed_name}
 use Rattle.jc_facts.specs.file.Valid.{IsValidClass}
-use Rattle.jc_facts.specs.rule.Bases.{is_class_usable, is_kept, is_steady}
-use Rattle.jc_dropped.specs.declared.dropped.Dropped.{Dropped}
+use Rattle.jc_promises.specs.rule.Bases.{is_class_usable, is_kept, is_steady}
+use Rattle.jc_facts.specs.declared.dropped.Dropped.{Dropped}
 use Rattle.jc_dropped.specs.Dropped.{stays_exposed, is_held, has_lost, loses_interface, loses_above, is_dropped, AreDropped}
 use Rattle.jc_dropped.proofs.Held.{held_loads, stays_loaded}
 use Rattle.jc_dropped.specs.InterfacesKept.{DropNothing, NoneDroppedNoneLost, InterfacesStay, InstancesStay}
@@ -27,7 +28,7 @@ use Rattle.jc_lemmas.proofs.Bools.{and_not}
 use Rattle.jc_lemmas.proofs.Lists.{any_left, any_right, any_cases}
 use Rattle.jc_facts.proofs.Hierarchy.{each-map}
 use Rattle.jc_facts.proofs.Same.{same_is}
-use Rattle.jc_facts.proofs.Pairs.{side_valid, new_root, new_platform_valid}
+use Rattle.jc_promises.proofs.Pairs.{side_valid, new_root, new_platform_valid}
 use Rattle.jc_facts.proofs.World.{names, find-name, class_named-name, EachOf-class_named}
 use Rattle.jc_worlds.proofs.ValidFacts.{superclass_fits, fit_of}
 use Rattle.jc_worlds.proofs.Loaded.{loads-parts, loads-found, loads-induction}

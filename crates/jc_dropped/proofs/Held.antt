@@ -3,9 +3,9 @@ use Rattle.std.proofs.Common.{◌≡◌, true, not, refl, Option, Some, None, is
 use Rattle.std.specs.List.{list_any}
 use Rattle.std.proofs.lemmas.Bool.{and_parts, or_cases}
 use Rattle.jc_facts.specs.Names.{Bytes}
-use Rattle.jc_facts.specs.rule.Bases.{is_class_usable, is_kept}
-use Rattle.jc_facts.specs.rule.Exposed.{is_hidden, references, exposes, is_exposed}
-use Rattle.jc_facts.specs.rule.OpenActs.{first_seat}
+use Rattle.jc_promises.specs.rule.Bases.{is_class_usable, is_kept}
+use Rattle.jc_promises.specs.rule.Exposed.{is_hidden, references, exposes, is_exposed}
+use Rattle.jc_promises.specs.rule.OpenActs.{first_seat}
 use Rattle.jc_facts.specs.world.Loading.{load_fault}
 use Rattle.jc_facts.specs.world.World.{World}
 use Rattle.jc_dropped.specs.Dropped.{is_exposed_to_some, stays_exposed, is_held}

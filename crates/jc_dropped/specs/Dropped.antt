@@ -10,14 +10,14 @@ use Rattle.std.specs.declared.cmp.Ordering.{Ordering}
 use Rattle.std.specs.Ordering.{on, then_cmp}
 use Rattle.jc_facts.specs.Names.{Bytes}
 use Rattle.jc_facts.specs.Exactly.{name_order, HasExactly}
-use Rattle.jc_facts.specs.world.World.{World}
+use Rattle.jc_facts.specs.world.World.{World, class_is}
 use Rattle.jc_facts.specs.world.Search.{supers}
 use Rattle.jc_facts.specs.world.Hierarchy.{is_superinterface}
 use Rattle.jc_facts.specs.world.Loading.{loads}
-use Rattle.jc_facts.specs.rule.Bases.{is_kept, is_steady, class_is}
-use Rattle.jc_facts.specs.rule.OpenActs.{first_seat}
-use Rattle.jc_facts.specs.rule.Exposed.{is_exposed}
-use Rattle.jc_dropped.specs.declared.dropped.Dropped.{Dropped}
+use Rattle.jc_promises.specs.rule.Bases.{is_kept, is_steady}
+use Rattle.jc_promises.specs.rule.OpenActs.{first_seat}
+use Rattle.jc_promises.specs.rule.Exposed.{is_exposed}
+use Rattle.jc_facts.specs.declared.dropped.Dropped.{Dropped}
 
 -- the class is hidden, and a member exposes it to the clients of some seat
 abbrev pub is_exposed_to_some : World → World → Bytes → Bool

@@ -7,14 +7,15 @@ use Rattle.jc_facts.specs.declared.client.ClientClass.{ClientClass}
 use Rattle.jc_facts.specs.declared.verdict.Verdict.{Verdict}
 use Rattle.jc_facts.specs.Names.{Bytes}
 use Rattle.jc_facts.specs.world.World.{World, with_clients, is_client}
-use Rattle.jc_facts.specs.world.Pairs.{IsPair}
+use Rattle.jc_promises.specs.Pairs.{IsPair}
 use Rattle.jc_facts.specs.world.Hierarchy.{is_superinterface}
 use Rattle.jc_facts.specs.world.Loading.{load_fault}
-use Rattle.jc_facts.specs.client.Clients.{IsInScope, facts_of}
-use Rattle.jc_facts.specs.client.Meets.{Meets}
-use Rattle.jc_facts.specs.rule.Bases.{is_class_usable, is_steady}
-use Rattle.jc_facts.specs.rule.Verdict.{IsVerdict}
-use Rattle.jc_dropped.specs.declared.dropped.Dropped.{Dropped}
+use Rattle.jc_promises.specs.client.Scope.{IsInScope}
+use Rattle.jc_facts.specs.client.Valid.{facts_of}
+use Rattle.jc_promises.specs.client.Meets.{Meets}
+use Rattle.jc_promises.specs.rule.Bases.{is_class_usable, is_steady}
+use Rattle.jc_promises.specs.rule.Verdict.{IsVerdict}
+use Rattle.jc_facts.specs.declared.dropped.Dropped.{Dropped}
 use Rattle.jc_dropped.specs.Dropped.{stays_exposed, is_held, loses_interface, is_dropped, AreDropped}
 
 -- no class drops an interface

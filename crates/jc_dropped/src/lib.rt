@@ -5,8 +5,6 @@
 
 ghost use Rattle.jc_dropped.specs.InterfacesKept.{NoneDroppedNoneLost, InterfacesStay, InstancesStay};
 
-pub mod dropped;
-
 /// Only causes are listed: where no class drops an interface, none loses one.
 pub fn none_dropped_none_lost()
     ensures { NoneDroppedNoneLost }

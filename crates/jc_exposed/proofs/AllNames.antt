@@ -10,8 +10,8 @@ use Rattle.jc_facts.specs.declared.key.Key.{Key}
 use Rattle.jc_facts.specs.Names.{Bytes}
 use Rattle.jc_facts.specs.Options.{some_where}
 use Rattle.jc_facts.specs.world.World.{World, classes, size}
-use Rattle.jc_facts.specs.rule.Bases.{is_class_usable}
-use Rattle.jc_facts.specs.rule.Exposed.{is_hidden, is_exposed, keys_of, exposes}
+use Rattle.jc_promises.specs.rule.Bases.{is_class_usable}
+use Rattle.jc_promises.specs.rule.Exposed.{is_hidden, is_exposed, keys_of, exposes}
 use Rattle.jc_facts.proofs.Mapped.{any-flat, any-map}
 use Rattle.jc_facts.proofs.Options.{some_where-is}
 use Rattle.jc_worlds.specs.Hierarchy.{above}

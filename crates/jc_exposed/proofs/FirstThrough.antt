@@ -17,15 +17,14 @@ use Rattle.jc_facts.specs.Exactly.{Before, NamesRise, Rises, name_order}
 use Rattle.jc_facts.specs.KeyOrder.{key_cmp, key_total}
 use Rattle.jc_facts.specs.Names.{Bytes, same, same_key}
 use Rattle.jc_facts.specs.Options.{some_and}
-use Rattle.jc_facts.specs.client.Clients.{differ_by_name}
-use Rattle.jc_facts.specs.rule.Bases.{is_class_usable, is_key_of_method}
-use Rattle.jc_facts.specs.rule.OpenActs.{field_acts, method_acts}
-use Rattle.jc_facts.specs.rule.Exposed.{earlier, exposes, exposing_act, first_by, keys_of, open_act}
+use Rattle.jc_facts.specs.world.World.{differ_by_name, World, class_named, classes, find_class, size}
+use Rattle.jc_promises.specs.rule.Bases.{is_class_usable, is_key_of_method}
+use Rattle.jc_promises.specs.rule.OpenActs.{field_acts, method_acts}
+use Rattle.jc_promises.specs.rule.Exposed.{earlier, exposes, exposing_act, first_by, keys_of, open_act}
 use Rattle.jc_facts.specs.world.Hierarchy.{chain, superinterfaces}
 use Rattle.jc_facts.specs.world.Loading.{load_fault}
-use Rattle.jc_facts.specs.world.World.{World, class_named, classes, find_class, size}
-use Rattle.jc_facts.proofs.Exposed.{first_by-in}
-use Rattle.jc_facts.proofs.FirstExposed.{IsFirstHit, all_keys, exposing-by_loops, exposing-none, first_by-least}
+use Rattle.jc_promises.proofs.Exposed.{first_by-in}
+use Rattle.jc_promises.proofs.FirstExposed.{IsFirstHit, all_keys, exposing-by_loops, exposing-none, first_by-least}
 use Rattle.jc_facts.proofs.Mapped.{any-flat, in_flat, of_flat}
 use Rattle.jc_facts.proofs.Same.{same_is, same_itself}
 use Rattle.jc_facts.proofs.World.{IsOf, class_named-each, find-name}

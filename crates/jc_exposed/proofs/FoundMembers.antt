@@ -9,8 +9,8 @@ use Rattle.jc_facts.specs.Names.{Bytes}
 use Rattle.jc_facts.specs.declared.link_error.LinkError.{LinkError}
 use Rattle.jc_facts.specs.world.World.{World, size, find_class}
 use Rattle.jc_facts.specs.client.Acts.{Form, FieldForm, MethodForm, InterfaceForm}
-use Rattle.jc_facts.specs.rule.OpenActs.{is_member_open}
-use Rattle.jc_facts.specs.rule.Bases.{is_key_of_method}
+use Rattle.jc_facts.specs.world.Access.{is_member_open}
+use Rattle.jc_promises.specs.rule.Bases.{is_key_of_method}
 use Rattle.jc_table.specs.Ids.{name_at}
 use Rattle.jc_index.specs.declared.ids.Found.{Found}
 use Rattle.jc_exposed.specs.Exposures.{exposes_to, IsExposureIn}

@@ -15,9 +15,10 @@ use Rattle.jc_facts.specs.world.Lookup.{field_found, method_choices, interface_c
 use Rattle.jc_facts.specs.world.Assignment.{is_interface_of}
 use Rattle.jc_facts.specs.client.Acts.{Form, FieldForm, MethodForm, InterfaceForm}
 use Rattle.jc_facts.specs.client.Outcome.{look_up, found_or, first_of}
-use Rattle.jc_facts.specs.rule.Bases.{is_key_of_method}
-use Rattle.jc_facts.specs.rule.OpenActs.{is_member_open, act_fault, field_acts, method_acts}
-use Rattle.jc_facts.specs.rule.Exposed.{acts_on, open_act}
+use Rattle.jc_promises.specs.rule.Bases.{is_key_of_method}
+use Rattle.jc_facts.specs.world.Access.{is_member_open}
+use Rattle.jc_promises.specs.rule.OpenActs.{act_fault, field_acts, method_acts}
+use Rattle.jc_promises.specs.rule.Exposed.{acts_on, open_act}
 use Rattle.jc_index.specs.declared.ids.Found.{Found}
 use Rattle.jc_acts.specs.steps.LookedUp.{member_of, looked_use, LooksUp}
 use Rattle.jc_exposed.specs.OpenForms.{finds_open}

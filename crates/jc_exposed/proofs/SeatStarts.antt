@@ -8,7 +8,7 @@ use Rattle.std.proofs.lemmas.List.Elements.{All-get_or}
 use Rattle.std.proofs.lemmas.List.Folds.{list_all_at, list_any_more}
 use Rattle.std.proofs.Math.Seq.{get_or-append_seam}
 use Rattle.jc_facts.specs.Names.{Bytes}
-use Rattle.jc_facts.specs.rule.Exposed.{is_hidden, is_exposed}
+use Rattle.jc_promises.specs.rule.Exposed.{is_hidden, is_exposed}
 use Rattle.jc_facts.specs.world.World.{size}
 use Rattle.jc_lemmas.proofs.Bools.{contradicts}
 use Rattle.jc_lemmas.proofs.Lists.{any_weaker}

@@ -5,7 +5,7 @@ use Rattle.std.specs.Prelude.{◌<◌, ◌≡◌, ℕ, Bool, true, false, List, 
 use Rattle.std.specs.List.{list_any, list_all}
 use Rattle.jc_facts.specs.Names.{Bytes}
 use Rattle.jc_facts.specs.world.World.{World, size}
-use Rattle.jc_facts.specs.rule.Exposed.{is_exposed}
+use Rattle.jc_promises.specs.rule.Exposed.{is_exposed}
 use Rattle.jc_sides.specs.SidesOf.{SidesOf}
 use Rattle.jc_table.specs.Ids.{name_at}
 use Rattle.jc_acts.specs.Seats.{all_seats}

@@ -7,7 +7,7 @@ use Rattle.jc_facts.specs.declared.key.Key.{Key}
 use Rattle.jc_facts.specs.Names.{Bytes}
 use Rattle.jc_facts.specs.world.World.{World, size, find_class}
 use Rattle.jc_facts.specs.client.Acts.{Form}
-use Rattle.jc_facts.specs.rule.Exposed.{open_act, keys_of}
+use Rattle.jc_promises.specs.rule.Exposed.{open_act, keys_of}
 use Rattle.jc_table.specs.Ids.{name_at}
 use Rattle.jc_exposed.specs.Exposures.{exposes_to, IsExposureIn}
 use Rattle.jc_acts.specs.Touched.{flag_at}
@@ -17,7 +17,7 @@ use Rattle.jc_exposed.specs.declared.namings.Naming.{Naming}
 use Rattle.jc_exposed.specs.declared.own.Own.{Own}
 use Rattle.jc_worlds.specs.Hierarchy.{above}
 use Rattle.jc_facts.specs.Options.{some_and}
-use Rattle.jc_facts.specs.rule.Bases.{is_class_usable}
+use Rattle.jc_promises.specs.rule.Bases.{is_class_usable}
 
 -- of the classes of the numbers that are on, the members expose exactly those of which p says so, to the seats of which it does
 pub record Finds (W : World) (on : ℕ → Bool) (p : Bytes → ℕ → Bool) (ms : List Exposure) : Type 0 where

@@ -7,8 +7,8 @@ use Rattle.jc_facts.specs.declared.class_facts.ClassFacts.{ClassFacts}
 use Rattle.jc_facts.specs.declared.key.Key.{Key}
 use Rattle.jc_facts.specs.Names.{Bytes}
 use Rattle.jc_facts.specs.Options.{some_and}
-use Rattle.jc_facts.specs.rule.Exposed.{keys_of}
-use Rattle.jc_facts.specs.rule.OpenActs.{act_fault}
+use Rattle.jc_promises.specs.rule.Exposed.{keys_of}
+use Rattle.jc_promises.specs.rule.OpenActs.{act_fault}
 use Rattle.jc_facts.specs.world.World.{World, size, find_class}
 use Rattle.jc_table.specs.Ids.{name_at, names}
 use Rattle.jc_exposed.specs.Exposing.{opens}

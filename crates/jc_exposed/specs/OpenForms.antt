@@ -7,7 +7,7 @@ use Rattle.jc_facts.specs.world.World.{World}
 use Rattle.jc_facts.specs.world.Loading.{fault_where}
 use Rattle.jc_facts.specs.client.Acts.{Form}
 use Rattle.jc_facts.specs.client.Outcome.{look_up}
-use Rattle.jc_facts.specs.rule.OpenActs.{is_member_open}
+use Rattle.jc_facts.specs.world.Access.{is_member_open}
 
 -- a reference of the form to the class c finds a member that is open to the seat a
 unfoldable pub finds_open : World → Bytes → Bytes → Key → Form → Bool

@@ -5,7 +5,7 @@ ghost use Rattle.jc_facts.specs.client.Forms.{form_view};
 ghost use Rattle.jc_facts.specs.client.Acts.{MethodForm, InterfaceForm};
 ghost use Rattle.jc_facts.specs.world.World.{size};
 ghost use Rattle.jc_facts.specs.world.Loading.{load_fault};
-ghost use Rattle.jc_facts.specs.rule.Bases.{is_key_of_method};
+ghost use Rattle.jc_promises.specs.rule.Bases.{is_key_of_method};
 ghost use Rattle.jc_table.specs.Ids.{name_at, names};
 ghost use Rattle.jc_table.specs.Sides.{IsSide};
 ghost use Rattle.jc_acts.specs.steps.References.{MayName};

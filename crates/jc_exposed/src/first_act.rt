@@ -8,7 +8,7 @@ ghost use Rattle.jc_exposed.specs.Exposing.{AreOwn, is_wanted, opens, opens_usab
 ghost use Rattle.jc_exposed.specs.FirstAct.{Collects, IsFirstAt, IsFirstThrough, has_open, has_open_at, is_act_open};
 ghost use Rattle.jc_facts.specs.KeyOrder.{key_cmp};
 ghost use Rattle.jc_facts.specs.client.Acts.{form_of};
-ghost use Rattle.jc_facts.specs.rule.Exposed.{earlier, exposing_act, first_by, open_act};
+ghost use Rattle.jc_promises.specs.rule.Exposed.{earlier, exposing_act, first_by, open_act};
 ghost use Rattle.jc_facts.specs.world.Loading.{load_fault};
 ghost use Rattle.jc_facts.specs.world.World.{size};
 ghost use Rattle.jc_table.specs.Ids.{name_at, names};

@@ -4,9 +4,9 @@ use Rattle.std.specs.Prelude.{is_none}
 use Rattle.std.proofs.lemmas.Bool.{and_parts}
 use Rattle.jc_facts.specs.declared.client.ClientClass.{ClientClass}
 use Rattle.jc_facts.specs.Names.{Bytes, same}
-use Rattle.jc_facts.specs.client.Clients.{IsValidClient, differ_by_name, facts_of}
+use Rattle.jc_facts.specs.client.Valid.{IsValidClient, facts_of}
+use Rattle.jc_facts.specs.world.World.{differ_by_name, class_named}
 use Rattle.jc_facts.specs.file.Valid.{IsValidClass}
-use Rattle.jc_facts.specs.world.World.{class_named}
 use Rattle.jc_lemmas.proofs.Listed.{EachOf}
 use Rattle.jc_lemmas.proofs.Options.{none_where}
 use Rattle.jc_facts.proofs.Apart.{ApartRec}

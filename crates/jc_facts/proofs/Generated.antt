@@ -14,9 +14,8 @@ use Rattle.jc_facts.specs.Flags.{static_flag}
 use Rattle.jc_facts.specs.Names.{Bytes, same, object_name}
 use Rattle.jc_facts.specs.file.Rules.{field_flags_fit, method_flags_fit, method_descriptor_fits}
 use Rattle.jc_facts.specs.file.Valid.{IsValidClass, is_valid_name, field_is_valid, method_is_valid, keys_differ, keys_of}
-use Rattle.jc_facts.specs.world.World.{class_named}
-use Rattle.jc_facts.specs.client.Clients.{differ_by_name}
-use Rattle.jc_facts.specs.rule.OpenActs.{least}
+use Rattle.jc_facts.specs.world.World.{class_named, differ_by_name}
+use Rattle.jc_facts.specs.ByName.{least}
 use Rattle.jc_facts.specs.Generated.{member, public_init, digit, four_digits, class_number, superclass_number, field_f, method_m, method_p, numbered_class, old_class, new_flags, new_methods, new_class, object_class, IsReleaseOver, AreReleases}
 use Rattle.jc_facts.proofs.Same.{same_is}
 

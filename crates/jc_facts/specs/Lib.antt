@@ -1,6 +1,9 @@
 pub mod Names
 pub mod Flags
 pub mod KeyOrder
+pub mod Records
+pub mod Orders
+pub mod Verdicts
 pub mod Seen
 pub mod Options
 pub mod ByName
@@ -8,10 +11,8 @@ pub mod Generated
 pub mod file
 pub mod world
 pub mod client
-pub mod rule
 pub mod print
 pub mod code
 pub mod written
-pub mod plan
 pub mod Exactly
 pub mod steps

@@ -2,7 +2,7 @@
 --     same x y      the two names are equal
 --     package_name x      the name up to its last '/', or nothing (JVMS 5.3)
 --     is_key k m      the member has this name and descriptor (JVMS 4.5, 4.6)
-use Rattle.std.specs.Prelude.{ℕ, Bool, cond, List, [], ◌∷◌, ◌==◌, ◌&&◌, codes}
+use Rattle.std.specs.Prelude.{ℕ, Bool, cond, List, [], ◌∷◌, ◌==◌, ◌&&◌, codes, false}
 use Rattle.std.specs.Str.{bytes_eq}
 use Rattle.std.specs.List.{list_any}
 pub use Rattle.jc_desc.specs.Names.{is_init_name, is_clinit_name}
@@ -41,6 +41,11 @@ same_key k l = same k.name l.name && same k.descriptor l.descriptor
 -- the name and the descriptor of the member
 abbrev pub key_of : Member → Key
 key_of m = record { name = m.name; descriptor = m.descriptor }
+
+-- a method's descriptor begins with a parenthesis
+abbrev pub is_descriptor_of_method : Bytes → Bool
+is_descriptor_of_method [] = false
+is_descriptor_of_method (b ∷ bs) = b == 0x28
 
 -- the root of all classes (JVMS 4.1)
 abbrev pub object_name : Bytes

@@ -1,7 +1,7 @@
 pub mod Acts
 pub mod Forms
 pub mod Outcome
-pub mod Clients
-pub mod Meets
-pub mod Kept
+pub mod Valid
+pub mod Allowed
+pub mod Seats
 pub mod Linked

@@ -1,4 +1,5 @@
 pub mod World
+pub mod Root
 pub mod Modules
 pub mod Search
 pub mod Hierarchy
@@ -6,7 +7,7 @@ pub mod Access
 pub mod Overriding
 pub mod Loading
 pub mod Lookup
+pub mod Inheritance
 pub mod Types
 pub mod Assignment
 pub mod Mentioned
-pub mod Pairs

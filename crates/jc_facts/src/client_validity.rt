@@ -5,7 +5,7 @@ ghost use Rattle.jc_facts.specs.Names.{same};
 ghost use Rattle.jc_desc.specs.Names.{is_init_name, is_clinit_name};
 ghost use Rattle.jc_facts.specs.client.Acts.{is_act_on_field};
 ghost use Rattle.jc_facts.specs.Options.{some_and};
-ghost use Rattle.jc_facts.specs.client.Clients.{IsValidClient, is_item_of};
+ghost use Rattle.jc_facts.specs.client.Valid.{IsValidClient, is_item_of};
 
 use crate::act::Act;
 use crate::class_facts::ClassFacts;

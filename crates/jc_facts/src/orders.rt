@@ -3,7 +3,7 @@ ghost use Rattle.std.specs.Prelude.{◌≡◌, ◌≢◌};
 ghost use Rattle.std.specs.declared.cmp.Ordering.TheVariants.{Equal};
 ghost use Rattle.jc_facts.specs.declared.finding.Finding.{Finding as FindingView};
 ghost use Rattle.jc_facts.specs.declared.verdict.Collision.{Collision as CollisionView};
-ghost use Rattle.jc_facts.specs.rule.Orders.{finding_order, collision_order};
+ghost use Rattle.jc_facts.specs.Orders.{finding_order, collision_order};
 
 use crate::finding::Finding;
 use crate::verdict::Collision;

@@ -8,10 +8,13 @@ use Rattle.std.proofs.lemmas.List.Elements.{recursion_from_All, All-weaker, All-
 use Rattle.jc_facts.specs.declared.client.ClientClass.{ClientClass}
 use Rattle.jc_facts.specs.declared.client.Item.TheVariants as item
 use Rattle.jc_facts.specs.declared.verdict.Verdict.{Verdict}
-use Rattle.jc_facts.specs.client.Clients.{IsValidClient, IsInScope, CallsSuper, Keeps, facts_of, is_in_reach, differ_by_name}
+use Rattle.jc_facts.specs.client.Valid.{IsValidClient, facts_of}
+use Rattle.jc_promises.specs.client.Scope.{IsInScope, CallsSuper}
+use Rattle.jc_promises.specs.client.Keeps.{Keeps}
+use Rattle.jc_promises.specs.client.Reach.{is_in_reach}
+use Rattle.jc_facts.specs.world.World.{differ_by_name, World, with_clients}
 use Rattle.jc_facts.specs.world.Loading.{load_fault}
-use Rattle.jc_facts.specs.world.Pairs.{IsPair}
-use Rattle.jc_facts.specs.world.World.{World, with_clients}
+use Rattle.jc_promises.specs.Pairs.{IsPair}
 use Rattle.jc_lemmas.proofs.Options.{none_where}
 use Rattle.jc_sound.proofs.SoundnessLaws.{keeps}
 use Rattle.jc_rules.specs.Verdicts.{KeepsAll}

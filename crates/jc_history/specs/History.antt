@@ -2,8 +2,9 @@
 use Rattle.std.specs.Prelude.{◌≤◌, ◌<◌, ℕ, List, Option, Some, None}
 use Rattle.std.specs.List.{All, Contains}
 use Rattle.jc_facts.specs.declared.verdict.Verdict.{Verdict}
-use Rattle.jc_facts.specs.rule.Verdict.{IsVerdict, count_of}
-use Rattle.jc_facts.specs.world.Pairs.{AreOfOneRun, IsPair}
+use Rattle.jc_promises.specs.rule.Verdict.{IsVerdict}
+use Rattle.jc_facts.specs.Verdicts.{count_of}
+use Rattle.jc_promises.specs.Pairs.{AreOfOneRun, IsPair}
 use Rattle.jc_facts.specs.world.World.{World}
 use Rattle.jc_history.specs.Row.{Step, steps_of, AreVerdicts, KeepsRow}
 

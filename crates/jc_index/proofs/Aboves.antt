@@ -9,8 +9,7 @@ use Rattle.std.proofs.lemmas.List.Elements.{All-contains, All-from_recursion, Al
 use Rattle.jc_facts.specs.declared.class_facts.ClassFacts.{ClassFacts}
 use Rattle.jc_facts.specs.Names.{Bytes, same}
 use Rattle.jc_facts.specs.Options.{some_and, and_then}
-use Rattle.jc_facts.specs.world.World.{World, find_class, size, classes}
-use Rattle.jc_facts.specs.client.Clients.{differ_by_name}
+use Rattle.jc_facts.specs.world.World.{World, find_class, size, classes, differ_by_name}
 use Rattle.jc_facts.specs.world.Search.{descend}
 use Rattle.jc_facts.specs.world.Hierarchy.{chain, chain_step, of_super, each, interfaces_step, with_interfaces, names_in, interfaces_of, superinterfaces, is_superinterface}
 use Rattle.jc_facts.proofs.Same.{same_is, same_itself}

@@ -3,8 +3,7 @@ use Rattle.std.proofs.Common.{◌≡◌, ◌<◌, ◌++◌, ℕ, true, List, len
 use Rattle.std.specs.Prelude.{nat_lt, IsTrue}
 use Rattle.std.proofs.lemmas.Bool.{ltb-true}
 use Rattle.jc_facts.specs.declared.class_facts.ClassFacts.{ClassFacts}
-use Rattle.jc_facts.specs.client.Clients.{differ_by_name}
-use Rattle.jc_facts.specs.world.World.{World, classes, size}
+use Rattle.jc_facts.specs.world.World.{differ_by_name, World, classes, size}
 use Rattle.jc_index.specs.Ids.{name_at, id_of, name_or, name_in}
 use Rattle.jc_index.proofs.InSide.{class-front}
 use Rattle.jc_index.proofs.Numbers.{id_of-name_at}

@@ -10,8 +10,7 @@ use Rattle.jc_facts.specs.declared.key.Key.{Key}
 use Rattle.jc_facts.specs.Names.{Bytes, same}
 use Rattle.jc_facts.specs.Flags.{private_flag, static_flag, abstract_flag}
 use Rattle.jc_facts.specs.Options.{and_then}
-use Rattle.jc_facts.specs.world.World.{World, find_class, size, classes, own_method_of, found_in, DeclaredMember}
-use Rattle.jc_facts.specs.client.Clients.{differ_by_name}
+use Rattle.jc_facts.specs.world.World.{World, find_class, size, classes, own_method_of, found_in, DeclaredMember, differ_by_name}
 use Rattle.jc_facts.specs.world.Hierarchy.{superinterfaces, is_superinterface}
 use Rattle.jc_facts.specs.world.Loading.{load_fault}
 use Rattle.jc_facts.specs.world.Lookup.{if_inheritable, declared_by, is_maximal, is_concrete, only_or, superinterface_choices}

@@ -6,12 +6,11 @@ use Rattle.std.proofs.lemmas.Option.{slice_get_cases}
 use Rattle.jc_facts.specs.declared.class_facts.ClassFacts.{ClassFacts}
 use Rattle.jc_facts.specs.Names.{Bytes}
 use Rattle.jc_facts.specs.world.Search.{supers}
-use Rattle.jc_facts.specs.world.World.{World, Modules, OneModule, Several, classes, size, find_class, class_named}
+use Rattle.jc_facts.specs.world.World.{World, Modules, OneModule, Several, classes, size, find_class, class_named, differ_by_name}
 use Rattle.jc_facts.specs.world.Modules.{module_by, module_of}
 use Rattle.jc_worlds.proofs.Absent.{class_named-back}
 use Rattle.jc_lemmas.proofs.Options.{none_from}
 use Rattle.std.proofs.Math.Seq.{take-append_seam}
-use Rattle.jc_facts.specs.client.Clients.{differ_by_name}
 use Rattle.jc_index.specs.Ids.{names_of, names, name_at, place_of, id_of, name_or, name_in}
 use Rattle.jc_index.specs.steps.Order.{names_at}
 use Rattle.jc_index.specs.steps.NamedClasses.{AreNamedClasses}

@@ -8,12 +8,11 @@ use Rattle.std.proofs.lemmas.List.Elements.{All-contains, All-take, Contains-get
 use Rattle.jc_lemmas.proofs.Listed.{EachOf, EachOf-map, none, any_passes}
 use Rattle.jc_facts.specs.declared.class_facts.ClassFacts.{ClassFacts}
 use Rattle.jc_facts.specs.Names.{Bytes}
-use Rattle.jc_facts.specs.client.Clients.{differ_by_name}
+use Rattle.jc_facts.specs.world.World.{differ_by_name, World, side, classes, size, find_class, class_named}
 use Rattle.jc_facts.specs.file.Valid.{IsValidClass}
-use Rattle.jc_facts.specs.rule.OpenActs.{least}
+use Rattle.jc_facts.specs.ByName.{least}
 use Rattle.jc_facts.specs.world.Loading.{load_fault}
 use Rattle.jc_facts.specs.world.Search.{supers}
-use Rattle.jc_facts.specs.world.World.{World, side, classes, size, find_class, class_named}
 use Rattle.jc_facts.proofs.World.{class_named-first}
 use Rattle.jc_worlds.specs.Agreement.{SeeAlike}
 use Rattle.jc_worlds.proofs.Agree.{Agree, load_fault-agree}

@@ -9,8 +9,7 @@ use Rattle.std.proofs.lemmas.List.Sorted.{IsPermutation-append}
 use Rattle.jc_lemmas.proofs.Listed.{EachOf, EachOf-append}
 use Rattle.jc_facts.specs.declared.class_facts.ClassFacts.{ClassFacts}
 use Rattle.jc_facts.specs.Names.{Bytes}
-use Rattle.jc_facts.specs.client.Clients.{differ_by_name}
-use Rattle.jc_facts.specs.world.World.{World, classes}
+use Rattle.jc_facts.specs.world.World.{differ_by_name, World, classes}
 use Rattle.jc_index.specs.Ids.{names_of, name_or, name_in}
 use Rattle.jc_index.specs.Sides.{IsSide}
 use Rattle.jc_index.specs.steps.Order.{names_at, IsPlace, IsOrder, place_after}

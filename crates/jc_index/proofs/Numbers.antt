@@ -11,8 +11,7 @@ use Rattle.jc_facts.specs.Names.{Bytes, same}
 use Rattle.jc_facts.specs.Options.{and_then}
 use Rattle.jc_facts.specs.Exactly.{name_order, Rises}
 use Rattle.jc_facts.specs.Exactly.{Before, NamesRise}
-use Rattle.jc_facts.specs.world.World.{World, classes, size, find_class, class_named}
-use Rattle.jc_facts.specs.client.Clients.{differ_by_name}
+use Rattle.jc_facts.specs.world.World.{World, classes, size, find_class, class_named, differ_by_name}
 use Rattle.jc_lemmas.proofs.Listed.{EachOf, EachOf-map, here, there, none, cases, each_in}
 use Rattle.jc_facts.proofs.OneList.{not_self}
 use Rattle.jc_facts.proofs.Same.{same_is, same_itself}

@@ -11,8 +11,8 @@ use Rattle.jc_facts.specs.declared.class_facts.ClassFacts.{ClassFacts}
 use Rattle.jc_facts.specs.Names.{Bytes}
 use Rattle.jc_facts.specs.Exactly.{name_order, Rises}
 use Rattle.jc_facts.specs.Exactly.{Before, NamesRise}
-use Rattle.jc_facts.specs.client.Clients.{differ_by_name}
-use Rattle.jc_facts.specs.rule.OpenActs.{least, lower}
+use Rattle.jc_facts.specs.world.World.{differ_by_name}
+use Rattle.jc_facts.specs.ByName.{least, lower}
 use Rattle.jc_lemmas.proofs.Listed.{EachOf, EachOf-map}
 use Rattle.jc_facts.proofs.Same.{same_is}
 use Rattle.jc_index.specs.Ids.{insert, names_of}

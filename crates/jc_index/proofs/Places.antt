@@ -13,8 +13,7 @@ use Rattle.jc_facts.specs.declared.class_facts.ClassFacts.{ClassFacts}
 use Rattle.jc_facts.specs.Names.{Bytes, same}
 use Rattle.jc_facts.specs.Exactly.{name_order, Rises}
 use Rattle.jc_facts.specs.Exactly.{Before, NamesRise}
-use Rattle.jc_facts.specs.world.World.{class_named}
-use Rattle.jc_facts.specs.client.Clients.{differ_by_name}
+use Rattle.jc_facts.specs.world.World.{class_named, differ_by_name}
 use Rattle.jc_lemmas.proofs.Listed.{EachOf, here, there, none, cases}
 use Rattle.jc_facts.proofs.OneList.{same_list}
 use Rattle.jc_facts.proofs.Apart.{Apart, ApartRec, rec-Apart, Apart-permutation, NamesRise-sorted}

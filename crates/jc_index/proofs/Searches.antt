@@ -5,9 +5,8 @@ use Rattle.std.specs.Option.{option_copied}
 use Rattle.std.proofs.lemmas.List.{append-nil, at_drop_more, take_rest}
 use Rattle.jc_facts.specs.declared.class_facts.ClassFacts.{ClassFacts}
 use Rattle.jc_facts.specs.Names.{Bytes, same}
-use Rattle.jc_facts.specs.world.World.{side, find_class, class_named}
+use Rattle.jc_facts.specs.world.World.{side, find_class, class_named, differ_by_name}
 use Rattle.jc_facts.specs.Options.{or_else}
-use Rattle.jc_facts.specs.client.Clients.{differ_by_name}
 
 named-both : (xs ys : List ClassFacts) (x : Bytes) → class_named (xs ++ ys) x ≡ or_else (class_named xs x) (class_named ys x)
 unfolding class_named or_else

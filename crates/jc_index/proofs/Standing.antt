@@ -8,9 +8,8 @@ use Rattle.jc_lemmas.proofs.Listed.{each_in}
 use Rattle.jc_facts.specs.declared.class_facts.ClassFacts.{ClassFacts}
 use Rattle.jc_facts.specs.Names.{Bytes, same, is_name_among}
 use Rattle.jc_facts.specs.Options.{and_then}
-use Rattle.jc_facts.specs.client.Clients.{differ_by_name}
+use Rattle.jc_facts.specs.world.World.{differ_by_name, class_named}
 use Rattle.jc_facts.specs.world.Search.{supers}
-use Rattle.jc_facts.specs.world.World.{class_named}
 use Rattle.jc_facts.proofs.Same.{same_is, same_itself}
 use Rattle.jc_index.specs.Ids.{names_of, place_of, name_in}
 use Rattle.jc_index.specs.steps.Order.{names_at, IsOrder, AreNumbers}

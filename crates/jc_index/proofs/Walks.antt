@@ -5,8 +5,7 @@ use Rattle.std.specs.List.{list_any}
 use Rattle.std.proofs.lemmas.Bool.{eqb-true, eq-eqb, or_cases, or_left, or_right}
 use Rattle.std.proofs.lemmas.List.Elements.{recursion_from_All}
 use Rattle.jc_facts.specs.Names.{Bytes}
-use Rattle.jc_facts.specs.world.World.{World, size, classes}
-use Rattle.jc_facts.specs.client.Clients.{differ_by_name}
+use Rattle.jc_facts.specs.world.World.{World, size, classes, differ_by_name}
 use Rattle.jc_facts.specs.world.Hierarchy.{is_superinterface}
 use Rattle.jc_lemmas.proofs.Listed.{EachOf}
 use Rattle.jc_index.specs.Ids.{name_at, superclass_of}

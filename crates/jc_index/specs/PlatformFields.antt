@@ -2,7 +2,7 @@
 use Rattle.std.specs.Prelude.{◌≡◌, ◌≤◌, None, length}
 use Rattle.jc_index.specs.LoadOrder.{AreLoads, AreAllLoads}
 use Rattle.jc_index.specs.Root.{fault_of_root}
-use Rattle.jc_index.specs.declared.limits.TheConstants.{MAX_SIDE_CLASSES}
+use Rattle.jc_facts.specs.declared.limits.TheConstants.{MAX_SIDE_CLASSES}
 use Rattle.jc_index.specs.declared.platform.Platform.TheInside.{Inside}
 
 -- the places are of classes that load without any release, of all of them where the platform may have a side

@@ -2,7 +2,7 @@
 use Rattle.std.specs.Prelude.{◌≤◌, ◌+◌, length, take, drop}
 use Rattle.jc_facts.specs.world.World.{World}
 use Rattle.jc_index.specs.SideModules.{modules_of}
-use Rattle.jc_index.specs.declared.limits.TheConstants.{MAX_SIDE_CLASSES}
+use Rattle.jc_facts.specs.declared.limits.TheConstants.{MAX_SIDE_CLASSES}
 use Rattle.jc_index.specs.declared.side.Side.TheInside.{Inside}
 
 -- of the classes beside the platform the first ones are the release's, and the others are clients

@@ -1,15 +1,14 @@
 //! The interfaces above each class.
 ghost use Rattle.std.specs.Prelude.{◌≡◌, ◌<◌, IfOk, IsTrue};
 ghost use Rattle.std.specs.List.{filter_map};
-ghost use Rattle.jc_facts.specs.world.World.{size, classes};
-ghost use Rattle.jc_facts.specs.client.Clients.{differ_by_name};
+ghost use Rattle.jc_facts.specs.world.World.{size, classes, differ_by_name};
 ghost use Rattle.jc_index.specs.Above.{AreRows};
 ghost use Rattle.jc_index.specs.steps.Named.{edges_of};
 
+use crate::class_lists::ClassLists;
 use crate::ids::ClassId;
 use crate::index::Index;
 use crate::parts::all_led_to;
-use crate::class_lists::ClassLists;
 use jc_base::items::Items;
 use std::alloc::{AllocError, Global};
 

@@ -1,8 +1,7 @@
 //! The steps of the lookup on superinterfaces (JVMS 5.4.3.3).
 ghost use Rattle.std.specs.Prelude.{◌≡◌, ◌<◌, None, IsTrue};
 ghost use Rattle.std.specs.List.{All};
-ghost use Rattle.jc_facts.specs.world.World.{size, classes};
-ghost use Rattle.jc_facts.specs.client.Clients.{differ_by_name};
+ghost use Rattle.jc_facts.specs.world.World.{size, classes, differ_by_name};
 ghost use Rattle.jc_facts.specs.world.Lookup.{superinterface_choices};
 ghost use Rattle.jc_facts.specs.world.Loading.{load_fault};
 ghost use Rattle.jc_index.specs.Ids.{name_at};

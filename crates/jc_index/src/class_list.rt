@@ -4,8 +4,7 @@ ghost use Rattle.std.specs.List.{list_any};
 ghost use Rattle.jc_facts.specs.Names.{same, is_name_among, package_name};
 ghost use Rattle.jc_facts.specs.world.Mentioned.{all_mentions};
 ghost use Rattle.jc_facts.specs.world.Search.{supers};
-ghost use Rattle.jc_facts.specs.world.World.{class_named};
-ghost use Rattle.jc_facts.specs.client.Clients.{differ_by_name};
+ghost use Rattle.jc_facts.specs.world.World.{class_named, differ_by_name};
 ghost use Rattle.jc_index.specs.Ids.{place_of};
 ghost use Rattle.jc_index.specs.steps.Order.{IsOrder, names_at};
 

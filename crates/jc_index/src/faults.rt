@@ -18,6 +18,7 @@ use crate::ids::ClassId;
 use crate::index::Index;
 use crate::overriding::overrides_final;
 use crate::side_finals::SideFinals;
+use crate::supers::{super_at, super_count};
 use crate::supertypes::{own_interfaces_fault, own_superclass_fault};
 use jc_base::name::Name;
 use jc_facts::class_facts::ClassFacts;
@@ -81,29 +82,6 @@ fn known_of(index: &Index, states: &[State], class: Option<ClassId>) -> Named
             State::Known(fault) => Named::Known(fault),
             State::Fresh | State::Entered => Named::Unknown(id),
         },
-    }
-}
-
-// How many names the class has above itself: its superclass and its interfaces.
-pub(crate) fn super_count(class: &ClassFacts) -> usize
-    ensures { result ≡ length (supers class.now) }
-{
-    let interfaces = class.interfaces.as_slice().len();
-    match &class.superclass {
-        Some(_) => 1 + interfaces,
-        None => interfaces,
-    }
-}
-
-// One of these names, the superclass first.
-pub(crate) fn super_at(class: &ClassFacts, at: usize) -> &Name
-    requires { at < length (supers class.now) }
-    ensures { slice_get (supers class.now) at ≡ Some result.now }
-{
-    let interfaces = class.interfaces.as_slice();
-    match &class.superclass {
-        Some(name) => { if at == 0 { name } else { &interfaces[at - 1] } }
-        None => &interfaces[at],
     }
 }
 

@@ -8,9 +8,9 @@ ghost use Rattle.jc_index.specs.Ids.{name_at, id_of, superclass_of};
 ghost use Rattle.jc_index.specs.Sides.{IsSide};
 
 use crate::above::interfaces_above;
+use crate::class_lists::ClassLists;
 use crate::ids::ClassId;
 use crate::index::Index;
-use crate::class_lists::ClassLists;
 use jc_facts::class_facts::ClassFacts;
 use std::alloc::{AllocError, Global};
 use std::marker::Model;

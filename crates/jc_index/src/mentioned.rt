@@ -8,10 +8,10 @@ ghost use Rattle.jc_index.specs.Mentioned.{mentions_front};
 ghost use Rattle.jc_index.specs.steps.Adding.{Adds};
 ghost use Rattle.jc_index.specs.MentionedNames.{AreMentionedNames};
 
-use crate::faults::super_count;
 use crate::names::NumberedNames;
 use crate::packages::package_of;
 use crate::side::Side;
+use crate::supers::super_count;
 use jc_base::name::Name;
 use jc_facts::class_facts::ClassFacts;
 use std::alloc::{AllocError, Global};

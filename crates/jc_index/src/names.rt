@@ -1,7 +1,7 @@
 //! Names and their numbers.
 ghost use Rattle.std.specs.Prelude.{◌≡◌, ◌++◌, ◌∷◌, [], false, IfOk, OnOk, IsTrue};
 ghost use Rattle.jc_facts.specs.Names.{is_name_among};
-ghost use Rattle.jc_facts.specs.client.Clients.{differ_by_name};
+ghost use Rattle.jc_facts.specs.world.World.{differ_by_name};
 ghost use Rattle.jc_index.specs.Ids.{place_of};
 ghost use Rattle.jc_index.specs.steps.Adding.{Adds};
 ghost use Rattle.jc_index.specs.steps.Order.{names_at};

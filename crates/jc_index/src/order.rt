@@ -4,11 +4,10 @@ ghost use Rattle.std.specs.List.{All};
 ghost use Rattle.std.specs.List.Sorted.{IsPermutation, IsSortedBy};
 ghost use Rattle.std.specs.Ordering.{is_lt};
 ghost use Rattle.jc_facts.specs.declared.class_facts.ClassFacts.{ClassFacts as FactsOf};
-ghost use Rattle.jc_facts.specs.client.Clients.{differ_by_name};
-ghost use Rattle.jc_facts.specs.world.World.{classes};
+ghost use Rattle.jc_facts.specs.world.World.{differ_by_name, classes};
 ghost use Rattle.jc_facts.specs.Exactly.{name_order};
 ghost use Rattle.jc_index.specs.Sides.{IsSide};
-ghost use Rattle.jc_index.specs.declared.limits.TheConstants.{MAX_SIDE_CLASSES};
+ghost use Rattle.jc_facts.specs.declared.limits.TheConstants.{MAX_SIDE_CLASSES};
 ghost use Rattle.jc_index.specs.steps.Order.{IsOrder, IsPlace, AreNumbers, names_at, place_after};
 
 use crate::side::Side;

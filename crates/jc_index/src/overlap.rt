@@ -1,9 +1,8 @@
 //! Names that a platform and a release both declare.
 ghost use Rattle.std.specs.Prelude.{◌≡◌, cond, Some, is_some, IfOk, IsTrue};
 ghost use Rattle.std.specs.Option.{option_copied};
-ghost use Rattle.jc_facts.specs.client.Clients.{differ_by_name};
-ghost use Rattle.jc_facts.specs.rule.OpenActs.{least, lower};
-ghost use Rattle.jc_facts.specs.world.World.{class_named};
+ghost use Rattle.jc_facts.specs.world.World.{differ_by_name, class_named};
+ghost use Rattle.jc_facts.specs.ByName.{least, lower};
 ghost use Rattle.jc_index.specs.Sides.{overlap_of};
 
 use crate::class_list::ClassList;

@@ -5,10 +5,10 @@ ghost use Rattle.std.specs.List.{All};
 ghost use Rattle.jc_index.specs.steps.Reach.{next_of, AllLedTo};
 ghost use Rattle.jc_index.specs.steps.Parts.{LiesIn, Extends, IsLonger, IsPartOf, IsMade, StayMade, AreParts};
 
+use crate::class_lists::ClassLists;
 use crate::ids::ClassId;
 use crate::part::Part;
 use crate::reach::led_to;
-use crate::class_lists::ClassLists;
 use jc_base::items::Items;
 use std::alloc::{AllocError, Global};
 use std::collections::BTreeSet;

@@ -3,8 +3,7 @@ ghost use Rattle.std.specs.Prelude.{◌≡◌, ◌↔◌, IfOk, IsTrue};
 ghost use Rattle.std.specs.Option.{option_copied};
 ghost use Rattle.std.specs.List.{All};
 ghost use Rattle.jc_facts.specs.file.Valid.{IsValidClass};
-ghost use Rattle.jc_facts.specs.client.Clients.{differ_by_name};
-ghost use Rattle.jc_facts.specs.world.World.{class_named, find_class, side};
+ghost use Rattle.jc_facts.specs.world.World.{differ_by_name, class_named, find_class, side};
 
 use jc_facts::class_facts::ClassFacts;
 use jc_facts::validity::is_valid;

@@ -2,23 +2,22 @@
 //! once.
 ghost use Rattle.std.specs.Prelude.{◌≡◌, ◌<◌, ◌≤◌, [], map, length, None, IfOk, IsTrue};
 ghost use Rattle.std.specs.List.{All};
-ghost use Rattle.jc_facts.specs.client.Clients.{differ_by_name};
+ghost use Rattle.jc_facts.specs.world.World.{differ_by_name, classes, side, size};
 ghost use Rattle.jc_facts.specs.file.Valid.{IsValidClass};
-ghost use Rattle.jc_facts.specs.world.World.{classes, side, size};
 ghost use Rattle.jc_index.specs.Ids.{name_at, name_in};
 ghost use Rattle.jc_index.specs.LoadOrder.{AreLoads, AreAllLoads};
 ghost use Rattle.jc_index.specs.Root.{fault_of_root};
-ghost use Rattle.jc_index.specs.declared.limits.TheConstants.{MAX_SIDE_CLASSES};
+ghost use Rattle.jc_facts.specs.declared.limits.TheConstants.{MAX_SIDE_CLASSES};
 
 use crate::class_list::ClassList;
 use crate::faults::{Loading, load_all};
 use crate::ids::ClassId;
 use crate::index::Index;
-use crate::limits::MAX_SIDE_CLASSES;
 use crate::root::root_fault;
 use crate::shared_platform::SharedPlatform;
 use crate::side::Side;
 use jc_facts::class_facts::ClassFacts;
+use jc_facts::limits::MAX_SIDE_CLASSES;
 use std::alloc::{AllocError, Global};
 use std::marker::Model;
 

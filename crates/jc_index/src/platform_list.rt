@@ -5,9 +5,9 @@ ghost use Rattle.jc_index.specs.steps.PlacesAbove.{places_above as places_of_sup
 ghost use Rattle.jc_index.specs.steps.Walking.{HavePlatformFinals};
 
 use crate::class_list::ClassList;
-use crate::faults::{super_at, super_count};
 use crate::final_keys::FinalKeys;
 use crate::finals::platform_finals;
+use crate::supers::{super_at, super_count};
 use jc_base::items::Items;
 use jc_facts::class_facts::ClassFacts;
 use std::alloc::{AllocError, Global};

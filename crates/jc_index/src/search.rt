@@ -10,10 +10,10 @@ ghost use Rattle.jc_facts.specs.world.Overriding.{reaches_final, overrides_some_
 ghost use Rattle.jc_facts.specs.world.Loading.{fault_at, fault_of_itself};
 ghost use Rattle.jc_index.specs.Ids.{name_at};
 
-use crate::faults::{super_at, super_count};
 use crate::ids::ClassId;
 use crate::index::Index;
 use crate::overriding::{Method, meets_final, number_above};
+use crate::supers::{super_at, super_count};
 use crate::supertypes::{own_interfaces_fault, own_superclass_fault};
 use jc_base::name::Name;
 use jc_desc::names::is_initializer;

@@ -1,13 +1,12 @@
 //! The classes of a platform with those of one release of a library, and with those of clients.
 ghost use Rattle.std.specs.Prelude.{◌≡◌, ◌≤◌, ◌<◌, ◌+◌, ◌++◌, ◌^◌, Some, is_some, length, nat_lt, option_map, slice_get, take, drop};
-ghost use Rattle.jc_facts.specs.client.Clients.{is_named_above};
-ghost use Rattle.jc_facts.specs.world.Mentioned.{all_mentions};
+ghost use Rattle.jc_facts.specs.world.Mentioned.{is_named_above, all_mentions};
 ghost use Rattle.jc_facts.specs.world.Modules.{module_by, module_of, in_same_module, is_visible_from};
 ghost use Rattle.jc_facts.specs.world.World.{side, modular_side, with_clients, classes, class_named};
 ghost use Rattle.jc_index.specs.Ids.{place_of};
 ghost use Rattle.jc_index.specs.Mentioned.{is_package};
 ghost use Rattle.jc_index.specs.SideModules.{modules_of, module_view};
-ghost use Rattle.jc_index.specs.declared.limits.TheConstants.{MAX_SIDE_CLASSES};
+ghost use Rattle.jc_facts.specs.declared.limits.TheConstants.{MAX_SIDE_CLASSES};
 ghost use Rattle.jc_index.specs.steps.Order.{names_at};
 ghost use Rattle.jc_index.specs.steps.PlacesAbove.{IsAbove};
 ghost use Rattle.jc_index.specs.steps.Walking.{HavePlatformFinals};

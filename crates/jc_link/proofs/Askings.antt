@@ -13,7 +13,7 @@ use Rattle.jc_facts.specs.declared.outcome.Outcome.{Outcome}
 use Rattle.jc_facts.specs.world.World.{World}
 use Rattle.jc_facts.specs.client.Acts.{is_act_on_field}
 use Rattle.jc_facts.specs.client.Linked.{client_outcomes, all_outcomes}
-use Rattle.jc_facts.specs.client.Clients.{IsValidClient, is_item_of}
+use Rattle.jc_facts.specs.client.Valid.{IsValidClient, is_item_of}
 use Rattle.jc_lemmas.proofs.Listed.{EachOf}
 use Rattle.jc_link.specs.steps.Asked.{names_no_clinit, asks_no_clinit, asked_of, outcomes_of_asked}
 

@@ -4,7 +4,8 @@ use Rattle.std.specs.Prelude.{is_some, is_none, nat_le}
 use Rattle.std.specs.Str.{is_utf8}
 use Rattle.jc_facts.specs.Options.{or_else, some_where}
 use Rattle.jc_facts.specs.world.World.{find_class}
-use Rattle.jc_facts.specs.client.Clients.{is_named_above, has_package, is_allowed_name}
+use Rattle.jc_facts.specs.world.Mentioned.{is_named_above}
+use Rattle.jc_facts.specs.client.Allowed.{has_package, is_allowed_name}
 use Rattle.jc_link.specs.Refusals.{name_fault, NamesAreAllowed}
 use Rattle.jc_link.specs.declared.refusal.ClientPart.TheVariants as parts
 

@@ -9,8 +9,8 @@ use Rattle.std.proofs.lemmas.List.Sorted.{Contains-permutation, IsPermutation-sy
 use Rattle.jc_facts.specs.declared.client.ClientClass.{ClientClass}
 use Rattle.jc_facts.specs.declared.class_facts.ClassFacts.{ClassFacts}
 use Rattle.jc_facts.specs.Exactly.{name_order}
-use Rattle.jc_facts.specs.world.World.{side, with_clients}
-use Rattle.jc_facts.specs.client.Clients.{differ_by_name, facts_of, IsValidClient}
+use Rattle.jc_facts.specs.world.World.{side, with_clients, differ_by_name}
+use Rattle.jc_facts.specs.client.Valid.{facts_of, IsValidClient}
 use Rattle.jc_facts.specs.client.Linked.{in_order}
 use Rattle.jc_facts.proofs.Apart.{Apart, rec-Apart, Apart-permutation, NamesRise-sorted}
 use Rattle.jc_facts.proofs.Clients.{clients_apart, facts_length, name_of}

@@ -4,12 +4,14 @@
 --     MayLink P R cs      nothing refuses them
 use Rattle.std.specs.Prelude.{not, List, [], ◌∷◌, length, Option, None, Some, is_some, is_none, option_map, nat_le, ◌≡◌}
 use Rattle.std.specs.Str.{is_utf8}
+use Rattle.jc_facts.specs.declared.limits.TheConstants.{MAX_CLASS_NAME}
 use Rattle.jc_facts.specs.declared.class_facts.ClassFacts.{ClassFacts}
 use Rattle.jc_facts.specs.declared.client.ClientClass.{ClientClass}
 use Rattle.jc_facts.specs.Names.{Bytes}
 use Rattle.jc_facts.specs.Options.{or_else, some_where}
 use Rattle.jc_facts.specs.world.World.{World, side, find_class}
-use Rattle.jc_facts.specs.client.Clients.{is_named_above, has_package, is_allowed_name}
+use Rattle.jc_facts.specs.world.Mentioned.{is_named_above}
+use Rattle.jc_facts.specs.client.Allowed.{has_package, is_allowed_name}
 use Rattle.jc_facts.specs.client.Linked.{in_order}
 use Rattle.jc_table.specs.Root.{fault_of_root}
 use Rattle.jc_table.specs.Sides.{overlap_of}
@@ -24,7 +26,7 @@ name_fault W x =
     or_else (some_where (is_some (find_class W x)) parts.Declared)
     (or_else (some_where (is_named_above W x) parts.Super)
     (or_else (some_where (has_package W x) parts.Package)
-    (or_else (some_where (not (nat_le (length x) 4090)) parts.Length)
+    (or_else (some_where (not (nat_le (length x) MAX_CLASS_NAME)) parts.Length)
     (some_where (not (is_utf8 x)) parts.Encoding))))
 
 -- the name with the part

@@ -1,6 +1,6 @@
 //! What is asked of clients, apart from their records.
 ghost use Rattle.std.specs.Prelude.{◌≡◌, ◌++◌, map, IfOk};
-ghost use Rattle.jc_facts.specs.client.Clients.{facts_of};
+ghost use Rattle.jc_facts.specs.client.Valid.{facts_of};
 ghost use Rattle.jc_link.specs.steps.Asked.{asked_of};
 
 use jc_base::items::Items;

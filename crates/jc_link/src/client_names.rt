@@ -12,13 +12,11 @@ use crate::refusal::ClientPart;
 use jc_base::name::Name;
 use jc_facts::class_facts::ClassFacts;
 use jc_facts::client::ClientClass;
+use jc_facts::limits::MAX_CLASS_NAME;
 use jc_table::name_set::NameSet;
 use jc_table::packages::package_of;
 use std::alloc::{AllocError, Global};
 use std::str;
-
-// The most bytes that the name of a client may have.
-const MOST_BYTES: usize = 4090;
 
 // The names of clients, and the packages that they are of.
 struct ClientNames {
@@ -238,7 +236,7 @@ fn name_error(taken: &TakenNames, name: &Name) -> Option<ClientPart>
     if taken.packages.has(package_of(bytes)) {
         return Some(ClientPart::Package);
     }
-    if bytes.len() > MOST_BYTES {
+    if bytes.len() > MAX_CLASS_NAME {
         return Some(ClientPart::Length);
     }
     if !is_text(bytes) {

@@ -1,10 +1,11 @@
 //! Linking the classes of clients in a run with modules (JVMS 5.3.6).
 ghost use Rattle.std.specs.Prelude.{◌≡◌, ◌≤◌, ◌+◌, None, length, option_map, IfOk, IfErr, IsTrue};
 ghost use Rattle.std.specs.List.{All};
-ghost use Rattle.jc_facts.specs.client.Clients.{differ_by_name, facts_of, IsValidClient};
+ghost use Rattle.jc_facts.specs.declared.limits.TheConstants.{MAX_SIDE_CLASSES};
+ghost use Rattle.jc_facts.specs.world.World.{differ_by_name, side, modular_side, with_clients};
+ghost use Rattle.jc_facts.specs.client.Valid.{facts_of, IsValidClient};
 ghost use Rattle.jc_facts.specs.client.Linked.{outcomes, all_outcomes};
 ghost use Rattle.jc_facts.specs.file.Valid.{IsValidClass};
-ghost use Rattle.jc_facts.specs.world.World.{side, modular_side, with_clients};
 ghost use Rattle.jc_table.specs.Root.{fault_of_root};
 ghost use Rattle.jc_table.specs.Sides.{overlap_of};
 ghost use Rattle.jc_link.specs.Refusals.{first_refused, RefusesBy, RefusesLink, MayLink};
@@ -37,7 +38,7 @@ fn modular_outcomes(
     requires platform_differs { IsTrue (differ_by_name platform.now) }
     requires release_differs { IsTrue (differ_by_name release.items) }
     requires clients_differ { IsTrue (differ_by_name (facts_of clients.items)) }
-    requires few { length platform.now + (length release.items + length clients.items) ≤ 120000 }
+    requires few { length platform.now + (length release.items + length clients.items) ≤ MAX_SIDE_CLASSES }
     requires allowed { first_refused (side platform.now release.items) clients.items ≡ None }
     ensures value { IfOk result (λ list. list.items ≡ all_outcomes (with_clients (modular_side (option_map (λ ns. ns.items) exports) platform.now release.items) (facts_of clients.items)) clients.items) }
     ensures sound { IfOk result (λ _. (fault_of_root platform.now ≡ None) × (overlap_of platform.now release.items ≡ None)) }
@@ -79,7 +80,7 @@ pub fn link_modular_over(
     requires platform_differs { IsTrue (differ_by_name platform.now) }
     requires release_differs { IsTrue (differ_by_name release.items) }
     requires clients_differ { IsTrue (differ_by_name (facts_of clients.items)) }
-    requires few { length platform.now + (length release.items + length clients.items) ≤ 120000 }
+    requires few { length platform.now + (length release.items + length clients.items) ≤ MAX_SIDE_CLASSES }
     ensures value { IfOk result (λ list. list.items ≡ outcomes (modular_side (option_map (λ ns. ns.items) exports) platform.now release.items) clients.items) }
     ensures linked { IfOk result (λ _. MayLink platform.now release.items clients.items) }
     ensures refused { IfErr result (RefusesLink platform.now release.items clients.items) }
@@ -113,7 +114,7 @@ pub fn link_modular(
     requires platform_differs { IsTrue (differ_by_name platform.now) }
     requires release_differs { IsTrue (differ_by_name release.items) }
     requires clients_differ { IsTrue (differ_by_name (facts_of clients.items)) }
-    requires few { length platform.now + (length release.items + length clients.items) ≤ 120000 }
+    requires few { length platform.now + (length release.items + length clients.items) ≤ MAX_SIDE_CLASSES }
     ensures value { IfOk result (λ list. list.items ≡ outcomes (modular_side (option_map (λ ns. ns.items) exports) platform.now release.items) clients.items) }
     ensures linked { IfOk result (λ _. MayLink platform.now release.items clients.items) }
     ensures refused { IfErr result (RefusesLink platform.now release.items clients.items) }

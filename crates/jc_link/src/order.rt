@@ -3,7 +3,8 @@ ghost use Rattle.std.specs.Prelude.{◌≡◌, OnOk, IsTrue};
 ghost use Rattle.std.specs.List.Sorted.{IsPermutation, IsSortedBy};
 ghost use Rattle.std.specs.Ordering.{is_lt};
 ghost use Rattle.jc_facts.specs.Exactly.{name_order};
-ghost use Rattle.jc_facts.specs.client.Clients.{differ_by_name, facts_of};
+ghost use Rattle.jc_facts.specs.world.World.{differ_by_name};
+ghost use Rattle.jc_facts.specs.client.Valid.{facts_of};
 ghost use Rattle.jc_facts.specs.client.Linked.{in_order};
 
 use jc_facts::client::ClientClass;

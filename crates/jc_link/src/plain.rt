@@ -1,7 +1,8 @@
 //! Plain programs for what linking asks of clients: a walk along the list.
 ghost use Rattle.std.specs.Prelude.{◌≡◌, ◌↔◌, IfOk, IsTrue};
 ghost use Rattle.std.specs.List.{All};
-ghost use Rattle.jc_facts.specs.client.Clients.{differ_by_name, facts_of, IsValidClient};
+ghost use Rattle.jc_facts.specs.world.World.{differ_by_name};
+ghost use Rattle.jc_facts.specs.client.Valid.{facts_of, IsValidClient};
 
 use jc_facts::class_facts::ClassFacts;
 use jc_facts::client::ClientClass;

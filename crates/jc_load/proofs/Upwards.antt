@@ -5,7 +5,7 @@ use Rattle.jc_facts.specs.declared.class_facts.ClassFacts.{ClassFacts}
 use Rattle.jc_facts.specs.declared.key.Key.{Key}
 use Rattle.jc_facts.specs.world.World.{World, find_class, size}
 use Rattle.jc_facts.specs.world.Hierarchy.{chain}
-use Rattle.jc_facts.specs.rule.Bases.{declares_as_final, is_final_in_chain}
+use Rattle.jc_facts.specs.world.Inheritance.{declares_as_final, is_final_in_chain}
 use Rattle.jc_table.specs.Ids.{name_at, superclass_of}
 use Rattle.jc_table.specs.steps.Walking.{chain_from}
 use Rattle.jc_table.proofs.Walking.{from-step, from-none, from-nothing}

@@ -5,8 +5,7 @@ use Rattle.jc_facts.specs.declared.class_facts.ClassFacts.{ClassFacts}
 use Rattle.jc_facts.specs.Names.{Bytes, is_name_among}
 use Rattle.jc_facts.specs.Flags.{public_flag, final_flag}
 use Rattle.jc_facts.specs.world.Modules.{OfClients, same_module, module_of, is_visible}
-use Rattle.jc_facts.specs.world.World.{World}
-use Rattle.jc_facts.specs.rule.Bases.{class_is}
+use Rattle.jc_facts.specs.world.World.{World, class_is}
 
 -- there are no permitted names; or this one is among them, and the class is in the module of the clients, as a class permits only
 -- classes of its own (JVMS 4.7.31, 5.3.5)

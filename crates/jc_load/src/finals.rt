@@ -1,7 +1,7 @@
 //! Methods that may not be overridden (JVMS 5.4.5).
 ghost use Rattle.std.specs.Prelude.{◌≡◌, ◌<◌};
 ghost use Rattle.jc_facts.specs.world.World.{size};
-ghost use Rattle.jc_facts.specs.rule.Bases.{is_open_final, declares_as_final, is_final_in_chain};
+ghost use Rattle.jc_facts.specs.world.Inheritance.{is_open_final, declares_as_final, is_final_in_chain};
 ghost use Rattle.jc_table.specs.Ids.{name_at};
 
 use jc_facts::class_facts::{ClassFacts, Member};

@@ -7,8 +7,7 @@ use Rattle.jc_facts.specs.declared.key.Key.{Key}
 use Rattle.jc_facts.specs.Names.{Bytes, object_name}
 use Rattle.jc_facts.specs.Flags.{public_flag, static_flag}
 use Rattle.jc_facts.specs.Options.{or_else, and_then}
-use Rattle.jc_facts.specs.world.World.{World, find_class, size, classes, own_method_of, found_in, declared_method, DeclaredMember}
-use Rattle.jc_facts.specs.client.Clients.{differ_by_name}
+use Rattle.jc_facts.specs.world.World.{World, find_class, size, classes, own_method_of, found_in, declared_method, DeclaredMember, differ_by_name}
 use Rattle.jc_facts.specs.world.Hierarchy.{chain}
 use Rattle.jc_facts.specs.world.Lookup.{first_declared, if_public_instance, public_method_of_object}
 use Rattle.jc_facts.proofs.World.{find-name}

@@ -14,7 +14,7 @@ use Rattle.jc_facts.specs.world.World.{World, find_class, own_method_of, found_i
 use Rattle.jc_facts.specs.world.Hierarchy.{chain, of_super, superinterfaces}
 use Rattle.jc_facts.specs.world.Loading.{load_fault}
 use Rattle.jc_facts.specs.world.Lookup.{first_declared, superinterface_choices, or_choices, method_choices, if_public_instance, public_method_of_object, interface_choices}
-use Rattle.jc_facts.specs.rule.Bases.{offers, is_inheritable, itself_and, inherits}
+use Rattle.jc_facts.specs.world.Inheritance.{offers, is_inheritable, itself_and, inherits}
 use Rattle.jc_facts.specs.file.Valid.{IsValidClass}
 use Rattle.jc_lemmas.proofs.Listed.{none, cases, EachOf, any_has}
 use Rattle.jc_worlds.specs.Hierarchy.{above}

@@ -8,12 +8,11 @@ use Rattle.jc_facts.specs.Names.{Bytes}
 use Rattle.jc_facts.specs.Flags.{private_flag, static_flag, interface_flag}
 use Rattle.jc_facts.specs.Options.{and_then, some_and}
 use Rattle.jc_facts.specs.world.World.{World, find_class, own_method_of, found_in, DeclaredMember}
-use Rattle.jc_facts.specs.rule.Collisions.{are_none}
+use Rattle.jc_facts.specs.world.Lookup.{are_none, declared_by}
 use Rattle.jc_facts.specs.world.Hierarchy.{superinterfaces}
 use Rattle.jc_facts.specs.world.Loading.{load_fault}
-use Rattle.jc_facts.specs.world.Lookup.{declared_by}
 use Rattle.jc_facts.specs.world.Assignment.{is_interface_of}
-use Rattle.jc_facts.specs.rule.Bases.{offers, is_inheritable, itself_and, inherits}
+use Rattle.jc_facts.specs.world.Inheritance.{offers, is_inheritable, itself_and, inherits}
 use Rattle.jc_lemmas.proofs.Listed.{none}
 use Rattle.jc_lemmas.proofs.Lists.{IsCons}
 use Rattle.jc_worlds.proofs.Offers.{declared_by-some, declared_by-offers}

@@ -6,11 +6,10 @@ use Rattle.jc_facts.specs.declared.key.Key.{Key}
 use Rattle.jc_facts.specs.Exactly.{HasExactly}
 use Rattle.jc_facts.specs.KeyOrder.{key_cmp}
 use Rattle.jc_facts.specs.Names.{Bytes}
-use Rattle.jc_facts.specs.rule.Collisions.{are_none}
+use Rattle.jc_facts.specs.world.Lookup.{are_none, method_choices, interface_choices}
 use Rattle.jc_facts.specs.world.World.{World, classes, DeclaredMember}
 use Rattle.jc_facts.specs.world.Assignment.{is_interface_of}
 use Rattle.jc_facts.specs.world.Loading.{load_fault}
-use Rattle.jc_facts.specs.world.Lookup.{method_choices, interface_choices}
 use Rattle.jc_lemmas.proofs.Listed.{empty_from, here}
 use Rattle.jc_worlds.specs.Hierarchy.{above}
 use Rattle.jc_index.specs.Sides.{IsSide}

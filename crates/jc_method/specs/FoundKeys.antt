@@ -3,7 +3,7 @@ use Rattle.std.specs.Prelude.{◌≡◌, Bool, true, not, List}
 use Rattle.jc_facts.specs.declared.key.Key.{Key}
 use Rattle.jc_facts.specs.Names.{Bytes}
 use Rattle.jc_facts.specs.file.Valid.{has_key}
-use Rattle.jc_facts.specs.rule.Collisions.{are_none}
+use Rattle.jc_facts.specs.world.Lookup.{are_none}
 use Rattle.jc_facts.specs.world.World.{World}
 use Rattle.jc_rows.specs.Rows.{lookup_choices}
 

@@ -6,7 +6,7 @@ use Rattle.jc_facts.specs.Names.{Bytes}
 use Rattle.jc_facts.specs.world.World.{World}
 use Rattle.jc_facts.specs.world.Hierarchy.{superinterfaces}
 use Rattle.jc_facts.specs.world.Assignment.{is_interface_of}
-use Rattle.jc_facts.specs.rule.Bases.{inherits, offers}
+use Rattle.jc_facts.specs.world.Inheritance.{inherits, offers}
 
 -- the class x, where it is an interface, or a superinterface of it declares the key as an instance method that isn't private
 abbrev pub inherits_from : World → Bytes → Key → Bool

@@ -2,6 +2,7 @@
 ghost use Rattle.std.specs.Prelude.{◌≡◌, ◌≤◌, length, IfOk, MatchResult};
 ghost use Rattle.std.specs.Option.{option_map};
 ghost use Rattle.std.specs.Result.{result_map_both};
+ghost use Rattle.jc_desc.specs.declared.limits.TheConstants.{MAX_CLASS_BYTES};
 ghost use Rattle.jc_desc.specs.Pool.{PoolOf};
 ghost use Rattle.jc_desc.specs.PoolGrammar.{ReadsPool};
 ghost use Rattle.jc_desc.specs.PoolSteps.{pool_at, linked};
@@ -192,7 +193,7 @@ impl<'a> Pool<'a> {
     /// comes exactly where the bytes don't begin with a pool, with the first fault; `Memory` where
     /// there is none for the table of the entries.
     pub fn read(alloc: Global, bytes: &'a [u8]) -> Result<(Pool<'a>, u32), PoolError>
-        requires { length bytes.now ≤ 4194304 }
+        requires { length bytes.now ≤ MAX_CLASS_BYTES }
         ensures { MatchResult result (λ x. ReadsPool bytes.now x.0 x.1) (PoolFails bytes.now) }
     {
         match Pool::read_front(alloc, bytes) {

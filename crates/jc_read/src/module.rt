@@ -7,6 +7,7 @@ ghost use Rattle.jc_facts.specs.file.ModuleFile.{module_takes, module_head_from,
 ghost use Rattle.jc_attr.specs.Views.{attribute_view};
 ghost use Rattle.jc_read.specs.Fails.{ModuleFails};
 ghost use Rattle.jc_read.specs.steps.OnModuleView.{on_module_view};
+ghost use Rattle.jc_desc.specs.declared.limits.TheConstants.{MAX_CLASS_BYTES};
 
 use crate::read::ReadError;
 use jc_attr::attribute::{Attribute, attribute_at};
@@ -205,7 +206,7 @@ fn exports(alloc: Global, bytes: &[u8]) -> Result<Result<Vec<Name>, Fault>, Allo
 /// no `Module`; and `Trailing` where bytes are left. Where memory runs out, `Memory`, about which nothing
 /// is said.
 pub fn read_module(alloc: Global, bytes: &[u8]) -> Result<Vec<Name>, ReadError>
-    requires { length bytes.now ≤ 4194304 }
+    requires { length bytes.now ≤ MAX_CLASS_BYTES }
     ensures exact { MatchResult result (λ names. ModuleReads bytes.now names.items) (ModuleFails bytes.now) }
 {
     match exports(alloc, bytes) {

@@ -2,6 +2,7 @@
 ghost use Rattle.std.specs.Prelude.{◌≡◌, ◌≤◌, length, IfOk, MatchResult, OnOk, ◌++◌, None};
 ghost use Rattle.std.specs.Option.{option_map};
 ghost use Rattle.std.specs.Result.{result_map_both};
+ghost use Rattle.jc_desc.specs.declared.limits.TheConstants.{MAX_CLASS_BYTES};
 ghost use Rattle.jc_desc.specs.PoolSteps.{pool_at as pool_from};
 ghost use Rattle.jc_facts.specs.file.Valid.{IsValidClass};
 ghost use Rattle.jc_facts.specs.file.ClassParts.{record_from, or_empty, signed_of};
@@ -182,7 +183,7 @@ fn class_after<'a>(
     recent: Option<&'a RecentNames>,
     bytes: &'a [u8],
 ) -> Result<ClassFacts, ReadError>
-    requires { length bytes.now ≤ 4194304 }
+    requires { length bytes.now ≤ MAX_CLASS_BYTES }
     ensures exact { MatchResult result (λ facts. Reads bytes.now facts) (ReadFails bytes.now) }
     ensures valid { IfOk result (λ facts. IsValidClass facts) }
 {
@@ -200,7 +201,7 @@ fn class_after<'a>(
 /// `Malformed` exactly where the bytes are no class file, with the first fault of the steps; where
 /// memory runs out, `Memory`, about which nothing is said.
 pub fn read_class(alloc: Global, bytes: &[u8]) -> Result<ClassFacts, ReadError>
-    requires { length bytes.now ≤ 4194304 }
+    requires { length bytes.now ≤ MAX_CLASS_BYTES }
     ensures exact { MatchResult result (λ facts. Reads bytes.now facts) (ReadFails bytes.now) }
     ensures valid { IfOk result (λ facts. IsValidClass facts) }
 {
@@ -218,7 +219,7 @@ pub fn read_class_after<'a>(
     recent: &'a RecentNames,
     bytes: &'a [u8],
 ) -> Result<ClassFacts, ReadError>
-    requires { length bytes.now ≤ 4194304 }
+    requires { length bytes.now ≤ MAX_CLASS_BYTES }
     ensures exact { MatchResult result (λ facts. Reads bytes.now facts) (ReadFails bytes.now) }
     ensures valid { IfOk result (λ facts. IsValidClass facts) }
 {

@@ -1,6 +1,6 @@
 -- The lines of dropped interfaces.
 use Rattle.std.proofs.Common.{◌≡◌, ◌+◌, ℕ, List, [], ◌∷◌, ◌++◌, refl, ap}
-use Rattle.jc_dropped.specs.declared.dropped.Dropped.{Dropped}
+use Rattle.jc_facts.specs.declared.dropped.Dropped.{Dropped}
 use Rattle.jc_facts.specs.Names.{Bytes}
 use Rattle.jc_report.specs.DroppedForms.{line_of_dropped, dropped_text_of}
 use Rattle.jc_report.specs.Listing.{lines_from}

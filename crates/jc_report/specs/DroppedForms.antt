@@ -1,7 +1,7 @@
 -- The printed forms of dropped interfaces, as bytes: lines, and JSON.
 use Rattle.std.specs.Prelude.{List, [], ◌∷◌, ◌++◌, codes}
 use Rattle.serde_json.specs.Data.{Data, string, object}
-use Rattle.jc_dropped.specs.declared.dropped.Dropped.{Dropped}
+use Rattle.jc_facts.specs.declared.dropped.Dropped.{Dropped}
 use Rattle.jc_facts.specs.Names.{Bytes}
 use Rattle.jc_facts.specs.print.Text.{printed}
 use Rattle.jc_report.specs.Listing.{members_of, values_from, listing_json, json_line}

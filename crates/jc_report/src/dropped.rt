@@ -8,7 +8,7 @@ use crate::entry::Entry;
 use crate::json_values::name_value;
 use crate::printed::push_printed;
 use crate::put_listing::listing;
-use jc_dropped::dropped::Dropped;
+use jc_facts::dropped::Dropped;
 use serde_json::{Value, json};
 use std::alloc::{AllocError, Global};
 

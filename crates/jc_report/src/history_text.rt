@@ -1,6 +1,6 @@
 //! The text of the verdicts on a row of releases.
 ghost use Rattle.std.specs.Prelude.{◌≡◌, ◌++◌, ◌∷◌, true, [], IfOk, OnOk};
-ghost use Rattle.jc_facts.specs.rule.Verdict.{is_incompatible as has_finding};
+ghost use Rattle.jc_facts.specs.Verdicts.{is_incompatible as has_finding};
 ghost use Rattle.jc_report.specs.HistoryText.{at_start, with_front, step_front, step_lines as lines_of_steps, incompatible_steps, last_line_of_history, history_text_of};
 
 use crate::printed::push_decimal;

@@ -6,11 +6,12 @@ ghost use Rattle.jc_facts.specs.print.WarnText.{word_of_kind};
 use jc_facts::act::Act;
 use jc_facts::finding::Finding;
 use jc_facts::link_error::LinkError;
+use jc_facts::rule_numbers::{CAPTURE_ADDED, CONSTANT_ADDED, FINAL_ADDED};
 use jc_facts::warning::WarnKind;
 use std::alloc::{AllocError, Global};
 
-/// The name of a rule: `Constant` for 10, `Capture` for 11, `Final` for 12, and `H` with the number for
-/// any other.
+/// The name of a rule: `Constant`, `Capture` and `Final` for those of collisions, and `H` with the
+/// number for any other.
 ///
 /// # Errors
 ///
@@ -19,9 +20,9 @@ pub fn rule_text(alloc: Global, rule: u8) -> Result<String, AllocError>
     ensures { IfOk result (λ text. string_bytes text ≡ rule_name rule) }
 {
     match rule {
-        10 => String::from_str(alloc, "Constant"),
-        11 => String::from_str(alloc, "Capture"),
-        12 => String::from_str(alloc, "Final"),
+        CONSTANT_ADDED => String::from_str(alloc, "Constant"),
+        CAPTURE_ADDED => String::from_str(alloc, "Capture"),
+        FINAL_ADDED => String::from_str(alloc, "Final"),
         _ => format!(in alloc; "H{rule}"),
     }
 }

@@ -7,12 +7,11 @@ use Rattle.std.proofs.lemmas.List.{length-set, length-map, get_or-set_same, get_
 use Rattle.std.proofs.lemmas.List.Elements.{Contains-push_cases}
 use Rattle.jc_facts.specs.declared.class_facts.ClassFacts.{ClassFacts}
 use Rattle.jc_facts.specs.declared.link_error.LinkError.{LinkError}
-use Rattle.jc_facts.specs.client.Clients.{differ_by_name}
+use Rattle.jc_facts.specs.world.World.{differ_by_name, World, classes, size, find_class, class_named}
 use Rattle.jc_facts.specs.Names.{Bytes, same}
 use Rattle.jc_facts.specs.Options.{and_then}
 use Rattle.jc_facts.specs.world.Loading.{load_fault}
 use Rattle.jc_facts.specs.world.Search.{supers, supers_of}
-use Rattle.jc_facts.specs.world.World.{World, classes, size, find_class, class_named}
 use Rattle.jc_facts.proofs.Same.{same_is, same_itself}
 use Rattle.jc_facts.proofs.World.{find-name, class_named-each}
 use Rattle.jc_lemmas.proofs.Bools.{not_true, tests_agree}

@@ -14,15 +14,17 @@ use Rattle.jc_facts.specs.declared.verdict.Note.TheVariants as note
 use Rattle.jc_facts.specs.declared.verdict.Verdict.{Verdict}
 use Rattle.jc_facts.specs.Names.{Bytes}
 use Rattle.jc_facts.specs.world.World.{World, with_clients}
-use Rattle.jc_facts.specs.client.Clients.{IsInScope, Keeps, facts_of}
-use Rattle.jc_facts.specs.rule.Collisions.{collision_at, CollisionStands}
-use Rattle.jc_facts.specs.rule.Findings.{Subject, finding_at, finding_by, subject_of, Stands}
-use Rattle.jc_facts.specs.client.Kept.{BreaksClass}
-use Rattle.jc_facts.specs.client.Meets.{Meets}
-use Rattle.jc_facts.specs.rule.Notes.{NoteStands}
-use Rattle.jc_facts.specs.rule.Orders.{finding_order, collision_order, note_order}
+use Rattle.jc_promises.specs.client.Scope.{IsInScope}
+use Rattle.jc_promises.specs.client.Keeps.{Keeps}
+use Rattle.jc_facts.specs.client.Valid.{facts_of}
+use Rattle.jc_promises.specs.rule.Collisions.{collision_at, CollisionStands}
+use Rattle.jc_promises.specs.rule.Findings.{Subject, finding_at, finding_by, subject_of, Stands}
+use Rattle.jc_promises.specs.client.Kept.{BreaksClass}
+use Rattle.jc_promises.specs.client.Meets.{Meets}
+use Rattle.jc_promises.specs.rule.Notes.{NoteStands}
+use Rattle.jc_facts.specs.Orders.{finding_order, collision_order, note_order}
 use Rattle.jc_facts.specs.Exactly.{HasExactly}
-use Rattle.jc_facts.specs.rule.Verdict.{IsVerdict}
+use Rattle.jc_promises.specs.rule.Verdict.{IsVerdict}
 use Rattle.jc_sound.proofs.ClassGoneLaw.{class_gone_breaks}
 use Rattle.jc_facts.proofs.InOrder.{exact_same, exact_append}
 use Rattle.jc_sound.proofs.SoundnessLaws.{keeps}

@@ -8,10 +8,11 @@ use Rattle.jc_facts.specs.declared.act.Act.TheVariants.{Assignment}
 use Rattle.jc_facts.specs.declared.link_error.LinkError.TheVariants.{VerifyError}
 use Rattle.jc_facts.specs.Names.{Bytes, object_name}
 use Rattle.jc_facts.specs.Options.{and_then}
-use Rattle.jc_facts.specs.rule.Bases.{is_kept, is_base_class}
-use Rattle.jc_facts.specs.rule.Findings.{Subject, assign_finding, takes_part, report}
-use Rattle.jc_facts.specs.rule.OpenActs.{least, first_seat}
-use Rattle.jc_facts.specs.rule.Exposed.{is_hidden, is_exposed}
+use Rattle.jc_promises.specs.rule.Bases.{is_kept, is_base_class}
+use Rattle.jc_promises.specs.rule.Findings.{Subject, assign_finding, takes_part, report}
+use Rattle.jc_facts.specs.ByName.{least}
+use Rattle.jc_promises.specs.rule.OpenActs.{first_seat}
+use Rattle.jc_promises.specs.rule.Exposed.{is_hidden, is_exposed}
 use Rattle.jc_facts.specs.world.World.{World, classes}
 use Rattle.jc_exposed.specs.declared.exposed.Exposed.{Exposed}
 use Rattle.jc_exposed.specs.Exposed.{are_all_exposed, is_wanted}

@@ -9,17 +9,17 @@ use Rattle.jc_facts.specs.declared.key.Key.{Key}
 use Rattle.jc_facts.specs.declared.link_error.LinkError.{LinkError}
 use Rattle.jc_facts.specs.declared.link_error.LinkError.TheVariants.{IllegalAccessError, IncompatibleClassChangeError}
 use Rattle.jc_facts.specs.declared.verdict.Collision.{Collision}
-use Rattle.jc_facts.specs.rule.Collisions.{made_collision, collision_at, capture_added, captures, capture_error, are_none, leaves_room}
+use Rattle.jc_promises.specs.rule.Collisions.{made_collision, collision_at, capture_added, captures, capture_error, leaves_room}
+use Rattle.jc_facts.specs.world.Lookup.{are_none, first_declared, method_choices, or_choices, superinterface_choices}
 use Rattle.jc_facts.specs.Flags.{public_flag, no_static_flag, final_flag, interface_flag}
 use Rattle.jc_facts.specs.world.Hierarchy.{chain}
-use Rattle.jc_facts.specs.world.Lookup.{first_declared, method_choices, or_choices, superinterface_choices}
 use Rattle.jc_facts.specs.world.Loading.{load_fault}
 use Rattle.jc_facts.specs.world.Assignment.{is_interface_of}
 use Rattle.jc_facts.specs.Names.{Bytes, is_init_name, is_clinit_name}
 use Rattle.jc_facts.specs.Options.{some_and, some_where}
-use Rattle.jc_facts.specs.rule.Orders.{collision_order}
-use Rattle.jc_facts.specs.rule.Bases.{class_is, newly_sealed, is_steady, is_class_closed, is_extendable, is_implementable, is_base_class, is_key_of_method}
-use Rattle.jc_facts.specs.world.World.{World, find_class, DeclaredMember}
+use Rattle.jc_facts.specs.Orders.{collision_order}
+use Rattle.jc_facts.specs.world.World.{class_is, World, find_class, DeclaredMember}
+use Rattle.jc_promises.specs.rule.Bases.{newly_sealed, is_steady, is_class_closed, is_extendable, is_implementable, is_base_class, is_key_of_method}
 use Rattle.jc_lemmas.proofs.Bools.{and_false, neither_first, neither_last, not_true}
 use Rattle.jc_lemmas.proofs.Listed.{none, cases, each_in}
 use Rattle.jc_worlds.specs.Agreement.{LooksTheSame}

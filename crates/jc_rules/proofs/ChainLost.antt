@@ -10,7 +10,7 @@ use Rattle.jc_facts.specs.Flags.{interface_flag}
 use Rattle.jc_facts.specs.world.World.{World, find_class, size}
 use Rattle.jc_facts.specs.world.Hierarchy.{in_chain}
 use Rattle.jc_facts.specs.world.Assignment.{is_interface_of}
-use Rattle.jc_facts.specs.rule.Findings.{finding_at, superclass_lost, assign_finding}
+use Rattle.jc_promises.specs.rule.Findings.{finding_at, superclass_lost, assign_finding}
 use Rattle.jc_acts.proofs.Losses.{chain_there}
 use Rattle.jc_acts.proofs.LostChains.{none_above}
 use Rattle.jc_table.specs.Ids.{name_at}

@@ -9,8 +9,8 @@ use Rattle.jc_facts.specs.declared.key.Key.{Key}
 use Rattle.jc_facts.specs.declared.verdict.Collision.{Collision}
 use Rattle.jc_facts.specs.Names.{Bytes}
 use Rattle.jc_facts.specs.Options.{some_where}
-use Rattle.jc_facts.specs.rule.Bases.{is_steady, is_base_class, is_base_interface}
-use Rattle.jc_facts.specs.rule.Orders.{finding_order, collision_order}
+use Rattle.jc_promises.specs.rule.Bases.{is_steady, is_base_class, is_base_interface}
+use Rattle.jc_facts.specs.Orders.{finding_order, collision_order}
 use Rattle.jc_lemmas.proofs.Listed.{EachOf}
 use Rattle.jc_rules.specs.steps.Changed.{changed_steady, changed_class, changed_interface}
 use Rattle.jc_sides.specs.Members.{OfPassing}

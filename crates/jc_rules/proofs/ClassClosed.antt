@@ -8,10 +8,11 @@ use Rattle.jc_facts.specs.declared.link_error.LinkError.TheVariants.{Incompatibl
 use Rattle.jc_facts.specs.world.Assignment.{is_interface_of}
 use Rattle.jc_facts.specs.file.Rules.{apart, implies}
 use Rattle.jc_facts.specs.file.Valid.{IsValidClass}
-use Rattle.jc_facts.specs.rule.Findings.{finding_at, class_closed, report_where}
+use Rattle.jc_promises.specs.rule.Findings.{finding_at, class_closed, report_where}
 use Rattle.jc_facts.specs.Flags.{abstract_flag, final_flag, interface_flag, module_flag}
 use Rattle.jc_facts.specs.Names.{Bytes, is_name_among}
-use Rattle.jc_facts.specs.rule.Bases.{allowed, has_init, is_class_closed, is_kept, is_open, leaves_out, permits_some, newly_sealed, public_or_protected}
+use Rattle.jc_promises.specs.rule.Bases.{allowed, has_init, is_class_closed, is_kept, is_open, leaves_out, permits_some, newly_sealed}
+use Rattle.jc_facts.specs.world.Inheritance.{public_or_protected}
 use Rattle.jc_facts.specs.world.World.{World, class_named, find_class}
 use Rattle.jc_facts.specs.world.Modules.{OfClients, module_of, same_module}
 use Rattle.jc_facts.specs.world.Loading.{excludes}

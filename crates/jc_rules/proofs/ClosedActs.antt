@@ -6,16 +6,15 @@ use Rattle.jc_facts.specs.declared.key.Key.{Key}
 use Rattle.jc_facts.specs.declared.link_error.LinkError.{LinkError}
 use Rattle.jc_facts.specs.client.Acts.{Form, FieldForm, MethodForm, InterfaceForm}
 use Rattle.jc_facts.specs.world.Assignment.{is_interface_of}
-use Rattle.jc_facts.specs.rule.Findings.{Subject, report, act_finding, first_act}
-use Rattle.jc_facts.specs.world.Lookup.{method_choices, interface_choices}
+use Rattle.jc_promises.specs.rule.Findings.{Subject, report, act_finding, first_act}
+use Rattle.jc_facts.specs.world.Lookup.{method_choices, interface_choices, are_none}
 use Rattle.jc_facts.specs.Names.{Bytes}
 use Rattle.jc_facts.specs.Options.{and_then, or_else}
-use Rattle.jc_facts.specs.rule.OpenActs.{act_fault, closed_act, where_open}
+use Rattle.jc_promises.specs.rule.OpenActs.{act_fault, closed_act, where_open}
 use Rattle.jc_facts.specs.world.World.{World, DeclaredMember}
 use Rattle.jc_lemmas.proofs.Listed.{EachOf}
 use Rattle.jc_sound.proofs.Looked.{looked, head_of}
 use Rattle.jc_method.specs.FoundKeys.{finds_method}
-use Rattle.jc_facts.specs.rule.Collisions.{are_none}
 use Rattle.jc_table.specs.Rows.{choices_by}
 use Rattle.jc_sides.specs.SidesOf.{SidesOf}
 

@@ -5,12 +5,12 @@ use Rattle.jc_facts.specs.declared.act.Act.TheVariants.{GetField}
 use Rattle.jc_facts.specs.declared.key.Key.{Key}
 use Rattle.jc_facts.specs.declared.link_error.LinkError.TheVariants.{IncompatibleClassChangeError}
 use Rattle.jc_facts.specs.declared.verdict.Collision.{Collision}
-use Rattle.jc_facts.specs.rule.Collisions.{made_collision, collision_at, constant_added}
+use Rattle.jc_promises.specs.rule.Collisions.{made_collision, collision_at, constant_added}
 use Rattle.jc_facts.specs.world.Lookup.{field_found}
 use Rattle.jc_facts.specs.Names.{Bytes}
 use Rattle.jc_facts.specs.Options.{some_where}
-use Rattle.jc_facts.specs.rule.Orders.{collision_order}
-use Rattle.jc_facts.specs.rule.Bases.{is_base_interface}
+use Rattle.jc_facts.specs.Orders.{collision_order}
+use Rattle.jc_promises.specs.rule.Bases.{is_base_interface}
 use Rattle.jc_facts.specs.world.World.{World, DeclaredMember}
 use Rattle.jc_worlds.specs.Agreement.{LooksTheSame}
 use Rattle.jc_sides.specs.BrokenOf.{BrokenOf, broken_if, collided}

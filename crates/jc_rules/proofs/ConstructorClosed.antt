@@ -13,9 +13,9 @@ use Rattle.jc_facts.specs.Flags.{public_flag}
 use Rattle.jc_facts.specs.Options.{or_else, and_then, some_and}
 use Rattle.jc_facts.specs.world.World.{find_class, own_method_of}
 use Rattle.jc_facts.specs.world.Loading.{fault_where}
-use Rattle.jc_facts.specs.rule.Orders.{finding_order}
-use Rattle.jc_facts.specs.rule.Bases.{is_class_usable, is_kept, became_class, is_steady, is_base_class}
-use Rattle.jc_facts.specs.rule.Findings.{Subject, finding_at, constructor_closed, report, report_where, new_broken, init_broken, missing_or}
+use Rattle.jc_facts.specs.Orders.{finding_order}
+use Rattle.jc_promises.specs.rule.Bases.{is_class_usable, is_kept, became_class, is_steady, is_base_class}
+use Rattle.jc_promises.specs.rule.Findings.{Subject, finding_at, constructor_closed, report, report_where, new_broken, init_broken, missing_or}
 use Rattle.jc_facts.proofs.Same.{same_is}
 use Rattle.jc_worlds.proofs.Inherited.{found_passes}
 use Rattle.jc_worlds.proofs.Loaded.{loads-found}

@@ -5,12 +5,12 @@ use Rattle.jc_acts.specs.declared.closed_act.ClosedAct.{ClosedAct}
 use Rattle.jc_facts.specs.declared.finding.Finding.{Finding}
 use Rattle.jc_facts.specs.declared.key.Key.{Key}
 use Rattle.jc_facts.specs.client.Acts.{FieldForm, form_of}
-use Rattle.jc_facts.specs.rule.Findings.{finding_at, first_act, field_closed}
+use Rattle.jc_promises.specs.rule.Findings.{finding_at, first_act, field_closed}
 use Rattle.jc_facts.specs.world.Lookup.{field_found}
 use Rattle.jc_facts.specs.Names.{Bytes}
-use Rattle.jc_facts.specs.rule.Orders.{finding_order}
-use Rattle.jc_facts.specs.rule.OpenActs.{act_fault, field_acts}
-use Rattle.jc_facts.specs.rule.Bases.{is_steady}
+use Rattle.jc_facts.specs.Orders.{finding_order}
+use Rattle.jc_promises.specs.rule.OpenActs.{act_fault, field_acts}
+use Rattle.jc_promises.specs.rule.Bases.{is_steady}
 use Rattle.jc_sound.proofs.Looked.{looked, look_up-takes}
 use Rattle.jc_sides.specs.BrokenOf.{BrokenOf, found}
 use Rattle.jc_sides.specs.Members.{is_member, OfPassing}

@@ -6,10 +6,11 @@ use Rattle.jc_facts.specs.declared.key.Key.{Key}
 use Rattle.jc_facts.specs.declared.link_error.LinkError.TheVariants.{IncompatibleClassChangeError}
 use Rattle.jc_facts.specs.Names.{Bytes}
 use Rattle.jc_facts.specs.Options.{and_then, some_where}
-use Rattle.jc_facts.specs.rule.Bases.{is_base_class, is_key_of_method, is_final_in_chain}
-use Rattle.jc_facts.specs.rule.Collisions.{collision_at, final_added, made_collision}
-use Rattle.jc_facts.specs.rule.Findings.{finds_overridable}
-use Rattle.jc_facts.specs.rule.Orders.{collision_order}
+use Rattle.jc_promises.specs.rule.Bases.{is_base_class, is_key_of_method}
+use Rattle.jc_facts.specs.world.Inheritance.{is_final_in_chain}
+use Rattle.jc_promises.specs.rule.Collisions.{collision_at, final_added, made_collision}
+use Rattle.jc_promises.specs.rule.Findings.{finds_overridable}
+use Rattle.jc_facts.specs.Orders.{collision_order}
 use Rattle.jc_lemmas.proofs.Bools.{second_of_five, third_of_five}
 use Rattle.jc_rules.specs.steps.Methods.{becomes_final, final_now}
 use Rattle.jc_worlds.specs.Agreement.{LooksTheSame}

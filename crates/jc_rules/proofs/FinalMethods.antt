@@ -7,7 +7,7 @@ use Rattle.jc_facts.specs.declared.key.Key.{Key}
 use Rattle.jc_facts.specs.Names.{Bytes}
 use Rattle.jc_facts.specs.Flags.{final_flag, no_static_flag, public_flag, protected_flag}
 use Rattle.jc_facts.specs.Options.{some_and, and_then}
-use Rattle.jc_facts.specs.rule.Bases.{declares_as_final, is_open_final}
+use Rattle.jc_facts.specs.world.Inheritance.{declares_as_final, is_open_final}
 use Rattle.jc_facts.specs.world.Loading.{load_fault}
 use Rattle.jc_facts.specs.world.Search.{supers_of}
 use Rattle.jc_facts.specs.world.World.{World, find_class, size, own_method_of}

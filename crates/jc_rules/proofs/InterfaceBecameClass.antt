@@ -7,10 +7,10 @@ use Rattle.jc_facts.specs.declared.link_error.LinkError.TheVariants.{VerifyError
 use Rattle.jc_facts.specs.Flags.{interface_flag}
 use Rattle.jc_facts.specs.Names.{Bytes}
 use Rattle.jc_facts.specs.Options.{and_then, some_and}
-use Rattle.jc_facts.specs.rule.Bases.{is_kept}
-use Rattle.jc_facts.specs.rule.Findings.{Subject, finding_at, interface_became_class, assign_finding, takes_part, report}
-use Rattle.jc_facts.specs.rule.OpenActs.{first_seat}
-use Rattle.jc_facts.specs.rule.Exposed.{is_exposed}
+use Rattle.jc_promises.specs.rule.Bases.{is_kept}
+use Rattle.jc_promises.specs.rule.Findings.{Subject, finding_at, interface_became_class, assign_finding, takes_part, report}
+use Rattle.jc_promises.specs.rule.OpenActs.{first_seat}
+use Rattle.jc_promises.specs.rule.Exposed.{is_exposed}
 use Rattle.jc_facts.specs.world.Assignment.{is_interface_of}
 use Rattle.jc_facts.specs.world.World.{World, find_class}
 use Rattle.jc_exposed.specs.Exposed.{are_all_exposed}

@@ -8,15 +8,16 @@ use Rattle.jc_facts.specs.declared.class_facts.Member.{Member}
 use Rattle.jc_facts.specs.declared.finding.Finding.{Finding}
 use Rattle.jc_facts.specs.declared.key.Key.{Key}
 use Rattle.jc_facts.specs.declared.link_error.LinkError.TheVariants.{NoSuchMethodError}
-use Rattle.jc_facts.specs.rule.Findings.{finding_at, interface_method_lost, report_where}
+use Rattle.jc_promises.specs.rule.Findings.{finding_at, interface_method_lost, report_where}
 use Rattle.jc_facts.specs.Flags.{public_flag, private_flag, static_flag, no_static_flag}
 use Rattle.jc_facts.specs.world.Hierarchy.{chain, of_super, superinterfaces}
 use Rattle.jc_facts.specs.world.Loading.{load_fault}
 use Rattle.jc_facts.specs.world.Lookup.{public_method_of_object, if_public_instance, interface_choices, superinterface_choices, or_choices}
 use Rattle.jc_facts.specs.Names.{Bytes, object_name}
 use Rattle.jc_facts.specs.Options.{and_then, or_else, some_and}
-use Rattle.jc_facts.specs.rule.Orders.{finding_order}
-use Rattle.jc_facts.specs.rule.Bases.{is_base_interface, is_key_of_method, inherits, offers, is_inheritable, itself_and}
+use Rattle.jc_facts.specs.Orders.{finding_order}
+use Rattle.jc_promises.specs.rule.Bases.{is_base_interface, is_key_of_method}
+use Rattle.jc_facts.specs.world.Inheritance.{inherits, offers, is_inheritable, itself_and}
 use Rattle.jc_facts.specs.world.World.{World, find_class, class_named, DeclaredMember, found_in, own_method_of, declared_method}
 use Rattle.jc_lemmas.proofs.Listed.{none, cases}
 use Rattle.jc_lemmas.proofs.Lists.{IsCons}

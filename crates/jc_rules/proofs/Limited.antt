@@ -6,10 +6,11 @@ use Rattle.std.proofs.lemmas.List.Elements.{All-contains}
 use Rattle.jc_facts.specs.declared.finding.Finding.{Finding}
 use Rattle.jc_facts.specs.declared.verdict.Verdict.{Verdict}
 use Rattle.jc_facts.specs.Exactly.{HasExactly}
-use Rattle.jc_facts.specs.rule.Collisions.{CollisionStands}
-use Rattle.jc_facts.specs.rule.Findings.{Stands}
-use Rattle.jc_facts.specs.rule.Orders.{finding_order, collision_order}
-use Rattle.jc_facts.specs.rule.Verdict.{IsVerdict, count_of}
+use Rattle.jc_promises.specs.rule.Collisions.{CollisionStands}
+use Rattle.jc_promises.specs.rule.Findings.{Stands}
+use Rattle.jc_facts.specs.Orders.{finding_order, collision_order}
+use Rattle.jc_promises.specs.rule.Verdict.{IsVerdict}
+use Rattle.jc_facts.specs.Verdicts.{count_of}
 use Rattle.jc_facts.specs.world.World.{World}
 use Rattle.jc_sound.proofs.VerdictLaw.{no_longer, finding_total, collision_total}
 use Rattle.jc_sides.specs.Limit.{HasMore, beside}

@@ -5,11 +5,11 @@ use Rattle.jc_acts.specs.declared.closed_act.ClosedAct.{ClosedAct}
 use Rattle.jc_facts.specs.declared.finding.Finding.{Finding}
 use Rattle.jc_facts.specs.declared.key.Key.{Key}
 use Rattle.jc_facts.specs.client.Acts.{form_of}
-use Rattle.jc_facts.specs.rule.Findings.{finding_at, first_act, method_closed}
+use Rattle.jc_promises.specs.rule.Findings.{finding_at, first_act, method_closed}
 use Rattle.jc_facts.specs.Names.{Bytes}
-use Rattle.jc_facts.specs.rule.Orders.{finding_order}
-use Rattle.jc_facts.specs.rule.OpenActs.{act_fault, method_acts}
-use Rattle.jc_facts.specs.rule.Bases.{is_steady, is_key_of_method}
+use Rattle.jc_facts.specs.Orders.{finding_order}
+use Rattle.jc_promises.specs.rule.OpenActs.{act_fault, method_acts}
+use Rattle.jc_promises.specs.rule.Bases.{is_steady, is_key_of_method}
 use Rattle.jc_sound.proofs.Looked.{look_up-takes}
 use Rattle.jc_sides.specs.BrokenOf.{BrokenOf, found}
 use Rattle.jc_sides.specs.Members.{is_member, OfPassing}

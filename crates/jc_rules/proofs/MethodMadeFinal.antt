@@ -6,9 +6,10 @@ use Rattle.jc_facts.specs.declared.key.Key.{Key}
 use Rattle.jc_facts.specs.declared.link_error.LinkError.TheVariants.{IncompatibleClassChangeError}
 use Rattle.jc_facts.specs.Names.{Bytes}
 use Rattle.jc_facts.specs.Options.{and_then, some_where}
-use Rattle.jc_facts.specs.rule.Bases.{is_base_class, is_key_of_method, is_final_in_chain}
-use Rattle.jc_facts.specs.rule.Findings.{Subject, finding_at, method_made_final, report_where, finds_overridable}
-use Rattle.jc_facts.specs.rule.Orders.{finding_order}
+use Rattle.jc_promises.specs.rule.Bases.{is_base_class, is_key_of_method}
+use Rattle.jc_facts.specs.world.Inheritance.{is_final_in_chain}
+use Rattle.jc_promises.specs.rule.Findings.{Subject, finding_at, method_made_final, report_where, finds_overridable}
+use Rattle.jc_facts.specs.Orders.{finding_order}
 use Rattle.jc_sound.proofs.ClassGoneLaw.{report_where-some}
 use Rattle.jc_lemmas.proofs.Bools.{second_of_five, third_of_five}
 use Rattle.jc_rules.specs.steps.Methods.{becomes_final, final_now}

@@ -10,8 +10,9 @@ use Rattle.jc_facts.specs.world.World.{World, DeclaredMember}
 use Rattle.jc_facts.specs.world.Hierarchy.{chain}
 use Rattle.jc_facts.specs.world.Loading.{load_fault}
 use Rattle.jc_facts.specs.world.Lookup.{method_choices, or_choices, first_declared, superinterface_choices}
-use Rattle.jc_facts.specs.rule.Bases.{is_key_of_method, declares_as_final, is_final_in_chain, public_or_protected}
-use Rattle.jc_facts.specs.rule.Findings.{finds_overridable, first_passes}
+use Rattle.jc_promises.specs.rule.Bases.{is_key_of_method}
+use Rattle.jc_facts.specs.world.Inheritance.{declares_as_final, is_final_in_chain, public_or_protected}
+use Rattle.jc_promises.specs.rule.Findings.{finds_overridable, first_passes}
 use Rattle.jc_lemmas.proofs.Bools.{neither_last, not_true}
 use Rattle.jc_lemmas.proofs.Listed.{EachOf, none, cases, each_in}
 use Rattle.jc_worlds.specs.Agreement.{LooksTheSame}

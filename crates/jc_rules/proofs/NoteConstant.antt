@@ -21,9 +21,10 @@ use Rattle.jc_facts.specs.Flags.{static_flag, final_flag}
 use Rattle.jc_facts.specs.Names.{Bytes, same, same_key}
 use Rattle.jc_facts.specs.KeyOrder.{key_cmp, key_total, key_ties}
 use Rattle.jc_facts.specs.Options.{and_then, some_and, some_where}
-use Rattle.jc_facts.specs.rule.Notes.{in_release, is_same_constant, value_of_constant, has_lost_constant, has_static_final}
-use Rattle.jc_facts.specs.rule.Bases.{is_kept, is_class_usable}
-use Rattle.jc_facts.specs.rule.Orders.{note_order, noted_class}
+use Rattle.jc_promises.specs.rule.Notes.{in_release, value_of_constant, has_lost_constant, has_static_final}
+use Rattle.jc_facts.specs.Records.{same_constant}
+use Rattle.jc_promises.specs.rule.Bases.{is_kept, is_class_usable}
+use Rattle.jc_facts.specs.Orders.{note_order, noted_class}
 use Rattle.jc_facts.specs.world.World.{World, find_class, size, class_named, own_field_of}
 use Rattle.jc_facts.proofs.Exactly.{OfNames, exact_over, grown_start, grown_more, grown_all}
 use Rattle.jc_facts.proofs.InOrder.{exact_none}
@@ -143,7 +144,7 @@ abbrev value_of : Option Fixed → Option Constant
 value_of o = and_then (λ f. Some f.value) o
 
 changed_is : (c d : ClassFacts) (k : Key) → Bool
-changed_is c d k = some_and (λ v. not (some_and (is_same_constant v) (value_of_constant d k))) (value_of_constant c k)
+changed_is c d k = some_and (λ v. not (some_and (same_constant v) (value_of_constant d k))) (value_of_constant c k)
 
 module _ (s : SidesOf) (are : AreSides s) (x : Bytes) (both : is_in_both s x ≡ true) (was now : tree.BTreeMap Key (Bor Fixed)) (old : AreConstants s.old x was) (new : AreConstants s.new x now) where
   kept_is : is_kept s.old s.new x ≡ true
@@ -174,8 +175,8 @@ module _ (s : SidesOf) (are : AreSides s) (x : Bytes) (both : is_in_both s x ≡
   changes_as : (k : Key) → changed_in was now k ≡ changed_is c d k
   unfolding changed_is
   changes_as k =
-      ap (λ (o : Option Fixed). some_and (λ v. not (some_and (is_same_constant v) (value_of o))) (value_in was k)) (new d (sym after) k)
-      ∙ ap (λ (o : Option Fixed). some_and (λ v. not (some_and (is_same_constant v) (value_of_constant d k))) (value_of o)) (old c (sym before) k)
+      ap (λ (o : Option Fixed). some_and (λ v. not (some_and (same_constant v) (value_of o))) (value_in was k)) (new d (sym after) k)
+      ∙ ap (λ (o : Option Fixed). some_and (λ v. not (some_and (same_constant v) (value_of_constant d k))) (value_of o)) (old c (sym before) k)
 
   declares_as : (k : Key) → (some_and static_final_flags (field_flags_of s.old x k) && is_some (field_flags_of s.new x k)) ≡ (has_static_final c k && is_some (own_field_of d k))
   unfolding and_then
@@ -307,7 +308,7 @@ constant_there s are x was h k n m =
     let r = records_of s x k l in
     let f : find_class s.old x ≡ Some r.before = found_is s.old are.old_side are.run.old_bare x (ap is_some r.old) ∙ r.old in
     let v = (and_parts (has_static_final r.before k && is_some (own_field_of r.after k)) (changed_is r.before r.after k) (lost_as r.before r.after k ∙ r.loses_it)).1 in
-    value_there (tree.get key_cmp was k) (fixed_at r.before k) (h r.before f k) (some_there (λ v. not (some_and (is_same_constant v) (value_of_constant r.after k))) (fixed_at r.before k) v)
+    value_there (tree.get key_cmp was k) (fixed_at r.before k) (h r.before f k) (some_there (λ v. not (some_and (same_constant v) (value_of_constant r.after k))) (fixed_at r.before k) v)
   where
     lost_as : (c d : ClassFacts) (k : Key) → (has_static_final c k && is_some (own_field_of d k) && changed_is c d k) ≡ has_lost_constant c d k
     lost_as c d k = refl

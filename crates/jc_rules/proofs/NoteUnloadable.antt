@@ -10,11 +10,10 @@ use Rattle.jc_facts.specs.declared.verdict.Note.TheVariants as note
 use Rattle.jc_facts.specs.Names.{Bytes, same}
 use Rattle.jc_facts.specs.Options.{and_then}
 use Rattle.jc_facts.specs.Exactly.{Before}
-use Rattle.jc_facts.specs.world.World.{World, class_named, find_class, size}
+use Rattle.jc_facts.specs.world.World.{World, class_named, find_class, size, differ_by_name}
 use Rattle.jc_facts.specs.world.Loading.{load_fault}
-use Rattle.jc_facts.specs.client.Clients.{differ_by_name}
-use Rattle.jc_facts.specs.rule.Notes.{NoteStands, in_release}
-use Rattle.jc_facts.specs.rule.Orders.{note_order}
+use Rattle.jc_promises.specs.rule.Notes.{NoteStands, in_release}
+use Rattle.jc_facts.specs.Orders.{note_order}
 use Rattle.jc_facts.specs.Exactly.{HasExactly}
 use Rattle.jc_facts.proofs.Exact.{Gives}
 use Rattle.jc_facts.proofs.Same.{same_is}

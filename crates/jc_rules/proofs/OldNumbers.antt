@@ -6,7 +6,7 @@ use Rattle.jc_lemmas.proofs.Listed.{EachOf}
 use Rattle.jc_table.specs.Ids.{name_at}
 use Rattle.jc_sides.specs.SharedOf.{SharedOf, IsShared, AreThose, name_of}
 use Rattle.jc_sides.specs.SidesOf.{SidesOf}
-use Rattle.jc_facts.specs.rule.Warnings.{is_base}
+use Rattle.jc_promises.specs.rule.Warnings.{is_base}
 use Rattle.jc_rules.specs.Bases.{AreBases}
 
 -- ---- numbers

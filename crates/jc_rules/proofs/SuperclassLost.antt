@@ -15,8 +15,8 @@ use Rattle.jc_facts.specs.Names.{Bytes, same}
 use Rattle.jc_facts.specs.world.World.{World, size}
 use Rattle.jc_facts.specs.world.Hierarchy.{in_chain}
 use Rattle.jc_facts.specs.world.Assignment.{is_interface_of}
-use Rattle.jc_facts.specs.rule.Findings.{Subject, finding_at, finding_by, subject_of, assign_finding}
-use Rattle.jc_facts.specs.rule.Orders.{finding_order}
+use Rattle.jc_promises.specs.rule.Findings.{Subject, finding_at, finding_by, subject_of, assign_finding}
+use Rattle.jc_facts.specs.Orders.{finding_order}
 use Rattle.jc_facts.specs.Exactly.{HasExactly, Rises}
 use Rattle.jc_facts.specs.Exactly.{Before, NamesRise}
 use Rattle.jc_facts.proofs.Exact.{Gives}

@@ -1,12 +1,16 @@
 -- A verdict within a limit, and what a verdict means.
 use Rattle.std.specs.Prelude.{◌≡◌, ◌≤◌, ◌<◌, ℕ, List, [], Option, None, Some}
 use Rattle.std.specs.List.{All}
+use Rattle.jc_facts.specs.declared.rule_numbers.TheConstants.{CLASS_GONE}
 use Rattle.jc_facts.specs.declared.client.ClientClass.{ClientClass}
 use Rattle.jc_facts.specs.declared.verdict.Verdict.{Verdict}
-use Rattle.jc_facts.specs.client.Clients.{IsInScope, Keeps, facts_of}
-use Rattle.jc_facts.specs.client.Kept.{BreaksClass}
-use Rattle.jc_facts.specs.client.Meets.{Meets}
-use Rattle.jc_facts.specs.rule.Verdict.{IsVerdict, count_of}
+use Rattle.jc_promises.specs.client.Scope.{IsInScope}
+use Rattle.jc_promises.specs.client.Keeps.{Keeps}
+use Rattle.jc_facts.specs.client.Valid.{facts_of}
+use Rattle.jc_promises.specs.client.Kept.{BreaksClass}
+use Rattle.jc_promises.specs.client.Meets.{Meets}
+use Rattle.jc_promises.specs.rule.Verdict.{IsVerdict}
+use Rattle.jc_facts.specs.Verdicts.{count_of}
 use Rattle.jc_facts.specs.world.World.{World, with_clients}
 
 -- the verdict, where it has at most so many findings and collisions, and None where it has more
@@ -20,4 +24,4 @@ KeepsAll O N v = v.findings ≡ [] → (cs : List ClientClass) → IsInScope O N
 
 -- whatever clients there are, whoever names a class that is gone has the finding's error
 abbrev pub BreaksEach : World → World → Verdict → Type 0
-BreaksEach O N v = All (λ f. f.rule ≡ 1 → BreaksClass O N f.class f.error) v.findings
+BreaksEach O N v = All (λ f. f.rule ≡ CLASS_GONE → BreaksClass O N f.class f.error) v.findings

@@ -1,6 +1,6 @@
 //! The classes and interfaces that clients could name above themselves, and still can.
 ghost use Rattle.std.specs.Prelude.{◌≡◌, IfOk, map};
-ghost use Rattle.jc_facts.specs.world.Pairs.{AreOfOneRun};
+ghost use Rattle.jc_promises.specs.Pairs.{AreOfOneRun};
 ghost use Rattle.jc_rules.specs.Bases.{AreBases};
 
 use jc_sides::classes;

@@ -2,10 +2,10 @@
 ghost use Rattle.std.specs.Prelude.{◌≡◌, ◌&&◌, not, cond, IsTrue};
 ghost use Rattle.jc_facts.specs.declared.link_error.LinkError.TheVariants.{IllegalAccessError, IncompatibleClassChangeError};
 ghost use Rattle.jc_facts.specs.declared.rule_numbers.TheConstants.{CAPTURE_ADDED};
-ghost use Rattle.jc_facts.specs.rule.Collisions.{are_none, leaves_room};
+ghost use Rattle.jc_facts.specs.world.Lookup.{are_none, method_choices};
+ghost use Rattle.jc_promises.specs.rule.Collisions.{leaves_room};
 ghost use Rattle.jc_facts.specs.Flags.{public_flag, no_static_flag};
-ghost use Rattle.jc_facts.specs.world.Lookup.{method_choices};
-ghost use Rattle.jc_facts.specs.rule.Bases.{is_base_class, is_key_of_method};
+ghost use Rattle.jc_promises.specs.rule.Bases.{is_base_class, is_key_of_method};
 ghost use Rattle.jc_rules.specs.steps.Changed.{changed_class};
 ghost use Rattle.jc_sides.specs.Numbering.{AreNumbers};
 ghost use Rattle.jc_sides.specs.SharedOf.{IsShared, name_of};

@@ -1,13 +1,13 @@
 //! The comparison of two sides.
 ghost use Rattle.std.specs.Prelude.{◌≡◌, IfOk, IfSome, option_map};
 ghost use Rattle.jc_acts.specs.Seats.{AreSeats};
-ghost use Rattle.jc_facts.specs.rule.Collisions.{CollisionStands};
-ghost use Rattle.jc_facts.specs.rule.Findings.{Stands};
-ghost use Rattle.jc_facts.specs.rule.Notes.{NoteStands};
-ghost use Rattle.jc_facts.specs.rule.Orders.{finding_order, collision_order, note_order};
+ghost use Rattle.jc_promises.specs.rule.Collisions.{CollisionStands};
+ghost use Rattle.jc_promises.specs.rule.Findings.{Stands};
+ghost use Rattle.jc_promises.specs.rule.Notes.{NoteStands};
+ghost use Rattle.jc_facts.specs.Orders.{finding_order, collision_order, note_order};
 ghost use Rattle.jc_facts.specs.Exactly.{HasExactly};
-ghost use Rattle.jc_facts.specs.world.Pairs.{AreOfOneRun};
-ghost use Rattle.jc_facts.specs.rule.Verdict.{IsVerdict};
+ghost use Rattle.jc_promises.specs.Pairs.{AreOfOneRun};
+ghost use Rattle.jc_promises.specs.rule.Verdict.{IsVerdict};
 ghost use Rattle.jc_rules.specs.Verdicts.{IsVerdictWithin, KeepsAll, BreaksEach};
 ghost use Rattle.jc_rules.specs.steps.Changed.{AreChanged};
 ghost use Rattle.jc_rules.specs.steps.Losses.{AreLosses};

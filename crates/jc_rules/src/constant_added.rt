@@ -1,8 +1,8 @@
 //! The collision of fields that interfaces have now.
 ghost use Rattle.std.specs.Prelude.{◌≡◌, IsTrue};
 ghost use Rattle.jc_facts.specs.declared.rule_numbers.TheConstants.{CONSTANT_ADDED};
-ghost use Rattle.jc_facts.specs.rule.Bases.{is_base_interface};
-ghost use Rattle.jc_facts.specs.rule.Collisions.{constant_added};
+ghost use Rattle.jc_promises.specs.rule.Bases.{is_base_interface};
+ghost use Rattle.jc_promises.specs.rule.Collisions.{constant_added};
 ghost use Rattle.jc_rules.specs.steps.Changed.{changed_interface};
 ghost use Rattle.jc_sides.specs.Numbering.{AreNumbers};
 ghost use Rattle.jc_sides.specs.SharedOf.{IsShared, name_of};

@@ -2,7 +2,7 @@
 ghost use Rattle.std.specs.Prelude.{◌≡◌};
 ghost use Rattle.jc_facts.specs.declared.rule_numbers.TheConstants.{CONSTRUCTOR_CLOSED};
 ghost use Rattle.jc_facts.specs.Flags.{public_flag};
-ghost use Rattle.jc_facts.specs.rule.Bases.{is_base_class};
+ghost use Rattle.jc_promises.specs.rule.Bases.{is_base_class};
 ghost use Rattle.jc_rules.specs.steps.Changed.{changed_steady};
 ghost use Rattle.jc_rules.specs.steps.Constructors.{makes_no_objects, open_flags, declares_init, fault_of_new, fault_of_super};
 ghost use Rattle.jc_sides.specs.SharedOf.{HasThose};

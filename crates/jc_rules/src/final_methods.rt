@@ -2,7 +2,7 @@
 ghost use Rattle.std.specs.Prelude.{◌≡◌, ◌<◌, ◌&&◌, ◌||◌, None};
 ghost use Rattle.jc_facts.specs.Flags.{final_flag, no_static_flag, public_flag, protected_flag};
 ghost use Rattle.jc_facts.specs.Options.{some_and};
-ghost use Rattle.jc_facts.specs.rule.Bases.{declares_as_final, is_final_in_chain};
+ghost use Rattle.jc_facts.specs.world.Inheritance.{declares_as_final, is_final_in_chain};
 ghost use Rattle.jc_facts.specs.world.Loading.{load_fault};
 ghost use Rattle.jc_facts.specs.world.World.{find_class, size};
 ghost use Rattle.jc_table.specs.Ids.{name_at};

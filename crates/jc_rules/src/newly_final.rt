@@ -1,10 +1,10 @@
 //! Methods that may not be overridden any more.
 ghost use Rattle.std.specs.Prelude.{◌≡◌, ◌<◌, ◌&&◌, ◌||◌, None, IsTrue, IsFalse};
 ghost use Rattle.jc_facts.specs.world.Assignment.{is_interface_of};
-ghost use Rattle.jc_facts.specs.rule.Findings.{finds_overridable};
+ghost use Rattle.jc_promises.specs.rule.Findings.{finds_overridable};
 ghost use Rattle.jc_facts.specs.Flags.{public_flag, protected_flag, no_static_flag};
 ghost use Rattle.jc_facts.specs.world.Loading.{load_fault};
-ghost use Rattle.jc_facts.specs.rule.Bases.{is_base_class, is_key_of_method};
+ghost use Rattle.jc_promises.specs.rule.Bases.{is_base_class, is_key_of_method};
 ghost use Rattle.jc_facts.specs.world.World.{size};
 ghost use Rattle.jc_rules.specs.steps.Methods.{becomes_final, final_now};
 ghost use Rattle.jc_sides.specs.Numbering.{AreNumbers};

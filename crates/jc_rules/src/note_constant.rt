@@ -4,9 +4,9 @@ ghost use Rattle.std.specs.BTreeMap.{keys};
 ghost use Rattle.std.specs.List.{filter_map};
 ghost use Rattle.jc_facts.specs.Exactly.{HasExactly};
 ghost use Rattle.jc_facts.specs.Options.{some_and};
-ghost use Rattle.jc_facts.specs.rule.Bases.{is_kept};
-ghost use Rattle.jc_facts.specs.rule.Notes.{is_same_constant};
-ghost use Rattle.jc_facts.specs.rule.Orders.{note_order};
+ghost use Rattle.jc_promises.specs.rule.Bases.{is_kept};
+ghost use Rattle.jc_facts.specs.Records.{same_constant};
+ghost use Rattle.jc_facts.specs.Orders.{note_order};
 ghost use Rattle.jc_facts.specs.world.World.{size};
 ghost use Rattle.jc_rules.specs.steps.Notes.{HasConstants, AreConstants, value_in, changed_in, static_final_flags, is_in_both, constant_note, IsConstantNote, OnConstants};
 ghost use Rattle.jc_rules.specs.steps.Own.{field_flags_of};
@@ -62,7 +62,7 @@ fn value_at<'a>(
 
 // Whether the two constants are of one kind and equal.
 fn same_constant(before: &Constant, after: &Constant) -> bool
-    ensures { result ≡ is_same_constant before.now after.now }
+    ensures { result ≡ same_constant before.now after.now }
 {
     *before == *after
 }

@@ -1,7 +1,7 @@
 //! Notes on classes that don't load.
 ghost use Rattle.std.specs.Prelude.{◌≡◌, ◌<◌, [], IfOk};
 ghost use Rattle.jc_facts.specs.world.World.{size};
-ghost use Rattle.jc_facts.specs.rule.Orders.{note_order};
+ghost use Rattle.jc_facts.specs.Orders.{note_order};
 ghost use Rattle.jc_facts.specs.Exactly.{HasExactly};
 ghost use Rattle.jc_rules.specs.steps.Notes.{unloadable, NoteIn};
 ghost use Rattle.jc_table.specs.Ids.{name_at};

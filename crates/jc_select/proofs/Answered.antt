@@ -2,8 +2,8 @@
 use Rattle.std.proofs.Common.{ℕ, List, Option, Some, None}
 use Rattle.std.specs.Option.{IfSome}
 use Rattle.jc_facts.specs.declared.warning.Warning.{Warning}
-use Rattle.jc_facts.specs.rule.Warnings.{AreWarnings}
-use Rattle.jc_facts.specs.world.Pairs.{AreOfOneRun}
+use Rattle.jc_promises.specs.rule.Warnings.{AreWarnings}
+use Rattle.jc_promises.specs.Pairs.{AreOfOneRun}
 use Rattle.jc_facts.specs.world.World.{World}
 use Rattle.jc_selection.proofs.SelectionLaw.{selection_is_kept as law}
 use Rattle.jc_table.specs.Sides.{IsSide}

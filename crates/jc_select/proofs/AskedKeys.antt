@@ -13,12 +13,12 @@ use Rattle.jc_facts.specs.file.Valid.{has_key}
 use Rattle.jc_facts.specs.Flags.{interface_flag, final_flag}
 use Rattle.jc_facts.specs.Names.{Bytes}
 use Rattle.jc_facts.specs.Options.{some_and}
-use Rattle.jc_facts.specs.rule.Bases.{class_is, is_base_class, is_base_interface, is_extendable, is_implementable, is_steady, is_class_closed, newly_sealed}
-use Rattle.jc_facts.specs.rule.Selection.{first_kind, chain_kind}
-use Rattle.jc_facts.specs.rule.Warnings.{is_base, interfaces_from, warn_kind, warning_at}
+use Rattle.jc_facts.specs.world.World.{class_is, World, size, find_class}
+use Rattle.jc_promises.specs.rule.Bases.{is_base_class, is_base_interface, is_extendable, is_implementable, is_steady, is_class_closed, newly_sealed}
+use Rattle.jc_promises.specs.rule.Selection.{first_kind, chain_kind}
+use Rattle.jc_promises.specs.rule.Warnings.{is_base, interfaces_from, warn_kind, warning_at}
 use Rattle.jc_facts.specs.world.Assignment.{is_interface_of}
 use Rattle.jc_facts.specs.world.Hierarchy.{chain}
-use Rattle.jc_facts.specs.world.World.{World, size, find_class}
 use Rattle.jc_lemmas.proofs.Bools.{neither_first, neither_last, not_true}
 use Rattle.jc_lemmas.proofs.Listed.{EachOf, EachOf-append, each_in}
 use Rattle.jc_worlds.proofs.Loaded.{loads-found}

@@ -7,8 +7,8 @@ use Rattle.jc_facts.specs.declared.warning.ChainKind.{ChainKind}
 use Rattle.jc_facts.specs.declared.warning.ChainKind.TheVariants.{Nothing, Abstract, Concrete}
 use Rattle.jc_facts.specs.file.Valid.{has_key}
 use Rattle.jc_facts.specs.Names.{Bytes, same_key}
-use Rattle.jc_facts.specs.rule.Bases.{offers}
-use Rattle.jc_facts.specs.rule.Selection.{first_kind, declares_abstract}
+use Rattle.jc_facts.specs.world.Inheritance.{offers}
+use Rattle.jc_promises.specs.rule.Selection.{first_kind, declares_abstract}
 use Rattle.jc_facts.specs.world.Hierarchy.{chain}
 use Rattle.jc_facts.specs.world.World.{World, size}
 use Rattle.jc_lemmas.proofs.Bools.{neither_first, neither_last}

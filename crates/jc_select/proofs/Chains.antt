@@ -6,7 +6,7 @@ use Rattle.jc_facts.specs.declared.key.Key.{Key}
 use Rattle.jc_facts.specs.Flags.{abstract_flag, private_flag, static_flag, interface_flag}
 use Rattle.jc_facts.specs.Names.{Bytes}
 use Rattle.jc_facts.specs.Options.{some_and, and_then}
-use Rattle.jc_facts.specs.rule.Bases.{offers, is_inheritable}
+use Rattle.jc_facts.specs.world.Inheritance.{offers, is_inheritable}
 use Rattle.jc_facts.specs.world.Assignment.{is_interface_of}
 use Rattle.jc_facts.specs.world.Hierarchy.{chain}
 use Rattle.jc_facts.specs.world.World.{World, find_class, size, own_method_of}
@@ -16,7 +16,7 @@ use Rattle.jc_table.specs.steps.Walking.{chain_from}
 use Rattle.jc_table.proofs.Walking.{from-step, from-none, from-nothing}
 use Rattle.jc_facts.specs.declared.warning.ChainKind.{ChainKind}
 use Rattle.jc_facts.specs.declared.warning.ChainKind.TheVariants.{Nothing, Abstract, Concrete}
-use Rattle.jc_facts.specs.rule.Selection.{declares_abstract, first_kind, chain_kind}
+use Rattle.jc_promises.specs.rule.Selection.{declares_abstract, first_kind, chain_kind}
 use Rattle.jc_select.specs.steps.Kinds.{kind_of, kind_from, is_nothing}
 
 -- what the class itself has

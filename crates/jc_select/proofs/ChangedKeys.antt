@@ -14,7 +14,7 @@ use Rattle.jc_facts.specs.file.Valid.{has_key}
 use Rattle.jc_facts.specs.Flags.{abstract_flag}
 use Rattle.jc_facts.specs.Names.{is_key, key_of}
 use Rattle.jc_facts.specs.Options.{some_and}
-use Rattle.jc_facts.specs.rule.Bases.{is_inheritable}
+use Rattle.jc_facts.specs.world.Inheritance.{is_inheritable}
 use Rattle.jc_facts.specs.world.World.{World, size, find_class, class_named, own_method_of}
 use Rattle.jc_facts.proofs.KeySets.{key-same}
 use Rattle.jc_lemmas.proofs.Bools.{neither_first, neither_last}

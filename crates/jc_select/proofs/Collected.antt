@@ -11,11 +11,10 @@ use Rattle.jc_facts.specs.declared.class_facts.Member.{Member}
 use Rattle.jc_facts.specs.Flags.{interface_flag, private_flag, static_flag}
 use Rattle.jc_facts.specs.Names.{Bytes, same}
 use Rattle.jc_facts.specs.Options.{some_and, and_then}
-use Rattle.jc_facts.specs.rule.Bases.{offers, is_inheritable}
+use Rattle.jc_facts.specs.world.Inheritance.{offers, is_inheritable}
 use Rattle.jc_facts.specs.world.Assignment.{is_interface_of}
-use Rattle.jc_facts.specs.world.World.{World, size, classes, find_class, own_method_of}
+use Rattle.jc_facts.specs.world.World.{World, size, classes, find_class, own_method_of, differ_by_name}
 use Rattle.jc_facts.specs.world.Search.{descend}
-use Rattle.jc_facts.specs.client.Clients.{differ_by_name}
 use Rattle.jc_facts.specs.world.Hierarchy.{chain, each, interfaces_of, interfaces_step, is_superinterface, superinterfaces, with_interfaces, names_in}
 use Rattle.jc_facts.proofs.Same.{same_is}
 use Rattle.jc_facts.proofs.World.{IsOf, find-name}
@@ -30,7 +29,7 @@ use Rattle.jc_index.proofs.Numbers.{IsClass, class_at, find-None}
 use Rattle.jc_index.specs.declared.ids.Found.{Found}
 use Rattle.jc_index.specs.steps.Choosing.{as_found, if_candidate}
 use Rattle.jc_table.specs.Ids.{name_at, superclass_of, id_of}
-use Rattle.jc_facts.specs.rule.Warnings.{interfaces_from, part, is_below_other}
+use Rattle.jc_promises.specs.rule.Warnings.{interfaces_from, part, is_below_other}
 use Rattle.jc_select.specs.steps.Parts.{AreNamed, offers_at}
 use Rattle.jc_index.proofs.Reached.{reached_of}
 

@@ -7,8 +7,8 @@ use Rattle.std.proofs.lemmas.Bool.{ltb-true, ltb-false}
 use Rattle.std.proofs.lemmas.List.Elements.{All-contains}
 use Rattle.jc_dropped.proofs.DroppedLaws.{instances_stay as law}
 use Rattle.jc_dropped.specs.Dropped.{AreDropped, IsDropped, dropped_order}
-use Rattle.jc_dropped.specs.declared.dropped.Dropped.{Dropped}
-use Rattle.jc_facts.specs.world.Pairs.{AreOfOneRun}
+use Rattle.jc_facts.specs.declared.dropped.Dropped.{Dropped}
+use Rattle.jc_promises.specs.Pairs.{AreOfOneRun}
 use Rattle.jc_facts.specs.world.World.{World}
 use Rattle.jc_select.specs.DroppedWithin.{AreDroppedWithin, InterfacesStill}
 use Rattle.jc_sides.proofs.Pair.{pair_of}

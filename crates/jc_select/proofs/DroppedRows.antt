@@ -19,12 +19,12 @@ use Rattle.std.proofs.lemmas.Map.Lookups.{exact_unsigned}
 use Rattle.std.proofs.lemmas.Map.Views.{btree_set_contains_iff}
 use Rattle.jc_dropped.proofs.Held.{held_loads}
 use Rattle.jc_dropped.specs.Dropped.{is_held, has_lost, loses_interface, is_dropped, IsDropped, dropped_order}
-use Rattle.jc_dropped.specs.declared.dropped.Dropped.{Dropped}
+use Rattle.jc_facts.specs.declared.dropped.Dropped.{Dropped}
 use Rattle.jc_facts.specs.Exactly.{Before, NamesRise, HasExactly}
 use Rattle.jc_facts.specs.Names.{Bytes}
 use Rattle.jc_facts.specs.declared.class_facts.ClassFacts.{ClassFacts}
 use Rattle.jc_facts.specs.declared.link_error.LinkError.TheVariants.{NoClassDefFoundError}
-use Rattle.jc_facts.specs.rule.Bases.{is_steady}
+use Rattle.jc_promises.specs.rule.Bases.{is_steady}
 use Rattle.jc_facts.specs.world.Hierarchy.{is_superinterface}
 use Rattle.jc_facts.specs.world.Search.{supers}
 use Rattle.jc_facts.specs.world.World.{World, find_class, size}

@@ -9,7 +9,7 @@ use Rattle.jc_facts.specs.declared.key.Key.{Key}
 use Rattle.jc_facts.specs.Exactly.{Before}
 use Rattle.jc_facts.specs.KeyOrder.{key_cmp}
 use Rattle.jc_facts.specs.Names.{Bytes}
-use Rattle.jc_facts.specs.rule.Bases.{is_key_of_method}
+use Rattle.jc_promises.specs.rule.Bases.{is_key_of_method}
 use Rattle.jc_table.proofs.Numbers.{names-in}
 use Rattle.jc_sides.specs.Limit.{IsWithin}
 use Rattle.jc_sides.specs.Rules.{IsItemRule}
@@ -19,8 +19,8 @@ use Rattle.jc_sides.proofs.ItemRules.{kept_where}
 use Rattle.jc_sides.proofs.NamedAbove.{base_unkept}
 use Rattle.jc_facts.specs.declared.warning.ChainKind.{ChainKind}
 use Rattle.jc_facts.specs.declared.warning.ChainKind.TheVariants.{Nothing, Abstract, Concrete}
-use Rattle.jc_facts.specs.rule.Selection.{chain_kind}
-use Rattle.jc_facts.specs.rule.Warnings.{is_base, warn_kind, warning_at, warning_order, AreWarnings, WarningStands}
+use Rattle.jc_promises.specs.rule.Selection.{chain_kind}
+use Rattle.jc_promises.specs.rule.Warnings.{is_base, warn_kind, warning_at, warning_order, AreWarnings, WarningStands}
 use Rattle.jc_facts.specs.declared.warning.Warning.{Warning}
 use Rattle.jc_facts.specs.declared.warning.WarnKind.{WarnKind}
 use Rattle.jc_select.specs.steps.Kinds.{is_nothing}

@@ -9,7 +9,7 @@ use Rattle.jc_facts.specs.world.World.{World}
 use Rattle.jc_sound.proofs.VerdictLaw.{no_longer, exactly_one}
 use Rattle.jc_sides.specs.Limit.{IsWithin}
 use Rattle.jc_facts.specs.declared.warning.Warning.{Warning}
-use Rattle.jc_facts.specs.rule.Warnings.{WarningStands, warning_order, AreWarnings}
+use Rattle.jc_promises.specs.rule.Warnings.{WarningStands, warning_order, AreWarnings}
 use Rattle.jc_select.specs.Within.{AreWarningsWithin}
 
 pub warning_total : IsTotalOrder warning_order

@@ -17,8 +17,8 @@ use Rattle.jc_exposed.specs.declared.exposed.Exposed.{Exposed}
 use Rattle.jc_exposed.specs.Exposed.{AreWanted}
 use Rattle.jc_facts.specs.declared.link_error.LinkError.{LinkError}
 use Rattle.jc_facts.specs.Names.{Bytes, same}
-use Rattle.jc_facts.specs.rule.Bases.{is_kept, is_steady}
-use Rattle.jc_facts.specs.rule.Warnings.{is_below_other}
+use Rattle.jc_promises.specs.rule.Bases.{is_kept, is_steady}
+use Rattle.jc_promises.specs.rule.Warnings.{is_below_other}
 use Rattle.jc_facts.specs.world.Hierarchy.{superinterfaces, is_superinterface}
 use Rattle.jc_facts.specs.world.Loading.{load_fault, loads}
 use Rattle.jc_facts.specs.world.World.{World, size}

@@ -9,7 +9,7 @@ use Rattle.jc_facts.specs.declared.warning.ChainKind.TheVariants.{Nothing, Abstr
 use Rattle.jc_facts.specs.Flags.{abstract_flag, private_flag, static_flag}
 use Rattle.jc_facts.specs.Names.{Bytes}
 use Rattle.jc_facts.specs.Options.{some_and}
-use Rattle.jc_facts.specs.rule.Warnings.{interfaces_from, is_below_other}
+use Rattle.jc_promises.specs.rule.Warnings.{interfaces_from, is_below_other}
 use Rattle.jc_lemmas.proofs.Listed.{each_in, each_from, any_has, any_passes, in_filter, filter_in, list_all-each, here, there}
 use Rattle.jc_index.specs.declared.ids.Found.{Found}
 use Rattle.jc_index.specs.steps.Choosing.{own_at, if_candidate}

@@ -8,7 +8,7 @@ use Rattle.jc_facts.specs.declared.key.Key.{Key}
 use Rattle.jc_facts.specs.Names.{Bytes, same}
 use Rattle.jc_facts.specs.Flags.{interface_flag}
 use Rattle.jc_facts.specs.Options.{some_and}
-use Rattle.jc_facts.specs.rule.Bases.{offers}
+use Rattle.jc_facts.specs.world.Inheritance.{offers}
 use Rattle.jc_facts.specs.world.Assignment.{is_interface_of}
 use Rattle.jc_facts.specs.world.Hierarchy.{chain, names_in, superinterfaces, is_superinterface, with_interfaces}
 use Rattle.jc_facts.specs.world.Loading.{load_fault}
@@ -27,8 +27,8 @@ use Rattle.jc_sides.specs.Members.{OfPassing}
 use Rattle.jc_sides.specs.SidesOf.{SidesOf, AreSides}
 use Rattle.jc_facts.specs.declared.warning.ChainKind.{ChainKind}
 use Rattle.jc_facts.specs.declared.warning.ChainKind.TheVariants.{Nothing, Abstract, Concrete}
-use Rattle.jc_facts.specs.rule.Selection.{declares_abstract, first_kind, chain_kind}
-use Rattle.jc_facts.specs.rule.Warnings.{is_base, is_below_other, interfaces_from, part, stays_in, parts_agree, warn_kind, warning_at}
+use Rattle.jc_promises.specs.rule.Selection.{declares_abstract, first_kind, chain_kind}
+use Rattle.jc_promises.specs.rule.Warnings.{is_base, is_below_other, interfaces_from, part, stays_in, parts_agree, warn_kind, warning_at}
 use Rattle.jc_select.specs.steps.Warned.{warned, parts_differ}
 use Rattle.jc_select.proofs.KindsWarned.{warned_parts, some_kind, base_loads}
 use Rattle.jc_selection.proofs.Selected.{no_change}

@@ -10,9 +10,9 @@ use Rattle.jc_facts.specs.declared.warning.ChainKind.TheVariants.{Nothing, Abstr
 use Rattle.jc_facts.specs.declared.warning.WarnKind.{WarnKind}
 use Rattle.jc_facts.specs.Names.{Bytes}
 use Rattle.jc_facts.specs.Options.{some_and}
-use Rattle.jc_facts.specs.rule.Bases.{offers, is_inheritable}
-use Rattle.jc_facts.specs.rule.Selection.{declares_abstract, first_kind, chain_kind}
-use Rattle.jc_facts.specs.rule.Warnings.{interfaces_from, part, parts_agree, warn_kind, warning_at}
+use Rattle.jc_facts.specs.world.Inheritance.{offers, is_inheritable}
+use Rattle.jc_promises.specs.rule.Selection.{declares_abstract, first_kind, chain_kind}
+use Rattle.jc_promises.specs.rule.Warnings.{interfaces_from, part, parts_agree, warn_kind, warning_at}
 use Rattle.jc_facts.specs.world.Assignment.{is_interface_of}
 use Rattle.jc_facts.specs.world.Hierarchy.{chain}
 use Rattle.jc_facts.specs.world.World.{World, own_field_of, own_method_of}

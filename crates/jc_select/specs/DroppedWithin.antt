@@ -2,9 +2,9 @@
 use Rattle.std.specs.Prelude.{◌≤◌, ◌<◌, ℕ, List, length, Option, None, Some}
 use Rattle.jc_dropped.specs.Dropped.{AreDropped}
 use Rattle.jc_dropped.specs.InterfacesKept.{AllInterfacesKept}
-use Rattle.jc_dropped.specs.declared.dropped.Dropped.{Dropped}
+use Rattle.jc_facts.specs.declared.dropped.Dropped.{Dropped}
 use Rattle.jc_facts.specs.declared.verdict.Verdict.{Verdict}
-use Rattle.jc_facts.specs.rule.Verdict.{IsVerdict}
+use Rattle.jc_promises.specs.rule.Verdict.{IsVerdict}
 use Rattle.jc_facts.specs.world.World.{World}
 
 -- the list has just the dropped interfaces, which are at most so many; there is no list exactly where they are more

@@ -2,8 +2,8 @@
 use Rattle.std.specs.Prelude.{◌≤◌, ◌<◌, ℕ, List, length, Option, None, Some}
 use Rattle.jc_facts.specs.declared.verdict.Verdict.{Verdict}
 use Rattle.jc_facts.specs.declared.warning.Warning.{Warning}
-use Rattle.jc_facts.specs.rule.Verdict.{IsVerdict}
-use Rattle.jc_facts.specs.rule.Warnings.{AreWarnings}
+use Rattle.jc_promises.specs.rule.Verdict.{IsVerdict}
+use Rattle.jc_promises.specs.rule.Warnings.{AreWarnings}
 use Rattle.jc_facts.specs.world.World.{World}
 use Rattle.jc_selection.specs.SelectionKept.{SelectionStays}
 

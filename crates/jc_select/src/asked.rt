@@ -3,7 +3,7 @@
 ghost use Rattle.std.specs.Prelude.{◌≡◌, ◌≤◌, ◌<◌, ◌++◌, [], IfOk, IfSome, IsTrue, OnOk, length, slice_index_or};
 ghost use Rattle.std.specs.List.{All};
 ghost use Rattle.jc_acts.specs.Seats.{AreSeats};
-ghost use Rattle.jc_facts.specs.rule.Warnings.{is_base};
+ghost use Rattle.jc_promises.specs.rule.Warnings.{is_base};
 ghost use Rattle.jc_facts.specs.world.World.{size};
 ghost use Rattle.jc_select.specs.steps.Asked.{HaveThose, IsMet, up_of, HaveNoRest, ChainsAgree, PartsAgree};
 ghost use Rattle.jc_select.specs.steps.Changes.{AreChanges};

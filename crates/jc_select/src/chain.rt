@@ -5,7 +5,7 @@ ghost use Rattle.jc_facts.specs.world.World.{size};
 ghost use Rattle.jc_index.specs.steps.Choosing.{candidate_at};
 ghost use Rattle.jc_select.specs.steps.Kinds.{kind_by, kind_of, is_nothing};
 ghost use Rattle.jc_table.specs.Ids.{name_at};
-ghost use Rattle.jc_facts.specs.rule.Selection.{first_kind, chain_kind};
+ghost use Rattle.jc_promises.specs.rule.Selection.{first_kind, chain_kind};
 
 use jc_facts::flags::{is_abstract, is_interface};
 use jc_facts::key::Key;

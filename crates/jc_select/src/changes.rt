@@ -1,7 +1,7 @@
 //! Keys of which classes have otherwise on the new side: none of them has to be looked at elsewhere.
 ghost use Rattle.std.specs.Prelude.{◌≡◌, ◌<◌, ℕ, Some, IfOk, OnOk};
 ghost use Rattle.std.specs.Cmp.Lexicographic.{pointwise};
-ghost use Rattle.jc_acts.specs.Records.{same_member};
+ghost use Rattle.jc_facts.specs.Records.{same_member};
 ghost use Rattle.jc_facts.specs.Names.{key_of};
 ghost use Rattle.jc_facts.specs.world.World.{size};
 ghost use Rattle.jc_select.specs.steps.Changes.{same_kind, differs, HasChanged, AreChanges};

@@ -8,7 +8,7 @@ ghost use Rattle.jc_select.specs.steps.Parts.{AreNamed, offers_at, abstract_at, 
 ghost use Rattle.jc_select.specs.steps.Warned.{parts_differ};
 ghost use Rattle.jc_sides.specs.SharedOf.{IsShared, name_of};
 ghost use Rattle.jc_table.specs.Ids.{name_at, id_of};
-ghost use Rattle.jc_facts.specs.rule.Warnings.{interfaces_from, is_below_other, part};
+ghost use Rattle.jc_promises.specs.rule.Warnings.{interfaces_from, is_below_other, part};
 
 use jc_facts::flags::{is_abstract, is_interface};
 use jc_facts::key::Key;

@@ -8,9 +8,9 @@ ghost use Rattle.jc_select.specs.steps.Changes.{AreChanges};
 ghost use Rattle.jc_sides.specs.Rules.{IsOf};
 ghost use Rattle.jc_sides.specs.SharedOf.{IsShared, name_of};
 ghost use Rattle.jc_sides.specs.SidesOf.{AreSides};
-ghost use Rattle.jc_facts.specs.rule.Selection.{chain_kind};
+ghost use Rattle.jc_promises.specs.rule.Selection.{chain_kind};
 ghost use Rattle.jc_facts.specs.declared.warning.ChainKind.TheVariants.{Nothing, Concrete};
-ghost use Rattle.jc_facts.specs.rule.Warnings.{is_base, warn_kind, warning_at, warning_order, WarningStands};
+ghost use Rattle.jc_promises.specs.rule.Warnings.{is_base, warn_kind, warning_at, warning_order, WarningStands};
 
 use crate::asked::asked_keys;
 use crate::chain::chain_kind;

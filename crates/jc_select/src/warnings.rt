@@ -1,8 +1,8 @@
 //! The warnings on a new release, after an old one.
 ghost use Rattle.std.specs.Prelude.{◌≡◌, IfOk, IfSome, option_map};
 ghost use Rattle.jc_acts.specs.Seats.{AreSeats};
-ghost use Rattle.jc_facts.specs.world.Pairs.{AreOfOneRun};
-ghost use Rattle.jc_facts.specs.rule.Warnings.{AreWarnings, WarningStands, is_base, warning_order};
+ghost use Rattle.jc_promises.specs.Pairs.{AreOfOneRun};
+ghost use Rattle.jc_promises.specs.rule.Warnings.{AreWarnings, WarningStands, is_base, warning_order};
 ghost use Rattle.jc_select.specs.Within.{AreWarningsWithin, AnswersStill};
 ghost use Rattle.jc_select.specs.steps.Changes.{AreChanges};
 ghost use Rattle.jc_sides.specs.Limit.{IsWithin};

@@ -13,13 +13,14 @@ use Rattle.jc_facts.specs.Options.{some_and}
 use Rattle.jc_facts.specs.world.World.{own_method_of}
 use Rattle.jc_facts.specs.file.Rules.{method_descriptor_fits, method_flags_fit, plain_method_flags_fit, one_access_at_most, implies}
 use Rattle.jc_facts.specs.file.Valid.{IsValidClass, method_is_valid}
-use Rattle.jc_facts.specs.rule.Bases.{offers, is_inheritable, is_key_of_method}
+use Rattle.jc_facts.specs.world.Inheritance.{offers, is_inheritable}
+use Rattle.jc_promises.specs.rule.Bases.{is_key_of_method}
 use Rattle.jc_facts.proofs.Same.{same_is}
 use Rattle.jc_lemmas.proofs.Bools.{imply, neither_first, neither_last, not_true}
 use Rattle.jc_worlds.proofs.Inherited.{found_passes, found_all}
 use Rattle.jc_facts.specs.declared.warning.ChainKind.{ChainKind}
 use Rattle.jc_facts.specs.declared.warning.ChainKind.TheVariants.{Nothing, Abstract, Concrete}
-use Rattle.jc_facts.specs.rule.Selection.{first_kind, declares_abstract}
+use Rattle.jc_promises.specs.rule.Selection.{first_kind, declares_abstract}
 
 -- the first that is something
 abbrev pub kind_or : ChainKind → ChainKind → ChainKind

@@ -12,11 +12,11 @@ use Rattle.jc_facts.specs.Options.{some_and}
 use Rattle.jc_facts.specs.world.World.{World, DeclaredMember, found_in, own_method_of}
 use Rattle.jc_facts.specs.world.Hierarchy.{superinterfaces, is_superinterface}
 use Rattle.jc_facts.specs.world.Lookup.{declared_by, if_inheritable, is_maximal, is_concrete}
-use Rattle.jc_facts.specs.rule.Bases.{offers}
+use Rattle.jc_facts.specs.world.Inheritance.{offers}
 use Rattle.jc_facts.proofs.Same.{same_is, same_itself}
 use Rattle.jc_lemmas.proofs.Bools.{or_false}
 use Rattle.jc_lemmas.proofs.Listed.{here, there, each_in, any_has, any_passes, list_all-each}
-use Rattle.jc_facts.specs.rule.Selection.{concrete_choices, are_one}
+use Rattle.jc_promises.specs.rule.Selection.{concrete_choices, are_one}
 use Rattle.jc_selection.proofs.Parts.{is_offered, is_beside}
 
 -- a test of those that pass another

@@ -10,7 +10,7 @@ use Rattle.jc_facts.specs.world.World.{World, find_class}
 use Rattle.jc_facts.specs.world.Hierarchy.{each, with_interfaces, superinterfaces, is_superinterface, names_in}
 use Rattle.jc_facts.specs.world.Loading.{load_fault}
 use Rattle.jc_facts.specs.file.Valid.{IsValidClass}
-use Rattle.jc_facts.specs.rule.Bases.{offers}
+use Rattle.jc_facts.specs.world.Inheritance.{offers}
 use Rattle.jc_facts.proofs.Same.{same_is}
 use Rattle.jc_facts.proofs.World.{find-name, IsOf}
 use Rattle.jc_lemmas.proofs.Listed.{EachOf, EachOf-map, each_in, any_passes, list_any-same}

@@ -9,13 +9,13 @@ use Rattle.jc_facts.specs.Names.{Bytes, same}
 use Rattle.jc_facts.specs.Options.{some_and}
 use Rattle.jc_facts.specs.world.World.{World, class_named, find_class}
 use Rattle.jc_facts.specs.world.Hierarchy.{names_in, is_superinterface}
-use Rattle.jc_facts.specs.rule.Bases.{offers}
+use Rattle.jc_facts.specs.world.Inheritance.{offers}
 use Rattle.jc_facts.proofs.World.{class_named-name, class_named-each, IsOf}
 use Rattle.jc_facts.proofs.Same.{same_is, same_itself}
 use Rattle.jc_lemmas.proofs.Bools.{tests_agree, beq_is}
 use Rattle.jc_lemmas.proofs.Listed.{EachOf, each_in, each_from, any_has, any_passes, in_filter, filter_in, list_all-each}
-use Rattle.jc_facts.specs.rule.Selection.{declares_abstract}
-use Rattle.jc_facts.specs.rule.Warnings.{is_below_other, stays_in, parts_agree}
+use Rattle.jc_promises.specs.rule.Selection.{declares_abstract}
+use Rattle.jc_promises.specs.rule.Warnings.{is_below_other, stays_in, parts_agree}
 
 -- a class that is found stands in the list
 pub class_named-in : (cs : List ClassFacts) (x : Bytes) (c : ClassFacts) → class_named cs x ≡ Some c → Contains cs c

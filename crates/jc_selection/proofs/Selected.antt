@@ -12,7 +12,8 @@ use Rattle.jc_facts.specs.world.Hierarchy.{chain, with_interfaces, superinterfac
 use Rattle.jc_facts.specs.world.Loading.{load_fault}
 use Rattle.jc_facts.specs.world.Assignment.{is_interface_of}
 use Rattle.jc_facts.specs.file.Valid.{IsValidClass}
-use Rattle.jc_facts.specs.rule.Bases.{offers, is_key_of_method, is_base_class, is_base_interface, is_class_usable}
+use Rattle.jc_facts.specs.world.Inheritance.{offers}
+use Rattle.jc_promises.specs.rule.Bases.{is_key_of_method, is_base_class, is_base_interface, is_class_usable}
 use Rattle.jc_facts.proofs.World.{find-name, IsOf, class_named-name}
 use Rattle.jc_facts.proofs.Same.{same_is, same_itself}
 use Rattle.jc_lemmas.proofs.Bools.{contradicts}
@@ -33,8 +34,8 @@ use Rattle.jc_sound.proofs.Seats.{SeatOf}
 use Rattle.jc_sound.proofs.Standing.{stays_interface}
 use Rattle.jc_facts.specs.declared.warning.ChainKind.{ChainKind}
 use Rattle.jc_facts.specs.declared.warning.ChainKind.TheVariants.{Nothing, Abstract, Concrete}
-use Rattle.jc_facts.specs.rule.Selection.{first_kind, chain_kind, declares_abstract, concrete_choices, are_one, answers, is_due, is_answered}
-use Rattle.jc_facts.specs.rule.Warnings.{is_base, interfaces_from, part, parts_agree, warn_kind, warning_at}
+use Rattle.jc_promises.specs.rule.Selection.{first_kind, chain_kind, declares_abstract, concrete_choices, are_one, answers, is_due, is_answered}
+use Rattle.jc_promises.specs.rule.Warnings.{is_base, interfaces_from, part, parts_agree, warn_kind, warning_at}
 use Rattle.jc_facts.specs.declared.warning.WarnKind.{WarnKind}
 use Rattle.jc_facts.specs.declared.warning.WarnKind.TheVariants as warn
 use Rattle.jc_selection.proofs.Parts.{is_offered, is_beside, offered_alike, beside_alike}

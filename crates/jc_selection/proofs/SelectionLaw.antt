@@ -9,15 +9,15 @@ use Rattle.jc_facts.specs.declared.verdict.Collision.{Collision}
 use Rattle.jc_facts.specs.Names.{Bytes}
 use Rattle.jc_facts.specs.world.World.{World, side, with_clients}
 use Rattle.jc_facts.specs.file.Valid.{IsValidClass}
-use Rattle.jc_facts.specs.client.Clients.{facts_of}
-use Rattle.jc_facts.specs.client.Meets.{Meets, MeetsFinal}
-use Rattle.jc_facts.specs.rule.Collisions.{made_collision, collision_at, CollisionStands, final_added}
+use Rattle.jc_facts.specs.client.Valid.{facts_of}
+use Rattle.jc_promises.specs.client.Meets.{Meets, MeetsFinal}
+use Rattle.jc_promises.specs.rule.Collisions.{made_collision, collision_at, CollisionStands, final_added}
 use Rattle.jc_lemmas.proofs.Listed.{none}
 use Rattle.jc_sound.proofs.FindingLaws.{empty_means_none}
 use Rattle.jc_sound.proofs.Sound.{loads_kept, ground, named_client}
 use Rattle.jc_sound.proofs.Standing.{all_quiet}
 use Rattle.jc_selection.specs.SelectionKept.{SelectionKept}
-use Rattle.jc_facts.specs.rule.Warnings.{AreWarnings, warning_at}
+use Rattle.jc_promises.specs.rule.Warnings.{AreWarnings, warning_at}
 use Rattle.jc_facts.specs.declared.warning.Warning.{Warning}
 use Rattle.jc_facts.specs.declared.warning.WarnKind.{WarnKind}
 use Rattle.jc_selection.proofs.Selected.{stays_answered}

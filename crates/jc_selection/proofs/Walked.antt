@@ -11,7 +11,7 @@ use Rattle.jc_facts.specs.world.Search.{supers}
 use Rattle.jc_facts.specs.world.Hierarchy.{chain, each, with_interfaces, interfaces_of, superinterfaces}
 use Rattle.jc_facts.specs.world.Loading.{load_fault, fault_of_interface, error_of_interface}
 use Rattle.jc_facts.specs.world.Assignment.{is_interface_of}
-use Rattle.jc_facts.specs.rule.Bases.{is_base_interface, is_class_usable}
+use Rattle.jc_promises.specs.rule.Bases.{is_base_interface, is_class_usable}
 use Rattle.jc_facts.proofs.Hierarchy.{any_each}
 use Rattle.jc_lemmas.proofs.Listed.{EachOf, EachOf-map, EachOf-both, list_any-same}
 use Rattle.jc_worlds.proofs.Above.{named_interfaces, named_interface}

@@ -1,22 +1,24 @@
 -- Selection: where nothing is found and nothing is warned of, clients that answered all that was due answer all that is due now.
 use Rattle.std.specs.Prelude.{ℕ, List, [], ◌≡◌, None, All, Contains, IsFalse}
+use Rattle.jc_facts.specs.declared.rule_numbers.TheConstants.{FINAL_ADDED}
 use Rattle.jc_facts.specs.declared.client.ClientClass.{ClientClass}
 use Rattle.jc_facts.specs.declared.verdict.Collision.{Collision}
 use Rattle.jc_facts.specs.declared.verdict.Verdict.{Verdict}
 use Rattle.jc_facts.specs.declared.warning.Warning.{Warning}
 use Rattle.jc_facts.specs.Flags.{interface_flag}
 use Rattle.jc_facts.specs.world.World.{World, with_clients}
-use Rattle.jc_facts.specs.world.Pairs.{IsPair}
+use Rattle.jc_promises.specs.Pairs.{IsPair}
 use Rattle.jc_facts.specs.world.Loading.{load_fault}
-use Rattle.jc_facts.specs.client.Clients.{IsInScope, facts_of}
-use Rattle.jc_facts.specs.client.Meets.{Meets}
-use Rattle.jc_facts.specs.rule.Selection.{AnswersAll}
-use Rattle.jc_facts.specs.rule.Verdict.{IsVerdict}
-use Rattle.jc_facts.specs.rule.Warnings.{AreWarnings}
+use Rattle.jc_promises.specs.client.Scope.{IsInScope}
+use Rattle.jc_facts.specs.client.Valid.{facts_of}
+use Rattle.jc_promises.specs.client.Meets.{Meets}
+use Rattle.jc_promises.specs.rule.Selection.{AnswersAll}
+use Rattle.jc_promises.specs.rule.Verdict.{IsVerdict}
+use Rattle.jc_promises.specs.rule.Warnings.{AreWarnings}
 
 -- the clients meet none of these collisions that is of a method made final; others don't matter to what a class answers
 abbrev pub MeetsNoFinal : World → List ClientClass → List Collision → Type 0
-MeetsNoFinal W cs collisions = All (λ c. c.rule ≡ 12 → ¬ (Meets W cs c)) collisions
+MeetsNoFinal W cs collisions = All (λ c. c.rule ≡ FINAL_ADDED → ¬ (Meets W cs c)) collisions
 
 -- each client class that loads with the old release, abstract or not, and answers all that is due to it there, answers all that is due with
 -- the new; no interface has to answer anything

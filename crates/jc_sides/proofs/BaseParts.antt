@@ -5,10 +5,11 @@ use Rattle.jc_lemmas.proofs.Bools.{not_true}
 use Rattle.jc_facts.specs.Names.{Bytes}
 use Rattle.jc_facts.specs.Flags.{interface_flag, final_flag}
 use Rattle.jc_facts.specs.Options.{some_and}
-use Rattle.jc_facts.specs.world.World.{find_class}
+use Rattle.jc_facts.specs.world.World.{find_class, class_is}
 use Rattle.jc_facts.specs.world.Loading.{load_fault}
 use Rattle.jc_facts.specs.world.Assignment.{is_interface_of}
-use Rattle.jc_facts.specs.rule.Bases.{class_is, is_class_usable, is_kept, became_class, is_steady, is_class_closed, is_extendable, is_implementable, is_base_class, is_base_interface, has_init, public_or_protected, is_open}
+use Rattle.jc_promises.specs.rule.Bases.{is_class_usable, is_kept, became_class, is_steady, is_class_closed, is_extendable, is_implementable, is_base_class, is_base_interface, has_init, is_open}
+use Rattle.jc_facts.specs.world.Inheritance.{public_or_protected}
 use Rattle.jc_sides.specs.SidesOf.{SidesOf}
 use Rattle.jc_sound.proofs.Standing.{usable_parts, class_is-there}
 

@@ -9,7 +9,7 @@ use Rattle.jc_facts.specs.Names.{Bytes}
 use Rattle.jc_facts.specs.Exactly.{Before, NamesRise, Rises}
 use Rattle.jc_facts.specs.Options.{some_where}
 use Rattle.jc_facts.specs.world.World.{World, size}
-use Rattle.jc_facts.specs.rule.Orders.{finding_order}
+use Rattle.jc_facts.specs.Orders.{finding_order}
 use Rattle.jc_facts.specs.Exactly.{HasExactly}
 use Rattle.jc_facts.proofs.Exact.{Gives, given_back}
 use Rattle.jc_facts.proofs.Exactly.{rise_front}

@@ -9,13 +9,13 @@ use Rattle.jc_facts.specs.declared.finding.Finding.{Finding}
 use Rattle.jc_facts.specs.declared.key.Key.{Key}
 use Rattle.jc_facts.specs.declared.link_error.LinkError.{LinkError}
 use Rattle.jc_facts.specs.declared.verdict.Collision.{Collision}
-use Rattle.jc_facts.specs.rule.Collisions.{made_collision, collision_at}
+use Rattle.jc_promises.specs.rule.Collisions.{made_collision, collision_at}
 use Rattle.jc_facts.specs.Exactly.{Before}
 use Rattle.jc_facts.specs.KeyOrder.{key_cmp}
 use Rattle.jc_facts.specs.Names.{Bytes}
 use Rattle.jc_facts.specs.Options.{some_where}
-use Rattle.jc_facts.specs.rule.Orders.{finding_order, collision_order}
-use Rattle.jc_facts.specs.rule.Bases.{is_kept}
+use Rattle.jc_facts.specs.Orders.{finding_order, collision_order}
+use Rattle.jc_promises.specs.rule.Bases.{is_kept}
 use Rattle.jc_table.proofs.Numbers.{names-in}
 use Rattle.jc_sides.specs.SharedOf.{OfKept}
 use Rattle.jc_sides.specs.Rules.{on_key, key_finding, key_collision, IsFinding, IsCollision, IsItemRule, IsOf}

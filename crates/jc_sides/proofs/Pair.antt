@@ -1,5 +1,5 @@
 -- The two sides of a comparison are a pair of worlds of which the laws of clients speak.
-use Rattle.jc_facts.specs.world.Pairs.{IsPair}
+use Rattle.jc_promises.specs.Pairs.{IsPair}
 use Rattle.jc_sides.specs.SidesOf.{SidesOf, AreSides}
 
 abbrev pub pair_of : (s : SidesOf) → AreSides s → IsPair s.old s.new

@@ -5,7 +5,7 @@ use Rattle.std.proofs.lemmas.List.{take_all, map-append, append-nil}
 use Rattle.std.proofs.lemmas.List.Elements.{filter_more, All-from_recursion}
 use Rattle.jc_facts.specs.Names.{Bytes}
 use Rattle.jc_facts.specs.Options.{some_where}
-use Rattle.jc_facts.specs.rule.Bases.{is_kept}
+use Rattle.jc_promises.specs.rule.Bases.{is_kept}
 use Rattle.jc_facts.specs.world.World.{World, size}
 use Rattle.jc_lemmas.proofs.Listed.{EachOf, EachOf-append}
 use Rattle.jc_table.specs.Ids.{names, name_at}

@@ -7,8 +7,8 @@ use Rattle.jc_facts.specs.declared.link_error.LinkError.{LinkError}
 use Rattle.jc_facts.specs.declared.verdict.Collision.{Collision}
 use Rattle.jc_facts.specs.Names.{Bytes}
 use Rattle.jc_facts.specs.Options.{some_where}
-use Rattle.jc_facts.specs.rule.Collisions.{made_collision}
-use Rattle.jc_facts.specs.rule.Findings.{Subject, report}
+use Rattle.jc_promises.specs.rule.Collisions.{made_collision}
+use Rattle.jc_promises.specs.rule.Findings.{Subject, report}
 
 -- the act, the seat from which it is where that matters, and the error that it gets
 pub record BrokenOf : Type 0 where

@@ -4,7 +4,7 @@ use Rattle.jc_facts.specs.declared.key.Key.{Key}
 use Rattle.jc_facts.specs.Names.{Bytes, is_init_name}
 use Rattle.jc_facts.specs.file.Valid.{has_key}
 use Rattle.jc_facts.specs.Options.{some_and}
-use Rattle.jc_facts.specs.rule.Bases.{is_final_in_chain}
+use Rattle.jc_facts.specs.world.Inheritance.{is_final_in_chain}
 use Rattle.jc_facts.specs.world.World.{find_class}
 use Rattle.jc_facts.specs.world.Lookup.{field_found}
 use Rattle.jc_method.specs.FoundKeys.{finds_method}

@@ -1,5 +1,5 @@
 -- A platform with an old and with a new release, as two worlds.
-use Rattle.jc_facts.specs.world.Pairs.{AreOfOneRun}
+use Rattle.jc_promises.specs.Pairs.{AreOfOneRun}
 use Rattle.jc_facts.specs.world.World.{World}
 use Rattle.jc_table.specs.Sides.{IsSide}
 

@@ -3,13 +3,14 @@ ghost use Rattle.std.specs.Prelude.{◌≡◌, ◌&&◌, ◌||◌, not, is_some,
 ghost use Rattle.std.specs.Str.{is_utf8};
 ghost use Rattle.std.specs.List.{list_any};
 ghost use Rattle.std.specs.List.Sorted.{IsPermutation};
-ghost use Rattle.jc_facts.specs.client.Clients.{is_allowed_name};
+ghost use Rattle.jc_facts.specs.client.Allowed.{is_allowed_name};
 ghost use Rattle.jc_facts.specs.Flags.{final_flag, interface_flag};
 ghost use Rattle.jc_facts.specs.Names.{is_name_among, is_init_name};
 ghost use Rattle.jc_facts.specs.world.World.{find_class};
 ghost use Rattle.jc_facts.specs.world.Modules.{OfClients, same_module, module_of};
 ghost use Rattle.jc_facts.specs.world.Loading.{excludes};
-ghost use Rattle.jc_facts.specs.rule.Bases.{allowed, permits_some, is_open, has_init, public_or_protected, leaves_out, is_kept, became_class, is_steady, is_class_closed, is_base_class, is_base_interface};
+ghost use Rattle.jc_promises.specs.rule.Bases.{allowed, permits_some, is_open, has_init, leaves_out, is_kept, became_class, is_steady, is_class_closed, is_base_class, is_base_interface};
+ghost use Rattle.jc_facts.specs.world.Inheritance.{public_or_protected};
 ghost use Rattle.jc_sides.specs.steps.ClientsOf.{becomes_class, could_extend, could_implement, shuts_out, closes, stays_superclass, stays_interface};
 ghost use Rattle.jc_sides.specs.SharedOf.{IsShared, name_of};
 
@@ -20,6 +21,7 @@ use jc_base::name::Name;
 use jc_desc::names;
 use jc_facts::class_facts::{ClassFacts, Member};
 use jc_facts::flags::{is_final, is_interface, is_protected, is_public};
+use jc_facts::limits::MAX_CLASS_NAME;
 use jc_table::name_set::NameSet;
 use jc_table::packages::package_of;
 use jc_table::table::Table;
@@ -27,9 +29,6 @@ use std::alloc::{AllocError, Global};
 use std::str;
 
 // ---- names of clients
-
-// The most bytes that the name of a client may have.
-const MOST_BYTES: usize = 4090;
 
 // Whether the side has a class of this name.
 fn is_declared(table: &Table, name: &Name) -> bool
@@ -46,7 +45,7 @@ fn is_utf8(bytes: &[u8]) -> bool
 }
 
 // Whether a client of the side may have this name.
-#[tactic(auto, unfolding(jc_facts::specs::client::Clients::is_allowed_name))]
+#[tactic(auto, unfolding(jc_facts::specs::client::Allowed::is_allowed_name))]
 fn is_allowed(table: &Table, name: &Name) -> bool
     ensures { result ≡ is_allowed_name table.now name.now }
 {
@@ -54,7 +53,7 @@ fn is_allowed(table: &Table, name: &Name) -> bool
     !is_declared(table, name)
         && !table.names_super(name)
         && !table.has_package(package_of(bytes))
-        && bytes.len() <= MOST_BYTES
+        && bytes.len() <= MAX_CLASS_NAME
         && is_utf8(bytes)
 }
 
@@ -310,7 +309,7 @@ pub fn became_class(sides: &Sides<'_>, class: &Shared<'_>) -> bool
 }
 
 /// Whether the kept class hasn't stopped to be an interface.
-#[tactic(auto, unfolding(jc_facts::specs::rule::Bases::is_steady))]
+#[tactic(auto, unfolding(jc_promises::specs::rule::Bases::is_steady))]
 pub fn is_steady(sides: &Sides<'_>, class: &Shared<'_>) -> bool
     requires shared { IsShared sides.now «class».now }
     requires kept { IsTrue (is_kept sides.now.old sides.now.new (name_of «class».now)) }

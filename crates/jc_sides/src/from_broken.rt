@@ -3,7 +3,7 @@ ghost use Rattle.std.specs.Prelude.{◌≡◌, ℕ, Option, None, Some, IfOk, is
 ghost use Rattle.std.specs.declared.cmp.Ordering.{Ordering};
 ghost use Rattle.jc_facts.specs.declared.key.Key.{Key as KeyOf};
 ghost use Rattle.jc_facts.specs.Names.{Bytes};
-ghost use Rattle.jc_facts.specs.rule.Orders.{finding_order, collision_order};
+ghost use Rattle.jc_facts.specs.Orders.{finding_order, collision_order};
 ghost use Rattle.jc_sides.specs.BrokenOf.{BrokenOf, found, collided};
 ghost use Rattle.jc_sides.specs.Rules.{IsCollision, IsFinding, key_collision, key_finding, on_key};
 ghost use Rattle.jc_sides.specs.SidesOf.{SidesOf};

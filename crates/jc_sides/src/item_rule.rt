@@ -8,7 +8,7 @@ ghost use Rattle.jc_facts.specs.Exactly.{HasExactly};
 ghost use Rattle.jc_facts.specs.KeyOrder.{key_cmp};
 ghost use Rattle.jc_facts.specs.Seen.{Holds};
 ghost use Rattle.jc_facts.specs.Options.{and_then, some_where};
-ghost use Rattle.jc_facts.specs.rule.Bases.{is_kept};
+ghost use Rattle.jc_promises.specs.rule.Bases.{is_kept};
 ghost use Rattle.jc_sides.specs.Limit.{IsWithin};
 ghost use Rattle.jc_sides.specs.Members.{is_member, OfPassing};
 ghost use Rattle.jc_sides.specs.Numbering.{AreNumbers, AreOfKeys, IsTranslation};

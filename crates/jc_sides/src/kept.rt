@@ -1,8 +1,8 @@
 //! Classes that clients can use, could use and still can, or can only meet through members.
 ghost use Rattle.std.specs.Prelude.{◌≡◌, ◌<◌};
 ghost use Rattle.jc_facts.specs.world.World.{size};
-ghost use Rattle.jc_facts.specs.rule.Bases.{is_class_usable, is_kept};
-ghost use Rattle.jc_facts.specs.rule.Exposed.{is_hidden};
+ghost use Rattle.jc_promises.specs.rule.Bases.{is_class_usable, is_kept};
+ghost use Rattle.jc_promises.specs.rule.Exposed.{is_hidden};
 ghost use Rattle.jc_table.specs.Ids.{name_at};
 ghost use Rattle.jc_sides.specs.SharedOf.{IsWhere};
 
@@ -13,7 +13,7 @@ use jc_table::naming::is_nameable;
 use jc_table::table::Table;
 
 /// Whether clients can use the class: it is visible and public, and it loads (JVMS 5.3.5, 5.4.4).
-#[tactic(auto, unfolding(jc_facts::specs::rule::Bases::is_class_usable))]
+#[tactic(auto, unfolding(jc_promises::specs::rule::Bases::is_class_usable))]
 pub fn is_usable(table: &Table, id: ClassId) -> bool
     requires { id < size table.now }
     ensures { result ≡ is_class_usable table.now (name_at table.now id) }
@@ -23,7 +23,7 @@ pub fn is_usable(table: &Table, id: ClassId) -> bool
 
 /// Whether clients can't use the class, which loads: it isn't visible or isn't public (JVMS 5.4.4).
 /// They can hold its objects all the same, where a member that they use gives or takes one.
-#[tactic(auto, unfolding(jc_facts::specs::rule::Exposed::is_hidden))]
+#[tactic(auto, unfolding(jc_promises::specs::rule::Exposed::is_hidden))]
 pub fn is_hidden_class(table: &Table, id: ClassId) -> bool
     requires { id < size table.now }
     ensures { result ≡ is_hidden table.now (name_at table.now id) }

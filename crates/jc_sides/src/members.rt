@@ -2,7 +2,8 @@
 ghost use Rattle.std.specs.Prelude.{◌≡◌, ◌<◌, ◌&&◌, IfOk, IfSome, OnOk, IsTrue};
 ghost use Rattle.jc_facts.specs.Names.{is_init_name, is_key};
 ghost use Rattle.jc_facts.specs.world.World.{size};
-ghost use Rattle.jc_facts.specs.rule.Bases.{is_kept, is_open_final, is_final_in_chain};
+ghost use Rattle.jc_promises.specs.rule.Bases.{is_kept};
+ghost use Rattle.jc_facts.specs.world.Inheritance.{is_open_final, is_final_in_chain};
 ghost use Rattle.jc_table.specs.Ids.{name_at};
 ghost use Rattle.jc_table.specs.RowKeys.{keys_of_row};
 ghost use Rattle.jc_sides.specs.Members.{is_member, HasAll};

@@ -1,6 +1,6 @@
 //! A platform with an old and with a new release of a library.
 ghost use Rattle.std.specs.Prelude.{◌≡◌, ◌<◌, map, IfOk, IfSome};
-ghost use Rattle.jc_facts.specs.world.Pairs.{AreOfOneRun};
+ghost use Rattle.jc_promises.specs.Pairs.{AreOfOneRun};
 ghost use Rattle.jc_facts.specs.world.World.{size};
 ghost use Rattle.jc_table.specs.Ids.{name_at, names, id_of};
 

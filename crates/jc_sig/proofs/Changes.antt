@@ -3,8 +3,7 @@ use Rattle.std.proofs.Common.{◌≡◌, ◌↔◌, Bool, true, false, not, cond
 use Rattle.std.specs.Option.{option_map, option_eq}
 use Rattle.jc_facts.specs.declared.key.Key.{Key}
 use Rattle.jc_facts.specs.declared.sig_note.SigChange.{SigChange}
-use Rattle.jc_facts.specs.Names.{Bytes, same}
-use Rattle.jc_facts.specs.print.Text.{is_descriptor_of_method}
+use Rattle.jc_facts.specs.Names.{Bytes, same, is_descriptor_of_method}
 use Rattle.jc_facts.proofs.Same.{same_itself}
 use Rattle.jc_lemmas.proofs.Bools.{not_true}
 use Rattle.jc_sig.specs.Trees.{TypeTree, ClassSigTree, MethodSigTree}

@@ -15,8 +15,7 @@ use Rattle.jc_facts.specs.declared.sig_note.SigNote.{SigNote}
 use Rattle.jc_facts.specs.Exactly.{name_order}
 use Rattle.jc_facts.specs.Flags.{public_flag}
 use Rattle.jc_facts.specs.KeyOrder.{key_cmp}
-use Rattle.jc_facts.specs.Names.{Bytes, same, same_key}
-use Rattle.jc_facts.specs.print.Text.{is_descriptor_of_method}
+use Rattle.jc_facts.specs.Names.{Bytes, same, same_key, is_descriptor_of_method}
 use Rattle.jc_facts.specs.world.World.{World, find_class, own_field_of, own_method_of}
 use Rattle.jc_sig.specs.Grammar.{SpellsClassSig, SpellsMethodSig, SpellsFieldSig}
 use Rattle.jc_sig.specs.Trees.{TypeTree, ClassSigTree, MethodSigTree, class_text, types_text, type_parameters_text, result_text}

@@ -1,8 +1,7 @@
 //! What has changed between two signatures.
 ghost use Rattle.std.specs.Prelude.{◌≡◌, IfOk, option_map};
 ghost use Rattle.std.specs.Option.{option_eq};
-ghost use Rattle.jc_facts.specs.Names.{same};
-ghost use Rattle.jc_facts.specs.print.Text.{is_descriptor_of_method};
+ghost use Rattle.jc_facts.specs.Names.{same, is_descriptor_of_method};
 ghost use Rattle.jc_sig.specs.Reading.{class_sig_of, method_sig_of, field_sig_of};
 ghost use Rattle.jc_sig.specs.Views.{class_sig_view, method_sig_view, type_view, parameters_view, class_view, types_view};
 ghost use Rattle.jc_sig.specs.Trees.{type_parameters_text, class_text, types_text, result_text};

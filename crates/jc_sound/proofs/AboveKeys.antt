@@ -16,7 +16,7 @@ use Rattle.jc_facts.specs.world.Lookup.{field_found, field_step, first_declared,
 use Rattle.jc_facts.specs.world.Assignment.{is_interface_of}
 use Rattle.jc_facts.specs.client.Acts.{Form, FieldForm, MethodForm, InterfaceForm}
 use Rattle.jc_facts.specs.file.Valid.{IsValidClass}
-use Rattle.jc_facts.specs.rule.Bases.{offers, is_inheritable}
+use Rattle.jc_facts.specs.world.Inheritance.{offers, is_inheritable}
 use Rattle.jc_sound.specs.Findings.{declares_key}
 use Rattle.jc_worlds.specs.Hierarchy.{above}
 use Rattle.jc_lemmas.proofs.Listed.{EachOf, EachOf-both, EachOf-map}

@@ -12,9 +12,9 @@ use Rattle.jc_facts.specs.world.World.{World, find_class, class_named, with_clie
 use Rattle.jc_facts.specs.world.Search.{supers}
 use Rattle.jc_facts.specs.world.Hierarchy.{in_chain}
 use Rattle.jc_facts.specs.world.Assignment.{is_interface_of}
-use Rattle.jc_facts.specs.rule.Findings.{Subject, finding_at, interface_became_class, superclass_lost, assign_finding, takes_part, report}
-use Rattle.jc_facts.specs.rule.Bases.{is_kept}
-use Rattle.jc_facts.specs.rule.OpenActs.{first_seat}
+use Rattle.jc_promises.specs.rule.Findings.{Subject, finding_at, interface_became_class, superclass_lost, assign_finding, takes_part, report}
+use Rattle.jc_promises.specs.rule.Bases.{is_kept}
+use Rattle.jc_promises.specs.rule.OpenActs.{first_seat}
 use Rattle.jc_lemmas.proofs.Listed.{EachOf}
 use Rattle.jc_worlds.proofs.Chains.{in_chain-agree}
 use Rattle.jc_worlds.proofs.Sides.{sides, size-grows}

@@ -18,14 +18,15 @@ use Rattle.jc_facts.specs.world.World.{World, find_class, class_named, with_clie
 use Rattle.jc_facts.specs.world.Access.{is_class_accessible}
 use Rattle.jc_facts.specs.world.Loading.{load_fault, fault_where}
 use Rattle.jc_facts.specs.client.Outcome.{outcome, class_fault, class_step}
-use Rattle.jc_facts.specs.client.Clients.{facts_of, is_allowed_name}
-use Rattle.jc_facts.specs.rule.Bases.{is_class_usable}
-use Rattle.jc_facts.specs.rule.Findings.{Subject, finding_at, finding_by, class_gone, report_where, gone_error, fault_or}
+use Rattle.jc_facts.specs.client.Valid.{facts_of}
+use Rattle.jc_facts.specs.client.Allowed.{is_allowed_name}
+use Rattle.jc_promises.specs.rule.Bases.{is_class_usable}
+use Rattle.jc_promises.specs.rule.Findings.{Subject, finding_at, finding_by, class_gone, report_where, gone_error, fault_or}
 use Rattle.jc_sound.specs.Findings.{ClassGoneBreaks}
 use Rattle.jc_lemmas.proofs.Listed.{EachOf}
 use Rattle.jc_lemmas.proofs.Options.{passed, taken}
 use Rattle.jc_facts.proofs.World.{names, find-name, EachOf-class_named}
-use Rattle.jc_facts.proofs.Pairs.{side_valid}
+use Rattle.jc_promises.proofs.Pairs.{side_valid}
 use Rattle.jc_worlds.proofs.Loaded.{loads-found}
 use Rattle.jc_worlds.proofs.Sides.{find-library, load_fault-side}
 use Rattle.jc_facts.specs.world.Modules.{is_visible}

@@ -15,10 +15,11 @@ use Rattle.jc_facts.specs.world.Access.{is_class_accessible}
 use Rattle.jc_facts.specs.world.Loading.{load_fault, loads, fault_where}
 use Rattle.jc_facts.specs.world.Assignment.{is_interface_of, is_class_assignable, is_element_assignable, assign_to, assign_types, is_assignable}
 use Rattle.jc_facts.specs.client.Outcome.{class_fault, element_fault, type_fault, class_step}
-use Rattle.jc_facts.specs.client.Clients.{is_allowed_name, opens, class_in_reach, element_in_reach, text_in_reach, type_in_reach, receiver_in_reach}
-use Rattle.jc_facts.specs.rule.Findings.{takes_part}
-use Rattle.jc_facts.specs.rule.Bases.{is_class_usable, is_kept}
-use Rattle.jc_facts.specs.rule.Exposed.{is_exposed}
+use Rattle.jc_facts.specs.client.Allowed.{is_allowed_name}
+use Rattle.jc_promises.specs.client.Reach.{opens, class_in_reach, element_in_reach, text_in_reach, type_in_reach, receiver_in_reach}
+use Rattle.jc_promises.specs.rule.Findings.{takes_part}
+use Rattle.jc_promises.specs.rule.Bases.{is_class_usable, is_kept}
+use Rattle.jc_promises.specs.rule.Exposed.{is_exposed}
 use Rattle.jc_lemmas.proofs.Listed.{EachOf}
 use Rattle.jc_facts.proofs.World.{names, find-name, class_named-name, IsOf}
 use Rattle.jc_facts.proofs.Same.{same_is}

@@ -7,7 +7,7 @@ use Rattle.jc_facts.specs.declared.link_error.LinkError.{LinkError}
 use Rattle.jc_facts.specs.declared.link_error.LinkError.TheVariants.{IllegalAccessError, IncompatibleClassChangeError}
 use Rattle.jc_facts.specs.Names.{Bytes, same, is_name_among, in_same_package}
 use Rattle.jc_facts.specs.Flags.{public_flag, final_flag, interface_flag}
-use Rattle.jc_facts.specs.world.World.{World, find_class, class_named, with_clients}
+use Rattle.jc_facts.specs.world.World.{World, find_class, class_named, with_clients, class_is}
 use Rattle.jc_facts.specs.world.Modules.{OfClients, module_of, is_visible}
 use Rattle.jc_facts.specs.world.Search.{supers, supers_of}
 use Rattle.jc_facts.specs.Options.{first_some, and_then}
@@ -16,8 +16,9 @@ use Rattle.jc_facts.specs.world.Hierarchy.{chain, of_super}
 use Rattle.jc_facts.specs.world.Overriding.{overrides_some_final}
 use Rattle.jc_facts.specs.world.Loading.{load_fault, fault_of_itself, fault_of_superclass, error_of_superclass, fault_of_interface, error_of_interface, fault_where, sealed_by, excludes, is_sealed_against}
 use Rattle.jc_facts.specs.world.Assignment.{is_interface_of}
-use Rattle.jc_facts.specs.client.Clients.{is_allowed_name}
-use Rattle.jc_facts.specs.rule.Bases.{is_class_usable, is_steady, is_class_closed, is_extendable, is_implementable, class_is, newly_sealed, leaves_out, allowed, permits_some, is_open, has_init, public_or_protected, is_base_class, is_base_interface}
+use Rattle.jc_facts.specs.client.Allowed.{is_allowed_name}
+use Rattle.jc_promises.specs.rule.Bases.{is_class_usable, is_steady, is_class_closed, is_extendable, is_implementable, newly_sealed, leaves_out, allowed, permits_some, is_open, has_init, is_base_class, is_base_interface}
+use Rattle.jc_facts.specs.world.Inheritance.{public_or_protected}
 use Rattle.jc_lemmas.proofs.Listed.{EachOf, EachOf-map, EachOf-both}
 use Rattle.jc_facts.proofs.World.{names, find-name, class_named-name, EachOf-class_named}
 use Rattle.jc_facts.proofs.Same.{same_is}

@@ -20,7 +20,7 @@ use Rattle.jc_facts.specs.declared.verdict.Note.TheVariants as note
 use Rattle.jc_facts.specs.Names.{Bytes, object_name, package_name, key_of, same_key}
 use Rattle.jc_facts.specs.world.Types.{type_read}
 use Rattle.jc_facts.specs.Options.{or_else, first_some, and_then}
-use Rattle.jc_facts.specs.world.World.{World, side, classes, size, class_named, find_class, is_client, found_in}
+use Rattle.jc_facts.specs.world.World.{World, side, classes, size, class_named, find_class, is_client, found_in, differ_by_name}
 use Rattle.jc_facts.specs.world.Search.{descend}
 use Rattle.jc_facts.specs.world.Hierarchy.{chain_step, chain, each, interfaces_step, with_interfaces, interfaces_of, superinterfaces}
 use Rattle.jc_facts.specs.world.Access.{host_of, is_member_accessible}
@@ -29,13 +29,17 @@ use Rattle.jc_facts.specs.world.Loading.{fault_of_superclass, fault_of_interface
 use Rattle.jc_facts.specs.world.Lookup.{field_step, field_found, first_declared, if_inheritable, declared_by, only_or, superinterface_choices, or_choices, method_choices, if_public_instance, public_method_of_object, interface_choices}
 use Rattle.jc_facts.specs.world.Assignment.{assign_to, is_assignable, passes_protected_check}
 use Rattle.jc_facts.specs.client.Outcome.{class_fault, class_step, first_of, look_up, is_direct_super, receiver_ok, assignment_ok, use_fault, init_fault, outcome}
-use Rattle.jc_facts.specs.client.Clients.{is_opening, is_allowed_name, differ_by_name, type_in_reach, first_library}
-use Rattle.jc_facts.specs.rule.Bases.{is_class_usable, is_kept, became_class, is_steady, is_extendable, is_implementable, is_class_closed, is_base_class, is_base_interface, is_final_in_chain, inherits}
-use Rattle.jc_facts.specs.rule.OpenActs.{act_fault, least}
-use Rattle.jc_facts.specs.rule.Exposed.{is_hidden, references, open_act, exposes, is_exposed, first_by, exposing_act}
-use Rattle.jc_facts.specs.rule.Findings.{Subject, gone_error, act_finding, first_act, assign_finding, class_gone, class_closed, interface_became_class, superclass_lost, constructor_closed, method_made_final, field_closed, method_closed, interface_method_lost, finding_at}
-use Rattle.jc_facts.specs.rule.Collisions.{constant_added, captures, capture_added, final_added, collision_at}
-use Rattle.jc_facts.specs.rule.Notes.{has_lost_constant}
+use Rattle.jc_promises.specs.client.Reach.{is_opening, type_in_reach}
+use Rattle.jc_facts.specs.client.Allowed.{is_allowed_name}
+use Rattle.jc_facts.specs.client.Seats.{first_library}
+use Rattle.jc_promises.specs.rule.Bases.{is_class_usable, is_kept, became_class, is_steady, is_extendable, is_implementable, is_class_closed, is_base_class, is_base_interface}
+use Rattle.jc_facts.specs.world.Inheritance.{is_final_in_chain, inherits}
+use Rattle.jc_promises.specs.rule.OpenActs.{act_fault}
+use Rattle.jc_facts.specs.ByName.{least}
+use Rattle.jc_promises.specs.rule.Exposed.{is_hidden, references, open_act, exposes, is_exposed, first_by, exposing_act}
+use Rattle.jc_promises.specs.rule.Findings.{Subject, gone_error, act_finding, first_act, assign_finding, class_gone, class_closed, interface_became_class, superclass_lost, constructor_closed, method_made_final, field_closed, method_closed, interface_method_lost, finding_at}
+use Rattle.jc_promises.specs.rule.Collisions.{constant_added, captures, capture_added, final_added, collision_at}
+use Rattle.jc_promises.specs.rule.Notes.{has_lost_constant}
 
 -- all that outcomes and verdicts compute with
 unfoldable pub computes : ℕ

@@ -9,13 +9,13 @@ use Rattle.jc_facts.specs.declared.act.Act.{Act}
 use Rattle.jc_desc.specs.Classes.{descriptor_names}
 use Rattle.jc_facts.specs.Names.{Bytes, is_key, key_of}
 use Rattle.jc_facts.specs.world.World.{World, find_class, classes, own_field_of, own_method_of}
-use Rattle.jc_facts.specs.world.Pairs.{IsPair}
+use Rattle.jc_promises.specs.Pairs.{IsPair}
 use Rattle.jc_facts.specs.world.Hierarchy.{chain, superinterfaces}
 use Rattle.jc_facts.specs.world.Loading.{load_fault}
-use Rattle.jc_facts.specs.rule.Bases.{is_class_usable}
-use Rattle.jc_facts.specs.rule.OpenActs.{act_fault}
-use Rattle.jc_facts.specs.rule.Exposed.{is_hidden, Reference, keys_of, references, acts_on, open_act, exposes, is_exposed}
-use Rattle.jc_facts.proofs.Exposed.{any-found}
+use Rattle.jc_promises.specs.rule.Bases.{is_class_usable}
+use Rattle.jc_promises.specs.rule.OpenActs.{act_fault}
+use Rattle.jc_promises.specs.rule.Exposed.{is_hidden, Reference, keys_of, references, acts_on, open_act, exposes, is_exposed}
+use Rattle.jc_promises.proofs.Exposed.{any-found}
 use Rattle.jc_facts.proofs.Mapped.{any-map, any-flat}
 use Rattle.jc_facts.proofs.World.{find-name, IsOf}
 use Rattle.jc_lemmas.proofs.Bools.{tests_agree}

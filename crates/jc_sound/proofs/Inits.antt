@@ -18,7 +18,8 @@ use Rattle.jc_facts.specs.world.Lookup.{method_choices}
 use Rattle.jc_facts.specs.world.Assignment.{is_interface_of}
 use Rattle.jc_facts.specs.world.Types.{is_array_text}
 use Rattle.jc_facts.specs.client.Outcome.{outcome, class_step, first_of, look_up, init_key, init_fault}
-use Rattle.jc_facts.specs.rule.Bases.{has_init, public_or_protected}
+use Rattle.jc_promises.specs.rule.Bases.{has_init}
+use Rattle.jc_facts.specs.world.Inheritance.{public_or_protected}
 use Rattle.jc_lemmas.proofs.Listed.{EachOf}
 use Rattle.jc_facts.proofs.Same.{same_is}
 use Rattle.jc_worlds.proofs.Above.{fault_where-none}

@@ -15,21 +15,22 @@ use Rattle.jc_desc.specs.Names.{is_init_name}
 use Rattle.jc_facts.specs.Flags.{public_flag, no_static_flag}
 use Rattle.jc_facts.specs.Options.{and_then, some_and}
 use Rattle.jc_facts.specs.world.World.{World, find_class, DeclaredMember, own_method_of}
-use Rattle.jc_facts.specs.world.Pairs.{IsPair}
+use Rattle.jc_promises.specs.Pairs.{IsPair}
 use Rattle.jc_facts.specs.world.Hierarchy.{chain, of_super, superinterfaces}
 use Rattle.jc_facts.specs.world.Loading.{load_fault}
-use Rattle.jc_facts.specs.world.Lookup.{field_found, first_declared, method_choices, public_method_of_object}
+use Rattle.jc_facts.specs.world.Lookup.{field_found, first_declared, method_choices, public_method_of_object, are_none}
 use Rattle.jc_facts.specs.client.Acts.{form_of}
 use Rattle.jc_facts.specs.file.Valid.{IsValidClass}
-use Rattle.jc_facts.specs.rule.Bases.{is_class_usable, is_kept, became_class, is_steady, is_class_closed, is_extendable, is_implementable, is_base_class, is_base_interface, public_or_protected, is_key_of_method, is_open_final, declares_as_final, is_final_in_chain, offers, is_inheritable, itself_and, inherits}
-use Rattle.jc_facts.specs.rule.OpenActs.{act_fault, where_open, closed_act, field_acts, method_acts, first_seat}
-use Rattle.jc_facts.specs.rule.Findings.{Subject, finding_at, finding_by, report, act_finding, first_act, constructor_closed, init_of, had_init, new_error, init_error, finds_overridable, method_made_final, field_closed, method_closed, interface_method_lost}
-use Rattle.jc_facts.specs.rule.Collisions.{collision_at, constant_added, capture_added, final_added, captures, are_none, leaves_room}
+use Rattle.jc_promises.specs.rule.Bases.{is_class_usable, is_kept, became_class, is_steady, is_class_closed, is_extendable, is_implementable, is_base_class, is_base_interface, is_key_of_method}
+use Rattle.jc_facts.specs.world.Inheritance.{public_or_protected, is_open_final, declares_as_final, is_final_in_chain, offers, is_inheritable, itself_and, inherits}
+use Rattle.jc_promises.specs.rule.OpenActs.{act_fault, where_open, closed_act, field_acts, method_acts, first_seat}
+use Rattle.jc_promises.specs.rule.Findings.{Subject, finding_at, finding_by, report, act_finding, first_act, constructor_closed, init_of, had_init, new_error, init_error, finds_overridable, method_made_final, field_closed, method_closed, interface_method_lost}
+use Rattle.jc_promises.specs.rule.Collisions.{collision_at, constant_added, capture_added, final_added, captures, leaves_room}
 use Rattle.jc_sound.specs.Findings.{declares_key, KeysAreDeclared, CollisionKeysAreDeclared}
 use Rattle.jc_worlds.specs.Hierarchy.{above}
 use Rattle.jc_lemmas.proofs.Options.{none_where}
 use Rattle.jc_sound.proofs.Standing.{usable_parts}
-use Rattle.jc_facts.proofs.Pairs.{side_valid, old_root, new_root, new_platform_valid}
+use Rattle.jc_promises.proofs.Pairs.{side_valid, old_root, new_root, new_platform_valid}
 use Rattle.jc_worlds.proofs.Bare.{bare_field}
 use Rattle.jc_worlds.proofs.Unrolled.{chain-unroll}
 use Rattle.jc_lemmas.proofs.Lists.{any_left, any_right, any_weaker}

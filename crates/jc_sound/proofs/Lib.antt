@@ -42,3 +42,4 @@ pub mod ExposedAbove
 pub mod WorkedVerdict
 pub mod WorkedModules
 pub mod ClassGoneLaw
+pub mod Plain

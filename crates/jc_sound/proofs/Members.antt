@@ -5,7 +5,7 @@ use Rattle.jc_facts.specs.Names.{Bytes, in_same_package, is_name_among}
 use Rattle.jc_facts.specs.world.World.{World, find_class, DeclaredMember, class_named, with_clients}
 use Rattle.jc_facts.specs.world.Access.{host_of, is_member_accessible}
 use Rattle.jc_facts.specs.world.Loading.{load_fault}
-use Rattle.jc_facts.specs.client.Clients.{is_allowed_name}
+use Rattle.jc_facts.specs.client.Allowed.{is_allowed_name}
 use Rattle.jc_lemmas.proofs.Listed.{EachOf}
 use Rattle.jc_facts.proofs.World.{names, find-name, EachOf-class_named}
 use Rattle.jc_worlds.proofs.Sides.{find-library}

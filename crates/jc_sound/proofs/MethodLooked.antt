@@ -17,9 +17,9 @@ use Rattle.jc_facts.specs.world.Assignment.{is_interface_of}
 use Rattle.jc_facts.specs.client.Acts.{Form, FieldForm, MethodForm, InterfaceForm, form_of, is_put_act}
 use Rattle.jc_facts.specs.file.Valid.{IsValidClass}
 use Rattle.jc_worlds.proofs.ValidFacts.{method_fits, fit_of}
-use Rattle.jc_facts.specs.rule.Findings.{finding_at, method_closed}
-use Rattle.jc_facts.specs.rule.Bases.{is_key_of_method, is_class_usable}
-use Rattle.jc_facts.specs.rule.OpenActs.{method_acts, act_fault, closed_act}
+use Rattle.jc_promises.specs.rule.Findings.{finding_at, method_closed}
+use Rattle.jc_promises.specs.rule.Bases.{is_key_of_method, is_class_usable}
+use Rattle.jc_promises.specs.rule.OpenActs.{method_acts, act_fault, closed_act}
 use Rattle.jc_lemmas.proofs.Listed.{EachOf, EachOf-map}
 use Rattle.jc_facts.proofs.World.{find-name}
 use Rattle.jc_facts.proofs.Same.{same_is}

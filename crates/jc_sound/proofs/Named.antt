@@ -8,7 +8,7 @@ use Rattle.jc_facts.specs.world.World.{World, find_class, is_client}
 use Rattle.jc_facts.specs.world.Search.{supers, supers_of}
 use Rattle.jc_facts.specs.world.Hierarchy.{chain, of_super, each, with_interfaces, interfaces_of, superinterfaces, in_chain}
 use Rattle.jc_facts.specs.world.Loading.{load_fault}
-use Rattle.jc_facts.specs.client.Meets.{may_name}
+use Rattle.jc_promises.specs.client.Meets.{may_name}
 use Rattle.jc_lemmas.proofs.Listed.{EachOf}
 use Rattle.jc_facts.proofs.World.{find-name}
 use Rattle.jc_facts.proofs.Same.{same_is}

@@ -19,18 +19,19 @@ use Rattle.jc_facts.specs.Options.{or_else, first_some, and_then, some_and}
 use Rattle.jc_facts.specs.world.World.{World, find_class, DeclaredMember, class_named, with_clients, is_client, own_field_of, own_method_of, found_in, declared_method}
 use Rattle.jc_facts.specs.world.Search.{supers, supers_of}
 use Rattle.jc_facts.specs.world.Hierarchy.{chain, superinterfaces, in_chain}
-use Rattle.jc_facts.specs.world.Access.{is_class_accessible, is_member_accessible}
+use Rattle.jc_facts.specs.world.Access.{is_class_accessible, is_member_accessible, is_member_open}
 use Rattle.jc_facts.specs.world.Loading.{load_fault, loads, fault_of_itself, fault_of_interface}
 use Rattle.jc_facts.specs.world.Lookup.{field_found, field_step, first_declared, declared_by, if_inheritable, is_maximal, is_concrete, superinterface_choices, or_choices, method_choices, interface_choices, public_method_of_object, if_public_instance}
 use Rattle.jc_facts.specs.world.Assignment.{is_interface_of}
 use Rattle.jc_facts.specs.client.Acts.{Form, FieldForm, MethodForm, InterfaceForm, form_of, is_put_act, is_field_form}
 use Rattle.jc_facts.specs.client.Outcome.{outcome, listed as member_list, may_find, use_fault, puts_own}
-use Rattle.jc_facts.specs.client.Clients.{facts_of, is_item_of, is_opening, opens, opens_members}
+use Rattle.jc_facts.specs.client.Valid.{facts_of, is_item_of}
+use Rattle.jc_promises.specs.client.Reach.{is_opening, opens, opens_members}
 use Rattle.jc_facts.specs.file.Valid.{IsValidClass}
-use Rattle.jc_facts.specs.rule.Bases.{is_class_usable, is_key_of_method}
-use Rattle.jc_facts.specs.rule.OpenActs.{act_fault, is_member_open, method_acts}
-use Rattle.jc_facts.specs.rule.Exposed.{is_hidden, is_exposed, acts_on}
-use Rattle.jc_facts.proofs.Exposed.{DeclaresKey, a_field, a_method, field-listed, method-listed, exposed-by}
+use Rattle.jc_promises.specs.rule.Bases.{is_class_usable, is_key_of_method}
+use Rattle.jc_promises.specs.rule.OpenActs.{act_fault, method_acts}
+use Rattle.jc_promises.specs.rule.Exposed.{is_hidden, is_exposed, acts_on}
+use Rattle.jc_promises.proofs.Exposed.{DeclaresKey, a_field, a_method, field-listed, method-listed, exposed-by}
 use Rattle.jc_facts.proofs.World.{find-name, class_named-name}
 use Rattle.jc_facts.proofs.Options.{or_else-cases}
 use Rattle.jc_lemmas.proofs.Bools.{contradicts}

@@ -18,9 +18,10 @@ use Rattle.jc_facts.specs.world.Loading.{load_fault, fault_where}
 use Rattle.jc_facts.specs.world.Assignment.{is_interface_of, is_assignable}
 use Rattle.jc_facts.specs.client.Acts.{MethodForm, InterfaceForm, form_of, is_special}
 use Rattle.jc_facts.specs.client.Outcome.{class_fault, class_step, type_fault, is_direct_super}
-use Rattle.jc_facts.specs.client.Clients.{type_in_reach, is_allowed_name}
+use Rattle.jc_promises.specs.client.Reach.{type_in_reach}
+use Rattle.jc_facts.specs.client.Allowed.{is_allowed_name}
 use Rattle.jc_facts.specs.world.Lookup.{method_choices, interface_choices}
-use Rattle.jc_facts.specs.rule.OpenActs.{act_fault}
+use Rattle.jc_promises.specs.rule.OpenActs.{act_fault}
 use Rattle.jc_worlds.proofs.ValidFacts.{fit_of}
 use Rattle.jc_facts.proofs.World.{find-name, class_named-name, EachOf-class_named}
 use Rattle.jc_facts.proofs.Same.{same_is}

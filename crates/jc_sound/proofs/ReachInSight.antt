@@ -10,13 +10,16 @@ use Rattle.jc_facts.specs.Names.{Bytes}
 use Rattle.jc_facts.specs.Options.{some_and}
 use Rattle.jc_facts.specs.world.Types.{Element, Primitive, Class, TypeText, type_read}
 use Rattle.jc_facts.specs.world.World.{World, find_class, class_named, with_clients, is_client}
-use Rattle.jc_facts.specs.world.Pairs.{IsPair}
+use Rattle.jc_promises.specs.Pairs.{IsPair}
 use Rattle.jc_facts.specs.world.Access.{is_class_accessible}
 use Rattle.jc_facts.specs.world.Loading.{load_fault, loads}
-use Rattle.jc_facts.specs.client.Clients.{IsInScope, facts_of, opens, class_in_reach, element_in_reach, text_in_reach, type_in_reach, receiver_in_reach, is_in_reach, seat}
-use Rattle.jc_facts.specs.rule.Bases.{is_class_usable}
-use Rattle.jc_facts.specs.rule.Exposed.{is_exposed}
-use Rattle.jc_facts.proofs.Pairs.{side_valid}
+use Rattle.jc_promises.specs.client.Scope.{IsInScope}
+use Rattle.jc_facts.specs.client.Valid.{facts_of}
+use Rattle.jc_promises.specs.client.Reach.{opens, class_in_reach, element_in_reach, text_in_reach, type_in_reach, receiver_in_reach, is_in_reach}
+use Rattle.jc_facts.specs.client.Seats.{seat}
+use Rattle.jc_promises.specs.rule.Bases.{is_class_usable}
+use Rattle.jc_promises.specs.rule.Exposed.{is_exposed}
+use Rattle.jc_promises.proofs.Pairs.{side_valid}
 use Rattle.jc_lemmas.proofs.Options.{none_where}
 use Rattle.jc_worlds.proofs.Sides.{find-library}
 use Rattle.jc_sound.specs.Sight.{class_in_sight, element_in_sight, text_in_sight, type_in_sight, receiver_in_sight, is_in_sight, ReachIsInSight}

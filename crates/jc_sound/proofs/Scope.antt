@@ -11,16 +11,20 @@ use Rattle.jc_facts.specs.Names.{Bytes, same, package_name, object_name, key_of}
 use Rattle.jc_desc.specs.Names.{is_init_name, is_clinit_name}
 use Rattle.jc_facts.specs.Flags.{interface_flag}
 use Rattle.jc_facts.specs.world.World.{World, find_class, class_named, with_clients}
-use Rattle.jc_facts.specs.world.Pairs.{AreOfOneRun}
+use Rattle.jc_promises.specs.Pairs.{AreOfOneRun}
 use Rattle.jc_facts.specs.world.Search.{supers_of}
 use Rattle.jc_facts.specs.world.Overriding.{overrides_some_final, reaches_final}
 use Rattle.jc_facts.specs.world.Loading.{load_fault}
-use Rattle.jc_facts.specs.client.Clients.{IsValidClient, IsInScope, CallsSuper, facts_of, is_allowed_name, is_in_reach, type_in_reach}
+use Rattle.jc_facts.specs.client.Valid.{IsValidClient, facts_of}
+use Rattle.jc_promises.specs.client.Scope.{IsInScope, CallsSuper}
+use Rattle.jc_facts.specs.client.Allowed.{is_allowed_name}
+use Rattle.jc_promises.specs.client.Reach.{is_in_reach, type_in_reach}
 use Rattle.jc_facts.specs.client.Outcome.{outcome}
 use Rattle.jc_facts.specs.world.Hierarchy.{chain, of_super}
 use Rattle.jc_facts.specs.file.Valid.{IsValidClass}
 use Rattle.jc_worlds.proofs.ValidFacts.{superclass_fits, fit_of}
-use Rattle.jc_facts.specs.rule.Bases.{has_init, public_or_protected, is_inheritable}
+use Rattle.jc_promises.specs.rule.Bases.{has_init}
+use Rattle.jc_facts.specs.world.Inheritance.{public_or_protected, is_inheritable}
 use Rattle.jc_lemmas.proofs.Listed.{EachOf}
 use Rattle.jc_facts.proofs.World.{names, find-name, class_named-name, EachOf-class_named, find-platform}
 use Rattle.jc_facts.proofs.Same.{same_is}

@@ -13,15 +13,17 @@ use Rattle.jc_facts.specs.Names.{Bytes}
 use Rattle.jc_facts.specs.Options.{some_and}
 use Rattle.jc_facts.specs.world.Types.{Element, Primitive, Class, TypeText, type_read}
 use Rattle.jc_facts.specs.world.World.{World, find_class, class_named, with_clients, is_client}
-use Rattle.jc_facts.specs.world.Pairs.{IsPair}
+use Rattle.jc_promises.specs.Pairs.{IsPair}
 use Rattle.jc_facts.specs.world.Hierarchy.{chain, of_super}
 use Rattle.jc_facts.specs.world.Access.{is_class_accessible}
 use Rattle.jc_facts.specs.world.Loading.{load_fault, loads}
-use Rattle.jc_facts.specs.client.Clients.{IsInScope, facts_of, first_library, seat}
-use Rattle.jc_facts.specs.client.Meets.{MeetsConstant, MeetsCapture, MeetsFinal}
-use Rattle.jc_facts.specs.rule.Bases.{is_kept}
-use Rattle.jc_facts.specs.rule.Collisions.{made_collision, constant_added, capture_added, final_added, capture_error}
-use Rattle.jc_facts.specs.rule.Exposed.{is_exposed}
+use Rattle.jc_promises.specs.client.Scope.{IsInScope}
+use Rattle.jc_facts.specs.client.Valid.{facts_of}
+use Rattle.jc_facts.specs.client.Seats.{first_library, seat}
+use Rattle.jc_promises.specs.client.Meets.{MeetsConstant, MeetsCapture, MeetsFinal}
+use Rattle.jc_promises.specs.rule.Bases.{is_kept}
+use Rattle.jc_promises.specs.rule.Collisions.{made_collision, constant_added, capture_added, final_added, capture_error}
+use Rattle.jc_promises.specs.rule.Exposed.{is_exposed}
 use Rattle.jc_facts.proofs.World.{find-name}
 use Rattle.jc_lemmas.proofs.Listed.{EachOf-map}
 use Rattle.jc_lemmas.proofs.Options.{none_where}

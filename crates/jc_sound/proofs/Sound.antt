@@ -15,8 +15,8 @@ use Rattle.jc_facts.specs.declared.client.Place.{Place}
 use Rattle.jc_facts.specs.Names.{Bytes, same, in_same_package, object_name, key_of}
 use Rattle.jc_desc.specs.Names.{is_init_name, is_clinit_name}
 use Rattle.jc_facts.specs.Flags.{private_flag, no_static_flag, interface_flag}
-use Rattle.jc_facts.specs.world.World.{World, find_class, DeclaredMember, class_named, with_clients, own_method_of, is_client}
-use Rattle.jc_facts.specs.world.Pairs.{IsPair}
+use Rattle.jc_facts.specs.world.World.{World, find_class, DeclaredMember, class_named, with_clients, own_method_of, is_client, differ_by_name}
+use Rattle.jc_promises.specs.Pairs.{IsPair}
 use Rattle.jc_facts.specs.world.Search.{supers, supers_of}
 use Rattle.jc_facts.specs.Options.{and_then, some_and}
 use Rattle.jc_facts.specs.world.Hierarchy.{chain, of_super, in_chain}
@@ -27,15 +27,22 @@ use Rattle.jc_facts.specs.client.Acts.{Form, FieldForm, MethodForm, InterfaceFor
 use Rattle.jc_facts.specs.client.Outcome.{outcome}
 use Rattle.jc_facts.specs.file.Valid.{IsValidClass}
 use Rattle.jc_worlds.proofs.ValidFacts.{superclass_fits, fit_of}
-use Rattle.jc_facts.specs.client.Clients.{IsValidClient, IsInScope, facts_of, differ_by_name, is_allowed_name, is_item_of, is_in_reach, type_in_reach, first_library, seat, Keeps, HasRoot}
-use Rattle.jc_facts.specs.client.Meets.{MeetsConstant, MeetsCapture, MeetsFinal}
-use Rattle.jc_facts.specs.rule.Findings.{finding_at, method_made_final, finds_overridable}
-use Rattle.jc_facts.specs.rule.Bases.{has_init, public_or_protected, is_class_usable, is_base_class, is_final_in_chain, is_key_of_method, is_inheritable}
-use Rattle.jc_facts.specs.rule.Collisions.{constant_added, capture_added, final_added}
+use Rattle.jc_facts.specs.client.Valid.{IsValidClient, facts_of, is_item_of}
+use Rattle.jc_promises.specs.client.Scope.{IsInScope}
+use Rattle.jc_facts.specs.client.Allowed.{is_allowed_name}
+use Rattle.jc_promises.specs.client.Reach.{is_in_reach, type_in_reach}
+use Rattle.jc_facts.specs.client.Seats.{first_library, seat}
+use Rattle.jc_promises.specs.client.Keeps.{Keeps}
+use Rattle.jc_facts.specs.world.Root.{HasRoot}
+use Rattle.jc_promises.specs.client.Meets.{MeetsConstant, MeetsCapture, MeetsFinal}
+use Rattle.jc_promises.specs.rule.Findings.{finding_at, method_made_final, finds_overridable}
+use Rattle.jc_promises.specs.rule.Bases.{has_init, is_class_usable, is_base_class, is_key_of_method}
+use Rattle.jc_facts.specs.world.Inheritance.{public_or_protected, is_final_in_chain, is_inheritable}
+use Rattle.jc_promises.specs.rule.Collisions.{constant_added, capture_added, final_added}
 use Rattle.jc_lemmas.proofs.Listed.{EachOf, EachOf-map, list_all-each}
 use Rattle.jc_facts.proofs.World.{names, find-name, class_named-name, EachOf-class_named, IsOf}
 use Rattle.jc_facts.proofs.Clients.{facts_valid}
-use Rattle.jc_facts.proofs.Pairs.{found_valid, old_root, new_root, new_platform_valid}
+use Rattle.jc_promises.proofs.Pairs.{found_valid, old_root, new_root, new_platform_valid}
 use Rattle.jc_facts.proofs.Same.{same_is, same_itself}
 use Rattle.jc_worlds.proofs.Above.{fault_where-none, chain-each}
 use Rattle.jc_lemmas.proofs.Bools.{neither_first, neither_last}

@@ -14,12 +14,12 @@ use Rattle.jc_facts.specs.declared.verdict.Collision.{Collision}
 use Rattle.jc_facts.specs.Names.{Bytes, same}
 use Rattle.jc_desc.specs.Names.{is_init_name, is_clinit_name}
 use Rattle.jc_facts.specs.world.World.{World, class_named, with_clients}
-use Rattle.jc_facts.specs.client.Clients.{facts_of}
-use Rattle.jc_facts.specs.client.Meets.{Meets, MeetsConstant, MeetsCapture, MeetsFinal}
-use Rattle.jc_facts.specs.rule.Bases.{is_inheritable}
-use Rattle.jc_facts.specs.rule.Collisions.{made_collision, collision_at, CollisionStands, constant_added, capture_added, final_added, capture_error}
+use Rattle.jc_facts.specs.client.Valid.{facts_of}
+use Rattle.jc_promises.specs.client.Meets.{Meets, MeetsConstant, MeetsCapture, MeetsFinal}
+use Rattle.jc_facts.specs.world.Inheritance.{is_inheritable}
+use Rattle.jc_promises.specs.rule.Collisions.{made_collision, collision_at, CollisionStands, constant_added, capture_added, final_added, capture_error}
 use Rattle.jc_sound.specs.Soundness.{Soundness, SoundnessOfRules, FindNothing, MeetsNone, TypesKept, FieldsKept, KeptWithoutMethods}
-use Rattle.jc_facts.specs.client.Kept.{DeclareNone}
+use Rattle.jc_promises.specs.client.Kept.{DeclareNone}
 use Rattle.jc_lemmas.proofs.Listed.{none, cases, EachOf, EachOf-map}
 use Rattle.jc_facts.proofs.Same.{same_itself}
 use Rattle.jc_sound.proofs.Standing.{Quiet, all_quiet}

@@ -4,10 +4,12 @@ use Rattle.jc_facts.specs.declared.client.ClientClass.{ClientClass}
 use Rattle.jc_facts.specs.declared.key.Key.{Key}
 use Rattle.jc_facts.specs.Names.{Bytes}
 use Rattle.jc_facts.specs.world.World.{World, with_clients}
-use Rattle.jc_facts.specs.world.Pairs.{IsPair}
-use Rattle.jc_facts.specs.client.Clients.{IsInScope, facts_of, Keeps}
-use Rattle.jc_facts.specs.client.Meets.{MeetsConstant, MeetsCapture}
-use Rattle.jc_facts.specs.rule.Collisions.{constant_added, capture_added}
+use Rattle.jc_promises.specs.Pairs.{IsPair}
+use Rattle.jc_promises.specs.client.Scope.{IsInScope}
+use Rattle.jc_facts.specs.client.Valid.{facts_of}
+use Rattle.jc_promises.specs.client.Keeps.{Keeps}
+use Rattle.jc_promises.specs.client.Meets.{MeetsConstant, MeetsCapture}
+use Rattle.jc_promises.specs.rule.Collisions.{constant_added, capture_added}
 use Rattle.jc_lemmas.proofs.Listed.{EachOf}
 use Rattle.jc_sound.proofs.Standing.{Quiet}
 use Rattle.jc_sound.proofs.Scope.{DeclaresNone, scope_loads}

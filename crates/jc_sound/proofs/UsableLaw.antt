@@ -11,16 +11,17 @@ use Rattle.jc_facts.specs.Names.{Bytes, same}
 use Rattle.jc_facts.specs.Flags.{public_flag}
 use Rattle.jc_facts.specs.Options.{or_else, and_then}
 use Rattle.jc_facts.specs.world.Modules.{is_visible}
-use Rattle.jc_facts.specs.world.World.{World}
-use Rattle.jc_facts.specs.rule.Bases.{class_is, is_class_usable, is_kept, became_class, is_steady, is_class_closed, is_extendable, is_implementable, is_base_class, is_base_interface, is_key_of_method, is_final_in_chain, inherits}
-use Rattle.jc_facts.specs.rule.Findings.{Subject, finding_at, finding_by, finds_overridable, constructor_closed, new_error, init_error, had_init, report, takes_part, assign_finding, class_gone, class_closed, interface_became_class, superclass_lost, method_made_final, field_closed, method_closed, interface_method_lost}
-use Rattle.jc_facts.specs.rule.Collisions.{constant_added, capture_added, final_added, collision_at, captures, leaves_room, are_none}
-use Rattle.jc_facts.specs.rule.OpenActs.{first_seat}
-use Rattle.jc_facts.specs.rule.Exposed.{is_hidden, references, exposes, is_exposed}
+use Rattle.jc_facts.specs.world.World.{World, class_is}
+use Rattle.jc_promises.specs.rule.Bases.{is_class_usable, is_kept, became_class, is_steady, is_class_closed, is_extendable, is_implementable, is_base_class, is_base_interface, is_key_of_method}
+use Rattle.jc_facts.specs.world.Inheritance.{is_final_in_chain, inherits}
+use Rattle.jc_promises.specs.rule.Findings.{Subject, finding_at, finding_by, finds_overridable, constructor_closed, new_error, init_error, had_init, report, takes_part, assign_finding, class_gone, class_closed, interface_became_class, superclass_lost, method_made_final, field_closed, method_closed, interface_method_lost}
+use Rattle.jc_promises.specs.rule.Collisions.{constant_added, capture_added, final_added, collision_at, captures, leaves_room}
+use Rattle.jc_facts.specs.world.Lookup.{are_none, field_found, method_choices, public_method_of_object}
+use Rattle.jc_promises.specs.rule.OpenActs.{first_seat}
+use Rattle.jc_promises.specs.rule.Exposed.{is_hidden, references, exposes, is_exposed}
 use Rattle.jc_facts.specs.world.Hierarchy.{in_chain}
 use Rattle.jc_facts.specs.world.Loading.{loads}
 use Rattle.jc_facts.specs.world.Assignment.{is_interface_of}
-use Rattle.jc_facts.specs.world.Lookup.{field_found, method_choices, public_method_of_object}
 use Rattle.jc_sound.specs.Findings.{FindingsAreOfLoaded, CollisionsAreOfUsable}
 use Rattle.jc_lemmas.proofs.Bools.{both_first, both_last, second_of_five}
 use Rattle.jc_sound.proofs.OpenActs.{first_seat-passes}

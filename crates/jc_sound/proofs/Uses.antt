@@ -12,12 +12,12 @@ use Rattle.jc_facts.specs.Flags.{public_flag, private_flag, protected_flag, pack
 use Rattle.jc_facts.specs.world.World.{World, DeclaredMember, with_clients}
 use Rattle.jc_facts.specs.Options.{or_else}
 use Rattle.jc_facts.specs.world.Hierarchy.{in_chain}
-use Rattle.jc_facts.specs.world.Access.{is_member_accessible, are_nestmates}
+use Rattle.jc_facts.specs.world.Access.{is_member_accessible, are_nestmates, is_member_open}
 use Rattle.jc_facts.specs.world.Loading.{fault_where}
 use Rattle.jc_facts.specs.world.Assignment.{is_assignable, is_interface_of, passes_protected_check}
 use Rattle.jc_facts.specs.client.Acts.{Form, MethodForm, form_of, is_act_on_static, is_put_act, is_special}
 use Rattle.jc_facts.specs.client.Outcome.{puts_own, assignment_ok, receiver_ok, is_direct_super}
-use Rattle.jc_facts.specs.rule.OpenActs.{is_member_open, act_fault}
+use Rattle.jc_promises.specs.rule.OpenActs.{act_fault}
 use Rattle.jc_facts.proofs.Same.{same_is}
 use Rattle.jc_worlds.proofs.Above.{fault_where-none}
 use Rattle.jc_facts.proofs.Options.{or_else-none, or_else-both}

@@ -12,7 +12,7 @@ use Rattle.jc_facts.specs.declared.verdict.Collision.{Collision}
 use Rattle.jc_facts.specs.declared.verdict.Note.{Note}
 use Rattle.jc_facts.specs.declared.verdict.Verdict.{Verdict}
 use Rattle.jc_facts.specs.KeyOrder.{key_total}
-use Rattle.jc_facts.specs.rule.Orders.{finding_order, collision_order, note_order, group_of, noted_class, noted_key}
+use Rattle.jc_facts.specs.Orders.{finding_order, collision_order, note_order, group_of, noted_class, noted_key}
 use Rattle.jc_facts.specs.Exactly.{Rises, HasExactly}
 use Rattle.jc_sound.specs.Findings.{VerdictIsOne}
 use Rattle.jc_lemmas.proofs.Listed.{EachOf}

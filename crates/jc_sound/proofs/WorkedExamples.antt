@@ -9,7 +9,7 @@ use Rattle.jc_facts.specs.declared.link_error.LinkError.TheVariants.{NoClassDefF
 use Rattle.jc_facts.specs.declared.verdict.Note.TheVariants.{Unloadable}
 use Rattle.jc_facts.specs.Names.{Bytes, object_name}
 use Rattle.jc_facts.specs.world.World.{World, Several, side, side_in}
-use Rattle.jc_facts.specs.rule.Collisions.{made_collision}
+use Rattle.jc_promises.specs.rule.Collisions.{made_collision}
 use Rattle.jc_sound.proofs.Examples.{computes, object, member, init, key, a_class, extending, public_class, plain, public_interface, sealed_interface, over, finding, finding_to, finding_of, finding_from, exposed_finding, Finds, ascii}
 
 abbrev p_A : Bytes

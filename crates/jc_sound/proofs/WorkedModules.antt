@@ -8,15 +8,15 @@ use Rattle.jc_facts.specs.declared.act.Act.TheVariants.{ClassRef, Implement}
 use Rattle.jc_facts.specs.declared.link_error.LinkError.TheVariants.{IllegalAccessError, IncompatibleClassChangeError}
 use Rattle.jc_facts.specs.Names.{Bytes, object_name}
 use Rattle.jc_facts.specs.world.World.{World, Several, modular_side, with_clients}
-use Rattle.jc_facts.specs.world.Pairs.{IsPair}
+use Rattle.jc_promises.specs.Pairs.{IsPair}
 use Rattle.jc_facts.specs.world.Modules.{OfPlatform, OfRelease, OfClients, module_of, is_visible, is_visible_from}
 use Rattle.jc_facts.specs.world.Access.{is_class_accessible}
 use Rattle.jc_facts.specs.world.Loading.{load_fault}
 use Rattle.jc_facts.specs.file.Valid.{IsValidClass}
 use Rattle.jc_facts.specs.client.Outcome.{outcome, Links}
-use Rattle.jc_facts.specs.plan.PlannedNames.{closed_name, least_name}
+use Rattle.jc_promises.specs.plan.PlannedNames.{closed_name, least_name}
 use Rattle.jc_sound.proofs.Examples.{computes, init, a_class, extending, plain, sealed_interface, object, finding, Finds, ascii}
-use Rattle.jc_facts.proofs.Pairs.{pair_in}
+use Rattle.jc_promises.proofs.Pairs.{pair_in}
 use Rattle.jc_sound.proofs.WorkedClients.{p_A, root_is_valid}
 use Rattle.jc_sound.proofs.WorkedVerdict.{root, plain_is_valid}
 use Rattle.jc_sound.proofs.WorkedExamples.{utf8_C, utf8_D}

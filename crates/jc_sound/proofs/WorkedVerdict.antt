@@ -14,18 +14,20 @@ use Rattle.jc_facts.specs.declared.verdict.Verdict.{Verdict}
 use Rattle.jc_facts.specs.Names.{Bytes, same}
 use Rattle.jc_facts.specs.Options.{and_then, some_and}
 use Rattle.jc_facts.specs.world.World.{World, find_class, own_field_of, class_named, with_clients}
-use Rattle.jc_facts.specs.world.Pairs.{IsPair}
-use Rattle.jc_facts.proofs.Pairs.{plain_pair}
+use Rattle.jc_promises.specs.Pairs.{IsPair}
+use Rattle.jc_promises.proofs.Pairs.{plain_pair}
 use Rattle.jc_facts.specs.world.Loading.{load_fault}
 use Rattle.jc_facts.specs.file.Valid.{IsValidClass}
-use Rattle.jc_facts.specs.client.Clients.{HasRoot, Keeps, facts_of}
-use Rattle.jc_facts.specs.client.Meets.{Meets}
-use Rattle.jc_facts.specs.rule.Bases.{is_kept}
-use Rattle.jc_facts.specs.rule.Findings.{Stands, subject_of}
-use Rattle.jc_facts.specs.rule.Collisions.{collision_at, CollisionStands}
-use Rattle.jc_facts.specs.rule.Notes.{has_static_final, has_lost_constant, in_release, NoteStands}
+use Rattle.jc_facts.specs.world.Root.{HasRoot}
+use Rattle.jc_promises.specs.client.Keeps.{Keeps}
+use Rattle.jc_facts.specs.client.Valid.{facts_of}
+use Rattle.jc_promises.specs.client.Meets.{Meets}
+use Rattle.jc_promises.specs.rule.Bases.{is_kept}
+use Rattle.jc_promises.specs.rule.Findings.{Stands, subject_of}
+use Rattle.jc_promises.specs.rule.Collisions.{collision_at, CollisionStands}
+use Rattle.jc_promises.specs.rule.Notes.{has_static_final, has_lost_constant, in_release, NoteStands}
 use Rattle.jc_facts.specs.Exactly.{Rises}
-use Rattle.jc_facts.specs.rule.Verdict.{IsVerdict}
+use Rattle.jc_promises.specs.rule.Verdict.{IsVerdict}
 use Rattle.jc_facts.proofs.Same.{same_is}
 use Rattle.jc_sound.proofs.Itself.{quiet_itself, no_constant, no_capture, no_final}
 use Rattle.jc_worlds.proofs.ChoiceLaws.{valid_in}

@@ -5,10 +5,10 @@ use Rattle.jc_facts.specs.declared.class_facts.ClassFacts.{ClassFacts}
 use Rattle.jc_facts.specs.declared.key.Key.{Key}
 use Rattle.jc_facts.specs.Names.{Bytes}
 use Rattle.jc_facts.specs.world.World.{World, classes}
-use Rattle.jc_facts.specs.client.Clients.{HasRoot}
+use Rattle.jc_facts.specs.world.Root.{HasRoot}
 use Rattle.jc_facts.specs.file.Valid.{IsValidClass}
-use Rattle.jc_facts.specs.rule.Bases.{is_class_usable}
-use Rattle.jc_facts.specs.rule.Exposed.{is_hidden, is_exposed, keys_of, exposes}
+use Rattle.jc_promises.specs.rule.Bases.{is_class_usable}
+use Rattle.jc_promises.specs.rule.Exposed.{is_hidden, is_exposed, keys_of, exposes}
 use Rattle.jc_worlds.specs.Hierarchy.{above}
 
 -- the keys that the class or one above it declares

@@ -1,6 +1,7 @@
 -- Laws of findings and of verdicts.
 use Rattle.std.specs.Prelude.{[], ◌≡◌, false, Some, None, ℕ, true, Bool, All, is_some, ◌||◌, ◌++◌}
 use Rattle.std.specs.List.{list_any}
+use Rattle.jc_facts.specs.declared.rule_numbers.TheConstants.{CLASS_GONE}
 use Rattle.jc_facts.specs.declared.class_facts.ClassFacts.{ClassFacts}
 use Rattle.jc_facts.specs.declared.key.Key.{Key}
 use Rattle.jc_facts.specs.declared.finding.Finding.{Finding}
@@ -8,14 +9,14 @@ use Rattle.jc_facts.specs.declared.verdict.Collision.{Collision}
 use Rattle.jc_facts.specs.declared.verdict.Verdict.{Verdict}
 use Rattle.jc_facts.specs.Names.{Bytes}
 use Rattle.jc_facts.specs.world.World.{World, find_class, own_field_of, own_method_of}
-use Rattle.jc_facts.specs.world.Pairs.{IsPair}
+use Rattle.jc_promises.specs.Pairs.{IsPair}
 use Rattle.jc_facts.specs.world.Loading.{loads}
 use Rattle.jc_facts.specs.file.Valid.{IsValidClass}
-use Rattle.jc_facts.specs.rule.Findings.{Subject, finding_at, subject_of}
-use Rattle.jc_facts.specs.rule.Collisions.{constant_added, capture_added, final_added, collision_at}
-use Rattle.jc_facts.specs.rule.Bases.{is_class_usable}
-use Rattle.jc_facts.specs.rule.Verdict.{IsVerdict}
-use Rattle.jc_facts.specs.client.Kept.{BreaksClass}
+use Rattle.jc_promises.specs.rule.Findings.{Subject, finding_at, subject_of}
+use Rattle.jc_promises.specs.rule.Collisions.{constant_added, capture_added, final_added, collision_at}
+use Rattle.jc_promises.specs.rule.Bases.{is_class_usable}
+use Rattle.jc_promises.specs.rule.Verdict.{IsVerdict}
+use Rattle.jc_promises.specs.client.Kept.{BreaksClass}
 use Rattle.jc_worlds.specs.Hierarchy.{above}
 
 -- the finding on a subject speaks of that subject: there is at most one for each rule, class and key or target
@@ -61,5 +62,5 @@ NothingBreaksItself = (O : World) → ((x : Bytes) (c : ClassFacts) → find_cla
 -- where rule 1 stands on a side of valid classes, each client's naming of the class breaks by the printed error
 abbrev pub ClassGoneBreaks : Type 0
 ClassGoneBreaks = (O N : World) → O.clients ≡ [] → N.clients ≡ [] → All IsValidClass O.platform → All IsValidClass O.release
-    → (s : Subject) (f : Finding) → s.rule ≡ 1 → finding_at O N s ≡ Some f
+    → (s : Subject) (f : Finding) → s.rule ≡ CLASS_GONE → finding_at O N s ≡ Some f
     → BreaksClass O N f.class f.error

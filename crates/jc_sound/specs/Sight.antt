@@ -12,15 +12,18 @@ use Rattle.jc_facts.specs.Names.{Bytes}
 use Rattle.jc_facts.specs.Options.{some_and}
 use Rattle.jc_facts.specs.world.Types.{Element, Primitive, Class, TypeText, type_read}
 use Rattle.jc_facts.specs.world.World.{World, find_class, with_clients, is_client}
-use Rattle.jc_facts.specs.world.Pairs.{IsPair}
+use Rattle.jc_promises.specs.Pairs.{IsPair}
 use Rattle.jc_facts.specs.world.Access.{is_class_accessible}
 use Rattle.jc_facts.specs.world.Loading.{load_fault, loads}
 use Rattle.jc_facts.specs.client.Outcome.{Links}
-use Rattle.jc_facts.specs.client.Clients.{IsInScope, facts_of, is_in_reach, seat}
-use Rattle.jc_facts.specs.client.Meets.{Meets}
-use Rattle.jc_facts.specs.rule.Findings.{Subject, finding_at}
-use Rattle.jc_facts.specs.rule.Collisions.{CollisionStands}
-use Rattle.jc_facts.specs.rule.Exposed.{is_exposed}
+use Rattle.jc_promises.specs.client.Scope.{IsInScope}
+use Rattle.jc_facts.specs.client.Valid.{facts_of}
+use Rattle.jc_promises.specs.client.Reach.{is_in_reach}
+use Rattle.jc_facts.specs.client.Seats.{seat}
+use Rattle.jc_promises.specs.client.Meets.{Meets}
+use Rattle.jc_promises.specs.rule.Findings.{Subject, finding_at}
+use Rattle.jc_promises.specs.rule.Collisions.{CollisionStands}
+use Rattle.jc_promises.specs.rule.Exposed.{is_exposed}
 
 -- the class loads, and is accessible from the client x, or is a client, or is hidden and a member exposes it to the seat of x
 abbrev pub class_in_sight : World → List ClassFacts → Bytes → Bytes → Bool

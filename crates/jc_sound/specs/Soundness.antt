@@ -1,5 +1,6 @@
 -- Soundness: what the rules find nothing about, clients keep.
 use Rattle.std.specs.Prelude.{ℕ, Bool, true, not, List, [], ◌≡◌, ◌==◌, ◌||◌, nat_le, Option, None, is_some, All, Contains, IsTrue}
+use Rattle.jc_facts.specs.declared.rule_numbers.TheConstants.{SUPERCLASS_LOST, METHOD_MADE_FINAL, FIELD_CLOSED, CONSTANT_ADDED, CAPTURE_ADDED}
 use Rattle.jc_facts.specs.declared.client.ClientClass.{ClientClass}
 use Rattle.jc_facts.specs.declared.client.Item.TheVariants as item
 use Rattle.jc_facts.specs.declared.client.Place.{Place}
@@ -9,16 +10,19 @@ use Rattle.jc_facts.specs.declared.verdict.Collision.{Collision}
 use Rattle.jc_facts.specs.declared.verdict.Verdict.{Verdict}
 use Rattle.jc_facts.specs.Names.{Bytes, object_name}
 use Rattle.jc_facts.specs.world.World.{World, class_named, with_clients}
-use Rattle.jc_facts.specs.world.Pairs.{AreOfOneRun, IsPair}
+use Rattle.jc_promises.specs.Pairs.{AreOfOneRun, IsPair}
 use Rattle.jc_facts.specs.world.Loading.{load_fault}
 use Rattle.jc_facts.specs.client.Outcome.{outcome}
 use Rattle.jc_facts.specs.client.Acts.{FieldForm, form_of}
-use Rattle.jc_facts.specs.client.Clients.{IsInScope, facts_of, is_in_reach, Keeps}
-use Rattle.jc_facts.specs.client.Meets.{Meets}
-use Rattle.jc_facts.specs.client.Kept.{DeclareNone, KeepsTypes}
-use Rattle.jc_facts.specs.rule.Findings.{Subject, finding_at}
-use Rattle.jc_facts.specs.rule.Collisions.{CollisionStands}
-use Rattle.jc_facts.specs.rule.Verdict.{IsVerdict}
+use Rattle.jc_promises.specs.client.Scope.{IsInScope}
+use Rattle.jc_facts.specs.client.Valid.{facts_of}
+use Rattle.jc_promises.specs.client.Reach.{is_in_reach}
+use Rattle.jc_promises.specs.client.Keeps.{Keeps}
+use Rattle.jc_promises.specs.client.Meets.{Meets}
+use Rattle.jc_promises.specs.client.Kept.{DeclareNone, KeepsTypes}
+use Rattle.jc_promises.specs.rule.Findings.{Subject, finding_at}
+use Rattle.jc_promises.specs.rule.Collisions.{CollisionStands}
+use Rattle.jc_promises.specs.rule.Verdict.{IsVerdict}
 
 -- ---- whole
 
@@ -46,12 +50,12 @@ MeetsNone rule O N cs = (c : Collision) → c.rule ≡ rule → CollisionStands 
 -- Rules 1 to 4 keep the loads of such clients, the classes that they name and their assignments in reach.
 abbrev pub TypesKept : Type 0
 TypesKept = (O N : World) (cs : List ClientClass) → AreOfOneRun O N → is_some (class_named O.platform object_name) ≡ true
-    → FindNothing (λ r. nat_le r 4) O N → IsInScope O N cs → DeclareNone cs → KeepsTypes O N cs
+    → FindNothing (λ r. nat_le r SUPERCLASS_LOST) O N → IsInScope O N cs → DeclareNone cs → KeepsTypes O N cs
 
 -- With rule 7 they keep the acts on fields too, where no Constant collision is met.
 abbrev pub FieldsKept : Type 0
-FieldsKept = (O N : World) (cs : List ClientClass) → IsPair O N → FindNothing (λ r. nat_le r 4 || r == 7) O N
-    → IsInScope O N cs → DeclareNone cs → MeetsNone 10 O N cs
+FieldsKept = (O N : World) (cs : List ClientClass) → IsPair O N → FindNothing (λ r. nat_le r SUPERCLASS_LOST || r == FIELD_CLOSED) O N
+    → IsInScope O N cs → DeclareNone cs → MeetsNone CONSTANT_ADDED O N cs
     → let before = with_clients O (facts_of cs) in
     let after = with_clients N (facts_of cs) in
     (c : ClientClass) (act : Act) (t : Bytes) (k : Key) (r : Option Bytes) (place : Place) → let use_it = item.Access act t k r place in
@@ -60,5 +64,5 @@ FieldsKept = (O N : World) (cs : List ClientClass) → IsPair O N → FindNothin
 
 -- All rules but rule 6 keep all loads and items of such clients, where no Constant and no Capture collision is met.
 abbrev pub KeptWithoutMethods : Type 0
-KeptWithoutMethods = (O N : World) (cs : List ClientClass) → IsPair O N → FindNothing (λ r. not (r == 6)) O N
-    → IsInScope O N cs → DeclareNone cs → MeetsNone 10 O N cs → MeetsNone 11 O N cs → Keeps O N cs
+KeptWithoutMethods = (O N : World) (cs : List ClientClass) → IsPair O N → FindNothing (λ r. not (r == METHOD_MADE_FINAL)) O N
+    → IsInScope O N cs → DeclareNone cs → MeetsNone CONSTANT_ADDED O N cs → MeetsNone CAPTURE_ADDED O N cs → Keeps O N cs

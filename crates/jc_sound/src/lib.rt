@@ -7,6 +7,7 @@ ghost use Rattle.jc_sound.specs.Findings.{FindingIsOnItsSubject, FindingsAreOfLo
 ghost use Rattle.jc_sound.specs.ExposedAbove.{ExposedByKeysAbove};
 ghost use Rattle.jc_sound.specs.Sight.{ReachIsInSight, SoundnessInSight};
 ghost use Rattle.jc_sound.specs.Soundness.{Soundness, SoundnessOfRules, TypesKept, FieldsKept, KeptWithoutMethods};
+ghost use Rattle.jc_sound.specs.Plain.{PlainWorlds};
 
 /// There is at most one finding for each rule, class and key or target.
 pub fn finding_is_on_its_subject()
@@ -92,4 +93,10 @@ pub fn kept_without_methods()
 /// What exposes a hidden class is found among the keys that a usable class and those above it declare.
 pub fn exposed_by_keys_above()
     ensures { ExposedByKeysAbove }
+{}
+
+/// In worlds of one module access, the seal, the bases and the names of planned clients are what they are without the question for
+/// the module of a class (JVMS 5.3.5, 5.4.4).
+pub fn plain_worlds()
+    ensures { PlainWorlds }
 {}

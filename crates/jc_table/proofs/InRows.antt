@@ -6,9 +6,8 @@ use Rattle.jc_facts.specs.Exactly.{HasExactly}
 use Rattle.jc_facts.specs.KeyOrder.{key_cmp}
 use Rattle.jc_facts.specs.Names.{same_key}
 use Rattle.jc_facts.specs.Options.{and_then}
-use Rattle.jc_facts.specs.client.Clients.{differ_by_name}
+use Rattle.jc_facts.specs.world.World.{differ_by_name, World, classes}
 use Rattle.jc_facts.specs.file.Valid.{has_key}
-use Rattle.jc_facts.specs.world.World.{World, classes}
 use Rattle.jc_facts.proofs.Same.{key_itself}
 use Rattle.jc_lemmas.proofs.Listed.{any_has}
 use Rattle.jc_index.specs.declared.ids.Found.{Found}

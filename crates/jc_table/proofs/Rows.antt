@@ -2,8 +2,7 @@
 use Rattle.std.proofs.Common.{◌≡◌, ◌<◌, ℕ, Bool, true, List, [], get_or, length, map, sym, ◌∙◌, ap, subst, arith, Option, Some, None}
 use Rattle.std.proofs.lemmas.List.{get_or_default, get_or-map, length-map}
 use Rattle.jc_facts.specs.Names.{Bytes}
-use Rattle.jc_facts.specs.world.World.{World, size, classes}
-use Rattle.jc_facts.specs.client.Clients.{differ_by_name}
+use Rattle.jc_facts.specs.world.World.{World, size, classes, differ_by_name}
 use Rattle.jc_index.specs.Sides.{IsSide}
 use Rattle.jc_facts.specs.world.Loading.{load_fault}
 use Rattle.jc_index.specs.Ids.{name_at, names}

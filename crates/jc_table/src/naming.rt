@@ -1,9 +1,8 @@
 //! Which classes others may name, wherever they are and from one that is there (JVMS 5.4.4).
 ghost use Rattle.std.specs.Prelude.{◌≡◌, ◌<◌, ◌&&◌};
 ghost use Rattle.jc_facts.specs.Flags.{public_flag};
-ghost use Rattle.jc_facts.specs.rule.Bases.{class_is};
+ghost use Rattle.jc_facts.specs.world.World.{class_is, size};
 ghost use Rattle.jc_facts.specs.world.Modules.{is_visible, is_visible_from};
-ghost use Rattle.jc_facts.specs.world.World.{size};
 ghost use Rattle.jc_index.specs.Ids.{name_at};
 
 use crate::table::Table;

@@ -1,14 +1,14 @@
 //! The classes of a side, found by their names.
 ghost use Rattle.std.specs.Prelude.{◌≡◌, ◌≤◌, ◌<◌, ◌+◌, ◌++◌, ◌^◌, ◌||◌, false, length, map, option_map, slice_get, is_some, nat_lt, Some, None, IfOk, IfErr, IfSome, IsTrue};
 ghost use Rattle.std.specs.List.{All, list_any};
+ghost use Rattle.jc_facts.specs.declared.limits.TheConstants.{MAX_SIDE_CLASSES};
 ghost use Rattle.jc_facts.specs.Options.{some_where};
 ghost use Rattle.jc_facts.specs.file.Valid.{IsValidClass, has_key};
 ghost use Rattle.jc_facts.specs.declared.key.Key.{Key};
 ghost use Rattle.jc_facts.specs.Names.{same};
-ghost use Rattle.jc_facts.specs.client.Clients.{differ_by_name, is_named_above};
-ghost use Rattle.jc_facts.specs.world.World.{side, modular_side, with_clients, size, classes, find_class, class_named};
+ghost use Rattle.jc_facts.specs.world.World.{differ_by_name, side, modular_side, with_clients, size, classes, find_class, class_named};
+ghost use Rattle.jc_facts.specs.world.Mentioned.{is_named_above, all_mentions};
 ghost use Rattle.jc_facts.specs.world.Modules.{OfClients, same_module, module_of, is_visible, is_visible_from};
-ghost use Rattle.jc_facts.specs.world.Mentioned.{all_mentions};
 ghost use Rattle.jc_facts.specs.world.Hierarchy.{in_chain, is_superinterface};
 ghost use Rattle.jc_facts.specs.world.Loading.{load_fault};
 ghost use Rattle.jc_index.specs.Above.{AreAbove};
@@ -128,7 +128,7 @@ fn modular_side_of(
     exports: Option<Vec<Name>>,
 ) -> Result<Side, AllocError>
     requires differ { IsTrue (differ_by_name (release.items ++ clients.items)) }
-    requires few { length platform + (length release.items + length clients.items) ≤ 120000 }
+    requires few { length platform + (length release.items + length clients.items) ≤ MAX_SIDE_CLASSES }
     ensures { IfOk result (λ side. side ≡ with_clients (modular_side (option_map (λ ns. ns.items) exports) platform release.items) clients.items) }
 {
     let of_release = release.len();
@@ -165,7 +165,7 @@ impl Table {
         requires valid_release { All IsValidClass release.items }
         requires platform_differs { IsTrue (differ_by_name platform.now) }
         requires release_differs { IsTrue (differ_by_name release.items) }
-        requires few { length platform.now + length release.items ≤ 120000 }
+        requires few { length platform.now + length release.items ≤ MAX_SIDE_CLASSES }
         ensures built { IfOk result (λ table. table ≡ side platform.now release.items) }
         ensures sound { IfOk result (λ _. (fault_of_root platform.now ≡ None) × (overlap_of platform.now release.items ≡ None)) }
         ensures refused { IfErr result (HasCause platform.now release.items) }
@@ -196,7 +196,7 @@ impl Table {
         requires valid_release { All IsValidClass release.items }
         requires platform_differs { IsTrue (differ_by_name platform.now) }
         requires release_differs { IsTrue (differ_by_name release.items) }
-        requires few { length platform.now + length release.items ≤ 120000 }
+        requires few { length platform.now + length release.items ≤ MAX_SIDE_CLASSES }
         ensures built { IfOk result (λ table. table ≡ side platform.now release.items) }
         ensures sound { IfOk result (λ _. (fault_of_root platform.now ≡ None) × (overlap_of platform.now release.items ≡ None)) }
         ensures refused { IfErr result (HasCause platform.now release.items) }
@@ -242,7 +242,7 @@ impl Table {
         requires platform_differs { IsTrue (differ_by_name platform.now) }
         requires beside_differ { IsTrue (differ_by_name (release.items ++ clients.items)) }
         requires clients_apart { All (λ c. is_some (class_named platform.now c.name) ≡ false) clients.items }
-        requires few { length platform.now + (length release.items + length clients.items) ≤ 120000 }
+        requires few { length platform.now + (length release.items + length clients.items) ≤ MAX_SIDE_CLASSES }
         ensures built { IfOk result (λ table. table ≡ with_clients (modular_side (option_map (λ ns. ns.items) exports) platform.now release.items) clients.items) }
         ensures sound { IfOk result (λ _. (fault_of_root platform.now ≡ None) × (overlap_of platform.now release.items ≡ None)) }
         ensures refused { IfErr result (HasCause platform.now release.items) }
@@ -277,7 +277,7 @@ impl Table {
         requires platform_differs { IsTrue (differ_by_name platform.now) }
         requires beside_differ { IsTrue (differ_by_name (release.items ++ clients.items)) }
         requires clients_apart { All (λ c. is_some (class_named platform.now c.name) ≡ false) clients.items }
-        requires few { length platform.now + (length release.items + length clients.items) ≤ 120000 }
+        requires few { length platform.now + (length release.items + length clients.items) ≤ MAX_SIDE_CLASSES }
         ensures built { IfOk result (λ table. table ≡ with_clients (modular_side (option_map (λ ns. ns.items) exports) platform.now release.items) clients.items) }
         ensures sound { IfOk result (λ _. (fault_of_root platform.now ≡ None) × (overlap_of platform.now release.items ≡ None)) }
         ensures refused { IfErr result (HasCause platform.now release.items) }

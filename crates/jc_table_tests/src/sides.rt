@@ -1,9 +1,8 @@
 //! Tables of sides of classes made from rows, and the names and keys that they are asked for.
 ghost use Rattle.std.specs.Prelude.{◌≡◌, ◌≤◌, ◌<◌, length, None, IsTrue};
 ghost use Rattle.std.specs.List.{All};
-ghost use Rattle.jc_facts.specs.client.Clients.{differ_by_name};
+ghost use Rattle.jc_facts.specs.world.World.{differ_by_name, size};
 ghost use Rattle.jc_facts.specs.file.Valid.{IsValidClass};
-ghost use Rattle.jc_facts.specs.world.World.{size};
 ghost use Rattle.jc_facts.specs.world.Loading.{load_fault};
 ghost use Rattle.jc_table.specs.Ids.{name_at};
 

@@ -7,7 +7,7 @@ use Rattle.jc_facts.specs.file.ShortNames.{HasShortNames}
 use Rattle.jc_facts.specs.declared.class_facts.ClassFacts.{ClassFacts}
 use Rattle.jc_facts.specs.declared.client.ClientClass.{ClientClass}
 use Rattle.jc_facts.specs.declared.client.Item.{Item}
-use Rattle.jc_facts.specs.client.Clients.{IsValidClient, facts_of}
+use Rattle.jc_facts.specs.client.Valid.{IsValidClient, facts_of}
 use Rattle.jc_facts.specs.file.Valid.{IsValidClass}
 use Rattle.jc_facts.specs.Names.{Bytes}
 use Rattle.jc_facts.proofs.Clients.{facts_length, facts_valid}

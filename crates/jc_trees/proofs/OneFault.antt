@@ -30,7 +30,8 @@ use Rattle.jc_trees.specs.declared.file_fault.FileFault.{FileFault}
 use Rattle.jc_trees.specs.declared.file_fault.FileFault.TheVariants as faults
 use Rattle.jc_trees.specs.declared.file_fault.TreeFault.{TreeFault}
 use Rattle.jc_trees.specs.declared.file_fault.TreeFault.TheVariants as tree_faults
-use Rattle.jc_trees.specs.declared.limits.TheConstants.{MAX_BYTES, MAX_PATH}
+use Rattle.jc_desc.specs.declared.limits.TheConstants.{MAX_CLASS_BYTES}
+use Rattle.jc_trees.specs.declared.limits.TheConstants.{MAX_PATH}
 use Rattle.jc_trees.specs.declared.tree.TreeKind.{TreeKind}
 use Rattle.jc_trees.specs.declared.tree.TreeKind.TheVariants as kinds
 use Rattle.jc_trees.specs.declared.tree.TreeName.{TreeName}
@@ -73,7 +74,7 @@ of_client kind path client = ap (λ (k : TreeKind). is_module_path k path) clien
 
 -- a fault leaves no class
 unreadable_class : (kind : TreeKind) (path bytes : Bytes) (fault : FileFault) → IsFileFault kind path bytes fault → (c : ClientClass) → IsClassRead kind path bytes c → ⊥
-unreadable_class kind path bytes faults.TooLong f c r = apart_numbers (length bytes) MAX_BYTES r.facts.short f
+unreadable_class kind path bytes faults.TooLong f c r = apart_numbers (length bytes) MAX_CLASS_BYTES r.facts.short f
 unreadable_class kind path bytes (faults.Malformed m) f c r = no_form_fault bytes c.facts (is_module_path kind path) m.offset m.reason r.no_module r.facts.reads f.1
 unreadable_class kind path bytes (faults.Misplaced name) (no_module, short, (other, reads, named, elsewhere)) c r =
     elsewhere (r.facts.place ∙ ap (λ (f : ClassFacts). path_of f.name) (one_record bytes c.facts other r.facts.reads reads) ∙ ap path_of named)
@@ -82,7 +83,7 @@ unreadable_class kind path bytes (faults.BadCode offset reason) (client, read, b
 
 -- and no module
 unreadable_module : (kind : TreeKind) (path bytes : Bytes) (fault : FileFault) → IsFileFault kind path bytes fault → (packages : List Bytes) → IsModuleRead kind path bytes packages → ⊥
-unreadable_module kind path bytes faults.TooLong f packages r = apart_numbers (length bytes) MAX_BYTES r.short f
+unreadable_module kind path bytes faults.TooLong f packages r = apart_numbers (length bytes) MAX_CLASS_BYTES r.short f
 unreadable_module kind path bytes (faults.Malformed m) f packages r = no_module_fault bytes packages (is_module_path kind path) m.offset m.reason r.of_module r.reads f.1
 unreadable_module kind path bytes (faults.Misplaced name) f packages r = two_places (is_module_path kind path) f.0 r.of_module
 unreadable_module kind path bytes (faults.BadCode offset reason) f packages r = two_places (is_module_path kind path) (of_client kind path f.0) r.of_module
@@ -102,10 +103,10 @@ unread_record bytes path facts r name other reads named elsewhere =
 -- a file has one fault
 one_file_fault : (kind : TreeKind) (path bytes : Bytes) (a b : FileFault) → IsFileFault kind path bytes a → IsFileFault kind path bytes b → a ≡ b
 one_file_fault kind path bytes faults.TooLong faults.TooLong f g = refl
-one_file_fault kind path bytes faults.TooLong (faults.Malformed n) f g = absurd (apart_numbers (length bytes) MAX_BYTES g.0 f)
-one_file_fault kind path bytes faults.TooLong (faults.Misplaced y) f g = absurd (apart_numbers (length bytes) MAX_BYTES g.1 f)
-one_file_fault kind path bytes faults.TooLong (faults.BadCode p q) f g = absurd (apart_numbers (length bytes) MAX_BYTES g.1.1.short f)
-one_file_fault kind path bytes (faults.Malformed m) faults.TooLong f g = absurd (apart_numbers (length bytes) MAX_BYTES f.0 g)
+one_file_fault kind path bytes faults.TooLong (faults.Malformed n) f g = absurd (apart_numbers (length bytes) MAX_CLASS_BYTES g.0 f)
+one_file_fault kind path bytes faults.TooLong (faults.Misplaced y) f g = absurd (apart_numbers (length bytes) MAX_CLASS_BYTES g.1 f)
+one_file_fault kind path bytes faults.TooLong (faults.BadCode p q) f g = absurd (apart_numbers (length bytes) MAX_CLASS_BYTES g.1.1.short f)
+one_file_fault kind path bytes (faults.Malformed m) faults.TooLong f g = absurd (apart_numbers (length bytes) MAX_CLASS_BYTES f.0 g)
 one_file_fault kind path bytes (faults.Malformed m) (faults.Malformed n) f g =
     let same = one_form_fault bytes (is_module_path kind path) m.offset n.offset m.reason n.reason f.1 g.1 in
     ap faults.Malformed (one_malformed m n same.0 same.1)
@@ -113,14 +114,14 @@ one_file_fault kind path bytes (faults.Malformed m) (faults.Misplaced y) f (no_m
     absurd (no_form_fault bytes facts (is_module_path kind path) m.offset m.reason no_module reads f.1)
 one_file_fault kind path bytes (faults.Malformed m) (faults.BadCode p q) f (client, (facts, read), bad) =
     absurd (no_form_fault bytes facts (is_module_path kind path) m.offset m.reason (of_client kind path client) read.reads f.1)
-one_file_fault kind path bytes (faults.Misplaced x) faults.TooLong f g = absurd (apart_numbers (length bytes) MAX_BYTES f.1 g)
+one_file_fault kind path bytes (faults.Misplaced x) faults.TooLong f g = absurd (apart_numbers (length bytes) MAX_CLASS_BYTES f.1 g)
 one_file_fault kind path bytes (faults.Misplaced x) (faults.Malformed n) (no_module, short, (facts, reads, named, elsewhere)) g =
     absurd (no_form_fault bytes facts (is_module_path kind path) n.offset n.reason no_module reads g.1)
 one_file_fault kind path bytes (faults.Misplaced x) (faults.Misplaced y) (no_module, short, (facts, reads, named, elsewhere)) (placed, long, (other, again, called, away)) =
     ap faults.Misplaced (sym named ∙ ap (λ (c : ClassFacts). c.name) (one_record bytes facts other reads again) ∙ called)
 one_file_fault kind path bytes (faults.Misplaced x) (faults.BadCode p q) (no_module, short, (facts, reads, named, elsewhere)) (client, (other, read), bad) =
     absurd (unread_record bytes path other read x facts reads named elsewhere)
-one_file_fault kind path bytes (faults.BadCode o r) faults.TooLong f g = absurd (apart_numbers (length bytes) MAX_BYTES f.1.1.short g)
+one_file_fault kind path bytes (faults.BadCode o r) faults.TooLong f g = absurd (apart_numbers (length bytes) MAX_CLASS_BYTES f.1.1.short g)
 one_file_fault kind path bytes (faults.BadCode o r) (faults.Malformed n) (client, (facts, read), bad) g =
     absurd (no_form_fault bytes facts (is_module_path kind path) n.offset n.reason (of_client kind path client) read.reads g.1)
 one_file_fault kind path bytes (faults.BadCode o r) (faults.Misplaced y) (client, (other, read), bad) (no_module, short, (facts, reads, named, elsewhere)) =

@@ -3,7 +3,7 @@ use Rattle.std.proofs.Common.{◌≡◌, ◌∙◌, List, [], ◌∷◌, Option,
 use Rattle.jc_base.specs.Outside.{FileOf}
 use Rattle.jc_facts.specs.declared.class_facts.ClassFacts.{ClassFacts}
 use Rattle.jc_facts.specs.declared.client.ClientClass.{ClientClass}
-use Rattle.jc_facts.specs.client.Clients.{facts_of}
+use Rattle.jc_facts.specs.client.Valid.{facts_of}
 use Rattle.jc_facts.specs.Names.{Bytes}
 use Rattle.jc_facts.proofs.OneList.{one_exact}
 use Rattle.jc_trees.specs.ClassFiles.{FileRead, ClassRead, path_read, IsClean, IsFileIn, AreFiles, AreClasses, AreRecords, AreModular, without_code, records_in, exports_in}

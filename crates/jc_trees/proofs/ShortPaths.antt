@@ -10,7 +10,7 @@ use Rattle.jc_desc.proofs.ShortTexts.{AreBytes}
 use Rattle.jc_facts.specs.declared.class_facts.ClassFacts.{ClassFacts}
 use Rattle.jc_facts.specs.declared.client.ClientClass.{ClientClass}
 use Rattle.jc_facts.specs.Names.{Bytes}
-use Rattle.jc_facts.specs.client.Clients.{facts_of}
+use Rattle.jc_facts.specs.client.Valid.{facts_of}
 use Rattle.jc_facts.specs.file.ClassGrammar.{Reads}
 use Rattle.jc_lemmas.proofs.Listed.{EachOf, each_from, not_any}
 use Rattle.jc_trees.specs.ClassFiles.{path_of}

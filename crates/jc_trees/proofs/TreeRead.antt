@@ -11,8 +11,8 @@ use Rattle.jc_facts.specs.declared.client.Item.{Item}
 use Rattle.jc_facts.specs.file.ShortNames.{HasShortNames}
 use Rattle.jc_facts.specs.Names.{Bytes, same}
 use Rattle.jc_facts.specs.Exactly.{Before, NamesRise, Rises}
-use Rattle.jc_facts.specs.world.World.{class_named}
-use Rattle.jc_facts.specs.client.Clients.{IsValidClient, differ_by_name, facts_of}
+use Rattle.jc_facts.specs.world.World.{class_named, differ_by_name}
+use Rattle.jc_facts.specs.client.Valid.{IsValidClient, facts_of}
 use Rattle.jc_facts.proofs.Same.{same_is}
 use Rattle.jc_facts.proofs.OneList.{not_both, not_self}
 use Rattle.jc_lemmas.proofs.Listed.{EachOf, here, there, none, cases, each_in, not_any}

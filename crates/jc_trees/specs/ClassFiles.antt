@@ -14,7 +14,8 @@ use Rattle.jc_facts.specs.file.ClassGrammar.{Reads}
 use Rattle.jc_facts.specs.file.ClassSteps.{IsFaulty}
 use Rattle.jc_facts.specs.file.ModuleFile.{ModuleReads, IsModuleFaulty}
 use Rattle.jc_trees.specs.Tree.{TreeOf}
-use Rattle.jc_trees.specs.declared.limits.TheConstants.{MAX_FILES, MAX_PATH, MAX_BYTES}
+use Rattle.jc_trees.specs.declared.limits.TheConstants.{MAX_FILES, MAX_PATH}
+use Rattle.jc_desc.specs.declared.limits.TheConstants.{MAX_CLASS_BYTES}
 use Rattle.jc_trees.specs.declared.tree.TreeKind.{TreeKind}
 use Rattle.jc_trees.specs.declared.tree.TreeKind.TheVariants as kinds
 use Rattle.jc_trees.specs.declared.file_fault.FileFault.{FileFault}
@@ -79,7 +80,7 @@ path_read (ModuleRead packages) = module_path
 
 -- the class file is read: it isn't too long, it is a class file of this record (JVMS 4.1), and it stands at its class's place
 pub record IsReadAs (path bytes : Bytes) (facts : ClassFacts) : Type 0 where
-  pub short : length bytes ≤ MAX_BYTES
+  pub short : length bytes ≤ MAX_CLASS_BYTES
   pub reads : Reads bytes facts
   pub place : path ≡ path_of facts.name
 
@@ -98,7 +99,7 @@ pub record IsClassRead (kind : TreeKind) (path bytes : Bytes) (c : ClientClass) 
 -- it is read as the file of a module that exports these packages: it isn't too long, and it is such a file
 pub record IsModuleRead (kind : TreeKind) (path bytes : Bytes) (packages : List Bytes) : Type 0 where
   pub of_module : is_module_path kind path ≡ true
-  pub short : length bytes ≤ MAX_BYTES
+  pub short : length bytes ≤ MAX_CLASS_BYTES
   pub reads : ModuleReads bytes packages
 
 -- in a tree of this kind the class file is read as this
@@ -118,10 +119,10 @@ IsFormFault false bytes offset reason = IsFaulty bytes offset reason
 -- in a tree of this kind the class file isn't read, and this is why: its length, then its form with the first fault, then, but of the file of a
 -- module, its place, then, of a client, its code with the first refusal
 abbrev pub IsFileFault : TreeKind → Bytes → Bytes → FileFault → Type 0
-IsFileFault kind path bytes faults.TooLong = MAX_BYTES < length bytes
-IsFileFault kind path bytes (faults.Malformed m) = (length bytes ≤ MAX_BYTES) × IsFormFault (is_module_path kind path) bytes m.offset m.reason
+IsFileFault kind path bytes faults.TooLong = MAX_CLASS_BYTES < length bytes
+IsFileFault kind path bytes (faults.Malformed m) = (length bytes ≤ MAX_CLASS_BYTES) × IsFormFault (is_module_path kind path) bytes m.offset m.reason
 IsFileFault kind path bytes (faults.Misplaced name) =
-    (is_module_path kind path ≡ false) × (length bytes ≤ MAX_BYTES) × ((facts : ClassFacts) × Reads bytes facts × (facts.name ≡ name) × (path ≢ path_of name))
+    (is_module_path kind path ≡ false) × (length bytes ≤ MAX_CLASS_BYTES) × ((facts : ClassFacts) × Reads bytes facts × (facts.name ≡ name) × (path ≢ path_of name))
 IsFileFault kind path bytes (faults.BadCode offset reason) = (kind ≡ kinds.Clients) × ((facts : ClassFacts) × IsReadAs path bytes facts) × IsBadCode bytes offset reason
 
 -- ---- what is read of a tree

@@ -4,7 +4,8 @@ use Rattle.std.specs.List.{All}
 use Rattle.jc_facts.specs.file.ShortNames.{HasShortNames}
 use Rattle.jc_facts.specs.declared.class_facts.ClassFacts.{ClassFacts}
 use Rattle.jc_facts.specs.declared.client.ClientClass.{ClientClass}
-use Rattle.jc_facts.specs.client.Clients.{IsValidClient, differ_by_name, facts_of}
+use Rattle.jc_facts.specs.client.Valid.{IsValidClient, facts_of}
+use Rattle.jc_facts.specs.world.World.{differ_by_name}
 use Rattle.jc_facts.specs.file.Valid.{IsValidClass}
 use Rattle.jc_trees.specs.declared.limits.TheConstants.{MAX_FILES}
 use Rattle.jc_trees.specs.declared.tree.TreeKind.{TreeKind}

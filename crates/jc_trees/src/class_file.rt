@@ -2,7 +2,7 @@
 ghost use Rattle.std.specs.Prelude.{◌≡◌, ◌≤◌, ◌↔◌, ℕ, List, Ok, false, true, length, nat_lt, IfOk, IfErr, IsTrue};
 ghost use Rattle.jc_facts.specs.declared.class_facts.ClassFacts.{ClassFacts};
 ghost use Rattle.jc_facts.specs.file.ShortNames.{HasShortNames};
-ghost use Rattle.jc_facts.specs.client.Clients.{IsValidClient};
+ghost use Rattle.jc_facts.specs.client.Valid.{IsValidClient};
 ghost use Rattle.jc_facts.specs.Names.{same};
 ghost use Rattle.jc_facts.specs.file.ClassGrammar.{Reads};
 ghost use Rattle.jc_facts.specs.file.ModuleFile.{ModuleReads};
@@ -14,12 +14,13 @@ ghost use Rattle.jc_trees.specs.declared.tree.TreeKind.{TreeKind};
 ghost use Rattle.jc_trees.specs.declared.tree.TreeKind.TheVariants as kinds;
 
 use crate::file_fault::FileFault;
-use crate::limits::{MAX_BYTES, MAX_PATH};
+use crate::limits::MAX_PATH;
 use crate::tree::TreeKind;
 use jc_base::items::Items;
 use jc_base::name::Name;
 use jc_base::recent_names::RecentNames;
 use jc_code::items::{CodeError, items_of};
+use jc_desc::limits::MAX_CLASS_BYTES;
 use jc_facts::class_facts::ClassFacts;
 use jc_facts::client::{ClientClass, Item};
 use jc_read::module::read_module;
@@ -56,9 +57,9 @@ fn is_place(path: &[u8], name: &[u8]) -> bool
 
 // Whether a class file has more bytes than the limit.
 fn is_too_long(bytes: &[u8]) -> bool
-    ensures { result ≡ nat_lt MAX_BYTES (length bytes.now) }
+    ensures { result ≡ nat_lt MAX_CLASS_BYTES (length bytes.now) }
 {
-    bytes.len() > MAX_BYTES as usize
+    bytes.len() > MAX_CLASS_BYTES as usize
 }
 
 // The record of a class file that stands at its class's place, or why it isn't read.
@@ -91,7 +92,7 @@ fn record_of(
 
 // The packages that the file of a module exports without targets, or why it isn't read.
 fn exports_of(alloc: Global, bytes: &[u8]) -> Result<Result<Vec<Name>, FileFault>, AllocError>
-    ensures short { IfOk result (λ found. IfOk found (λ packages. length bytes.now ≤ MAX_BYTES)) }
+    ensures short { IfOk result (λ found. IfOk found (λ packages. length bytes.now ≤ MAX_CLASS_BYTES)) }
     ensures read { IfOk result (λ found. IfOk found (λ packages. ModuleReads bytes.now packages.items)) }
     ensures fault { IfOk result (λ found. IfErr found (λ fault. (kind : TreeKind) (path : List ℕ) → is_module kind path ≡ true → IsFileFault kind path bytes.now fault)) }
 {
@@ -107,7 +108,7 @@ fn exports_of(alloc: Global, bytes: &[u8]) -> Result<Result<Vec<Name>, FileFault
 
 // The items of a client's code, or why it is refused.
 fn items_in(alloc: Global, bytes: &[u8]) -> Result<Result<Vec<Item>, FileFault>, AllocError>
-    requires { length bytes.now ≤ MAX_BYTES }
+    requires { length bytes.now ≤ MAX_CLASS_BYTES }
     ensures read { IfOk result (λ found. IfOk found (λ items. items_of_code bytes.now ≡ Ok items.items)) }
     ensures valid { IfOk result (λ found. IfOk found (λ items. (facts : ClassFacts) → Reads bytes.now facts → IsValidClient (record { facts = facts; items = items.items }))) }
     ensures fault { IfOk result (λ found. IfErr found (λ fault. (path : List ℕ) (facts : ClassFacts) → IsReadAs path bytes.now facts → IsFileFault kinds.Clients path bytes.now fault)) }

@@ -5,6 +5,3 @@ pub const MAX_FILES: usize = 40_000;
 
 /// The most bytes of a class file's path.
 pub const MAX_PATH: usize = 4_096;
-
-/// The most bytes of a class file.
-pub const MAX_BYTES: u32 = 4_194_304;

@@ -18,7 +18,7 @@ ghost use Rattle.jc_trees.specs.declared.file_fault.TreeFault.{TreeFault};
 
 use crate::class_file::{FromFile, ModularFile, is_class_path};
 use crate::file_fault::{FileFault, TreeFault};
-use crate::limits::{MAX_BYTES, MAX_FILES, MAX_PATH};
+use crate::limits::{MAX_FILES, MAX_PATH};
 use crate::tree::{Tree, TreeKind, TreeName};
 use crate::tree_read::{ModularRead, TreeRead};
 use crate::trees_error::TreesError;
@@ -28,6 +28,7 @@ use jc_base::name::Name;
 use jc_base::recent_names::RecentNames;
 use jc_base::text::Text;
 use jc_base::trees::{TreeError, Trees};
+use jc_desc::limits::MAX_CLASS_BYTES;
 use jc_facts::class_facts::ClassFacts;
 use jc_facts::client::ClientClass;
 use std::alloc::{AllocError, Global};
@@ -91,7 +92,7 @@ fn read_one<T: Trees, C: FromFile>(
     ensures never_falls { (r : List ℕ) → (T.state trees.old).faults r ≤ (T.state trees.new).faults r }
     ensures cause { IsErrOf result TreeError.Fault → Rose ((T.state trees.old).faults tree.now.root.now) ((T.state trees.new).faults tree.now.root.now) }
 {
-    trees.read_into(alloc, tree.root, path, MAX_BYTES, buffer)?;
+    trees.read_into(alloc, tree.root, path, MAX_CLASS_BYTES, buffer)?;
     match C::from_file(alloc, recent, path, buffer.as_bytes()) {
         Ok(Ok(file)) => Ok(Ok(file)),
         Ok(Err(fault)) => Ok(Err(fault)),

@@ -11,10 +11,10 @@ use Rattle.jc_facts.specs.Names.{Bytes, object_name}
 use Rattle.jc_facts.specs.world.World.{World}
 use Rattle.jc_facts.specs.world.Loading.{load_fault}
 use Rattle.jc_facts.specs.client.Acts.{form_of, is_act_on_field}
-use Rattle.jc_facts.specs.rule.Findings.{Stands, takes_part}
-use Rattle.jc_facts.specs.rule.OpenActs.{act_fault}
-use Rattle.jc_facts.specs.plan.Planned.{acts_exposing}
-use Rattle.jc_facts.specs.plan.PlannedNames.{fresh_package}
+use Rattle.jc_promises.specs.rule.Findings.{Stands, takes_part}
+use Rattle.jc_promises.specs.rule.OpenActs.{act_fault}
+use Rattle.jc_promises.specs.plan.Planned.{acts_exposing}
+use Rattle.jc_promises.specs.plan.PlannedNames.{fresh_package}
 use Rattle.jc_lemmas.proofs.Listed.{EachOf-append, EachOf-map}
 use Rattle.jc_complete.specs.Completeness.{CanPlan}
 use Rattle.jc_complete.proofs.PlanActs.{seat_base}

@@ -5,7 +5,7 @@ use Rattle.jc_facts.specs.Names.{Bytes}
 use Rattle.jc_facts.specs.Options.{and_then}
 use Rattle.jc_facts.specs.file.Rules.{is_object_name}
 use Rattle.jc_facts.specs.world.World.{World, find_class}
-use Rattle.jc_facts.specs.plan.PlannedNames.{value_or, least_name, constructors, constructor}
+use Rattle.jc_promises.specs.plan.PlannedNames.{value_or, least_name, constructors, constructor}
 
 module _ (W : World) (x : Bytes) (other : is_object_name x ≡ false) where
   pub of_no_class : None ≡ find_class W x → codes "()V" ≡ constructor W x

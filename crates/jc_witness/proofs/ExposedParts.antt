@@ -10,8 +10,8 @@ use Rattle.jc_facts.specs.declared.key.Key.{Key}
 use Rattle.jc_facts.specs.declared.member_act.MemberAct.{MemberAct}
 use Rattle.jc_facts.specs.client.Acts.{is_act_on_static}
 use Rattle.jc_facts.specs.Names.{Bytes}
-use Rattle.jc_facts.specs.plan.Planned.{class_type, turns_behind}
-use Rattle.jc_facts.specs.plan.PlannedBodies.{zeros, taken_by, given_by, pops_of, acting_steps, exposed_steps}
+use Rattle.jc_promises.specs.plan.Planned.{class_type, turns_behind}
+use Rattle.jc_promises.specs.plan.PlannedBodies.{zeros, taken_by, given_by, pops_of, acting_steps, exposed_steps}
 
 -- an act, and then others
 pub acting_front : (n : ℕ) (what : Act) (c : Bytes) (k : Key) (rest : List Step) → acting_steps n what c k [] ++ rest ≡ acting_steps n what c k rest

@@ -7,9 +7,9 @@ use Rattle.jc_facts.specs.declared.member_act.MemberAct.{MemberAct}
 use Rattle.jc_facts.specs.Names.{Bytes}
 use Rattle.jc_facts.specs.world.World.{World}
 use Rattle.jc_facts.specs.world.Loading.{load_fault}
-use Rattle.jc_facts.specs.rule.Bases.{is_class_usable}
-use Rattle.jc_facts.specs.rule.Exposed.{is_hidden, exposing_act}
-use Rattle.jc_facts.specs.plan.Planned.{acts_exposing}
+use Rattle.jc_promises.specs.rule.Bases.{is_class_usable}
+use Rattle.jc_promises.specs.rule.Exposed.{is_hidden, exposing_act}
+use Rattle.jc_promises.specs.plan.Planned.{acts_exposing}
 use Rattle.jc_table.specs.Ids.{id_of}
 use Rattle.jc_witness.proofs.ClassesByName.{loaded_number}
 

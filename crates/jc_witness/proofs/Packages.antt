@@ -5,7 +5,7 @@ use Rattle.std.proofs.lemmas.List.Folds.{list_any-append}
 use Rattle.jc_facts.specs.Names.{Bytes}
 use Rattle.jc_facts.specs.world.World.{World, classes}
 use Rattle.jc_facts.specs.world.Mentioned.{all_mentions, mentioned}
-use Rattle.jc_facts.specs.plan.PlannedNames.{package_number, in_package, is_used, first_unused}
+use Rattle.jc_promises.specs.plan.PlannedNames.{package_number, in_package, is_used, first_unused}
 use Rattle.jc_table.specs.Mentioned.{mentions_front}
 use Rattle.jc_complete.proofs.PlanReady.{any_mentions}
 

@@ -11,14 +11,14 @@ use Rattle.jc_facts.specs.declared.link_error.LinkError.{LinkError}
 use Rattle.jc_facts.specs.declared.verdict.Cause.{Cause}
 use Rattle.jc_facts.specs.declared.verdict.Cause.TheVariants as cause
 use Rattle.jc_facts.specs.declared.verdict.Verdict.{Verdict}
-use Rattle.jc_facts.specs.client.Clients.{facts_of}
+use Rattle.jc_facts.specs.client.Valid.{facts_of}
 use Rattle.jc_facts.specs.Exactly.{Before, NamesRise, Rises}
 use Rattle.jc_facts.specs.Names.{Bytes, same}
-use Rattle.jc_facts.specs.plan.Planned.{Plan, planned, planned_for, spot_of}
-use Rattle.jc_facts.specs.plan.PlannedBodies.{planned_files}
-use Rattle.jc_facts.specs.rule.Collisions.{CollisionStands}
-use Rattle.jc_facts.specs.rule.Findings.{Stands}
-use Rattle.jc_facts.specs.rule.Verdict.{IsVerdict}
+use Rattle.jc_promises.specs.plan.Planned.{Plan, planned, planned_for, spot_of}
+use Rattle.jc_promises.specs.plan.PlannedBodies.{planned_files}
+use Rattle.jc_promises.specs.rule.Collisions.{CollisionStands}
+use Rattle.jc_promises.specs.rule.Findings.{Stands}
+use Rattle.jc_promises.specs.rule.Verdict.{IsVerdict}
 use Rattle.jc_facts.specs.world.World.{World, with_clients}
 use Rattle.jc_facts.proofs.Same.{same_is}
 use Rattle.jc_lemmas.proofs.Listed.{EachOf, each_from}

@@ -5,7 +5,7 @@ use Rattle.jc_facts.specs.declared.member_act.MemberAct.{MemberAct}
 use Rattle.jc_facts.specs.Names.{Bytes}
 use Rattle.jc_facts.specs.world.World.{World}
 use Rattle.jc_facts.specs.world.Loading.{load_fault}
-use Rattle.jc_facts.specs.plan.Planned.{acts_exposing}
+use Rattle.jc_promises.specs.plan.Planned.{acts_exposing}
 use Rattle.jc_witness.specs.Ground.{CanRefer}
 
 -- the acts of clients of the seat a: the seat loads, the acts are few, and each can be looked up

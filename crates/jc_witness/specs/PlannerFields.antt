@@ -1,6 +1,6 @@
 -- What a planner keeps.
 use Rattle.std.specs.Prelude.{◌≡◌}
-use Rattle.jc_facts.specs.plan.PlannedNames.{fresh_package}
+use Rattle.jc_promises.specs.plan.PlannedNames.{fresh_package}
 use Rattle.jc_sides.specs.SidesOf.{SidesOf}
 use Rattle.jc_witness.specs.Ground.{IsGround}
 use Rattle.jc_witness.specs.declared.planner.Planner.TheInside.{Inside}

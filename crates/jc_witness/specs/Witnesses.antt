@@ -12,13 +12,14 @@ use Rattle.jc_facts.specs.declared.verdict.Cause.{Cause}
 use Rattle.jc_facts.specs.declared.verdict.Cause.TheVariants as cause
 use Rattle.jc_facts.specs.declared.verdict.Spot.{Spot}
 use Rattle.jc_facts.specs.declared.verdict.Verdict.{Verdict}
-use Rattle.jc_facts.specs.client.Clients.{IsInScope, facts_of}
-use Rattle.jc_facts.specs.client.Meets.{Meets}
+use Rattle.jc_promises.specs.client.Scope.{IsInScope}
+use Rattle.jc_facts.specs.client.Valid.{facts_of}
+use Rattle.jc_promises.specs.client.Meets.{Meets}
 use Rattle.jc_facts.specs.code.ClientItems.{items as items_in}
 use Rattle.jc_facts.specs.file.ClassGrammar.{Reads}
-use Rattle.jc_facts.specs.plan.Planned.{Plan, planned, planned_for, spot_of}
-use Rattle.jc_facts.specs.plan.PlannedBodies.{planned_files}
-use Rattle.jc_facts.specs.rule.Verdict.{IsVerdict}
+use Rattle.jc_promises.specs.plan.Planned.{Plan, planned, planned_for, spot_of}
+use Rattle.jc_promises.specs.plan.PlannedBodies.{planned_files}
+use Rattle.jc_promises.specs.rule.Verdict.{IsVerdict}
 use Rattle.jc_facts.specs.world.World.{World, with_clients}
 use Rattle.jc_facts.specs.written.Written.{written}
 use Rattle.jc_complete.specs.Completeness.{FailsBy, LinksWhole}

@@ -6,7 +6,7 @@ ghost use Rattle.jc_desc.specs.Views.{basic, type_view, views};
 ghost use Rattle.jc_facts.specs.declared.blueprint.Slot.TheVariants as kinds;
 ghost use Rattle.jc_facts.specs.declared.blueprint.Step.TheVariants as instruction;
 ghost use Rattle.jc_facts.specs.client.Acts.{is_act_on_static};
-ghost use Rattle.jc_facts.specs.plan.PlannedBodies.{act_steps, acting_steps, basic_zero, cast_steps, given_by, init_steps, make_steps, params_of, pops_of, exposed_steps, taken_by, turn_steps, zero_step, zeros};
+ghost use Rattle.jc_promises.specs.plan.PlannedBodies.{act_steps, acting_steps, basic_zero, cast_steps, given_by, init_steps, make_steps, params_of, pops_of, exposed_steps, taken_by, turn_steps, zero_step, zeros};
 
 use jc_base::name::Name;
 use jc_desc::field::{Base, FieldType, field_type};

@@ -1,7 +1,7 @@
 //! Planned clients for rules on classes and their hierarchies.
 ghost use Rattle.std.specs.Prelude.{◌≡◌, ◌∷◌, [], IfOk};
-ghost use Rattle.jc_facts.specs.plan.Planned.{assigns, names_above, names_class};
-ghost use Rattle.jc_facts.specs.plan.PlannedBodies.{above_bodies, cast_steps, turn_steps, user_bodies};
+ghost use Rattle.jc_promises.specs.plan.Planned.{assigns, names_above, names_class};
+ghost use Rattle.jc_promises.specs.plan.PlannedBodies.{above_bodies, cast_steps, turn_steps, user_bodies};
 ghost use Rattle.jc_witness.specs.steps.PlanFiles.{package_of, files_of_plan};
 
 use crate::bodies::{cast_to, return_parameter};

@@ -1,8 +1,8 @@
 //! Planned clients for collisions.
 ghost use Rattle.std.specs.Prelude.{◌≡◌, ◌∷◌, [], IfOk, None, codes};
-ghost use Rattle.jc_facts.specs.plan.Planned.{a_class, abstract_method, an_interface, calls_captured, field_class, reads_field};
-ghost use Rattle.jc_facts.specs.plan.PlannedBodies.{blueprint, captured_bodies, init_body, object_init, reads_bodies};
-ghost use Rattle.jc_facts.specs.plan.PlannedNames.{constructor, in_package};
+ghost use Rattle.jc_promises.specs.plan.Planned.{a_class, abstract_method, an_interface, calls_captured, field_class, reads_field};
+ghost use Rattle.jc_promises.specs.plan.PlannedBodies.{blueprint, captured_bodies, init_body, object_init, reads_bodies};
+ghost use Rattle.jc_promises.specs.plan.PlannedNames.{constructor, in_package};
 ghost use Rattle.jc_witness.specs.steps.PlanFiles.{package_of, files_of_plan};
 
 use crate::draft::{ABSTRACT_CLASS, Draft, PUBLIC, PUBLIC_CLASS};

@@ -1,8 +1,8 @@
 //! Class files of planned clients, part by part.
 ghost use Rattle.std.specs.Prelude.{◌≡◌, ◌∷◌, [], IfOk, None};
 ghost use Rattle.jc_facts.specs.Names.{object_name};
-ghost use Rattle.jc_facts.specs.plan.Planned.{a_class, a_client, an_interface, takes_nothing};
-ghost use Rattle.jc_facts.specs.plan.PlannedBodies.{blueprint, body_of, init_body, object_init};
+ghost use Rattle.jc_promises.specs.plan.Planned.{a_class, a_client, an_interface, takes_nothing};
+ghost use Rattle.jc_promises.specs.plan.PlannedBodies.{blueprint, body_of, init_body, object_init};
 ghost use Rattle.jc_witness.specs.steps.Drafted.{with_field, with_interface, with_method};
 
 use crate::bodies::initializer;

@@ -3,9 +3,9 @@ ghost use Rattle.std.specs.Prelude.{◌≡◌, ◌≤◌, ◌++◌, ◌∷◌, [
 ghost use Rattle.std.specs.List.{All};
 ghost use Rattle.jc_facts.specs.declared.member_act.MemberAct.{MemberAct};
 ghost use Rattle.jc_facts.specs.world.Loading.{load_fault};
-ghost use Rattle.jc_facts.specs.plan.Planned.{acts_exposing, assigns_behind, assigns_from, receivers_exposed};
-ghost use Rattle.jc_facts.specs.plan.PlannedBodies.{assigns_bodies, body_of, init_body, exposed_steps};
-ghost use Rattle.jc_facts.specs.plan.PlannedNames.{constructor};
+ghost use Rattle.jc_promises.specs.plan.Planned.{acts_exposing, assigns_behind, assigns_from, receivers_exposed};
+ghost use Rattle.jc_promises.specs.plan.PlannedBodies.{assigns_bodies, body_of, init_body, exposed_steps};
+ghost use Rattle.jc_promises.specs.plan.PlannedNames.{constructor};
 ghost use Rattle.jc_witness.specs.Ground.{CanRefer};
 ghost use Rattle.jc_witness.specs.Exposing.{CanExpose};
 ghost use Rattle.jc_witness.specs.steps.PlanFiles.{package_of, files_of_plan};

@@ -2,7 +2,7 @@
 ghost use Rattle.std.specs.Prelude.{◌≡◌, [], None, IfOk};
 ghost use Rattle.std.specs.List.{cons_option};
 ghost use Rattle.jc_facts.specs.world.Loading.{load_fault};
-ghost use Rattle.jc_facts.specs.plan.Planned.{acts_exposing};
+ghost use Rattle.jc_promises.specs.plan.Planned.{acts_exposing};
 ghost use Rattle.jc_table.specs.Sides.{IsSide};
 
 use jc_base::name::Name;

@@ -1,7 +1,7 @@
 //! The first of names in byte order.
 ghost use Rattle.std.specs.Prelude.{◌≡◌, Some, cond};
 ghost use Rattle.std.specs.Option.{option_copied};
-ghost use Rattle.jc_facts.specs.rule.OpenActs.{lower};
+ghost use Rattle.jc_facts.specs.ByName.{lower};
 
 use jc_base::name::Name;
 

@@ -1,7 +1,7 @@
 //! Planned clients for rules on members.
 ghost use Rattle.std.specs.Prelude.{◌≡◌, ◌∷◌, [], IfOk, if◌then◌else◌};
-ghost use Rattle.jc_facts.specs.plan.Planned.{abstract_method, acts_from, an_interface, calls_constructor, calls_inherited, makes_object, overrides_method, receiver_for, takes, takes_nothing, user};
-ghost use Rattle.jc_facts.specs.plan.PlannedBodies.{act_steps, acts_bodies, blueprint, inherited_bodies, init_body, make_steps, overrides_bodies, user_bodies};
+ghost use Rattle.jc_promises.specs.plan.Planned.{abstract_method, acts_from, an_interface, calls_constructor, calls_inherited, makes_object, overrides_method, receiver_for, takes, takes_nothing, user};
+ghost use Rattle.jc_promises.specs.plan.PlannedBodies.{act_steps, acts_bodies, blueprint, inherited_bodies, init_body, make_steps, overrides_bodies, user_bodies};
 ghost use Rattle.jc_facts.specs.client.Acts.{is_act_on_static};
 ghost use Rattle.jc_witness.specs.Ground.{CanRefer};
 ghost use Rattle.jc_witness.specs.steps.PlanFiles.{package_of, files_of_plan};

@@ -2,8 +2,8 @@
 ghost use Rattle.std.specs.Prelude.{◌≡◌, ◌∷◌, [], IfOk, OnOk};
 ghost use Rattle.jc_facts.specs.ByName.{by_name};
 ghost use Rattle.jc_facts.specs.Exactly.{NamesRise};
-ghost use Rattle.jc_facts.specs.plan.Planned.{no_plan, use_method, user};
-ghost use Rattle.jc_facts.specs.plan.PlannedBodies.{blueprint, user_bodies};
+ghost use Rattle.jc_promises.specs.plan.Planned.{no_plan, use_method, user};
+ghost use Rattle.jc_promises.specs.plan.PlannedBodies.{blueprint, user_bodies};
 ghost use Rattle.jc_witness.specs.steps.PlanFiles.{class_of_file, ending_with, in_order, package_of, files_of_plan};
 
 use crate::draft::{Draft, PUBLIC_STATIC, body};

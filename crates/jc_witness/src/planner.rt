@@ -3,9 +3,9 @@ ghost use Rattle.std.specs.Prelude.{◌≡◌, [], None, IfOk};
 ghost use Rattle.std.specs.List.{cons_option};
 ghost use Rattle.jc_facts.specs.world.Assignment.{is_interface_of};
 ghost use Rattle.jc_facts.specs.world.Loading.{load_fault};
-ghost use Rattle.jc_facts.specs.world.Pairs.{AreOfOneRun};
-ghost use Rattle.jc_facts.specs.plan.Planned.{acts_exposing, receiver_for};
-ghost use Rattle.jc_facts.specs.plan.PlannedNames.{in_package, fresh_package, own_name, closed_name, constructor};
+ghost use Rattle.jc_promises.specs.Pairs.{AreOfOneRun};
+ghost use Rattle.jc_promises.specs.plan.Planned.{acts_exposing, receiver_for};
+ghost use Rattle.jc_promises.specs.plan.PlannedNames.{in_package, fresh_package, own_name, closed_name, constructor};
 ghost use Rattle.jc_witness.specs.Ground.{IsGround, CanRefer};
 
 use crate::classes::is_interface;

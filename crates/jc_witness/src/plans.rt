@@ -1,9 +1,9 @@
 //! The class files of the clients that are planned for a finding or a collision.
 ghost use Rattle.std.specs.Prelude.{◌≡◌, IfOk, None, Some};
 ghost use Rattle.jc_facts.specs.declared.verdict.Cause.TheVariants as cause;
-ghost use Rattle.jc_facts.specs.plan.Planned.{finding_plan, member_plan};
-ghost use Rattle.jc_facts.specs.plan.PlannedBodies.{finding_bodies, member_bodies};
-ghost use Rattle.jc_facts.specs.rule.Findings.{Stands};
+ghost use Rattle.jc_promises.specs.plan.Planned.{finding_plan, member_plan};
+ghost use Rattle.jc_promises.specs.plan.PlannedBodies.{finding_bodies, member_bodies};
+ghost use Rattle.jc_promises.specs.rule.Findings.{Stands};
 ghost use Rattle.jc_facts.specs.Names.{object_name};
 ghost use Rattle.jc_witness.specs.Ground.{IsGround};
 ghost use Rattle.jc_witness.specs.Exposing.{CanExpose};
@@ -108,7 +108,7 @@ fn plan_by_parts(
 }
 
 /// Of a finding.
-#[tactic(auto, unfolding(jc_facts::specs::plan::Planned::plan, jc_facts::specs::plan::PlannedBodies::plan_bodies))]
+#[tactic(auto, unfolding(jc_promises::specs::plan::Planned::plan, jc_promises::specs::plan::PlannedBodies::plan_bodies))]
 pub(crate) fn finding_plan(
     alloc: Global,
     planner: &Planner<'_>,
@@ -122,7 +122,7 @@ pub(crate) fn finding_plan(
 }
 
 /// Of a collision.
-#[tactic(auto, unfolding(jc_facts::specs::plan::Planned::plan, jc_facts::specs::plan::PlannedBodies::plan_bodies))]
+#[tactic(auto, unfolding(jc_promises::specs::plan::Planned::plan, jc_promises::specs::plan::PlannedBodies::plan_bodies))]
 pub(crate) fn collision_plan(
     alloc: Global,
     planner: &Planner<'_>,

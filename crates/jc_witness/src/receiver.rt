@@ -4,7 +4,7 @@ ghost use Rattle.jc_facts.specs.Flags.{public_flag};
 ghost use Rattle.jc_facts.specs.Options.{some_and};
 ghost use Rattle.jc_facts.specs.client.Acts.{form_of};
 ghost use Rattle.jc_facts.specs.world.World.{size};
-ghost use Rattle.jc_facts.specs.plan.Planned.{found_by};
+ghost use Rattle.jc_promises.specs.plan.Planned.{found_by};
 ghost use Rattle.jc_table.specs.Ids.{name_at};
 ghost use Rattle.jc_table.specs.Sides.{IsSide};
 ghost use Rattle.jc_witness.specs.Ground.{CanRefer};

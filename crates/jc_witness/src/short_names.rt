@@ -3,18 +3,14 @@ ghost use Rattle.std.specs.Prelude.{◌↔◌, IsTrue};
 ghost use Rattle.std.specs.List.{All};
 ghost use Rattle.jc_facts.specs.file.ShortNames.{HasShortNames, IsShortMember};
 
+use jc_desc::limits::MAX_TEXT;
 use jc_facts::class_facts::{ClassFacts, Member};
-
-/// The most bytes of a class's name: a path of 4,096 bytes that ends in `.class` has room for it.
-const LONGEST_CLASS_NAME: usize = 4090;
-/// The most bytes of a text of a class file (JVMS 4.4.7).
-const LONGEST_TEXT: usize = 65535;
+use jc_facts::limits::MAX_CLASS_NAME;
 
 fn is_short_member(member: &Member) -> bool
     ensures { IsTrue result ↔ IsShortMember member.now }
 {
-    member.name.as_bytes().len() <= LONGEST_TEXT
-        && member.descriptor.as_bytes().len() <= LONGEST_TEXT
+    member.name.as_bytes().len() <= MAX_TEXT && member.descriptor.as_bytes().len() <= MAX_TEXT
 }
 
 fn are_short_members(members: &[Member]) -> bool
@@ -26,7 +22,7 @@ fn are_short_members(members: &[Member]) -> bool
 fn has_short_names(class: &ClassFacts) -> bool
     ensures { IsTrue result ↔ HasShortNames class.now }
 {
-    class.name.as_bytes().len() <= LONGEST_CLASS_NAME
+    class.name.as_bytes().len() <= MAX_CLASS_NAME
         && are_short_members(class.fields.as_slice())
         && are_short_members(class.methods.as_slice())
 }

@@ -2,7 +2,7 @@
 ghost use Rattle.std.specs.Prelude.{◌≡◌, ◌++◌, map, IfOk, OnOk};
 ghost use Rattle.jc_desc.specs.Types.{type_text, types_text};
 ghost use Rattle.jc_facts.specs.Names.{object_name};
-ghost use Rattle.jc_facts.specs.plan.Planned.{class_type, takes, takes_nothing, turns, turns_behind};
+ghost use Rattle.jc_promises.specs.plan.Planned.{class_type, takes, takes_nothing, turns, turns_behind};
 
 use jc_base::name::Name;
 use std::alloc::{AllocError, Global};

@@ -1,7 +1,7 @@
 //! The class files of a witness.
 ghost use Rattle.std.specs.Prelude.{◌≡◌, IfOk};
 ghost use Rattle.std.specs.List.{All};
-ghost use Rattle.jc_facts.specs.world.Pairs.{AreOfOneRun};
+ghost use Rattle.jc_promises.specs.Pairs.{AreOfOneRun};
 ghost use Rattle.jc_facts.specs.written.Written.{written};
 ghost use Rattle.jc_facts.specs.declared.verdict.Cause.TheVariants as cause;
 ghost use Rattle.jc_witness.specs.Ground.{HasShortSide};

@@ -2,8 +2,8 @@
 //! collision, with their spots.
 ghost use Rattle.std.specs.Prelude.{◌<◌, length, IfSome};
 ghost use Rattle.std.specs.List.{All};
-ghost use Rattle.jc_facts.specs.rule.Verdict.{IsVerdict};
-ghost use Rattle.jc_facts.specs.world.Pairs.{AreOfOneRun};
+ghost use Rattle.jc_promises.specs.rule.Verdict.{IsVerdict};
+ghost use Rattle.jc_promises.specs.Pairs.{AreOfOneRun};
 ghost use Rattle.jc_witness.specs.Ground.{HasShortSide};
 ghost use Rattle.jc_witness.specs.Witnesses.{HasCause, StandsInVerdict};
 

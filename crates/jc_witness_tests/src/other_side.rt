@@ -1,6 +1,6 @@
 //! The number of each class of one side on the other, beside a look-up by its name.
 ghost use Rattle.std.specs.Prelude.{◌≡◌, ◌<◌};
-ghost use Rattle.jc_facts.specs.world.Pairs.{AreOfOneRun};
+ghost use Rattle.jc_promises.specs.Pairs.{AreOfOneRun};
 ghost use Rattle.jc_facts.specs.world.World.{size};
 
 use crate::releases::tables;

@@ -1,6 +1,6 @@
 //! Tables of small releases over a platform of `java/lang/Object` alone.
 ghost use Rattle.std.specs.Prelude.{◌≡◌, [], IsTrue};
-ghost use Rattle.jc_facts.specs.world.Pairs.{AreOfOneRun};
+ghost use Rattle.jc_promises.specs.Pairs.{AreOfOneRun};
 ghost use Rattle.jc_facts.specs.world.World.{OneModule, side};
 ghost use Rattle.jc_witness.specs.Ground.{HasShortSide};
 

@@ -1,8 +1,8 @@
 //! Acts on members that are closed now: asking few seats gives what asking all seats gives.
 ghost use Rattle.std.specs.Prelude.{◌≡◌, IfOk, IfSome, IsTrue};
 ghost use Rattle.jc_acts.specs.Seats.{AreSeats};
-ghost use Rattle.jc_facts.specs.rule.Bases.{is_key_of_method, is_steady};
-ghost use Rattle.jc_facts.specs.world.Pairs.{AreOfOneRun};
+ghost use Rattle.jc_promises.specs.rule.Bases.{is_key_of_method, is_steady};
+ghost use Rattle.jc_promises.specs.Pairs.{AreOfOneRun};
 ghost use Rattle.jc_sides.specs.SharedOf.{IsShared, name_of};
 
 use crate::releases::{platform, tables};

@@ -6,7 +6,8 @@ use Rattle.jc_facts.specs.declared.class_facts.ClassFacts.{ClassFacts}
 use Rattle.jc_facts.specs.Names.{Bytes, same, is_name_among}
 use Rattle.jc_facts.specs.world.World.{World, find_class, class_named, classes}
 use Rattle.jc_facts.specs.world.Search.{supers}
-use Rattle.jc_facts.specs.client.Clients.{is_allowed_name, is_named_above}
+use Rattle.jc_facts.specs.client.Allowed.{is_allowed_name}
+use Rattle.jc_facts.specs.world.Mentioned.{is_named_above}
 use Rattle.jc_lemmas.proofs.Listed.{EachOf, EachOf-map}
 use Rattle.jc_facts.proofs.Same.{same_itself}
 use Rattle.jc_facts.proofs.World.{EachOf-class_named, names, any-named}

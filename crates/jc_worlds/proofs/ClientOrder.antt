@@ -11,8 +11,8 @@ use Rattle.jc_facts.specs.Exactly.{Before, NamesRise, Rises}
 use Rattle.jc_facts.specs.declared.class_facts.ClassFacts.{ClassFacts}
 use Rattle.jc_facts.specs.declared.client.ClientClass.{ClientClass}
 use Rattle.jc_facts.specs.Names.{Bytes, same}
-use Rattle.jc_facts.specs.world.World.{World, find_class, size, class_named, with_clients, is_client}
-use Rattle.jc_facts.specs.client.Clients.{facts_of, differ_by_name}
+use Rattle.jc_facts.specs.world.World.{World, find_class, size, class_named, with_clients, is_client, differ_by_name}
+use Rattle.jc_facts.specs.client.Valid.{facts_of}
 use Rattle.jc_facts.specs.ByName.{placed, by_name}
 use Rattle.jc_lemmas.proofs.Listed.{each_in, EachOf, EachOf-map}
 use Rattle.jc_facts.proofs.Clients.{name_of}

@@ -10,10 +10,9 @@ use Rattle.jc_facts.specs.world.World.{World, find_class, DeclaredMember, own_fi
 use Rattle.jc_facts.specs.world.Search.{supers, supers_of}
 use Rattle.jc_facts.specs.Options.{or_else, first_some, and_then}
 use Rattle.jc_facts.specs.world.Hierarchy.{in_chain}
-use Rattle.jc_facts.specs.world.Access.{is_member_accessible, are_nestmates}
+use Rattle.jc_facts.specs.world.Access.{is_member_accessible, are_nestmates, is_member_open}
 use Rattle.jc_facts.specs.world.Loading.{load_fault}
 use Rattle.jc_facts.specs.world.Lookup.{field_found, field_step}
-use Rattle.jc_facts.specs.rule.OpenActs.{is_member_open}
 use Rattle.jc_lemmas.proofs.Listed.{EachOf}
 use Rattle.jc_facts.proofs.World.{find-name}
 use Rattle.jc_facts.proofs.Same.{same_is}

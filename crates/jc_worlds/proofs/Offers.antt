@@ -11,7 +11,7 @@ use Rattle.jc_facts.specs.world.World.{World, find_class, DeclaredMember, found_
 use Rattle.jc_facts.specs.world.Hierarchy.{chain, of_super, each, with_interfaces, interfaces_of, superinterfaces}
 use Rattle.jc_facts.specs.world.Loading.{load_fault}
 use Rattle.jc_facts.specs.world.Lookup.{if_inheritable, declared_by, only_or, is_maximal, is_concrete, superinterface_choices}
-use Rattle.jc_facts.specs.rule.Bases.{offers, inherits, itself_and}
+use Rattle.jc_facts.specs.world.Inheritance.{offers, inherits, itself_and}
 use Rattle.jc_lemmas.proofs.Listed.{EachOf}
 use Rattle.jc_worlds.proofs.Bare.{bare_chain}
 use Rattle.jc_worlds.proofs.Unrolled.{with_interfaces-unroll, superinterfaces-unroll}

@@ -6,7 +6,8 @@ use Rattle.jc_facts.specs.declared.class_facts.ClassFacts.{ClassFacts}
 use Rattle.jc_facts.specs.Names.{Bytes, package_name, in_same_package, is_name_among}
 use Rattle.jc_facts.specs.world.World.{World, find_class, classes}
 use Rattle.jc_facts.specs.world.Access.{host_of, are_nestmates}
-use Rattle.jc_facts.specs.client.Clients.{is_allowed_name, is_named_above, has_package}
+use Rattle.jc_facts.specs.client.Allowed.{is_allowed_name, has_package}
+use Rattle.jc_facts.specs.world.Mentioned.{is_named_above}
 use Rattle.jc_facts.proofs.Same.{same_is, same_itself}
 use Rattle.jc_lemmas.proofs.Options.{none_from}
 use Rattle.jc_facts.proofs.World.{any-named}

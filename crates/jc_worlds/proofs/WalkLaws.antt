@@ -8,7 +8,8 @@ use Rattle.jc_facts.specs.world.World.{World, find_class, size, class_named, wit
 use Rattle.jc_facts.specs.world.Search.{supers_of}
 use Rattle.jc_facts.specs.world.Hierarchy.{chain, of_super}
 use Rattle.jc_facts.specs.world.Loading.{load_fault}
-use Rattle.jc_facts.specs.client.Clients.{is_allowed_name, first_library, seat}
+use Rattle.jc_facts.specs.client.Allowed.{is_allowed_name}
+use Rattle.jc_facts.specs.client.Seats.{first_library, seat}
 use Rattle.jc_worlds.specs.Walks.{WalksOverClients, SeatEndsTheClients}
 use Rattle.jc_lemmas.proofs.Listed.{EachOf}
 use Rattle.jc_facts.proofs.World.{names, find-name, EachOf-class_named}

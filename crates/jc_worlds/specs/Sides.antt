@@ -4,7 +4,7 @@ use Rattle.jc_facts.specs.declared.class_facts.ClassFacts.{ClassFacts}
 use Rattle.jc_facts.specs.Names.{Bytes}
 use Rattle.jc_facts.specs.world.World.{World, class_named, with_clients}
 use Rattle.jc_facts.specs.world.Loading.{load_fault}
-use Rattle.jc_facts.specs.client.Clients.{is_allowed_name}
+use Rattle.jc_facts.specs.client.Allowed.{is_allowed_name}
 use Rattle.jc_worlds.specs.Agreement.{LooksTheSame}
 
 -- a name that no client has gives the same load fault in each world over the side whose clients have allowed names, and the

@@ -7,7 +7,8 @@ use Rattle.jc_facts.specs.world.World.{World, class_named, size, is_client, with
 use Rattle.jc_facts.specs.world.Hierarchy.{chain, chain_step}
 use Rattle.jc_facts.specs.world.Loading.{load_fault}
 use Rattle.jc_facts.specs.world.Lookup.{field_found, field_step}
-use Rattle.jc_facts.specs.client.Clients.{is_allowed_name, seat}
+use Rattle.jc_facts.specs.client.Allowed.{is_allowed_name}
+use Rattle.jc_facts.specs.client.Seats.{seat}
 
 -- what `step` makes of the client, or what the library gives of the name
 abbrev pub of_client : {B : Type 0} → B → (ClassFacts → B) → Option ClassFacts → B

@@ -8,7 +8,6 @@ ghost use Rattle.jc_worlds.specs.Loading.{FaultIsOne, LoadsWithSupers, AllAboveL
 ghost use Rattle.jc_worlds.specs.Agreement.{WorldsAgree};
 ghost use Rattle.jc_worlds.specs.Alike.{WorldsLinkAlike, ClientsLinkAsRelease};
 ghost use Rattle.jc_worlds.specs.Sides.{SidesStay};
-ghost use Rattle.jc_worlds.specs.Plain.{PlainWorlds};
 ghost use Rattle.jc_worlds.specs.Choices.{InheritedArePublic, EachChoiceGivesTheSame, EachInitGivesTheSame};
 ghost use Rattle.jc_worlds.specs.Walks.{WalksOverClients, SeatEndsTheClients};
 ghost use Rattle.jc_worlds.specs.Overriding.{WalkIsOverriding, FinalsRefuse};
@@ -93,10 +92,4 @@ pub fn worlds_link_alike()
 /// Clients over a side of one module link as if they stood at the end of the release.
 pub fn clients_link_as_release()
     ensures { ClientsLinkAsRelease }
-{}
-
-/// In worlds of one module access, the seal, the bases and the names of planned clients are what they are without the question for
-/// the module of a class (JVMS 5.3.5, 5.4.4).
-pub fn plain_worlds()
-    ensures { PlainWorlds }
 {}

@@ -4,7 +4,7 @@ use Rattle.jc_facts.specs.declared.act.Act.{Act}
 use Rattle.jc_facts.specs.declared.key.Key.{Key}
 use Rattle.jc_facts.specs.declared.link_error.LinkError.{LinkError}
 use Rattle.jc_facts.specs.Names.{Bytes}
-use Rattle.jc_facts.specs.rule.OpenActs.{closed_act}
+use Rattle.jc_promises.specs.rule.OpenActs.{closed_act}
 use Rattle.jc_sides.specs.SidesOf.{SidesOf}
 use Rattle.jc_acts.specs.declared.closed_act.ClosedAct.{ClosedAct}
 

@@ -12,7 +12,8 @@ use Rattle.jc_facts.specs.world.World.{World, size, DeclaredMember}
 use Rattle.jc_facts.specs.world.Loading.{fault_where}
 use Rattle.jc_facts.specs.client.Acts.{Form, form_of, is_put_act}
 use Rattle.jc_facts.specs.client.Outcome.{kind_fault}
-use Rattle.jc_facts.specs.rule.OpenActs.{is_member_open, act_fault, where_open}
+use Rattle.jc_facts.specs.world.Access.{is_member_open}
+use Rattle.jc_promises.specs.rule.OpenActs.{act_fault, where_open}
 use Rattle.jc_table.specs.Ids.{name_at}
 use Rattle.jc_index.specs.declared.ids.Found.{Found}
 use Rattle.jc_sides.specs.SidesOf.{SidesOf}

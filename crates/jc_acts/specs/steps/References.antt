@@ -4,8 +4,8 @@ use Rattle.jc_facts.specs.declared.act.Act.{Act}
 use Rattle.jc_facts.specs.declared.act.Act.TheVariants as act
 use Rattle.jc_facts.specs.declared.key.Key.{Key}
 use Rattle.jc_facts.specs.client.Acts.{Form, FieldForm, MethodForm, InterfaceForm}
-use Rattle.jc_facts.specs.rule.OpenActs.{field_acts}
-use Rattle.jc_facts.specs.rule.Bases.{is_key_of_method}
+use Rattle.jc_promises.specs.rule.OpenActs.{field_acts}
+use Rattle.jc_promises.specs.rule.Bases.{is_key_of_method}
 use Rattle.jc_facts.specs.declared.act.Form.{Form as FormOf}
 use Rattle.jc_facts.specs.declared.act.Form.TheVariants as forms
 

@@ -1,14 +1,17 @@
 -- What is found in the records of a check, on the way.
 use Rattle.std.specs.Prelude.{◌≡◌, ◌<◌, ◌≤◌, ◌⊎◌, Bool, true, IsTrue, List, [], length, Option, None, Some, IfSome, IfOk, IfErr, option_map}
 use Rattle.std.specs.List.{All}
-use Rattle.jc_dropped.specs.declared.dropped.Dropped.{Dropped}
+use Rattle.jc_facts.specs.declared.rule_numbers.TheConstants.{CLASS_GONE}
+use Rattle.jc_facts.specs.declared.dropped.Dropped.{Dropped}
 use Rattle.jc_dropped.specs.Dropped.{AreDropped}
 use Rattle.jc_facts.specs.declared.client.ClientClass.{ClientClass}
 use Rattle.jc_facts.specs.declared.verdict.Verdict.{Verdict}
-use Rattle.jc_facts.specs.client.Clients.{IsInScope, Keeps}
-use Rattle.jc_facts.specs.client.Kept.{BreaksClass}
-use Rattle.jc_facts.specs.rule.Verdict.{IsVerdict, count_of}
-use Rattle.jc_facts.specs.rule.Warnings.{AreWarnings}
+use Rattle.jc_promises.specs.client.Scope.{IsInScope}
+use Rattle.jc_promises.specs.client.Keeps.{Keeps}
+use Rattle.jc_promises.specs.client.Kept.{BreaksClass}
+use Rattle.jc_promises.specs.rule.Verdict.{IsVerdict}
+use Rattle.jc_facts.specs.Verdicts.{count_of}
+use Rattle.jc_promises.specs.rule.Warnings.{AreWarnings}
 use Rattle.jc_facts.specs.declared.warning.Warning.{Warning}
 use Rattle.jc_rules.specs.Verdicts.{IsVerdictWithin, KeepsAll, BreaksEach}
 use Rattle.jc_select.specs.DroppedWithin.{InterfacesStill}
@@ -38,7 +41,7 @@ pub record IsComparison (check : CheckOf) (O N : World) (c : Comparison) : Type 
   pub verdict : IsVerdictOn O N c.verdict
   pub kept : c.verdict.findings ≡ [] → (cs : List ClientClass) → IsInScope O N cs → MeetsNone O cs c.verdict.collisions
       → Keeps O N cs
-  pub breaks : All (λ f. f.rule ≡ 1 → BreaksClass O N f.class f.error) c.verdict.findings
+  pub breaks : All (λ f. f.rule ≡ CLASS_GONE → BreaksClass O N f.class f.error) c.verdict.findings
   pub warned : AreWarned check.warn O N (option_map (λ ws. ws.items) c.warnings)
   pub noted : AreNoted check.signatures O N (option_map (λ ns. ns.items) c.signatures)
   pub dropped : AreAskedDropped check.dropped O N (option_map (λ ds. ds.items) c.dropped)

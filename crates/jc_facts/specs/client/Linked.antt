@@ -12,7 +12,7 @@ use Rattle.jc_facts.specs.ByName.{by_name}
 use Rattle.jc_facts.specs.world.World.{World, with_clients}
 use Rattle.jc_facts.specs.world.Loading.{load_fault}
 use Rattle.jc_facts.specs.client.Outcome.{outcome}
-use Rattle.jc_facts.specs.client.Clients.{facts_of}
+use Rattle.jc_facts.specs.client.Valid.{facts_of}
 
 -- ---- the order of clients
 

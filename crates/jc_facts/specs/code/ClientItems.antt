@@ -2,6 +2,7 @@
 --     items bytes      the items of the methods in order, or the first refusal
 --     IsBadCode bytes offset reason      the first refusal
 use Rattle.std.specs.Prelude.{◌≡◌, ℕ, zero, suc, ◌+◌, ◌-◌, ◌*◌, ◌/◌, List, [], ◌++◌, length, Option, Some, None, Result, Ok, Err, Bool, false, ◌||◌, ◌&&◌, nat_le, codes, true, if◌then◌else◌}
+use Rattle.jc_desc.specs.declared.limits.TheConstants.{MAX_CODE}
 use Rattle.jc_desc.specs.declared.versions.TheConstants.{BOOTSTRAP_MAJOR}
 use Rattle.jc_desc.specs.declared.fault.Fault.{Fault}
 use Rattle.jc_desc.specs.Pool.{PoolOf}
@@ -26,9 +27,9 @@ use Rattle.jc_facts.specs.code.Typing.{typed_code}
 
 -- ---- one method
 
--- the parts of a Code, where it is of its form and its code is neither empty nor longer than 65,535 bytes (JVMS 4.9.1)
+-- the parts of a Code, where it is of its form and its code is neither empty nor longer than MAX_CODE bytes (JVMS 4.9.1)
 unfoldable pub layout_of : Bytes → Option CodeOf
-layout_of body = code_of body |>> λ c. some_if (is_between 1 65535 (length c.bytes)) c
+layout_of body = code_of body |>> λ c. some_if (is_between 1 MAX_CODE (length c.bytes)) c
 
 -- the items of code that isn't refused: those of typing alone where the method is straight, else those of the scan alone
 abbrev pub of_code : Option (List Item) → List Item → List Item

@@ -1,7 +1,8 @@
 -- The printed forms of names and verdicts, as bytes.
-use Rattle.std.specs.Prelude.{ℕ, Bool, List, [], ◌∷◌, ◌++◌, ◌+◌, ◌/◌, ◌%◌, ◌==◌, ◌&&◌, false, nat_le, nat_lt, length, Option, Some, None, codes, if◌then◌else◌}
+use Rattle.std.specs.Prelude.{ℕ, Bool, List, [], ◌∷◌, ◌++◌, ◌+◌, ◌/◌, ◌%◌, ◌==◌, ◌&&◌, nat_le, nat_lt, length, Option, Some, None, codes, if◌then◌else◌}
 use Rattle.std.specs.List.{flat_map}
 use Rattle.std.specs.Fmt.{decimal}
+use Rattle.jc_facts.specs.declared.rule_numbers.TheConstants.{CONSTANT_ADDED, CAPTURE_ADDED, FINAL_ADDED}
 use Rattle.jc_facts.specs.declared.key.Key.{Key}
 use Rattle.jc_facts.specs.declared.act.Act.{Act}
 use Rattle.jc_facts.specs.declared.act.Act.TheVariants as acts
@@ -12,7 +13,7 @@ use Rattle.jc_facts.specs.declared.verdict.Collision.{Collision}
 use Rattle.jc_facts.specs.declared.verdict.Note.{Note}
 use Rattle.jc_facts.specs.declared.verdict.Note.TheVariants as notes
 use Rattle.jc_facts.specs.declared.verdict.Verdict.{Verdict}
-use Rattle.jc_facts.specs.Names.{Bytes}
+use Rattle.jc_facts.specs.Names.{Bytes, is_descriptor_of_method}
 
 -- a lower-case hexadecimal digit
 abbrev pub hex_digit_of : ℕ → ℕ
@@ -32,9 +33,9 @@ printed = flat_map printed_byte
 -- the printed name of a rule, by its number
 abbrev pub rule_name : ℕ → Bytes
 rule_name rule =
-    if rule == 10 then codes "Constant"
-    else if rule == 11 then codes "Capture"
-    else if rule == 12 then codes "Final"
+    if rule == CONSTANT_ADDED then codes "Constant"
+    else if rule == CAPTURE_ADDED then codes "Capture"
+    else if rule == FINAL_ADDED then codes "Final"
     else codes "H" ++ decimal rule
 
 abbrev pub word_of_act : Act → Bytes
@@ -66,11 +67,6 @@ name_of_error errors.NoSuchFieldError = codes "NoSuchFieldError"
 name_of_error errors.NoSuchMethodError = codes "NoSuchMethodError"
 name_of_error errors.InstantiationError = codes "InstantiationError"
 name_of_error errors.VerifyError = codes "VerifyError"
-
--- a method's descriptor begins with a parenthesis
-abbrev pub is_descriptor_of_method : Bytes → Bool
-is_descriptor_of_method [] = false
-is_descriptor_of_method (b ∷ bs) = b == 0x28
 
 -- a method's key is its name and descriptor written together; a field's has a colon between them
 abbrev pub printed_key : Key → Bytes

@@ -1,7 +1,7 @@
 -- Resolution of fields and methods (JVMS 5.4.3.2 to 5.4.3.4).
 --     field_found W x k      the field that a reference to the class x finds
 --     MethodFound W x k m      a method that a reference to the class x finds
-use Rattle.std.specs.Prelude.{Bool, not, cond, List, [], ◌∷◌, ◌++◌, Option, None, Some, ◌||◌, ◌&&◌}
+use Rattle.std.specs.Prelude.{Bool, not, cond, List, [], ◌∷◌, ◌++◌, Option, None, Some, ◌||◌, ◌&&◌, true, false}
 use Rattle.std.specs.List.{list_any, list_all, filter, Contains}
 use Rattle.jc_facts.specs.declared.class_facts.ClassFacts.{ClassFacts}
 use Rattle.jc_facts.specs.declared.key.Key.{Key}
@@ -91,3 +91,10 @@ public_method_of_object W k = and_then if_public_instance (and_then (declared_me
 -- java/lang/Object, else what the superinterfaces give (JVMS 5.4.3.4)
 unfoldable pub interface_choices : World → Bytes → Key → List DeclaredMember
 interface_choices W x k = or_choices (or_else (and_then (declared_method k) (find_class W x)) (public_method_of_object W k)) (superinterface_choices W x k)
+
+-- ---- of what is found
+
+-- nothing is found
+abbrev pub are_none : List DeclaredMember → Bool
+are_none [] = true
+are_none (m ∷ ms) = false

@@ -3,13 +3,15 @@
 --     modular_side exports P R      a side of a run with modules
 --     classes W      all its classes
 --     find_class W x      the class of this name (JVMS 5.3)
+--     differ_by_name cs      no two of the classes have one name
 --     own_field_of c k, own_method_of c k      what the class itself declares (JVMS 4.5, 4.6)
-use Rattle.std.specs.Prelude.{ℕ, Bool, true, false, cond, List, [], ◌∷◌, ◌++◌, length, Option, None, Some, is_some}
+use Rattle.std.specs.Prelude.{ℕ, Bool, true, false, cond, List, [], ◌∷◌, ◌++◌, length, Option, None, Some, is_some, is_none, ◌&&◌}
 use Rattle.std.specs.List.{find as first_where}
 use Rattle.jc_facts.specs.declared.class_facts.ClassFacts.{ClassFacts}
 use Rattle.jc_facts.specs.declared.class_facts.Member.{Member}
 use Rattle.jc_facts.specs.declared.key.Key.{Key}
 use Rattle.jc_facts.specs.Names.{Bytes, same, is_key}
+use Rattle.jc_facts.specs.Options.{some_and}
 
 -- the modules of a world (JVMS 4.7.25, 5.3.6)
 pub data Modules : Type 0 where
@@ -62,9 +64,18 @@ unfoldable pub class_named : List ClassFacts → Bytes → Option ClassFacts
 class_named [] x = None
 class_named (c ∷ cs) x = cond (same c.name x) (Some c) (class_named cs x)
 
+-- no two of the classes have one name
+unfoldable pub differ_by_name : List ClassFacts → Bool
+differ_by_name [] = true
+differ_by_name (c ∷ cs) = is_none (class_named cs c.name) && differ_by_name cs
+
 -- the class of the world with this name: one loader finds them all (JVMS 5.3)
 unfoldable pub find_class : World → Bytes → Option ClassFacts
 find_class W x = class_named (classes W) x
+
+-- the class of this name is there and passes the test
+abbrev pub class_is : World → (ClassFacts → Bool) → Bytes → Bool
+class_is W test x = some_and test (find_class W x)
 
 -- the class of this name is a client
 unfoldable pub is_client : World → Bytes → Bool

@@ -7,6 +7,7 @@
 use Rattle.std.specs.Prelude.{ℕ, suc, List, [], ◌∷◌, ◌++◌, length, Bool, true, false, ◌==◌, ◌&&◌, nat_le, if◌then◌else◌}
 use Rattle.std.specs.List.{list_any, position_or_len}
 use Rattle.byteorder.specs.Endian.{big_bytes}
+use Rattle.jc_desc.specs.declared.limits.TheConstants.{MAX_TEXT}
 use Rattle.jc_desc.specs.Utf8.{is_modified_utf8}
 use Rattle.jc_desc.specs.Pool.{names_class, names_any_member, describes_field, names_used_method}
 use Rattle.jc_desc.specs.Tags as tags
@@ -133,7 +134,7 @@ is_good (member t c n d) = class_is_good c && pair_is_good n d && use_is_good t 
 
 -- the length of a text fits into two bytes (JVMS 4.4.7)
 abbrev pub fits : PoolEntry → Bool
-fits (text t) = nat_le (length t) 65535
+fits (text t) = nat_le (length t) MAX_TEXT
 fits (class c) = true
 fits (pair n d) = true
 fits (member t c n d) = true

@@ -3,7 +3,7 @@ use Rattle.std.specs.Prelude.{◌≤◌, length}
 use Rattle.jc_facts.specs.world.World.{classes}
 use Rattle.jc_index.specs.Sides.{IsSide}
 use Rattle.jc_index.specs.steps.Order.{IsOrder, AreNumbers}
-use Rattle.jc_index.specs.declared.limits.TheConstants.{MAX_SIDE_CLASSES}
+use Rattle.jc_facts.specs.declared.limits.TheConstants.{MAX_SIDE_CLASSES}
 use Rattle.jc_index.specs.declared.named_classes.NamedClasses.TheInside.{Inside}
 
 -- kept are a side of few classes, their order, and their numbers by their places

@@ -4,13 +4,15 @@
 use Rattle.std.specs.Prelude.{◌≡◌, ◌&&◌, Bool, List, [], ◌∷◌, not, length, nat_le, Option, None, is_some, IsTrue}
 use Rattle.std.specs.List.{filter, list_all}
 use Rattle.std.specs.Str.{is_utf8}
+use Rattle.jc_facts.specs.declared.limits.TheConstants.{MAX_CLASS_NAME}
 use Rattle.jc_facts.specs.declared.class_facts.ClassFacts.{ClassFacts}
 use Rattle.jc_facts.specs.declared.client.ClientClass.{ClientClass}
 use Rattle.jc_facts.specs.Names.{Bytes, is_name_among, package_name}
 use Rattle.jc_facts.specs.Options.{or_else, some_where}
 use Rattle.jc_facts.specs.world.World.{World, find_class}
 use Rattle.jc_facts.specs.world.Search.{supers}
-use Rattle.jc_facts.specs.client.Clients.{is_named_above, has_package}
+use Rattle.jc_facts.specs.world.Mentioned.{is_named_above}
+use Rattle.jc_facts.specs.client.Allowed.{has_package}
 use Rattle.jc_link.specs.Refusals.{with_part}
 use Rattle.jc_link.specs.declared.client_names.ClientNames.{ClientNames}
 use Rattle.jc_link.specs.declared.client_names.TakenNames.{TakenNames}
@@ -57,7 +59,7 @@ fault_by t x =
     or_else (some_where (is_name_among t.declared x) parts.Declared)
     (or_else (some_where (is_name_among t.supers x) parts.Super)
     (or_else (some_where (is_name_among t.packages (package_name x)) parts.Package)
-    (or_else (some_where (not (nat_le (length x) 4090)) parts.Length)
+    (or_else (some_where (not (nat_le (length x) MAX_CLASS_NAME)) parts.Length)
     (some_where (not (is_utf8 x)) parts.Encoding))))
 
 -- the first of the clients that may not have its name, and why

@@ -4,7 +4,7 @@ use Rattle.std.specs.BTreeSet as sorted
 use Rattle.std.specs.Ordering.{nat_cmp}
 use Rattle.jc_facts.specs.declared.finding.Finding.{Finding}
 use Rattle.jc_facts.specs.world.Assignment.{is_interface_of}
-use Rattle.jc_facts.specs.rule.Findings.{Subject, finding_at}
+use Rattle.jc_promises.specs.rule.Findings.{Subject, finding_at}
 use Rattle.jc_facts.specs.world.Hierarchy.{in_chain}
 use Rattle.jc_facts.specs.Names.{Bytes}
 use Rattle.jc_facts.specs.world.World.{World, size}

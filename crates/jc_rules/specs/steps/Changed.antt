@@ -2,7 +2,7 @@
 use Rattle.std.specs.Prelude.{Bool, ◌&&◌}
 use Rattle.jc_acts.specs.Seats.{may_be_closed}
 use Rattle.jc_facts.specs.Names.{Bytes}
-use Rattle.jc_facts.specs.rule.Bases.{is_steady, is_base_class, is_base_interface}
+use Rattle.jc_promises.specs.rule.Bases.{is_steady, is_base_class, is_base_interface}
 use Rattle.jc_rules.specs.declared.changed.Changed.{Changed}
 use Rattle.jc_sides.specs.SharedOf.{AreThose}
 use Rattle.jc_sides.specs.SidesOf.{SidesOf}

@@ -2,8 +2,8 @@
 use Rattle.std.specs.Prelude.{ℕ, ◌<◌, Bool, true, not, ◌||◌, ◌&&◌, ◌≡◌, List, length}
 use Rattle.std.specs.List.{list_any}
 use Rattle.jc_facts.specs.Names.{Bytes}
-use Rattle.jc_facts.specs.rule.Bases.{is_kept}
-use Rattle.jc_facts.specs.rule.Exposed.{is_hidden}
+use Rattle.jc_promises.specs.rule.Bases.{is_kept}
+use Rattle.jc_promises.specs.rule.Exposed.{is_hidden}
 use Rattle.jc_facts.specs.world.Assignment.{is_interface_of}
 use Rattle.jc_facts.specs.world.World.{World}
 use Rattle.jc_acts.specs.Seats.{loses_class}

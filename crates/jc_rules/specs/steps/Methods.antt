@@ -3,9 +3,10 @@ use Rattle.std.specs.Prelude.{Bool, Option, not, is_some, ◌&&◌}
 use Rattle.jc_facts.specs.declared.key.Key.{Key}
 use Rattle.jc_facts.specs.Names.{Bytes}
 use Rattle.jc_facts.specs.world.Lookup.{public_method_of_object}
-use Rattle.jc_facts.specs.rule.Bases.{is_key_of_method, inherits, is_final_in_chain}
+use Rattle.jc_promises.specs.rule.Bases.{is_key_of_method}
+use Rattle.jc_facts.specs.world.Inheritance.{inherits, is_final_in_chain}
 use Rattle.jc_facts.specs.Options.{some_where}
-use Rattle.jc_facts.specs.rule.Findings.{finds_overridable}
+use Rattle.jc_promises.specs.rule.Findings.{finds_overridable}
 use Rattle.jc_sides.specs.SidesOf.{SidesOf}
 
 -- the interface inherited the key, and doesn't any more

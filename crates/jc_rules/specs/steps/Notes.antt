@@ -13,10 +13,11 @@ use Rattle.jc_facts.specs.world.Loading.{load_fault}
 use Rattle.jc_facts.specs.Flags.{static_flag, final_flag}
 use Rattle.jc_facts.specs.KeyOrder.{key_cmp}
 use Rattle.jc_facts.specs.Names.{Bytes, same_key}
-use Rattle.jc_facts.specs.rule.Notes.{NoteStands, in_release, is_same_constant, has_lost_constant}
-use Rattle.jc_facts.specs.rule.Orders.{noted_class}
+use Rattle.jc_promises.specs.rule.Notes.{NoteStands, in_release, has_lost_constant}
+use Rattle.jc_facts.specs.Records.{same_constant}
+use Rattle.jc_facts.specs.Orders.{noted_class}
 use Rattle.jc_facts.specs.Options.{and_then, some_and, some_where}
-use Rattle.jc_facts.specs.rule.Bases.{is_kept}
+use Rattle.jc_promises.specs.rule.Bases.{is_kept}
 use Rattle.jc_facts.specs.world.World.{World, class_named, find_class}
 use Rattle.jc_sides.specs.Rules.{IsOf}
 use Rattle.jc_sides.specs.SidesOf.{SidesOf}
@@ -57,7 +58,7 @@ value_in map k = and_then (λ f. Some f.value) (option_map (λ f. f.now) (tree.g
 
 -- the first map has a constant value of the key, and the second has none or another
 abbrev pub changed_in : tree.BTreeMap Key (Bor Fixed) → tree.BTreeMap Key (Bor Fixed) → Key → Bool
-changed_in was now k = some_and (λ v. not (some_and (is_same_constant v) (value_in now k))) (value_in was k)
+changed_in was now k = some_and (λ v. not (some_and (same_constant v) (value_in now k))) (value_in was k)
 
 -- the flags are those of a static final field
 abbrev pub static_final_flags : ℕ → Bool

@@ -5,7 +5,7 @@ use Rattle.jc_facts.specs.declared.key.Key.{Key}
 use Rattle.jc_facts.specs.declared.warning.ChainKind.TheVariants.{Nothing}
 use Rattle.jc_facts.specs.file.Valid.{has_key}
 use Rattle.jc_facts.specs.Names.{Bytes}
-use Rattle.jc_facts.specs.rule.Selection.{first_kind}
+use Rattle.jc_promises.specs.rule.Selection.{first_kind}
 use Rattle.jc_facts.specs.world.Hierarchy.{chain}
 use Rattle.jc_facts.specs.world.World.{World}
 use Rattle.jc_sides.specs.SidesOf.{SidesOf}

@@ -7,7 +7,7 @@ use Rattle.jc_index.specs.declared.ids.Found.{Found}
 use Rattle.jc_table.specs.steps.Walking.{chain_from}
 use Rattle.jc_facts.specs.declared.warning.ChainKind.{ChainKind}
 use Rattle.jc_facts.specs.declared.warning.ChainKind.TheVariants.{Nothing, Abstract, Concrete}
-use Rattle.jc_facts.specs.rule.Selection.{first_kind}
+use Rattle.jc_promises.specs.rule.Selection.{first_kind}
 
 -- an instance method of these flags that isn't private
 abbrev pub kind_by : ℕ → ChainKind

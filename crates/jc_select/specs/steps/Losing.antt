@@ -7,11 +7,11 @@ use Rattle.std.specs.BTreeSet as sorted
 use Rattle.std.specs.List.{All, list_any}
 use Rattle.std.specs.Ordering.{nat_cmp}
 use Rattle.jc_dropped.specs.Dropped.{is_exposed_to_some, has_lost, loses_interface, is_dropped}
-use Rattle.jc_dropped.specs.declared.dropped.Dropped.{Dropped}
+use Rattle.jc_facts.specs.declared.dropped.Dropped.{Dropped}
 use Rattle.jc_facts.specs.Names.{Bytes}
-use Rattle.jc_facts.specs.rule.Bases.{is_steady}
-use Rattle.jc_facts.specs.rule.Exposed.{is_hidden}
-use Rattle.jc_facts.specs.rule.Warnings.{is_below_other}
+use Rattle.jc_promises.specs.rule.Bases.{is_steady}
+use Rattle.jc_promises.specs.rule.Exposed.{is_hidden}
+use Rattle.jc_promises.specs.rule.Warnings.{is_below_other}
 use Rattle.jc_facts.specs.world.Loading.{loads}
 use Rattle.jc_facts.specs.world.World.{World, size}
 use Rattle.jc_select.specs.declared.losing.Lost.{Lost}

@@ -13,7 +13,7 @@ use Rattle.jc_facts.specs.world.Hierarchy.{names_in}
 use Rattle.jc_index.specs.steps.Choosing.{own_at, candidate_at}
 use Rattle.jc_table.specs.Ids.{name_at, id_of}
 use Rattle.jc_sides.specs.SidesOf.{SidesOf}
-use Rattle.jc_facts.specs.rule.Warnings.{is_below_other}
+use Rattle.jc_promises.specs.rule.Warnings.{is_below_other}
 
 -- these are the numbers of the classes of the list, in any order
 pub record AreNamed (W : World) (cs : List ClassFacts) (ids : List ℕ) : Type 0 where

@@ -3,7 +3,7 @@ use Rattle.std.specs.Prelude.{Bool, not, Option, None, Some}
 use Rattle.jc_facts.specs.declared.key.Key.{Key}
 use Rattle.jc_facts.specs.Names.{Bytes}
 use Rattle.jc_sides.specs.SidesOf.{SidesOf}
-use Rattle.jc_facts.specs.rule.Warnings.{part, parts_agree, warning_at}
+use Rattle.jc_promises.specs.rule.Warnings.{part, parts_agree, warning_at}
 use Rattle.jc_facts.specs.declared.warning.Warning.{Warning}
 use Rattle.jc_facts.specs.declared.warning.WarnKind.{WarnKind}
 

@@ -2,7 +2,8 @@
 use Rattle.std.specs.Prelude.{Bool, not, ◌||◌, ◌&&◌}
 use Rattle.jc_facts.specs.declared.class_facts.ClassFacts.{ClassFacts}
 use Rattle.jc_facts.specs.Flags.{final_flag, interface_flag}
-use Rattle.jc_facts.specs.rule.Bases.{is_open, has_init, public_or_protected, newly_sealed}
+use Rattle.jc_promises.specs.rule.Bases.{is_open, has_init, newly_sealed}
+use Rattle.jc_facts.specs.world.Inheritance.{public_or_protected}
 use Rattle.jc_sides.specs.SidesOf.{SidesOf}
 
 -- a record of an interface, and then of a class

@@ -3,8 +3,7 @@ use Rattle.std.specs.Prelude.{Bool, true, false, Option, Some, None, option_map,
 use Rattle.std.specs.Option.{option_eq}
 use Rattle.jc_facts.specs.declared.key.Key.{Key}
 use Rattle.jc_facts.specs.declared.sig_note.SigChange.{SigChange}
-use Rattle.jc_facts.specs.Names.{Bytes, same}
-use Rattle.jc_facts.specs.print.Text.{is_descriptor_of_method}
+use Rattle.jc_facts.specs.Names.{Bytes, same, is_descriptor_of_method}
 use Rattle.jc_sig.specs.Reading.{class_sig_of, method_sig_of, field_sig_of}
 use Rattle.jc_sig.specs.Notes.{class_part, method_part, field_part, change_of}
 

@@ -8,7 +8,7 @@ use Rattle.jc_base.specs.declared.trees.TreeError.{TreeError}
 use Rattle.jc_base.specs.declared.trees.TreeError.TheVariants as errors
 use Rattle.jc_facts.specs.declared.client.ClientClass.{ClientClass}
 use Rattle.jc_facts.specs.Names.{Bytes}
-use Rattle.jc_facts.specs.client.Clients.{IsValidClient}
+use Rattle.jc_facts.specs.client.Valid.{IsValidClient}
 use Rattle.jc_trees.specs.ClassFiles.{Told, FileRead, ClassRead, ModuleRead, IsReadIn, IsFileFault, IsTreeFault}
 use Rattle.jc_trees.specs.Tree.{TreeOf}
 use Rattle.jc_trees.specs.declared.tree.TreeName.{TreeName}

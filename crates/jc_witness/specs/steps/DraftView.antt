@@ -1,8 +1,8 @@
 -- The class file that is being made, by its parts.
 use Rattle.std.specs.Prelude.{[]}
 use Rattle.jc_facts.specs.declared.blueprint.Blueprint.{Blueprint}
-use Rattle.jc_facts.specs.plan.Planned.{a_client}
-use Rattle.jc_facts.specs.plan.PlannedBodies.{blueprint}
+use Rattle.jc_promises.specs.plan.Planned.{a_client}
+use Rattle.jc_promises.specs.plan.PlannedBodies.{blueprint}
 use Rattle.jc_witness.specs.declared.draft.Draft.TheInside.{Inside}
 
 -- a client of major 52 with these parts

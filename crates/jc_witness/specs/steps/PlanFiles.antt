@@ -10,9 +10,9 @@ use Rattle.jc_facts.specs.declared.verdict.Spot.{Spot}
 use Rattle.jc_facts.specs.ByName.{by_name}
 use Rattle.jc_facts.specs.Exactly.{NamesRise}
 use Rattle.jc_facts.specs.Names.{Bytes, same}
-use Rattle.jc_facts.specs.plan.Planned.{Plan, plan}
-use Rattle.jc_facts.specs.plan.PlannedBodies.{Bodies, blueprints, plan_bodies}
-use Rattle.jc_facts.specs.plan.PlannedNames.{fresh_package}
+use Rattle.jc_promises.specs.plan.Planned.{Plan, plan}
+use Rattle.jc_promises.specs.plan.PlannedBodies.{Bodies, blueprints, plan_bodies}
+use Rattle.jc_promises.specs.plan.PlannedNames.{fresh_package}
 use Rattle.jc_facts.specs.written.Written.{IsFormed, fits_whole, written}
 use Rattle.jc_sides.specs.SidesOf.{SidesOf}
 use Rattle.jc_witness.specs.declared.planned_files.PlannedFiles.{PlannedFiles}

@@ -1,5 +1,5 @@
 use Rattle.std.proofs.Common.{◌∙◌, sym, ap, length, subst}
-use Rattle.jc_facts.specs.world.Pairs.{AreOfOneRun}
+use Rattle.jc_promises.specs.Pairs.{AreOfOneRun}
 use Rattle.jc_facts.specs.world.World.{World}
 use Rattle.jc_witness.specs.Ground.{HasShortSide}
 use Rattle.jc_commands.specs.Releases.{side_of}

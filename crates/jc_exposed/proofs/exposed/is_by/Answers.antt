@@ -1,5 +1,5 @@
 use Rattle.std.proofs.Common.{◌==◌, refl, sym, ◌∙◌}
-use Rattle.jc_facts.specs.rule.OpenActs.{is_member_open}
+use Rattle.jc_facts.specs.world.Access.{is_member_open}
 use Rattle.jc_table.specs.Ids.{name_at}
 use Rattle.jc_acts.specs.steps.LookedUp.{member_of}
 use Rattle.jc_exposed.proofs.SeatStarts.{both}

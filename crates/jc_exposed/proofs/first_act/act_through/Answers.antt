@@ -2,7 +2,7 @@ use Rattle.std.proofs.Common.{◌≡◌, Some, sym, ap, ◌∙◌}
 use Rattle.std.specs.Option.{option_copied}
 use Rattle.jc_facts.specs.KeyOrder.{key_cmp}
 use Rattle.jc_facts.specs.declared.member_act.MemberAct.{MemberAct}
-use Rattle.jc_facts.specs.rule.Exposed.{first_by}
+use Rattle.jc_promises.specs.rule.Exposed.{first_by}
 use Rattle.jc_facts.proofs.World.{found_name}
 use Rattle.jc_table.specs.Ids.{name_at}
 use Rattle.jc_exposed.proofs.FirstThrough.{first_loads, has_key, has_act, act_is}

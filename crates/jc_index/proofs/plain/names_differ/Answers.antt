@@ -1,6 +1,6 @@
 use Rattle.std.proofs.Common.{sym, ◌∙◌}
 use Rattle.std.proofs.lemmas.List.{at_drop_all}
-use Rattle.jc_facts.specs.client.Clients.{differ_by_name}
+use Rattle.jc_facts.specs.world.World.{differ_by_name}
 use Rattle.jc_index.proofs.Searches.{differ_by}
 use Rattle.jc_index.proofs.plain.names_differ.Goals as goal
 

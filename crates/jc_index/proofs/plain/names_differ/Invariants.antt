@@ -1,5 +1,5 @@
 use Rattle.std.proofs.Common.{◌≡◌, drop}
-use Rattle.jc_facts.specs.client.Clients.{differ_by_name}
+use Rattle.jc_facts.specs.world.World.{differ_by_name}
 use Rattle.jc_index.proofs.plain.names_differ.Given as goal
 
 abbrev pub invariant-loop-at : goal.invariant-loop-at

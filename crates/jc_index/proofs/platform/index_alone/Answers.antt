@@ -1,8 +1,7 @@
 use Rattle.std.proofs.Common.{List, refl, sym, ◌∙◌, ap, subst}
 use Rattle.std.specs.Prelude.{IsTrue}
 use Rattle.jc_facts.specs.declared.class_facts.ClassFacts.{ClassFacts}
-use Rattle.jc_facts.specs.client.Clients.{differ_by_name}
-use Rattle.jc_facts.specs.world.World.{side}
+use Rattle.jc_facts.specs.world.World.{differ_by_name, side}
 use Rattle.jc_index.specs.Sides.{IsSide}
 use Rattle.jc_index.proofs.Loads.{is_side-alone}
 use Rattle.jc_index.proofs.platform.index_alone.Goals as goal

@@ -1,5 +1,5 @@
 use Rattle.std.proofs.Common.{◌≡◌, ◌++◌, map}
-use Rattle.jc_facts.specs.client.Clients.{facts_of}
+use Rattle.jc_facts.specs.client.Valid.{facts_of}
 use Rattle.jc_link.specs.steps.Asked.{asked_of}
 use Rattle.jc_link.proofs.asked.parted.Given as goal
 

@@ -3,9 +3,9 @@ use Rattle.std.specs.Prelude.{IfOk, IsTrue}
 use Rattle.std.specs.List.{All}
 use Rattle.jc_facts.specs.declared.client.ClientClass.{ClientClass}
 use Rattle.jc_facts.specs.declared.outcome.Outcome.{Outcome}
-use Rattle.jc_facts.specs.client.Clients.{differ_by_name, facts_of, IsValidClient}
+use Rattle.jc_facts.specs.world.World.{differ_by_name, side}
+use Rattle.jc_facts.specs.client.Valid.{facts_of, IsValidClient}
 use Rattle.jc_facts.specs.client.Linked.{all_outcomes}
-use Rattle.jc_facts.specs.world.World.{side}
 use Rattle.jc_worlds.proofs.ClientOrder.{sorted_differ}
 use Rattle.jc_link.proofs.Joined.{answer_is}
 use Rattle.jc_link.proofs.Sorting.{order_valid, order_length}

@@ -2,13 +2,13 @@ use Rattle.std.proofs.Common.{◌+◌, ◌≤◌, ◌++◌, length, List, None, 
 use Rattle.std.specs.Prelude.{IsTrue}
 use Rattle.std.specs.List.{All}
 use Rattle.jc_facts.specs.declared.class_facts.ClassFacts.{ClassFacts}
-use Rattle.jc_facts.specs.client.Clients.{differ_by_name, facts_of}
+use Rattle.jc_facts.specs.world.World.{differ_by_name, World, side}
+use Rattle.jc_facts.specs.client.Valid.{facts_of}
 use Rattle.jc_facts.specs.file.Valid.{IsValidClass}
 use Rattle.jc_table.specs.Sides.{overlap_of}
 use Rattle.jc_table.specs.Tables.{HasCause}
 use Rattle.jc_link.specs.Refusals.{RefusesBy}
 use Rattle.std.specs.List.{list_all}
-use Rattle.jc_facts.specs.world.World.{World, side}
 use Rattle.jc_link.specs.declared.asked.Asked.{Asked}
 use Rattle.jc_link.specs.steps.Asked.{asks_no_clinit, outcomes_of_asked}
 use Rattle.jc_link.proofs.Askings.{all_no_clinit, asked_outcomes}

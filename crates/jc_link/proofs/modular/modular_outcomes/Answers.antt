@@ -2,9 +2,9 @@ use Rattle.std.proofs.Common.{◌≡◌, ◌+◌, ◌≤◌, ◌++◌, length, L
 use Rattle.std.specs.Prelude.{IsTrue, is_some, option_map}
 use Rattle.std.specs.List.{All, list_all}
 use Rattle.jc_facts.specs.declared.class_facts.ClassFacts.{ClassFacts}
-use Rattle.jc_facts.specs.client.Clients.{differ_by_name, facts_of}
+use Rattle.jc_facts.specs.world.World.{differ_by_name, World, class_named, modular_side, with_clients}
+use Rattle.jc_facts.specs.client.Valid.{facts_of}
 use Rattle.jc_facts.specs.file.Valid.{IsValidClass}
-use Rattle.jc_facts.specs.world.World.{World, class_named, modular_side, with_clients}
 use Rattle.jc_link.specs.Refusals.{RefusesBy}
 use Rattle.jc_link.specs.declared.asked.Asked.{Asked}
 use Rattle.jc_link.specs.steps.Asked.{asks_no_clinit, outcomes_of_asked}

@@ -3,7 +3,7 @@ use Rattle.std.specs.List.{All}
 use Rattle.std.proofs.lemmas.List.{take_all}
 use Rattle.std.proofs.lemmas.List.Elements.{All-more}
 use Rattle.jc_facts.specs.declared.client.ClientClass.{ClientClass}
-use Rattle.jc_facts.specs.client.Clients.{IsValidClient}
+use Rattle.jc_facts.specs.client.Valid.{IsValidClient}
 use Rattle.jc_link.proofs.plain.are_valid.Goals as goal
 
 pub loop-client-preserved : goal.loop-client-preserved

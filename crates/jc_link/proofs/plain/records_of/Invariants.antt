@@ -1,5 +1,5 @@
 use Rattle.std.proofs.Common.{◌≡◌, ◌++◌, drop}
-use Rattle.jc_facts.specs.client.Clients.{facts_of}
+use Rattle.jc_facts.specs.client.Valid.{facts_of}
 use Rattle.jc_link.proofs.plain.records_of.Given as goal
 
 abbrev pub invariant-loop-client : goal.invariant-loop-client

@@ -1,6 +1,6 @@
 use Rattle.std.proofs.Common.{◌≡◌, drop}
 use Rattle.std.specs.List.{list_all}
-use Rattle.jc_facts.specs.rule.Exposed.{is_hidden}
+use Rattle.jc_promises.specs.rule.Exposed.{is_hidden}
 use Rattle.jc_table.specs.Ids.{name_at}
 use Rattle.jc_rules.proofs.assigned.are_hidden.Given as goal
 

@@ -1,6 +1,6 @@
 use Rattle.std.proofs.Common.{arith}
-use Rattle.jc_facts.specs.rule.Collisions.{CollisionStands}
-use Rattle.jc_facts.specs.rule.Orders.{collision_order}
+use Rattle.jc_promises.specs.rule.Collisions.{CollisionStands}
+use Rattle.jc_facts.specs.Orders.{collision_order}
 use Rattle.jc_sides.specs.Rules.{IsCollision}
 use Rattle.jc_sides.proofs.Limits.{some_within, none_within}
 use Rattle.jc_rules.proofs.AllRules.{collision_rule_before, known_collision}

@@ -1,5 +1,5 @@
-use Rattle.jc_facts.specs.rule.Collisions.{CollisionStands}
-use Rattle.jc_facts.specs.rule.Orders.{collision_order}
+use Rattle.jc_promises.specs.rule.Collisions.{CollisionStands}
+use Rattle.jc_facts.specs.Orders.{collision_order}
 use Rattle.jc_rules.proofs.ByRule.{Made}
 use Rattle.jc_rules.proofs.compare.collisions.Given as goal
 

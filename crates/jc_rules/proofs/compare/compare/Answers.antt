@@ -1,5 +1,5 @@
 use Rattle.std.proofs.Common.{None, subst}
-use Rattle.jc_facts.specs.rule.Verdict.{IsVerdict}
+use Rattle.jc_promises.specs.rule.Verdict.{IsVerdict}
 use Rattle.jc_sides.specs.SidesOf.{SidesOf, AreSides}
 use Rattle.jc_rules.proofs.AllRules.{nothing_breaks, gone_break}
 use Rattle.jc_rules.proofs.Limited.{always_limited, limited_exact}

@@ -1,6 +1,6 @@
 use Rattle.std.proofs.Common.{arith}
-use Rattle.jc_facts.specs.rule.Findings.{Stands}
-use Rattle.jc_facts.specs.rule.Orders.{finding_order}
+use Rattle.jc_promises.specs.rule.Findings.{Stands}
+use Rattle.jc_facts.specs.Orders.{finding_order}
 use Rattle.jc_sides.specs.Rules.{IsFinding}
 use Rattle.jc_sides.proofs.Subjects.{rule_before}
 use Rattle.jc_sides.proofs.Limits.{some_within, none_within}

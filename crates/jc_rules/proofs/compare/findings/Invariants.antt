@@ -1,5 +1,5 @@
-use Rattle.jc_facts.specs.rule.Findings.{Stands}
-use Rattle.jc_facts.specs.rule.Orders.{finding_order}
+use Rattle.jc_promises.specs.rule.Findings.{Stands}
+use Rattle.jc_facts.specs.Orders.{finding_order}
 use Rattle.jc_rules.proofs.ByRule.{Made}
 use Rattle.jc_rules.proofs.compare.findings.Given as goal
 

@@ -1,7 +1,7 @@
 use Rattle.std.proofs.Common.{arith}
-use Rattle.jc_facts.specs.rule.Bases.{is_base_class}
-use Rattle.jc_facts.specs.rule.Findings.{Stands}
-use Rattle.jc_facts.specs.rule.Orders.{finding_order}
+use Rattle.jc_promises.specs.rule.Bases.{is_base_class}
+use Rattle.jc_promises.specs.rule.Findings.{Stands}
+use Rattle.jc_facts.specs.Orders.{finding_order}
 use Rattle.jc_rules.proofs.AllRules.{no_finding}
 use Rattle.jc_rules.proofs.ByRule.{none_of}
 use Rattle.jc_rules.proofs.ConstructorClosed.{is_rule as constructor_closed}

@@ -1,6 +1,6 @@
 use Rattle.std.proofs.Common.{arith}
-use Rattle.jc_facts.specs.rule.Collisions.{CollisionStands}
-use Rattle.jc_facts.specs.rule.Orders.{collision_order}
+use Rattle.jc_promises.specs.rule.Collisions.{CollisionStands}
+use Rattle.jc_facts.specs.Orders.{collision_order}
 use Rattle.jc_rules.proofs.AllRules.{no_collision}
 use Rattle.jc_rules.proofs.ByRule.{none_of}
 use Rattle.jc_rules.proofs.CaptureAdded.{is_rule as capture_added}

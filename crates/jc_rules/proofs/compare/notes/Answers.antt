@@ -1,5 +1,5 @@
 use Rattle.std.proofs.Common.{true, false, subst}
-use Rattle.jc_facts.specs.rule.Orders.{note_order}
+use Rattle.jc_facts.specs.Orders.{note_order}
 use Rattle.jc_facts.specs.Exactly.{HasExactly}
 use Rattle.jc_sides.specs.SidesOf.{SidesOf}
 use Rattle.jc_rules.specs.steps.Notes.{NoteIn}

@@ -1,5 +1,5 @@
 use Rattle.std.proofs.Common.{◌≡◌, true, None, subst, sym}
-use Rattle.jc_facts.specs.rule.Bases.{inherits}
+use Rattle.jc_facts.specs.world.Inheritance.{inherits}
 use Rattle.jc_facts.specs.world.Assignment.{is_interface_of}
 use Rattle.jc_facts.specs.world.Lookup.{public_method_of_object}
 use Rattle.jc_sides.specs.SharedFields.{shared_of}

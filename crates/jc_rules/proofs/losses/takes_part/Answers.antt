@@ -1,7 +1,7 @@
 use Rattle.std.proofs.Common.{◌≡◌, true, false, sym, ap, ◌∙◌, ◌||◌}
 use Rattle.jc_facts.specs.Names.{Bytes}
-use Rattle.jc_facts.specs.rule.Bases.{is_kept}
-use Rattle.jc_facts.specs.rule.Exposed.{is_hidden}
+use Rattle.jc_promises.specs.rule.Bases.{is_kept}
+use Rattle.jc_promises.specs.rule.Exposed.{is_hidden}
 use Rattle.jc_sides.specs.SidesOf.{SidesOf}
 use Rattle.jc_table.specs.Ids.{name_at}
 use Rattle.jc_rules.proofs.Assignments.{kept_some, kept_none}

@@ -1,7 +1,7 @@
 use Rattle.std.proofs.Common.{◌≡◌, true, false, List, is_some, sym, subst, ◌∙◌}
 use Rattle.jc_facts.specs.declared.verdict.Note.{Note}
 use Rattle.jc_facts.specs.Names.{Bytes}
-use Rattle.jc_facts.specs.rule.Orders.{note_order}
+use Rattle.jc_facts.specs.Orders.{note_order}
 use Rattle.jc_facts.specs.Exactly.{HasExactly}
 use Rattle.jc_facts.specs.world.World.{class_named}
 use Rattle.jc_sides.specs.SidesOf.{SidesOf}

@@ -4,7 +4,7 @@ use Rattle.std.specs.List.{filter_map}
 use Rattle.jc_facts.specs.declared.key.Key.{Key}
 use Rattle.jc_facts.specs.declared.verdict.Note.{Note}
 use Rattle.jc_facts.specs.Exactly.{HasExactly}
-use Rattle.jc_facts.specs.rule.Orders.{note_order}
+use Rattle.jc_facts.specs.Orders.{note_order}
 use Rattle.jc_sides.specs.SharedOf.{name_of}
 use Rattle.jc_rules.specs.steps.Notes.{constant_note, OnConstants}
 use Rattle.jc_rules.proofs.NoteConstant.{key_more, on_exact}

@@ -2,7 +2,7 @@ use Rattle.std.proofs.Common.{◌≡◌, ℕ, List, [], ◌∷◌, ◌++◌, sym
 use Rattle.std.proofs.lemmas.List.{append-nil}
 use Rattle.std.specs.List.{filter_map}
 use Rattle.jc_facts.specs.declared.finding.Finding.{Finding}
-use Rattle.jc_facts.specs.rule.Orders.{finding_order}
+use Rattle.jc_facts.specs.Orders.{finding_order}
 use Rattle.jc_facts.specs.Exactly.{HasExactly}
 use Rattle.jc_table.specs.Ids.{name_at}
 use Rattle.jc_rules.specs.steps.Chains.{target_finding, OfChain}

@@ -1,6 +1,6 @@
 use Rattle.std.proofs.Common.{◌<◌, ◌≤◌, ◌+◌, true, false, length, take, sym, ap, subst, ◌∙◌, arith}
 use Rattle.jc_facts.proofs.Exactly.{OfNames}
-use Rattle.jc_facts.specs.rule.Orders.{finding_order}
+use Rattle.jc_facts.specs.Orders.{finding_order}
 use Rattle.jc_facts.specs.world.World.{size}
 use Rattle.jc_table.specs.Ids.{names}
 use Rattle.jc_sides.specs.Limit.{over}

@@ -1,5 +1,5 @@
 use Rattle.std.proofs.Common.{◌≡◌, false, length, take}
-use Rattle.jc_facts.specs.rule.Orders.{finding_order}
+use Rattle.jc_facts.specs.Orders.{finding_order}
 use Rattle.jc_facts.specs.Exactly.{HasExactly}
 use Rattle.jc_table.specs.Ids.{names}
 use Rattle.jc_facts.proofs.Exactly.{OfNames}

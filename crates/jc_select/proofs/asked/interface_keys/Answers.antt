@@ -1,6 +1,6 @@
 use Rattle.std.proofs.Common.{◌≡◌, ◌&&◌, ℕ, List, true, sym, subst, ap, ◌∙◌}
 use Rattle.std.specs.List.{list_all}
-use Rattle.jc_facts.specs.rule.Warnings.{interfaces_from}
+use Rattle.jc_promises.specs.rule.Warnings.{interfaces_from}
 use Rattle.jc_sides.specs.SharedOf.{SharedOf, name_of}
 use Rattle.jc_sides.specs.SidesOf.{SidesOf, AreSides}
 use Rattle.jc_table.specs.Ids.{name_at}

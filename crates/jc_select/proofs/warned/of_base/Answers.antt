@@ -2,7 +2,7 @@ use Rattle.std.proofs.Common.{sym, subst, ap, ◌∙◌}
 use Rattle.std.specs.List.{filter_map}
 use Rattle.jc_facts.specs.declared.warning.Warning.{Warning}
 use Rattle.jc_facts.specs.Exactly.{HasExactly}
-use Rattle.jc_facts.specs.rule.Warnings.{WarningStands, is_base, warning_order}
+use Rattle.jc_promises.specs.rule.Warnings.{WarningStands, is_base, warning_order}
 use Rattle.jc_sides.specs.Rules.{IsOf}
 use Rattle.jc_sides.specs.SharedOf.{name_of}
 use Rattle.jc_sides.proofs.ByItems.{of_class}

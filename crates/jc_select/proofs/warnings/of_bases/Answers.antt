@@ -1,6 +1,6 @@
 use Rattle.std.proofs.Common.{◌∙◌, ◌+◌, arith, true, false, ap, length, take, map}
 use Rattle.jc_facts.specs.declared.warning.Warning.{Warning}
-use Rattle.jc_facts.specs.rule.Warnings.{WarningStands, is_base, warning_order}
+use Rattle.jc_promises.specs.rule.Warnings.{WarningStands, is_base, warning_order}
 use Rattle.jc_facts.proofs.Exactly.{OfNames}
 use Rattle.jc_sides.specs.Limit.{over}
 use Rattle.jc_sides.specs.SharedOf.{name_of}

@@ -1,7 +1,7 @@
 use Rattle.std.proofs.Common.{◌≡◌, false, length, take, map}
 use Rattle.jc_facts.specs.declared.warning.Warning.{Warning}
 use Rattle.jc_facts.specs.Exactly.{HasExactly}
-use Rattle.jc_facts.specs.rule.Warnings.{WarningStands, warning_order}
+use Rattle.jc_promises.specs.rule.Warnings.{WarningStands, warning_order}
 use Rattle.jc_facts.proofs.Exactly.{OfNames}
 use Rattle.jc_sides.specs.Limit.{over}
 use Rattle.jc_sides.specs.SharedOf.{name_of}

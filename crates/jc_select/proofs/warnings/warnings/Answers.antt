@@ -1,6 +1,6 @@
 use Rattle.std.proofs.Common.{None, subst}
 use Rattle.jc_sides.specs.SidesOf.{SidesOf}
-use Rattle.jc_facts.specs.rule.Warnings.{AreWarnings}
+use Rattle.jc_promises.specs.rule.Warnings.{AreWarnings}
 use Rattle.jc_select.proofs.Answered.{answer_still}
 use Rattle.jc_select.proofs.KindsWarned.{always, exact_of}
 use Rattle.jc_select.proofs.warnings.warnings.Goals as goal

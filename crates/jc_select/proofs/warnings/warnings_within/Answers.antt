@@ -1,7 +1,7 @@
 use Rattle.std.proofs.Common.{Some, option_map, subst}
 use Rattle.jc_sides.specs.Limit.{IsWithin}
 use Rattle.jc_sides.specs.SidesOf.{SidesOf}
-use Rattle.jc_facts.specs.rule.Warnings.{WarningStands, warning_order}
+use Rattle.jc_promises.specs.rule.Warnings.{WarningStands, warning_order}
 use Rattle.jc_select.proofs.Answered.{answer_within}
 use Rattle.jc_select.proofs.Limited.{within}
 use Rattle.jc_select.proofs.warnings.warnings_within.Goals as goal

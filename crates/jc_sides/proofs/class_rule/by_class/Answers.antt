@@ -1,6 +1,6 @@
 use Rattle.std.proofs.Common.{◌<◌, ◌≤◌, ◌+◌, ℕ, true, false, sym, ap, subst, ◌∙◌, arith}
 use Rattle.jc_facts.specs.Exactly.{HasExactly}
-use Rattle.jc_facts.specs.rule.Orders.{finding_order}
+use Rattle.jc_facts.specs.Orders.{finding_order}
 use Rattle.jc_facts.specs.world.World.{size}
 use Rattle.jc_sides.specs.Limit.{HasMore}
 use Rattle.jc_sides.specs.Rules.{IsFinding}

@@ -1,5 +1,5 @@
 use Rattle.std.proofs.Common.{sym, ◌∙◌}
-use Rattle.jc_facts.specs.rule.Bases.{allowed}
+use Rattle.jc_promises.specs.rule.Bases.{allowed}
 use Rattle.jc_sides.proofs.Permitted.{none_dropped, dropped_from}
 use Rattle.jc_sides.proofs.clients.drops_one.Goals as goal
 

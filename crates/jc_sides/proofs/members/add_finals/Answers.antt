@@ -1,7 +1,7 @@
 use Rattle.std.proofs.Common.{◌≡◌, ◌<◌, ◌≤◌, List, length, get_or, ap, ◌∙◌, ◌&&◌, arith}
 use Rattle.jc_facts.specs.declared.class_facts.Member.{Member}
 use Rattle.jc_facts.specs.Names.{is_key}
-use Rattle.jc_facts.specs.rule.Bases.{is_open_final}
+use Rattle.jc_facts.specs.world.Inheritance.{is_open_final}
 use Rattle.jc_sides.proofs.KeySets.{adds_none, put_member, adds_all}
 use Rattle.jc_sides.proofs.members.add_finals.Goals as goal
 

@@ -1,5 +1,5 @@
 use Rattle.std.proofs.Common.{take}
-use Rattle.jc_facts.specs.rule.Bases.{is_open_final}
+use Rattle.jc_facts.specs.world.Inheritance.{is_open_final}
 use Rattle.jc_sides.specs.steps.KeySets.{Adds, has_member}
 use Rattle.jc_sides.proofs.members.add_finals.Given as goal
 

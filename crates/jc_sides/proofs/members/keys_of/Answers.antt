@@ -1,6 +1,6 @@
 use Rattle.std.proofs.lemmas.Result.{IfOk-weaker}
 use Rattle.jc_facts.specs.Names.{is_init_name}
-use Rattle.jc_facts.specs.rule.Bases.{is_final_in_chain}
+use Rattle.jc_facts.specs.world.Inheritance.{is_final_in_chain}
 use Rattle.jc_field.specs.FoundKeys.{HaveFound as HaveFields}
 use Rattle.jc_method.specs.FoundKeys.{HaveFound as HaveMethods}
 use Rattle.jc_table.specs.Ids.{name_at}

@@ -1,5 +1,5 @@
 use Rattle.std.proofs.Common.{◌≡◌, ◌≤◌, ◌++◌, drop}
-use Rattle.jc_facts.specs.plan.PlannedBodies.{exposed_steps}
+use Rattle.jc_promises.specs.plan.PlannedBodies.{exposed_steps}
 use Rattle.jc_witness.proofs.bodies.expose_and_return.Given as goal
 
 abbrev pub invariant-loop-exposed : goal.invariant-loop-exposed

@@ -1,6 +1,6 @@
 use Rattle.std.proofs.Common.{◌≡◌, ◌++◌, drop}
 use Rattle.jc_desc.specs.Views.{views}
-use Rattle.jc_facts.specs.plan.PlannedBodies.{zeros}
+use Rattle.jc_promises.specs.plan.PlannedBodies.{zeros}
 use Rattle.jc_witness.proofs.bodies.push_zeros.Given as goal
 
 abbrev pub invariant-loop-of : goal.invariant-loop-of

@@ -1,6 +1,6 @@
 use Rattle.std.proofs.Common.{◌≡◌, true, false, sym, ap, ◌∙◌}
 use Rattle.jc_facts.specs.file.Rules.{is_object_name}
-use Rattle.jc_facts.specs.plan.PlannedNames.{least_name, constructors}
+use Rattle.jc_promises.specs.plan.PlannedNames.{least_name, constructors}
 use Rattle.jc_witness.proofs.ConstructorsOf.{of_no_class, of_record}
 use Rattle.jc_witness.proofs.constructor.constructor_of.Goals as goal
 

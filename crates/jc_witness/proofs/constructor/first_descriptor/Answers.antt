@@ -2,8 +2,8 @@ use Rattle.std.proofs.Common.{◌&&◌, ◌<◌, ◌≤◌, true, length, List, 
 use Rattle.std.specs.Option.{option_copied}
 use Rattle.jc_facts.specs.declared.class_facts.Member.{Member}
 use Rattle.jc_facts.specs.Names.{is_init_name}
-use Rattle.jc_facts.specs.rule.Bases.{public_or_protected}
-use Rattle.jc_facts.specs.plan.PlannedNames.{least_name, constructors}
+use Rattle.jc_facts.specs.world.Inheritance.{public_or_protected}
+use Rattle.jc_promises.specs.plan.PlannedNames.{least_name, constructors}
 use Rattle.jc_witness.proofs.LowestOfNames.{found_next, found_end, constructor_first, no_constructor}
 use Rattle.jc_witness.proofs.constructor.first_descriptor.Goals as goal
 

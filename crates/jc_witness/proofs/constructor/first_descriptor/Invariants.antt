@@ -1,6 +1,6 @@
 use Rattle.std.proofs.Common.{◌≡◌, true, drop}
 use Rattle.std.specs.Option.{option_copied}
-use Rattle.jc_facts.specs.plan.PlannedNames.{least_name, constructors}
+use Rattle.jc_promises.specs.plan.PlannedNames.{least_name, constructors}
 use Rattle.jc_witness.proofs.LowestOfNames.{joined}
 use Rattle.jc_witness.proofs.constructor.first_descriptor.Given as goal
 

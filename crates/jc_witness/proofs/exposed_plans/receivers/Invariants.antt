@@ -1,5 +1,5 @@
 use Rattle.std.proofs.Common.{◌≡◌, ◌++◌, drop}
-use Rattle.jc_facts.specs.plan.Planned.{receivers_exposed}
+use Rattle.jc_promises.specs.plan.Planned.{receivers_exposed}
 use Rattle.jc_witness.proofs.exposed_plans.receivers.Given as goal
 
 abbrev pub invariant-loop-exposed : goal.invariant-loop-exposed

@@ -1,7 +1,7 @@
 use Rattle.std.proofs.Common.{◌≡◌, ◌<◌, ◌≤◌, ◌+◌, ℕ, true, false, List, sym, ap, ◌∙◌, arith}
 use Rattle.jc_facts.specs.Names.{Bytes}
 use Rattle.jc_facts.specs.world.Mentioned.{mentioned}
-use Rattle.jc_facts.specs.plan.PlannedNames.{is_used, package_number}
+use Rattle.jc_promises.specs.plan.PlannedNames.{is_used, package_number}
 use Rattle.jc_witness.proofs.Packages.{here_free, go_on, at_end}
 use Rattle.jc_witness.proofs.package.fresh.Goals as goal
 

@@ -1,6 +1,6 @@
 use Rattle.std.proofs.Common.{◌≡◌, ◌-◌}
 use Rattle.jc_facts.specs.world.Mentioned.{mentioned}
-use Rattle.jc_facts.specs.plan.PlannedNames.{first_unused, fresh_package}
+use Rattle.jc_promises.specs.plan.PlannedNames.{first_unused, fresh_package}
 use Rattle.jc_witness.proofs.package.fresh.Given as goal
 
 abbrev pub invariant-loop-number : goal.invariant-loop-number

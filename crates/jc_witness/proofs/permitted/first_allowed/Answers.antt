@@ -1,8 +1,8 @@
 use Rattle.std.proofs.Common.{◌&&◌, ◌<◌, ◌≤◌, length, not, Bool, arith}
 use Rattle.std.specs.Option.{option_copied}
 use Rattle.jc_facts.specs.Names.{Bytes, is_name_among}
-use Rattle.jc_facts.specs.rule.Bases.{allowed}
-use Rattle.jc_facts.specs.plan.PlannedNames.{least_name}
+use Rattle.jc_promises.specs.rule.Bases.{allowed}
+use Rattle.jc_promises.specs.plan.PlannedNames.{least_name}
 use Rattle.jc_witness.proofs.LowestOfNames.{found_next, found_end, name_first, no_name}
 use Rattle.jc_witness.proofs.permitted.first_allowed.Goals as goal
 

@@ -1,8 +1,8 @@
 use Rattle.std.proofs.Common.{◌≡◌, ◌&&◌, Bool, not, drop}
 use Rattle.std.specs.Option.{option_copied}
 use Rattle.jc_facts.specs.Names.{Bytes, is_name_among}
-use Rattle.jc_facts.specs.rule.Bases.{allowed}
-use Rattle.jc_facts.specs.plan.PlannedNames.{least_name}
+use Rattle.jc_promises.specs.rule.Bases.{allowed}
+use Rattle.jc_promises.specs.plan.PlannedNames.{least_name}
 use Rattle.jc_witness.proofs.LowestOfNames.{joined}
 use Rattle.jc_witness.proofs.permitted.first_allowed.Given as goal
 

@@ -1,7 +1,7 @@
 use Rattle.std.proofs.Common.{sym, subst}
 use Rattle.std.specs.List.{All}
 use Rattle.jc_acts.specs.Seats.{may_be_closed}
-use Rattle.jc_facts.specs.rule.Bases.{is_steady, is_base_class, is_base_interface}
+use Rattle.jc_promises.specs.rule.Bases.{is_steady, is_base_class, is_base_interface}
 use Rattle.jc_sides.specs.SharedOf.{AreThose, IsShared}
 use Rattle.jc_rules.proofs.ChangedClasses.{those_too}
 use Rattle.jc_rules.proofs.changed.Changed.new.Goals as goal

@@ -1,5 +1,5 @@
 use Rattle.std.proofs.Common.{sym, ap, ◌∙◌}
-use Rattle.jc_facts.specs.rule.Bases.{is_class_usable}
+use Rattle.jc_promises.specs.rule.Bases.{is_class_usable}
 use Rattle.jc_sides.specs.SidesOf.{SidesOf}
 use Rattle.jc_table.specs.Ids.{name_at}
 use Rattle.jc_rules.proofs.ClassGone.{still, gone}

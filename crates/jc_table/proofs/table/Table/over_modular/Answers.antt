@@ -4,8 +4,7 @@ use Rattle.std.proofs.lemmas.Bool.{and_parts}
 use Rattle.jc_lemmas.proofs.Options.{none_where}
 use Rattle.jc_facts.specs.declared.class_facts.ClassFacts.{ClassFacts}
 use Rattle.jc_facts.specs.Names.{Bytes}
-use Rattle.jc_facts.specs.client.Clients.{differ_by_name}
-use Rattle.jc_facts.specs.world.World.{World, class_named, modular_side, with_clients}
+use Rattle.jc_facts.specs.world.World.{differ_by_name, World, class_named, modular_side, with_clients}
 use Rattle.jc_worlds.proofs.Absent.{class_named-absent}
 use Rattle.jc_index.specs.LoadOrder.{AreLoads}
 use Rattle.jc_index.specs.Root.{fault_of_root}

@@ -1,0 +1,4 @@
+pub mod Pairs
+pub mod client
+pub mod rule
+pub mod plan

@@ -1,0 +1,5 @@
+pub mod Scope
+pub mod Reach
+pub mod Meets
+pub mod Keeps
+pub mod Kept

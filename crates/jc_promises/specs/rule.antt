@@ -1,0 +1,9 @@
+pub mod Exposed
+pub mod Findings
+pub mod Collisions
+pub mod Notes
+pub mod Verdict
+pub mod Bases
+pub mod OpenActs
+pub mod Selection
+pub mod Warnings
