@@ -1,5 +1,5 @@
 //! The comparison of two releases with a platform.
-ghost use Rattle.std.specs.Prelude.{◌≡◌, ◌≤◌, List, [], ◌∷◌, None, length, IfOk, IfErr, IfSome, option_map};
+ghost use Rattle.std.specs.Prelude.{◌≡◌, ◌≤◌, List, [], ◌∷◌, None, length, IfOk, IfErr, IfSome, option_map, false, true};
 ghost use Rattle.std.specs.List.{All};
 ghost use Rattle.jc_facts.specs.declared.rule_numbers.TheConstants.{CLASS_GONE};
 ghost use Rattle.jc_facts.specs.declared.client.ClientClass.{ClientClass};
