@@ -1,6 +1,6 @@
 -- The numbers by which the commands go, in digits. The clauses cite the constants of the code, whatever these are; here it is said what they are.
 use Rattle.std.specs.Prelude.{◌≡◌, Some, None, true, false, codes}
-use Rattle.jc_base.specs.declared.trees.TheConstants.{MAX_CLASS_BYTES as READ_BYTES}
+use Rattle.jc_base.specs.declared.trees.TheConstants.{MAX_BYTES as READ_BYTES}
 use Rattle.jc_desc.specs.declared.versions.TheConstants.{OLDEST_MAJOR, SIGNATURE_MAJOR, ABSTRACT_INTERFACE_MAJOR, BOOTSTRAP_MAJOR, INTERFACE_CODE_MAJOR, NEST_MAJOR, STRICT_MINOR_MAJOR, SEAL_MAJOR, NEWEST_MAJOR}
 use Rattle.jc_facts.specs.declared.rule_numbers.TheConstants.{CLASS_GONE, CLASS_CLOSED, INTERFACE_BECAME_CLASS, SUPERCLASS_LOST, CONSTRUCTOR_CLOSED, METHOD_MADE_FINAL, FIELD_CLOSED, METHOD_CLOSED, INTERFACE_METHOD_LOST, CONSTANT_ADDED, CAPTURE_ADDED, FINAL_ADDED}
 use Rattle.jc_facts.specs.declared.limits.TheConstants.{MAX_SIDE_CLASSES, MAX_CLASS_NAME}
