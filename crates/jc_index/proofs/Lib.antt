@@ -1,7 +1,4 @@
 pub mod Numbers
-pub mod Entering
-pub mod Paths
-pub mod Turns
 pub mod Slashes
 pub mod Walking
 pub mod Places
@@ -26,13 +23,11 @@ pub mod Walks
 pub mod Choices
 pub mod Strictly
 pub mod Picked
-pub mod Ordering
 pub mod Undeclared
 pub mod NumberedNames
 pub mod Standing
 pub mod Merged
 pub mod HashedKeys
-pub mod Loads
 pub mod PlacesAbove
 pub mod PlatformFinals
 pub mod Across

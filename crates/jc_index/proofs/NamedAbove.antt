@@ -8,8 +8,7 @@ use Rattle.jc_facts.specs.Options.{and_then}
 use Rattle.jc_facts.specs.world.Search.{supers, supers_of}
 use Rattle.jc_facts.specs.world.World.{World, find_class}
 use Rattle.jc_index.specs.Ids.{name_at, id_of}
-use Rattle.jc_index.proofs.Entering.{found-by}
-use Rattle.jc_index.proofs.Numbers.{find-None}
+use Rattle.jc_index.proofs.Numbers.{found-by, find-None}
 
 -- ---- one of the names
 

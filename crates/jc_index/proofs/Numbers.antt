@@ -283,3 +283,7 @@ names-find W x k = in-named (classes W) x k
 pub superclass_is : (W : World) (x : Bytes) (c : ClassFacts) → Some c ≡ find_class W x → superclass_of W x ≡ and_then (id_of W) c.superclass
 unfolding superclass_of and_then
 superclass_is W x c e = rw (← e) refl
+
+-- the class of a name that has a number
+pub found-by : (W : World) (x : Bytes) (n : ℕ) (c : ClassFacts) → id_of W x ≡ Some n → Some c ≡ find_class W (name_at W n) → find_class W x ≡ Some c
+found-by W x n c e f = ap (find_class W) (sym (id_of-Some W x n e).1) ∙ sym f

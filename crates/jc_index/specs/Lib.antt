@@ -12,6 +12,5 @@ pub mod MentionedNames
 pub mod LoadOrder
 pub mod Interfaces
 pub mod IndexFields
-pub mod PlatformFields
 pub mod SideModules
 pub mod SideFields

@@ -1,11 +1,9 @@
-pub mod Entering
 pub mod Order
 pub mod Queue
 pub mod Reach
 pub mod Walking
 pub mod Named
 pub mod Choosing
-pub mod Passing
 pub mod Parts
 pub mod HashedKeys
 pub mod Adding

@@ -168,9 +168,13 @@ fn finals_beside(alloc: Global, index: &Index, marks: &[bool]) -> Result<Vec<Key
     Ok(keys)
 }
 
-// The keys of all final instance methods of the superclasses of a side. Those of the platform alone
-// were collected once for all its sides.
-pub(crate) fn final_keys(alloc: Global, index: &Index) -> Result<SideFinals<'_>, AllocError>
+/// The keys of all final instance methods of the superclasses of a side (JVMS 5.4.5). Those of the
+/// platform alone were collected once for all its sides.
+///
+/// # Errors
+///
+/// `AllocError` where memory runs out.
+pub fn final_keys(alloc: Global, index: &Index) -> Result<SideFinals<'_>, AllocError>
     ensures { IfOk result (λ keys. HaveAllFinal index.now keys) }
 {
     let mut marks = no_marks(alloc, index.count() as usize)?;

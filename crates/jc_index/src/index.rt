@@ -106,8 +106,9 @@ impl Index {
         self.classes.get(name)
     }
 
-    // The class at this place.
-    pub(crate) fn id_at(&self, place: usize) -> ClassId
+    /// The class at this place of the side: the platform's classes come first, then those of the
+    /// release, then those of clients.
+    pub fn id_at(&self, place: usize) -> ClassId
         requires { place < length (classes self.now) }
         ensures of_table { result < size self.now }
         ensures named { name_at self.now result ≡ name_in (classes self.now) place }
@@ -115,8 +116,8 @@ impl Index {
         self.classes.id_at(place)
     }
 
-    // The place of the class.
-    pub(crate) fn place(&self, id: ClassId) -> usize
+    /// The place of the class on the side.
+    pub fn place(&self, id: ClassId) -> usize
         requires { id < size self.now }
         ensures within { result < length (classes self.now) }
         ensures named { name_in (classes self.now) result ≡ name_at self.now id }

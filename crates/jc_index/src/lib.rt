@@ -1,19 +1,18 @@
-//! The classes of a side by their numbers: their order by name, what stands above each, what of it
-//! keeps a class from loading, and the choice among superinterfaces.
+//! The classes of a side by their numbers: their order by name, what stands above each, and the
+//! choice among superinterfaces.
 #![tactic(auto)]
 
 mod above;
+pub mod among;
 pub mod choose;
 pub mod class_list;
 mod class_lists;
-pub mod faults;
 mod final_keys;
-mod finals;
+pub mod finals;
 mod hashed_keys;
 pub mod hierarchy;
 pub mod ids;
 pub mod index;
-pub mod laws;
 pub mod members;
 pub mod mentioned;
 pub mod modules;
@@ -23,19 +22,15 @@ mod named_classes;
 pub mod names;
 mod order;
 pub mod overlap;
-mod overriding;
 pub mod own;
 pub mod packages;
 mod part;
 mod parts;
 pub mod plain;
-pub mod platform;
 mod platform_list;
 mod reach;
 pub mod root;
-pub mod search;
 pub mod shared_platform;
 pub mod side;
-mod side_finals;
-mod supers;
-pub mod supertypes;
+pub mod side_finals;
+pub mod supers;

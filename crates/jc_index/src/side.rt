@@ -208,14 +208,14 @@ impl Side {
     }
 
     /// Whether the classes of these names are in one module.
-    pub(crate) fn in_one_module(&self, one: &[u8], other: &[u8]) -> bool
+    pub fn in_one_module(&self, one: &[u8], other: &[u8]) -> bool
         ensures { result ≡ in_same_module self.now one.now other.now }
     {
         is_same(self.module_named(one), self.module_named(other))
     }
 
     /// Whether the module of the first may name the second, where that is public (JVMS 5.4.4).
-    pub(crate) fn is_visible_from(&self, from: &[u8], name: &[u8]) -> bool
+    pub fn is_visible_from(&self, from: &[u8], name: &[u8]) -> bool
         ensures { result ≡ is_visible_from self.now from.now name.now }
     {
         self.modules

@@ -1,4 +1,4 @@
-//! Keys of final methods of a side.
+//! Keys of final instance methods of a side.
 ghost use Rattle.std.specs.Prelude.{◌≡◌, ◌++◌, false};
 ghost use Rattle.jc_facts.specs.declared.key.Key.{Key as KeyOf};
 ghost use Rattle.jc_facts.specs.file.Valid.{has_key};
@@ -7,10 +7,10 @@ use crate::final_keys::FinalKeys;
 use jc_facts::key::Key;
 use std::marker::Model;
 
-/// The keys that were collected of the platform alone, and those that were collected of a side beside
-/// them. A contract sees them as one list.
+/// Keys of final instance methods: those that were collected of the platform alone, and those that were
+/// collected of a side beside them. A contract sees them as one list.
 #[derive(Drop)]
-pub(crate) struct SideFinals<'a> {
+pub struct SideFinals<'a> {
     platform: &'a FinalKeys,
     beside: FinalKeys,
 }
@@ -25,8 +25,8 @@ impl<'a> Model for SideFinals<'a> {
 }
 
 impl<'a> SideFinals<'a> {
-    /// These keys, of which those of the platform aren't copied.
-    pub fn new(platform: &'a FinalKeys, beside: FinalKeys) -> SideFinals<'a>
+    // These keys, of which those of the platform aren't copied.
+    pub(crate) fn new(platform: &'a FinalKeys, beside: FinalKeys) -> SideFinals<'a>
         ensures { result ≡ platform.now ++ beside }
     {
         SideFinals { platform, beside }

@@ -6,7 +6,7 @@ use jc_base::name::Name;
 use jc_facts::class_facts::ClassFacts;
 
 /// How many names the class has above itself: its superclass and its interfaces.
-pub(crate) fn super_count(class: &ClassFacts) -> usize
+pub fn super_count(class: &ClassFacts) -> usize
     ensures { result ≡ length (supers class.now) }
 {
     let interfaces = class.interfaces.as_slice().len();
@@ -17,7 +17,7 @@ pub(crate) fn super_count(class: &ClassFacts) -> usize
 }
 
 /// One of these names, the superclass first.
-pub(crate) fn super_at(class: &ClassFacts, at: usize) -> &Name
+pub fn super_at(class: &ClassFacts, at: usize) -> &Name
     requires { at < length (supers class.now) }
     ensures { slice_get (supers class.now) at ≡ Some result.now }
 {

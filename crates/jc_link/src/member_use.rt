@@ -19,8 +19,8 @@ use jc_facts::act::Act;
 use jc_facts::client::Place;
 use jc_facts::flags::is_final;
 use jc_facts::link_error::LinkError;
+use jc_table::among::is_among;
 use jc_table::ids::{ClassId, Found};
-use jc_table::supertypes::is_among;
 use jc_table::table::Table;
 
 // Whether the place is the initializer in which the act may write a final field of its own class: an

@@ -7,8 +7,8 @@ ghost use Rattle.jc_load.specs.Extending.{permits_name, lets_name_extend, is_ext
 use jc_base::name::Name;
 use jc_facts::class_facts::ClassFacts;
 use jc_facts::flags::{is_final, is_public};
+use jc_table::among::is_among;
 use jc_table::ids::ClassId;
-use jc_table::supertypes::is_among;
 use jc_table::table::Table;
 
 // Whether the class has no permitted names, or is in the module of the clients and has this one among

@@ -33,7 +33,7 @@ use Rattle.jc_facts.proofs.Exactly.{OfNames, grown_start, grown_more, grown_all}
 use Rattle.jc_facts.proofs.InOrder.{exact_given}
 use Rattle.jc_facts.proofs.Options.{some_where-is}
 use Rattle.jc_facts.specs.Options.{some_where}
-use Rattle.jc_index.proofs.Entering.{absent}
+use Rattle.jc_loading.proofs.Entering.{absent}
 use Rattle.jc_index.proofs.Numbers.{find-None, id_of-Some, names-in, names-length, names-rise, number_of}
 use Rattle.jc_lemmas.proofs.Listed.{here, there, none, cases, each_from, any_passes}
 use Rattle.jc_select.proofs.Rising.{numbers-rise}

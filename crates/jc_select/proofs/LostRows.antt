@@ -23,7 +23,7 @@ use Rattle.jc_facts.specs.world.Hierarchy.{superinterfaces, is_superinterface}
 use Rattle.jc_facts.specs.world.Loading.{load_fault, loads}
 use Rattle.jc_facts.specs.world.World.{World, size}
 use Rattle.jc_facts.proofs.Same.{same_is}
-use Rattle.jc_index.proofs.Entering.{absent}
+use Rattle.jc_loading.proofs.Entering.{absent}
 use Rattle.jc_index.proofs.Numbers.{find-None, id_of-Some}
 use Rattle.jc_index.proofs.Strictly.{above_good, no_circle}
 use Rattle.jc_lemmas.proofs.Listed.{filter-each}

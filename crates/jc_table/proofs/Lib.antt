@@ -12,4 +12,4 @@ pub use Rattle.jc_index.proofs.Reached
 pub use Rattle.jc_index.proofs.Overlaps
 pub use Rattle.jc_index.proofs.NameSets
 pub use Rattle.jc_index.proofs.Keeps
-pub use Rattle.jc_index.proofs.Entering
+pub use Rattle.jc_loading.proofs.Entering

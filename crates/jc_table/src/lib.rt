@@ -6,5 +6,6 @@ pub mod keys;
 pub mod naming;
 pub mod table;
 
-pub use jc_index::{ids, members, name_set, packages, plain, platform, root, search, supertypes};
+pub use jc_index::{among, ids, members, name_set, packages, plain, root};
+pub use jc_loading::{platform, search};
 pub use jc_rows::row;

@@ -1,5 +1,5 @@
 -- Walks up the superclasses of a class, by numbers, and the keys of the final methods that they may meet.
-use Rattle.std.specs.Prelude.{ℕ, ◌≡◌, ◌<◌, Bool, true, false, cond, not, List, [], ◌∷◌, ◌++◌, length, map, filter, set, slice_index_or, Option, None, Some, is_some, ◌&&◌}
+use Rattle.std.specs.Prelude.{ℕ, ◌≡◌, ◌<◌, Bool, true, false, cond, not, List, [], length, map, filter, set, slice_index_or, Option, None, Some, is_some, ◌&&◌}
 use Rattle.jc_facts.specs.declared.class_facts.ClassFacts.{ClassFacts}
 use Rattle.jc_facts.specs.declared.class_facts.Member.{Member}
 use Rattle.jc_facts.specs.declared.key.Key.{Key}
@@ -7,21 +7,15 @@ use Rattle.jc_facts.specs.Names.{Bytes, key_of}
 use Rattle.jc_facts.specs.Flags.{final_flag, no_static_flag}
 use Rattle.jc_facts.specs.Options.{and_then, some_and, some_where}
 use Rattle.jc_facts.specs.file.Valid.{has_key}
-use Rattle.jc_facts.specs.world.World.{World, DeclaredMember, class_named, find_class, own_method_of}
+use Rattle.jc_facts.specs.world.World.{World, class_named, find_class, own_method_of}
 use Rattle.jc_facts.specs.world.Search.{descend}
 use Rattle.jc_facts.specs.world.Hierarchy.{chain_step}
-use Rattle.jc_facts.specs.world.Overriding.{is_overridden_by_any}
 use Rattle.jc_index.specs.Ids.{name_at, superclass_of}
 
 -- the class of this number and those above it, at most n of them
 unfoldable pub chain_from : World → ℕ → Option ℕ → List ClassFacts
 chain_from W n None = []
 chain_from W n (Some id) = descend W [] [] chain_step n (name_at W id)
-
--- the methods below, and behind them this one where one of them overrides it
-abbrev pub linked_last : List DeclaredMember → Option DeclaredMember → List DeclaredMember
-linked_last below None = below
-linked_last below (Some a) = cond (is_overridden_by_any below a) (below ++ a ∷ []) below
 
 -- a final instance method
 abbrev pub is_final_instance : Member → Bool

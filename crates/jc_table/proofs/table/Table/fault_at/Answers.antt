@@ -2,7 +2,7 @@ use Rattle.std.proofs.Common.{◌<◌, sym, ◌∙◌, ap, subst, arith}
 use Rattle.jc_facts.specs.world.World.{World, size}
 use Rattle.jc_facts.specs.world.Loading.{load_fault}
 use Rattle.jc_index.specs.Ids.{name_at}
-use Rattle.jc_index.proofs.Turns.{faults-length, faults-at}
+use Rattle.jc_loading.proofs.Turns.{faults-length, faults-at}
 use Rattle.jc_table.proofs.table.Table.fault_at.Goals as goal
 
 pub index-requires : goal.index-requires

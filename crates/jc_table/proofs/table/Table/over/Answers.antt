@@ -1,7 +1,7 @@
 use Rattle.std.proofs.Common.{List, sym, ◌∙◌, ap, subst}
 use Rattle.jc_facts.specs.declared.class_facts.ClassFacts.{ClassFacts}
 use Rattle.jc_facts.specs.world.World.{World, side}
-use Rattle.jc_index.specs.LoadOrder.{AreLoads}
+use Rattle.jc_loading.specs.PlatformLoads.{AreLoads}
 use Rattle.jc_index.specs.Root.{fault_of_root}
 use Rattle.jc_index.specs.Sides.{IsSide, overlap_of}
 use Rattle.jc_index.proofs.Roots.{is_side}

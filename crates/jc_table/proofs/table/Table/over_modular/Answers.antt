@@ -6,7 +6,7 @@ use Rattle.jc_facts.specs.declared.class_facts.ClassFacts.{ClassFacts}
 use Rattle.jc_facts.specs.Names.{Bytes}
 use Rattle.jc_facts.specs.world.World.{differ_by_name, World, class_named, modular_side, with_clients}
 use Rattle.jc_worlds.proofs.Absent.{class_named-absent}
-use Rattle.jc_index.specs.LoadOrder.{AreLoads}
+use Rattle.jc_loading.specs.PlatformLoads.{AreLoads}
 use Rattle.jc_index.specs.Root.{fault_of_root}
 use Rattle.jc_index.specs.Sides.{IsSide, overlap_of}
 use Rattle.jc_index.proofs.Roots.{is_side_with}

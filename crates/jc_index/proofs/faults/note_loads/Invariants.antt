@@ -1,6 +1,0 @@
-use Rattle.std.proofs.Common.{take}
-use Rattle.jc_index.specs.steps.Entering.{AllLoad}
-use Rattle.jc_index.proofs.faults.note_loads.Given as goal
-
-abbrev pub invariant-loop-id : goal.invariant-loop-id
-invariant-loop-id l = AllLoad l.initial.states (take l.id-index l.ids) l.states

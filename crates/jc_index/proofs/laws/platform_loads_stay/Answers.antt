@@ -1,5 +1,0 @@
-use Rattle.jc_index.proofs.Loads.{still-loads}
-use Rattle.jc_index.proofs.laws.platform_loads_stay.Goals as goal
-
-pub returns : goal.returns
-returns c = still-loads

@@ -1,5 +1,0 @@
-use Rattle.std.proofs.Common.{◌∙◌, refl}
-use Rattle.jc_index.proofs.supertypes.interface_error.Goals as goal
-
-pub returns : goal.returns
-returns c = c.supertype_error.ensures ∙ rw (c.is_accessible.ensures, c.is_no_interface.ensures) refl

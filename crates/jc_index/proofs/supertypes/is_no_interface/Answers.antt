@@ -1,5 +1,0 @@
-use Rattle.std.proofs.Common.{arith}
-use Rattle.jc_index.proofs.supertypes.is_no_interface.Goals as goal
-
-pub returns-else-not-is_interface : goal.returns-else-not-is_interface
-returns-else-not-is_interface c = grind (arith, c.is_sealed_to.ensures)

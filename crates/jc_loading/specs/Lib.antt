@@ -1,0 +1,3 @@
+pub mod PlatformLoads
+pub mod PlatformFields
+pub mod steps
