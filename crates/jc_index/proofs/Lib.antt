@@ -23,7 +23,6 @@ pub mod Walks
 pub mod Choices
 pub mod Strictly
 pub mod Picked
-pub mod Undeclared
 pub mod NumberedNames
 pub mod Standing
 pub mod Merged
