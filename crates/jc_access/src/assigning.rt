@@ -1,8 +1,8 @@
 //! Assignment of types (JVMS 4.10.1.2).
 ghost use Rattle.std.specs.Prelude.{◌≡◌};
-ghost use Rattle.jc_desc.specs.Views.{basic, type_view};
+ghost use Rattle.jc_desc.specs.Views.{basic};
 ghost use Rattle.jc_facts.specs.world.Assignment.{is_class_assignable, is_element_assignable, assign_to, takes_any_array, is_assignable};
-ghost use Rattle.jc_facts.specs.world.Types.{Class, element_of, array_type, type_read, is_array_text};
+ghost use Rattle.jc_facts.specs.world.Types.{Class, element_of, type_read, is_array_text};
 ghost use Rattle.jc_access.specs.TypeTexts.{element_view, text_view};
 
 use jc_base::name::Name;

@@ -11,7 +11,6 @@ ghost use Rattle.jc_promises.specs.rule.OpenActs.{first_seat};
 ghost use Rattle.jc_facts.specs.world.World.{size};
 ghost use Rattle.jc_sides.specs.SharedOf.{IsShared, name_of};
 ghost use Rattle.jc_table.specs.Ids.{name_at};
-ghost use Rattle.jc_table.specs.Sides.{IsSide};
 
 use crate::exposing::exposing_rows;
 use crate::exposure::Exposure;

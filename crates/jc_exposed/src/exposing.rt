@@ -1,5 +1,5 @@
 //! Finding the members that expose classes.
-ghost use Rattle.std.specs.Prelude.{◌≡◌, ◌<◌, ◌==◌, ◌&&◌, ◌||◌, None, [], IfOk, IsTrue, not};
+ghost use Rattle.std.specs.Prelude.{◌≡◌, ◌<◌, ◌==◌, ◌&&◌, ◌||◌, None, [], IfOk};
 ghost use Rattle.std.specs.List.{All, cons_option, list_any};
 ghost use Rattle.jc_facts.specs.client.Forms.{form_view};
 ghost use Rattle.jc_facts.specs.client.Acts.{MethodForm, InterfaceForm};

@@ -1,5 +1,5 @@
 //! Keys of members, each with a class that its descriptor names.
-ghost use Rattle.std.specs.Prelude.{◌≡◌, ◌==◌, ◌&&◌, IfOk};
+ghost use Rattle.std.specs.Prelude.{◌==◌, ◌&&◌, IfOk};
 ghost use Rattle.std.specs.List.{list_any};
 ghost use Rattle.jc_facts.specs.Names.{key_of};
 ghost use Rattle.jc_exposed.specs.Exposing.{every};

@@ -1,5 +1,5 @@
 //! The keys of members that name wanted classes, by the class that declares them.
-ghost use Rattle.std.specs.Prelude.{◌≡◌, ◌<◌, ◌&&◌, IfOk, Some, [], length, slice_index_or};
+ghost use Rattle.std.specs.Prelude.{◌≡◌, ◌<◌, ◌&&◌, IfOk, Some, [], length};
 ghost use Rattle.std.specs.List.{list_any};
 ghost use Rattle.jc_acts.specs.Touched.{flag_at};
 ghost use Rattle.jc_desc.specs.Classes.{descriptor_names};

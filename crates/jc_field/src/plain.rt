@@ -1,7 +1,7 @@
 //! A plain program for the lookup of fields: a search by the definition, level by level (JVMS 5.4.3.2).
 //!
 //! It looks at an interface again for each way that leads to it, so it is for small sides alone.
-ghost use Rattle.std.specs.Prelude.{◌≡◌, ◌<◌};
+ghost use Rattle.std.specs.Prelude.{◌<◌};
 ghost use Rattle.jc_facts.specs.world.World.{size};
 ghost use Rattle.jc_facts.specs.world.Lookup.{field_found};
 ghost use Rattle.jc_table.specs.Ids.{name_at};

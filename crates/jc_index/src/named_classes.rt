@@ -1,14 +1,10 @@
 //! Classes in byte order of their names.
-ghost use Rattle.std.specs.Prelude.{◌≡◌, ◌≤◌, ◌<◌, ◌+◌, ◌++◌, List, ℕ, Some, None, is_some, take, drop, length, slice_get, IfOk, IfSome, IsTrue};
-ghost use Rattle.std.specs.List.{All};
+ghost use Rattle.std.specs.Prelude.{◌≡◌, ◌<◌, Some, None, is_some, drop, length, slice_get, IfOk, IfSome};
 ghost use Rattle.jc_facts.specs.declared.class_facts.ClassFacts.{ClassFacts as FactsOf};
-ghost use Rattle.jc_facts.specs.Names.{Bytes};
-ghost use Rattle.jc_facts.specs.file.Valid.{IsValidClass};
-ghost use Rattle.jc_facts.specs.world.World.{differ_by_name, World, side, classes, size, find_class, class_named};
-ghost use Rattle.jc_facts.specs.world.Root.{HasRoot};
+ghost use Rattle.jc_facts.specs.world.World.{World, side, classes, size, find_class, class_named};
 ghost use Rattle.jc_facts.specs.world.Modules.{module_of};
 ghost use Rattle.jc_facts.specs.world.Search.{supers};
-ghost use Rattle.jc_index.specs.Ids.{names, names_of, name_at, id_of, superclass_of, name_in};
+ghost use Rattle.jc_index.specs.Ids.{name_at, id_of, superclass_of, name_in};
 ghost use Rattle.jc_index.specs.SideModules.{module_view};
 ghost use Rattle.jc_index.specs.Sides.{IsSide};
 

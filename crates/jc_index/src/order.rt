@@ -13,7 +13,6 @@ ghost use Rattle.jc_index.specs.steps.Order.{IsOrder, IsPlace, AreNumbers, names
 use crate::side::Side;
 use jc_facts::class_facts::ClassFacts;
 use std::alloc::{AllocError, Global};
-use std::cmp::Ordering;
 use std::marker::Model;
 
 // A class's name, and its place among the classes.

@@ -1,7 +1,6 @@
 //! Methods that a class itself declares (JVMS 4.6).
 ghost use Rattle.std.specs.Prelude.{◌≡◌, ◌<◌};
 ghost use Rattle.jc_facts.specs.world.World.{size};
-ghost use Rattle.jc_index.specs.Ids.{name_at};
 ghost use Rattle.jc_index.specs.steps.Choosing.{own_at, candidate_at};
 
 use crate::hierarchy::Hierarchy;

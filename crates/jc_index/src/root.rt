@@ -1,8 +1,5 @@
 //! What a platform's `java/lang/Object` has to be.
 ghost use Rattle.std.specs.Prelude.{◌≡◌};
-ghost use Rattle.std.specs.Option.{option_copied};
-ghost use Rattle.jc_facts.specs.Names.{object_name};
-ghost use Rattle.jc_facts.specs.world.World.{class_named};
 ghost use Rattle.jc_index.specs.Root.{flags_are_wrong, declares_public_init, faulty_part, fault_of_root};
 
 use crate::plain::named;

@@ -1,5 +1,5 @@
 //! The making of objects (JVMS 2.9.1, 6.5).
-ghost use Rattle.std.specs.Prelude.{◌≡◌, ◌<◌, None, IsTrue};
+ghost use Rattle.std.specs.Prelude.{◌≡◌, ◌<◌, None};
 ghost use Rattle.jc_facts.specs.declared.client.Item.TheVariants as items;
 ghost use Rattle.jc_facts.specs.world.Loading.{load_fault};
 ghost use Rattle.jc_facts.specs.client.Outcome.{outcome};

@@ -1,22 +1,21 @@
 //! The load faults of all classes, and an order in which those that load can be loaded, in one pass
 //! (JVMS 5.3.5).
-ghost use Rattle.std.specs.Prelude.{◌≡◌, ℕ, ◌+◌, ◌<◌, List, [], cond, length, map, slice_get, vec_len, false, IfOk, IfSome, Some, None};
+ghost use Rattle.std.specs.Prelude.{◌≡◌, ℕ, ◌<◌, List, [], length, map, slice_get, false, IfOk, IfSome, Some, None};
 ghost use Rattle.std.specs.List.{All, Contains};
 ghost use Rattle.jc_facts.specs.Names.{Bytes};
 ghost use Rattle.jc_facts.specs.Options.{and_then};
 ghost use Rattle.jc_facts.specs.world.Loading.{load_fault, fault_of_itself};
 ghost use Rattle.jc_facts.specs.world.Search.{supers};
-ghost use Rattle.jc_facts.specs.world.World.{World, size, find_class};
+ghost use Rattle.jc_facts.specs.world.World.{size, find_class};
 ghost use Rattle.jc_index.specs.Ids.{name_at, names, id_of};
 ghost use Rattle.jc_index.specs.steps.Walking.{HaveAllFinal};
-ghost use Rattle.jc_loading.specs.steps.Entering.{state_of, is_on, is_known, is_entered, is_fresh, work, bottom, Says, Goes, Leads, IsSettled, IsUnderWay, AreRight, AllHave, AllLoad, Turns, LoadsBefore};
+ghost use Rattle.jc_loading.specs.steps.Entering.{state_of, is_known, work, bottom, Says, Goes, Leads, IsSettled, IsUnderWay, AreRight, AllHave, AllLoad, Turns, LoadsBefore};
 ghost use Rattle.jc_index.specs.LoadOrder.{AreInLoadOrder, IsLoadOrder};
 ghost use Rattle.jc_loading.specs.PlatformLoads.{AreLoads};
 ghost use Rattle.jc_loading.specs.steps.Passing.{Passes, ArePassed, AllPassed, GoesPast, ArePassedOnWay, Orders, Grows, Orderly};
 
 use crate::overriding::overrides_final;
 use crate::supertypes::{own_interfaces_fault, own_superclass_fault};
-use jc_base::name::Name;
 use jc_facts::class_facts::ClassFacts;
 use jc_facts::flags::is_interface;
 use jc_facts::link_error::LinkError;
@@ -24,7 +23,7 @@ use jc_index::finals::final_keys;
 use jc_index::ids::ClassId;
 use jc_index::index::Index;
 use jc_index::side_finals::SideFinals;
-use jc_index::supers::{super_at, super_count};
+use jc_index::supers::super_count;
 use std::alloc::{AllocError, Global};
 
 // What is known of a class.

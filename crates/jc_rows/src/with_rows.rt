@@ -2,8 +2,7 @@
 ghost use Rattle.std.specs.Prelude.{◌≡◌, ◌<◌, ◌||◌, length, map, IfOk, IfSome};
 ghost use Rattle.std.specs.List.{All, list_any};
 ghost use Rattle.jc_facts.specs.world.World.{size};
-ghost use Rattle.jc_index.specs.Ids.{name_at, names, superclass_of};
-ghost use Rattle.jc_index.specs.Interfaces.{interfaces_of};
+ghost use Rattle.jc_index.specs.Ids.{names};
 ghost use Rattle.jc_index.specs.LoadOrder.{IsLoadOrder};
 ghost use Rattle.jc_rows.specs.WithRows.{stands_on_release, has_rows};
 ghost use Rattle.jc_rows.specs.steps.Marking.{AreUnmarked, numbers_above, marked_at, stands_by, with_mark, with_marks, marks_from};

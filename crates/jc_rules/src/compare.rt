@@ -1,5 +1,5 @@
 //! The comparison of two sides.
-ghost use Rattle.std.specs.Prelude.{◌≡◌, IfOk, IfSome, option_map};
+ghost use Rattle.std.specs.Prelude.{IfOk, IfSome, option_map};
 ghost use Rattle.jc_acts.specs.Seats.{AreSeats};
 ghost use Rattle.jc_promises.specs.rule.Collisions.{CollisionStands};
 ghost use Rattle.jc_promises.specs.rule.Findings.{Stands};

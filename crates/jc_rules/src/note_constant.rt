@@ -1,7 +1,6 @@
 //! Notes on constants.
 ghost use Rattle.std.specs.Prelude.{◌≡◌, ◌<◌, ◌&&◌, is_some, option_map, IfOk, IsTrue};
 ghost use Rattle.std.specs.BTreeMap.{keys};
-ghost use Rattle.std.specs.List.{filter_map};
 ghost use Rattle.jc_facts.specs.Exactly.{HasExactly};
 ghost use Rattle.jc_facts.specs.Options.{some_and};
 ghost use Rattle.jc_promises.specs.rule.Bases.{is_kept};

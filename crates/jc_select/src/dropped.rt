@@ -1,6 +1,6 @@
 //! The interfaces that classes no longer have above them, after an old release.
 ghost use Rattle.std.specs.Prelude.{◌≡◌, ◌<◌, IfOk, IfSome, IsTrue, option_map};
-ghost use Rattle.std.specs.List.{All, list_any};
+ghost use Rattle.std.specs.List.{list_any};
 ghost use Rattle.jc_acts.specs.Seats.{AreSeats};
 ghost use Rattle.jc_acts.specs.Touched.{flag_at};
 ghost use Rattle.jc_dropped.specs.Dropped.{AreDropped, IsDropped, dropped_order, loses_interface};

@@ -4,9 +4,7 @@ ghost use Rattle.std.specs.List.{All, filter};
 ghost use Rattle.jc_acts.specs.Seats.{AreSeats};
 ghost use Rattle.jc_acts.specs.Touched.{flag_at};
 ghost use Rattle.jc_exposed.specs.Exposed.{AreExposed, AreWanted};
-ghost use Rattle.jc_dropped.specs.Dropped.{is_exposed_to_some};
 ghost use Rattle.jc_promises.specs.rule.Bases.{is_kept, is_steady};
-ghost use Rattle.jc_promises.specs.rule.Exposed.{is_hidden};
 ghost use Rattle.jc_facts.specs.world.Loading.{loads};
 ghost use Rattle.jc_facts.specs.world.World.{size};
 ghost use Rattle.jc_select.specs.steps.Losing.{AreLost, AreMarks, AreNumbersOf, AreRowsOf, has_left, hidden_of, is_asked, is_found, lost_at, loses};
@@ -20,7 +18,6 @@ use jc_sides::clients::is_steady;
 use jc_sides::kept::{is_hidden_class, kept};
 use jc_sides::sides::Sides;
 use jc_table::ids::ClassId;
-use jc_table::table::Table;
 use std::alloc::{AllocError, Global};
 
 /// What classes have lost, whether clients can hold values of them or not.

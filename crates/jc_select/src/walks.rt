@@ -1,5 +1,5 @@
 //! All keys of methods that classes declare, where hierarchies changed.
-ghost use Rattle.std.specs.Prelude.{◌≡◌, ◌<◌, true, IfSome, OnOk};
+ghost use Rattle.std.specs.Prelude.{◌<◌, true, IfSome, OnOk};
 ghost use Rattle.std.specs.List.{All};
 ghost use Rattle.jc_facts.specs.world.World.{size};
 ghost use Rattle.jc_select.specs.steps.Changes.{HasNone, HaveNone, HasNoMore};

@@ -1,5 +1,5 @@
 //! What is warned of on a base: what its chain and the interfaces above it give to be selected.
-ghost use Rattle.std.specs.Prelude.{◌≡◌, ◌&&◌, Bool, IfOk, IsTrue, None};
+ghost use Rattle.std.specs.Prelude.{◌≡◌, Bool, IfOk, IsTrue, None};
 ghost use Rattle.std.specs.List.{filter_map};
 ghost use Rattle.jc_acts.specs.Seats.{AreSeats};
 ghost use Rattle.jc_select.specs.steps.Warned.{parts_differ, warned, warning_of};

@@ -1,5 +1,5 @@
 //! The warnings on a new release, after an old one.
-ghost use Rattle.std.specs.Prelude.{◌≡◌, IfOk, IfSome, option_map};
+ghost use Rattle.std.specs.Prelude.{IfOk, IfSome, option_map};
 ghost use Rattle.jc_acts.specs.Seats.{AreSeats};
 ghost use Rattle.jc_promises.specs.Pairs.{AreOfOneRun};
 ghost use Rattle.jc_promises.specs.rule.Warnings.{AreWarnings, WarningStands, is_base, warning_order};

@@ -1,7 +1,7 @@
 //! Type parameters in front of bytes (JVMS 4.7.9.1).
 ghost use Rattle.std.specs.Prelude.{◌≡◌, IfOk, length, drop};
 ghost use Rattle.std.specs.Option.{option_map};
-ghost use Rattle.jc_sig.specs.Reading.{behind, name_len, reference_from, top_from, not_before_colon, begins_bound, class_bound_from, bounds_from, parameter_from, parameters_from, type_parameters_from};
+ghost use Rattle.jc_sig.specs.Reading.{behind, name_len, not_before_colon, begins_bound, class_bound_from, bounds_from, parameter_from, parameters_from, type_parameters_from};
 ghost use Rattle.jc_sig.specs.Views.{type_view, types_view, parameter_view, parameters_view};
 
 use crate::bytes::{after, identifier_before, identifier_len};

@@ -2,9 +2,7 @@
 ghost use Rattle.std.specs.Prelude.{◌≡◌, Some, None, cond, Option, IfOk, OnOk, option_map};
 ghost use Rattle.std.specs.BTreeMap as tree;
 ghost use Rattle.std.specs.Option.{option_eq};
-ghost use Rattle.jc_facts.specs.declared.class_facts.Signed.{Signed as SignedView};
 ghost use Rattle.jc_facts.specs.declared.key.Key.{Key as KeyView};
-ghost use Rattle.jc_facts.specs.KeyOrder.{key_cmp};
 ghost use Rattle.jc_facts.specs.Names.{same_key};
 ghost use Rattle.jc_sig.specs.Notes.{signature_at};
 ghost use Rattle.jc_sig.specs.steps.OnRecords.{HasSignatures, HasMembers, signed_in, text_in};

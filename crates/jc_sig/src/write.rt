@@ -1,11 +1,11 @@
 //! Writing signatures (JVMS 4.7.9.1). What puts a part of a signature adds its text to bytes, and parts
 //! of valid signatures are the same exactly where these texts are.
-ghost use Rattle.std.specs.Prelude.{◌≡◌, ◌++◌, ◌∷◌, [], IfOk, OnOk};
+ghost use Rattle.std.specs.Prelude.{◌≡◌, ◌++◌, [], IfOk, OnOk};
 ghost use Rattle.std.specs.Option.{option_map};
-ghost use Rattle.jc_sig.specs.Trees.{package_text, type_text, class_text, parts_text, part_text, arguments_text, list_text, argument_text, types_text, classes_text, bound_text, bounds_text, parameter_text, parameters_text, type_parameters_text, result_text, throws_text, class_sig_text, method_sig_text};
+ghost use Rattle.jc_sig.specs.Trees.{package_text, type_text, class_text, part_text, argument_text, types_text, classes_text, bound_text, bounds_text, parameter_text, parameters_text, type_parameters_text, result_text, throws_text, class_sig_text, method_sig_text};
 ghost use Rattle.jc_sig.specs.steps.Dots.{dot};
 ghost use Rattle.jc_sig.specs.Grammar.{IsClassSig, IsMethodSig, IsFieldSig};
-ghost use Rattle.jc_sig.specs.Views.{type_view, class_view, part_view, argument_view, parts_view, arguments_view, types_view, classes_view, parameter_view, parameters_view, class_sig_view, method_sig_view};
+ghost use Rattle.jc_sig.specs.Views.{type_view, class_view, part_view, argument_view, types_view, classes_view, parameter_view, parameters_view, class_sig_view, method_sig_view};
 
 use crate::tree::{Argument, ClassSig, ClassType, MethodSig, Parameter, Part, TypeSig};
 use jc_base::name::Name;
