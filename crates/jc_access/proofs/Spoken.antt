@@ -35,7 +35,7 @@ use Rattle.jc_index.specs.declared.ids.Found.{Found}
 use Rattle.jc_table.proofs.Numbers.{class_at}
 use Rattle.jc_access.specs.steps.Parts.{inside_at, client_at, asks_receiver}
 use Rattle.jc_access.specs.Speaking.{SpeaksForSeat}
-use Rattle.jc_access.proofs.Assigned.{chain-there}
+use Rattle.jc_worlds.proofs.Chains.{absent_above}
 
 module _ (W : World) (bare : W.clients ≡ []) (clients : List ClassFacts) (allowed : All (λ c. is_allowed_name W c.name ≡ true) clients) where
   each_allowed : EachOf (λ n. is_allowed_name W n ≡ true) (names clients)
@@ -87,7 +87,7 @@ module _ (W : World) (bare : W.clients ≡ []) (clients : List ClassFacts) (allo
   never_above t x c f i =
       sym (in_chain-agree W (with_clients W clients) (IsLibrary W clients bare) (sides W clients bare (unused_from_allowed W clients bare each_allowed)) grows t x
       (not_client t c f (class_named clients t) refl))
-      ∙ chain-there W t x (client_parts x i).absent
+      ∙ absent_above W t x (client_parts x i).absent
 
   member-client : (x a t : Bytes) (m : DeclaredMember) (o d : ClassFacts) → find_class W m.owner ≡ Some o → find_class W t ≡ Some d → is_client (with_clients W clients) x ≡ true → load_fault (with_clients W clients) x ≡ None
       → seat (with_clients W clients) x ≡ Some a → is_member_accessible (with_clients W clients) x t m ≡ is_member_open W a t m

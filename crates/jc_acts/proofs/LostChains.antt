@@ -5,11 +5,11 @@ use Rattle.std.proofs.lemmas.Bool.{and_parts}
 use Rattle.jc_facts.specs.declared.class_facts.ClassFacts.{ClassFacts}
 use Rattle.jc_facts.specs.Names.{Bytes, same}
 use Rattle.jc_facts.specs.world.World.{World, find_class, size}
-use Rattle.jc_facts.specs.world.Hierarchy.{chain, chain_step, in_chain, names_in}
+use Rattle.jc_facts.specs.world.Hierarchy.{chain, in_chain, names_in}
 use Rattle.jc_facts.specs.world.Loading.{load_fault, loads}
 use Rattle.jc_facts.proofs.Same.{same_itself}
 use Rattle.jc_lemmas.proofs.Bools.{not_true, and_true}
-use Rattle.jc_worlds.proofs.Descent.{descend-absent}
+use Rattle.jc_worlds.proofs.Chains.{none_above}
 use Rattle.jc_table.specs.Ids.{name_at}
 use Rattle.jc_table.proofs.Numbers.{is_none-None}
 use Rattle.jc_sides.specs.SidesOf.{SidesOf, AreSides}
@@ -17,11 +17,6 @@ use Rattle.jc_acts.specs.Seats.{loses_class, may_be_closed}
 use Rattle.jc_acts.specs.Touched.{left_chain_of, AreSet, flag_at}
 use Rattle.jc_acts.proofs.Untouched.{looks_alike}
 use Rattle.jc_acts.proofs.Upwards.{any-from, any-here}
-
--- nothing stands above a class that is absent
-pub none_above : (W : World) (x y : Bytes) → find_class W x ≡ None → in_chain W x y ≡ false
-unfolding chain
-none_above W x y a = ap (λ cs. names_in cs y) (descend-absent W [] [] chain_step (size W) x a)
 
 -- one that is absent on the new side lost itself
 pub gone_loses : (s : SidesOf) (id : ℕ) (c : ClassFacts) → id < size s.old → Some c ≡ find_class s.old (name_at s.old id) → find_class s.new (name_at s.old id) ≡ None → true ≡ loses_class s (name_at s.old id)

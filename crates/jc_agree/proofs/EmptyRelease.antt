@@ -22,7 +22,7 @@ use Rattle.jc_promises.specs.rule.Bases.{is_class_usable, is_steady, is_class_cl
 use Rattle.jc_facts.specs.world.Inheritance.{public_or_protected, declares_as_final, is_final_in_chain, offers, itself_and, inherits}
 use Rattle.jc_promises.specs.rule.Collisions.{collision_at, constant_added, capture_added, captures, leaves_room, final_added}
 use Rattle.jc_facts.specs.world.Lookup.{are_none, field_found, method_choices, or_choices, superinterface_choices, first_declared, interface_choices, public_method_of_object}
-use Rattle.jc_promises.specs.rule.Findings.{Subject, finding_at, finding_by, report, report_where, assign_finding, class_gone, class_closed, interface_became_class, superclass_lost, constructor_closed, new_broken, init_broken, new_error, init_error, init_of, had_init, missing_or, method_made_final, finds_overridable, field_closed, method_closed, interface_method_lost, act_finding, first_act}
+use Rattle.jc_promises.specs.rule.Findings.{Subject, finding_at, finding_by, report, assign_finding, class_gone, class_closed, interface_became_class, superclass_lost, constructor_closed, new_broken, init_broken, new_error, init_error, init_of, had_init, missing_or, method_made_final, finds_overridable, field_closed, method_closed, interface_method_lost, act_finding, first_act}
 use Rattle.jc_promises.specs.rule.OpenActs.{act_fault, where_open, closed_act, first_seat, field_acts, method_acts}
 use Rattle.jc_facts.specs.world.Access.{is_member_open}
 use Rattle.jc_facts.specs.ByName.{least}

@@ -1,5 +1,5 @@
 -- What a tree is read as doesn't depend on what it is called, so that two commands see one side.
-use Rattle.std.proofs.Common.{◌≡◌, Bool, List, [], ◌∷◌, map, subst}
+use Rattle.std.proofs.Common.{◌≡◌, Bool, List, [], map, subst}
 use Rattle.jc_base.specs.Outside.{FileOf}
 use Rattle.jc_facts.specs.declared.class_facts.ClassFacts.{ClassFacts}
 use Rattle.jc_facts.specs.Exactly.{by_names}
@@ -13,7 +13,7 @@ use Rattle.jc_trees.specs.declared.tree.TreeName.{TreeName}
 use Rattle.jc_trees.specs.declared.tree.TreeName.TheVariants as names
 use Rattle.jc_trees.specs.declared.tree_read.TreeRead.{TreeRead}
 use Rattle.jc_trees.specs.declared.tree_read.TreeRead.TheVariants as reads
-use Rattle.jc_trees.proofs.OneRead.{one_read, one_given}
+use Rattle.jc_trees.proofs.OneRead.{one_given}
 use Rattle.jc_commands.specs.Check.{CheckRecords}
 use Rattle.jc_commands.specs.Command.{CheckOf, LinkOf, release_tree}
 use Rattle.jc_commands.specs.Link.{LinkRecords, release_side}

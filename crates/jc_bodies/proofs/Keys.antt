@@ -15,7 +15,8 @@ use Rattle.jc_facts.specs.Names.{Bytes, is_key, key_of}
 use Rattle.jc_facts.specs.file.Rules.{field_descriptor_fits, method_descriptor_fits, slots_fit_in, field_flags_fit, method_flags_fit}
 use Rattle.jc_facts.specs.file.Valid.{IsValidClass, field_is_valid, method_is_valid}
 use Rattle.jc_facts.specs.world.World.{own_field_of, own_method_of}
-use Rattle.jc_worlds.proofs.Inherited.{found_passes, found_all}
+use Rattle.jc_worlds.proofs.Inherited.{found_all}
+use Rattle.jc_lemmas.proofs.Lists.{found_passes}
 use Rattle.jc_facts.proofs.KeySets.{key-same}
 
 -- the key of a method of a valid class

@@ -8,8 +8,8 @@ use Rattle.std.proofs.lemmas.List.Elements.{Contains-append_left, Contains-appen
 use Rattle.jc_facts.specs.declared.class_facts.ClassFacts.{ClassFacts}
 use Rattle.jc_facts.specs.declared.class_facts.Member.{Member}
 use Rattle.jc_facts.specs.declared.key.Key.{Key}
-use Rattle.jc_facts.specs.Names.{Bytes, same, is_key, key_of}
-use Rattle.jc_facts.specs.world.World.{World, class_named, classes, find_class, own_field_of, own_method_of, size}
+use Rattle.jc_facts.specs.Names.{Bytes, is_key, key_of}
+use Rattle.jc_facts.specs.world.World.{World, classes, find_class, own_field_of, own_method_of, size}
 use Rattle.jc_facts.specs.world.Search.{of_class, descend}
 use Rattle.jc_facts.specs.world.Hierarchy.{chain_step, of_super, chain, each, interfaces_step, with_interfaces, interfaces_of, superinterfaces}
 use Rattle.jc_lemmas.proofs.Listed.{EachOf, here, there, none, cases, each_of, EachOf-append}

@@ -53,7 +53,8 @@ use Rattle.jc_complete.proofs.PlanUser.{not_root, user_valid, user_overrides}
 use Rattle.jc_complete.proofs.PlanBase.{OwnName, own_is, own_other, letters_apart}
 use Rattle.jc_complete.proofs.PlanActs.{access_says}
 use Rattle.jc_complete.proofs.PlanInterfaceMethodLost.{same_back, IsBaseInterface}
-use Rattle.jc_worlds.proofs.Inherited.{found_all, found_passes}
+use Rattle.jc_worlds.proofs.Inherited.{found_all}
+use Rattle.jc_lemmas.proofs.Lists.{found_passes}
 use Rattle.jc_facts.specs.declared.act.Act.TheVariants.{GetField}
 use Rattle.jc_facts.specs.file.Rules.{field_descriptor_fits, field_flags_fit}
 use Rattle.jc_worlds.proofs.FieldActs.{field_found-declared}

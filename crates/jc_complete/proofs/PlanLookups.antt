@@ -23,7 +23,7 @@ use Rattle.jc_facts.specs.world.Inheritance.{offers}
 use Rattle.jc_lemmas.proofs.Listed.{EachOf}
 use Rattle.jc_facts.proofs.Same.{same_itself, same_is}
 use Rattle.jc_worlds.proofs.Clients.{Fits}
-use Rattle.jc_lemmas.proofs.Lists.{IsCons, cons_or}
+use Rattle.jc_lemmas.proofs.Lists.{IsCons, cons_or, found_passes}
 use Rattle.jc_worlds.proofs.Offers.{choices-some, declared_by-offers}
 use Rattle.jc_complete.proofs.PlanLoads.{lib_find, lib_fault}
 use Rattle.jc_desc.specs.Reading.{slots_of_method}
@@ -39,7 +39,7 @@ use Rattle.jc_complete.proofs.PlanBase.{IsConstructor}
 use Rattle.jc_complete.proofs.PlanBelow.{open_member}
 use Rattle.jc_complete.proofs.PlanMethodMadeFinal.{IsMethodText}
 use Rattle.jc_desc.specs.Names.{spells_member_name}
-use Rattle.jc_worlds.proofs.Inherited.{found_all, found_passes}
+use Rattle.jc_worlds.proofs.Inherited.{found_all}
 
 -- ---- a client below a class of the side calls its constructor
 

@@ -35,7 +35,8 @@ use Rattle.jc_lemmas.proofs.Bools.{neither_first, neither_last}
 use Rattle.jc_worlds.proofs.Clients.{Fits}
 use Rattle.jc_sound.proofs.FinalsKept.{direct-meets, none-direct, IsApart}
 use Rattle.jc_facts.proofs.KeySets.{key-same}
-use Rattle.jc_worlds.proofs.Inherited.{found_all, found_passes}
+use Rattle.jc_worlds.proofs.Inherited.{found_all}
+use Rattle.jc_lemmas.proofs.Lists.{found_passes}
 use Rattle.jc_worlds.proofs.Packages.{allowed_parts, same_package_apart}
 use Rattle.jc_complete.proofs.PlanGround.{Ready, letter}
 use Rattle.jc_complete.proofs.PlanValid.{init_valid}

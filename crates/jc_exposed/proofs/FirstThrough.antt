@@ -1,5 +1,5 @@
 -- The first act that exposes a class, found by the first class through which one does, and then by the least key.
-use Rattle.std.proofs.Common.{◌≡◌, ◌<◌, ◌≤◌, ◌+◌, ◌==◌, ◌⊎◌, inl, inr, ℕ, zero, suc, arith, Bool, true, false, cond, List, [], ◌∷◌, ◌++◌, length, get_or, take, drop, refl, sym, ◌∙◌, ap, subst, Option, Some, None, is_some, is_none, ◌||◌, ◌&&◌, Contains}
+use Rattle.std.proofs.Common.{◌≡◌, ◌<◌, ◌≤◌, ◌+◌, ◌==◌, ◌⊎◌, inl, inr, ℕ, zero, suc, arith, Bool, true, false, cond, List, [], ◌∷◌, ◌++◌, length, get_or, take, drop, refl, sym, ◌∙◌, ap, subst, Option, Some, None, is_some, ◌||◌, ◌&&◌, Contains}
 use Rattle.std.specs.List.{list_any, find as first_where}
 use Rattle.std.specs.declared.cmp.Ordering.{Ordering}
 use Rattle.std.specs.declared.cmp.Ordering.TheVariants.{Less, Equal, Greater}
@@ -17,21 +17,20 @@ use Rattle.jc_facts.specs.Exactly.{Before, NamesRise, Rises, name_order}
 use Rattle.jc_facts.specs.KeyOrder.{key_cmp, key_total}
 use Rattle.jc_facts.specs.Names.{Bytes, same, same_key}
 use Rattle.jc_facts.specs.Options.{some_and}
-use Rattle.jc_facts.specs.world.World.{differ_by_name, World, class_named, classes, find_class, size}
+use Rattle.jc_facts.specs.world.World.{World, class_named, classes, find_class, size}
 use Rattle.jc_promises.specs.rule.Bases.{is_class_usable, is_key_of_method}
 use Rattle.jc_promises.specs.rule.OpenActs.{field_acts, method_acts}
 use Rattle.jc_promises.specs.rule.Exposed.{earlier, exposes, exposing_act, first_by, keys_of, open_act}
-use Rattle.jc_facts.specs.world.Hierarchy.{chain, superinterfaces}
 use Rattle.jc_facts.specs.world.Loading.{load_fault}
 use Rattle.jc_promises.proofs.Exposed.{first_by-in}
 use Rattle.jc_promises.proofs.FirstExposed.{IsFirstHit, all_keys, exposing-by_loops, exposing-none, first_by-least}
 use Rattle.jc_facts.proofs.Mapped.{any-flat, in_flat, of_flat}
-use Rattle.jc_facts.proofs.Same.{same_is, same_itself}
-use Rattle.jc_facts.proofs.World.{IsOf, class_named-each, find-name}
+use Rattle.jc_facts.proofs.Same.{same_itself}
+use Rattle.jc_facts.proofs.World.{IsOf, class_named-each, each_named}
 use Rattle.jc_index.proofs.HashedKeys.{key_is}
 use Rattle.jc_index.proofs.Numbers.{IsClass, class_at, names-in, names-length, names-rise}
 use Rattle.jc_lemmas.proofs.Bools.{contradicts, or_false}
-use Rattle.jc_lemmas.proofs.Listed.{EachOf, EachOf-append, EachOf-both, Passes, any_has, any_passes, cases, each_from, each_in, each_of, here, none, there}
+use Rattle.jc_lemmas.proofs.Listed.{Passes, any_has, any_passes, cases, each_from, each_in, here, none, there}
 use Rattle.jc_lemmas.proofs.Lists.{any_weaker}
 use Rattle.jc_sound.proofs.ExposedAbove.{exposes_above, above-each}
 use Rattle.jc_sound.proofs.Itself.{same_pair}
@@ -40,7 +39,6 @@ use Rattle.jc_sound.specs.ExposedAbove.{keys_above}
 use Rattle.jc_table.specs.Ids.{name_at, names}
 use Rattle.jc_table.specs.Sides.{IsSide}
 use Rattle.jc_worlds.specs.Hierarchy.{above}
-use Rattle.jc_worlds.proofs.Above.{chain-each, superinterfaces-each}
 use Rattle.jc_exposed.specs.Exposing.{AreOwn, is_wanted, opens, opens_of, opens_usable, row_at}
 use Rattle.jc_exposed.specs.FirstAct.{Collects, IsFirstAt, has_open, has_open_at, is_act_open, names_open}
 use Rattle.jc_exposed.specs.declared.namings.Naming.{Naming}
@@ -48,28 +46,9 @@ use Rattle.jc_exposed.specs.declared.own.Own.{Own}
 
 -- ---- classes of a world
 
--- where no two classes have one name, each is the class of its name
-each_itself : (cs : List ClassFacts) → differ_by_name cs ≡ true → EachOf (λ c. class_named cs c.name ≡ Some c) cs
-unfolding differ_by_name class_named
-each_itself [] h = tt
-each_itself (c ∷ cs) h = (
-  ap (λ (b : Bool). cond b (Some c) (class_named cs c.name)) (same_itself c.name),
-  EachOf-both further cs (each_itself cs parts.1) (each_of (λ d. c ≡ c) (λ d. refl) cs),
-)
-  where
-    parts : (is_none (class_named cs c.name) ≡ true) × (differ_by_name cs ≡ true)
-    parts = and_parts (is_none (class_named cs c.name)) (differ_by_name cs) h
-
-    further : (d : ClassFacts) → class_named cs d.name ≡ Some d → c ≡ c → cond (same c.name d.name) (Some c) (class_named cs d.name) ≡ Some d
-    further d e u = go (same c.name d.name) refl
-      where
-        go : (b : Bool) → same c.name d.name ≡ b → cond b (Some c) (class_named cs d.name) ≡ Some d
-        go true s = absurd (let z : false ≡ true = sym (ap is_none (ap (class_named cs) (same_is c.name d.name s) ∙ e)) ∙ parts.0 in cc)
-        go false s = e
-
 is_itself : (W : World) → IsSide W → (c : ClassFacts) → Contains (classes W) c → find_class W c.name ≡ Some c
 unfolding find_class
-is_itself W s c i = each_in (λ d. class_named (classes W) d.name ≡ Some d) (classes W) c (each_itself (classes W) s.differ) i
+is_itself W s c i = each_in (λ d. class_named (classes W) d.name ≡ Some d) (classes W) c (each_named (classes W) s.differ) i
 
 found_in : (W : World) (x : Bytes) (c : ClassFacts) → find_class W x ≡ Some c → Contains (classes W) c
 unfolding find_class

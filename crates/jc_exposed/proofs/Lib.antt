@@ -2,7 +2,7 @@ mod OpenMembers
 mod MarkedLengths
 mod NamedClasses
 mod GivenNamings
-mod OwnNamings
+pub mod OwnNamings
 mod FoundMembers
 mod AboveFinds
 mod AddedRows

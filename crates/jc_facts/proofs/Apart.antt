@@ -76,7 +76,7 @@ abbrev pub ApartRec : {A : Type 0} → (A → Bytes) → List A → Type 0
 ApartRec name [] = Unit {0}
 ApartRec name (x ∷ xs) = EachOf (λ y. name x ≢ name y) xs × ApartRec name xs
 
-each_at : {A : Type 0} (P : A → Type 0) (xs : List A) (i : ℕ) (d : A) → i < length xs → EachOf P xs → P (get_or xs i d)
+pub each_at : {A : Type 0} (P : A → Type 0) (xs : List A) (i : ℕ) (d : A) → i < length xs → EachOf P xs → P (get_or xs i d)
 each_at P [] i d h e = absurd (omega arith)
 each_at P (x ∷ xs) zero d h e = e.0
 each_at P (x ∷ xs) (suc i) d h e = each_at P xs i d (omega arith) e.1

@@ -26,7 +26,7 @@ use Rattle.jc_facts.specs.file.Rules.{is_object_name, field_descriptor_fits, met
 use Rattle.jc_facts.specs.file.Valid.{IsValidClass, has_key, keys_differ, keys_of, value_is_valid, keys_of_statics, keys_of_constants, is_signature_owner, keys_in, is_valid_signature, keys_of_signatures, is_signature_of_class}
 use Rattle.jc_facts.specs.file.ClassParts.{ReadMember, members_of, fixed_of, constants_of, signed_of, signatures_of, record_from}
 use Rattle.jc_facts.specs.file.ClassGrammar.{AreItems, IsMemberAt, IsClassFile}
-use Rattle.jc_facts.proofs.Same.{same_is, same_itself, key_itself}
+use Rattle.jc_facts.proofs.Same.{same_is, key_itself}
 use Rattle.jc_facts.proofs.ReadValid.{class_name, class_names, superclass_fits, superclass_is, all_items, member_valid, members_are, permits_are, host_is, nest_members_are, signature_ok, signature_text, constant_ok, constant_text}
 use Rattle.jc_lemmas.proofs.Bools.{or_under}
 

@@ -1,12 +1,12 @@
 -- Finding a class by its name.
-use Rattle.std.proofs.Common.{◌≡◌, suc, Bool, true, false, cond, List, [], ◌∷◌, length, refl, sym, ◌∙◌, ap, subst, Some, ◌++◌, is_some, None, ◌||◌}
+use Rattle.std.proofs.Common.{◌≡◌, suc, Bool, true, false, cond, List, [], ◌∷◌, length, refl, sym, ◌∙◌, ap, subst, Some, ◌++◌, is_some, is_none, None, ◌||◌}
 use Rattle.jc_facts.specs.declared.class_facts.ClassFacts.{ClassFacts}
 use Rattle.jc_facts.specs.Names.{Bytes, same}
-use Rattle.jc_facts.specs.world.World.{World, class_named, find_class, size, classes}
-use Rattle.jc_lemmas.proofs.Listed.{EachOf}
-use Rattle.jc_facts.proofs.Same.{same_is}
+use Rattle.jc_facts.specs.world.World.{World, class_named, differ_by_name, find_class, size, classes}
+use Rattle.jc_lemmas.proofs.Listed.{EachOf, EachOf-both, each_of}
+use Rattle.jc_facts.proofs.Same.{same_is, same_itself}
 use Rattle.std.specs.List.{list_any}
-use Rattle.std.proofs.lemmas.Bool.{or_left, or_right}
+use Rattle.std.proofs.lemmas.Bool.{and_parts, or_left, or_right}
 
 abbrev pub names : List ClassFacts → List Bytes
 names [] = []
@@ -94,3 +94,22 @@ any-named p (d ∷ cs) x c e h = go (same d.name x) e (any-named p cs x c)
     go : (b : Bool) → cond b (Some d) (class_named cs x) ≡ Some c → (class_named cs x ≡ Some c → p c ≡ true → list_any p cs ≡ true) → (p d || list_any p cs) ≡ true
     go true q r = let k : d ≡ c = cc in or_left (p d) (list_any p cs) (ap p k ∙ h)
     go false q r = or_right (p d) (list_any p cs) (r q h)
+
+-- where no two classes have one name, each is the class of its name
+pub each_named : (cs : List ClassFacts) → differ_by_name cs ≡ true → EachOf (λ c. class_named cs c.name ≡ Some c) cs
+unfolding differ_by_name class_named
+each_named [] h = tt
+each_named (c ∷ cs) h = (
+  ap (λ (b : Bool). cond b (Some c) (class_named cs c.name)) (same_itself c.name),
+  EachOf-both further cs (each_named cs parts.1) (each_of (λ d. c ≡ c) (λ d. refl) cs),
+)
+  where
+    parts : (is_none (class_named cs c.name) ≡ true) × (differ_by_name cs ≡ true)
+    parts = and_parts (is_none (class_named cs c.name)) (differ_by_name cs) h
+
+    further : (d : ClassFacts) → class_named cs d.name ≡ Some d → c ≡ c → cond (same c.name d.name) (Some c) (class_named cs d.name) ≡ Some d
+    further d e u = go (same c.name d.name) refl
+      where
+        go : (b : Bool) → same c.name d.name ≡ b → cond b (Some c) (class_named cs d.name) ≡ Some d
+        go true s = absurd (let z : false ≡ true = sym (ap is_none (ap (class_named cs) (same_is c.name d.name s) ∙ e)) ∙ parts.0 in cc)
+        go false s = e

@@ -1,12 +1,15 @@
--- Walks up the superclasses of a class, by numbers.
-use Rattle.std.proofs.Common.{◌≡◌, ℕ, suc, ◌<◌, [], ◌∷◌, refl, sym, ◌∙◌, ap, Option, Some, None}
+-- Walks up the superclasses of a class, by numbers, and whether one of them declares a key as final.
+use Rattle.std.proofs.Common.{◌≡◌, ℕ, suc, ◌<◌, Bool, [], ◌∷◌, refl, sym, ◌∙◌, ap, Option, Some, None}
+use Rattle.std.specs.List.{list_any}
 use Rattle.std.specs.Prelude.{IfSome}
 use Rattle.jc_facts.specs.declared.class_facts.ClassFacts.{ClassFacts}
+use Rattle.jc_facts.specs.declared.key.Key.{Key}
 use Rattle.jc_facts.specs.Names.{Bytes}
 use Rattle.jc_facts.specs.Options.{and_then}
 use Rattle.jc_facts.specs.world.World.{World, find_class, size}
 use Rattle.jc_facts.specs.world.Search.{descend}
 use Rattle.jc_facts.specs.world.Hierarchy.{chain, chain_step, of_super}
+use Rattle.jc_facts.specs.world.Inheritance.{declares_as_final, is_final_in_chain}
 use Rattle.jc_worlds.proofs.Descent.{descend-absent, descend-none_left, descend-found}
 use Rattle.jc_index.specs.Ids.{id_of, name_at, superclass_of}
 use Rattle.jc_index.specs.steps.Walking.{chain_from}
@@ -66,3 +69,13 @@ number-inside W (Some y) = go (id_of W y) refl
     go : (o : Option ℕ) → id_of W y ≡ o → IfSome o (λ id. id < size W)
     go None e = tt
     go (Some id) e = (id_of-Some W y id e).0
+
+-- ---- whether a class of a walk declares a key as final
+
+-- a class from this number up, so many of them at most, does
+abbrev pub declared_from : World → Key → ℕ → Option ℕ → Bool
+declared_from W k n next = list_any (declares_as_final k) (chain_from W n next)
+
+pub finals-from : (W : World) (id m : ℕ) (k : Key) → m ≡ size W → is_final_in_chain W (name_at W id) k ≡ declared_from W k m (Some id)
+unfolding is_final_in_chain chain chain_from
+finals-from W id m k e = rw e refl

@@ -55,3 +55,12 @@ first_where-any test p (y ∷ xs) x e h = go (test y) e (first_where-any test p 
     go : (b : Bool) → cond b (Some y) (first_where test xs) ≡ Some x → (first_where test xs ≡ Some x → p x ≡ true → list_any p xs ≡ true) → (p y || list_any p xs) ≡ true
     go true q r = let k : y ≡ x = cc in or_left (p y) (list_any p xs) (rw k h)
     go false q r = or_right (p y) (list_any p xs) (r q h)
+
+-- what is found passes the test
+pub found_passes : {A : Type 0} (test : A → Bool) (xs : List A) (x : A) → first_where test xs ≡ Some x → test x ≡ true
+found_passes test [] x e = absurd (cc)
+found_passes test (y ∷ xs) x e = go (test y) refl e (found_passes test xs x)
+  where
+    go : (b : Bool) → test y ≡ b → cond b (Some y) (first_where test xs) ≡ Some x → (first_where test xs ≡ Some x → test x ≡ true) → test x ≡ true
+    go true p q r = let k : y ≡ x = cc in rw (← k) p
+    go false p q r = r q

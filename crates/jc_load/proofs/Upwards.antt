@@ -1,22 +1,12 @@
 -- Methods that may not be overridden, along a walk up the superclasses.
-use Rattle.std.proofs.Common.{◌≡◌, ℕ, suc, Bool, true, false, ◌||◌, refl, sym, ◌∙◌, ap, Option, Some, None}
+use Rattle.std.proofs.Common.{◌≡◌, ℕ, suc, Bool, true, false, ◌||◌, sym, ◌∙◌, ap, Option, Some, None}
 use Rattle.std.specs.List.{list_any}
 use Rattle.jc_facts.specs.declared.class_facts.ClassFacts.{ClassFacts}
 use Rattle.jc_facts.specs.declared.key.Key.{Key}
-use Rattle.jc_facts.specs.world.World.{World, find_class, size}
-use Rattle.jc_facts.specs.world.Hierarchy.{chain}
-use Rattle.jc_facts.specs.world.Inheritance.{declares_as_final, is_final_in_chain}
+use Rattle.jc_facts.specs.world.World.{World, find_class}
+use Rattle.jc_facts.specs.world.Inheritance.{declares_as_final}
 use Rattle.jc_table.specs.Ids.{name_at, superclass_of}
-use Rattle.jc_table.specs.steps.Walking.{chain_from}
-use Rattle.jc_table.proofs.Walking.{from-step, from-none, from-nothing}
-
--- a class from this number up, so many of them at most, declares the key so
-abbrev pub declared_from : World → Key → ℕ → Option ℕ → Bool
-declared_from W k n next = list_any (declares_as_final k) (chain_from W n next)
-
-pub finals-from : (W : World) (id m : ℕ) (k : Key) → m ≡ size W → is_final_in_chain W (name_at W id) k ≡ declared_from W k m (Some id)
-unfolding is_final_in_chain chain chain_from
-finals-from W id m k e = rw e refl
+use Rattle.jc_table.proofs.Walking.{declared_from, from-step, from-none, from-nothing}
 
 declared-step : (W : World) (k : Key) (m n id : ℕ) (next : Option ℕ) (c : ClassFacts) → m ≡ suc n → next ≡ Some id → Some c ≡ find_class W (name_at W id)
     → declared_from W k m next ≡ (declares_as_final k c || declared_from W k n (superclass_of W (name_at W id)))

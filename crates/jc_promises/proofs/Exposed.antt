@@ -1,9 +1,9 @@
 -- What exposes a hidden class to a seat.
-use Rattle.std.proofs.Common.{◌≡◌, Bool, true, false, cond, List, [], ◌∷◌, ◌++◌, map, filter, refl, sym, ◌∙◌, ap, subst, Option, Some, None, is_some, is_none, ◌||◌, ◌&&◌}
+use Rattle.std.proofs.Common.{◌≡◌, Bool, true, false, cond, List, [], ◌∷◌, ◌++◌, map, filter, refl, sym, ◌∙◌, ap, subst, Option, Some, None, is_some, is_none, ◌&&◌}
 use Rattle.std.specs.List.{list_any, flat_map, find as first_where, Contains}
 use Rattle.std.specs.Ordering.{is_lt}
 use Rattle.std.specs.declared.cmp.Ordering.{Ordering}
-use Rattle.std.proofs.lemmas.Bool.{and_parts, and_from, or_left, or_right}
+use Rattle.std.proofs.lemmas.Bool.{and_parts, and_from}
 use Rattle.std.proofs.lemmas.List.Elements.{Contains-append_left, Contains-append_right}
 use Rattle.jc_desc.specs.Classes.{descriptor_names}
 use Rattle.jc_facts.specs.declared.class_facts.ClassFacts.{ClassFacts}
@@ -11,19 +11,18 @@ use Rattle.jc_facts.specs.declared.class_facts.Member.{Member}
 use Rattle.jc_facts.specs.declared.key.Key.{Key}
 use Rattle.jc_facts.specs.declared.act.Act.{Act}
 use Rattle.jc_facts.specs.declared.act.Act.TheVariants as act
-use Rattle.jc_facts.specs.Names.{Bytes, same, is_key, key_of}
+use Rattle.jc_facts.specs.Names.{Bytes, is_key, key_of}
 use Rattle.jc_facts.specs.Options.{and_then}
-use Rattle.jc_facts.specs.world.World.{World, find_class, class_named, classes, own_field_of, own_method_of}
+use Rattle.jc_facts.specs.world.World.{World, find_class, classes, own_field_of, own_method_of}
 use Rattle.jc_facts.specs.client.Acts.{FieldForm, form_of}
 use Rattle.jc_promises.specs.rule.Bases.{is_class_usable, is_key_of_method}
 use Rattle.jc_promises.specs.rule.OpenActs.{act_fault, field_acts, method_acts}
 use Rattle.jc_promises.specs.rule.Exposed.{is_hidden, Reference, keys_of, references, acts_on, open_act, exposes, is_exposed, reference_order, earlier, first_by, act_of, exposing_act}
 use Rattle.jc_facts.specs.declared.member_act.MemberAct.{MemberAct}
 use Rattle.jc_lemmas.proofs.Listed.{here, there, none, any_has, Passes, any_passes, in_filter, filter_in}
-use Rattle.jc_lemmas.proofs.Lists.{found_any, first_where-any, any_left, any_right}
+use Rattle.jc_lemmas.proofs.Lists.{found_any, found_passes, first_where-any, any_left, any_right}
 use Rattle.jc_lemmas.proofs.Options.{none_where}
 use Rattle.jc_facts.proofs.Mapped.{any-map, any-flat}
-use Rattle.jc_facts.proofs.Same.{same_is}
 use Rattle.jc_facts.proofs.World.{find-name, any-named}
 use Rattle.jc_facts.proofs.KeySets.{key-same}
 
@@ -35,14 +34,6 @@ any-found W p x c e h = any-named p (classes W) x c e h
 
 -- ---- keys
 
-first_where-passes : {A : Type 0} (test : A → Bool) (xs : List A) (x : A) → first_where test xs ≡ Some x → test x ≡ true
-first_where-passes test [] x e = absurd (cc)
-first_where-passes test (y ∷ ys) x e = go (test y) refl e (first_where-passes test ys x)
-  where
-    go : (b : Bool) → test y ≡ b → cond b (Some y) (first_where test ys) ≡ Some x → (first_where test ys ≡ Some x → test x ≡ true) → test x ≡ true
-    go true p q r = let k : y ≡ x = cc in ap test (sym k) ∙ p
-    go false p q r = r q
-
 -- a class of the world declares the key
 pub data DeclaresKey (W : World) (k : Key) : Type 0 where
   a_field : (x : Bytes) (c : ClassFacts) (m : Member) → find_class W x ≡ Some c → own_field_of c k ≡ Some m → DeclaresKey W k
@@ -52,10 +43,10 @@ pub data DeclaresKey (W : World) (k : Key) : Type 0 where
 any-key : (W : World) (p : Key → Bool) (k : Key) → DeclaresKey W k → p k ≡ true → list_any p (flat_map keys_of (classes W)) ≡ true
 any-key W p k (a_field x c m f o) h =
     any-flat p keys_of (classes W) ∙ any-found W (λ c. list_any p (keys_of c)) x c f
-    (any-map p key_of (c.fields ++ c.methods) ∙ any_left (λ m. p (key_of m)) c.fields c.methods (first_where-any (is_key k) (λ m. p (key_of m)) c.fields m o (ap p (key-same k m (first_where-passes (is_key k) c.fields m o)) ∙ h)))
+    (any-map p key_of (c.fields ++ c.methods) ∙ any_left (λ m. p (key_of m)) c.fields c.methods (first_where-any (is_key k) (λ m. p (key_of m)) c.fields m o (ap p (key-same k m (found_passes (is_key k) c.fields m o)) ∙ h)))
 any-key W p k (a_method x c m f o) h =
     any-flat p keys_of (classes W) ∙ any-found W (λ c. list_any p (keys_of c)) x c f
-    (any-map p key_of (c.fields ++ c.methods) ∙ any_right (λ m. p (key_of m)) c.fields c.methods (first_where-any (is_key k) (λ m. p (key_of m)) c.methods m o (ap p (key-same k m (first_where-passes (is_key k) c.methods m o)) ∙ h)))
+    (any-map p key_of (c.fields ++ c.methods) ∙ any_right (λ m. p (key_of m)) c.fields c.methods (first_where-any (is_key k) (λ m. p (key_of m)) c.methods m o (ap p (key-same k m (found_passes (is_key k) c.methods m o)) ∙ h)))
 
 -- what passes of a class of the side and a key that one declares, one of its references does
 any-reference : (O : World) (p : Reference → Bool) (x : Bytes) (c : ClassFacts) (k : Key) → find_class O x ≡ Some c → DeclaresKey O k → p (record { «class» = x; key = k }) ≡ true → list_any p (references O) ≡ true
@@ -145,7 +136,7 @@ exposed-act O a x h = go (first_by-some reference_order (filter (exposes O a x) 
         usable = u;
         names = n;
         listed = contained (acts_on r.key) e;
-        is_open = none_where (act_fault O a r.class r.key what) (first_where-passes (λ w. is_none (act_fault O a r.class r.key w)) (acts_on r.key) what e);
+        is_open = none_where (act_fault O a r.class r.key what) (found_passes (λ w. is_none (act_fault O a r.class r.key w)) (acts_on r.key) what e);
       },
     )
       where

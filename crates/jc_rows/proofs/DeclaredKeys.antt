@@ -1,20 +1,18 @@
 -- The numbered keys are those that some class with rows declares.
 use Rattle.std.proofs.Common.{◌≡◌, Bool, true, false, List, [], ◌∷◌, ◌++◌, refl, sym, ◌∙◌, ap, subst, Option, Some, None, ◌||◌}
-use Rattle.std.specs.Prelude.{cond, is_some, is_none, ◌&&◌}
+use Rattle.std.specs.Prelude.{cond, is_some, ◌&&◌}
 use Rattle.std.specs.List.{list_any, Contains}
-use Rattle.std.proofs.lemmas.Bool.{and_parts}
 use Rattle.std.proofs.lemmas.List.Folds.{list_any-append}
 use Rattle.jc_facts.specs.declared.class_facts.ClassFacts.{ClassFacts}
 use Rattle.jc_facts.specs.declared.class_facts.Member.{Member}
 use Rattle.jc_facts.specs.declared.key.Key.{Key}
-use Rattle.jc_facts.specs.Names.{Bytes, same, same_key, is_key, key_of}
+use Rattle.jc_facts.specs.Names.{Bytes, same_key, is_key, key_of}
 use Rattle.jc_facts.specs.world.World.{differ_by_name, World, classes, class_named, find_class, own_field_of, own_method_of}
 use Rattle.jc_facts.specs.file.Valid.{has_key}
 use Rattle.jc_facts.proofs.Keys.{flip}
-use Rattle.jc_facts.proofs.Same.{same_is, same_itself}
-use Rattle.jc_facts.proofs.World.{class_named-each, find-name}
+use Rattle.jc_facts.proofs.World.{class_named-each, each_named, find-name}
 use Rattle.jc_lemmas.proofs.Bools.{or_assoc, or_false, or_true, tests_agree}
-use Rattle.jc_lemmas.proofs.Listed.{EachOf, EachOf-both, each_in, each_from, each_of, any_passes, any_has}
+use Rattle.jc_lemmas.proofs.Listed.{each_in, each_from, any_passes, any_has}
 use Rattle.jc_lemmas.proofs.Lists.{found_any}
 use Rattle.jc_index.specs.Ids.{names}
 use Rattle.jc_index.proofs.Numbers.{names-in}
@@ -68,25 +66,6 @@ module _ (q : Key) where
       ∙ or_assoc (has_key q keys) (some_declares (class_with_rows W x)) (list_any (λ y. some_declares (class_with_rows W y)) xs)
 
 -- ---- classes by their names
-
--- where no two classes have one name, each is the class of its name
-each_named : (cs : List ClassFacts) → differ_by_name cs ≡ true → EachOf (λ c. class_named cs c.name ≡ Some c) cs
-unfolding differ_by_name class_named
-each_named [] h = tt
-each_named (c ∷ cs) h = (
-  ap (λ (b : Bool). cond b (Some c) (class_named cs c.name)) (same_itself c.name),
-  EachOf-both further cs (each_named cs parts.1) (each_of (λ d. c ≡ c) (λ d. refl) cs),
-)
-  where
-    parts : (is_none (class_named cs c.name) ≡ true) × (differ_by_name cs ≡ true)
-    parts = and_parts (is_none (class_named cs c.name)) (differ_by_name cs) h
-
-    further : (d : ClassFacts) → class_named cs d.name ≡ Some d → c ≡ c → cond (same c.name d.name) (Some c) (class_named cs d.name) ≡ Some d
-    further d e u = go (same c.name d.name) refl
-      where
-        go : (b : Bool) → same c.name d.name ≡ b → cond b (Some c) (class_named cs d.name) ≡ Some d
-        go true s = absurd (let z : false ≡ true = sym (ap is_none (ap (class_named cs) (same_is c.name d.name s) ∙ e)) ∙ parts.0 in cc)
-        go false s = e
 
 module _ (W : World) (differ : differ_by_name (classes W) ≡ true) (k : Key) where
   -- a class is met under its own name

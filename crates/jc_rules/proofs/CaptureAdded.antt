@@ -1,9 +1,8 @@
 -- What the collision of methods that are found before those of a client's interfaces makes.
-use Rattle.std.proofs.Common.{◌≡◌, ℕ, Bool, true, false, not, cond, List, [], ◌∷◌, refl, sym, ◌∙◌, ap, Option, Some, None, is_some, is_none, ◌&&◌, ◌||◌, ◌⊎◌, inl, inr}
+use Rattle.std.proofs.Common.{◌≡◌, ℕ, Bool, true, false, not, cond, List, [], ◌∷◌, refl, sym, ◌∙◌, ap, Option, Some, None, is_none, ◌&&◌, ◌||◌, ◌⊎◌, inl, inr}
 use Rattle.std.specs.List.{Contains}
-use Rattle.std.proofs.lemmas.Bool.{and_parts, and_from, or_left}
+use Rattle.std.proofs.lemmas.Bool.{and_parts}
 use Rattle.std.proofs.lemmas.List.Elements.{recursion_from_All}
-use Rattle.jc_facts.specs.declared.class_facts.ClassFacts.{ClassFacts}
 use Rattle.jc_facts.specs.declared.act.Act.TheVariants.{InvokeVirtual}
 use Rattle.jc_facts.specs.declared.key.Key.{Key}
 use Rattle.jc_facts.specs.declared.link_error.LinkError.{LinkError}
@@ -11,17 +10,17 @@ use Rattle.jc_facts.specs.declared.link_error.LinkError.TheVariants.{IllegalAcce
 use Rattle.jc_facts.specs.declared.verdict.Collision.{Collision}
 use Rattle.jc_promises.specs.rule.Collisions.{made_collision, collision_at, capture_added, captures, capture_error, leaves_room}
 use Rattle.jc_facts.specs.world.Lookup.{are_none, first_declared, method_choices, or_choices, superinterface_choices}
-use Rattle.jc_facts.specs.Flags.{public_flag, no_static_flag, final_flag, interface_flag}
+use Rattle.jc_facts.specs.Flags.{public_flag, no_static_flag}
 use Rattle.jc_facts.specs.world.Hierarchy.{chain}
 use Rattle.jc_facts.specs.world.Loading.{load_fault}
 use Rattle.jc_facts.specs.world.Assignment.{is_interface_of}
 use Rattle.jc_facts.specs.Names.{Bytes, is_init_name, is_clinit_name}
 use Rattle.jc_facts.specs.Options.{some_and, some_where}
 use Rattle.jc_facts.specs.Orders.{collision_order}
-use Rattle.jc_facts.specs.world.World.{class_is, World, find_class, DeclaredMember}
-use Rattle.jc_promises.specs.rule.Bases.{newly_sealed, is_steady, is_class_closed, is_extendable, is_implementable, is_base_class, is_key_of_method}
-use Rattle.jc_lemmas.proofs.Bools.{and_false, neither_first, neither_last, not_true}
-use Rattle.jc_lemmas.proofs.Listed.{none, cases, each_in}
+use Rattle.jc_facts.specs.world.World.{World, DeclaredMember}
+use Rattle.jc_promises.specs.rule.Bases.{is_base_class, is_key_of_method}
+use Rattle.jc_lemmas.proofs.Bools.{neither_last, not_true}
+use Rattle.jc_lemmas.proofs.Listed.{none, each_in}
 use Rattle.jc_worlds.specs.Agreement.{LooksTheSame}
 use Rattle.jc_worlds.specs.Choices.{IsPublicInstance}
 use Rattle.jc_worlds.proofs.ChoiceLaws.{inherited_are_public}
@@ -31,7 +30,7 @@ use Rattle.jc_sides.specs.declared.members.Members.TheVariants as members
 use Rattle.jc_sides.specs.Rules.{key_collision, IsCollision, IsItemRule}
 use Rattle.jc_sides.proofs.BrokenActs.{collided_where}
 use Rattle.jc_sides.specs.SidesOf.{SidesOf}
-use Rattle.jc_sides.proofs.BaseParts.{base_class_parts}
+use Rattle.jc_sides.proofs.BaseParts.{base_class_parts, no_interface_now}
 use Rattle.jc_sides.proofs.ItemRules.{made_where}
 use Rattle.jc_sides.proofs.NamedAbove.{class_unkept}
 use Rattle.jc_table.specs.Sides.{IsSide}
@@ -148,34 +147,6 @@ captured s x k f b e o base side loads a t q r =
     go : (m : Option DeclaredMember) → Contains (or_choices m (superinterface_choices s.new x k)) found → capture_of s x k m ≡ some_where (is_passed s.old x k f.flags) (made x k f.flags)
     go None h = nothing ∙ sym (unmade (unpassed h))
     go (Some m) h = declared m (flags ∙ ap (λ (y : DeclaredMember). y.member.flags) (sym (one-is m found h)))
-
--- ---- the kind of a base class
-
--- what shuts clients out
-abbrev shuts : SidesOf → ClassFacts → ClassFacts → Bool
-shuts s c d = final_flag d.flags || (interface_flag d.flags && not (interface_flag c.flags)) || newly_sealed s.old s.new c d
-
-apart : (i j : Bool) → (i && not j) ≡ false → j ≡ false → i ≡ false
-apart true true p q = absurd (cc)
-apart true false p q = p
-apart false j p q = refl
-
--- a base class is no interface now
-pub no_interface_now : (s : SidesOf) (x : Bytes) → is_base_class s.old s.new x ≡ true → is_interface_of s.new x ≡ false
-unfolding is_base_class is_class_closed
-no_interface_now s x h =
-    let p = and_parts (is_extendable s.old s.new x && is_steady s.old s.new x) (not (is_class_closed s.old s.new x)) h in
-    let q = and_parts (is_extendable s.old s.new x) (is_steady s.old s.new x) p.0 in
-    let n : class_is s.old (λ c. class_is s.new (shuts s c) x) x ≡ false =
-    and_false (is_steady s.old s.new x && (is_extendable s.old s.new x || is_implementable s.old s.new x)) (class_is s.old (λ c. class_is s.new (shuts s c) x) x) (not_true (is_class_closed s.old s.new x) p.1) (and_from (is_steady s.old s.new x) (is_extendable s.old s.new x || is_implementable s.old s.new x) q.1 (or_left (is_extendable s.old s.new x) (is_implementable s.old s.new x) q.0)) in
-    let r = base_class_parts s x h in
-    go (find_class s.old x) (find_class s.new x) r.both.there r.kind n
-  where
-    go : (a b : Option ClassFacts) → is_some a ≡ true → some_and (λ c. interface_flag c.flags) a ≡ false → some_and (λ c. some_and (shuts s c) b) a ≡ false → some_and (λ c. interface_flag c.flags) b ≡ false
-    go None b t k n = absurd (let clash : false ≡ true = t in cc)
-    go (Some c) None t k n = refl
-    go (Some c) (Some d) t k n =
-        apart (interface_flag d.flags) (interface_flag c.flags) (neither_last (final_flag d.flags) (interface_flag d.flags && not (interface_flag c.flags)) (neither_first (final_flag d.flags || (interface_flag d.flags && not (interface_flag c.flags))) (newly_sealed s.old s.new c d) n)) k
 
 -- ---- where it stands
 

@@ -1,5 +1,5 @@
 -- What has left a chain, and what is found of a class and one of its old chain.
-use Rattle.std.proofs.Common.{◌≡◌, ℕ, ◌<◌, Bool, true, false, cond, not, ◌&&◌, [], ◌∷◌, refl, sym, ◌∙◌, ap, Option, None, is_some, nat_lt}
+use Rattle.std.proofs.Common.{◌≡◌, ℕ, ◌<◌, Bool, true, false, cond, not, ◌&&◌, [], ◌∷◌, refl, sym, ◌∙◌, ap, Option, None, nat_lt}
 use Rattle.std.specs.BTreeSet as sorted
 use Rattle.std.specs.Ordering.{nat_cmp}
 use Rattle.std.proofs.lemmas.Bool.{lt-ltb}
@@ -11,20 +11,11 @@ use Rattle.jc_facts.specs.world.World.{World, find_class, size}
 use Rattle.jc_facts.specs.world.Hierarchy.{in_chain}
 use Rattle.jc_facts.specs.world.Assignment.{is_interface_of}
 use Rattle.jc_promises.specs.rule.Findings.{finding_at, superclass_lost, assign_finding}
-use Rattle.jc_acts.proofs.Losses.{chain_there}
-use Rattle.jc_acts.proofs.LostChains.{none_above}
+use Rattle.jc_worlds.proofs.Chains.{absent_above, none_above}
 use Rattle.jc_table.specs.Ids.{name_at}
 use Rattle.jc_sides.specs.BrokenOf.{BrokenOf, found}
 use Rattle.jc_sides.specs.SidesOf.{SidesOf}
 use Rattle.jc_rules.specs.steps.Chains.{HasChain, on_target, target_finding, has_left_chain}
-
--- who isn't of the world stands in no chain
-absent_above : (W : World) (x y : Bytes) → find_class W y ≡ None → in_chain W x y ≡ false
-absent_above W x y a = go (in_chain W x y) refl
-  where
-    go : (b : Bool) → in_chain W x y ≡ b → b ≡ false
-    go false e = refl
-    go true e = absurd (let z : false ≡ true = sym (ap is_some a) ∙ chain_there W x y e in cc)
 
 -- the set has the class where the chain has
 pub set_has : (N : World) (x t : Bytes) (chain : sorted.BTreeSet ℕ) (k : ℕ) → HasChain N x chain → k < size N → name_at N k ≡ t → sorted.contains nat_cmp chain k ≡ in_chain N x t

@@ -17,7 +17,7 @@ use Rattle.jc_facts.specs.Orders.{finding_order}
 use Rattle.jc_promises.specs.rule.Bases.{is_class_usable, is_kept, became_class, is_steady, is_base_class}
 use Rattle.jc_promises.specs.rule.Findings.{Subject, finding_at, constructor_closed, report, report_where, new_broken, init_broken, missing_or}
 use Rattle.jc_facts.proofs.Same.{same_is}
-use Rattle.jc_worlds.proofs.Inherited.{found_passes}
+use Rattle.jc_lemmas.proofs.Lists.{found_passes}
 use Rattle.jc_worlds.proofs.Loaded.{loads-found}
 use Rattle.jc_sound.proofs.Standing.{usable_parts}
 use Rattle.jc_sound.proofs.UsableLaw.{Needs, or_else_needs, and_then_needs}

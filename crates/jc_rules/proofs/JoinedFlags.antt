@@ -1,11 +1,10 @@
 -- Flags that are set for other parts of a report too, and of which classes members are kept then.
-use Rattle.std.proofs.Common.{◌≡◌, ◌<◌, ◌≤◌, ◌+◌, ◌⊎◌, inl, inr, ℕ, arith, Bool, true, false, List, length, refl, sym, ◌∙◌, ap, subst}
-use Rattle.std.proofs.Math.ListN.{get_or-eq_default}
+use Rattle.std.proofs.Common.{◌≡◌, ◌<◌, ◌≤◌, ◌+◌, ◌⊎◌, inl, inr, ℕ, arith, Bool, true, List, length, refl, sym, ◌∙◌, ap, subst}
 use Rattle.std.proofs.lemmas.Bool.{cases_lt}
-use Rattle.jc_lemmas.proofs.Bools.{contradicts}
 use Rattle.jc_acts.specs.Touched.{AreFlags, flag_at}
 use Rattle.jc_exposed.specs.declared.exposed.Exposed.{Exposed}
 use Rattle.jc_exposed.specs.Exposed.{AreWanted, wanted_of}
+use Rattle.jc_exposed.proofs.OwnNamings.{flag_inside}
 use Rattle.jc_rules.specs.steps.Losses.{AreJoined, matters}
 use Rattle.jc_sides.specs.SidesOf.{SidesOf}
 use Rattle.jc_table.specs.Ids.{name_at}
@@ -26,14 +25,6 @@ joined_next before others flags after n e kept set h = record { count = e ∙ h.
         let o : flag_at others n ≡ true = subst (λ j. flag_at others j ≡ true) q t in
         subst (λ j. flag_at after j ≡ true) (sym q) (set o (omega (arith, q, i, h.count)))
 
--- a flag that is set is there
-set_inside : (flags : List Bool) (k : ℕ) → flag_at flags k ≡ true → k < length flags
-set_inside flags k h = go (cases_lt k (length flags))
-  where
-    go : (k < length flags) ⊎ (length flags ≤ k) → k < length flags
-    go (inl l) = l
-    go (inr m) = absurd (contradicts (flag_at flags k) h (get_or-eq_default flags false m))
-
 -- ---- of which classes members are kept
 
 module _ (s : SidesOf) (before others after : List Bool) (e : Exposed) (all : AreJoined before others (length others) after) (w : wanted_of e ≡ after) (f : AreFlags s.old (matters s) before) where
@@ -41,4 +32,4 @@ module _ (s : SidesOf) (before others after : List Bool) (e : Exposed) (all : Ar
   matter_wanted = λ n l h. ap (λ fs. flag_at fs n) w ∙ all.kept n (f.each n l ∙ h)
 
   pub others_wanted : AreWanted s (flag_at others) e
-  others_wanted = λ n l h. ap (λ fs. flag_at fs n) w ∙ all.joined n (set_inside others n h) (omega (arith, f.count, l)) h
+  others_wanted = λ n l h. ap (λ fs. flag_at fs n) w ∙ all.joined n (flag_inside others n h) (omega (arith, f.count, l)) h

@@ -1,5 +1,5 @@
 -- What the rule on superclasses that left the chain finds.
-use Rattle.std.proofs.Common.{◌≡◌, ◌<◌, ◌≤◌, ◌+◌, ◌==◌, ℕ, zero, suc, Bool, true, false, cond, List, [], ◌∷◌, ◌++◌, length, get_or, take, arith, refl, sym, ◌∙◌, ap, subst, Option, Some, None, not, map, ◌&&◌, nat_lt, ◌⊎◌, inl, inr}
+use Rattle.std.proofs.Common.{◌≡◌, ◌<◌, ◌≤◌, ◌+◌, ◌==◌, ℕ, Bool, true, false, cond, List, [], ◌∷◌, ◌++◌, take, refl, sym, ◌∙◌, ap, subst, Option, Some, None, not, map, ◌&&◌, nat_lt, ◌⊎◌, inl, inr}
 use Rattle.std.specs.BTreeSet as sorted
 use Rattle.std.specs.Ordering.{nat_cmp}
 use Rattle.std.specs.List.{Contains, filter_map, cons_option}
@@ -17,17 +17,15 @@ use Rattle.jc_facts.specs.world.Hierarchy.{in_chain}
 use Rattle.jc_facts.specs.world.Assignment.{is_interface_of}
 use Rattle.jc_promises.specs.rule.Findings.{Subject, finding_at, finding_by, subject_of, assign_finding}
 use Rattle.jc_facts.specs.Orders.{finding_order}
-use Rattle.jc_facts.specs.Exactly.{HasExactly, Rises}
+use Rattle.jc_facts.specs.Exactly.{HasExactly}
 use Rattle.jc_facts.specs.Exactly.{Before, NamesRise}
 use Rattle.jc_facts.proofs.Exact.{Gives}
-use Rattle.jc_lemmas.proofs.Listed.{EachOf, here, there, none, cases, each_from}
+use Rattle.jc_lemmas.proofs.Listed.{here, there, none, cases, each_from}
 use Rattle.jc_facts.proofs.InOrder.{exact_none, exact_given}
 use Rattle.jc_facts.proofs.Exactly.{OfNames, grown_start, grown_more, grown_all}
 use Rattle.jc_table.proofs.Numbers.{id_of-Some, names-length, names-rise, number_of}
 use Rattle.jc_table.specs.Ids.{names, name_at}
 use Rattle.jc_table.specs.Sides.{IsSide}
-use Rattle.std.specs.List.Sorted.{IsStrictlySortedBy}
-use Rattle.std.proofs.lemmas.Map.Keys.{below_from_sorted}
 use Rattle.jc_facts.specs.declared.key.Key.{Key}
 use Rattle.jc_facts.specs.Options.{some_where}
 use Rattle.jc_sound.proofs.FindingLaws.{finding_is_on_its_subject}
@@ -37,9 +35,10 @@ use Rattle.jc_rules.proofs.Assignments.{aside}
 use Rattle.jc_rules.proofs.ChainLost.{set_has, target_is}
 use Rattle.jc_sides.specs.Rules.{IsFinding}
 use Rattle.jc_sides.specs.SidesOf.{SidesOf, AreSides}
+use Rattle.jc_sides.proofs.Rising.{numbers-rise}
 use Rattle.jc_sides.proofs.Subjects.{subject_order, ordered_as, same_name, subject_is, finding_class_before, class_in}
 use Rattle.jc_acts.specs.Seats.{loses_class}
-use Rattle.jc_acts.proofs.Losses.{chain_there}
+use Rattle.jc_worlds.proofs.Chains.{chain_there}
 use Rattle.jc_acts.proofs.SeatChains.{keeps}
 use Rattle.jc_lemmas.proofs.Options.{passed}
 use Rattle.jc_facts.proofs.Options.{some_where-is}
@@ -120,37 +119,6 @@ lossless_chain s x h = go (may_take_part s x) refl h
     go : (b : Bool) → may_take_part s x ≡ b → (b && loses_class s x) ≡ false → HasExactly finding_order (OfChain s x) []
     go false e p = aside_chain s x e
     go true e p = whole_chain s x p
-
--- ---- rising numbers have rising names
-
-each_at : (P : Bytes → Type 0) (xs : List Bytes) (i : ℕ) → i < length xs → EachOf P xs → P (get_or xs i [])
-each_at P [] i h e = absurd (omega arith)
-each_at P (x ∷ xs) zero h e = e.0
-each_at P (x ∷ xs) (suc i) h e = each_at P xs i (omega arith) e.1
-
-rises_at : (xs : List Bytes) → NamesRise (λ x. x) xs → (i j : ℕ) → i < j → j < length xs → Before (get_or xs i []) (get_or xs j [])
-unfolding Rises
-rises_at [] r i j h k = absurd (omega arith)
-rises_at (x ∷ xs) r zero zero h k = absurd (omega arith)
-rises_at (x ∷ xs) r (suc i) zero h k = absurd (omega arith)
-rises_at (x ∷ xs) r zero (suc j) h k = each_at (λ y. Before x y) xs j (omega arith) r.0
-rises_at (x ∷ xs) r (suc i) (suc j) h k = rises_at xs r.1 i j (omega arith) (omega arith)
-
-name_before : (W : World) → IsSide W → (i j : ℕ) → i < j → j < size W → Before (name_at W i) (name_at W j)
-name_before W s i j h k = rises_at (names W) (names-rise W s.differ) i j h (let e = names-length W in omega arith)
-
-less_is : (k q : ℕ) → nat_cmp k q ≡ Less → k < q
-unfolding IsStrictlySortedBy
-less_is k q h = below_from_sorted (k ∷ q ∷ []) 0 1 0 ((h, tt), (tt, tt)) (omega arith) (omega arith)
-
-after : (W : World) → IsSide W → (k : ℕ) (ks : List ℕ) → EachOf (λ q. nat_cmp k q ≡ Less) ks → EachOf (λ q. q < size W) ks → EachOf (λ y. Before (name_at W k) y) (map (name_at W) ks)
-after W s k [] h b = tt
-after W s k (q ∷ ks) h b = (name_before W s k q (less_is k q h.0) b.0, after W s k ks h.1 b.1)
-
-numbers-rise : (W : World) → IsSide W → (ks : List ℕ) → IsStrictlySortedBy nat_cmp ks → EachOf (λ q. q < size W) ks → NamesRise (λ x. x) (map (name_at W) ks)
-unfolding IsStrictlySortedBy Rises
-numbers-rise W s [] o b = tt
-numbers-rise W s (k ∷ ks) o b = (after W s k ks o.0 b.1, numbers-rise W s ks o.1 b.1)
 
 -- ---- all of the old chain
 

@@ -1,31 +1,26 @@
 -- The keys of which something may be warned.
-use Rattle.std.proofs.Common.{◌≡◌, ◌<◌, ◌+◌, ◌++◌, ℕ, Bool, true, false, not, cond, ◌||◌, ◌&&◌, ◌⊎◌, inl, inr, List, [], ◌∷◌, length, take, get_or, refl, sym, ◌∙◌, ap, subst, Option, Some, None}
+use Rattle.std.proofs.Common.{◌≡◌, ◌<◌, ◌+◌, ◌++◌, ℕ, Bool, true, false, cond, ◌&&◌, ◌⊎◌, inl, inr, List, [], ◌∷◌, length, take, get_or, refl, sym, ◌∙◌, ap, subst, Some, None}
 use Rattle.std.specs.Prelude.{slice_index_or}
 use Rattle.std.specs.List.{list_all}
-use Rattle.std.proofs.lemmas.Bool.{and_parts, or_cases}
+use Rattle.std.proofs.lemmas.Bool.{or_cases}
 use Rattle.std.proofs.lemmas.List.{take_more}
 use Rattle.std.proofs.lemmas.List.Elements.{recursion_from_All}
-use Rattle.jc_facts.specs.declared.class_facts.ClassFacts.{ClassFacts}
 use Rattle.jc_facts.specs.declared.key.Key.{Key}
 use Rattle.jc_facts.specs.declared.warning.ChainKind.TheVariants.{Nothing}
 use Rattle.jc_facts.specs.declared.warning.WarnKind.{WarnKind}
 use Rattle.jc_facts.specs.file.Valid.{has_key}
-use Rattle.jc_facts.specs.Flags.{interface_flag, final_flag}
 use Rattle.jc_facts.specs.Names.{Bytes}
-use Rattle.jc_facts.specs.Options.{some_and}
-use Rattle.jc_facts.specs.world.World.{class_is, World, size, find_class}
-use Rattle.jc_promises.specs.rule.Bases.{is_base_class, is_base_interface, is_extendable, is_implementable, is_steady, is_class_closed, newly_sealed}
+use Rattle.jc_facts.specs.world.World.{World, size}
+use Rattle.jc_promises.specs.rule.Bases.{is_base_class, is_base_interface}
 use Rattle.jc_promises.specs.rule.Selection.{first_kind, chain_kind}
 use Rattle.jc_promises.specs.rule.Warnings.{is_base, interfaces_from, warn_kind, warning_at}
 use Rattle.jc_facts.specs.world.Assignment.{is_interface_of}
 use Rattle.jc_facts.specs.world.Hierarchy.{chain}
-use Rattle.jc_lemmas.proofs.Bools.{neither_first, neither_last, not_true}
 use Rattle.jc_lemmas.proofs.Listed.{EachOf, EachOf-append, each_in}
-use Rattle.jc_worlds.proofs.Loaded.{loads-found}
 use Rattle.jc_acts.specs.Seats.{may_be_closed}
 use Rattle.jc_sides.specs.Rules.{HasEachKey}
 use Rattle.jc_sides.specs.SidesOf.{SidesOf, AreSides}
-use Rattle.jc_sides.proofs.BaseParts.{base_class_parts, base_interface_parts}
+use Rattle.jc_sides.proofs.BaseParts.{base_class_parts, base_interface_parts, no_interface_now}
 use Rattle.jc_select.specs.steps.Asked.{HaveThose, ChainsAgree, PartsAgree}
 use Rattle.jc_select.specs.steps.Changes.{kind_at, HasNone, HaveNone, AreChanges}
 use Rattle.jc_select.specs.steps.Parts.{AreNamed, stands_at, was_at}
@@ -77,45 +72,11 @@ module _ (s : SidesOf) (are : AreSides s) (x : Bytes) (before after : List ℕ) 
 
 -- ---- a base is an interface on both sides or on none
 
-class_now : (s : SidesOf) (x : Bytes) → is_base_class s.old s.new x ≡ true → is_interface_of s.new x ≡ false
-unfolding is_base_class is_class_closed
-class_now s x h = by (find_class s.old x) refl (find_class s.new x) refl
-  where
-    p : (is_extendable s.old s.new x && is_steady s.old s.new x ≡ true) × (not (is_class_closed s.old s.new x) ≡ true)
-    p = and_parts (is_extendable s.old s.new x && is_steady s.old s.new x) (not (is_class_closed s.old s.new x)) h
-
-    q : (is_extendable s.old s.new x ≡ true) × (is_steady s.old s.new x ≡ true)
-    q = and_parts (is_extendable s.old s.new x) (is_steady s.old s.new x) p.0
-
-    shut : Bool → Bool → ClassFacts → ClassFacts → Bool
-    shut i f c d = f || (i && not (interface_flag c.flags)) || newly_sealed s.old s.new c d
-
-    open_still : class_is s.old (λ c. class_is s.new (λ d. shut (interface_flag d.flags) (final_flag d.flags) c d) x) x ≡ false
-    open_still = go (is_steady s.old s.new x) (is_extendable s.old s.new x) (is_implementable s.old s.new x) _ q.1 q.0 (not_true (is_class_closed s.old s.new x) p.1)
-      where
-        go : (a b i w : Bool) → a ≡ true → b ≡ true → (a && (b || i) && w) ≡ false → w ≡ false
-        go true true i w e f g = g
-        go true false i w e f g = absurd (let clash : false ≡ true = f in cc)
-        go false b i w e f g = absurd (let clash : false ≡ true = e in cc)
-
-    by : (o : Option ClassFacts) → find_class s.old x ≡ o → (n : Option ClassFacts) → find_class s.new x ≡ n → is_interface_of s.new x ≡ false
-    by o e None f = ap (some_and (λ (d : ClassFacts). interface_flag d.flags)) f
-    by None e (Some d) f = absurd (let l = loads-found s.old x (base_class_parts s x h).both.loads in let clash : None ≡ Some l.0 = sym e ∙ l.1 in cc)
-    by (Some c) e (Some d) f =
-        let kind : interface_flag c.flags ≡ false = sym (ap (some_and (λ (c : ClassFacts). interface_flag c.flags)) e) ∙ (base_class_parts s x h).kind in
-        let w : shut (interface_flag d.flags) (final_flag d.flags) c d ≡ false =
-        sym (ap (some_and (λ c. class_is s.new (λ d. shut (interface_flag d.flags) (final_flag d.flags) c d) x)) e ∙ ap (some_and (λ d. shut (interface_flag d.flags) (final_flag d.flags) c d)) f) ∙ open_still in
-        ap (some_and (λ (d : ClassFacts). interface_flag d.flags)) f ∙ last (interface_flag d.flags) (interface_flag c.flags) kind (neither_last (final_flag d.flags) (interface_flag d.flags && not (interface_flag c.flags)) (neither_first (final_flag d.flags || (interface_flag d.flags && not (interface_flag c.flags))) (newly_sealed s.old s.new c d) w))
-      where
-        last : (i c : Bool) → c ≡ false → (i && not c) ≡ false → i ≡ false
-        last false c e g = refl
-        last true c e g = absurd (let clash : true ≡ false = sym (ap not e) ∙ g in cc)
-
 kind_alike : (s : SidesOf) (x : Bytes) → is_base s.old s.new x ≡ true → is_interface_of s.old x ≡ is_interface_of s.new x
 kind_alike s x h = go (or_cases (is_base_class s.old s.new x) (is_base_interface s.old s.new x) h)
   where
     go : (is_base_class s.old s.new x ≡ true) ⊎ (is_base_interface s.old s.new x ≡ true) → is_interface_of s.old x ≡ is_interface_of s.new x
-    go (inl b) = (base_class_parts s x b).kind ∙ sym (class_now s x b)
+    go (inl b) = (base_class_parts s x b).kind ∙ sym (no_interface_now s x b)
     go (inr b) = let p = base_interface_parts s x b in p.interface ∙ sym p.interface_now
 
 -- ---- all of them

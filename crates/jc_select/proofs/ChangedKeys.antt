@@ -18,7 +18,7 @@ use Rattle.jc_facts.specs.world.Inheritance.{is_inheritable}
 use Rattle.jc_facts.specs.world.World.{World, size, find_class, class_named, own_method_of}
 use Rattle.jc_facts.proofs.KeySets.{key-same}
 use Rattle.jc_lemmas.proofs.Bools.{neither_first, neither_last}
-use Rattle.jc_worlds.proofs.Inherited.{found_passes}
+use Rattle.jc_lemmas.proofs.Lists.{found_passes}
 use Rattle.jc_index.proofs.Numbers.{IsClass, class_at, id_of-Some}
 use Rattle.jc_sides.specs.SidesOf.{SidesOf, AreSides}
 use Rattle.jc_sides.specs.steps.KeySets.{Adds, has_member}

@@ -1,5 +1,5 @@
 -- The interfaces above a class, collected on a walk up its superclasses.
-use Rattle.std.proofs.Common.{◌≡◌, ◌<◌, ℕ, zero, suc, Bool, true, false, not, ◌||◌, ◌&&◌, ◌==◌, List, [], ◌∷◌, ◌++◌, refl, sym, ◌∙◌, ap, subst, Option, Some, None, cond}
+use Rattle.std.proofs.Common.{◌≡◌, ◌<◌, ℕ, suc, Bool, true, false, not, ◌||◌, ◌&&◌, ◌==◌, List, [], ◌∷◌, ◌++◌, refl, sym, ◌∙◌, ap, subst, Option, Some, None, cond}
 use Rattle.std.specs.Prelude.{IsTrue, is_some}
 use Rattle.std.specs.List.{All, list_any, filter, Contains}
 use Rattle.std.proofs.lemmas.Bool.{eqb-true, and_from, and_parts}
@@ -14,12 +14,10 @@ use Rattle.jc_facts.specs.Options.{some_and, and_then}
 use Rattle.jc_facts.specs.world.Inheritance.{offers, is_inheritable}
 use Rattle.jc_facts.specs.world.Assignment.{is_interface_of}
 use Rattle.jc_facts.specs.world.World.{World, size, classes, find_class, own_method_of, differ_by_name}
-use Rattle.jc_facts.specs.world.Search.{descend}
-use Rattle.jc_facts.specs.world.Hierarchy.{chain, each, interfaces_of, interfaces_step, is_superinterface, superinterfaces, with_interfaces, names_in}
+use Rattle.jc_facts.specs.world.Hierarchy.{chain, each, interfaces_of, is_superinterface, superinterfaces, with_interfaces, names_in}
 use Rattle.jc_facts.proofs.Same.{same_is}
-use Rattle.jc_facts.proofs.World.{IsOf, find-name}
+use Rattle.jc_facts.proofs.World.{IsOf}
 use Rattle.jc_facts.proofs.Hierarchy.{each-all}
-use Rattle.jc_worlds.proofs.Descent.{descend-absent, descend-none_left, descend-found}
 use Rattle.jc_lemmas.proofs.Bools.{tests_agree, not_true}
 use Rattle.jc_lemmas.proofs.Listed.{EachOf, EachOf-append, each_in, any_has, any_passes, in_filter, filter_in, filter-each, each_of}
 use Rattle.jc_worlds.proofs.Interfaces.{above_is_one_step}

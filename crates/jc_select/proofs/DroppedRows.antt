@@ -36,7 +36,7 @@ use Rattle.jc_facts.specs.Options.{some_where}
 use Rattle.jc_loading.proofs.Entering.{absent}
 use Rattle.jc_index.proofs.Numbers.{find-None, id_of-Some, names-in, names-length, names-rise, number_of}
 use Rattle.jc_lemmas.proofs.Listed.{here, there, none, cases, each_from, any_passes}
-use Rattle.jc_select.proofs.Rising.{numbers-rise}
+use Rattle.jc_sides.proofs.Rising.{numbers-rise}
 use Rattle.jc_select.specs.steps.Losing.{AreRowsOf, HasNumbers, dropped_at, loses, row_at}
 use Rattle.jc_sides.proofs.BaseParts.{steady_parts}
 use Rattle.jc_sides.specs.Rules.{IsOf}

@@ -8,7 +8,6 @@ mod Compared
 mod DroppedLimits
 mod DroppedRows
 mod LostRows
-mod Rising
 mod StillAgree
 mod Unchanged
 pub mod KindsWarned

@@ -17,7 +17,8 @@ use Rattle.jc_facts.specs.world.Inheritance.{offers, is_inheritable}
 use Rattle.jc_promises.specs.rule.Bases.{is_key_of_method}
 use Rattle.jc_facts.proofs.Same.{same_is}
 use Rattle.jc_lemmas.proofs.Bools.{imply, neither_first, neither_last, not_true}
-use Rattle.jc_worlds.proofs.Inherited.{found_passes, found_all}
+use Rattle.jc_worlds.proofs.Inherited.{found_all}
+use Rattle.jc_lemmas.proofs.Lists.{found_passes}
 use Rattle.jc_facts.specs.declared.warning.ChainKind.{ChainKind}
 use Rattle.jc_facts.specs.declared.warning.ChainKind.TheVariants.{Nothing, Abstract, Concrete}
 use Rattle.jc_promises.specs.rule.Selection.{first_kind, declares_abstract}

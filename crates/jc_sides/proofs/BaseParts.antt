@@ -1,14 +1,15 @@
 -- What is known of a steady class, a base class and a base interface.
-use Rattle.std.proofs.Common.{◌≡◌, Bool, true, false, not, refl, ◌∙◌, ap, None, ◌&&◌, is_some}
-use Rattle.std.proofs.lemmas.Bool.{and_parts}
-use Rattle.jc_lemmas.proofs.Bools.{not_true}
+use Rattle.std.proofs.Common.{◌≡◌, Bool, true, false, not, refl, ◌∙◌, ap, Option, Some, None, ◌||◌, ◌&&◌, is_some}
+use Rattle.std.proofs.lemmas.Bool.{and_parts, and_from, or_left}
+use Rattle.jc_lemmas.proofs.Bools.{and_false, neither_first, neither_last, not_true}
+use Rattle.jc_facts.specs.declared.class_facts.ClassFacts.{ClassFacts}
 use Rattle.jc_facts.specs.Names.{Bytes}
 use Rattle.jc_facts.specs.Flags.{interface_flag, final_flag}
 use Rattle.jc_facts.specs.Options.{some_and}
 use Rattle.jc_facts.specs.world.World.{find_class, class_is}
 use Rattle.jc_facts.specs.world.Loading.{load_fault}
 use Rattle.jc_facts.specs.world.Assignment.{is_interface_of}
-use Rattle.jc_promises.specs.rule.Bases.{is_class_usable, is_kept, became_class, is_steady, is_class_closed, is_extendable, is_implementable, is_base_class, is_base_interface, has_init, is_open}
+use Rattle.jc_promises.specs.rule.Bases.{is_class_usable, is_kept, became_class, newly_sealed, is_steady, is_class_closed, is_extendable, is_implementable, is_base_class, is_base_interface, has_init, is_open}
 use Rattle.jc_facts.specs.world.Inheritance.{public_or_protected}
 use Rattle.jc_sides.specs.SidesOf.{SidesOf}
 use Rattle.jc_sound.proofs.Standing.{usable_parts, class_is-there}
@@ -91,3 +92,29 @@ base_class_parts s x h =
     let p = and_parts (is_extendable s.old s.new x && is_steady s.old s.new x) (not (is_class_closed s.old s.new x)) h in
     let q = and_parts (is_extendable s.old s.new x) (is_steady s.old s.new x) p.0 in
     record { both = (steady_parts s x q.1).both; kind = extendable_kind s x q.0 }
+
+-- what shuts clients out of a base class
+abbrev shuts : SidesOf → ClassFacts → ClassFacts → Bool
+shuts s c d = final_flag d.flags || (interface_flag d.flags && not (interface_flag c.flags)) || newly_sealed s.old s.new c d
+
+apart : (i j : Bool) → (i && not j) ≡ false → j ≡ false → i ≡ false
+apart true true p q = absurd (cc)
+apart true false p q = p
+apart false j p q = refl
+
+-- a base class is no interface now
+pub no_interface_now : (s : SidesOf) (x : Bytes) → is_base_class s.old s.new x ≡ true → is_interface_of s.new x ≡ false
+unfolding is_base_class is_class_closed
+no_interface_now s x h =
+    let p = and_parts (is_extendable s.old s.new x && is_steady s.old s.new x) (not (is_class_closed s.old s.new x)) h in
+    let q = and_parts (is_extendable s.old s.new x) (is_steady s.old s.new x) p.0 in
+    let n : class_is s.old (λ c. class_is s.new (shuts s c) x) x ≡ false =
+    and_false (is_steady s.old s.new x && (is_extendable s.old s.new x || is_implementable s.old s.new x)) (class_is s.old (λ c. class_is s.new (shuts s c) x) x) (not_true (is_class_closed s.old s.new x) p.1) (and_from (is_steady s.old s.new x) (is_extendable s.old s.new x || is_implementable s.old s.new x) q.1 (or_left (is_extendable s.old s.new x) (is_implementable s.old s.new x) q.0)) in
+    let r = base_class_parts s x h in
+    go (find_class s.old x) (find_class s.new x) r.both.there r.kind n
+  where
+    go : (a b : Option ClassFacts) → is_some a ≡ true → some_and (λ c. interface_flag c.flags) a ≡ false → some_and (λ c. some_and (shuts s c) b) a ≡ false → some_and (λ c. interface_flag c.flags) b ≡ false
+    go None b t k n = absurd (let clash : false ≡ true = t in cc)
+    go (Some c) None t k n = refl
+    go (Some c) (Some d) t k n =
+        apart (interface_flag d.flags) (interface_flag c.flags) (neither_last (final_flag d.flags) (interface_flag d.flags && not (interface_flag c.flags)) (neither_first (final_flag d.flags || (interface_flag d.flags && not (interface_flag c.flags))) (newly_sealed s.old s.new c d) n)) k

@@ -9,22 +9,12 @@ use Rattle.jc_facts.specs.Names.{Bytes}
 use Rattle.jc_facts.specs.file.Valid.{has_key}
 use Rattle.jc_facts.specs.world.Inheritance.{is_open_final, declares_as_final, is_final_in_chain}
 use Rattle.jc_facts.specs.world.World.{World, find_class, size}
-use Rattle.jc_facts.specs.world.Hierarchy.{chain}
 use Rattle.jc_lemmas.proofs.Bools.{or_without}
 use Rattle.jc_table.specs.Ids.{name_at, superclass_of}
-use Rattle.jc_table.specs.steps.Walking.{chain_from}
-use Rattle.jc_table.proofs.Walking.{from-step, from-none, from-nothing}
+use Rattle.jc_table.proofs.Walking.{declared_from, finals-from, from-step, from-none, from-nothing}
 use Rattle.jc_sides.specs.Members.{HasAll}
 use Rattle.jc_sides.specs.steps.KeySets.{Adds, has_member}
 use Rattle.jc_sides.proofs.KeySets.{some_member}
-
--- a class from this number up, so many of them at most, does
-abbrev pub declared_from : World → Key → ℕ → Option ℕ → Bool
-declared_from W k n next = list_any (declares_as_final k) (chain_from W n next)
-
-starts : (W : World) (id m : ℕ) (k : Key) → m ≡ size W → is_final_in_chain W (name_at W id) k ≡ declared_from W k m (Some id)
-unfolding is_final_in_chain chain chain_from
-starts W id m k e = rw e refl
 
 steps : (W : World) (k : Key) (m n id : ℕ) (next up : Option ℕ) (c : ClassFacts) → m ≡ suc n → next ≡ Some id → Some c ≡ find_class W (name_at W id) → up ≡ superclass_of W (name_at W id)
     → declared_from W k m next ≡ (declares_as_final k c || declared_from W k n up)
@@ -39,7 +29,7 @@ pub record HasPassed (W : World) (x : Bytes) (left : ℕ) (next : Option ℕ) (k
 pub passed_start : (W : World) (id left : ℕ) (keys : List Key) → id < size W → left ≡ size W → HasPassed W (name_at W id) left (Some id) keys
 passed_start W id left keys l e = record {
   below = l;
-  has = λ k h. or_right (has_key k keys) (declared_from W k left (Some id)) (sym (starts W id left k e) ∙ h);
+  has = λ k h. or_right (has_key k keys) (declared_from W k left (Some id)) (sym (finals-from W id left k e) ∙ h);
 }
 
 -- one more class

@@ -16,3 +16,4 @@ pub mod BaseParts
 pub mod Pair
 pub mod Seen
 mod Permitted
+pub mod Rising

@@ -20,11 +20,10 @@ use Rattle.jc_facts.proofs.Mapped.{any-map, any-flat}
 use Rattle.jc_facts.proofs.World.{find-name, IsOf}
 use Rattle.jc_lemmas.proofs.Bools.{tests_agree}
 use Rattle.jc_lemmas.proofs.Listed.{EachOf, EachOf-append, Passes, any_passes, each_in}
-use Rattle.jc_lemmas.proofs.Lists.{first_where-any, any_left, any_right, any_weaker}
+use Rattle.jc_lemmas.proofs.Lists.{first_where-any, any_left, any_right, any_weaker, found_passes}
 use Rattle.jc_lemmas.proofs.Options.{none_where}
 use Rattle.jc_worlds.specs.Hierarchy.{above}
 use Rattle.jc_worlds.proofs.Above.{chain-each, superinterfaces-each}
-use Rattle.jc_worlds.proofs.Inherited.{found_passes}
 use Rattle.jc_sound.specs.Findings.{declares_key}
 use Rattle.jc_sound.specs.ExposedAbove.{keys_above, exposes_by, ExposedByKeysAbove}
 use Rattle.jc_sound.proofs.Standing.{usable_parts}

@@ -24,11 +24,10 @@ use Rattle.jc_lemmas.proofs.Listed.{EachOf}
 use Rattle.jc_facts.proofs.Same.{same_is}
 use Rattle.jc_worlds.proofs.Above.{fault_where-none}
 use Rattle.jc_facts.proofs.Options.{or_else-none}
-use Rattle.jc_worlds.proofs.Inherited.{found_passes}
 use Rattle.jc_worlds.proofs.Packages.{same_nest-package}
 use Rattle.jc_worlds.proofs.Declared.{IsDeclared, method_choices-declared}
 use Rattle.jc_lemmas.proofs.Options.{cond-none}
-use Rattle.jc_lemmas.proofs.Lists.{first_where-any}
+use Rattle.jc_lemmas.proofs.Lists.{first_where-any, found_passes}
 
 -- what a class of another package may use is public or protected
 pub is_member_accessible-apart : (W : World) (x n : Bytes) (m : DeclaredMember) → (package_name x ≡ package_name m.owner → ⊥) → is_member_accessible W x n m ≡ true → public_or_protected m.member ≡ true

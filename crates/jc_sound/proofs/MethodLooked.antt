@@ -23,7 +23,8 @@ use Rattle.jc_promises.specs.rule.OpenActs.{method_acts, act_fault, closed_act}
 use Rattle.jc_lemmas.proofs.Listed.{EachOf, EachOf-map}
 use Rattle.jc_facts.proofs.World.{find-name}
 use Rattle.jc_facts.proofs.Same.{same_is}
-use Rattle.jc_worlds.proofs.Inherited.{found_passes, found_all, method_one_access}
+use Rattle.jc_worlds.proofs.Inherited.{found_all, method_one_access}
+use Rattle.jc_lemmas.proofs.Lists.{found_passes}
 use Rattle.jc_worlds.proofs.Declared.{IsDeclared, own-declared, method_choices-declared, superinterface_choices-declared}
 use Rattle.jc_worlds.proofs.Sides.{find-library, method_choices-side, interface_choices-side, field_found-side}
 use Rattle.jc_sound.proofs.Standing.{Quiet, stays_steady}

@@ -1,5 +1,5 @@
 -- Who stands in a chain, also in that of a class on a cycle.
-use Rattle.std.proofs.Common.{◌≡◌, ℕ, zero, suc, ◌≤◌, Bool, true, false, [], length, refl, sym, ◌∙◌, ap, subst, Option, Some, None, ◌||◌}
+use Rattle.std.proofs.Common.{◌≡◌, ℕ, zero, suc, ◌≤◌, Bool, true, false, [], length, refl, sym, ◌∙◌, ap, subst, Option, Some, None, is_some, ◌||◌}
 use mathlib.Core.Path.{fun_ext}
 use Rattle.jc_facts.specs.declared.class_facts.ClassFacts.{ClassFacts}
 use Rattle.jc_facts.specs.Names.{Bytes, same}
@@ -8,7 +8,8 @@ use Rattle.jc_facts.specs.world.Search.{descend}
 use Rattle.jc_facts.specs.world.Hierarchy.{chain, chain_step, of_super, names_in, in_chain}
 use Rattle.jc_lemmas.proofs.Listed.{EachOf}
 use Rattle.jc_worlds.proofs.Settles.{IsSearch, settles}
-use Rattle.jc_facts.proofs.World.{names, EachOf-find, size-names}
+use Rattle.jc_facts.proofs.Same.{same_is}
+use Rattle.jc_facts.proofs.World.{names, EachOf-find, find-name, size-names}
 use Rattle.jc_worlds.proofs.Descent.{descend-absent, descend-none_left, descend-found}
 use Rattle.jc_worlds.proofs.Locality.{chain_step-local}
 use Rattle.jc_worlds.proofs.Agree.{Agree, descend-agree}
@@ -86,3 +87,40 @@ pub in_chain-agree : (W V : World) (S : Bytes → Type 0) → Agree W V S → si
 unfolding chain
 in_chain-agree W V S a l x y s =
     sym (in_chain-deep W y (size V) l x) ∙ ap (λ cs. names_in cs y) (descend-agree W V S a [] [] chain_step chain_step-local (size V) x s)
+
+-- who stands in a chain is there
+module _ (W : World) (y : Bytes) where
+  up_there : (n : ℕ) (x : Bytes) → names_in (descend W [] [] chain_step n x) y ≡ true → is_some (find_class W y) ≡ true
+  unfolding chain_step
+  up_there zero x h = go (find_class W x) refl
+    where
+      go : (o : Option ClassFacts) → find_class W x ≡ o → is_some (find_class W y) ≡ true
+      go None e = absurd (let z : false ≡ true = ap (λ cs. names_in cs y) (sym (descend-absent W [] [] chain_step zero x e)) ∙ h in cc)
+      go (Some c) e = absurd (let z : false ≡ true = ap (λ cs. names_in cs y) (sym (descend-none_left W [] [] chain_step x c e)) ∙ h in cc)
+  up_there (suc n) x h = go (find_class W x) refl (up_there n)
+    where
+      go : (o : Option ClassFacts) → find_class W x ≡ o → ((z : Bytes) → names_in (descend W [] [] chain_step n z) y ≡ true → is_some (find_class W y) ≡ true) → is_some (find_class W y) ≡ true
+      go None e r = absurd (let z : false ≡ true = ap (λ cs. names_in cs y) (sym (descend-absent W [] [] chain_step (suc n) x e)) ∙ h in cc)
+      go (Some c) e r = by (same c.name y) refl c.superclass (ap (λ cs. names_in cs y) (sym (descend-found W [] [] chain_step n x c e)) ∙ h)
+        where
+          by : (b : Bool) → same c.name y ≡ b → (s : Option Bytes) → (b || names_in (of_super (descend W [] [] chain_step n) s) y) ≡ true → is_some (find_class W y) ≡ true
+          by true q s k = subst (λ z. is_some (find_class W z) ≡ true) (sym (find-name W x c e) ∙ same_is c.name y q) (ap is_some e)
+          by false q None k = absurd (let z : false ≡ true = k in cc)
+          by false q (Some s) k = r s k
+
+pub chain_there : (W : World) (x y : Bytes) → in_chain W x y ≡ true → is_some (find_class W y) ≡ true
+unfolding chain
+chain_there W x y h = up_there W y (size W) x h
+
+-- one that isn't there stands in none
+pub absent_above : (W : World) (x y : Bytes) → find_class W y ≡ None → in_chain W x y ≡ false
+absent_above W x y a = go (in_chain W x y) refl
+  where
+    go : (b : Bool) → in_chain W x y ≡ b → b ≡ false
+    go false e = refl
+    go true e = absurd (let z : false ≡ true = sym (ap is_some a) ∙ chain_there W x y e in cc)
+
+-- nothing stands above a class that isn't there
+pub none_above : (W : World) (x y : Bytes) → find_class W x ≡ None → in_chain W x y ≡ false
+unfolding chain
+none_above W x y a = ap (λ cs. names_in cs y) (descend-absent W [] [] chain_step (size W) x a)

@@ -17,19 +17,12 @@ use Rattle.jc_facts.specs.world.Lookup.{if_inheritable, declared_by, only_or, is
 use Rattle.jc_facts.specs.file.Valid.{IsValidClass}
 use Rattle.jc_worlds.proofs.ValidFacts.{method_fits, has_one_access, fit_of}
 use Rattle.jc_lemmas.proofs.Listed.{EachOf, EachOf-append, filter-each}
+use Rattle.jc_lemmas.proofs.Lists.{found_passes}
 use Rattle.jc_facts.proofs.Same.{same_is}
 use Rattle.jc_worlds.proofs.Above.{superinterfaces-each}
 use Rattle.jc_lemmas.proofs.Bools.{neither_first}
 
--- what is found passes the test, and what each of the list passes
-pub found_passes : {A : Type 0} (test : A → Bool) (xs : List A) (x : A) → first_where test xs ≡ Some x → test x ≡ true
-found_passes test [] x e = absurd (cc)
-found_passes test (y ∷ xs) x e = go (test y) refl e (found_passes test xs x)
-  where
-    go : (b : Bool) → test y ≡ b → cond b (Some y) (first_where test xs) ≡ Some x → (first_where test xs ≡ Some x → test x ≡ true) → test x ≡ true
-    go true p q r = let k : y ≡ x = cc in rw (← k) p
-    go false p q r = r q
-
+-- what is found passes what each of the list passes
 pub found_all : {A : Type 0} (test p : A → Bool) (xs : List A) (x : A) → first_where test xs ≡ Some x → list_all p xs ≡ true → p x ≡ true
 found_all test p [] x e h = absurd (cc)
 found_all test p (y ∷ xs) x e h = go (test y) e (found_all test p xs x)

@@ -7,22 +7,18 @@ use Rattle.std.proofs.lemmas.Map.Keys.{below_from_sorted}
 use Rattle.jc_facts.specs.Exactly.{Before, NamesRise, Rises}
 use Rattle.jc_facts.specs.Names.{Bytes}
 use Rattle.jc_facts.specs.world.World.{World, size}
+use Rattle.jc_facts.proofs.Apart.{each_at}
 use Rattle.jc_index.proofs.Numbers.{names-length, names-rise}
 use Rattle.jc_lemmas.proofs.Listed.{EachOf}
 use Rattle.jc_table.specs.Ids.{name_at, names}
 use Rattle.jc_table.specs.Sides.{IsSide}
-
-each_at : (P : Bytes → Type 0) (xs : List Bytes) (i : ℕ) → i < length xs → EachOf P xs → P (get_or xs i [])
-each_at P [] i h e = absurd (omega arith)
-each_at P (x ∷ xs) zero h e = e.0
-each_at P (x ∷ xs) (suc i) h e = each_at P xs i (omega arith) e.1
 
 rises_at : (xs : List Bytes) → NamesRise (λ x. x) xs → (i j : ℕ) → i < j → j < length xs → Before (get_or xs i []) (get_or xs j [])
 unfolding Rises
 rises_at [] r i j h k = absurd (omega arith)
 rises_at (x ∷ xs) r zero zero h k = absurd (omega arith)
 rises_at (x ∷ xs) r (suc i) zero h k = absurd (omega arith)
-rises_at (x ∷ xs) r zero (suc j) h k = each_at (λ y. Before x y) xs j (omega arith) r.0
+rises_at (x ∷ xs) r zero (suc j) h k = each_at (λ y. Before x y) xs j [] (omega arith) r.0
 rises_at (x ∷ xs) r (suc i) (suc j) h k = rises_at xs r.1 i j (omega arith) (omega arith)
 
 less_is : (k q : ℕ) → nat_cmp k q ≡ Less → k < q
