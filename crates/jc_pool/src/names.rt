@@ -8,7 +8,7 @@ use std::collections::BTreeMap;
 
 /// How many bytes a text has at most of which each mention is a copy of its own: to copy so few costs
 /// less than to look for the copy before.
-const SHORT: usize = 32;
+const SHORT: usize = 64;
 
 /// Names of the texts of one file, of a long text one that all its mentions share. So the names of a
 /// file take memory in proportion to its bytes, however often it mentions a text.

@@ -28,7 +28,8 @@ const MAX_ENTRIES: u32 = 1_000_000;
 ///
 /// Folders are followed, links to folders are passed over, and a link to anything else is a file,
 /// also one that leads nowhere. To read what doesn't lead to a regular file, as a FIFO, a socket, a
-/// device or nothing, is a fault, and it is never opened. What has the path of a class file with more
+/// device or nothing, is a fault, and it is never opened: what a path leads to is asked before, by the
+/// listing where this met only folders and regular files. What has the path of a class file with more
 /// bytes than `MAX_PATH` is a file, whatever it is, since the system takes no path so long.
 ///
 /// A call on a root fails where the system fails, and a listing also where the root isn't a folder,
@@ -39,6 +40,8 @@ const MAX_ENTRIES: u32 = 1_000_000;
 pub struct DiskTrees<R: Files + AllocGlobal + Clone + Drop> {
     rt: R,
     failed: RootFaults,
+    /// The root that was listed last, where each of its files was a regular file itself.
+    regular_root: Option<String>,
 }
 
 // A path below a folder, or the name itself where the folder is "". It is made in room of its length.
@@ -68,10 +71,27 @@ fn leads_to_folder(files: &impl Files, path: Path<'_>) -> io::Result<bool> {
     }
 }
 
+/// The files below a root. Paths are below the root.
+#[derive(Drop)]
+struct Listing {
+    files: Vec<Text>,
+    /// Whether each is a regular file itself, and no link to one.
+    all_regular: bool,
+}
+
+impl Listing {
+    // Adds a file.
+    fn add(&mut self, alloc: Global, path: &str, is_regular: bool) -> Result<(), AllocError> {
+        self.files.push(Text::from_str(alloc, path)?)?;
+        self.all_regular = self.all_regular && is_regular;
+        Ok(())
+    }
+}
+
 /// What a walk below a root has met. Paths are below the root.
 #[derive(Drop)]
 struct Walk {
-    files: Vec<Text>,
+    met: Listing,
     /// The folders that are still to be visited.
     folders: Vec<String>,
     /// How many more entries may come.
@@ -81,7 +101,10 @@ struct Walk {
 impl Walk {
     fn new(alloc: Global) -> Walk {
         Walk {
-            files: Vec::new(alloc),
+            met: Listing {
+                files: Vec::new(alloc),
+                all_regular: true,
+            },
             folders: Vec::new(alloc),
             left: MAX_ENTRIES,
         }
@@ -96,14 +119,34 @@ impl Walk {
         folder: &str,
     ) -> io::Result<()> {
         let place = joined(rt.alloc(), root, folder)?;
+        let (files, folders) = (self.met.files.len(), self.folders.len());
         for entry in read_dir(rt, place.as_str())? {
             self.take(rt, folder, &entry?)?;
         }
+        self.sort_behind(rt.alloc(), files, folders)?;
         if metadata(rt, place.as_str())?.is_dir() {
             Ok(())
         } else {
             Err(io::Error::from(ErrorKind::NotADirectory))
         }
+    }
+
+    // Sorts the files and the folders behind so many, those of one folder. The first folder is visited next, so
+    // all files come nearly in order, and little is left to sort at the end.
+    fn sort_behind(
+        &mut self,
+        alloc: Global,
+        files: usize,
+        folders: usize,
+    ) -> Result<(), AllocError> {
+        if let Some(new) = self.met.files.as_mut_slice().get_mut(files..) {
+            new.sort(alloc)?;
+        }
+        if let Some(new) = self.folders.as_mut_slice().get_mut(folders..) {
+            new.sort(alloc)?;
+            new.reverse();
+        }
+        Ok(())
     }
 
     // Takes an entry of a folder.
@@ -119,28 +162,28 @@ impl Walk {
         self.left -= 1;
         let path = joined(rt.alloc(), folder, entry.file_name())?;
         if is_past_limit(path.as_str()) {
-            self.files.push(Text::from_str(rt.alloc(), path.as_str())?)?;
+            self.met.add(rt.alloc(), path.as_str(), false)?;
             return Ok(());
         }
         let kind = entry.file_type()?;
         if kind.is_dir() {
             self.folders.push(path)?;
         } else if !kind.is_symlink() || !leads_to_folder(rt, entry.path())? {
-            self.files.push(Text::from_str(rt.alloc(), path.as_str())?)?;
+            self.met.add(rt.alloc(), path.as_str(), kind.is_file())?;
         }
         Ok(())
     }
 }
 
-// The paths of the files below a root.
-fn files_below<R: Files + AllocGlobal + Clone + Drop>(rt: &R, root: &str) -> io::Result<Vec<Text>> {
+// The files below a root.
+fn files_below<R: Files + AllocGlobal + Clone + Drop>(rt: &R, root: &str) -> io::Result<Listing> {
     let mut walk = Walk::new(rt.alloc());
     walk.visit(rt, root, "")?;
     // There are no more folders than entries, so one turn more than entries finds none left.
     for _ in 0..MAX_ENTRIES + 1 {
         match walk.folders.pop() {
             Some(folder) => walk.visit(rt, root, folder.as_str())?,
-            None => return Ok(walk.files),
+            None => return Ok(walk.met),
         }
     }
     Err(io::Error::from(ErrorKind::QuotaExceeded))
@@ -158,36 +201,52 @@ pub(crate) fn is_ascending(texts: &[Text]) -> bool
     true
 }
 
-// The paths of the files below a root, in order, none of them twice.
+// The files below a root, in order, none of them twice.
 #[tactic(auto, using(crate::proofs::Ascents::distinct_ascending))]
-fn sorted_files<R: Files + AllocGlobal + Clone + Drop>(rt: &R, root: &str) -> io::Result<Vec<Text>>
-    ensures { IfOk result (λ paths. IsTrue (are_distinct paths.items)) }
+fn sorted_files<R: Files + AllocGlobal + Clone + Drop>(rt: &R, root: &str) -> io::Result<Listing>
+    ensures { IfOk result (λ listing. IsTrue (are_distinct listing.files.items)) }
 {
-    let mut paths = files_below(rt, root)?;
-    paths.sort()?;
-    if is_ascending(paths.as_slice()) {
-        Ok(paths)
+    let Listing { files, all_regular } = files_below(rt, root)?;
+    let mut files = files;
+    files.sort()?;
+    if is_ascending(files.as_slice()) {
+        Ok(Listing { files, all_regular })
     } else {
         Err(io::Error::from(ErrorKind::AlreadyExists))
     }
 }
 
-// Nothing where it is of a regular file, else an error.
-fn regular(found: Metadata) -> io::Result<()> {
+// The length where it is of a regular file, else an error.
+fn regular_len(found: Metadata) -> io::Result<u64> {
     if found.is_file() {
-        Ok(())
+        Ok(found.len())
     } else {
         Err(io::Error::from(ErrorKind::InvalidInput))
     }
 }
 
-// Opens the regular file that a path leads to. What it is is asked first, since to open a FIFO or a
-// device may wait for ever; and again of what was opened, since another may have come in its place.
-fn open_regular<R: Files>(files: &R, path: &str) -> io::Result<R::File> {
-    regular(metadata(files, path)?)?;
+// Opens the regular file that a path leads to, and tells its length. What it is is asked first, unless it
+// is known, since to open a FIFO or a device may wait for ever; and again of what was opened, since another
+// may have come in its place.
+fn open_regular<R: Files>(files: &R, path: &str, is_known: bool) -> io::Result<(R::File, u64)> {
+    if !is_known {
+        regular_len(metadata(files, path)?)?;
+    }
     let file = open(files, path)?;
-    regular(file.metadata()?)?;
-    Ok(file)
+    let len = regular_len(file.metadata()?)?;
+    Ok((file, len))
+}
+
+// How many bytes of a file to ask for, where at most so many are wanted. To ask for more than it has takes one
+// more read, which gives nothing; only a file of the system's own that says it has none may have some.
+fn due(len: u64, most: usize) -> usize
+    ensures { result ≤ most }
+{
+    if len == 0 {
+        most
+    } else {
+        most.min(len as usize)
+    }
 }
 
 // Fills the buffer with the first bytes of a source, at most as many as given. A read that gives
@@ -212,11 +271,13 @@ pub(crate) fn fill<R: Read>(source: &mut R, most: usize, buffer: &mut FileBuf) -
     Ok(())
 }
 
-// Fills the buffer with the first bytes of a regular file, at most as many as given.
+// Fills the buffer with the first bytes of a regular file, at most as many as given. Whether it is known to
+// be one is told.
 fn read_front<R: Files + AllocGlobal + Clone + Drop>(
     rt: &R,
     root: &str,
     path: &str,
+    is_known: bool,
     most: usize,
     buffer: &mut FileBuf,
 ) -> io::Result<()>
@@ -226,8 +287,9 @@ fn read_front<R: Files + AllocGlobal + Clone + Drop>(
 {
     buffer.clear();
     let place = joined(rt.alloc(), root, path)?;
-    let mut file = open_regular(rt, place.as_str())?;
-    match fill(&mut file, most, buffer) {
+    let (opened, len) = open_regular(rt, place.as_str(), is_known)?;
+    let mut file = opened;
+    match fill(&mut file, due(len, most), buffer) {
         Ok(()) => Ok(()),
         Err(error) => Err(error),
     }
@@ -239,7 +301,30 @@ impl<R: Files + AllocGlobal + Clone + Drop> DiskTrees<R> {
         ensures { (root : List ℕ) → (⟦<DiskTrees<R> as Trees>⟧.state result).faults root ≡ 0 }
     {
         let failed = RootFaults::new(rt.alloc());
-        DiskTrees { rt, failed }
+        DiskTrees {
+            rt,
+            failed,
+            regular_root: None,
+        }
+    }
+
+    // Whether each file of the root is known to be a regular file.
+    fn knows(&self, root: &str) -> bool {
+        match &self.regular_root {
+            Some(known) => known.as_str() == root,
+            None => false,
+        }
+    }
+
+    // Keeps what a listing of the root tells of its files.
+    fn note(&mut self, alloc: Global, root: &str, all_regular: bool) -> Result<(), AllocError>
+        ensures { self.new.failed ≡ self.old.failed }
+    {
+        self.regular_root = None;
+        if all_regular {
+            self.regular_root = Some(String::from_str(alloc, root)?);
+        }
+        Ok(())
     }
 
     // What a call on the root answers at this error, which is counted where it isn't lack of memory.
@@ -262,7 +347,10 @@ impl<R: Files + AllocGlobal + Clone + Drop> Trees for DiskTrees<R> {
 
     fn list(&mut self, alloc: Global, root: &str) -> Result<Vec<Text>, TreeError> {
         match sorted_files(&self.rt, root) {
-            Ok(paths) => Ok(paths),
+            Ok(Listing { files, all_regular }) => match self.note(alloc, root, all_regular) {
+                Ok(()) => Ok(files),
+                Err(_) => Err(TreeError::Memory),
+            },
             Err(error) => Err(self.fault(alloc, root, error)),
         }
     }
@@ -275,7 +363,8 @@ impl<R: Files + AllocGlobal + Clone + Drop> Trees for DiskTrees<R> {
         limit: u32,
         into: &mut FileBuf,
     ) -> Result<(), TreeError> {
-        match read_front(&self.rt, root, path, limit as usize + 1, into) {
+        let is_known = self.knows(root);
+        match read_front(&self.rt, root, path, is_known, limit as usize + 1, into) {
             Ok(()) => Ok(()),
             Err(error) => Err(self.fault(alloc, root, error)),
         }
