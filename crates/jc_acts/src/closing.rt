@@ -36,7 +36,8 @@ fn closed_to(
     }
 }
 
-// The first of the seats to which the act was open and isn't any more, and its error there.
+// The first of the seats to which the act was open and isn't any more, and its error there. An act on a
+// member of the other kind was open to none, so that none is asked.
 fn first_seat<'a>(
     sides: &Sides<'_>,
     class: &Shared<'_>,
@@ -49,6 +50,9 @@ fn first_seat<'a>(
     requires seats { All (IsShared sides.now) seats.now }
     ensures { option_map (λ p. (p.0.now, p.1)) result ≡ first_at (closed_use sides.now (name_of «class».now) looked.now act) (map name_of seats.now) }
 {
+    if act.is_other_kind(looked.before.flags) {
+        return None;
+    }
     for seat in seats {
         let Some(error) = closed_to(sides, class, looked, act, seat) else {
             continue;

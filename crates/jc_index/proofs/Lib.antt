@@ -31,3 +31,4 @@ pub mod PlacesAbove
 pub mod PlatformFinals
 pub mod Across
 pub mod Visible
+pub mod Sealing

@@ -11,3 +11,4 @@ pub mod ClassLists
 pub mod NamedClasses
 pub mod PlacesAbove
 pub mod PlatformLists
+pub mod Seals

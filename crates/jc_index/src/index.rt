@@ -1,7 +1,9 @@
 //! Classes in byte order of their names, and what each names above itself.
 ghost use Rattle.std.specs.Prelude.{◌≡◌, ◌<◌, Some, is_some, length, nat_lt, IfOk, IfSome};
 ghost use Rattle.std.specs.List.{All};
+ghost use Rattle.jc_facts.specs.Names.{is_name_among};
 ghost use Rattle.jc_facts.specs.Options.{some_where};
+ghost use Rattle.jc_facts.specs.world.Mentioned.{permitted};
 ghost use Rattle.jc_facts.specs.world.Modules.{OfClients, same_module, module_of, is_visible, is_visible_from};
 ghost use Rattle.jc_facts.specs.world.World.{classes, size, find_class, class_named};
 ghost use Rattle.jc_index.specs.Ids.{name_at, id_of, superclass_of, name_in};
@@ -12,8 +14,10 @@ use crate::ids::ClassId;
 use crate::modules::{Module, is_same};
 use crate::named_above::{interfaces, superclasses};
 use crate::named_classes::NamedClasses;
+use crate::seals::{Seal, has_name, is_permitted, seals};
 use crate::side::Side;
 use jc_base::items::Items;
+use jc_base::name::Name;
 use jc_facts::class_facts::ClassFacts;
 use std::alloc::{AllocError, Global};
 use std::marker::Model;
@@ -26,6 +30,8 @@ pub struct Index {
     superclasses: Vec<Option<ClassId>>,
     // For each class those that it names as its interfaces.
     interfaces: Vec<Items<Option<ClassId>>>,
+    // The names that classes permit to extend them, of those where it is worth it.
+    seals: Vec<Seal>,
 }
 
 // One call at each exit of a function that owns it, where a derived drop is written out.
@@ -35,6 +41,7 @@ impl Drop for Index {
             classes: _,
             superclasses: _,
             interfaces: _,
+            seals: _,
         } = self;
     }
 }
@@ -64,10 +71,12 @@ impl Index {
         let classes = NamedClasses::new(alloc, side)?;
         let superclasses = superclasses(alloc, &classes)?;
         let interfaces = interfaces(alloc, &classes)?;
+        let seals = seals(alloc, &classes)?;
         Ok(Index {
             classes,
             superclasses,
             interfaces,
+            seals,
         })
     }
 
@@ -168,6 +177,18 @@ impl Index {
         ensures of_table { All (λ above. IfSome above (λ id. id < size self.now)) result.now }
     {
         self.interfaces[id.number() as usize].as_slice()
+    }
+
+    /// Whether the name is one of those that the class, whose record this is, permits to extend it
+    /// (JVMS 4.7.31). It takes no memory.
+    pub fn permits(&self, id: ClassId, facts: &ClassFacts, name: &Name) -> bool
+        requires { Some facts.now ≡ find_class self.now (name_at self.now id) }
+        ensures { result ≡ is_name_among (permitted facts.now.permits) name.now }
+    {
+        match has_name(self.seals.as_slice(), id, name.as_bytes()) {
+            Some(has) => has,
+            None => is_permitted(facts, name),
+        }
     }
 
     /// Whether the class is one of the platform's.

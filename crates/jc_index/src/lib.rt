@@ -30,6 +30,7 @@ pub mod plain;
 mod platform_list;
 mod reach;
 pub mod root;
+mod seals;
 pub mod shared_platform;
 pub mod side;
 pub mod side_finals;

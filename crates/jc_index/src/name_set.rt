@@ -6,7 +6,7 @@ ghost use Rattle.jc_facts.specs.Exactly.{name_order};
 ghost use Rattle.jc_facts.specs.Names.{is_name_among};
 
 use jc_base::name::Name;
-use std::alloc::AllocError;
+use std::alloc::{AllocError, Global};
 use std::cmp::Ordering;
 use std::marker::Model;
 
@@ -39,6 +39,22 @@ impl NameSet {
     {
         names.sort()?;
         Ok(NameSet { names })
+    }
+
+    /// Copies of these names.
+    ///
+    /// # Errors
+    ///
+    /// `AllocError` where memory runs out.
+    pub fn copied(alloc: Global, names: &[Name]) -> Result<NameSet, AllocError>
+        ensures { IfOk result (λ set. IsPermutation names.now set) }
+    {
+        let mut copies = Vec::with_capacity(alloc, names.len())?;
+        for name in names {
+            copies.push(name.copy(alloc)?)?;
+        }
+        let set = NameSet::new(copies)?;
+        Ok(set)
     }
 
     // How many names stand before these bytes.

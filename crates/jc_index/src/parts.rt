@@ -1,8 +1,8 @@
-//! What each number of a graph leads to, as parts of one list. Where numbers name one other each, as
-//! in a chain, they share a part.
-ghost use Rattle.std.specs.Prelude.{◌≡◌, ◌<◌, ◌++◌, ◌∷◌, [], ℕ, length, IfOk, IfSome, OnOk};
+//! What each number of a graph leads to, as parts of one list. Where the first number that a number
+//! names leads to most of that, as in a chain or a lattice, they share a part.
+ghost use Rattle.std.specs.Prelude.{◌≡◌, ◌≤◌, ◌<◌, ◌++◌, ◌∷◌, [], ℕ, length, slice_get, slice_range, take, IfOk, IfSome, OnOk};
 ghost use Rattle.std.specs.List.{All};
-ghost use Rattle.jc_index.specs.steps.Reach.{next_of, AllLedTo};
+ghost use Rattle.jc_index.specs.steps.Reach.{next_of, AreLedTo, AllLedTo};
 ghost use Rattle.jc_index.specs.steps.Parts.{LiesIn, Extends, IsLonger, IsPartOf, IsMade, StayMade, AreParts};
 
 use crate::class_lists::ClassLists;
@@ -24,6 +24,19 @@ fn only(edges: &[Items<u32>], n: u32) -> Option<u32>
     if ids.len() == 1 { Some(ids[0]) } else { None }
 }
 
+// The first number that the number names; none where it names none.
+fn first(edges: &[Items<u32>], n: u32) -> Option<u32>
+    requires within { All (λ ids. All (λ id. id < length edges.now) ids) edges.now }
+    requires number { n < length edges.now }
+    ensures value { result ≡ slice_get (next_of edges.now n) 0 }
+    ensures inside { IfSome result (λ id. id < length edges.now) }
+{
+    match edges[n as usize].as_slice().get(0) {
+        Some(id) => Some(*id),
+        None => None,
+    }
+}
+
 // Puts the numbers at the end, as classes.
 fn append(ids: &mut Vec<ClassId>, numbers: &[u32]) -> Result<(), AllocError>
     ensures { OnOk result (ids.new.items ≡ ids.old.items ++ numbers.now) }
@@ -32,27 +45,6 @@ fn append(ids: &mut Vec<ClassId>, numbers: &[u32]) -> Result<(), AllocError>
         ids.push(ClassId::new(*number))?;
     }
     Ok(())
-}
-
-// What is led to from the number, put at the end.
-fn fresh(
-    alloc: Global,
-    edges: &[Items<u32>],
-    ids: &mut Vec<ClassId>,
-    n: u32,
-) -> Result<Part, AllocError>
-    requires within { All (λ ids. All (λ id. id < length edges.now) ids) edges.now }
-    requires number { n < length edges.now }
-    ensures part { IfOk result (λ part. IsPartOf edges.now ids.new.items n part) }
-    ensures extends { OnOk result (Extends ids.old.items ids.new.items) }
-{
-    let start = ids.len();
-    let numbers = led_to(alloc, edges, n)?;
-    append(ids, numbers.as_slice())?;
-    Ok(Part {
-        start,
-        end: ids.len(),
-    })
 }
 
 // The part and the number after it, where that is this one.
@@ -107,10 +99,80 @@ fn shared(
     Ok(longer)
 }
 
-// What is led to from the number.
-fn part_of(
+// How many items both lists begin with.
+fn common(ids: &[ClassId], numbers: &[u32]) -> usize
+    ensures ids { result ≤ length ids.now }
+    ensures numbers { result ≤ length numbers.now }
+    ensures same { take result ids.now ≡ take result numbers.now }
+{
+    for at in 0..numbers.len() {
+        if at == ids.len() {
+            return at;
+        }
+        if ids[at].number() != numbers[at] {
+            return at;
+        }
+    }
+    numbers.len()
+}
+
+// Makes the numbers a part of the list: from this place on, where what stands there is the same as far
+// as both go, and else at its end.
+fn put(ids: &mut Vec<ClassId>, start: usize, numbers: &[u32]) -> Result<Part, AllocError>
+    requires { start ≤ length ids.old.items }
+    ensures lies { IfOk result (λ part. LiesIn ids.new.items part) }
+    ensures items { IfOk result (λ part. slice_range ids.new.items part.start part.end ≡ numbers.now) }
+    ensures extends { OnOk result (Extends ids.old.items ids.new.items) }
+{
+    let same = common(&ids.as_slice()[start..], numbers);
+    if same == numbers.len() {
+        return Ok(Part {
+            start,
+            end: start + same,
+        });
+    }
+    if start + same == ids.len() {
+        append(ids, &numbers[same..])?;
+        return Ok(Part {
+            start,
+            end: ids.len(),
+        });
+    }
+    let end = ids.len();
+    append(ids, numbers)?;
+    Ok(Part {
+        start: end,
+        end: ids.len(),
+    })
+}
+
+// The part of the first number that the number names; nothing, at the end of the list, where that
+// isn't made or there is none.
+fn base_of(edges: &[Items<u32>], parts: &[Option<Part>], ids: &[ClassId], n: u32) -> Part
+    requires within { All (λ ids. All (λ id. id < length edges.now) ids) edges.now }
+    requires number { n < length edges.now }
+    requires parts { AreParts edges.now ids.now parts.now }
+    ensures lies { LiesIn ids.now result }
+    ensures led { AreLedTo edges.now n (slice_range ids.now result.start result.end) }
+{
+    let nothing = Part {
+        start: ids.len(),
+        end: ids.len(),
+    };
+    let Some(above) = first(edges, n) else {
+        return nothing;
+    };
+    match parts[above as usize] {
+        Some(part) => part,
+        None => nothing,
+    }
+}
+
+// What is led to from the number. What its base has comes first, so that they can share a part.
+fn grown(
     alloc: Global,
     edges: &[Items<u32>],
+    places: &mut [usize],
     parts: &[Option<Part>],
     ids: &mut Vec<ClassId>,
     n: u32,
@@ -118,14 +180,40 @@ fn part_of(
     requires within { All (λ ids. All (λ id. id < length edges.now) ids) edges.now }
     requires number { n < length edges.now }
     requires parts { AreParts edges.now ids.old.items parts.now }
+    requires room { length places.old ≡ length edges.now }
     ensures part { IfOk result (λ part. IsPartOf edges.now ids.new.items n part) }
     ensures extends { OnOk result (Extends ids.old.items ids.new.items) }
+    ensures room { length places.new ≡ length places.old }
+{
+    let base = base_of(edges, parts, ids.as_slice(), n);
+    let known = &ids.as_slice()[base.start..base.end];
+    let numbers = led_to(alloc, edges, places, known, n)?;
+    let part = put(ids, base.start, numbers.as_slice())?;
+    Ok(part)
+}
+
+// What is led to from the number.
+fn part_of(
+    alloc: Global,
+    edges: &[Items<u32>],
+    places: &mut [usize],
+    parts: &[Option<Part>],
+    ids: &mut Vec<ClassId>,
+    n: u32,
+) -> Result<Part, AllocError>
+    requires within { All (λ ids. All (λ id. id < length edges.now) ids) edges.now }
+    requires number { n < length edges.now }
+    requires parts { AreParts edges.now ids.old.items parts.now }
+    requires room { length places.old ≡ length edges.now }
+    ensures part { IfOk result (λ part. IsPartOf edges.now ids.new.items n part) }
+    ensures extends { OnOk result (Extends ids.old.items ids.new.items) }
+    ensures room { length places.new ≡ length places.old }
 {
     let found = shared(edges, parts, ids, n)?;
     match found {
         Some(part) => Ok(part),
         None => {
-            let part = fresh(alloc, edges, ids, n)?;
+            let part = grown(alloc, edges, places, parts, ids, n)?;
             Ok(part)
         }
     }
@@ -135,6 +223,7 @@ fn part_of(
 fn make(
     alloc: Global,
     edges: &[Items<u32>],
+    places: &mut [usize],
     parts: &mut [Option<Part>],
     ids: &mut Vec<ClassId>,
     n: u32,
@@ -142,26 +231,28 @@ fn make(
     requires within { All (λ ids. All (λ id. id < length edges.now) ids) edges.now }
     requires number { n < length edges.now }
     requires parts { AreParts edges.now ids.old.items parts.old }
+    requires room { length places.old ≡ length edges.now }
     ensures parts { OnOk result (AreParts edges.now ids.new.items parts.new) }
+    ensures room { length places.new ≡ length places.old }
     ensures made { OnOk result (IsMade parts.new n) }
     ensures stay { OnOk result (StayMade parts.old parts.new) }
 {
     if parts[n as usize].is_some() {
         return Ok(());
     }
-    let part = part_of(alloc, edges, parts, ids, n)?;
+    let part = part_of(alloc, edges, places, parts, ids, n)?;
     parts[n as usize] = Some(part);
     Ok(())
 }
 
-// The number that the number names alone, where the part of that one isn't made.
+// The first number that the number names, where the part of that one isn't made.
 fn next_unmade(edges: &[Items<u32>], parts: &[Option<Part>], n: u32) -> Option<u32>
     requires within { All (λ ids. All (λ id. id < length edges.now) ids) edges.now }
     requires number { n < length edges.now }
     requires count { length parts.now ≡ length edges.now }
     ensures { IfSome result (λ id. id < length edges.now) }
 {
-    let above = only(edges, n)?;
+    let above = first(edges, n)?;
     if parts[above as usize].is_none() {
         Some(above)
     } else {
@@ -169,7 +260,7 @@ fn next_unmade(edges: &[Items<u32>], parts: &[Option<Part>], n: u32) -> Option<u
     }
 }
 
-// The numbers above this one whose parts aren't made, where each names the next alone.
+// The numbers above this one whose parts aren't made, where each names the next first.
 fn way_up(
     alloc: Global,
     edges: &[Items<u32>],
@@ -201,6 +292,7 @@ fn way_up(
 fn make_back(
     alloc: Global,
     edges: &[Items<u32>],
+    places: &mut [usize],
     parts: &mut [Option<Part>],
     ids: &mut Vec<ClassId>,
     way: &[u32],
@@ -208,11 +300,13 @@ fn make_back(
     requires within { All (λ ids. All (λ id. id < length edges.now) ids) edges.now }
     requires numbers { All (λ id. id < length edges.now) way.now }
     requires parts { AreParts edges.now ids.old.items parts.old }
+    requires room { length places.old ≡ length edges.now }
     ensures parts { OnOk result (AreParts edges.now ids.new.items parts.new) }
+    ensures room { length places.new ≡ length places.old }
     ensures stay { OnOk result (StayMade parts.old parts.new) }
 {
     for i in 0..way.len() {
-        make(alloc, edges, parts, ids, way[way.len() - 1 - i])?;
+        make(alloc, edges, places, parts, ids, way[way.len() - 1 - i])?;
     }
     Ok(())
 }
@@ -221,21 +315,32 @@ fn make_back(
 fn make_all(
     alloc: Global,
     edges: &[Items<u32>],
+    places: &mut [usize],
     parts: &mut [Option<Part>],
     ids: &mut Vec<ClassId>,
 ) -> Result<(), AllocError>
     requires within { All (λ ids. All (λ id. id < length edges.now) ids) edges.now }
     requires few { length edges.now < 4294967296 }
     requires parts { AreParts edges.now ids.old.items parts.old }
+    requires room { length places.old ≡ length edges.now }
     ensures parts { OnOk result (AreParts edges.now ids.new.items parts.new) }
+    ensures room { length places.new ≡ length places.old }
     ensures made { OnOk result ((n : ℕ) → n < length edges.now → IsMade parts.new n) }
 {
     for n in 0..edges.len() as u32 {
         let way = way_up(alloc, edges, parts, n)?;
-        make_back(alloc, edges, parts, ids, way.as_slice())?;
-        make(alloc, edges, parts, ids, n)?;
+        make_back(alloc, edges, places, parts, ids, way.as_slice())?;
+        make(alloc, edges, places, parts, ids, n)?;
     }
     Ok(())
+}
+
+// Room for the places of so many numbers.
+fn no_places(alloc: Global, count: usize) -> Result<Vec<usize>, AllocError>
+    ensures { IfOk result (λ places. length places.items ≡ count) }
+{
+    let places = vec![in alloc; 0; count]?;
+    Ok(places)
 }
 
 /// For each number those that it leads to by one edge or more, where `edges` are the numbers that
@@ -250,7 +355,14 @@ pub fn all_led_to(alloc: Global, edges: &[Items<u32>]) -> Result<ClassLists, All
     ensures { IfOk result (λ rows. AllLedTo edges.now rows) }
 {
     let mut parts = vec![in alloc; None; edges.len()]?;
+    let mut places = no_places(alloc, edges.len())?;
     let mut ids = Vec::new(alloc);
-    make_all(alloc, edges, parts.as_mut_slice(), &mut ids)?;
+    make_all(
+        alloc,
+        edges,
+        places.as_mut_slice(),
+        parts.as_mut_slice(),
+        &mut ids,
+    )?;
     Ok(ClassLists::new(ids, parts))
 }

@@ -13,7 +13,6 @@ use jc_base::name::Name;
 use jc_facts::class_facts::ClassFacts;
 use jc_facts::flags::{is_final, is_interface, is_public};
 use jc_facts::link_error::LinkError;
-use jc_index::among::is_among;
 use jc_index::ids::ClassId;
 use jc_index::index::Index;
 use jc_index::packages::same_package;
@@ -30,15 +29,16 @@ pub(crate) fn is_accessible(index: &Index, class: &ClassFacts, from: &Name) -> b
 
 // Whether the class has permitted subclasses that leave the other one out: that one isn't public
 // and is of another package, or isn't among them (JVMS 4.7.31).
-fn leaves_out(class: &ClassFacts, below: &ClassFacts) -> bool
+fn leaves_out(index: &Index, id: ClassId, class: &ClassFacts, below: &ClassFacts) -> bool
+    requires { Some class.now ≡ find_class index.now (name_at index.now id) }
     ensures { result ≡ sealed_by below.now class.now.name class.now.permits }
 {
     match &class.permits {
         None => false,
-        Some(names) => {
+        Some(_) => {
             let apart = !is_public(below.flags)
                 && !same_package(below.name.as_bytes(), class.name.as_bytes());
-            apart || !is_among(names.as_slice(), &below.name)
+            apart || !index.permits(id, class, &below.name)
         }
     }
 }
@@ -54,11 +54,17 @@ fn excludes(index: &Index, class: &ClassFacts, below: &ClassFacts) -> bool
 }
 
 /// Whether the class is sealed against the other one: against all of its module, or by its names
-/// (JVMS 5.3.5).
-pub(crate) fn is_sealed_to(index: &Index, class: &ClassFacts, below: &ClassFacts) -> bool
+/// (JVMS 5.3.5). The class is that of the number.
+pub(crate) fn is_sealed_to(
+    index: &Index,
+    id: ClassId,
+    class: &ClassFacts,
+    below: &ClassFacts,
+) -> bool
+    requires { Some class.now ≡ find_class index.now (name_at index.now id) }
     ensures { result ≡ is_sealed_against index.now class.now below.now }
 {
-    excludes(index, class, below) || leaves_out(class, below)
+    excludes(index, class, below) || leaves_out(index, id, class, below)
 }
 
 // The error where the class isn't accessible, or is none of the kind that is asked.
@@ -76,47 +82,54 @@ fn supertype_error(accessible: bool, wrong_kind: bool) -> Option<LinkError>
 }
 
 // Whether the class can't be the superclass of the other one, be it accessible or not.
-fn is_no_superclass(index: &Index, class: &ClassFacts, below: &ClassFacts) -> bool
+fn is_no_superclass(index: &Index, id: ClassId, class: &ClassFacts, below: &ClassFacts) -> bool
+    requires { Some class.now ≡ find_class index.now (name_at index.now id) }
     ensures { result ≡ (interface_flag class.now.flags || final_flag class.now.flags || is_sealed_against index.now class.now below.now) }
 {
-    is_interface(class.flags) || is_final(class.flags) || is_sealed_to(index, class, below)
+    is_interface(class.flags) || is_final(class.flags) || is_sealed_to(index, id, class, below)
 }
 
 // Whether the class can't be an interface of the other one, be it accessible or not.
-fn is_no_interface(index: &Index, class: &ClassFacts, below: &ClassFacts) -> bool
+fn is_no_interface(index: &Index, id: ClassId, class: &ClassFacts, below: &ClassFacts) -> bool
+    requires { Some class.now ≡ find_class index.now (name_at index.now id) }
     ensures { result ≡ (not (interface_flag class.now.flags) || is_sealed_against index.now class.now below.now) }
 {
-    !is_interface(class.flags) || is_sealed_to(index, class, below)
+    !is_interface(class.flags) || is_sealed_to(index, id, class, below)
 }
 
 /// Why the class may not have `above` as its superclass: `IllegalAccessError` where it isn't
 /// accessible, then `IncompatibleClassChangeError` where it is an interface, final, or sealed to the
-/// class.
+/// class. `id` is its number.
 pub(crate) fn superclass_error(
     index: &Index,
     class: &ClassFacts,
+    id: ClassId,
     above: &ClassFacts,
 ) -> Option<LinkError>
+    requires { Some above.now ≡ find_class index.now (name_at index.now id) }
     ensures { result ≡ error_of_superclass index.now class.now above.now }
 {
     supertype_error(
         is_accessible(index, above, &class.name),
-        is_no_superclass(index, above, class),
+        is_no_superclass(index, id, above, class),
     )
 }
 
 /// Why the class may not have `above` as one of its interfaces: `IllegalAccessError` where it isn't
-/// accessible, then `IncompatibleClassChangeError` where it is no interface, or sealed to the class.
+/// accessible, then `IncompatibleClassChangeError` where it is no interface, or sealed to the class. `id`
+/// is its number.
 pub(crate) fn interface_error(
     index: &Index,
     class: &ClassFacts,
+    id: ClassId,
     above: &ClassFacts,
 ) -> Option<LinkError>
+    requires { Some above.now ≡ find_class index.now (name_at index.now id) }
     ensures { result ≡ error_of_interface index.now class.now above.now }
 {
     supertype_error(
         is_accessible(index, above, &class.name),
-        is_no_interface(index, above, class),
+        is_no_interface(index, id, above, class),
     )
 }
 
@@ -128,7 +141,7 @@ fn interface_fault(index: &Index, class: &ClassFacts, above: Option<ClassId>) ->
 {
     match above {
         None => None,
-        Some(id) => interface_error(index, class, index.facts(id)),
+        Some(id) => interface_error(index, class, id, index.facts(id)),
     }
 }
 
@@ -144,7 +157,7 @@ pub(crate) fn own_superclass_fault(
 {
     match index.superclass(id) {
         None => None,
-        Some(above) => superclass_error(index, class, index.facts(above)),
+        Some(above) => superclass_error(index, class, above, index.facts(above)),
     }
 }
 

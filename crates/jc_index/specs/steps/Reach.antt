@@ -14,6 +14,12 @@ pub record IsLedTo (edges : List (List ℕ)) (start : ℕ) (ids : List ℕ) : Ty
   pub least : (p : ℕ → Bool) → All (λ k. p k ≡ true) (next_of edges start) → ((k : ℕ) → p k ≡ true → All (λ j. p j ≡ true) (next_of edges k))
       → (k : ℕ) → Contains ids k → p k ≡ true
 
+-- the list has only such numbers, and with each what that one names
+pub record AreLedTo (edges : List (List ℕ)) (start : ℕ) (ids : List ℕ) : Type 0 where
+  pub further : (k : ℕ) → Contains ids k → All (Contains ids) (next_of edges k)
+  pub least : (p : ℕ → Bool) → All (λ k. p k ≡ true) (next_of edges start) → ((k : ℕ) → p k ≡ true → All (λ j. p j ≡ true) (next_of edges k))
+      → (k : ℕ) → Contains ids k → p k ≡ true
+
 -- for each number a list that has what is led to from it
 pub record AllLedTo (edges : List (List ℕ)) (rows : List (List ℕ)) : Type 0 where
   pub count : length rows ≡ length edges

@@ -4,7 +4,12 @@ use Rattle.jc_facts.specs.Names.{Bytes}
 use Rattle.jc_sides.specs.SharedOf.{name_of, SharedOf}
 use Rattle.jc_acts.specs.steps.LookedUp.{closed_use}
 use Rattle.jc_acts.proofs.Steps.{first_here, first_next, first_end}
+use Rattle.jc_acts.proofs.UsedAt.{none_closed}
 use Rattle.jc_acts.proofs.closing.first_seat.Goals as goal
+
+pub returns-then-is_other_kind : goal.returns-then-is_other_kind
+returns-then-is_other_kind c =
+    sym (none_closed c.args.sides.now (name_of c.args.class.now) c.args.looked.now c.args.act (sym c.is_other_kind.ensures ∙ c.if-is_other_kind.true) (map name_of c.args.seats.now))
 
 pub loop-seat-preserved : goal.loop-seat-preserved
 loop-seat-preserved c =
