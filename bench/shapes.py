@@ -3,7 +3,8 @@
 
 Writes the class files of each shape in each size, checks them with the program, and prints a line with the last line of
 the report, the processor time of the user and of the system, and the peak memory; then how time grows from one size to
-the next, as an exponent. Without a shape, those that stand in SIZES.
+the next, as an exponent. Without a shape, those that stand in SIZES. Of a shape that names long texts, it says too how many
+times the time is that of the same with texts of 20 bytes.
 """
 import math
 import os
@@ -96,28 +97,34 @@ def hidden_pairs_and_seats(n):
     yield "ON", "p/Z", class_file("p/Z", methods=members)
 
 
-LONG = "a" * 65533
+def fat_interfaces(n, size=65535):
+    """a class that names one interface of 65,535 bytes n times"""
+    yield "ON", "p/A", class_file("p/A", interfaces=["a" * size] * n)
 
 
-def fat_interfaces(n):
-    """a class that names one interface of 65,533 bytes n times"""
-    yield "ON", "p/A", class_file("p/A", interfaces=[LONG] * n)
+def fat_permits(n, size=65535):
+    """an interface that permits one name of 65,535 bytes n times"""
+    yield "ON", "p/I", class_file("p/I", methods=(), flags=PUBLIC | INTERFACE | ABSTRACT, permitted=["a" * size] * n)
 
 
-def fat_permits(n):
-    """an interface that permits one name of 65,533 bytes n times"""
-    yield "ON", "p/I", class_file("p/I", methods=(), flags=PUBLIC | INTERFACE | ABSTRACT, permitted=[LONG] * n)
-
-
-def fat_fields(n):
+def fat_fields(n, size=65535):
     """a class with n fields that share one descriptor of 65,535 bytes"""
-    yield "ON", "p/A", class_file("p/A", fields=[(PUBLIC, f"f{i:05}", f"L{LONG};") for i in range(n)])
+    text = "L" + "a" * (size - 2) + ";"
+    yield "ON", "p/A", class_file("p/A", fields=[(PUBLIC, f"f{i:05}", text) for i in range(n)])
 
 
-def fat_methods(n):
-    """a class with n methods that share one descriptor of 65,403 bytes"""
-    text = "(" + "Laaaa;" * 200 + "L" + "b" * 64198 + ";)V"
+def fat_methods(n, size=65535):
+    """a class with n methods that share one descriptor of 65,535 bytes, of up to 200 parameters"""
+    some = "Laaaa;" * min(200, (size - 6) // 6)
+    text = "(" + some + "L" + "b" * (size - 5 - len(some)) + ";)V"
     yield "ON", "p/A", class_file("p/A", methods=[INIT] + [(PUBLIC, f"m{i:05}", text) for i in range(n)])
+
+
+def fat_turns(n, size=65535):
+    """a class that names two interfaces of 65,535 bytes in turn, n times, with n fields that have two such descriptors in turn"""
+    names = ["a" * (size - 1) + last for last in "bc"]
+    fields = [(PUBLIC, f"f{i:05}", f"L{names[i % 2][2:]};") for i in range(n)]
+    yield "ON", "p/A", class_file("p/A", interfaces=[names[i % 2] for i in range(n)], fields=fields)
 
 
 def signed_methods(n):
@@ -148,17 +155,19 @@ def dropped_interfaces(n):
 
 
 SIZES = [(hidden_pairs, (1000, 2000, 4000)), (hidden_members, (1000, 4000, 16000)), (hidden_seats, (1000, 4000, 16000)),
-         (hidden_pairs_and_seats, (250, 500, 1000)), (fat_interfaces, (4000, 16000)), (fat_permits, (4000, 16000)),
-         (fat_fields, (4000, 16000)), (fat_methods, (4000, 16000)), (signed_methods, (7500, 15000, 30000)),
-         (wide_base, (500, 1000, 2000)), (dropped_interfaces, (2000, 4000, 8000))]
+         (hidden_pairs_and_seats, (250, 500, 1000)), (fat_interfaces, (16000, 65535)), (fat_permits, (16000, 65535)),
+         (fat_fields, (15000, 60000)), (fat_methods, (15000, 60000)), (fat_turns, (15000, 60000)),
+         (signed_methods, (7500, 15000, 30000)), (wide_base, (500, 1000, 2000)), (dropped_interfaces, (2000, 4000, 8000))]
 SHAPES = {shape.__name__: shape for shape, _ in SIZES}
+# those that name long texts
+FAT = (fat_interfaces, fat_permits, fat_fields, fat_methods, fat_turns)
 # what a check of the shape is asked for besides
 ASKED = {signed_methods: ["--signatures"], wide_base: ["--warn"], dropped_interfaces: ["--dropped"]}
 
 
-def written(shape, size, folder):
+def written(shape, sizes, folder):
     """Writes the platform and the releases; gives the words that name them."""
-    files = [("P", OBJECT, class_file(OBJECT, None))] + list(shape(size))
+    files = [("P", OBJECT, class_file(OBJECT, None))] + list(shape(*sizes))
     words = []
     for side, option in ("P", "--platform"), ("O", "--old"), ("N", "--new"):
         words += [option, os.path.join(folder, side)]
@@ -184,6 +193,12 @@ def checked(program, words, folder):
     return lines[-1], used.ru_utime + used.ru_stime, used.ru_maxrss / 1024
 
 
+def measured(program, shape, *sizes):
+    """The same of a shape of these sizes."""
+    with tempfile.TemporaryDirectory() as folder:
+        return checked(program, written(shape, sizes, folder) + ASKED.get(shape, []), folder)
+
+
 def main(words):
     if not words or words[1:] and words[1] not in SHAPES:
         sys.exit("usage: bench/shapes.py PROGRAM [SHAPE N..]\n" + "\n".join(f"  {name}: {shape.__doc__}" for name, shape in SHAPES.items()))
@@ -193,10 +208,10 @@ def main(words):
     for shape, sizes in [(SHAPES[words[1]], [int(word) for word in words[2:]])] if words[1:] else SIZES:
         before = None
         for size in sizes:
-            with tempfile.TemporaryDirectory() as folder:
-                line, seconds, peak = checked(program, written(shape, size, folder) + ASKED.get(shape, []), folder)
+            line, seconds, peak = measured(program, shape, size)
             grown = f", exponent {math.log(seconds / before[1]) / math.log(size / before[0]):.2f}" if before else ""
-            print(f"{shape.__name__} {size}: {line}: {seconds:.2f} s, {peak:.0f} MB{grown}", flush=True)
+            short = f", {seconds / max(measured(program, shape, size, 20)[1], 0.001):.1f} times a short text" if shape in FAT else ""
+            print(f"{shape.__name__} {size}: {line}: {seconds:.2f} s, {peak:.0f} MB{grown}{short}", flush=True)
             before = size, max(seconds, 0.001)
 
 

@@ -12,6 +12,7 @@ use crate::around::Around;
 use crate::method::{attributes_items, unread};
 use crate::row::Row;
 use jc_attr::class_head::ClassHead;
+use jc_attr::judged::Judged;
 use jc_attr::member_head::{MemberHead, member_head_at};
 use jc_desc::bytes::u16_at;
 use jc_facts::client::Item;
@@ -45,12 +46,13 @@ fn method_items<'a, 'b>(
     pool: &Pool<'a>,
     head: ClassHead<'a>,
     boots: Option<&[Row]>,
+    judged: &mut Judged<'a>,
     bytes: &'b [u8],
     items: &mut Vec<Item>,
 ) -> Result<Result<&'b [u8], CodeFault>, AllocError>
     ensures { IfOk result (λ r. result_map_both (λ x. (items.new.items, x.now)) (λ e. e) r ≡ with_before items.old.items (client.method_items pool.now (head_view head.entry) (option_map (λ x. map (λ r. row_view r) x.now) boots.entry) bytes.now)) }
 {
-    let (method, rest) = match member_head_at(true, pool, head.flags, bytes) {
+    let (method, rest) = match member_head_at(true, pool, head.flags, judged, bytes) {
         Ok(read) => read,
         Err(fault) => return Ok(Err(unread(fault))),
     };
@@ -74,9 +76,10 @@ pub(crate) fn methods_items<'a, 'b>(
 ) -> Result<Result<&'b [u8], CodeFault>, AllocError>
     ensures { IfOk result (λ r. result_map_both (λ x. (items.new.items, x.now)) (λ e. e) r ≡ with_before items.old.items (client.methods_items pool.now (head_view head.entry) (option_map (λ x. map (λ r. row_view r) x.now) boots.entry) count bytes.now)) }
 {
+    let mut judged = Judged::new(alloc);
     let mut rest = bytes;
     for _ in 0..count {
-        let after = match method_items(alloc, pool, head, boots, rest, items)? {
+        let after = match method_items(alloc, pool, head, boots, &mut judged, rest, items)? {
             Ok(after) => after,
             Err(fault) => return Ok(Err(fault)),
         };

@@ -1,18 +1,20 @@
 -- Names that are collected from classes, and counted.
 use Rattle.std.proofs.Common.{◌≡◌, ◌<◌, ◌≤◌, ◌+◌, ℕ, Bool, true, false, cond, ◌||◌, List, [], ◌∷◌, ◌++◌, length, map, take, get_or, refl, sym, ◌∙◌, ap, subst, arith}
-use Rattle.std.specs.Prelude.{nat_eq, Some, is_some}
+use Rattle.std.specs.Prelude.{nat_eq, Option, Some, None, is_some, IfSome, slice_get}
+use Rattle.std.proofs.lemmas.Bool.{or_right}
+use Rattle.std.proofs.lemmas.Option.{slice_get_read, slice_get_within, get_or_from_slice_get}
 use Rattle.std.specs.List.{list_any}
-use Rattle.std.specs.Cmp.Lexicographic.{pointwise}
-use Rattle.std.proofs.lemmas.List.{take_more, take_all, map-append, length-append}
-use Rattle.std.proofs.lemmas.List.Folds.{list_any-append}
+use Rattle.std.specs.Cmp.Lexicographic.{pointwise, same_text}
+use Rattle.std.proofs.lemmas.List.{take_more, take_all, length-append, length-take-le, get_or-take}
+use Rattle.std.proofs.lemmas.List.Folds.{list_any-append, list_any_at}
 use Rattle.jc_lemmas.proofs.Bools.{or_false, or_assoc}
 use Rattle.jc_facts.specs.declared.class_facts.ClassFacts.{ClassFacts}
 use Rattle.jc_facts.specs.Names.{Bytes, same, is_name_among}
 use Rattle.jc_facts.specs.world.Mentioned.{mentions, all_mentions}
 use Rattle.jc_facts.specs.world.World.{class_named}
-use Rattle.jc_facts.proofs.Same.{same_is}
+use Rattle.jc_facts.proofs.Same.{same_is, same_itself}
 use Rattle.jc_index.proofs.NumberedNames.{any-among}
-use Rattle.jc_index.specs.steps.Adding.{Adds}
+use Rattle.jc_index.specs.steps.Adding.{Adds, IsAgain}
 
 -- ---- names that are added
 
@@ -28,13 +30,13 @@ adds_known names x h = λ y. go y (same x y) refl
 pub adds_last : (names now : List Bytes) (x : Bytes) → now ≡ names ++ x ∷ [] → Adds names now (x ∷ [])
 adds_last names now x e = λ y. ap (λ (ns : List Bytes). is_name_among ns y) e ∙ list_any-append (λ z. same z y) names (x ∷ [])
 
--- one that is put into a set, whose keys have these names
-pub adds_key : {A : Type 0} (f : A → Bytes) (v : A) (vs now : List A) → now ≡ cond (list_any (λ a. pointwise nat_eq (f v) (f a)) vs) vs (vs ++ v ∷ []) → Adds (map f vs) (map f now) (f v ∷ [])
-adds_key {A = A} f v vs now h = go (list_any (λ a. pointwise nat_eq (f v) (f a)) vs) refl h
+-- one that is put into a set
+pub adds_key : (x : Bytes) (names now : List Bytes) → now ≡ cond (list_any (λ y. pointwise nat_eq x y) names) names (names ++ x ∷ []) → Adds names now (x ∷ [])
+adds_key x names now h = go (list_any (λ y. pointwise nat_eq x y) names) refl h
   where
-    go : (b : Bool) → list_any (λ a. pointwise nat_eq (f v) (f a)) vs ≡ b → now ≡ cond b vs (vs ++ v ∷ []) → Adds (map f vs) (map f now) (f v ∷ [])
-    go true e g = subst (λ (xs : List A). Adds (map f vs) (map f xs) (f v ∷ [])) (sym g) (adds_known (map f vs) (f v) (sym (any-among f (f v) vs) ∙ e))
-    go false e g = adds_last (map f vs) (map f now) (f v) (ap (map f) g ∙ map-append f vs (v ∷ []))
+    go : (b : Bool) → list_any (λ y. pointwise nat_eq x y) names ≡ b → now ≡ cond b names (names ++ x ∷ []) → Adds names now (x ∷ [])
+    go true e g = subst (λ (ns : List Bytes). Adds names ns (x ∷ [])) (sym g) (adds_known names x (sym (any-among x names) ∙ e))
+    go false e g = adds_last names now x g
 
 -- some names, and then others
 pub adds_both : (a b c xs ys : List Bytes) → Adds a b xs → Adds b c ys → Adds a c (xs ++ ys)
@@ -45,6 +47,33 @@ adds_both a b c xs ys h k = λ y.
 pub adds_next : (a b c names : List Bytes) (n : ℕ) (x : Bytes) → n < length names → x ≡ get_or names n x → Adds a b (take n names) → Adds b c (x ∷ []) → Adds a c (take (n + 1) names)
 adds_next a b c names n x l e h k =
     subst (λ (ns : List Bytes). Adds a c ns) (ap (λ (y : Bytes). take n names ++ y ∷ []) e ∙ sym (take_more names n x l)) (adds_both a b c (take n names) (x ∷ []) h k)
+
+-- one that is compared with an earlier one
+pub again_is : (names : List Bytes) (at earlier : ℕ) (x y a b : Bytes) → earlier < at → at < length names → x ≡ get_or names at x → y ≡ get_or names earlier y → a ≡ x → b ≡ y → true ≡ pointwise nat_eq b a → IsAgain names at earlier
+again_is names at earlier x y a b l m e f p q t =
+    let is : y ≡ x = sym q ∙ same_text b a t ∙ p in
+    record {
+      after = l;
+      name = x;
+      there = slice_get_read names (length names) at x refl m e;
+      before = slice_get_read names (length names) earlier y refl (omega (arith, l, m)) f ∙ ap Some is;
+    }
+
+-- one that stands at an earlier place too
+pub adds_again : (a b names : List Bytes) (at earlier : ℕ) → IsAgain names at earlier → Adds a b (take at names) → Adds a b (take (at + 1) names)
+adds_again a b names at earlier g h =
+    let within : at < length names = slice_get_within names at g.name g.there in
+    let front : length (take at names) ≡ at = length-take-le at names (omega (arith, within)) in
+    let is : get_or (take at names) earlier g.name ≡ g.name = get_or-take at names earlier g.name g.after ∙ get_or_from_slice_get names earlier g.name g.name g.before in
+    let one : same (get_or (take at names) earlier g.name) g.name ≡ true = ap (λ (x : Bytes). same x g.name) is ∙ same_itself g.name in
+    let t : is_name_among (take at names) g.name ≡ true = list_any_at (λ z. same z g.name) (take at names) earlier g.name (omega (arith, g.after, front)) one in
+    let there : is_name_among b g.name ≡ true = h g.name ∙ or_right (is_name_among a g.name) (is_name_among (take at names) g.name) t in
+    adds_next a b b names at g.name within (sym (get_or_from_slice_get names at g.name g.name g.there)) h (adds_known b g.name there)
+
+-- the same of one that may stand at an earlier place
+pub adds_found : (a b names : List Bytes) (at : ℕ) (found : Option ℕ) → IfSome found (λ earlier. IsAgain names at earlier) → true ≡ is_some found → Adds a b (take at names) → Adds a b (take (at + 1) names)
+adds_found a b names at None g t h = absurd (cc)
+adds_found a b names at (Some earlier) g t h = adds_again a b names at earlier g h
 
 pub adds_all : (a b names : List Bytes) (n : ℕ) → length names ≤ n → Adds a b (take n names) → Adds a b names
 adds_all a b names n l h = subst (λ (ns : List Bytes). Adds a b ns) (take_all n names l) h

@@ -4,7 +4,6 @@ use Rattle.std.specs.Prelude.{nat_eq, nat_lt, option_map}
 use Rattle.std.specs.List.{list_any, position_or_len}
 use Rattle.std.specs.Cmp.Lexicographic.{pointwise, same_text, other_text}
 use Rattle.std.proofs.lemmas.Slice.Eq.{bytes_eq-Decides}
-use Rattle.std.proofs.lemmas.List.{map-append}
 use Rattle.jc_facts.specs.Names.{Bytes, same, is_name_among}
 use Rattle.jc_index.specs.Ids.{place_of}
 
@@ -28,10 +27,7 @@ none_left l m e = grind arith
 one_less : (p l m : ℕ) → m ≡ suc l → nat_lt (1 + p) m ≡ nat_lt p l
 one_less p l m e = grind arith
 
-module _ {A : Type 0} (f : A → Bytes) (x : Bytes) where
-  test : A → Bool
-  test a = pointwise nat_eq x (f a)
-
+module _ (x : Bytes) where
   step : (b : Bool) (p l m : ℕ) → m ≡ suc l → cond (nat_lt (cond (not b) (1 + p) 0) m) (Some (cond (not b) (1 + p) 0)) None ≡ cond b (Some 0) (option_map suc (cond (nat_lt p l) (Some p) None))
   step true p l m e = rw (none_left l m e) refl
   step false p l m e = rw (one_less p l m e) (go (nat_lt p l))
@@ -40,25 +36,22 @@ module _ {A : Type 0} (f : A → Bytes) (x : Bytes) where
       go true = ap Some (let q : 1 + p ≡ suc p = omega arith in q)
       go false = refl
 
-  pub position-place : (vs : List A) → position (λ a. pointwise nat_eq x (f a)) vs ≡ place_of (map f vs) x
+  pub position-place : (names : List Bytes) → position (λ y. pointwise nat_eq x y) names ≡ place_of names x
   unfolding place_of
   position-place [] = refl
-  position-place (v ∷ vs) =
-      step (pointwise nat_eq x (f v)) (position_or_len (λ a. pointwise nat_eq x (f a)) vs) (length vs) (length (v ∷ vs)) (let q : length (v ∷ vs) ≡ suc (length vs) = omega arith in q)
-      ∙ ap (λ (o : Option ℕ). cond (pointwise nat_eq x (f v)) (Some 0) (option_map suc o)) (position-place vs)
-      ∙ ap (λ (b : Bool). cond b (Some 0) (option_map suc (place_of (map f vs) x))) (same-test x (f v))
+  position-place (y ∷ ys) =
+      step (pointwise nat_eq x y) (position_or_len (λ z. pointwise nat_eq x z) ys) (length ys) (length (y ∷ ys)) (let q : length (y ∷ ys) ≡ suc (length ys) = omega arith in q)
+      ∙ ap (λ (o : Option ℕ). cond (pointwise nat_eq x y) (Some 0) (option_map suc o)) (position-place ys)
+      ∙ ap (λ (b : Bool). cond b (Some 0) (option_map suc (place_of ys x))) (same-test x y)
 
   -- whether it is in the set
-  pub any-among : (vs : List A) → list_any (λ a. pointwise nat_eq x (f a)) vs ≡ is_name_among (map f vs) x
+  pub any-among : (names : List Bytes) → list_any (λ y. pointwise nat_eq x y) names ≡ is_name_among names x
   any-among [] = refl
-  any-among (v ∷ vs) = ap (λ b. b || list_any (λ a. pointwise nat_eq x (f a)) vs) (same-test x (f v)) ∙ ap (λ b. same (f v) x || b) (any-among vs)
+  any-among (y ∷ ys) = ap (λ b. b || list_any (λ z. pointwise nat_eq x z) ys) (same-test x y) ∙ ap (λ b. same y x || b) (any-among ys)
 
--- a name that wasn't in the set is the last one
-pub added_last : {A : Type 0} (f : A → Bytes) (x : Bytes) (v : A) (vs now : List A) (names : List Bytes) → f v ≡ x → map f vs ≡ names → now ≡ cond (list_any (λ a. pointwise nat_eq (f v) (f a)) vs) vs (vs ++ v ∷ []) → is_name_among names x ≡ false → map f now ≡ names ++ x ∷ []
-added_last f x v vs now names e n h a =
-    let none : list_any (λ a. pointwise nat_eq (f v) (f a)) vs ≡ false = any-among f (f v) vs ∙ ap (λ (ns : List Bytes). is_name_among ns (f v)) n ∙ ap (is_name_among names) e ∙ a in
-    let last : now ≡ vs ++ v ∷ [] = h ∙ ap (λ (b : Bool). cond b vs (vs ++ v ∷ [])) none in
-    ap (map f) last ∙ map-append f vs (v ∷ []) ∙ ap (λ (ns : List Bytes). ns ++ f v ∷ []) n ∙ ap (λ (y : Bytes). names ++ y ∷ []) e
+  -- a name that wasn't in the set is the last one
+  pub added_last : (names now : List Bytes) → now ≡ cond (list_any (λ y. pointwise nat_eq x y) names) names (names ++ x ∷ []) → is_name_among names x ≡ false → now ≡ names ++ x ∷ []
+  added_last names now h a = h ∙ ap (λ (b : Bool). cond b names (names ++ x ∷ [])) (any-among names ∙ a)
 
 -- ---- a name doesn't stand before its place
 

@@ -1,14 +1,15 @@
 -- The places of the classes that each class of a list names above itself.
-use Rattle.std.proofs.Common.{◌≡◌, ℕ, ◌<◌, ◌≤◌, ◌+◌, true, false, ltb, List, [], ◌∷◌, ◌++◌, length, get_or, map, take, refl, sym, ◌∙◌, ap, subst, Option, Some, None, ◌⊎◌, inl, inr}
+use Rattle.std.proofs.Common.{◌≡◌, ℕ, ◌<◌, ◌≤◌, ◌+◌, arith, true, false, ltb, List, [], ◌∷◌, ◌++◌, length, get_or, map, take, refl, sym, ◌∙◌, ap, subst, Option, Some, None, ◌⊎◌, inl, inr}
 use Rattle.std.proofs.lemmas.Bool.{ltb-true, lt-ltb}
 use Rattle.std.specs.Prelude.{slice_get, option_map}
-use Rattle.std.proofs.lemmas.List.{map_more}
+use Rattle.std.proofs.lemmas.List.{map_more, length-map, length-take-le, get_or-map, get_or-take}
 use Rattle.std.proofs.lemmas.Option.{slice_get-map, slice_get_cases, slice_get_read, slice_get_within, get_or_from_slice_get}
 use Rattle.jc_facts.specs.declared.class_facts.ClassFacts.{ClassFacts}
 use Rattle.jc_facts.specs.Names.{Bytes}
 use Rattle.jc_facts.specs.Options.{and_then}
 use Rattle.jc_facts.specs.world.Search.{supers}
 use Rattle.jc_index.specs.Ids.{place_of}
+use Rattle.jc_index.specs.steps.Adding.{IsAgain}
 use Rattle.jc_index.specs.steps.Order.{names_at}
 use Rattle.jc_index.specs.steps.PlacesAbove.{places_above, place_above}
 use Rattle.jc_index.proofs.NamedAbove.{class-at}
@@ -17,6 +18,20 @@ use Rattle.jc_index.proofs.NamedAbove.{class-at}
 pub row-more : {A : Type 0} (f : Bytes → A) (xs : List Bytes) (at : ℕ) (x : Bytes) (row now : List A) (a : A) → slice_get xs at ≡ Some x → a ≡ f x → now ≡ row ++ a ∷ [] → row ≡ map f (take at xs) → now ≡ map f (take (at + 1) xs)
 row-more {A = A} f xs at x row now a s e q h =
     q ∙ ap (λ (bs : List A). bs ++ a ∷ []) h ∙ ap (λ (b : A). map f (take at xs) ++ b ∷ []) (e ∙ ap f (sym (get_or_from_slice_get xs at x x s))) ∙ sym (map_more f xs at x (slice_get_within xs at x s))
+
+-- as many as names were looked for
+pub row-length : {A : Type 0} (f : Bytes → A) (xs : List Bytes) (at : ℕ) (row : List A) → at < length xs → row ≡ map f (take at xs) → length row ≡ at
+row-length f xs at row l h = ap length h ∙ length-map (take at xs) f ∙ length-take-le at xs (omega (arith, l))
+
+-- the same of a name that stands at an earlier place too
+pub row-again : {A : Type 0} (f : Bytes → A) (xs : List Bytes) (at earlier : ℕ) (row now : List A) (a : A) → IsAgain xs at earlier → row ≡ map f (take at xs) → a ≡ get_or row earlier a → now ≡ row ++ a ∷ [] → now ≡ map f (take (at + 1) xs)
+row-again {A = A} f xs at earlier row now a g h e q =
+    let within : at < length xs = slice_get_within xs at g.name g.there in
+    let front : length (take at xs) ≡ at = length-take-le at xs (omega (arith, within)) in
+    let is : a ≡ f g.name =
+    e ∙ ap (λ (r : List A). get_or r earlier a) h ∙ get_or-map f (take at xs) earlier g.name a (omega (arith, g.after, front))
+    ∙ ap f (get_or-take at xs earlier g.name g.after ∙ get_or_from_slice_get xs earlier g.name g.name g.before) in
+    row-more f xs at g.name row now a g.there is q h
 
 -- ---- a row by its place
 

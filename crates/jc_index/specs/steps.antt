@@ -12,3 +12,4 @@ pub mod NamedClasses
 pub mod PlacesAbove
 pub mod PlatformLists
 pub mod Seals
+pub mod NameKeys

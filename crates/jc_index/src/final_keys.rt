@@ -37,7 +37,8 @@ fn names_of(alloc: Global, keys: &[Key]) -> Result<NumberedNames, AllocError>
 {
     let mut names = NumberedNames::new(alloc);
     for key in keys {
-        names.put(alloc, key.name.as_bytes())?;
+        let name = key.name.copy(alloc)?;
+        names.put(name)?;
     }
     Ok(names)
 }

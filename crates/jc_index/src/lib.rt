@@ -16,6 +16,7 @@ pub mod index;
 pub mod members;
 pub mod mentioned;
 pub mod modules;
+mod name_key;
 pub mod name_set;
 mod named_above;
 mod named_classes;

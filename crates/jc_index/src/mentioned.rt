@@ -8,7 +8,7 @@ ghost use Rattle.jc_index.specs.Mentioned.{mentions_front};
 ghost use Rattle.jc_index.specs.steps.Adding.{Adds};
 ghost use Rattle.jc_index.specs.MentionedNames.{AreMentionedNames};
 
-use crate::names::NumberedNames;
+use crate::names::{NumberedNames, again};
 use crate::packages::package_of;
 use crate::side::Side;
 use crate::supers::super_count;
@@ -45,8 +45,12 @@ pub(crate) fn put_names(
 ) -> Result<(), AllocError>
     ensures { OnOk result (Adds set.old set.new names.now) }
 {
-    for name in names {
-        set.put(alloc, name.as_bytes())?;
+    for at in 0..names.len() {
+        if again(names, at).is_some() {
+            continue;
+        }
+        let copy = names[at].copy(alloc)?;
+        set.put(copy)?;
     }
     Ok(())
 }
@@ -58,7 +62,8 @@ fn put_supers(alloc: Global, set: &mut NumberedNames, class: &ClassFacts) -> Res
     let interfaces = class.interfaces.as_slice();
     match &class.superclass {
         Some(name) => {
-            set.put(alloc, name.as_bytes())?;
+            let copy = name.copy(alloc)?;
+            set.put(copy)?;
             put_names(alloc, set, interfaces)?;
             Ok(())
         }
@@ -75,7 +80,7 @@ fn packages(alloc: Global, classes: &[ClassFacts]) -> Result<NumberedNames, Allo
 {
     let mut set = NumberedNames::new(alloc);
     for class in classes {
-        set.put(alloc, package_of(class.name.as_bytes()))?;
+        set.put_bytes(alloc, package_of(class.name.as_bytes()))?;
     }
     Ok(set)
 }

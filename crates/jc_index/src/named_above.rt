@@ -6,6 +6,7 @@ ghost use Rattle.jc_index.specs.Interfaces.{interfaces_of};
 
 use crate::ids::ClassId;
 use crate::named_classes::NamedClasses;
+use crate::names::again;
 use jc_base::items::Items;
 use jc_facts::class_facts::ClassFacts;
 use std::alloc::{AllocError, Global};
@@ -46,6 +47,11 @@ fn interface_ids(
     let names = class.interfaces.as_slice();
     let mut ids = Vec::with_capacity(alloc, names.len())?;
     for at in 0..names.len() {
+        if let Some(earlier) = again(names, at) {
+            let same = ids[earlier];
+            ids.push(same)?;
+            continue;
+        }
         let name = &names[at];
         ids.push(classes.get_above(id, before + at, name.as_bytes()))?;
     }

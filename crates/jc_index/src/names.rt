@@ -1,12 +1,14 @@
 //! Names and their numbers.
-ghost use Rattle.std.specs.Prelude.{◌≡◌, ◌++◌, ◌∷◌, [], false, IfOk, OnOk, IsTrue};
+ghost use Rattle.std.specs.Prelude.{◌≡◌, ◌<◌, ◌++◌, ◌∷◌, [], false, length, IfOk, IfSome, OnOk, IsTrue};
 ghost use Rattle.jc_facts.specs.Names.{is_name_among};
 ghost use Rattle.jc_facts.specs.world.World.{differ_by_name};
 ghost use Rattle.jc_index.specs.Ids.{place_of};
-ghost use Rattle.jc_index.specs.steps.Adding.{Adds};
+ghost use Rattle.jc_index.specs.steps.Adding.{Adds, IsAgain, with_name};
 ghost use Rattle.jc_index.specs.steps.Order.{names_at};
 
+use crate::name_key::NameKey;
 use indexmap::IndexSet;
+use jc_base::name::Name;
 use jc_facts::class_facts::ClassFacts;
 use std::alloc::{AllocError, Global};
 use std::marker::Model;
@@ -15,16 +17,30 @@ use std::marker::Model;
 /// contract sees them as a list.
 #[derive(Drop)]
 pub struct NumberedNames {
-    set: IndexSet<Vec<u8>>,
+    set: IndexSet<NameKey<'static>>,
 }
 
 impl Model for NumberedNames {
-    ghost use Rattle.std.specs.Prelude.{List, map};
+    ghost use Rattle.std.specs.Prelude.{List};
     ghost use Rattle.jc_facts.specs.Names.{Bytes};
 
     ghost Value = { List Bytes };
 
-    ghost view = { λ n. map (λ v. v.items) n.set.keys };
+    ghost view = { λ n. n.set.keys };
+}
+
+// The number of the key in the set; none where it isn't one of its keys.
+fn number_in<'a>(set: &IndexSet<NameKey<'a>>, key: NameKey<'a>) -> Option<usize>
+    ensures { result ≡ place_of set.now.keys key.entry }
+{
+    set.get_index_of(&key)
+}
+
+// Whether the key is one of those of the set.
+fn is_in<'a>(set: &IndexSet<NameKey<'a>>, key: NameKey<'a>) -> bool
+    ensures { result ≡ is_name_among set.now.keys key.entry }
+{
+    set.contains(&key)
 }
 
 impl NumberedNames {
@@ -49,48 +65,82 @@ impl NumberedNames {
     pub fn number(&self, name: &[u8]) -> Option<usize>
         ensures { result ≡ place_of self.now name.now }
     {
-        self.set.get_index_of(name)
+        number_in(&self.set, NameKey::asked(name))
     }
 
     /// Whether the name is one of them. It takes no memory.
     pub fn has(&self, name: &[u8]) -> bool
         ensures { result ≡ is_name_among self.now name.now }
     {
-        self.set.contains(name)
+        is_in(&self.set, NameKey::asked(name))
     }
 
-    // Adds a name that isn't one of them.
-    fn push(&mut self, alloc: Global, name: &[u8]) -> Result<(), AllocError>
-        requires { is_name_among self.old name.now ≡ false }
-        ensures { OnOk result (self.new ≡ self.old ++ name.now ∷ []) }
+    // Adds the name to the set.
+    fn insert(&mut self, name: Name) -> Result<(), AllocError>
+        ensures { OnOk result (self.new ≡ with_name self.old name) }
     {
-        let name = Vec::from_slice(alloc, name)?;
-        match self.set.insert(name) {
+        match self.set.insert(NameKey::kept(name)) {
             Ok(_) => Ok(()),
             Err(_) => Err(AllocError),
         }
     }
 
-    /// Adds the name, where it isn't one of them.
-    pub(crate) fn put(&mut self, alloc: Global, name: &[u8]) -> Result<(), AllocError>
-        ensures { OnOk result (Adds self.old self.new (name.now ∷ [])) }
+    /// Adds the name at the end, where it isn't one of them.
+    pub(crate) fn put(&mut self, name: Name) -> Result<(), AllocError>
+        ensures adds { OnOk result (Adds self.old self.new (name ∷ [])) }
+        ensures last { OnOk result (is_name_among self.old name ≡ false → self.new ≡ self.old ++ name ∷ []) }
     {
-        if self.has(name) {
+        self.insert(name)?;
+        Ok(())
+    }
+
+    /// Adds the name of these bytes, where it isn't one of them. Where it is, it takes no memory.
+    pub(crate) fn put_bytes(&mut self, alloc: Global, bytes: &[u8]) -> Result<(), AllocError>
+        ensures { OnOk result (Adds self.old self.new (bytes.now ∷ [])) }
+    {
+        if self.has(bytes) {
             return Ok(());
         }
-        self.push(alloc, name)?;
+        let name = Name::from_bytes(alloc, bytes)?;
+        self.put(name)?;
         Ok(())
     }
 }
 
-/// The names of the classes, numbered as they stand.
+/// So many bytes a name has at least that is compared with those just before it, before it is looked for:
+/// a class may name a long one many times.
+const LONG: usize = 256;
+
+/// It is compared with so many.
+const FEW: usize = 8;
+
+/// A place just before this one at which the same long name stands.
+pub(crate) fn again(names: &[Name], at: usize) -> Option<usize>
+    requires { at < length names.now }
+    ensures { IfSome result (λ earlier. IsAgain names.now at earlier) }
+{
+    let name = names[at].as_bytes();
+    if name.len() < LONG {
+        return None;
+    }
+    for earlier in at.saturating_sub(FEW)..at {
+        let before = names[earlier].as_bytes();
+        if before == name {
+            return Some(earlier);
+        }
+    }
+    None
+}
+
+/// The names of the classes, numbered as they stand. They share the bytes of the classes' own.
 pub(crate) fn numbered(alloc: Global, classes: &[ClassFacts]) -> Result<NumberedNames, AllocError>
     requires { IsTrue (differ_by_name classes.now) }
     ensures { IfOk result (λ names. names ≡ names_at classes.now) }
 {
     let mut names = NumberedNames::with_capacity(alloc, classes.len())?;
     for class in classes {
-        names.push(alloc, class.name.as_bytes())?;
+        let name = class.name.copy(alloc)?;
+        names.put(name)?;
     }
     Ok(names)
 }

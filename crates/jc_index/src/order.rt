@@ -101,13 +101,13 @@ fn add_ordered<'a>(
 
 /// The places of the classes of a side, in byte order of their names. Those of the platform and those
 /// beside them stand in this order already, so that the sort merges the two.
-pub(crate) fn merged(alloc: Global, side: &Side) -> Result<Vec<usize>, AllocError>
+pub(crate) fn merged<'a>(alloc: Global, side: &'a Side) -> Result<Vec<usize>, AllocError>
     requires { IsSide side.now }
     ensures { IfOk result (λ order. IsOrder (classes side.now) order.items) }
 {
     let platform = side.platform();
     let beside = side.beside();
-    let mut places = Vec::with_capacity(alloc, side.count())?;
+    let mut places: Vec<Place<'a>> = Vec::with_capacity(alloc, side.count())?;
     add_ordered(&mut places, side, platform.order(), 0)?;
     add_ordered(&mut places, side, beside.order(), platform.classes().len())?;
     let order = sorted(alloc, places)?;

@@ -18,12 +18,12 @@ use jc_sides::sides::Sides;
 /// Acts on fields of kept classes that were open to a client and aren't any more, one finding for a
 /// key (JVMS 5.4.3.2, 5.4.4).
 #[derive(Drop)]
-pub struct FieldClosed<'a, 'b> {
+pub struct FieldClosed<'a> {
     /// The seats of clients.
-    pub seats: &'b Seats<'a>,
+    pub seats: &'a Seats<'a>,
 }
 
-impl<'a, 'b> ItemRule for FieldClosed<'a, 'b> {
+impl<'a> ItemRule for FieldClosed<'a> {
     type Item = Finding;
 
     ghost rule = { FIELD_CLOSED };

@@ -37,14 +37,14 @@ pub fn is_no_interface_now(sides: &Sides<'_>, id: ClassId) -> bool
 /// Interfaces that clients could use, or that members expose to them, and that are none any more
 /// (JVMS 4.10.1.2).
 #[derive(Drop)]
-pub struct InterfaceBecameClass<'a, 'b> {
+pub struct InterfaceBecameClass<'a> {
     /// The seats of clients.
-    pub seats: &'b Seats<'a>,
+    pub seats: &'a Seats<'a>,
     /// What was lost, with the members that expose hidden classes.
-    pub losses: &'b Losses,
+    pub losses: &'a Losses,
 }
 
-impl<'a, 'b> ClassRule for InterfaceBecameClass<'a, 'b> {
+impl<'a> ClassRule for InterfaceBecameClass<'a> {
     ghost rule = { INTERFACE_BECAME_CLASS };
 
     ghost ready = { λ r s. AreSeats s r.seats.now × AreLosses s r.losses.now };

@@ -19,12 +19,12 @@ use jc_sides::sides::Sides;
 /// Acts on methods of kept classes that were open to a client and aren't any more, one finding for a
 /// key (JVMS 5.4.3.3, 5.4.3.4, 5.4.4).
 #[derive(Drop)]
-pub struct MethodClosed<'a, 'b> {
+pub struct MethodClosed<'a> {
     /// The seats of clients.
-    pub seats: &'b Seats<'a>,
+    pub seats: &'a Seats<'a>,
 }
 
-impl<'a, 'b> ItemRule for MethodClosed<'a, 'b> {
+impl<'a> ItemRule for MethodClosed<'a> {
     type Item = Finding;
 
     ghost rule = { METHOD_CLOSED };

@@ -44,12 +44,16 @@ fn is_utf8(bytes: &[u8]) -> bool
     str::from_utf8(bytes).is_ok()
 }
 
-// Whether a client of the side may have this name.
+// Whether a client of the side may have this name. Its length is asked first, as to look for a long one
+// takes long.
 #[tactic(auto, unfolding(jc_facts::specs::client::Allowed::is_allowed_name))]
 fn is_allowed(table: &Table, name: &Name) -> bool
     ensures { result ≡ is_allowed_name table.now name.now }
 {
     let bytes = name.as_bytes();
+    if bytes.len() > MAX_CLASS_NAME {
+        return false;
+    }
     !is_declared(table, name)
         && !table.names_super(name)
         && !table.has_package(package_of(bytes))
@@ -110,12 +114,7 @@ fn permits(sides: &Sides<'_>, names: &Option<Items<Name>>) -> bool
 pub fn set_of(alloc: Global, names: &[Name]) -> Result<NameSet, AllocError>
     ensures { IfOk result (λ set. IsPermutation names.now set) }
 {
-    let mut copies = Vec::with_capacity(alloc, names.len())?;
-    for name in names {
-        copies.push(name.copy(alloc)?)?;
-    }
-    let set = NameSet::new(copies)?;
-    Ok(set)
+    NameSet::copied(alloc, names)
 }
 
 /// Whether clients of both sides may have the name, and it isn't in the set.

@@ -1,5 +1,5 @@
 //! The constructors that planned clients call (JVMS 2.9.1).
-ghost use Rattle.std.specs.Prelude.{◌≡◌, ◌&&◌, true};
+ghost use Rattle.std.specs.Prelude.{◌≡◌, true};
 ghost use Rattle.std.specs.Option.{option_copied};
 ghost use Rattle.jc_promises.specs.plan.PlannedNames.{least_name, constructors, constructor};
 

@@ -8,9 +8,9 @@ use Rattle.jc_index.proofs.mentioned.packages.Goals as goal
 pub loop-class-preserved : goal.loop-class-preserved
 loop-class-preserved c =
     let name : c.package_of.result.now ≡ package_name c.class-item.result.name = c.package_of.ensures ∙ ap package_name c.as_bytes.ensures in
-    are_of_next (λ d x. same (package_name d.name) x) c.args.classes.now c.loop-class.class-index c.class-item.result c.loop-class.set c.put.new.self (package_name c.class-item.result.name ∷ [])
+    are_of_next (λ d x. same (package_name d.name) x) c.args.classes.now c.loop-class.class-index c.class-item.result c.loop-class.set c.put_bytes.new.self (package_name c.class-item.result.name ∷ [])
     c.loop-class-test.true c.class-item.is (λ x. or_false (same (package_name c.class-item.result.name) x))
-    (subst (λ (x : Bytes). Adds c.loop-class.set c.put.new.self (x ∷ [])) name c.in_ok-put.ensures) c.loop-class.invariant
+    (subst (λ (x : Bytes). Adds c.loop-class.set c.put_bytes.new.self (x ∷ [])) name c.in_ok-put_bytes.ensures) c.loop-class.invariant
 
 pub returns : goal.returns
 returns c = are_of_all (λ d x. same (package_name d.name) x) c.args.classes.now c.loop-class.class-index c.loop-class.set c.loop-class-test.false c.loop-class.invariant

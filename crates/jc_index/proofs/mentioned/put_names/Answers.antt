@@ -1,13 +1,16 @@
-use Rattle.jc_index.specs.steps.Adding.{Adds}
-use Rattle.std.proofs.Common.{subst, ◌∷◌, []}
+use Rattle.std.proofs.Common.{subst, ◌∷◌, [], sym, ◌∙◌}
 use Rattle.jc_facts.specs.Names.{Bytes}
-use Rattle.jc_index.proofs.Mentions.{adds_next, adds_all}
+use Rattle.jc_index.specs.steps.Adding.{Adds}
+use Rattle.jc_index.proofs.Mentions.{adds_next, adds_found, adds_all}
 use Rattle.jc_index.proofs.mentioned.put_names.Goals as goal
 
-pub loop-name-preserved : goal.loop-name-preserved
-loop-name-preserved c =
-    adds_next c.args.set.now c.loop-name.set c.put.new.self c.args.names.now c.loop-name.name-index c.name-item.result c.loop-name-test.true c.name-item.is c.loop-name.invariant
-    (subst (λ (x : Bytes). Adds c.loop-name.set c.put.new.self (x ∷ [])) c.as_bytes.ensures c.in_ok-put.ensures)
+pub loop-at-preserved-then-is_some : goal.loop-at-preserved-then-is_some
+loop-at-preserved-then-is_some c = adds_found c.args.set.now c.loop-at.set c.args.names.now c.loop-at.at c.again.result c.again.ensures (sym c.if-is_some.true ∙ c.is_some.ensures) c.loop-at.invariant
+
+pub loop-at-preserved : goal.loop-at-preserved
+loop-at-preserved c =
+    adds_next c.args.set.now c.loop-at.set c.put.new.self c.args.names.now c.loop-at.at c.index-names-at.result c.loop-at-test.true c.index-names-at.is c.loop-at.invariant
+    (subst (λ (x : Bytes). Adds c.loop-at.set c.put.new.self (x ∷ [])) c.in_ok-copy.ensures c.in_ok-put.ensures.adds)
 
 pub returns : goal.returns
-returns c = adds_all c.args.set.now c.loop-name.set c.args.names.now c.loop-name.name-index c.loop-name-test.false c.loop-name.invariant
+returns c = adds_all c.args.set.now c.loop-at.set c.args.names.now c.loop-at.at c.loop-at-test.false c.loop-at.invariant

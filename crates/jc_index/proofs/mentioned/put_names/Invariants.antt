@@ -2,5 +2,5 @@ use Rattle.std.proofs.Common.{take}
 use Rattle.jc_index.specs.steps.Adding.{Adds}
 use Rattle.jc_index.proofs.mentioned.put_names.Given as goal
 
-abbrev pub invariant-loop-name : goal.invariant-loop-name
-invariant-loop-name l = Adds l.fn.set l.set (take l.name-index l.names)
+abbrev pub invariant-loop-at : goal.invariant-loop-at
+invariant-loop-at l = Adds l.fn.set l.set (take l.at l.names)

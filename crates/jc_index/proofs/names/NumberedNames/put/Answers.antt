@@ -1,9 +1,9 @@
-use Rattle.std.proofs.Common.{sym}
-use Rattle.jc_index.proofs.Mentions.{adds_known, adds_last}
+use Rattle.jc_index.proofs.NumberedNames.{added_last}
+use Rattle.jc_index.proofs.Mentions.{adds_key}
 use Rattle.jc_index.proofs.names.NumberedNames.put.Goals as goal
 
-pub returns-then-has : goal.returns-then-has
-returns-then-has c = adds_known c.args.self.now c.args.name.now (sym c.if-has.ensures)
+pub returns-clause-adds : goal.returns-clause-adds
+returns-clause-adds c = adds_key c.args.name c.args.self.now c.insert.new.self c.in_ok-insert.ensures
 
-pub returns : goal.returns
-returns c = adds_last c.args.self.now c.push.new.self c.args.name.now c.in_ok-push.ensures
+pub returns-clause-last : goal.returns-clause-last
+returns-clause-last c = added_last c.args.name c.args.self.now c.insert.new.self c.in_ok-insert.ensures

@@ -12,7 +12,8 @@ use Rattle.jc_table.specs.Ids.{name_at}
 use Rattle.jc_table.specs.Lookups.{IsChoice}
 use Rattle.jc_table.specs.Sides.{IsSide}
 use Rattle.jc_rules.proofs.ChangedClasses.{base_class}
-use Rattle.jc_rules.proofs.CaptureAdded.{no_method, captured, no_interface_now}
+use Rattle.jc_rules.proofs.CaptureAdded.{no_method, captured}
+use Rattle.jc_sides.proofs.BaseParts.{no_interface_now}
 use Rattle.jc_rules.proofs.capture_added.CaptureAddedItemRule.on_key.Goals as goal
 
 pub find_method_by_number-requires-clause-loads : goal.find_method_by_number-requires-clause-loads
