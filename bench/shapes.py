@@ -123,7 +123,8 @@ def fat_methods(n, size=65535):
 def fat_turns(n, size=65535):
     """a class that names two interfaces of 65,535 bytes in turn, n times, with n fields that have two such descriptors in turn"""
     names = ["a" * (size - 1) + last for last in "bc"]
-    fields = [(PUBLIC, f"f{i:05}", f"L{names[i % 2][2:]};") for i in range(n)]
+    texts = [f"L{name[2:]};" for name in names]
+    fields = [(PUBLIC, f"f{i:05}", texts[i % 2]) for i in range(n)]
     yield "ON", "p/A", class_file("p/A", interfaces=[names[i % 2] for i in range(n)], fields=fields)
 
 
