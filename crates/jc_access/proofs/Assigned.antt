@@ -9,8 +9,8 @@ use Rattle.jc_facts.specs.world.Hierarchy.{in_chain}
 use Rattle.jc_facts.specs.world.Types.{Element}
 use Rattle.jc_facts.specs.world.Assignment.{is_interface_of, is_class_assignable, is_element_assignable, assign_to, takes_any_array}
 use Rattle.jc_worlds.proofs.Chains.{absent_above, none_above}
-use Rattle.jc_table.specs.Ids.{name_at, id_of}
-use Rattle.jc_table.proofs.Numbers.{id_of-Some, find-None}
+use Rattle.jc_index.specs.Ids.{name_at, id_of}
+use Rattle.jc_index.proofs.Numbers.{id_of-Some, find-None}
 use Rattle.jc_access.proofs.Hosts.{found_by}
 
 -- ---- dimensions

@@ -5,8 +5,8 @@ use Rattle.jc_facts.specs.Names.{Bytes, is_name_among, in_same_package}
 use Rattle.jc_facts.specs.Options.{some_and}
 use Rattle.jc_facts.specs.world.World.{World, find_class}
 use Rattle.jc_facts.specs.world.Access.{host_if, named_host, host_by, host_of}
-use Rattle.jc_table.specs.Ids.{name_at, id_of}
-use Rattle.jc_table.proofs.Numbers.{id_of-Some, find-None}
+use Rattle.jc_index.specs.Ids.{name_at, id_of}
+use Rattle.jc_index.proofs.Numbers.{id_of-Some, find-None}
 use Rattle.jc_access.specs.steps.Nests.{takes_in}
 
 pub found_by : (W : World) (x : Bytes) (n : ℕ) (c : ClassFacts) → Some n ≡ id_of W x → Some c ≡ find_class W (name_at W n) → find_class W x ≡ Some c

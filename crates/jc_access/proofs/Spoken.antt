@@ -29,10 +29,10 @@ use Rattle.jc_worlds.proofs.Packages.{AllowedParts, allowed_parts, package_apart
 use Rattle.jc_worlds.proofs.Sides.{IsLibrary, sides}
 use Rattle.jc_worlds.proofs.WalkLaws.{seat_ends_the_clients}
 use Rattle.jc_facts.proofs.World.{names, find-name, EachOf-class_named}
-use Rattle.jc_table.specs.Ids.{name_at}
-use Rattle.jc_table.specs.Lookups.{IsFound}
+use Rattle.jc_index.specs.Ids.{name_at}
+use Rattle.jc_index.specs.Lookups.{IsFound}
 use Rattle.jc_index.specs.declared.ids.Found.{Found}
-use Rattle.jc_table.proofs.Numbers.{class_at}
+use Rattle.jc_index.proofs.Numbers.{class_at}
 use Rattle.jc_access.specs.steps.Parts.{inside_at, client_at, asks_receiver}
 use Rattle.jc_access.specs.Speaking.{SpeaksForSeat}
 use Rattle.jc_worlds.proofs.Chains.{absent_above}

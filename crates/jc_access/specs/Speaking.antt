@@ -7,8 +7,8 @@ use Rattle.jc_facts.specs.world.World.{World, with_clients, is_client}
 use Rattle.jc_facts.specs.world.Loading.{load_fault}
 use Rattle.jc_facts.specs.client.Allowed.{is_allowed_name}
 use Rattle.jc_facts.specs.client.Seats.{seat}
-use Rattle.jc_table.specs.Ids.{name_at}
-use Rattle.jc_table.specs.Sides.{IsSide}
+use Rattle.jc_index.specs.Ids.{name_at}
+use Rattle.jc_index.specs.Sides.{IsSide}
 use Rattle.jc_access.specs.declared.access.Seat.{Seat}
 use Rattle.jc_access.specs.declared.access.Seat.TheVariants as seats
 

@@ -4,8 +4,8 @@ ghost use Rattle.jc_facts.specs.declared.class_facts.ClassFacts.{ClassFacts as C
 ghost use Rattle.jc_facts.specs.Flags.{package_private};
 ghost use Rattle.jc_facts.specs.world.Access.{is_class_accessible, is_member_accessible};
 ghost use Rattle.jc_facts.specs.world.World.{DeclaredMember, find_class, size};
-ghost use Rattle.jc_table.specs.Ids.{name_at};
-ghost use Rattle.jc_table.specs.Lookups.{IsFound};
+ghost use Rattle.jc_index.specs.Ids.{name_at};
+ghost use Rattle.jc_index.specs.Lookups.{IsFound};
 ghost use Rattle.jc_access.specs.SeatAccess.{class_open, member_open, IsSeatOf};
 ghost use Rattle.jc_access.specs.Speaking.{SpeaksFor};
 ghost use Rattle.jc_access.specs.steps.Parts.{inherited_at, inside_at, client_at};
@@ -13,7 +13,7 @@ ghost use Rattle.jc_access.specs.steps.Parts.{inherited_at, inside_at, client_at
 use crate::names::in_one_package;
 use crate::nests::same_nest;
 use jc_facts::flags::{is_private, is_protected, is_public, is_static};
-use jc_table::ids::{ClassId, Found};
+use jc_index::ids::{ClassId, Found};
 use jc_table::naming::{is_nameable, is_nameable_from};
 use jc_table::table::Table;
 

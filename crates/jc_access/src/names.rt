@@ -2,11 +2,11 @@
 ghost use Rattle.std.specs.Prelude.{◌≡◌, ◌<◌};
 ghost use Rattle.jc_facts.specs.Names.{in_same_package};
 ghost use Rattle.jc_facts.specs.world.World.{size};
-ghost use Rattle.jc_table.specs.Ids.{name_at};
+ghost use Rattle.jc_index.specs.Ids.{name_at};
 
 use jc_base::name::Name;
-use jc_table::ids::ClassId;
-use jc_table::packages::same_package;
+use jc_index::ids::ClassId;
+use jc_index::packages::same_package;
 use jc_table::table::Table;
 
 /// The name of the class, by its number in the table.

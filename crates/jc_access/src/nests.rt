@@ -2,14 +2,14 @@
 ghost use Rattle.std.specs.Prelude.{◌≡◌, ◌<◌};
 ghost use Rattle.jc_facts.specs.world.Access.{host_of, are_nestmates};
 ghost use Rattle.jc_facts.specs.world.World.{size};
-ghost use Rattle.jc_table.specs.Ids.{name_at};
+ghost use Rattle.jc_index.specs.Ids.{name_at};
 ghost use Rattle.jc_access.specs.steps.Nests.{takes_in};
 
 use crate::names::name_of;
 use jc_base::name::Name;
-use jc_table::among::is_among;
-use jc_table::ids::ClassId;
-use jc_table::packages::same_package;
+use jc_index::among::is_among;
+use jc_index::ids::ClassId;
+use jc_index::packages::same_package;
 use jc_table::table::Table;
 
 // Whether the class named as the host is there, of the member's package, and names it back.

@@ -2,15 +2,15 @@
 ghost use Rattle.std.specs.Prelude.{◌≡◌, ◌<◌};
 ghost use Rattle.jc_facts.specs.world.Assignment.{passes_protected_check};
 ghost use Rattle.jc_facts.specs.world.World.{DeclaredMember, size};
-ghost use Rattle.jc_table.specs.Ids.{name_at};
-ghost use Rattle.jc_table.specs.Lookups.{IsFound};
+ghost use Rattle.jc_index.specs.Ids.{name_at};
+ghost use Rattle.jc_index.specs.Lookups.{IsFound};
 ghost use Rattle.jc_access.specs.steps.Parts.{asks_receiver};
 
 use crate::assigning::assignable;
 use crate::names::{in_one_package, name_of};
 use jc_base::name::Name;
 use jc_facts::flags::is_protected;
-use jc_table::ids::{ClassId, Found};
+use jc_index::ids::{ClassId, Found};
 use jc_table::table::Table;
 
 // Whether the check is made of the receiver.

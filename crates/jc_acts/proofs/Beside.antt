@@ -9,9 +9,9 @@ use Rattle.jc_facts.specs.world.Search.{descend}
 use Rattle.jc_facts.specs.world.Hierarchy.{chain_step, names_in, in_chain}
 use Rattle.jc_worlds.proofs.Chains.{in_chain-deep}
 use Rattle.jc_worlds.proofs.Descent.{descend-absent}
-use Rattle.jc_table.specs.Ids.{name_at, superclass_of}
-use Rattle.jc_table.specs.steps.Walking.{chain_from}
-use Rattle.jc_table.proofs.Walking.{from-step, from-none, from-nothing}
+use Rattle.jc_index.specs.Ids.{name_at, superclass_of}
+use Rattle.jc_index.specs.steps.Walking.{chain_from}
+use Rattle.jc_index.proofs.Walking.{from-step, from-none, from-nothing}
 use Rattle.jc_acts.specs.steps.Chains.{has_name, superclass_of_any, met_beside, beside_after}
 
 -- whatever so many levels lead to from here is in the chain of z, however many they are

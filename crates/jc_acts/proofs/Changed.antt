@@ -7,8 +7,8 @@ use Rattle.jc_facts.specs.Names.{Bytes}
 use Rattle.jc_facts.specs.world.World.{World, find_class, class_named}
 use Rattle.jc_facts.specs.world.Hierarchy.{in_chain}
 use Rattle.jc_facts.proofs.World.{class_named-first}
-use Rattle.jc_table.specs.Ids.{id_of}
-use Rattle.jc_table.proofs.Numbers.{find-None}
+use Rattle.jc_index.specs.Ids.{id_of}
+use Rattle.jc_index.proofs.Numbers.{find-None}
 use Rattle.jc_sides.specs.SidesOf.{SidesOf}
 use Rattle.jc_facts.specs.Records.{same_facts}
 use Rattle.jc_acts.specs.Seats.{loses_class}

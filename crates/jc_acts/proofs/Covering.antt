@@ -15,10 +15,10 @@ use Rattle.jc_facts.proofs.Same.{same_is}
 use Rattle.jc_worlds.proofs.Chains.{in_chain-deep}
 use Rattle.jc_worlds.proofs.Descent.{descend-absent, descend-none_left, descend-found}
 use Rattle.jc_worlds.proofs.Unrolled.{own_chain}
-use Rattle.jc_table.specs.Ids.{id_of, name_at, superclass_of}
-use Rattle.jc_table.specs.steps.Walking.{chain_from}
-use Rattle.jc_table.proofs.Numbers.{class_at, id_of-name_at}
-use Rattle.jc_table.proofs.Walking.{from-step, from-none, from-nothing}
+use Rattle.jc_index.specs.Ids.{id_of, name_at, superclass_of}
+use Rattle.jc_index.specs.steps.Walking.{chain_from}
+use Rattle.jc_index.proofs.Numbers.{class_at, id_of-name_at}
+use Rattle.jc_index.proofs.Walking.{from-step, from-none, from-nothing}
 use Rattle.jc_acts.specs.steps.Commons.{covers, takes_in, kept_of, IsWider, AreInside, AreAdded, AreWider, Widens}
 use Rattle.jc_acts.proofs.Wider.{covers_through}
 

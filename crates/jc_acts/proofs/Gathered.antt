@@ -9,7 +9,7 @@ use Rattle.jc_facts.specs.Names.{Bytes}
 use Rattle.jc_facts.specs.world.World.{World, size}
 use Rattle.jc_facts.specs.world.Loading.{load_fault}
 use Rattle.jc_lemmas.proofs.Listed.{EachOf, EachOf-map, EachOf-append, each_in}
-use Rattle.jc_table.specs.Ids.{name_at}
+use Rattle.jc_index.specs.Ids.{name_at}
 use Rattle.jc_sides.specs.SharedOf.{SharedOf, IsShared, name_of}
 use Rattle.jc_acts.specs.steps.Commons.{kept_of, IsCovered, AreInside, AreAdded, AreWider, Widens, AreCommon}
 use Rattle.jc_acts.proofs.Covering.{put}

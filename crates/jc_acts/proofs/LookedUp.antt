@@ -22,8 +22,8 @@ use Rattle.jc_lemmas.proofs.Listed.{EachOf, each_in, EachOf-map}
 use Rattle.jc_lemmas.proofs.Bools.{neither_last, not_true}
 use Rattle.jc_worlds.specs.Choices.{IsPublicInstance}
 use Rattle.jc_worlds.proofs.Inherited.{superinterface_choices-public}
-use Rattle.jc_table.specs.Ids.{name_at}
-use Rattle.jc_table.specs.Lookups.{IsFound, IsAnswer, IsChoice}
+use Rattle.jc_index.specs.Ids.{name_at}
+use Rattle.jc_index.specs.Lookups.{IsFound, IsAnswer, IsChoice}
 use Rattle.jc_index.specs.declared.ids.Found.{Found}
 use Rattle.jc_acts.specs.steps.LookedUp.{member_of, use_at, LooksUp}
 

@@ -4,8 +4,8 @@ use Rattle.jc_facts.specs.Names.{Bytes}
 use Rattle.jc_facts.specs.world.World.{World, find_class}
 use Rattle.jc_facts.specs.world.Hierarchy.{in_chain}
 use Rattle.jc_worlds.proofs.Chains.{chain_there}
-use Rattle.jc_table.specs.Ids.{id_of, name_at}
-use Rattle.jc_table.proofs.Numbers.{id-find, id_of-Some}
+use Rattle.jc_index.specs.Ids.{id_of, name_at}
+use Rattle.jc_index.proofs.Numbers.{id-find, id_of-Some}
 
 pub above_there : (W : World) (a y : Bytes) (n : ℕ) → id_of W y ≡ Some n → in_chain W a (name_at W n) ≡ in_chain W a y
 above_there W a y n e = ap (in_chain W a) (id_of-Some W y n e).1

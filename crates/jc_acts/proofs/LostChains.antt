@@ -10,8 +10,8 @@ use Rattle.jc_facts.specs.world.Loading.{load_fault, loads}
 use Rattle.jc_facts.proofs.Same.{same_itself}
 use Rattle.jc_lemmas.proofs.Bools.{not_true, and_true}
 use Rattle.jc_worlds.proofs.Chains.{none_above}
-use Rattle.jc_table.specs.Ids.{name_at}
-use Rattle.jc_table.proofs.Numbers.{is_none-None}
+use Rattle.jc_index.specs.Ids.{name_at}
+use Rattle.jc_index.proofs.Numbers.{is_none-None}
 use Rattle.jc_sides.specs.SidesOf.{SidesOf, AreSides}
 use Rattle.jc_acts.specs.Seats.{loses_class, may_be_closed}
 use Rattle.jc_acts.specs.Touched.{left_chain_of, AreSet, flag_at}

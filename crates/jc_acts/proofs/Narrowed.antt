@@ -22,8 +22,8 @@ use Rattle.jc_worlds.proofs.Above.{fault_where-none}
 use Rattle.jc_facts.proofs.Options.{or_else-none, or_else-both}
 use Rattle.jc_worlds.proofs.Bare.{has_root}
 use Rattle.jc_sound.proofs.Uses.{and-map, or-map}
-use Rattle.jc_table.specs.Ids.{names, name_at}
-use Rattle.jc_table.specs.Sides.{IsSide}
+use Rattle.jc_index.specs.Ids.{names, name_at}
+use Rattle.jc_index.specs.Sides.{IsSide}
 use Rattle.jc_index.specs.declared.ids.Found.{Found}
 use Rattle.jc_sides.specs.SharedOf.{AreThose, IsShared, name_of, SharedOf}
 use Rattle.jc_sides.specs.SidesOf.{SidesOf}
@@ -34,7 +34,7 @@ use Rattle.jc_acts.specs.steps.LookedUp.{member_of, use_at, looked_use, closed_u
 use Rattle.jc_acts.specs.declared.lookup.Looked.{Looked}
 use Rattle.jc_acts.proofs.Firsts.{first_none}
 use Rattle.jc_acts.proofs.Roots.{only_root}
-use Rattle.jc_table.proofs.Sides.{side_valid}
+use Rattle.jc_index.proofs.Sides.{side_valid}
 
 -- ---- what is open
 

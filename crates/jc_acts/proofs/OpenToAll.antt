@@ -22,9 +22,9 @@ use Rattle.jc_promises.specs.rule.Bases.{is_base_class}
 use Rattle.jc_facts.proofs.Options.{or_else-none, or_else-both}
 use Rattle.jc_worlds.proofs.Above.{fault_where-none}
 use Rattle.jc_worlds.proofs.Bare.{bare_loads}
-use Rattle.jc_table.specs.Ids.{names, name_at}
-use Rattle.jc_table.specs.Sides.{IsSide}
-use Rattle.jc_table.proofs.Sides.{root_at}
+use Rattle.jc_index.specs.Ids.{names, name_at}
+use Rattle.jc_index.specs.Sides.{IsSide}
+use Rattle.jc_index.proofs.Sides.{root_at}
 use Rattle.jc_index.specs.declared.ids.Found.{Found}
 use Rattle.jc_sides.specs.SharedOf.{SharedOf, name_of}
 use Rattle.jc_sides.specs.SidesOf.{SidesOf, AreSides}

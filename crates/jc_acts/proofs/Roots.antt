@@ -7,10 +7,10 @@ use Rattle.jc_facts.specs.world.World.{World}
 use Rattle.jc_facts.proofs.World.{find-name}
 use Rattle.jc_facts.proofs.Same.{same_is}
 use Rattle.jc_worlds.proofs.Bare.{bare_chain}
-use Rattle.jc_table.specs.Ids.{id_of, name_at}
-use Rattle.jc_table.specs.Sides.{IsSide}
-use Rattle.jc_table.proofs.Sides.{root_at}
-use Rattle.jc_table.proofs.Numbers.{id-find, id_of-Some}
+use Rattle.jc_index.specs.Ids.{id_of, name_at}
+use Rattle.jc_index.specs.Sides.{IsSide}
+use Rattle.jc_index.proofs.Sides.{root_at}
+use Rattle.jc_index.proofs.Numbers.{id-find, id_of-Some}
 
 -- nothing but itself stands above the root
 pub only_root : (W : World) → IsSide W → (y : Bytes) → in_chain W object_name y ≡ true → y ≡ object_name

@@ -22,10 +22,10 @@ use Rattle.jc_lemmas.proofs.Options.{none_from}
 use Rattle.jc_worlds.specs.Hierarchy.{above}
 use Rattle.jc_worlds.proofs.Loaded.{loaded-level, loaded-parts, loads-found, loads-parts}
 use Rattle.jc_worlds.proofs.Unrolled.{chain-unroll}
-use Rattle.jc_table.specs.Above.{AreAbove}
-use Rattle.jc_table.specs.Ids.{id_of, name_at, names, superclass_of}
-use Rattle.jc_table.proofs.Numbers.{IsClass, names-length, names-find, at-in, id_of-Some, is_class, number_of, superclass_is}
-use Rattle.jc_table.proofs.Reached.{any_reached}
+use Rattle.jc_index.specs.Above.{AreAbove}
+use Rattle.jc_index.specs.Ids.{id_of, name_at, names, superclass_of}
+use Rattle.jc_index.proofs.Numbers.{IsClass, names-length, names-find, at-in, id_of-Some, is_class, number_of, superclass_is}
+use Rattle.jc_index.proofs.Reached.{any_reached}
 use Rattle.jc_acts.specs.Touched.{flag_at, passes_above, AreFlags}
 use Rattle.jc_acts.specs.steps.Known.{fails_or_passes, known_at, known_first, passes_at, AreKnown, IsKnown}
 use Rattle.jc_acts.proofs.Covering.{put}

@@ -11,8 +11,8 @@ use Rattle.jc_facts.specs.world.Hierarchy.{chain, in_chain, names_in}
 use Rattle.jc_facts.proofs.Same.{same_is, same_itself}
 use Rattle.jc_facts.proofs.World.{find-name}
 use Rattle.jc_lemmas.proofs.Bools.{or_assoc, or_false, and_never}
-use Rattle.jc_table.specs.Ids.{id_of, name_at, names, superclass_of}
-use Rattle.jc_table.proofs.Numbers.{names-length, id_of-name_at}
+use Rattle.jc_index.specs.Ids.{id_of, name_at, names, superclass_of}
+use Rattle.jc_index.proofs.Numbers.{names-length, id_of-name_at}
 use Rattle.jc_acts.specs.Touched.{flag_at, AreFlags, AreSet}
 use Rattle.jc_acts.proofs.Covering.{put}
 use Rattle.jc_acts.proofs.Upwards.{any_from, any-from, any-step, any-out, any-end}

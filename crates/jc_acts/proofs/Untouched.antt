@@ -40,11 +40,11 @@ use Rattle.jc_worlds.proofs.Unrolled.{with_interfaces-unroll}
 use Rattle.jc_worlds.proofs.ValidFacts.{superclass_fits, fit_of}
 use Rattle.jc_sound.proofs.MethodLooked.{looked-declared}
 use Rattle.jc_sound.proofs.Looked.{looked, head_of, look_up-takes, look_up-from}
-use Rattle.jc_table.specs.Sides.{IsSide}
+use Rattle.jc_index.specs.Sides.{IsSide}
 use Rattle.jc_index.proofs.Strictly.{above_good}
 use Rattle.jc_field.proofs.Declared.{kinds}
-use Rattle.jc_table.proofs.Sides.{root_at, side_valid}
-use Rattle.jc_table.proofs.Numbers.{is_none-None}
+use Rattle.jc_index.proofs.Sides.{root_at, side_valid}
+use Rattle.jc_index.proofs.Numbers.{is_none-None}
 use Rattle.jc_sides.specs.SidesOf.{SidesOf, AreSides}
 use Rattle.jc_sides.proofs.BaseParts.{steady_parts}
 use Rattle.jc_acts.specs.ClosedActs.{HasNoneClosed}

@@ -4,9 +4,9 @@ use Rattle.std.specs.List.{list_any}
 use Rattle.jc_facts.specs.declared.class_facts.ClassFacts.{ClassFacts}
 use Rattle.jc_facts.specs.world.World.{World, find_class, size}
 use Rattle.jc_facts.specs.world.Hierarchy.{chain}
-use Rattle.jc_table.specs.Ids.{name_at, superclass_of}
-use Rattle.jc_table.specs.steps.Walking.{chain_from}
-use Rattle.jc_table.proofs.Walking.{from-step, from-none, from-nothing}
+use Rattle.jc_index.specs.Ids.{name_at, superclass_of}
+use Rattle.jc_index.specs.steps.Walking.{chain_from}
+use Rattle.jc_index.proofs.Walking.{from-step, from-none, from-nothing}
 
 -- a class from this number up, so many of them at most, passes the test
 abbrev pub any_from : World → (ClassFacts → Bool) → ℕ → Option ℕ → Bool

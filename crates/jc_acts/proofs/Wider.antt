@@ -14,11 +14,11 @@ use Rattle.jc_facts.proofs.World.{find-name}
 use Rattle.jc_worlds.proofs.Bare.{has_root}
 use Rattle.jc_worlds.proofs.Loaded.{loads-parts, loads-induction}
 use Rattle.jc_worlds.proofs.Unrolled.{above, in_chain-step, own_chain}
-use Rattle.jc_table.specs.Ids.{id_of, name_at, superclass_of}
-use Rattle.jc_table.specs.Sides.{IsSide}
-use Rattle.jc_table.proofs.Numbers.{id_of-Some}
-use Rattle.jc_table.proofs.Sides.{side_valid}
-use Rattle.jc_table.proofs.Walking.{super-of}
+use Rattle.jc_index.specs.Ids.{id_of, name_at, superclass_of}
+use Rattle.jc_index.specs.Sides.{IsSide}
+use Rattle.jc_index.proofs.Numbers.{id_of-Some}
+use Rattle.jc_index.proofs.Sides.{side_valid}
+use Rattle.jc_index.proofs.Walking.{super-of}
 use Rattle.jc_acts.specs.steps.Commons.{covers, IsWider}
 
 -- where the class y leads to z, so does each class in whose chain y is

@@ -4,7 +4,7 @@ use Rattle.std.specs.List.{filter, list_any, All}
 use Rattle.jc_facts.specs.Names.{Bytes, object_name}
 use Rattle.jc_facts.specs.world.Hierarchy.{chain, in_chain}
 use Rattle.jc_promises.specs.rule.Bases.{is_base_class}
-use Rattle.jc_table.specs.Ids.{names}
+use Rattle.jc_index.specs.Ids.{names}
 use Rattle.jc_sides.specs.SharedOf.{IsShared, name_of}
 use Rattle.jc_sides.specs.SidesOf.{SidesOf, AreSides}
 use Rattle.jc_acts.specs.Touched.{is_touched, passes_above, AreFlags}

@@ -7,7 +7,7 @@ use Rattle.jc_facts.specs.world.World.{World, find_class, size}
 use Rattle.jc_facts.specs.world.Hierarchy.{in_chain}
 use Rattle.jc_facts.specs.world.Loading.{load_fault}
 use Rattle.jc_worlds.specs.Hierarchy.{above}
-use Rattle.jc_table.specs.Ids.{name_at}
+use Rattle.jc_index.specs.Ids.{name_at}
 use Rattle.jc_sides.specs.SidesOf.{SidesOf}
 use Rattle.jc_facts.specs.Records.{same_facts}
 

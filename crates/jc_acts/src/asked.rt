@@ -4,7 +4,7 @@ ghost use Rattle.std.specs.List.{All};
 ghost use Rattle.jc_facts.specs.declared.act.Act.{Act as ActOf};
 ghost use Rattle.jc_facts.specs.Flags.{public_flag, protected_flag, static_flag};
 ghost use Rattle.jc_facts.specs.world.World.{size};
-ghost use Rattle.jc_table.specs.Ids.{name_at};
+ghost use Rattle.jc_index.specs.Ids.{name_at};
 ghost use Rattle.jc_sides.specs.SharedOf.{IsShared, name_of};
 ghost use Rattle.jc_acts.specs.Seats.{AreSeats, all_seats};
 ghost use Rattle.jc_acts.specs.steps.Firsts.{first_at};
@@ -14,9 +14,9 @@ use crate::lookup::Looked;
 use crate::seats::Seats;
 use jc_access::access::{Seat, accessible};
 use jc_facts::flags::{is_final, is_protected, is_public, is_static};
+use jc_index::ids::ClassId;
 use jc_sides::shared::Shared;
 use jc_sides::sides::Sides;
-use jc_table::ids::ClassId;
 use jc_table::table::Table;
 
 // Whether access to a member of these flags depends on the seat.

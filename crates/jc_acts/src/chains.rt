@@ -3,15 +3,15 @@ ghost use Rattle.std.specs.Prelude.{◌≡◌, ◌<◌, true, not, is_some, IfSo
 ghost use Rattle.std.specs.List.{list_any};
 ghost use Rattle.jc_facts.specs.world.World.{size};
 ghost use Rattle.jc_facts.specs.world.Hierarchy.{chain, in_chain};
-ghost use Rattle.jc_table.specs.Ids.{name_at};
+ghost use Rattle.jc_index.specs.Ids.{name_at};
 ghost use Rattle.jc_sides.specs.SharedOf.{IsShared, name_of};
 ghost use Rattle.jc_acts.specs.Seats.{loses_class};
 ghost use Rattle.jc_acts.specs.steps.Chains.{met_beside, beside_after};
 
 use jc_base::name::Name;
+use jc_index::ids::ClassId;
 use jc_sides::shared::Shared;
 use jc_sides::sides::Sides;
-use jc_table::ids::ClassId;
 use jc_table::table::Table;
 
 /// Whether a class of this name is in the chain of the class.

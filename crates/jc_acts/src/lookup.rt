@@ -5,9 +5,9 @@ ghost use Rattle.jc_facts.specs.client.Forms.{form_view};
 ghost use Rattle.jc_facts.specs.world.World.{size};
 ghost use Rattle.jc_facts.specs.world.Loading.{load_fault};
 ghost use Rattle.jc_promises.specs.rule.Bases.{is_key_of_method};
-ghost use Rattle.jc_table.specs.Ids.{name_at};
-ghost use Rattle.jc_table.specs.Keys.{numbered_keys, IsNumber};
-ghost use Rattle.jc_table.specs.Sides.{IsSide};
+ghost use Rattle.jc_index.specs.Ids.{name_at};
+ghost use Rattle.jc_rows.specs.Keys.{numbered_keys, IsNumber};
+ghost use Rattle.jc_index.specs.Sides.{IsSide};
 ghost use Rattle.jc_acts.specs.steps.LookedUp.{LooksUp, IsInside};
 ghost use Rattle.jc_acts.specs.steps.References.{acts_of, MayName};
 
@@ -16,8 +16,8 @@ use jc_facts::flags::is_interface;
 use jc_facts::key::Key;
 use jc_facts::link_error::LinkError;
 use jc_field::find::find_field_by_number;
+use jc_index::ids::{ClassId, Found};
 use jc_method::find::{find_interface_method_by_number, find_method_by_number};
-use jc_table::ids::{ClassId, Found};
 use jc_table::table::Table;
 
 /// What a reference finds on both sides, where it finds a member on the old one.

@@ -4,15 +4,15 @@ ghost use Rattle.std.specs.Prelude.{◌≡◌, ◌<◌, ◌&&◌, length, not};
 ghost use Rattle.jc_facts.specs.world.Hierarchy.{in_chain};
 ghost use Rattle.jc_facts.specs.world.Loading.{loads};
 ghost use Rattle.jc_facts.specs.world.World.{size};
-ghost use Rattle.jc_table.specs.Ids.{name_at};
+ghost use Rattle.jc_index.specs.Ids.{name_at};
 ghost use Rattle.jc_acts.specs.Seats.{AreSeats, loses_class, may_be_closed};
 ghost use Rattle.jc_acts.specs.Touched.{AreSet, left_chain_of};
 
 use crate::chains::lacks_any;
 use crate::seats::Seats;
 use crate::touched::{set_left, set_where};
+use jc_index::ids::ClassId;
 use jc_sides::sides::Sides;
-use jc_table::ids::ClassId;
 use jc_table::table::Table;
 
 // Whether neither the class nor any above it changed or left the chain of a seat, and its namesake on

@@ -3,14 +3,14 @@ ghost use Rattle.std.specs.Prelude.{◌≡◌, ◌<◌, ◌&&◌};
 ghost use Rattle.jc_facts.specs.Flags.{final_flag};
 ghost use Rattle.jc_facts.specs.world.World.{size};
 ghost use Rattle.jc_facts.specs.client.Acts.{is_put_act};
-ghost use Rattle.jc_table.specs.Ids.{name_at};
+ghost use Rattle.jc_index.specs.Ids.{name_at};
 ghost use Rattle.jc_acts.specs.steps.LookedUp.{member_of, use_at};
 
 use jc_access::access::{Seat, accessible};
 use jc_facts::act::Act;
 use jc_facts::flags::is_final;
 use jc_facts::link_error::LinkError;
-use jc_table::ids::{ClassId, Found};
+use jc_index::ids::{ClassId, Found};
 use jc_table::table::Table;
 
 // Whether the act writes a final field.

@@ -6,8 +6,8 @@ ghost use Rattle.jc_facts.specs.world.Loading.{load_fault};
 ghost use Rattle.jc_promises.specs.rule.OpenActs.{act_fault, field_acts, method_acts};
 ghost use Rattle.jc_promises.specs.rule.Bases.{is_key_of_method, is_steady};
 ghost use Rattle.jc_facts.specs.world.World.{size};
-ghost use Rattle.jc_table.specs.Ids.{name_at};
-ghost use Rattle.jc_table.specs.Sides.{IsSide};
+ghost use Rattle.jc_index.specs.Ids.{name_at};
+ghost use Rattle.jc_index.specs.Sides.{IsSide};
 ghost use Rattle.jc_sides.specs.SharedOf.{IsShared, name_of};
 ghost use Rattle.jc_acts.specs.ClosedActs.{IsFirstClosed};
 ghost use Rattle.jc_acts.specs.Seats.{AreSeats};
@@ -22,9 +22,9 @@ use jc_base::name::Name;
 use jc_facts::act::Act;
 use jc_facts::key::Key;
 use jc_facts::link_error::LinkError;
+use jc_index::ids::ClassId;
 use jc_sides::shared::Shared;
 use jc_sides::sides::Sides;
-use jc_table::ids::ClassId;
 use jc_table::table::Table;
 
 /// The error of the act on one side, for clients with the seat (JVMS 5.4.3, 5.4.4, 6.5); none where it is

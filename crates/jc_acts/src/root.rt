@@ -2,10 +2,10 @@
 ghost use Rattle.std.specs.Prelude.{◌≡◌, ◌<◌};
 ghost use Rattle.jc_facts.specs.Names.{object_name};
 ghost use Rattle.jc_facts.specs.world.World.{size};
-ghost use Rattle.jc_table.specs.Ids.{name_at};
-ghost use Rattle.jc_table.specs.Sides.{IsSide};
+ghost use Rattle.jc_index.specs.Ids.{name_at};
+ghost use Rattle.jc_index.specs.Sides.{IsSide};
 
-use jc_table::ids::ClassId;
+use jc_index::ids::ClassId;
 use jc_table::table::Table;
 
 /// The number of `java/lang/Object`.

@@ -6,9 +6,9 @@ ghost use Rattle.jc_sides.specs.SharedOf.{IsShared, name_of};
 use crate::commons::commons;
 use crate::root::root_of;
 use crate::touched::{touched, with_those_below};
+use jc_index::ids::ClassId;
 use jc_sides::shared::Shared;
 use jc_sides::sides::Sides;
-use jc_table::ids::ClassId;
 use std::alloc::{AllocError, Global};
 
 /// The seats that clients may have.
@@ -53,7 +53,7 @@ impl<'a> Seats<'a> {
     ghost use Rattle.std.specs.Prelude.{◌≡◌, ◌<◌, IfOk, map};
     ghost use Rattle.jc_promises.specs.rule.Bases.{is_base_class};
     ghost use Rattle.jc_facts.specs.world.World.{size};
-    ghost use Rattle.jc_table.specs.Ids.{name_at};
+    ghost use Rattle.jc_index.specs.Ids.{name_at};
     ghost use Rattle.jc_sides.specs.SharedOf.{AreThose, IsShared, name_of};
     ghost use Rattle.jc_sides.specs.SidesOf.{SidesOf};
     ghost use Rattle.jc_acts.specs.Seats.{AreSeats, all_seats, may_be_closed};

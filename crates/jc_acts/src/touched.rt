@@ -6,7 +6,7 @@ ghost use Rattle.std.specs.List.{All, list_any};
 ghost use Rattle.jc_facts.specs.Names.{Bytes};
 ghost use Rattle.jc_facts.specs.world.Hierarchy.{in_chain};
 ghost use Rattle.jc_facts.specs.world.World.{size};
-ghost use Rattle.jc_table.specs.Ids.{name_at};
+ghost use Rattle.jc_index.specs.Ids.{name_at};
 ghost use Rattle.jc_sides.specs.SharedOf.{IsShared, name_of};
 ghost use Rattle.jc_acts.specs.Touched.{AreFlags, AreSet, flag_at, is_changed, is_touched, left_chain_of, passes_above};
 ghost use Rattle.jc_acts.specs.steps.Known.{fails_or_passes, passes_at, AreKnown};
@@ -14,9 +14,9 @@ ghost use Rattle.jc_acts.specs.steps.Known.{fails_or_passes, passes_at, AreKnown
 use crate::chains::{has_lost, is_met_or_above, look_beside};
 use jc_base::name::Name;
 use jc_facts::records::are_same;
+use jc_index::ids::ClassId;
 use jc_sides::shared::Shared;
 use jc_sides::sides::Sides;
-use jc_table::ids::ClassId;
 use jc_table::table::Table;
 use std::alloc::{AllocError, Global};
 

@@ -20,8 +20,8 @@ use Rattle.jc_gate.specs.Gates.{GateOf}
 use Rattle.jc_link.specs.Refusals.{name_fault, with_part, first_refused, refused_client, RefusesLink, MayLink}
 use Rattle.jc_link.specs.declared.refusal.LinkRefusal.{LinkRefusal}
 use Rattle.jc_link.specs.declared.refusal.LinkRefusal.TheVariants as refusals
-use Rattle.jc_table.specs.Root.{fault_of_root}
-use Rattle.jc_table.specs.Sides.{overlap_of}
+use Rattle.jc_index.specs.Root.{fault_of_root}
+use Rattle.jc_index.specs.Sides.{overlap_of}
 use Rattle.jc_commands.specs.declared.comparison.Comparison.{Comparison}
 use Rattle.jc_commands.specs.declared.report.Report.{Report}
 use Rattle.jc_commands.specs.declared.stop.Stop.{Stop}

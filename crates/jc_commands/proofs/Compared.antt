@@ -22,7 +22,7 @@ use Rattle.jc_complete.proofs.CompletenessWhole.{verdict_is_exact}
 use Rattle.jc_bodies.specs.Files.{CanWrite, FilesShow}
 use Rattle.jc_facts.specs.file.ShortNames.{HasShortNames}
 use Rattle.jc_bodies.proofs.FilesWhole.{each_has_its_files}
-use Rattle.jc_table.specs.Sides.{IsSide}
+use Rattle.jc_index.specs.Sides.{IsSide}
 use Rattle.jc_witness.specs.Ground.{HasShortSide}
 use Rattle.jc_witness.specs.Witnesses.{MeetsOnly}
 use Rattle.jc_witness.proofs.Ground.{can_write}
@@ -30,8 +30,8 @@ use Rattle.jc_witness.proofs.Shown.{is_witness}
 use Rattle.jc_commands.specs.Check.{IsShown, puts_below}
 use Rattle.jc_commands.specs.Command.{CheckOf}
 use Rattle.jc_commands.specs.Witness.{causes_of, witness_puts}
-use Rattle.jc_commands.specs.declared.body.Body.{Body}
-use Rattle.jc_commands.specs.declared.body.Body.TheVariants as bodies
+use Rattle.jc_commands.specs.declared.body.ReportBody.{ReportBody}
+use Rattle.jc_commands.specs.declared.body.ReportBody.TheVariants as bodies
 use Rattle.jc_commands.specs.declared.comparison.Comparison.{Comparison}
 use Rattle.jc_commands.specs.declared.shown.Shown.{Shown}
 use Rattle.jc_commands.specs.steps.Check.{IsComparison}
@@ -97,7 +97,7 @@ shown_dir (Some d) O N (Some of) h = ap Some h.0
 shown_dir None O N (Some of) h = absurd h
 shown_dir (Some d) O N None h = absurd h
 
-pub show_dir : (dir : Option Bytes) (O N : World) (v : Verdict) (body : Body) → HasToShow dir O N v body → dir_in body ≡ dir
+pub show_dir : (dir : Option Bytes) (O N : World) (v : Verdict) (body : ReportBody) → HasToShow dir O N v body → dir_in body ≡ dir
 show_dir dir O N v (bodies.Bytes bytes) h = absurd h
 show_dir dir O N v (bodies.Row vs) h = absurd h
 show_dir dir O N v (bodies.Check check) h = shown_dir dir O N check.shown h.1
@@ -109,7 +109,7 @@ shown_puts (Some d) O N v (Some of) h =
 shown_puts None O N v (Some of) h = absurd h
 shown_puts (Some d) O N v None h = absurd h
 
-pub show_puts : (dir : Option Bytes) (O N : World) (v : Verdict) (body : Body) → HasToShow dir O N v body → puts_in body ≡ puts_below dir O N v
+pub show_puts : (dir : Option Bytes) (O N : World) (v : Verdict) (body : ReportBody) → HasToShow dir O N v body → puts_in body ≡ puts_below dir O N v
 show_puts dir O N v (bodies.Bytes bytes) h = absurd h
 show_puts dir O N v (bodies.Row vs) h = absurd h
 show_puts dir O N v (bodies.Check check) h = shown_puts dir O N check.verdict check.shown h.1 ∙ ap (λ (w : Verdict). puts_below dir O N w) h.0
@@ -140,7 +140,7 @@ module _ (check : CheckOf) (O N : World) (c : Comparison) (is : IsComparison che
   can_show_all None v (Some of) e h = absurd h
   can_show_all (Some d) v None e h = absurd h
 
-  pub can_show_any : (dir : Option Bytes) (body : Body) → HasToShow dir c.old c.new c.verdict body → CanShowAny body
+  pub can_show_any : (dir : Option Bytes) (body : ReportBody) → HasToShow dir c.old c.new c.verdict body → CanShowAny body
   can_show_any dir (bodies.Bytes bytes) h = absurd h
   can_show_any dir (bodies.Row vs) h = absurd h
   can_show_any dir (bodies.Check check) h = can_show_all dir check.verdict check.shown h.0 h.1

@@ -24,8 +24,8 @@ use Rattle.jc_promises.proofs.Pairs.{pair_in}
 use Rattle.jc_facts.proofs.ReadLists.{read_valid}
 use Rattle.jc_sound.proofs.VerdictLaw.{verdict_is_one}
 use Rattle.jc_select.proofs.Limited.{warnings_are_one}
-use Rattle.jc_table.proofs.Roots.{has_root}
-use Rattle.jc_table.specs.Root.{fault_of_root}
+use Rattle.jc_index.proofs.Roots.{has_root}
+use Rattle.jc_index.specs.Root.{fault_of_root}
 use Rattle.jc_gate.specs.Gates.{GateOf}
 use Rattle.jc_words.specs.declared.usage.Usage.{Usage}
 use Rattle.jc_commands.specs.Causes.{IsRefused, IsAccepted}

@@ -19,9 +19,9 @@ use Rattle.jc_facts.specs.world.World.{class_named}
 use Rattle.jc_facts.proofs.Generated.{releases, nothing_least}
 use Rattle.jc_promises.proofs.Pairs.{plain_pair}
 use Rattle.jc_lemmas.proofs.Listed.{EachOf, each_of}
-use Rattle.jc_table.proofs.Roots.{has_root}
-use Rattle.jc_table.specs.Root.{faulty_part, fault_of_root}
-use Rattle.jc_table.specs.Sides.{overlap_of}
+use Rattle.jc_index.proofs.Roots.{has_root}
+use Rattle.jc_index.specs.Root.{faulty_part, fault_of_root}
+use Rattle.jc_index.specs.Sides.{overlap_of}
 use Rattle.jc_commands.specs.Check.{mismatch_of}
 use Rattle.jc_commands.specs.Command.{MakeCommand}
 use Rattle.jc_commands.specs.Make.{IsSize, old_made, new_made, IsVerdictOnMade}

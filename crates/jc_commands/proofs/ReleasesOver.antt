@@ -17,9 +17,9 @@ use Rattle.jc_lemmas.proofs.Listed.{EachOf}
 use Rattle.jc_table.specs.declared.table.TableError.{TableError}
 use Rattle.jc_table.specs.declared.table.TableError.TheVariants as errors
 use Rattle.jc_table.specs.Tables.{HasCause as HasTableCause}
-use Rattle.jc_table.specs.Root.{fault_of_root}
-use Rattle.jc_table.specs.Sides.{overlap_of}
-use Rattle.jc_table.proofs.Roots.{has_root}
+use Rattle.jc_index.specs.Root.{fault_of_root}
+use Rattle.jc_index.specs.Sides.{overlap_of}
+use Rattle.jc_index.proofs.Roots.{has_root}
 use Rattle.jc_trees.specs.ClassLists.{IsRecordList, kind_of}
 use Rattle.jc_trees.specs.declared.tree.TreeKind.TheVariants as kinds
 use Rattle.jc_trees.specs.declared.tree.TreeName.{TreeName}

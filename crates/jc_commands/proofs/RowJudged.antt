@@ -12,8 +12,8 @@ use Rattle.jc_facts.specs.world.World.{World, side}
 use Rattle.jc_lemmas.proofs.Listed.{EachOf, each_in}
 use Rattle.jc_history.specs.History.{AreOfRun, AreVerdictsWithin}
 use Rattle.jc_history.specs.Row.{steps_of, KeepsRow}
-use Rattle.jc_table.specs.Root.{fault_of_root}
-use Rattle.jc_table.proofs.Roots.{has_root}
+use Rattle.jc_index.specs.Root.{fault_of_root}
+use Rattle.jc_index.proofs.Roots.{has_root}
 use Rattle.jc_trees.specs.ClassLists.{IsRecordList}
 use Rattle.jc_commands.specs.History.{row_of, mismatch_of_row}
 use Rattle.jc_commands.specs.Releases.{numbered, sides_of, mismatch_among}

@@ -26,10 +26,10 @@ use Rattle.jc_select.specs.Within.{AnswersStill}
 use Rattle.jc_commands.specs.declared.report.Report.{Report}
 use Rattle.jc_commands.specs.declared.report.Condition.{Condition}
 use Rattle.jc_commands.specs.declared.report.Condition.TheVariants as conditions
-use Rattle.jc_commands.specs.declared.body.Body.{Body}
+use Rattle.jc_commands.specs.declared.body.ReportBody.{ReportBody}
 use Rattle.jc_commands.specs.declared.body.CheckBody.{CheckBody}
 use Rattle.jc_commands.specs.declared.shown.Shown.{Shown}
-use Rattle.jc_commands.specs.declared.body.Body.TheVariants as bodies
+use Rattle.jc_commands.specs.declared.body.ReportBody.TheVariants as bodies
 use Rattle.jc_commands.specs.declared.status.TheConstants.{PASSED, NOT_PASSED}
 use Rattle.jc_commands.specs.Shown.{CanShow}
 use Rattle.jc_version.specs.LevelNumbers.{number_of}
@@ -50,7 +50,7 @@ abbrev pub report_in : CheckBody → CheckReport
 report_in check = report_of check.verdict (option_map (λ ws. ws.items) check.warnings) (option_map (λ ns. ns.items) check.signatures) (option_map (λ ds. ds.items) check.dropped)
 
 -- the bytes that are put
-abbrev pub bytes_in : Body → Bytes
+abbrev pub bytes_in : ReportBody → Bytes
 bytes_in (bodies.Bytes bytes) = bytes.items
 bytes_in (bodies.Check check) = check_bytes check.json (report_in check)
 bytes_in (bodies.Row verdicts) = history_text_of verdicts.items
@@ -62,13 +62,13 @@ IsShownIn (Some dir) O N (Some of) = (of.dir.now ≡ dir) × (of.old ≡ O) × (
 IsShownIn _ O N _ = ⊥
 
 -- it is the report of a check, whose witness files are made of these sides
-abbrev pub HasToShow : Option Bytes → World → World → Verdict → Body → Type 0
+abbrev pub HasToShow : Option Bytes → World → World → Verdict → ReportBody → Type 0
 HasToShow dir O N v (bodies.Bytes bytes) = ⊥
 HasToShow dir O N v (bodies.Check check) = (check.verdict ≡ v) × IsShownIn dir O N check.shown
 HasToShow dir O N v (bodies.Row verdicts) = ⊥
 
 -- it is that of no check
-abbrev pub IsBare : Body → Type 0
+abbrev pub IsBare : ReportBody → Type 0
 IsBare (bodies.Bytes bytes) = Unit {0}
 IsBare (bodies.Check check) = ⊥
 IsBare (bodies.Row verdicts) = Unit {0}
@@ -78,7 +78,7 @@ abbrev pub CanShowAll : Verdict → Option Shown → Type 0
 CanShowAll v None = Unit {0}
 CanShowAll v (Some of) = CanShow of v
 
-abbrev pub CanShowAny : Body → Type 0
+abbrev pub CanShowAny : ReportBody → Type 0
 CanShowAny (bodies.Bytes bytes) = Unit {0}
 CanShowAny (bodies.Check check) = CanShowAll check.verdict check.shown
 CanShowAny (bodies.Row verdicts) = Unit {0}
@@ -88,7 +88,7 @@ abbrev pub dir_shown : Option Shown → Option Bytes
 dir_shown None = None
 dir_shown (Some of) = Some of.dir.now
 
-abbrev pub dir_in : Body → Option Bytes
+abbrev pub dir_in : ReportBody → Option Bytes
 dir_in (bodies.Bytes bytes) = None
 dir_in (bodies.Check check) = dir_shown check.shown
 dir_in (bodies.Row verdicts) = None
@@ -98,7 +98,7 @@ abbrev pub puts_shown : Verdict → Option Shown → List PutFile
 puts_shown v None = []
 puts_shown v (Some of) = witness_puts of.dir.now of.old of.new v
 
-abbrev pub puts_in : Body → List PutFile
+abbrev pub puts_in : ReportBody → List PutFile
 puts_in (bodies.Bytes bytes) = []
 puts_in (bodies.Check check) = puts_shown check.verdict check.shown
 puts_in (bodies.Row verdicts) = []

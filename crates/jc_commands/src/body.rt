@@ -7,7 +7,7 @@ use jc_facts::warning::Warning;
 
 /// What is put of a command.
 #[derive(Drop)]
-pub enum Body<'a> {
+pub enum ReportBody<'a> {
     /// These bytes.
     Bytes(Vec<u8>),
     /// The report of a check.

@@ -21,7 +21,7 @@ use jc_base::trees::Trees;
 use jc_facts::class_facts::ClassFacts;
 use jc_facts::verdict::Verdict;
 use jc_history::history::history_within;
-use jc_table::platform::Platform;
+use jc_loading::platform::Platform;
 use jc_trees::read_trees::read_trees;
 use jc_trees::tree_read::take_records;
 use jc_words::history::History;

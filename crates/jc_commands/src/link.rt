@@ -26,7 +26,7 @@ use jc_facts::outcome::Outcome;
 use jc_link::link::link_over;
 use jc_link::modular::link_modular_over;
 use jc_link::refusal::LinkRefusal;
-use jc_table::platform::Platform;
+use jc_loading::platform::Platform;
 use jc_trees::read_trees::read_trees;
 use jc_trees::tree::TreeName;
 use jc_trees::tree_read::{take_clients, take_records};

@@ -11,7 +11,7 @@ ghost use Rattle.jc_commands.specs.Putting.{IsPutWith, IsPutAfter, IsCutBefore};
 ghost use Rattle.jc_commands.specs.declared.stop.Stop.{Stop};
 ghost use Rattle.jc_report.specs.Listing.{part_bytes};
 
-use crate::body::{Body, CheckBody};
+use crate::body::{CheckBody, ReportBody};
 use crate::put_witnesses::put_witnesses;
 use crate::report::Report;
 use crate::status::{NO_MEMORY, WRITE_FAULT};
@@ -126,22 +126,22 @@ fn put_check<O: Sink>(alloc: Global, body: &CheckBody<'_>, out: &mut O) -> Resul
 }
 
 // Puts the bytes of a report.
-fn put_body<O: Sink>(alloc: Global, body: &Body<'_>, out: &mut O) -> Result<(), SinkError>
+fn put_body<O: Sink>(alloc: Global, body: &ReportBody<'_>, out: &mut O) -> Result<(), SinkError>
     ensures ok { OnOk result (PutsAll (change O.state out.old out.new) (bytes_in body.now)) }
     ensures err { OnErr result (PutsFront (change O.state out.old out.new) (bytes_in body.now)) }
     ensures never_falls { (O.state out.old).faults ≤ (O.state out.new).faults }
     ensures cause { IsErrOf result SinkError.Fault → HasPutFault (change O.state out.old out.new) }
 {
     match body {
-        Body::Bytes(bytes) => match put_lines(bytes.as_slice(), out) {
+        ReportBody::Bytes(bytes) => match put_lines(bytes.as_slice(), out) {
             Ok(()) => Ok(()),
             Err(error) => Err(error),
         },
-        Body::Check(check) => match put_check(alloc, check, out) {
+        ReportBody::Check(check) => match put_check(alloc, check, out) {
             Ok(()) => Ok(()),
             Err(error) => Err(error),
         },
-        Body::Row(verdicts) => match put_history(alloc, verdicts.as_slice(), out) {
+        ReportBody::Row(verdicts) => match put_history(alloc, verdicts.as_slice(), out) {
             Ok(()) => Ok(()),
             Err(error) => Err(error),
         },
@@ -171,7 +171,11 @@ fn put_asked<F: Folder>(
 }
 
 // Puts the witness files of what is to be shown.
-fn put_shown<F: Folder>(alloc: Global, body: &Body<'_>, folder: &mut F) -> Result<(), FolderError>
+fn put_shown<F: Folder>(
+    alloc: Global,
+    body: &ReportBody<'_>,
+    folder: &mut F,
+) -> Result<(), FolderError>
     requires { CanShowAny body.now }
     ensures whole { OnOk result (PutsFiles (change F.state folder.old folder.new) (puts_in body.now)) }
     ensures some { OnErr result (PutsSome (change F.state folder.old folder.new) (puts_in body.now)) }
@@ -180,9 +184,9 @@ fn put_shown<F: Folder>(alloc: Global, body: &Body<'_>, folder: &mut F) -> Resul
     ensures cause { IsErrOf result FolderError.Fault → HasFolderFault (change F.state folder.old folder.new) }
 {
     match body {
-        Body::Bytes(_) => Ok(()),
-        Body::Row(_) => Ok(()),
-        Body::Check(check) => match put_asked(alloc, check, folder) {
+        ReportBody::Bytes(_) => Ok(()),
+        ReportBody::Row(_) => Ok(()),
+        ReportBody::Check(check) => match put_asked(alloc, check, folder) {
             Ok(()) => Ok(()),
             Err(error) => Err(error),
         },

@@ -11,7 +11,7 @@ ghost use Rattle.jc_commands.specs.Reports.{rules_of as rules_in};
 ghost use Rattle.jc_commands.specs.steps.Check.{report_made};
 ghost use Rattle.jc_commands.specs.ReportValue.{TellsOf, HasToShow, IsShownIn, IsBare, bytes_in, passes_by, status_by};
 
-use crate::body::{Body, CheckBody};
+use crate::body::{CheckBody, ReportBody};
 use crate::comparison::Comparison;
 use crate::shown::Shown;
 use crate::status::{NOT_PASSED, PASSED};
@@ -42,7 +42,7 @@ pub enum Condition<'a> {
 /// What a command comes to: what is to be put, and where it passes.
 #[derive(Drop)]
 pub struct Report<'a> {
-    pub body: Body<'a>,
+    pub body: ReportBody<'a>,
     pub condition: Condition<'a>,
 }
 
@@ -97,7 +97,7 @@ fn shown_in(dir: Option<&str>, old: Table, new: Table) -> Option<Shown<'_>>
 }
 
 // What is put of a comparison: its verdict, with what its witnesses are made of.
-fn body_of(comparison: Comparison, json: bool, dir: Option<&str>) -> Body<'_>
+fn body_of(comparison: Comparison, json: bool, dir: Option<&str>) -> ReportBody<'_>
     ensures bytes { bytes_in result ≡ check_bytes json (report_made comparison) }
     ensures shown { HasToShow (option_map (λ d. d.now) dir.entry) comparison.old comparison.new comparison.verdict result }
 {
@@ -110,7 +110,7 @@ fn body_of(comparison: Comparison, json: bool, dir: Option<&str>) -> Body<'_>
         dropped,
     } = comparison;
     let shown = shown_in(dir, old, new);
-    Body::Check(CheckBody {
+    ReportBody::Check(CheckBody {
         json,
         verdict,
         warnings,
@@ -164,7 +164,7 @@ impl<'a> Report<'a> {
         let text = link_text(alloc, outcomes)?;
         let passes = are_ok(outcomes);
         Ok(Report {
-            body: Body::Bytes(text),
+            body: ReportBody::Bytes(text),
             condition: Condition::Known(passes),
         })
     }
@@ -181,7 +181,7 @@ impl<'a> Report<'a> {
     {
         let text = made_text(alloc, classes, verdict)?;
         Ok(Report {
-            body: Body::Bytes(text),
+            body: ReportBody::Bytes(text),
             condition: Condition::Known(true),
         })
     }
@@ -194,7 +194,7 @@ impl<'a> Report<'a> {
     {
         let passes = count_incompatible(verdicts.as_slice()) == 0;
         Report {
-            body: Body::Row(verdicts),
+            body: ReportBody::Row(verdicts),
             condition: Condition::Known(passes),
         }
     }

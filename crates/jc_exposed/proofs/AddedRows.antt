@@ -13,7 +13,7 @@ use Rattle.jc_facts.specs.world.World.{World, size}
 use Rattle.jc_facts.specs.world.Hierarchy.{in_chain}
 use Rattle.jc_facts.specs.world.Access.{is_member_open}
 use Rattle.jc_lemmas.proofs.Bools.{or_assoc, or_false, or_true}
-use Rattle.jc_table.specs.Ids.{name_at}
+use Rattle.jc_index.specs.Ids.{name_at}
 use Rattle.jc_acts.specs.Touched.{flag_at}
 use Rattle.jc_acts.specs.steps.LookedUp.{member_of}
 use Rattle.jc_exposed.specs.Exposures.{exposes_to, IsExposureIn}

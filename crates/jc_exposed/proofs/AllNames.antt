@@ -20,8 +20,8 @@ use Rattle.jc_index.proofs.Numbers.{names-length}
 use Rattle.jc_index.proofs.Places.{names-permutation}
 use Rattle.jc_sound.specs.ExposedAbove.{keys_above, exposes_by}
 use Rattle.jc_sound.proofs.ExposedAbove.{exposed_by_keys_above}
-use Rattle.jc_table.specs.Ids.{name_at, names}
-use Rattle.jc_table.specs.Sides.{IsSide}
+use Rattle.jc_index.specs.Ids.{name_at, names}
+use Rattle.jc_index.specs.Sides.{IsSide}
 use Rattle.jc_exposed.specs.Exposures.{exposes_to}
 use Rattle.jc_exposed.specs.Exposing.{Finds, opens, opens_usable}
 use Rattle.jc_exposed.specs.Rows.{AreAdded, AreExposing, AreRows}

@@ -36,8 +36,8 @@ use Rattle.jc_sound.proofs.ExposedAbove.{exposes_above, above-each}
 use Rattle.jc_sound.proofs.Itself.{same_pair}
 use Rattle.jc_sound.proofs.Standing.{usable_parts}
 use Rattle.jc_sound.specs.ExposedAbove.{keys_above}
-use Rattle.jc_table.specs.Ids.{name_at, names}
-use Rattle.jc_table.specs.Sides.{IsSide}
+use Rattle.jc_index.specs.Ids.{name_at, names}
+use Rattle.jc_index.specs.Sides.{IsSide}
 use Rattle.jc_worlds.specs.Hierarchy.{above}
 use Rattle.jc_exposed.specs.Exposing.{AreOwn, is_wanted, opens, opens_of, opens_usable, row_at}
 use Rattle.jc_exposed.specs.FirstAct.{Collects, IsFirstAt, has_open, has_open_at, is_act_open, names_open}

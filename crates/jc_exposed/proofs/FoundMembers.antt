@@ -11,7 +11,7 @@ use Rattle.jc_facts.specs.world.World.{World, size, find_class}
 use Rattle.jc_facts.specs.client.Acts.{Form, FieldForm, MethodForm, InterfaceForm}
 use Rattle.jc_facts.specs.world.Access.{is_member_open}
 use Rattle.jc_promises.specs.rule.Bases.{is_key_of_method}
-use Rattle.jc_table.specs.Ids.{name_at}
+use Rattle.jc_index.specs.Ids.{name_at}
 use Rattle.jc_index.specs.declared.ids.Found.{Found}
 use Rattle.jc_exposed.specs.Exposures.{exposes_to, IsExposureIn}
 use Rattle.jc_exposed.specs.Exposing.{Finds, every, opens_as, opens, opens_one, opens_of, opens_at, AreOwn, is_wanted, row_at}

@@ -6,7 +6,7 @@ use Rattle.jc_lemmas.proofs.Bools.{contradicts}
 use Rattle.jc_facts.specs.Names.{Bytes}
 use Rattle.jc_facts.proofs.Same.{same_is}
 use Rattle.jc_facts.specs.world.World.{World, size}
-use Rattle.jc_table.specs.Ids.{name_at}
+use Rattle.jc_index.specs.Ids.{name_at}
 use Rattle.jc_acts.specs.Touched.{flag_at}
 use Rattle.jc_exposed.specs.Lengths.{may_be, HaveLengths, Keeps}
 use Rattle.jc_exposed.specs.Named.{Lists}

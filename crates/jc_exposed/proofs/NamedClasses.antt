@@ -15,8 +15,8 @@ use Rattle.jc_facts.specs.Names.{Bytes}
 use Rattle.jc_facts.proofs.Same.{same_is, same_itself}
 use Rattle.jc_facts.specs.world.World.{World, size}
 use Rattle.jc_index.proofs.Numbers.{id_of-name_at, id_of-Some}
-use Rattle.jc_table.specs.Ids.{name_at, id_of}
-use Rattle.jc_table.specs.Sides.{IsSide}
+use Rattle.jc_index.specs.Ids.{name_at, id_of}
+use Rattle.jc_index.specs.Sides.{IsSide}
 use Rattle.jc_exposed.specs.Named.{Lists}
 
 module _ (W : World) (on : ℕ → Bool) where

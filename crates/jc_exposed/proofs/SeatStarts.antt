@@ -14,7 +14,7 @@ use Rattle.jc_lemmas.proofs.Bools.{contradicts}
 use Rattle.jc_lemmas.proofs.Lists.{any_weaker}
 use Rattle.jc_sides.specs.SharedOf.{SharedOf, name_of}
 use Rattle.jc_sides.specs.SidesOf.{SidesOf}
-use Rattle.jc_table.specs.Ids.{name_at}
+use Rattle.jc_index.specs.Ids.{name_at}
 use Rattle.jc_acts.specs.Seats.{all_seats}
 use Rattle.jc_exposed.specs.Exposed.{AreExposed, AreStarts, IsStart, are_all_exposed, is_wanted, start_at}
 use Rattle.jc_exposed.specs.Rows.{exposes_in}

@@ -7,7 +7,7 @@ use Rattle.jc_facts.specs.Names.{Bytes}
 use Rattle.jc_facts.specs.world.World.{World, size}
 use Rattle.jc_promises.specs.rule.Exposed.{is_exposed}
 use Rattle.jc_sides.specs.SidesOf.{SidesOf}
-use Rattle.jc_table.specs.Ids.{name_at}
+use Rattle.jc_index.specs.Ids.{name_at}
 use Rattle.jc_acts.specs.Seats.{all_seats}
 use Rattle.jc_acts.specs.Touched.{flag_at}
 use Rattle.jc_exposed.specs.Rows.{AreExposing, exposes_in}

@@ -8,7 +8,7 @@ use Rattle.jc_facts.specs.Names.{Bytes}
 use Rattle.jc_facts.specs.world.World.{World, size, find_class}
 use Rattle.jc_facts.specs.client.Acts.{Form}
 use Rattle.jc_promises.specs.rule.Exposed.{open_act, keys_of}
-use Rattle.jc_table.specs.Ids.{name_at}
+use Rattle.jc_index.specs.Ids.{name_at}
 use Rattle.jc_exposed.specs.Exposures.{exposes_to, IsExposureIn}
 use Rattle.jc_acts.specs.Touched.{flag_at}
 use Rattle.jc_exposed.specs.OpenForms.{finds_open}

@@ -10,7 +10,7 @@ use Rattle.jc_facts.specs.Options.{some_and}
 use Rattle.jc_promises.specs.rule.Exposed.{keys_of}
 use Rattle.jc_promises.specs.rule.OpenActs.{act_fault}
 use Rattle.jc_facts.specs.world.World.{World, size, find_class}
-use Rattle.jc_table.specs.Ids.{name_at, names}
+use Rattle.jc_index.specs.Ids.{name_at, names}
 use Rattle.jc_exposed.specs.Exposing.{opens}
 
 -- the act on the key and the class c is open to the seat a

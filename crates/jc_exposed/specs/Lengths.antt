@@ -3,7 +3,7 @@
 --     HaveLengths W wanted many lengths      so it is said of each wanted class among the first so many
 use Rattle.std.specs.Prelude.{◌≡◌, ◌<◌, ℕ, Bool, true, List, length, slice_index_or}
 use Rattle.jc_facts.specs.world.World.{World}
-use Rattle.jc_table.specs.Ids.{name_at}
+use Rattle.jc_index.specs.Ids.{name_at}
 use Rattle.jc_acts.specs.Touched.{flag_at}
 
 -- a length without a mark may be that of any class

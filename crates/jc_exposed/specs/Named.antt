@@ -3,7 +3,7 @@ use Rattle.std.specs.Prelude.{◌<◌, ◌≡◌, ◌==◌, ℕ, Bool, true, Lis
 use Rattle.std.specs.List.{list_any}
 use Rattle.jc_facts.specs.Names.{Bytes}
 use Rattle.jc_facts.specs.world.World.{World, size}
-use Rattle.jc_table.specs.Ids.{name_at}
+use Rattle.jc_index.specs.Ids.{name_at}
 
 -- of the world's classes that are on, these are the numbers of those whose names pass
 pub record Lists (W : World) (on : ℕ → Bool) (p : Bytes → Bool) (ids : List ℕ) : Type 0 where

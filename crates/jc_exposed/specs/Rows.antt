@@ -5,7 +5,7 @@ use Rattle.jc_facts.specs.Flags.{public_flag}
 use Rattle.jc_facts.specs.Names.{Bytes}
 use Rattle.jc_facts.specs.world.World.{World, size}
 use Rattle.jc_promises.specs.rule.Exposed.{is_hidden, is_exposed}
-use Rattle.jc_table.specs.Ids.{name_at}
+use Rattle.jc_index.specs.Ids.{name_at}
 use Rattle.jc_exposed.specs.Exposures.{exposes_to, IsExposureIn}
 use Rattle.jc_exposed.specs.declared.exposure.Exposure.{Exposure}
 

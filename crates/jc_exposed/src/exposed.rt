@@ -10,7 +10,7 @@ ghost use Rattle.jc_promises.specs.rule.Exposed.{is_exposed, is_hidden};
 ghost use Rattle.jc_promises.specs.rule.OpenActs.{first_seat};
 ghost use Rattle.jc_facts.specs.world.World.{size};
 ghost use Rattle.jc_sides.specs.SharedOf.{IsShared, name_of};
-ghost use Rattle.jc_table.specs.Ids.{name_at};
+ghost use Rattle.jc_index.specs.Ids.{name_at};
 
 use crate::exposing::exposing_rows;
 use crate::exposure::Exposure;
@@ -20,9 +20,9 @@ use jc_access::access::{Seat, accessible};
 use jc_acts::seats::Seats;
 use jc_base::items::Items;
 use jc_base::name::Name;
+use jc_index::ids::ClassId;
 use jc_sides::shared::Shared;
 use jc_sides::sides::Sides;
-use jc_table::ids::ClassId;
 use jc_table::table::Table;
 use std::alloc::{AllocError, Global};
 

@@ -1,5 +1,5 @@
 //! Members that expose classes.
-use jc_table::ids::{ClassId, Found};
+use jc_index::ids::{ClassId, Found};
 
 /// A member whose descriptor names a class that it may expose, found by a reference.
 #[derive(Clone, Copy, Debug)]

@@ -11,8 +11,8 @@ ghost use Rattle.jc_facts.specs.client.Acts.{form_of};
 ghost use Rattle.jc_promises.specs.rule.Exposed.{earlier, exposing_act, first_by, open_act};
 ghost use Rattle.jc_facts.specs.world.Loading.{load_fault};
 ghost use Rattle.jc_facts.specs.world.World.{size};
-ghost use Rattle.jc_table.specs.Ids.{name_at, names};
-ghost use Rattle.jc_table.specs.Sides.{IsSide};
+ghost use Rattle.jc_index.specs.Ids.{name_at, names};
+ghost use Rattle.jc_index.specs.Sides.{IsSide};
 
 use crate::exposed::is_by_any;
 use crate::exposing::{found_through, is_of_method};
@@ -22,8 +22,8 @@ use jc_acts::plain::fault_on;
 use jc_facts::act::Act;
 use jc_facts::key::Key;
 use jc_facts::member_act::MemberAct;
+use jc_index::ids::ClassId;
 use jc_sides::found::push_some;
-use jc_table::ids::ClassId;
 use jc_table::table::Table;
 use std::alloc::{AllocError, Global};
 

@@ -9,13 +9,13 @@ ghost use Rattle.jc_desc.specs.Views.{type_view, views};
 ghost use Rattle.jc_exposed.specs.Lengths.{HaveLengths};
 ghost use Rattle.jc_exposed.specs.Named.{Lists};
 ghost use Rattle.jc_facts.specs.world.World.{size};
-ghost use Rattle.jc_table.specs.Sides.{IsSide};
+ghost use Rattle.jc_index.specs.Sides.{IsSide};
 
 use crate::lengths::may_be;
 use jc_desc::field::{Base, FieldType, field_type};
 use jc_desc::method::method_type;
+use jc_index::ids::ClassId;
 use jc_sides::found::push_some;
-use jc_table::ids::ClassId;
 use jc_table::table::Table;
 use std::alloc::{AllocError, Global};
 

@@ -7,8 +7,8 @@ ghost use Rattle.jc_exposed.specs.Namings.{Gives};
 
 use jc_facts::class_facts::Member;
 use jc_facts::key::Key;
+use jc_index::ids::ClassId;
 use jc_index::members::key_of_member;
-use jc_table::ids::ClassId;
 use std::alloc::{AllocError, Global};
 
 /// A key whose descriptor names a class.

@@ -9,15 +9,15 @@ ghost use Rattle.jc_exposed.specs.Namings.{Gives};
 ghost use Rattle.jc_facts.specs.declared.class_facts.ClassFacts.{ClassFacts as ClassOf};
 ghost use Rattle.jc_facts.specs.Names.{key_of};
 ghost use Rattle.jc_facts.specs.world.World.{find_class, size};
-ghost use Rattle.jc_table.specs.Ids.{name_at};
-ghost use Rattle.jc_table.specs.Sides.{IsSide};
+ghost use Rattle.jc_index.specs.Ids.{name_at};
+ghost use Rattle.jc_index.specs.Sides.{IsSide};
 
 use crate::lengths::lengths_of;
 use crate::named::classes_named;
 use crate::namings::{Naming, namings_of};
 use jc_base::items::Items;
 use jc_facts::class_facts::Member;
-use jc_table::ids::ClassId;
+use jc_index::ids::ClassId;
 use jc_table::table::Table;
 use std::alloc::{AllocError, Global};
 
@@ -120,7 +120,7 @@ impl Own {
     ghost use Rattle.std.specs.Prelude.{◌≡◌, IfOk, length};
     ghost use Rattle.jc_exposed.specs.Exposing.{AreOwn, flags_of};
     ghost use Rattle.jc_facts.specs.world.World.{size};
-    ghost use Rattle.jc_table.specs.Sides.{IsSide};
+    ghost use Rattle.jc_index.specs.Sides.{IsSide};
 
     /// The keys that name wanted classes: one pass over the members of all classes of the table, of
     /// which each has a flag.

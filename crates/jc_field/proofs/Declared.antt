@@ -27,12 +27,12 @@ use Rattle.jc_worlds.proofs.Bare.{bare_field}
 use Rattle.jc_lemmas.proofs.Listed.{EachOf, EachOf-both, EachOf-map, list_any-same}
 use Rattle.jc_worlds.proofs.ValidFacts.{superclass_fits, fit_of}
 use Rattle.jc_facts.proofs.Same.{same_is}
-use Rattle.jc_table.specs.Lookups.{declare_field}
-use Rattle.jc_table.specs.Sides.{IsSide}
+use Rattle.jc_index.specs.Lookups.{declare_field}
+use Rattle.jc_index.specs.Sides.{IsSide}
 use Rattle.jc_field.specs.steps.Fields.{declares_field}
 use Rattle.jc_facts.proofs.Hierarchy.{any_each}
 use Rattle.jc_lemmas.proofs.Bools.{or_false, imply}
-use Rattle.jc_table.proofs.Sides.{side_valid, root_at}
+use Rattle.jc_index.proofs.Sides.{side_valid, root_at}
 
 -- ---- sides
 

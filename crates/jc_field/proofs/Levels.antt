@@ -9,12 +9,12 @@ use Rattle.jc_facts.specs.Options.{or_else, first_some, and_then}
 use Rattle.jc_facts.specs.world.World.{World, find_class, size, own_field_of, found_in}
 use Rattle.jc_facts.specs.world.Lookup.{field_found, field_step}
 use Rattle.jc_worlds.proofs.Descent.{descend-absent, descend-none_left, descend-found}
-use Rattle.jc_table.specs.Ids.{name_at, id_of}
-use Rattle.jc_table.specs.Lookups.{IsAnswer}
+use Rattle.jc_index.specs.Ids.{name_at, id_of}
+use Rattle.jc_index.specs.Lookups.{IsAnswer}
 use Rattle.jc_index.specs.declared.ids.Found.{Found}
-use Rattle.jc_table.proofs.Numbers.{id_of-Some, find-None}
+use Rattle.jc_index.proofs.Numbers.{id_of-Some, find-None}
 use Rattle.jc_field.specs.steps.Fields.{own_found, found_to}
-use Rattle.jc_table.proofs.Lookups.{answer_none, answer_or, answer_else}
+use Rattle.jc_index.proofs.Lookups.{answer_none, answer_or, answer_else}
 
 module _ (W : World) (k : Key) (x : Bytes) where
   pub to-absent : (n : ℕ) → None ≡ id_of W x → IsAnswer W None (found_to W k n x)

@@ -25,15 +25,15 @@ use Rattle.jc_worlds.proofs.Locality.{of_interfaces}
 use Rattle.jc_worlds.proofs.Unrolled.{with_interfaces-unroll}
 use Rattle.jc_facts.proofs.Options.{none_or_else, or_else-assoc, or_else-last}
 use Rattle.jc_facts.proofs.World.{find-name}
-use Rattle.jc_table.specs.Ids.{name_at, id_of, superclass_of}
-use Rattle.jc_table.specs.Above.{AreAbove}
-use Rattle.jc_table.specs.Lookups.{IsAnswer}
-use Rattle.jc_table.specs.Sides.{IsSide}
+use Rattle.jc_index.specs.Ids.{name_at, id_of, superclass_of}
+use Rattle.jc_index.specs.Above.{AreAbove}
+use Rattle.jc_index.specs.Lookups.{IsAnswer}
+use Rattle.jc_index.specs.Sides.{IsSide}
 use Rattle.jc_index.specs.declared.ids.Found.{Found}
-use Rattle.jc_table.proofs.Numbers.{IsClass, class_at, id_of-Some, superclass_is, find-None}
+use Rattle.jc_index.proofs.Numbers.{IsClass, class_at, id_of-Some, superclass_is, find-None}
 use Rattle.jc_field.specs.steps.Fields.{declares_field, declares_at, own_found, interfaces_found, here_found, AreReady, GivenBy, Gives}
-use Rattle.jc_table.proofs.Lookups.{answer_none, answer_or}
-use Rattle.jc_table.proofs.Reached.{any_reached}
+use Rattle.jc_index.proofs.Lookups.{answer_none, answer_or}
+use Rattle.jc_index.proofs.Reached.{any_reached}
 use Rattle.jc_field.proofs.Declared.{stepped, kinds, interface_has, no_super}
 
 -- ---- the class's own field

@@ -3,14 +3,14 @@ ghost use Rattle.std.specs.Prelude.{◌≡◌, ◌<◌, None};
 ghost use Rattle.jc_facts.specs.world.World.{size};
 ghost use Rattle.jc_facts.specs.world.Loading.{load_fault};
 ghost use Rattle.jc_facts.specs.world.Lookup.{field_found};
-ghost use Rattle.jc_table.specs.Ids.{name_at};
-ghost use Rattle.jc_table.specs.Keys.{numbered_keys, IsNumber};
-ghost use Rattle.jc_table.specs.Lookups.{IsAnswer};
+ghost use Rattle.jc_index.specs.Ids.{name_at};
+ghost use Rattle.jc_rows.specs.Keys.{numbered_keys, IsNumber};
+ghost use Rattle.jc_index.specs.Lookups.{IsAnswer};
 
 use crate::walk::walk_field;
 use jc_facts::key::Key;
+use jc_index::ids::{ClassId, Found};
 use jc_table::by_number::find_at;
-use jc_table::ids::{ClassId, Found};
 use jc_table::table::Table;
 
 /// The field of the key that a reference to the class finds; none where there is none: the class's

@@ -5,14 +5,14 @@ ghost use Rattle.jc_facts.specs.KeyOrder.{key_cmp};
 ghost use Rattle.jc_facts.specs.world.Loading.{load_fault};
 ghost use Rattle.jc_facts.specs.Exactly.{HasExactly};
 ghost use Rattle.jc_worlds.specs.Hierarchy.{above};
-ghost use Rattle.jc_table.specs.Ids.{name_at};
-ghost use Rattle.jc_table.specs.Lookups.{declare_field};
+ghost use Rattle.jc_index.specs.Ids.{name_at};
+ghost use Rattle.jc_index.specs.Lookups.{declare_field};
 ghost use Rattle.jc_field.specs.FoundKeys.{HaveFound};
 
 use jc_facts::key::Key;
-use jc_table::ids::ClassId;
+use jc_index::ids::ClassId;
+use jc_index::members::MemberKind;
 use jc_table::keys::keys_of;
-use jc_table::members::MemberKind;
 use jc_table::table::Table;
 use std::alloc::{AllocError, Global};
 

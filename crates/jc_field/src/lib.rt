@@ -5,5 +5,3 @@ pub mod find;
 pub mod keys;
 pub mod plain;
 pub mod walk;
-
-pub use jc_table::ids::Found;

@@ -4,14 +4,14 @@
 ghost use Rattle.std.specs.Prelude.{◌<◌};
 ghost use Rattle.jc_facts.specs.world.World.{size};
 ghost use Rattle.jc_facts.specs.world.Lookup.{field_found};
-ghost use Rattle.jc_table.specs.Ids.{name_at};
-ghost use Rattle.jc_table.specs.Lookups.{IsAnswer};
+ghost use Rattle.jc_index.specs.Ids.{name_at};
+ghost use Rattle.jc_index.specs.Lookups.{IsAnswer};
 ghost use Rattle.jc_field.specs.steps.Fields.{found_to};
 
 use crate::walk::own;
 use jc_facts::key::Key;
 use jc_facts::key_set::KeyRef;
-use jc_table::ids::{ClassId, Found};
+use jc_index::ids::{ClassId, Found};
 use jc_table::table::Table;
 
 // The field that a search so many levels deep gives of the class of this name.

@@ -6,16 +6,16 @@ ghost use Rattle.jc_facts.specs.world.World.{size};
 ghost use Rattle.jc_facts.specs.world.Loading.{load_fault};
 ghost use Rattle.jc_facts.specs.world.Lookup.{field_found};
 ghost use Rattle.jc_facts.specs.world.Assignment.{is_interface_of};
-ghost use Rattle.jc_table.specs.Ids.{name_at};
-ghost use Rattle.jc_table.specs.Lookups.{IsAnswer};
-ghost use Rattle.jc_table.specs.Sides.{IsSide};
+ghost use Rattle.jc_index.specs.Ids.{name_at};
+ghost use Rattle.jc_index.specs.Lookups.{IsAnswer};
+ghost use Rattle.jc_index.specs.Sides.{IsSide};
 ghost use Rattle.jc_field.specs.steps.Fields.{declares_at, own_found, interfaces_found, here_found, AreReady, GivenBy, Gives};
 
 use jc_base::name::Name;
 use jc_facts::key::Key;
 use jc_facts::key_set::KeyRef;
-use jc_table::ids::{ClassId, Found};
-use jc_table::members::own_field;
+use jc_index::ids::{ClassId, Found};
+use jc_index::members::own_field;
 use jc_table::table::Table;
 
 // The class's own field.

@@ -9,7 +9,7 @@ use Rattle.jc_facts.specs.file.Valid.{has_key}
 use Rattle.jc_facts.proofs.Same.{same_is, same_itself}
 use Rattle.jc_lemmas.proofs.Bools.{or_false}
 use Rattle.jc_index.specs.steps.HashedKeys.{with_one, HaveNames}
-use Rattle.jc_index.specs.steps.Adding.{Adds}
+use Rattle.jc_index.specs.steps.Adding.{AddsNames}
 
 -- keys that a test finds equal are one
 pub key_is : (k l : Key) → same_key k l ≡ true → k ≡ l
@@ -39,7 +39,7 @@ next_listed q k seen keys now h e =
 -- ---- the names of keys
 
 -- the name of one key more
-pub names_next : (ks : List Key) (n : ℕ) (k : Key) (before now : List Bytes) → n < length ks → k ≡ get_or ks n k → Adds before now (k.name ∷ []) → HaveNames before (take n ks) → HaveNames now (take (n + 1) ks)
+pub names_next : (ks : List Key) (n : ℕ) (k : Key) (before now : List Bytes) → n < length ks → k ≡ get_or ks n k → AddsNames before now (k.name ∷ []) → HaveNames before (take n ks) → HaveNames now (take (n + 1) ks)
 names_next ks n k before now l e a h q p = a q.name ∙ go (has_key q (take n ks)) refl
   where
     split : has_key q (take (n + 1) ks) ≡ (has_key q (take n ks) || same_key q k)

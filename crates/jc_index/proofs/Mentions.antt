@@ -14,12 +14,12 @@ use Rattle.jc_facts.specs.world.Mentioned.{mentions, all_mentions}
 use Rattle.jc_facts.specs.world.World.{class_named}
 use Rattle.jc_facts.proofs.Same.{same_is, same_itself}
 use Rattle.jc_index.proofs.NumberedNames.{any-among}
-use Rattle.jc_index.specs.steps.Adding.{Adds, IsAgain}
+use Rattle.jc_index.specs.steps.Adding.{AddsNames, IsAgain}
 
 -- ---- names that are added
 
 -- one that is there
-pub adds_known : (names : List Bytes) (x : Bytes) → is_name_among names x ≡ true → Adds names names (x ∷ [])
+pub adds_known : (names : List Bytes) (x : Bytes) → is_name_among names x ≡ true → AddsNames names names (x ∷ [])
 adds_known names x h = λ y. go y (same x y) refl
   where
     go : (y : Bytes) (b : Bool) → same x y ≡ b → is_name_among names y ≡ (is_name_among names y || (b || false))
@@ -27,26 +27,26 @@ adds_known names x h = λ y. go y (same x y) refl
     go y false e = sym (or_false (is_name_among names y))
 
 -- one at the end
-pub adds_last : (names now : List Bytes) (x : Bytes) → now ≡ names ++ x ∷ [] → Adds names now (x ∷ [])
+pub adds_last : (names now : List Bytes) (x : Bytes) → now ≡ names ++ x ∷ [] → AddsNames names now (x ∷ [])
 adds_last names now x e = λ y. ap (λ (ns : List Bytes). is_name_among ns y) e ∙ list_any-append (λ z. same z y) names (x ∷ [])
 
 -- one that is put into a set
-pub adds_key : (x : Bytes) (names now : List Bytes) → now ≡ cond (list_any (λ y. pointwise nat_eq x y) names) names (names ++ x ∷ []) → Adds names now (x ∷ [])
+pub adds_key : (x : Bytes) (names now : List Bytes) → now ≡ cond (list_any (λ y. pointwise nat_eq x y) names) names (names ++ x ∷ []) → AddsNames names now (x ∷ [])
 adds_key x names now h = go (list_any (λ y. pointwise nat_eq x y) names) refl h
   where
-    go : (b : Bool) → list_any (λ y. pointwise nat_eq x y) names ≡ b → now ≡ cond b names (names ++ x ∷ []) → Adds names now (x ∷ [])
-    go true e g = subst (λ (ns : List Bytes). Adds names ns (x ∷ [])) (sym g) (adds_known names x (sym (any-among x names) ∙ e))
+    go : (b : Bool) → list_any (λ y. pointwise nat_eq x y) names ≡ b → now ≡ cond b names (names ++ x ∷ []) → AddsNames names now (x ∷ [])
+    go true e g = subst (λ (ns : List Bytes). AddsNames names ns (x ∷ [])) (sym g) (adds_known names x (sym (any-among x names) ∙ e))
     go false e g = adds_last names now x g
 
 -- some names, and then others
-pub adds_both : (a b c xs ys : List Bytes) → Adds a b xs → Adds b c ys → Adds a c (xs ++ ys)
+pub adds_both : (a b c xs ys : List Bytes) → AddsNames a b xs → AddsNames b c ys → AddsNames a c (xs ++ ys)
 adds_both a b c xs ys h k = λ y.
     k y ∙ ap (λ (t : Bool). t || is_name_among ys y) (h y) ∙ or_assoc (is_name_among a y) (is_name_among xs y) (is_name_among ys y)
     ∙ ap (λ (t : Bool). is_name_among a y || t) (sym (list_any-append (λ z. same z y) xs ys))
 
-pub adds_next : (a b c names : List Bytes) (n : ℕ) (x : Bytes) → n < length names → x ≡ get_or names n x → Adds a b (take n names) → Adds b c (x ∷ []) → Adds a c (take (n + 1) names)
+pub adds_next : (a b c names : List Bytes) (n : ℕ) (x : Bytes) → n < length names → x ≡ get_or names n x → AddsNames a b (take n names) → AddsNames b c (x ∷ []) → AddsNames a c (take (n + 1) names)
 adds_next a b c names n x l e h k =
-    subst (λ (ns : List Bytes). Adds a c ns) (ap (λ (y : Bytes). take n names ++ y ∷ []) e ∙ sym (take_more names n x l)) (adds_both a b c (take n names) (x ∷ []) h k)
+    subst (λ (ns : List Bytes). AddsNames a c ns) (ap (λ (y : Bytes). take n names ++ y ∷ []) e ∙ sym (take_more names n x l)) (adds_both a b c (take n names) (x ∷ []) h k)
 
 -- one that is compared with an earlier one
 pub again_is : (names : List Bytes) (at earlier : ℕ) (x y a b : Bytes) → earlier < at → at < length names → x ≡ get_or names at x → y ≡ get_or names earlier y → a ≡ x → b ≡ y → true ≡ pointwise nat_eq b a → IsAgain names at earlier
@@ -60,7 +60,7 @@ again_is names at earlier x y a b l m e f p q t =
     }
 
 -- one that stands at an earlier place too
-pub adds_again : (a b names : List Bytes) (at earlier : ℕ) → IsAgain names at earlier → Adds a b (take at names) → Adds a b (take (at + 1) names)
+pub adds_again : (a b names : List Bytes) (at earlier : ℕ) → IsAgain names at earlier → AddsNames a b (take at names) → AddsNames a b (take (at + 1) names)
 adds_again a b names at earlier g h =
     let within : at < length names = slice_get_within names at g.name g.there in
     let front : length (take at names) ≡ at = length-take-le at names (omega (arith, within)) in
@@ -71,12 +71,12 @@ adds_again a b names at earlier g h =
     adds_next a b b names at g.name within (sym (get_or_from_slice_get names at g.name g.name g.there)) h (adds_known b g.name there)
 
 -- the same of one that may stand at an earlier place
-pub adds_found : (a b names : List Bytes) (at : ℕ) (found : Option ℕ) → IfSome found (λ earlier. IsAgain names at earlier) → true ≡ is_some found → Adds a b (take at names) → Adds a b (take (at + 1) names)
+pub adds_found : (a b names : List Bytes) (at : ℕ) (found : Option ℕ) → IfSome found (λ earlier. IsAgain names at earlier) → true ≡ is_some found → AddsNames a b (take at names) → AddsNames a b (take (at + 1) names)
 adds_found a b names at None g t h = absurd (cc)
 adds_found a b names at (Some earlier) g t h = adds_again a b names at earlier g h
 
-pub adds_all : (a b names : List Bytes) (n : ℕ) → length names ≤ n → Adds a b (take n names) → Adds a b names
-adds_all a b names n l h = subst (λ (ns : List Bytes). Adds a b ns) (take_all n names l) h
+pub adds_all : (a b names : List Bytes) (n : ℕ) → length names ≤ n → AddsNames a b (take n names) → AddsNames a b names
+adds_all a b names n l h = subst (λ (ns : List Bytes). AddsNames a b ns) (take_all n names l) h
 
 -- ---- the names of classes
 
@@ -86,7 +86,7 @@ module _ (has : ClassFacts → Bytes → Bool) where
   abbrev pub AreOf : List ClassFacts → List Bytes → Type 0
   AreOf cs names = (x : Bytes) → is_name_among names x ≡ list_any (λ c. has c x) cs
 
-  pub are_of_next : (cs : List ClassFacts) (n : ℕ) (c : ClassFacts) (before now own : List Bytes) → n < length cs → c ≡ get_or cs n c → ((x : Bytes) → is_name_among own x ≡ has c x) → Adds before now own → AreOf (take n cs) before → AreOf (take (n + 1) cs) now
+  pub are_of_next : (cs : List ClassFacts) (n : ℕ) (c : ClassFacts) (before now own : List Bytes) → n < length cs → c ≡ get_or cs n c → ((x : Bytes) → is_name_among own x ≡ has c x) → AddsNames before now own → AreOf (take n cs) before → AreOf (take (n + 1) cs) now
   are_of_next cs n c before now own l e f a h = λ x.
       a x ∙ ap (λ (b : Bool). b || is_name_among own x) (h x) ∙ ap (λ (b : Bool). list_any (λ d. has d x) (take n cs) || b) (f x ∙ sym (or_false (has c x)))
       ∙ sym (list_any-append (λ d. has d x) (take n cs) (c ∷ [])) ∙ ap (list_any (λ d. has d x)) (ap (λ (d : ClassFacts). take n cs ++ d ∷ []) e ∙ sym (take_more cs n c l))

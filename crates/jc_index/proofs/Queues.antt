@@ -7,7 +7,7 @@ use Rattle.std.proofs.lemmas.List.Elements.{All-append, All-push, All-contains, 
 use Rattle.std.proofs.lemmas.List.Folds.{list_any-append, list_any_at, Any-from_list_any}
 use Rattle.jc_lemmas.proofs.Bools.{tests_agree}
 use Rattle.jc_index.specs.steps.Reach.{next_of, AreLedTo, IsLedTo}
-use Rattle.jc_index.specs.steps.Queue.{is_in, Has, ArePlaces, missing, Adds}
+use Rattle.jc_index.specs.steps.Queue.{is_in, Has, ArePlaces, missing, Enqueues}
 
 none_all : (P : ℕ → Type 0) → All P []
 none_all P i d h = absurd (omega arith)
@@ -152,7 +152,7 @@ module _ (before after : List ℕ) (id : ℕ) (u : Puts before after id) where
       go (inl e) = subst (λ j. p j ≡ true) e (the_one (λ i. p i ≡ true) id new)
       go (inr b) = old k b
 
-pub adds_none : (queue : List ℕ) → Adds queue queue []
+pub adds_none : (queue : List ℕ) → Enqueues queue queue []
 adds_none queue = record {
   keeps = λ k h. h;
   has = none_all (Has queue);
@@ -162,7 +162,7 @@ adds_none queue = record {
   counted = λ n ids. refl;
 }
 
-pub adds_new : (queue : List ℕ) (id : ℕ) → is_in queue id ≡ false → Adds queue (queue ++ id ∷ []) (id ∷ [])
+pub adds_new : (queue : List ℕ) (id : ℕ) → is_in queue id ≡ false → Enqueues queue (queue ++ id ∷ []) (id ∷ [])
 adds_new queue id new =
     let u : Puts queue (queue ++ id ∷ []) id = puts_new queue id in
     record {
@@ -176,7 +176,7 @@ adds_new queue id new =
           omega (arith, length-append queue (id ∷ []), f);
     }
 
-pub adds_old : (queue : List ℕ) (id : ℕ) → is_in queue id ≡ true → Adds queue queue (id ∷ [])
+pub adds_old : (queue : List ℕ) (id : ℕ) → is_in queue id ≡ true → Enqueues queue queue (id ∷ [])
 adds_old queue id old = record {
   keeps = λ k h. h;
   has = one_all (Has queue) id old;
@@ -186,7 +186,7 @@ adds_old queue id old = record {
   counted = λ n ids. refl;
 }
 
-pub adds_more : (a b c : List ℕ) (ids : List ℕ) (id : ℕ) → Adds a b ids → Adds b c (id ∷ []) → Adds a c (ids ++ id ∷ [])
+pub adds_more : (a b c : List ℕ) (ids : List ℕ) (id : ℕ) → Enqueues a b ids → Enqueues b c (id ∷ []) → Enqueues a c (ids ++ id ∷ [])
 adds_more a b c ids id h k = record {
   keeps = λ x y. k.keeps x (h.keeps x y);
   has = All-append (Has c) ids (id ∷ []) (λ i d l. k.keeps _ (h.has i d l)) k.has;
@@ -215,7 +215,7 @@ pub record Searching (edges : List (List ℕ)) (start : ℕ) (queue : List ℕ) 
 
 module _ (edges : List (List ℕ)) (start : ℕ) where
   -- it begins with what is known, which needn't be looked at
-  pub starts : (known begun queue : List ℕ) → AreLedTo edges start known → Adds [] begun known → Adds begun queue (next_of edges start) → Searching edges start queue (length begun)
+  pub starts : (known begun queue : List ℕ) → AreLedTo edges start known → Enqueues [] begun known → Enqueues begun queue (next_of edges start) → Searching edges start queue (length begun)
   starts known begun queue k b a = record {
     first = a.has;
     done = λ i l. subst (λ j. All (Has queue) (next_of edges j)) (sym (same_front i l)) (among (get_or begun i 0) (in_known (get_or begun i 0) (in_queue begun (get_or begun i 0) (Contains-get_or begun i 0 l))));
@@ -233,7 +233,7 @@ module _ (edges : List (List ℕ)) (start : ℕ) where
       among j c = All-weaker (Contains known) (Has queue) (λ m n. a.keeps m (All-contains (Has begun) known m b.has n)) (next_of edges j) (k.further j c)
 
   module _ (queue longer : List ℕ) (next : ℕ) (s : Searching edges start queue next) where
-    pub goes : next < length queue → Adds queue longer (next_of edges (get_or queue next 0)) → Searching edges start longer (next + 1)
+    pub goes : next < length queue → Enqueues queue longer (next_of edges (get_or queue next 0)) → Searching edges start longer (next + 1)
     goes inside a = record {
       first = λ i d l. a.keeps _ (s.first i d l);
       done = λ i h. by i (cases_eq i next) h;
@@ -250,7 +250,7 @@ module _ (edges : List (List ℕ)) (start : ℕ) where
             let l : i < next = omega (arith, n) in
             subst (λ k. All (Has longer) (next_of edges k)) (sym (same_front i (omega (arith, inside)))) (λ j d m. a.keeps _ (s.done i l j d m))
 
-    pub smaller : (n : ℕ) → next < length queue → ((k : ℕ) → All (λ j. j < n) (next_of edges k)) → Adds queue longer (next_of edges (get_or queue next 0))
+    pub smaller : (n : ℕ) → next < length queue → ((k : ℕ) → All (λ j. j < n) (next_of edges k)) → Enqueues queue longer (next_of edges (get_or queue next 0))
         → missing n longer + (length longer - (next + 1)) < missing n queue + (length queue - next)
     smaller n inside all a =
         let c : missing n longer + length longer ≡ missing n queue + length queue = a.counted n (all (get_or queue next 0)) in

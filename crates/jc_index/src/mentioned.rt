@@ -5,7 +5,7 @@ ghost use Rattle.jc_facts.specs.Names.{Bytes, same, is_name_among, package_name}
 ghost use Rattle.jc_facts.specs.world.Search.{supers};
 ghost use Rattle.jc_facts.specs.world.Mentioned.{permitted, mentions, all_mentions};
 ghost use Rattle.jc_index.specs.Mentioned.{mentions_front};
-ghost use Rattle.jc_index.specs.steps.Adding.{Adds};
+ghost use Rattle.jc_index.specs.steps.Adding.{AddsNames};
 ghost use Rattle.jc_index.specs.MentionedNames.{AreMentionedNames};
 
 use crate::names::{NumberedNames, again};
@@ -43,7 +43,7 @@ pub(crate) fn put_names(
     set: &mut NumberedNames,
     names: &[Name],
 ) -> Result<(), AllocError>
-    ensures { OnOk result (Adds set.old set.new names.now) }
+    ensures { OnOk result (AddsNames set.old set.new names.now) }
 {
     for at in 0..names.len() {
         if again(names, at).is_some() {
@@ -57,7 +57,7 @@ pub(crate) fn put_names(
 
 // Adds the names that the class names above itself.
 fn put_supers(alloc: Global, set: &mut NumberedNames, class: &ClassFacts) -> Result<(), AllocError>
-    ensures { OnOk result (Adds set.old set.new (supers class.now)) }
+    ensures { OnOk result (AddsNames set.old set.new (supers class.now)) }
 {
     let interfaces = class.interfaces.as_slice();
     match &class.superclass {

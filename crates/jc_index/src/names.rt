@@ -3,7 +3,7 @@ ghost use Rattle.std.specs.Prelude.{◌≡◌, ◌<◌, ◌++◌, ◌∷◌, [],
 ghost use Rattle.jc_facts.specs.Names.{is_name_among};
 ghost use Rattle.jc_facts.specs.world.World.{differ_by_name};
 ghost use Rattle.jc_index.specs.Ids.{place_of};
-ghost use Rattle.jc_index.specs.steps.Adding.{Adds, IsAgain, with_name};
+ghost use Rattle.jc_index.specs.steps.Adding.{AddsNames, IsAgain, with_name};
 ghost use Rattle.jc_index.specs.steps.Order.{names_at};
 
 use crate::name_key::NameKey;
@@ -87,7 +87,7 @@ impl NumberedNames {
 
     /// Adds the name at the end, where it isn't one of them.
     pub(crate) fn put(&mut self, name: Name) -> Result<(), AllocError>
-        ensures adds { OnOk result (Adds self.old self.new (name ∷ [])) }
+        ensures adds { OnOk result (AddsNames self.old self.new (name ∷ [])) }
         ensures last { OnOk result (is_name_among self.old name ≡ false → self.new ≡ self.old ++ name ∷ []) }
     {
         self.insert(name)?;
@@ -96,7 +96,7 @@ impl NumberedNames {
 
     /// Adds the name of these bytes, where it isn't one of them. Where it is, it takes no memory.
     pub(crate) fn put_bytes(&mut self, alloc: Global, bytes: &[u8]) -> Result<(), AllocError>
-        ensures { OnOk result (Adds self.old self.new (bytes.now ∷ [])) }
+        ensures { OnOk result (AddsNames self.old self.new (bytes.now ∷ [])) }
     {
         if self.has(bytes) {
             return Ok(());

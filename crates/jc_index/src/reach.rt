@@ -2,7 +2,7 @@
 ghost use Rattle.std.specs.Prelude.{◌≡◌, ◌<◌, ◌∷◌, [], length, IfOk, OnOk};
 ghost use Rattle.std.specs.List.{All};
 ghost use Rattle.jc_index.specs.steps.Reach.{AreLedTo, IsLedTo};
-ghost use Rattle.jc_index.specs.steps.Queue.{Adds, ArePlaces, is_in};
+ghost use Rattle.jc_index.specs.steps.Queue.{Enqueues, ArePlaces, is_in};
 
 use crate::ids::ClassId;
 use jc_base::items::Items;
@@ -24,7 +24,7 @@ fn is_queued(places: &[usize], queue: &[u32], id: u32) -> bool
 fn add_one(places: &mut [usize], queue: &mut Vec<u32>, id: u32) -> Result<(), AllocError>
     requires id { id < length places.old }
     requires places { ArePlaces places.old queue.old.items }
-    ensures adds { OnOk result (Adds queue.old.items queue.new.items (id ∷ [])) }
+    ensures adds { OnOk result (Enqueues queue.old.items queue.new.items (id ∷ [])) }
     ensures places { OnOk result (ArePlaces places.new queue.new.items) }
     ensures count { length places.new ≡ length places.old }
 {
@@ -41,7 +41,7 @@ fn add_one(places: &mut [usize], queue: &mut Vec<u32>, id: u32) -> Result<(), Al
 fn add(places: &mut [usize], queue: &mut Vec<u32>, ids: &[u32]) -> Result<(), AllocError>
     requires ids { All (λ id. id < length places.old) ids.now }
     requires places { ArePlaces places.old queue.old.items }
-    ensures adds { OnOk result (Adds queue.old.items queue.new.items ids.now) }
+    ensures adds { OnOk result (Enqueues queue.old.items queue.new.items ids.now) }
     ensures places { OnOk result (ArePlaces places.new queue.new.items) }
     ensures count { length places.new ≡ length places.old }
 {
@@ -55,7 +55,7 @@ fn add(places: &mut [usize], queue: &mut Vec<u32>, ids: &[u32]) -> Result<(), Al
 fn add_known(places: &mut [usize], queue: &mut Vec<u32>, ids: &[ClassId]) -> Result<(), AllocError>
     requires ids { All (λ id. id < length places.old) ids.now }
     requires places { ArePlaces places.old queue.old.items }
-    ensures adds { OnOk result (Adds queue.old.items queue.new.items ids.now) }
+    ensures adds { OnOk result (Enqueues queue.old.items queue.new.items ids.now) }
     ensures places { OnOk result (ArePlaces places.new queue.new.items) }
     ensures count { length places.new ≡ length places.old }
 {

@@ -8,6 +8,7 @@ ghost use Rattle.jc_facts.specs.world.World.{World, size, find_class};
 ghost use Rattle.jc_index.specs.Ids.{name_at};
 ghost use Rattle.jc_index.specs.steps.Seals.{AreSeals};
 
+use crate::among::is_among;
 use crate::ids::ClassId;
 use crate::name_set::NameSet;
 use crate::named_classes::NamedClasses;
@@ -111,7 +112,7 @@ pub(crate) fn is_permitted(class: &ClassFacts, name: &Name) -> bool
     ensures { result ≡ is_name_among (permitted class.now.permits) name.now }
 {
     match &class.permits {
-        Some(names) => names.as_slice().contains(name),
+        Some(names) => is_among(names.as_slice(), name),
         None => false,
     }
 }

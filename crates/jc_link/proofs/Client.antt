@@ -8,7 +8,7 @@ use Rattle.jc_facts.specs.declared.link_error.LinkError.{LinkError}
 use Rattle.jc_facts.specs.declared.outcome.Outcome.{Outcome}
 use Rattle.jc_facts.specs.Names.{Bytes}
 use Rattle.jc_facts.specs.world.World.{World}
-use Rattle.jc_table.specs.Ids.{name_at}
+use Rattle.jc_index.specs.Ids.{name_at}
 use Rattle.jc_facts.specs.client.Linked.{item_outcomes, client_outcomes, all_outcomes}
 use Rattle.jc_link.specs.declared.asked.Asked.{Asked}
 use Rattle.jc_link.specs.steps.Asked.{outcomes_of_one}

@@ -15,10 +15,10 @@ use Rattle.jc_facts.specs.world.World.{World, find_class}
 use Rattle.jc_facts.specs.world.Loading.{fault_where}
 use Rattle.jc_facts.specs.client.Acts.{form_of}
 use Rattle.jc_facts.specs.client.Outcome.{outcome, array_fault, look_up, use_fault, init_fault, instantiation_fault}
-use Rattle.jc_table.specs.Ids.{name_at}
+use Rattle.jc_index.specs.Ids.{name_at}
 use Rattle.jc_index.specs.declared.ids.Found.{Found}
 use Rattle.jc_link.specs.steps.ItemSteps.{IsReached, LooksUp, FindsInit, makes_none, init_use_fault, new_use_fault}
-use Rattle.jc_table.specs.Lookups.{member_of}
+use Rattle.jc_index.specs.Lookups.{member_of}
 use Rattle.jc_link.proofs.Members.{open_alike, let_alike}
 
 module _ (W : World) (x t : Bytes) where

@@ -19,7 +19,7 @@ use Rattle.jc_facts.specs.client.Outcome.{look_up, found_or, first_of, use_fault
 use Rattle.jc_facts.specs.file.Valid.{IsValidClass}
 use Rattle.jc_lemmas.proofs.Listed.{each_in}
 use Rattle.jc_worlds.proofs.ChoiceLaws.{each_choice_gives_the_same}
-use Rattle.jc_table.specs.Lookups.{IsAnswer, IsChoice}
+use Rattle.jc_index.specs.Lookups.{IsAnswer, IsChoice}
 use Rattle.jc_index.specs.declared.ids.Found.{Found}
 use Rattle.jc_link.specs.steps.ItemSteps.{LooksUp}
 use Rattle.jc_link.proofs.Members.{use_alike}

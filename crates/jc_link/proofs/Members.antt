@@ -7,10 +7,9 @@ use Rattle.jc_facts.specs.world.World.{World, size, DeclaredMember}
 use Rattle.jc_facts.specs.world.Access.{is_member_accessible}
 use Rattle.jc_facts.specs.world.Assignment.{passes_protected_check}
 use Rattle.jc_facts.specs.client.Outcome.{use_fault, assignment_ok, receiver_ok}
-use Rattle.jc_table.specs.Ids.{name_at}
-use Rattle.jc_table.specs.Lookups.{IsFound}
+use Rattle.jc_index.specs.Ids.{name_at}
+use Rattle.jc_index.specs.Lookups.{IsFound, member_of}
 use Rattle.jc_index.specs.declared.ids.Found.{Found}
-use Rattle.jc_table.specs.Lookups.{member_of}
 
 pub member_found : (W : World) (f : Found) → f.owner < size W → IsFound W f (member_of W f)
 member_found W f l = record { below = l; owner = refl; flags = refl }

@@ -13,8 +13,8 @@ use Rattle.jc_facts.specs.world.World.{World, side, find_class}
 use Rattle.jc_facts.specs.world.Mentioned.{is_named_above}
 use Rattle.jc_facts.specs.client.Allowed.{has_package, is_allowed_name}
 use Rattle.jc_facts.specs.client.Linked.{in_order}
-use Rattle.jc_table.specs.Root.{fault_of_root}
-use Rattle.jc_table.specs.Sides.{overlap_of}
+use Rattle.jc_index.specs.Root.{fault_of_root}
+use Rattle.jc_index.specs.Sides.{overlap_of}
 use Rattle.jc_link.specs.declared.refusal.ClientPart.{ClientPart}
 use Rattle.jc_link.specs.declared.refusal.ClientPart.TheVariants as parts
 use Rattle.jc_link.specs.declared.refusal.LinkRefusal.{LinkRefusal}

@@ -2,7 +2,7 @@
 ghost use Rattle.std.specs.Prelude.{◌≡◌, ◌<◌, Some};
 ghost use Rattle.jc_facts.specs.client.Outcome.{class_fault, element_fault, class_step};
 ghost use Rattle.jc_facts.specs.world.World.{size};
-ghost use Rattle.jc_table.specs.Ids.{name_at};
+ghost use Rattle.jc_index.specs.Ids.{name_at};
 ghost use Rattle.jc_access.specs.TypeTexts.{element_view};
 ghost use Rattle.jc_link.specs.steps.ItemSteps.{IsNamed, IsReached};
 
@@ -10,7 +10,7 @@ use jc_access::access::{Seat, class_access};
 use jc_access::assigning::{Element, is_array, read_type};
 use jc_base::name::Name;
 use jc_facts::link_error::LinkError;
-use jc_table::ids::ClassId;
+use jc_index::ids::ClassId;
 use jc_table::table::Table;
 
 /// The class of this name, which loads and is accessible from the other class; or why it isn't so.

@@ -4,8 +4,8 @@ ghost use Rattle.jc_facts.specs.declared.client.Item.TheVariants as items;
 ghost use Rattle.jc_facts.specs.world.Loading.{load_fault};
 ghost use Rattle.jc_facts.specs.client.Outcome.{outcome};
 ghost use Rattle.jc_facts.specs.world.World.{size};
-ghost use Rattle.jc_table.specs.Ids.{name_at};
-ghost use Rattle.jc_table.specs.Lookups.{member_of};
+ghost use Rattle.jc_index.specs.Ids.{name_at};
+ghost use Rattle.jc_index.specs.Lookups.{member_of};
 ghost use Rattle.jc_link.specs.steps.ItemSteps.{FindsInit, new_use_fault, init_use_fault, makes_none};
 
 use crate::class_step::named_class;
@@ -14,8 +14,8 @@ use jc_base::name::Name;
 use jc_facts::flags::{is_abstract, is_interface};
 use jc_facts::key_set::KeyRef;
 use jc_facts::link_error::LinkError;
-use jc_table::ids::{ClassId, Found};
-use jc_table::members::own_method;
+use jc_index::ids::{ClassId, Found};
+use jc_index::members::own_method;
 use jc_table::table::Table;
 
 // The instance initializer that the class itself declares, or why there is none.

@@ -5,8 +5,8 @@ ghost use Rattle.jc_facts.specs.declared.client.Item.TheVariants as items;
 ghost use Rattle.jc_facts.specs.client.Acts.{form_of, is_act_on_field};
 ghost use Rattle.jc_facts.specs.client.Outcome.{outcome, array_fault};
 ghost use Rattle.jc_facts.specs.world.World.{size};
-ghost use Rattle.jc_table.specs.Ids.{name_at};
-ghost use Rattle.jc_table.specs.Sides.{IsSide};
+ghost use Rattle.jc_index.specs.Ids.{name_at};
+ghost use Rattle.jc_index.specs.Sides.{IsSide};
 ghost use Rattle.jc_link.specs.steps.Asked.{names_no_clinit};
 
 use crate::class_step::{named_class, step_error};
@@ -19,7 +19,7 @@ use jc_facts::act::{Act, Form};
 use jc_facts::client::{Item, Place};
 use jc_facts::key::Key;
 use jc_facts::link_error::LinkError;
-use jc_table::ids::ClassId;
+use jc_index::ids::ClassId;
 use jc_table::table::Table;
 
 // An array class has no members, and is no interface.

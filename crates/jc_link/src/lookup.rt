@@ -5,8 +5,8 @@ ghost use Rattle.jc_facts.specs.declared.act.Act.{Act};
 ghost use Rattle.jc_facts.specs.client.Acts.{FieldForm, MethodForm, InterfaceForm, form_of, is_act_on_field};
 ghost use Rattle.jc_facts.specs.world.Loading.{load_fault};
 ghost use Rattle.jc_facts.specs.world.World.{size};
-ghost use Rattle.jc_table.specs.Ids.{name_at};
-ghost use Rattle.jc_table.specs.Sides.{IsSide};
+ghost use Rattle.jc_index.specs.Ids.{name_at};
+ghost use Rattle.jc_index.specs.Sides.{IsSide};
 ghost use Rattle.jc_link.specs.steps.ItemSteps.{LooksUp};
 
 use jc_facts::act::{Act, Form};
@@ -14,8 +14,8 @@ use jc_facts::flags::is_interface;
 use jc_facts::key::Key;
 use jc_facts::link_error::LinkError;
 use jc_field::find::find_field;
+use jc_index::ids::{ClassId, Found};
 use jc_method::find::{find_interface_method, find_method};
-use jc_table::ids::{ClassId, Found};
 use jc_table::table::Table;
 
 // What acts on fields find (JVMS 5.4.3.2).

@@ -7,8 +7,8 @@ ghost use Rattle.jc_facts.specs.client.Outcome.{puts_own, is_direct_super, recei
 ghost use Rattle.jc_facts.specs.world.Access.{is_member_accessible};
 ghost use Rattle.jc_facts.specs.world.Assignment.{passes_protected_check};
 ghost use Rattle.jc_facts.specs.world.World.{size};
-ghost use Rattle.jc_table.specs.Ids.{name_at};
-ghost use Rattle.jc_table.specs.Lookups.{member_of};
+ghost use Rattle.jc_index.specs.Ids.{name_at};
+ghost use Rattle.jc_index.specs.Lookups.{member_of};
 
 use jc_access::access::{Seat, accessible};
 use jc_access::assigning::assignable;
@@ -19,8 +19,8 @@ use jc_facts::act::Act;
 use jc_facts::client::Place;
 use jc_facts::flags::is_final;
 use jc_facts::link_error::LinkError;
-use jc_table::among::is_among;
-use jc_table::ids::{ClassId, Found};
+use jc_index::among::is_among;
+use jc_index::ids::{ClassId, Found};
 use jc_table::table::Table;
 
 // Whether the place is the initializer in which the act may write a final field of its own class: an

@@ -6,8 +6,8 @@ ghost use Rattle.jc_facts.specs.world.World.{differ_by_name, side, modular_side,
 ghost use Rattle.jc_facts.specs.client.Valid.{facts_of, IsValidClient};
 ghost use Rattle.jc_facts.specs.client.Linked.{outcomes, all_outcomes};
 ghost use Rattle.jc_facts.specs.file.Valid.{IsValidClass};
-ghost use Rattle.jc_table.specs.Root.{fault_of_root};
-ghost use Rattle.jc_table.specs.Sides.{overlap_of};
+ghost use Rattle.jc_index.specs.Root.{fault_of_root};
+ghost use Rattle.jc_index.specs.Sides.{overlap_of};
 ghost use Rattle.jc_link.specs.Refusals.{first_refused, RefusesBy, RefusesLink, MayLink};
 
 use crate::asked::{Parts, parted};
@@ -19,7 +19,7 @@ use jc_base::name::Name;
 use jc_facts::class_facts::ClassFacts;
 use jc_facts::client::ClientClass;
 use jc_facts::outcome::Outcome;
-use jc_table::platform::Platform;
+use jc_loading::platform::Platform;
 use jc_table::table::Table;
 use std::alloc::Global;
 

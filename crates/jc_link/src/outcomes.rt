@@ -2,8 +2,8 @@
 ghost use Rattle.std.specs.Prelude.{◌≡◌, ◌<◌, ◌++◌, ◌∷◌, [], None, OnOk, IfOk, IsTrue};
 ghost use Rattle.std.specs.List.{list_all};
 ghost use Rattle.jc_facts.specs.world.World.{size};
-ghost use Rattle.jc_table.specs.Ids.{name_at};
-ghost use Rattle.jc_table.specs.Sides.{IsSide};
+ghost use Rattle.jc_index.specs.Ids.{name_at};
+ghost use Rattle.jc_index.specs.Sides.{IsSide};
 ghost use Rattle.jc_link.specs.steps.Asked.{names_no_clinit, asks_no_clinit, outcomes_of_one, outcomes_of_asked};
 ghost use Rattle.jc_facts.specs.client.Linked.{item_outcomes};
 ghost use Rattle.jc_link.specs.steps.ItemSteps.{IsLoaded};
@@ -15,7 +15,7 @@ use jc_base::name::Name;
 use jc_facts::client::Item;
 use jc_facts::link_error::LinkError;
 use jc_facts::outcome::Outcome;
-use jc_table::ids::ClassId;
+use jc_index::ids::ClassId;
 use jc_table::table::Table;
 use std::alloc::{AllocError, Global};
 

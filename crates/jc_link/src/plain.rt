@@ -7,7 +7,7 @@ ghost use Rattle.jc_facts.specs.client.Valid.{facts_of, IsValidClient};
 use jc_facts::class_facts::ClassFacts;
 use jc_facts::client::ClientClass;
 use jc_facts::client_validity::is_valid_client;
-use jc_table::plain;
+use jc_index::plain;
 use std::alloc::{AllocError, Global};
 
 /// Whether all of the clients are valid.

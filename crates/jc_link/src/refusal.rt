@@ -1,6 +1,6 @@
 //! Why clients aren't linked.
 use jc_base::name::Name;
-use jc_table::root::RootPart;
+use jc_index::root::RootPart;
 use thiserror::Error;
 
 /// Why a client of a side may not have its name: the first part that holds.

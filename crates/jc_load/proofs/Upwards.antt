@@ -5,8 +5,8 @@ use Rattle.jc_facts.specs.declared.class_facts.ClassFacts.{ClassFacts}
 use Rattle.jc_facts.specs.declared.key.Key.{Key}
 use Rattle.jc_facts.specs.world.World.{World, find_class}
 use Rattle.jc_facts.specs.world.Inheritance.{declares_as_final}
-use Rattle.jc_table.specs.Ids.{name_at, superclass_of}
-use Rattle.jc_table.proofs.Walking.{declared_from, from-step, from-none, from-nothing}
+use Rattle.jc_index.specs.Ids.{name_at, superclass_of}
+use Rattle.jc_index.proofs.Walking.{declared_from, from-step, from-none, from-nothing}
 
 declared-step : (W : World) (k : Key) (m n id : ℕ) (next : Option ℕ) (c : ClassFacts) → m ≡ suc n → next ≡ Some id → Some c ≡ find_class W (name_at W id)
     → declared_from W k m next ≡ (declares_as_final k c || declared_from W k n (superclass_of W (name_at W id)))

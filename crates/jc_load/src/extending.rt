@@ -1,14 +1,14 @@
 //! Who may name a class above itself (JVMS 4.7.31, 5.3.5).
 ghost use Rattle.std.specs.Prelude.{◌≡◌, ◌<◌};
 ghost use Rattle.jc_facts.specs.world.World.{size};
-ghost use Rattle.jc_table.specs.Ids.{name_at};
+ghost use Rattle.jc_index.specs.Ids.{name_at};
 ghost use Rattle.jc_load.specs.Extending.{permits_name, lets_name_extend, is_extendable};
 
 use jc_base::name::Name;
 use jc_facts::class_facts::ClassFacts;
 use jc_facts::flags::{is_final, is_public};
-use jc_table::among::is_among;
-use jc_table::ids::ClassId;
+use jc_index::among::is_among;
+use jc_index::ids::ClassId;
 use jc_table::table::Table;
 
 // Whether the class has no permitted names, or is in the module of the clients and has this one among

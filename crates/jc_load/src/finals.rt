@@ -2,14 +2,14 @@
 ghost use Rattle.std.specs.Prelude.{◌≡◌, ◌<◌};
 ghost use Rattle.jc_facts.specs.world.World.{size};
 ghost use Rattle.jc_facts.specs.world.Inheritance.{is_open_final, declares_as_final, is_final_in_chain};
-ghost use Rattle.jc_table.specs.Ids.{name_at};
+ghost use Rattle.jc_index.specs.Ids.{name_at};
 
 use jc_facts::class_facts::{ClassFacts, Member};
 use jc_facts::flags::{is_final, is_protected, is_public, is_static};
 use jc_facts::key::Key;
 use jc_facts::key_set::KeyRef;
-use jc_table::ids::ClassId;
-use jc_table::members::own_method;
+use jc_index::ids::ClassId;
+use jc_index::members::own_method;
 use jc_table::table::Table;
 
 fn is_final_method(method: &Member) -> bool

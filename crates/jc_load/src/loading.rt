@@ -2,11 +2,11 @@
 ghost use Rattle.std.specs.Prelude.{◌≡◌, ◌<◌, IfOk};
 ghost use Rattle.jc_facts.specs.world.World.{size};
 ghost use Rattle.jc_facts.specs.world.Loading.{load_fault};
-ghost use Rattle.jc_table.specs.Ids.{name_at};
+ghost use Rattle.jc_index.specs.Ids.{name_at};
 
 use jc_facts::link_error::LinkError;
-use jc_table::ids::ClassId;
-use jc_table::search;
+use jc_index::ids::ClassId;
+use jc_loading::search;
 use jc_table::table::Table;
 use std::alloc::{AllocError, Global};
 

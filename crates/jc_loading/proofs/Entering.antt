@@ -23,11 +23,6 @@ use Rattle.jc_loading.specs.steps.Entering.{Leads, AreRight, IsRight, state_of, 
 
 -- ---- the load fault as an equation
 
--- a class that isn't there
-pub absent : (W : World) (x : Bytes) → find_class W x ≡ None → load_fault W x ≡ Some NoClassDefFoundError
-unfolding load_fault
-absent W x e = descend-absent W _ _ (load_step W) (size W) x e
-
 -- a class that is there: the first fault above it, and then its own
 pub known : (W : World) (x : Bytes) (c : ClassFacts) → find_class W x ≡ Some c → load_fault W x ≡ or_else (first_some (load_fault W) (supers c)) (fault_of_itself W c)
 unfolding load_step load_fault

@@ -11,12 +11,12 @@ use Rattle.jc_facts.specs.world.World.{World, find_class, size, classes, own_met
 use Rattle.jc_facts.specs.world.Hierarchy.{chain}
 use Rattle.jc_facts.specs.world.Lookup.{first_declared, if_public_instance, public_method_of_object}
 use Rattle.jc_facts.proofs.World.{find-name}
-use Rattle.jc_table.specs.Ids.{name_at, id_of, superclass_of}
-use Rattle.jc_table.specs.Lookups.{IsAnswer}
-use Rattle.jc_table.specs.steps.Walking.{chain_from}
+use Rattle.jc_index.specs.Ids.{name_at, id_of, superclass_of}
+use Rattle.jc_index.specs.Lookups.{IsAnswer}
+use Rattle.jc_index.specs.steps.Walking.{chain_from}
 use Rattle.jc_index.specs.declared.ids.Found.{Found}
-use Rattle.jc_table.proofs.Numbers.{IsClass, class_at, find-None, id_of-Some}
-use Rattle.jc_table.proofs.Walking.{from-step, from-none, from-nothing}
+use Rattle.jc_index.proofs.Numbers.{IsClass, class_at, find-None, id_of-Some}
+use Rattle.jc_index.proofs.Walking.{from-step, from-none, from-nothing}
 use Rattle.jc_index.specs.steps.Choosing.{own_at, as_found}
 
 -- ---- what a class itself declares

@@ -25,7 +25,7 @@ use Rattle.jc_worlds.proofs.Above.{chain-each}
 use Rattle.jc_facts.proofs.Options.{or_else-cases}
 use Rattle.jc_worlds.proofs.Bare.{has_root}
 use Rattle.jc_worlds.proofs.Unrolled.{chain-unroll}
-use Rattle.jc_table.specs.Lookups.{declare_method}
+use Rattle.jc_index.specs.Lookups.{declare_method}
 use Rattle.jc_index.proofs.Choices.{IsDeclaredIn, in_declared, choices_declared}
 
 module _ (k : Key) where

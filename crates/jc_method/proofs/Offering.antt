@@ -16,8 +16,8 @@ use Rattle.jc_facts.specs.world.Inheritance.{offers, is_inheritable, itself_and,
 use Rattle.jc_lemmas.proofs.Listed.{none}
 use Rattle.jc_lemmas.proofs.Lists.{IsCons}
 use Rattle.jc_worlds.proofs.Offers.{declared_by-some, declared_by-offers}
-use Rattle.jc_table.specs.Ids.{name_at}
-use Rattle.jc_table.specs.Lookups.{IsChoice}
+use Rattle.jc_index.specs.Ids.{name_at}
+use Rattle.jc_index.specs.Lookups.{IsChoice}
 use Rattle.jc_index.specs.declared.ids.Found.{Found}
 use Rattle.jc_method.specs.FoundKeys.{finds_method}
 use Rattle.jc_method.specs.Inheriting.{inherits_from}

@@ -6,17 +6,17 @@ ghost use Rattle.jc_facts.specs.world.Hierarchy.{chain};
 ghost use Rattle.jc_facts.specs.world.Loading.{load_fault};
 ghost use Rattle.jc_facts.specs.world.Lookup.{first_declared, method_choices, interface_choices};
 ghost use Rattle.jc_method.specs.Inheriting.{inherits_from};
-ghost use Rattle.jc_table.specs.Ids.{name_at};
-ghost use Rattle.jc_table.specs.Keys.{numbered_keys, IsNumber};
-ghost use Rattle.jc_table.specs.Lookups.{IsAnswer, IsChoice};
+ghost use Rattle.jc_index.specs.Ids.{name_at};
+ghost use Rattle.jc_rows.specs.Keys.{numbered_keys, IsNumber};
+ghost use Rattle.jc_index.specs.Lookups.{IsAnswer, IsChoice};
 ghost use Rattle.jc_index.specs.steps.Choosing.{candidate_at};
 
 use crate::own::{any_candidate, candidate, declared};
 use crate::walk::{walk_interface_method, walk_method};
 use jc_facts::flags::is_interface;
 use jc_facts::key::Key;
+use jc_index::ids::{ClassId, Found};
 use jc_table::by_number::find_at;
-use jc_table::ids::{ClassId, Found};
 use jc_table::table::Table;
 
 /// The method of the key that the first class of the chain to declare it declares, whatever its

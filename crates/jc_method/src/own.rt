@@ -4,12 +4,12 @@ ghost use Rattle.jc_facts.specs.world.World.{size};
 ghost use Rattle.jc_facts.specs.world.Loading.{load_fault};
 ghost use Rattle.jc_facts.specs.world.Lookup.{superinterface_choices};
 ghost use Rattle.jc_index.specs.steps.Choosing.{own_at, candidate_at, FindsAbove};
-ghost use Rattle.jc_table.specs.Ids.{name_at};
-ghost use Rattle.jc_table.specs.Lookups.{IsChoice};
+ghost use Rattle.jc_index.specs.Ids.{name_at};
+ghost use Rattle.jc_index.specs.Lookups.{IsChoice};
 
 use jc_facts::key::Key;
+use jc_index::ids::{ClassId, Found};
 use jc_index::{choose, own};
-use jc_table::ids::{ClassId, Found};
 use jc_table::table::Table;
 
 // The method of the key that the class itself declares.

@@ -6,14 +6,14 @@ ghost use Rattle.jc_facts.specs.world.World.{size, find_class, declared_method};
 ghost use Rattle.jc_facts.specs.world.Assignment.{is_interface_of};
 ghost use Rattle.jc_facts.specs.world.Loading.{load_fault};
 ghost use Rattle.jc_facts.specs.world.Lookup.{method_choices, interface_choices, public_method_of_object};
-ghost use Rattle.jc_table.specs.Ids.{name_at};
-ghost use Rattle.jc_table.specs.Lookups.{IsAnswer, IsChoice};
+ghost use Rattle.jc_index.specs.Ids.{name_at};
+ghost use Rattle.jc_index.specs.Lookups.{IsAnswer, IsChoice};
 
 use crate::find::find_in_chain;
 use crate::own::{declared, find_above};
 use jc_facts::flags::{is_public, is_static};
 use jc_facts::key::Key;
-use jc_table::ids::{ClassId, Found};
+use jc_index::ids::{ClassId, Found};
 use jc_table::table::Table;
 
 // The root of the hierarchy (JVMS 4.1).

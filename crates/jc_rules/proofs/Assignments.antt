@@ -21,7 +21,7 @@ use Rattle.jc_lemmas.proofs.Listed.{EachOf-both, list_all-each}
 use Rattle.jc_rules.specs.steps.Losses.{IsCovered, may_take_part}
 use Rattle.jc_sides.specs.SharedOf.{SharedOf, IsWhere}
 use Rattle.jc_sides.specs.SidesOf.{SidesOf}
-use Rattle.jc_table.specs.Ids.{name_at}
+use Rattle.jc_index.specs.Ids.{name_at}
 
 -- ---- seats
 

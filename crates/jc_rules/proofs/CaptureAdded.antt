@@ -33,10 +33,10 @@ use Rattle.jc_sides.specs.SidesOf.{SidesOf}
 use Rattle.jc_sides.proofs.BaseParts.{base_class_parts, no_interface_now}
 use Rattle.jc_sides.proofs.ItemRules.{made_where}
 use Rattle.jc_sides.proofs.NamedAbove.{class_unkept}
-use Rattle.jc_table.specs.Sides.{IsSide}
-use Rattle.jc_table.specs.Lookups.{IsChoice}
-use Rattle.jc_table.specs.Rows.{choices_by}
-use Rattle.jc_table.proofs.Sides.{classes_valid}
+use Rattle.jc_index.specs.Sides.{IsSide}
+use Rattle.jc_index.specs.Lookups.{IsChoice}
+use Rattle.jc_rows.specs.Rows.{choices_by}
+use Rattle.jc_index.proofs.Sides.{classes_valid}
 use Rattle.jc_index.specs.declared.ids.Found.{Found}
 use Rattle.jc_acts.proofs.Untouched.{looks_alike}
 use Rattle.jc_rules.proofs.ChangedClasses.{collision_of_changed}

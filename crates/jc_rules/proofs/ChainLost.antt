@@ -12,7 +12,7 @@ use Rattle.jc_facts.specs.world.Hierarchy.{in_chain}
 use Rattle.jc_facts.specs.world.Assignment.{is_interface_of}
 use Rattle.jc_promises.specs.rule.Findings.{finding_at, superclass_lost, assign_finding}
 use Rattle.jc_worlds.proofs.Chains.{absent_above, none_above}
-use Rattle.jc_table.specs.Ids.{name_at}
+use Rattle.jc_index.specs.Ids.{name_at}
 use Rattle.jc_sides.specs.BrokenOf.{BrokenOf, found}
 use Rattle.jc_sides.specs.SidesOf.{SidesOf}
 use Rattle.jc_rules.specs.steps.Chains.{HasChain, on_target, target_finding, has_left_chain}

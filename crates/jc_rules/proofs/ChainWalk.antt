@@ -11,15 +11,15 @@ use Rattle.jc_facts.specs.world.World.{World, find_class, size}
 use Rattle.jc_facts.specs.Options.{and_then}
 use Rattle.jc_facts.specs.world.Search.{descend, of_class}
 use Rattle.jc_facts.specs.world.Hierarchy.{chain, chain_step, of_super, names_in, in_chain}
-use Rattle.jc_table.specs.Ids.{name_at, id_of, superclass_of}
-use Rattle.jc_table.specs.Sides.{IsSide}
+use Rattle.jc_index.specs.Ids.{name_at, id_of, superclass_of}
+use Rattle.jc_index.specs.Sides.{IsSide}
 use Rattle.jc_rules.specs.steps.Chains.{HasChain}
 use Rattle.jc_worlds.proofs.Descent.{descend-absent, descend-found}
 use Rattle.jc_facts.proofs.World.{find-name}
 use Rattle.jc_facts.proofs.Same.{same_is, same_itself}
-use Rattle.jc_table.proofs.Keeps.{super-below}
-use Rattle.jc_table.proofs.Numbers.{find-None, id-find, id_of-Some, id_of-name_at}
-use Rattle.jc_table.proofs.Walking.{super-of}
+use Rattle.jc_index.proofs.Keeps.{super-below}
+use Rattle.jc_index.proofs.Numbers.{find-None, id-find, id_of-Some, id_of-name_at}
+use Rattle.jc_index.proofs.Walking.{super-of}
 
 -- the classes that n levels lead to from the number that is next
 abbrev pub walk : World → ℕ → Option ℕ → List ClassFacts

@@ -19,7 +19,7 @@ use Rattle.jc_sides.specs.SharedOf.{IsShared, AreThose, OfKept, SharedOf, name_o
 use Rattle.jc_sides.specs.SidesOf.{SidesOf, AreSides}
 use Rattle.jc_sides.proofs.ItemRules.{finding_rule, collision_rule}
 use Rattle.jc_sides.proofs.Subjects.{IsOnKey}
-use Rattle.jc_table.specs.Ids.{names}
+use Rattle.jc_index.specs.Ids.{names}
 
 -- ---- lists of them
 

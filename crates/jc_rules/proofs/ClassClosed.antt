@@ -22,7 +22,7 @@ use Rattle.jc_lemmas.proofs.Listed.{EachOf-map, any_none}
 use Rattle.jc_worlds.proofs.Allowed.{among_each}
 use Rattle.jc_worlds.proofs.VisibleFrom.{platform_module}
 use Rattle.jc_worlds.proofs.Loaded.{loads-found}
-use Rattle.jc_table.proofs.Sides.{side_valid}
+use Rattle.jc_index.proofs.Sides.{side_valid}
 use Rattle.jc_sides.specs.steps.ClientsOf.{closes}
 use Rattle.jc_sides.proofs.Pair.{pair_of}
 use Rattle.jc_sides.specs.BrokenOf.{BrokenOf, broken_if, found}

@@ -15,7 +15,7 @@ use Rattle.jc_facts.specs.world.World.{World, DeclaredMember}
 use Rattle.jc_lemmas.proofs.Listed.{EachOf}
 use Rattle.jc_sound.proofs.Looked.{looked, head_of}
 use Rattle.jc_method.specs.FoundKeys.{finds_method}
-use Rattle.jc_table.specs.Rows.{choices_by}
+use Rattle.jc_rows.specs.Rows.{choices_by}
 use Rattle.jc_sides.specs.SidesOf.{SidesOf}
 
 -- ---- an act that is closed was open

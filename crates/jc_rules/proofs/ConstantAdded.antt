@@ -21,7 +21,7 @@ use Rattle.jc_sides.specs.SidesOf.{SidesOf}
 use Rattle.jc_sides.proofs.BrokenActs.{collided_where}
 use Rattle.jc_sides.proofs.ItemRules.{made_where}
 use Rattle.jc_sides.proofs.NamedAbove.{interface_unkept}
-use Rattle.jc_table.specs.Lookups.{IsAnswer}
+use Rattle.jc_index.specs.Lookups.{IsAnswer}
 use Rattle.jc_index.specs.declared.ids.Found.{Found}
 use Rattle.jc_acts.proofs.Untouched.{looks_alike}
 use Rattle.jc_rules.proofs.ChangedClasses.{collision_of_changed}

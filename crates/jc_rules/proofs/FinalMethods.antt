@@ -17,7 +17,7 @@ use Rattle.jc_index.specs.Sides.{IsSide}
 use Rattle.jc_index.specs.Ids.{name_at, id_of, superclass_of}
 use Rattle.jc_index.proofs.Numbers.{IsClass, class_at, superclass_is, id_of-Some}
 use Rattle.jc_load.proofs.Upwards.{declared-here, declared-above}
-use Rattle.jc_table.proofs.Walking.{declared_from}
+use Rattle.jc_index.proofs.Walking.{declared_from}
 use Rattle.jc_rules.specs.steps.Own.{flags_of, method_flags_of}
 
 -- the flags of such a method

@@ -16,7 +16,7 @@ use Rattle.jc_facts.specs.world.World.{World, find_class}
 use Rattle.jc_exposed.specs.Exposed.{are_all_exposed}
 use Rattle.jc_sides.specs.Rules.{on_class, class_finding}
 use Rattle.jc_sides.specs.SidesOf.{SidesOf}
-use Rattle.jc_table.specs.Ids.{name_at}
+use Rattle.jc_index.specs.Ids.{name_at}
 
 -- ---- whether a class was an interface and is none
 

@@ -41,9 +41,9 @@ use Rattle.jc_sides.specs.SidesOf.{SidesOf, AreSides}
 use Rattle.jc_sides.proofs.BaseParts.{base_interface_parts}
 use Rattle.jc_sides.proofs.NamedAbove.{interface_unkept}
 use Rattle.jc_sides.proofs.Subjects.{IsOnKey}
-use Rattle.jc_table.specs.Ids.{name_at, id_of}
-use Rattle.jc_table.proofs.Numbers.{find-None, id_of-Some}
-use Rattle.jc_table.proofs.Sides.{root_at}
+use Rattle.jc_index.specs.Ids.{name_at, id_of}
+use Rattle.jc_index.proofs.Numbers.{find-None, id_of-Some}
+use Rattle.jc_index.proofs.Sides.{root_at}
 use Rattle.jc_acts.proofs.Untouched.{looks_alike}
 use Rattle.jc_rules.proofs.ChangedClasses.{finding_of_changed}
 use Rattle.jc_rules.specs.steps.Changed.{changed_interface}

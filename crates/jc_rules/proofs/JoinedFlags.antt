@@ -7,7 +7,7 @@ use Rattle.jc_exposed.specs.Exposed.{AreWanted, wanted_of}
 use Rattle.jc_exposed.proofs.OwnNamings.{flag_inside}
 use Rattle.jc_rules.specs.steps.Losses.{AreJoined, matters}
 use Rattle.jc_sides.specs.SidesOf.{SidesOf}
-use Rattle.jc_table.specs.Ids.{name_at}
+use Rattle.jc_index.specs.Ids.{name_at}
 
 -- ---- one flag after the other
 

@@ -17,8 +17,8 @@ use Rattle.jc_lemmas.proofs.Bools.{or_assoc}
 use Rattle.jc_rules.specs.steps.Chains.{has_left_chain}
 use Rattle.jc_rules.specs.steps.Losses.{IsCovered, changed_place, is_lost, loses, matters, was_interface}
 use Rattle.jc_sides.specs.SidesOf.{SidesOf}
-use Rattle.jc_table.proofs.Numbers.{names-length}
-use Rattle.jc_table.specs.Ids.{name_at, names}
+use Rattle.jc_index.proofs.Numbers.{names-length}
+use Rattle.jc_index.specs.Ids.{name_at, names}
 
 -- ---- what some class lost
 

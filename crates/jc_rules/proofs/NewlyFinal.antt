@@ -20,9 +20,9 @@ use Rattle.jc_worlds.specs.Choices.{IsPublicInstance}
 use Rattle.jc_worlds.proofs.ChoiceLaws.{inherited_are_public}
 use Rattle.jc_rules.specs.steps.Methods.{becomes_final}
 use Rattle.jc_sides.specs.SidesOf.{SidesOf}
-use Rattle.jc_table.specs.Sides.{IsSide}
-use Rattle.jc_table.specs.Lookups.{IsChoice}
-use Rattle.jc_table.proofs.Sides.{classes_valid}
+use Rattle.jc_index.specs.Sides.{IsSide}
+use Rattle.jc_index.specs.Lookups.{IsChoice}
+use Rattle.jc_index.proofs.Sides.{classes_valid}
 use Rattle.jc_index.specs.declared.ids.Found.{Found as Answer}
 
 -- ---- what the lookup finds

@@ -32,10 +32,10 @@ use Rattle.jc_facts.proofs.KeySets.{key_exact, rises}
 use Rattle.jc_facts.proofs.Options.{some_where-is}
 use Rattle.jc_sound.proofs.Standing.{usable_parts}
 use Rattle.jc_worlds.proofs.Loaded.{loads-found}
-use Rattle.jc_table.specs.Ids.{names, name_at}
+use Rattle.jc_index.specs.Ids.{names, name_at}
 use Rattle.jc_index.proofs.Merged.{two_lists}
-use Rattle.jc_table.specs.Sides.{IsSide}
-use Rattle.jc_table.proofs.Numbers.{names-in, names-length, names-rise}
+use Rattle.jc_index.specs.Sides.{IsSide}
+use Rattle.jc_index.proofs.Numbers.{names-in, names-length, names-rise}
 use Rattle.jc_rules.specs.steps.Notes.{HasConstants, AreConstants, fixed_at, value_in, changed_in, static_final_flags, constant_note, is_in_both, loses, IsConstantNote, OnConstants}
 use Rattle.jc_rules.specs.steps.Own.{flags_of, field_flags_of}
 use Rattle.jc_rules.proofs.NoteUnloadable.{of_release, not_platform}

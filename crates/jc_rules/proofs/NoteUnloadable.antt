@@ -19,9 +19,9 @@ use Rattle.jc_facts.proofs.Exact.{Gives}
 use Rattle.jc_facts.proofs.Same.{same_is}
 use Rattle.jc_facts.proofs.InOrder.{exact_same, exact_append, exact_given}
 use Rattle.jc_index.proofs.Merged.{two_lists}
-use Rattle.jc_table.specs.Ids.{names}
-use Rattle.jc_table.specs.Sides.{IsSide}
-use Rattle.jc_table.proofs.Numbers.{names-rise, names-in, names-find}
+use Rattle.jc_index.specs.Ids.{names}
+use Rattle.jc_index.specs.Sides.{IsSide}
+use Rattle.jc_index.proofs.Numbers.{names-rise, names-in, names-find}
 use Rattle.jc_rules.specs.steps.Notes.{unloadable, IsUnloadable, NoteIn}
 use Rattle.jc_sides.proofs.ByClass.{whole}
 

@@ -3,7 +3,7 @@ use Rattle.std.proofs.Common.{◌≡◌, ◌<◌, ℕ, List, [], ◌∷◌, map,
 use Rattle.std.proofs.lemmas.List.Elements.{recursion_from_All, All-from_recursion}
 use Rattle.jc_facts.specs.world.World.{size}
 use Rattle.jc_lemmas.proofs.Listed.{EachOf}
-use Rattle.jc_table.specs.Ids.{name_at}
+use Rattle.jc_index.specs.Ids.{name_at}
 use Rattle.jc_sides.specs.SharedOf.{SharedOf, IsShared, AreThose, name_of}
 use Rattle.jc_sides.specs.SidesOf.{SidesOf}
 use Rattle.jc_promises.specs.rule.Warnings.{is_base}

@@ -25,7 +25,7 @@ use Rattle.jc_index.specs.Lookups.{IsFound, IsAnswer, IsChoice}
 use Rattle.jc_index.specs.declared.ids.Found.{Found}
 use Rattle.jc_index.proofs.Aboves.{same_number}
 use Rattle.jc_index.proofs.Numbers.{class_at}
-use Rattle.jc_table.specs.Rows.{choices_by, lookup_choices}
+use Rattle.jc_rows.specs.Rows.{choices_by, lookup_choices}
 use Rattle.jc_rules.specs.steps.Own.{flags_of, field_flags_of, method_flags_of, flags_by}
 
 module _ (W : World) (s : IsSide W) (id : ℕ) (below : id < size W) where

@@ -23,9 +23,9 @@ use Rattle.jc_facts.proofs.Exact.{Gives}
 use Rattle.jc_lemmas.proofs.Listed.{here, there, none, cases, each_from}
 use Rattle.jc_facts.proofs.InOrder.{exact_none, exact_given}
 use Rattle.jc_facts.proofs.Exactly.{OfNames, grown_start, grown_more, grown_all}
-use Rattle.jc_table.proofs.Numbers.{id_of-Some, names-length, names-rise, number_of}
-use Rattle.jc_table.specs.Ids.{names, name_at}
-use Rattle.jc_table.specs.Sides.{IsSide}
+use Rattle.jc_index.proofs.Numbers.{id_of-Some, names-length, names-rise, number_of}
+use Rattle.jc_index.specs.Ids.{names, name_at}
+use Rattle.jc_index.specs.Sides.{IsSide}
 use Rattle.jc_facts.specs.declared.key.Key.{Key}
 use Rattle.jc_facts.specs.Options.{some_where}
 use Rattle.jc_sound.proofs.FindingLaws.{finding_is_on_its_subject}

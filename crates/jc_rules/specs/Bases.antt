@@ -2,7 +2,7 @@
 use Rattle.std.specs.Prelude.{ℕ, ◌<◌, ◌≡◌, List, map}
 use Rattle.std.specs.List.{All, filter}
 use Rattle.jc_facts.specs.world.World.{World, size}
-use Rattle.jc_table.specs.Ids.{name_at, names}
+use Rattle.jc_index.specs.Ids.{name_at, names}
 use Rattle.jc_promises.specs.rule.Warnings.{is_base}
 
 -- these are the numbers on the old side of all bases, in byte order of their names

@@ -12,16 +12,16 @@ ghost use Rattle.jc_promises.specs.rule.OpenActs.{first_seat};
 ghost use Rattle.jc_facts.specs.world.World.{size};
 ghost use Rattle.jc_rules.specs.steps.Losses.{IsCovered};
 ghost use Rattle.jc_sides.specs.BrokenOf.{found};
-ghost use Rattle.jc_table.specs.Ids.{name_at};
+ghost use Rattle.jc_index.specs.Ids.{name_at};
 
 use jc_acts::seats::Seats;
 use jc_exposed::exposed::{Exposed, first_exposed};
 use jc_facts::act::Act;
 use jc_facts::link_error::LinkError;
+use jc_index::ids::ClassId;
 use jc_sides::broken::BrokenAct;
 use jc_sides::kept::{is_hidden_class, kept};
 use jc_sides::sides::Sides;
-use jc_table::ids::ClassId;
 use jc_table::table::Table;
 
 // Whether all of the classes are hidden.

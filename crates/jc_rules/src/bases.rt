@@ -3,10 +3,10 @@ ghost use Rattle.std.specs.Prelude.{◌≡◌, IfOk, map};
 ghost use Rattle.jc_promises.specs.Pairs.{AreOfOneRun};
 ghost use Rattle.jc_rules.specs.Bases.{AreBases};
 
+use jc_index::ids::ClassId;
 use jc_sides::classes;
 use jc_sides::shared::Shared;
 use jc_sides::sides::Sides;
-use jc_table::ids::ClassId;
 use jc_table::table::Table;
 use std::alloc::{AllocError, Global};
 

@@ -8,13 +8,13 @@ use jc_facts::act::Act;
 use jc_facts::class_facts::ClassFacts;
 use jc_facts::flags::is_interface;
 use jc_facts::link_error::LinkError;
+use jc_index::ids::ClassId;
 use jc_sides::broken::{BrokenAct, broken_where};
 use jc_sides::class_rule::ClassRule;
 use jc_sides::clients::is_closed;
 use jc_sides::kept::kept;
 use jc_sides::shared::before;
 use jc_sides::sides::Sides;
-use jc_table::ids::ClassId;
 use std::alloc::{AllocError, Global};
 
 // How clients name the class above themselves.

@@ -2,16 +2,16 @@
 ghost use Rattle.std.specs.Prelude.{◌≡◌, ◌<◌, refl};
 ghost use Rattle.jc_facts.specs.declared.rule_numbers.TheConstants.{CLASS_GONE};
 ghost use Rattle.jc_facts.specs.world.World.{size};
-ghost use Rattle.jc_table.specs.Ids.{name_at};
+ghost use Rattle.jc_index.specs.Ids.{name_at};
 ghost use Rattle.jc_rules.specs.steps.Classes.{why_unusable};
 
 use jc_facts::act::Act;
 use jc_facts::link_error::LinkError;
+use jc_index::ids::ClassId;
 use jc_sides::broken::{BrokenAct, broken_where};
 use jc_sides::class_rule::ClassRule;
 use jc_sides::kept::is_usable;
 use jc_sides::sides::Sides;
-use jc_table::ids::ClassId;
 use jc_table::naming::is_nameable;
 use std::alloc::{AllocError, Global};
 

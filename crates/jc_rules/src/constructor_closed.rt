@@ -15,13 +15,13 @@ use jc_facts::finding::Finding;
 use jc_facts::flags::{is_abstract, is_interface, is_protected, is_public};
 use jc_facts::key::Key;
 use jc_facts::link_error::LinkError;
+use jc_index::name_set::NameSet;
 use jc_sides::broken::{BrokenAct, broken_where};
 use jc_sides::item_rule::ItemRule;
 use jc_sides::key_numbers::KeyNumbers;
 use jc_sides::members::Members;
 use jc_sides::shared::{Shared, after, before};
 use jc_sides::sides::Sides;
-use jc_table::name_set::NameSet;
 
 // Whether no object of the class can be made.
 fn is_uninstantiable(class: &ClassFacts) -> bool

@@ -5,13 +5,13 @@ ghost use Rattle.jc_facts.specs.Options.{some_and};
 ghost use Rattle.jc_facts.specs.world.Inheritance.{declares_as_final, is_final_in_chain};
 ghost use Rattle.jc_facts.specs.world.Loading.{load_fault};
 ghost use Rattle.jc_facts.specs.world.World.{find_class, size};
-ghost use Rattle.jc_table.specs.Ids.{name_at};
-ghost use Rattle.jc_table.specs.Keys.{numbered_keys, IsNumber};
+ghost use Rattle.jc_index.specs.Ids.{name_at};
+ghost use Rattle.jc_rows.specs.Keys.{numbered_keys, IsNumber};
 
 use crate::own::method_flags;
 use jc_facts::flags::{is_final, is_protected, is_public, is_static};
 use jc_facts::key::Key;
-use jc_table::ids::ClassId;
+use jc_index::ids::ClassId;
 use jc_table::table::Table;
 
 // Whether these are the flags of a final instance method that is public or protected.

@@ -4,7 +4,7 @@ ghost use Rattle.jc_acts.specs.Seats.{AreSeats};
 ghost use Rattle.jc_facts.specs.declared.rule_numbers.TheConstants.{INTERFACE_BECAME_CLASS};
 ghost use Rattle.jc_facts.specs.world.World.{size};
 ghost use Rattle.jc_rules.specs.steps.Losses.{AreLosses, was_interface};
-ghost use Rattle.jc_table.specs.Ids.{name_at};
+ghost use Rattle.jc_index.specs.Ids.{name_at};
 
 use crate::assigned::assigned_by;
 use crate::losses::Losses;
@@ -12,11 +12,11 @@ use jc_acts::seats::Seats;
 use jc_facts::act::Act;
 use jc_facts::flags::is_interface;
 use jc_facts::link_error::LinkError;
+use jc_index::ids::ClassId;
 use jc_sides::broken::BrokenAct;
 use jc_sides::class_rule::ClassRule;
 use jc_sides::kept::kept;
 use jc_sides::sides::Sides;
-use jc_table::ids::ClassId;
 use std::alloc::{AllocError, Global};
 
 /// Whether the class of the old side was an interface and is none on the new side, where it may be

@@ -12,8 +12,8 @@ ghost use Rattle.jc_rules.specs.steps.Changed.{changed_interface};
 ghost use Rattle.jc_rules.specs.steps.Methods.{loses, has_lost_method};
 ghost use Rattle.jc_sides.specs.Numbering.{AreNumbers};
 ghost use Rattle.jc_sides.specs.SharedOf.{IsShared, name_of};
-ghost use Rattle.jc_table.specs.Ids.{name_at};
-ghost use Rattle.jc_table.specs.Keys.{numbered_keys, IsNumber};
+ghost use Rattle.jc_index.specs.Ids.{name_at};
+ghost use Rattle.jc_rows.specs.Keys.{numbered_keys, IsNumber};
 
 use jc_desc::names::is_initializer;
 use jc_facts::act::Act;
@@ -23,6 +23,8 @@ use jc_facts::key::Key;
 use jc_facts::key_set::KeyRef;
 use jc_facts::link_error::LinkError;
 use jc_index::choose::any_candidate;
+use jc_index::ids::ClassId;
+use jc_index::members::own_method;
 use jc_method::find::find_interface_method_by_number;
 use jc_sides::broken::{BrokenAct, broken_where};
 use jc_sides::item_rule::ItemRule;
@@ -30,8 +32,6 @@ use jc_sides::key_numbers::KeyNumbers;
 use jc_sides::members::Members;
 use jc_sides::shared::Shared;
 use jc_sides::sides::Sides;
-use jc_table::ids::ClassId;
-use jc_table::members::own_method;
 use jc_table::table::Table;
 
 // Whether the class java/lang/Object has a public instance method of the key (JVMS 5.4.3.4).

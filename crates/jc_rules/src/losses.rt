@@ -4,15 +4,15 @@ ghost use Rattle.jc_acts.specs.Seats.{AreSeats};
 ghost use Rattle.jc_acts.specs.Touched.{AreFlags, AreSet, flag_at, left_chain_of};
 ghost use Rattle.jc_facts.specs.world.World.{size};
 ghost use Rattle.jc_rules.specs.steps.Losses.{AreJoined, may_take_part, loses, is_lost, was_interface, changed_place, matters};
-ghost use Rattle.jc_table.specs.Ids.{name_at};
+ghost use Rattle.jc_index.specs.Ids.{name_at};
 
 use crate::interface_became_class::is_no_interface_now;
 use jc_acts::lost::{loses_any, set_lost};
 use jc_acts::seats::Seats;
 use jc_exposed::exposed::Exposed;
+use jc_index::ids::ClassId;
 use jc_sides::kept::{is_hidden_class, kept};
 use jc_sides::sides::Sides;
-use jc_table::ids::ClassId;
 use std::alloc::{AllocError, Global};
 
 /// Which classes lost some of their chain, and which members expose hidden classes, where a rule or
@@ -31,7 +31,7 @@ impl Losses {
     ghost use Rattle.jc_exposed.specs.Exposed.{AreWanted};
     ghost use Rattle.jc_facts.specs.world.World.{size};
     ghost use Rattle.jc_rules.specs.steps.Losses.{AreLosses, exposed_of, loses};
-    ghost use Rattle.jc_table.specs.Ids.{name_at};
+    ghost use Rattle.jc_index.specs.Ids.{name_at};
 
     /// What was lost between the two sides. Members are looked at only where a hidden class was an
     /// interface and isn't one any more, or lost some of its chain, or was lost by a class that is kept

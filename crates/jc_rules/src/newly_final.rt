@@ -9,19 +9,19 @@ ghost use Rattle.jc_facts.specs.world.World.{size};
 ghost use Rattle.jc_rules.specs.steps.Methods.{becomes_final, final_now};
 ghost use Rattle.jc_sides.specs.Numbering.{AreNumbers};
 ghost use Rattle.jc_sides.specs.SharedOf.{IsShared, name_of};
-ghost use Rattle.jc_table.specs.Ids.{name_at};
-ghost use Rattle.jc_table.specs.Keys.{numbered_keys, IsNumber};
-ghost use Rattle.jc_table.specs.Sides.{IsSide};
+ghost use Rattle.jc_index.specs.Ids.{name_at};
+ghost use Rattle.jc_rows.specs.Keys.{numbered_keys, IsNumber};
+ghost use Rattle.jc_index.specs.Sides.{IsSide};
 
 use crate::final_methods::is_final_above;
 use jc_desc::names::is_initializer;
 use jc_facts::flags::{is_protected, is_public, is_static};
 use jc_facts::key::Key;
+use jc_index::ids::ClassId;
 use jc_method::find::find_method_by_number;
 use jc_sides::key_numbers::KeyNumbers;
 use jc_sides::shared::Shared;
 use jc_sides::sides::Sides;
-use jc_table::ids::ClassId;
 use jc_table::table::Table;
 
 // Whether these are the flags of an instance method that is public or protected.

@@ -11,7 +11,7 @@ ghost use Rattle.jc_rules.specs.steps.Notes.{HasConstants, AreConstants, value_i
 ghost use Rattle.jc_rules.specs.steps.Own.{field_flags_of};
 ghost use Rattle.jc_sides.specs.SharedOf.{IsShared, name_of};
 ghost use Rattle.jc_sides.specs.SidesOf.{AreSides};
-ghost use Rattle.jc_table.specs.Ids.{name_at};
+ghost use Rattle.jc_index.specs.Ids.{name_at};
 
 use crate::own::field_flags;
 use jc_facts::class_facts::{ClassFacts, Constant, Fixed};
@@ -19,11 +19,11 @@ use jc_facts::flags::{is_final, is_static};
 use jc_facts::key::Key;
 use jc_facts::key_set::KeyRef;
 use jc_facts::verdict::Note;
+use jc_index::ids::ClassId;
 use jc_sides::found::push_some;
 use jc_sides::kept::kept;
 use jc_sides::shared::{Shared, after, before};
 use jc_sides::sides::Sides;
-use jc_table::ids::ClassId;
 use std::alloc::{AllocError, Global};
 use std::collections::BTreeMap;
 

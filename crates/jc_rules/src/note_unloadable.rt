@@ -4,11 +4,11 @@ ghost use Rattle.jc_facts.specs.world.World.{size};
 ghost use Rattle.jc_facts.specs.Orders.{note_order};
 ghost use Rattle.jc_facts.specs.Exactly.{HasExactly};
 ghost use Rattle.jc_rules.specs.steps.Notes.{unloadable, NoteIn};
-ghost use Rattle.jc_table.specs.Ids.{name_at};
+ghost use Rattle.jc_index.specs.Ids.{name_at};
 
 use jc_facts::verdict::Note;
+use jc_index::ids::ClassId;
 use jc_sides::found::push_some;
-use jc_table::ids::ClassId;
 use jc_table::table::Table;
 use std::alloc::{AllocError, Global};
 

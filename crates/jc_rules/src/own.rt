@@ -4,15 +4,15 @@ ghost use Rattle.std.specs.Prelude.{◌≡◌, ◌<◌, None};
 ghost use Rattle.jc_facts.specs.world.World.{size};
 ghost use Rattle.jc_facts.specs.world.Loading.{load_fault};
 ghost use Rattle.jc_rules.specs.steps.Own.{flags_by, field_flags_of, method_flags_of};
-ghost use Rattle.jc_table.specs.Ids.{name_at};
-ghost use Rattle.jc_table.specs.Keys.{numbered_keys, IsNumber};
+ghost use Rattle.jc_index.specs.Ids.{name_at};
+ghost use Rattle.jc_rows.specs.Keys.{numbered_keys, IsNumber};
 
 use jc_facts::key::Key;
 use jc_facts::key_set::KeyRef;
 use jc_field::find::find_field;
+use jc_index::ids::{ClassId, Found};
+use jc_index::members::own_method;
 use jc_table::by_number::find_at;
-use jc_table::ids::{ClassId, Found};
-use jc_table::members::own_method;
 use jc_table::table::Table;
 
 // The flags of what a lookup finds, if the class itself declares it.

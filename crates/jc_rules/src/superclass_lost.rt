@@ -10,7 +10,7 @@ ghost use Rattle.jc_rules.specs.steps.Chains.{HasChain, target_finding, has_left
 ghost use Rattle.jc_rules.specs.steps.Losses.{AreLosses, loses};
 ghost use Rattle.jc_sides.specs.Limit.{IsWithin};
 ghost use Rattle.jc_sides.specs.Rules.{IsFinding};
-ghost use Rattle.jc_table.specs.Ids.{name_at};
+ghost use Rattle.jc_index.specs.Ids.{name_at};
 
 use crate::assigned::assigned;
 use crate::losses::Losses;
@@ -18,10 +18,10 @@ use jc_acts::seats::Seats;
 use jc_facts::finding::Finding;
 use jc_facts::flags::is_interface;
 use jc_facts::rule_numbers::SUPERCLASS_LOST;
+use jc_index::ids::ClassId;
 use jc_sides::found::{finding, push_some};
 use jc_sides::limit::is_over;
 use jc_sides::sides::Sides;
-use jc_table::ids::ClassId;
 use jc_table::table::Table;
 use std::alloc::{AllocError, Global};
 use std::collections::BTreeSet;

@@ -6,7 +6,7 @@ use Rattle.jc_promises.specs.rule.Warnings.{AreWarnings}
 use Rattle.jc_promises.specs.Pairs.{AreOfOneRun}
 use Rattle.jc_facts.specs.world.World.{World}
 use Rattle.jc_selection.proofs.SelectionLaw.{selection_is_kept as law}
-use Rattle.jc_table.specs.Sides.{IsSide}
+use Rattle.jc_index.specs.Sides.{IsSide}
 use Rattle.jc_sides.proofs.Pair.{pair_of}
 use Rattle.jc_select.specs.Within.{AreWarningsWithin, AnswersStill}
 

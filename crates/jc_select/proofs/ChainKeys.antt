@@ -15,8 +15,8 @@ use Rattle.jc_lemmas.proofs.Bools.{neither_first, neither_last}
 use Rattle.jc_selection.proofs.ChainKinds.{kind_or}
 use Rattle.jc_index.proofs.Numbers.{IsClass, class_at}
 use Rattle.jc_sides.specs.SidesOf.{SidesOf, AreSides}
-use Rattle.jc_table.specs.Ids.{name_at, superclass_of}
-use Rattle.jc_table.specs.Sides.{IsSide}
+use Rattle.jc_index.specs.Ids.{name_at, superclass_of}
+use Rattle.jc_index.specs.Sides.{IsSide}
 use Rattle.jc_select.specs.steps.Asked.{HaveNoRest, ChainsAgree}
 use Rattle.jc_select.specs.steps.Changes.{kind_at, HasChanged, HasNone, HasNoMore}
 use Rattle.jc_select.specs.steps.Kinds.{kind_from}

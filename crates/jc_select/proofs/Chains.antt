@@ -11,9 +11,9 @@ use Rattle.jc_facts.specs.world.Assignment.{is_interface_of}
 use Rattle.jc_facts.specs.world.Hierarchy.{chain}
 use Rattle.jc_facts.specs.world.World.{World, find_class, size, own_method_of}
 use Rattle.jc_index.specs.steps.Choosing.{as_found, if_candidate, candidate_at}
-use Rattle.jc_table.specs.Ids.{name_at, superclass_of}
-use Rattle.jc_table.specs.steps.Walking.{chain_from}
-use Rattle.jc_table.proofs.Walking.{from-step, from-none, from-nothing}
+use Rattle.jc_index.specs.Ids.{name_at, superclass_of}
+use Rattle.jc_index.specs.steps.Walking.{chain_from}
+use Rattle.jc_index.proofs.Walking.{from-step, from-none, from-nothing}
 use Rattle.jc_facts.specs.declared.warning.ChainKind.{ChainKind}
 use Rattle.jc_facts.specs.declared.warning.ChainKind.TheVariants.{Nothing, Abstract, Concrete}
 use Rattle.jc_promises.specs.rule.Selection.{declares_abstract, first_kind, chain_kind}

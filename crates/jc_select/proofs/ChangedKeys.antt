@@ -21,10 +21,10 @@ use Rattle.jc_lemmas.proofs.Bools.{neither_first, neither_last}
 use Rattle.jc_lemmas.proofs.Lists.{found_passes}
 use Rattle.jc_index.proofs.Numbers.{IsClass, class_at, id_of-Some}
 use Rattle.jc_sides.specs.SidesOf.{SidesOf, AreSides}
-use Rattle.jc_sides.specs.steps.KeySets.{Adds, has_member}
+use Rattle.jc_sides.specs.steps.KeySets.{AddsKeys, has_member}
 use Rattle.jc_sides.proofs.KeySets.{some_member}
 use Rattle.jc_acts.proofs.Untouched.{platform_record}
-use Rattle.jc_table.specs.Ids.{name_at, id_of}
+use Rattle.jc_index.specs.Ids.{name_at, id_of}
 use Rattle.jc_select.specs.steps.Changes.{kind_at, same_kind, differs, HasChanged, AreChanges, HasNone}
 use Rattle.jc_select.proofs.Chains.{own_kind, own_is}
 
@@ -53,7 +53,7 @@ fails test ms k m h e = go (test m) refl
 
 -- ---- all methods of a class
 
-pub nothing_own : (W : World) (n : ℕ) (c : ClassFacts) (before after : List Key) → Some c ≡ find_class W (name_at W n) → Adds (has_member (λ m. true) c.methods) before after → HasNone W n before after
+pub nothing_own : (W : World) (n : ℕ) (c : ClassFacts) (before after : List Key) → Some c ≡ find_class W (name_at W n) → AddsKeys (has_member (λ m. true) c.methods) before after → HasNone W n before after
 nothing_own W n c before after f h = λ k e.
     let p : (has_key k before || has_member (λ m. true) c.methods k) ≡ false = sym (h.has k) ∙ e in (
       neither_first (has_key k before) (has_member (λ m. true) c.methods k) p,
@@ -78,7 +78,7 @@ module _ (s : SidesOf) (i j : ℕ) (c d : ClassFacts) (fc : Some c ≡ find_clas
   one k None (Some m) e f a b = by k m (found_passes (is_key k) d.methods m f) (fails test d.methods k m b f)
   one k None None e f a b = own_is s.old k i c (sym fc) ∙ undeclared k c e ∙ sym (own_is s.new k j d (sym fd) ∙ undeclared k d f)
 
-  pub changed_own : (none some all : List Key) → Adds (has_member (λ m. differs s i j (key_of m)) c.methods) none some → Adds (has_member (λ m. differs s i j (key_of m)) d.methods) some all → HasChanged s i j all
+  pub changed_own : (none some all : List Key) → AddsKeys (has_member (λ m. differs s i j (key_of m)) c.methods) none some → AddsKeys (has_member (λ m. differs s i j (key_of m)) d.methods) some all → HasChanged s i j all
   changed_own none some all h g = λ k e.
       let p : (has_key k some || has_member test d.methods k) ≡ false = sym (g.has k) ∙ e in
       let q : (has_key k none || has_member test c.methods k) ≡ false = sym (h.has k) ∙ neither_first (has_key k some) (has_member test d.methods k) p in

@@ -26,7 +26,7 @@ use Rattle.jc_index.proofs.Aboves.{any_up, superinterface-is, any-none_left, any
 use Rattle.jc_index.proofs.Numbers.{IsClass, class_at, find-None}
 use Rattle.jc_index.specs.declared.ids.Found.{Found}
 use Rattle.jc_index.specs.steps.Choosing.{as_found, if_candidate}
-use Rattle.jc_table.specs.Ids.{name_at, superclass_of, id_of}
+use Rattle.jc_index.specs.Ids.{name_at, superclass_of, id_of}
 use Rattle.jc_promises.specs.rule.Warnings.{interfaces_from, part, is_below_other}
 use Rattle.jc_select.specs.steps.Parts.{AreNamed, offers_at}
 use Rattle.jc_index.proofs.Reached.{reached_of}

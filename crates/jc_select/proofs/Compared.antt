@@ -20,7 +20,7 @@ use Rattle.jc_lemmas.proofs.Listed.{EachOf, each_in, each_from, any_has, any_pas
 use Rattle.jc_index.proofs.Numbers.{IsClass, class_at, find-None, number_of, id_of-Some, id_of-name_at}
 use Rattle.jc_index.specs.steps.Choosing.{as_found}
 use Rattle.jc_sides.specs.SidesOf.{SidesOf, AreSides}
-use Rattle.jc_table.specs.Ids.{name_at, id_of}
+use Rattle.jc_index.specs.Ids.{name_at, id_of}
 use Rattle.jc_promises.specs.rule.Selection.{declares_abstract}
 use Rattle.jc_promises.specs.rule.Warnings.{is_below_other, part, stays_in, parts_agree}
 use Rattle.jc_select.specs.steps.Parts.{AreNamed, abstract_at, alike_below, stays_now, stays_at, was_at}

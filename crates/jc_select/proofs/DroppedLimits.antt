@@ -14,7 +14,7 @@ use Rattle.jc_select.specs.DroppedWithin.{AreDroppedWithin, InterfacesStill}
 use Rattle.jc_sides.proofs.Pair.{pair_of}
 use Rattle.jc_sides.specs.Limit.{IsWithin}
 use Rattle.jc_sound.proofs.VerdictLaw.{no_longer}
-use Rattle.jc_table.specs.Sides.{IsSide}
+use Rattle.jc_index.specs.Sides.{IsSide}
 
 dropped_total : IsTotalOrder dropped_order
 dropped_total = then_total (on_total (λ (d : Dropped). d.«class») nat_list_cmp_total) (on_total (λ (d : Dropped). d.interface) nat_list_cmp_total)

@@ -33,7 +33,7 @@ use Rattle.jc_facts.proofs.Exactly.{OfNames, grown_start, grown_more, grown_all}
 use Rattle.jc_facts.proofs.InOrder.{exact_given}
 use Rattle.jc_facts.proofs.Options.{some_where-is}
 use Rattle.jc_facts.specs.Options.{some_where}
-use Rattle.jc_loading.proofs.Entering.{absent}
+use Rattle.jc_worlds.proofs.Absent.{load_fault-absent}
 use Rattle.jc_index.proofs.Numbers.{find-None, id_of-Some, names-in, names-length, names-rise, number_of}
 use Rattle.jc_lemmas.proofs.Listed.{here, there, none, cases, each_from, any_passes}
 use Rattle.jc_sides.proofs.Rising.{numbers-rise}
@@ -41,8 +41,8 @@ use Rattle.jc_select.specs.steps.Losing.{AreRowsOf, HasNumbers, dropped_at, lose
 use Rattle.jc_sides.proofs.BaseParts.{steady_parts}
 use Rattle.jc_sides.specs.Rules.{IsOf}
 use Rattle.jc_sides.specs.SidesOf.{SidesOf, AreSides}
-use Rattle.jc_table.specs.Ids.{name_at, names, id_of}
-use Rattle.jc_table.specs.Sides.{IsSide}
+use Rattle.jc_index.specs.Ids.{name_at, names, id_of}
+use Rattle.jc_index.specs.Sides.{IsSide}
 
 -- ---- whether the class of a name loses an interface
 
@@ -52,7 +52,7 @@ absent_loses s x t e = sym (ap (λ b. b && has_lost s.old s.new x t) (go (is_hel
   where
     go : (b : Bool) → is_held s.old s.new x ≡ b → b ≡ false
     go false k = refl
-    go true k = absurd (let clash : None ≡ Some NoClassDefFoundError = sym (held_loads s.old s.new x k).0 ∙ absent s.old x (find-None s.old x (sym e)) in cc)
+    go true k = absurd (let clash : None ≡ Some NoClassDefFoundError = sym (held_loads s.old s.new x k).0 ∙ load_fault-absent s.old x (find-None s.old x (sym e)) in cc)
 
 pub numbered_loses : (s : SidesOf) (rows : List (List ℕ)) → AreRowsOf s.old (loses s) rows → (x : Bytes) (n of : ℕ) (r : Bool) → Some n ≡ id_of s.old x → of < size s.old → r ≡ list_any (λ i. i == of) (row_at rows n)
     → r ≡ loses_interface s.old s.new x (name_at s.old of)
@@ -219,7 +219,7 @@ module _ (s : SidesOf) (are : AreSides s) where
       held = (and_parts (is_held s.old s.new d.«class») (has_lost s.old s.new d.«class» d.interface) (dropped_loses s d.«class» d.interface p)).0
 
       go : (o : Option ClassFacts) → find_class s.old d.«class» ≡ o → Contains (names s.old) d.«class»
-      go None f = absurd (let clash : None ≡ Some NoClassDefFoundError = sym (held_loads s.old s.new d.«class» held).0 ∙ absent s.old d.«class» f in cc)
+      go None f = absurd (let clash : None ≡ Some NoClassDefFoundError = sym (held_loads s.old s.new d.«class» held).0 ∙ load_fault-absent s.old d.«class» f in cc)
       go (Some c) f = names-in s.old d.«class» (ap is_some f)
 
   pub all_classes : (W : World) → W ≡ s.old → (n : ℕ) (ds : List Dropped) → size W ≤ n → HasExactly dropped_order (OfThese (take n (names s.old))) ds → HasExactly dropped_order (IsDropped s.old s.new) ds

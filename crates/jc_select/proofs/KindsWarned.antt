@@ -10,7 +10,7 @@ use Rattle.jc_facts.specs.Exactly.{Before}
 use Rattle.jc_facts.specs.KeyOrder.{key_cmp}
 use Rattle.jc_facts.specs.Names.{Bytes}
 use Rattle.jc_promises.specs.rule.Bases.{is_key_of_method}
-use Rattle.jc_table.proofs.Numbers.{names-in}
+use Rattle.jc_index.proofs.Numbers.{names-in}
 use Rattle.jc_sides.specs.Limit.{IsWithin}
 use Rattle.jc_sides.specs.Rules.{IsItemRule}
 use Rattle.jc_sides.specs.SidesOf.{SidesOf}

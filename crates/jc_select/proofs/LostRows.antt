@@ -23,14 +23,14 @@ use Rattle.jc_facts.specs.world.Hierarchy.{superinterfaces, is_superinterface}
 use Rattle.jc_facts.specs.world.Loading.{load_fault, loads}
 use Rattle.jc_facts.specs.world.World.{World, size}
 use Rattle.jc_facts.proofs.Same.{same_is}
-use Rattle.jc_loading.proofs.Entering.{absent}
+use Rattle.jc_worlds.proofs.Absent.{load_fault-absent}
 use Rattle.jc_index.proofs.Numbers.{find-None, id_of-Some}
 use Rattle.jc_index.proofs.Strictly.{above_good, no_circle}
 use Rattle.jc_lemmas.proofs.Listed.{filter-each}
 use Rattle.jc_lemmas.proofs.Options.{none_where}
 use Rattle.jc_sides.specs.SidesOf.{SidesOf, AreSides}
-use Rattle.jc_table.specs.Ids.{name_at, id_of}
-use Rattle.jc_table.specs.Sides.{IsSide}
+use Rattle.jc_index.specs.Ids.{name_at, id_of}
+use Rattle.jc_index.specs.Sides.{IsSide}
 use Rattle.jc_select.proofs.Collected.{filtered_number}
 use Rattle.jc_select.specs.declared.losing.Lost.{Lost}
 use Rattle.jc_select.specs.steps.Losing.{AreDone, AreLost, AreNumbersOf, has_left, hidden_of, is_asked, is_found, lost_at, loses, row_at}
@@ -154,7 +154,7 @@ lost_unloaded s x ids e o b f g h = lost_not_after s x ids e (ap (λ p. is_none 
     go (Some e) k = refl
 
 pub lost_absent : (s : SidesOf) (x : Bytes) (ids : List ℕ) → ids ≡ [] → id_of s.new x ≡ None → AreNumbersOf s.old (lost_at s x) ids
-lost_absent s x ids e h = lost_not_after s x ids e (ap (λ o. is_none {T = LinkError} o) (absent s.new x (find-None s.new x h)))
+lost_absent s x ids e h = lost_not_after s x ids e (ap (λ o. is_none {T = LinkError} o) (load_fault-absent s.new x (find-None s.new x h)))
 
 -- ---- hidden classes among them
 

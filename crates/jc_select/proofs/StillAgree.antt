@@ -14,7 +14,7 @@ use Rattle.jc_lemmas.proofs.Listed.{each_in, each_from, any_has, any_passes, in_
 use Rattle.jc_index.specs.declared.ids.Found.{Found}
 use Rattle.jc_index.specs.steps.Choosing.{own_at, if_candidate}
 use Rattle.jc_sides.specs.SidesOf.{SidesOf, AreSides}
-use Rattle.jc_table.specs.Ids.{name_at, id_of}
+use Rattle.jc_index.specs.Ids.{name_at, id_of}
 use Rattle.jc_select.specs.steps.Changes.{kind_at}
 use Rattle.jc_select.specs.steps.Kinds.{is_nothing, kind_of}
 use Rattle.jc_select.specs.steps.Parts.{AreNamed, offers_at, abstract_at, alike_below, stays_at, stays_now, stands_at, stands_now, was_at}

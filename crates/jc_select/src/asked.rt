@@ -16,9 +16,9 @@ use crate::walks::{add_chain, add_each};
 use jc_acts::seats::Seats;
 use jc_base::items::Items;
 use jc_facts::key::Key;
+use jc_index::ids::ClassId;
 use jc_sides::shared::Shared;
 use jc_sides::sides::Sides;
-use jc_table::ids::ClassId;
 use jc_table::table::Table;
 use std::alloc::{AllocError, Global};
 

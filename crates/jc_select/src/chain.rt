@@ -4,14 +4,14 @@ ghost use Rattle.jc_facts.specs.world.Hierarchy.{chain};
 ghost use Rattle.jc_facts.specs.world.World.{size};
 ghost use Rattle.jc_index.specs.steps.Choosing.{candidate_at};
 ghost use Rattle.jc_select.specs.steps.Kinds.{kind_by, kind_of, is_nothing};
-ghost use Rattle.jc_table.specs.Ids.{name_at};
+ghost use Rattle.jc_index.specs.Ids.{name_at};
 ghost use Rattle.jc_promises.specs.rule.Selection.{first_kind, chain_kind};
 
 use jc_facts::flags::{is_abstract, is_interface};
 use jc_facts::key::Key;
 use jc_facts::warning::ChainKind;
+use jc_index::ids::ClassId;
 use jc_index::own::candidate;
-use jc_table::ids::ClassId;
 use jc_table::table::Table;
 
 // What an instance method of these flags is to a chain, which isn't private.

@@ -5,18 +5,18 @@ ghost use Rattle.jc_facts.specs.Records.{same_member};
 ghost use Rattle.jc_facts.specs.Names.{key_of};
 ghost use Rattle.jc_facts.specs.world.World.{size};
 ghost use Rattle.jc_select.specs.steps.Changes.{same_kind, differs, HasChanged, AreChanges};
-ghost use Rattle.jc_sides.specs.steps.KeySets.{Adds, has_member};
-ghost use Rattle.jc_table.specs.Ids.{name_at, id_of};
+ghost use Rattle.jc_sides.specs.steps.KeySets.{AddsKeys, has_member};
+ghost use Rattle.jc_index.specs.Ids.{name_at, id_of};
 
 use crate::chain::own_kind;
 use jc_base::items::Items;
 use jc_facts::class_facts::ClassFacts;
 use jc_facts::key::Key;
 use jc_facts::warning::ChainKind;
+use jc_index::ids::ClassId;
+use jc_index::members::key_of_member;
 use jc_sides::members::push_if;
 use jc_sides::sides::Sides;
-use jc_table::ids::ClassId;
-use jc_table::members::key_of_member;
 use std::alloc::{AllocError, Global};
 
 // Whether the two are the same.
@@ -52,7 +52,7 @@ fn add_changed(
 ) -> Result<(), AllocError>
     requires before { before < size sides.now.old }
     requires now { now < size sides.now.new }
-    ensures { OnOk result (Adds (has_member (λ m. differs sides.now before now (key_of m)) «class».now.methods) keys.old.items keys.new.items) }
+    ensures { OnOk result (AddsKeys (has_member (λ m. differs sides.now before now (key_of m)) «class».now.methods) keys.old.items keys.new.items) }
 {
     for method in class.methods.as_slice() {
         let key = key_of_member(alloc, method)?;

@@ -14,7 +14,7 @@ ghost use Rattle.jc_select.specs.DroppedWithin.{AreDroppedWithin, InterfacesStil
 ghost use Rattle.jc_select.specs.steps.Losing.{AreLost, AreRowsOf, HasNumbers, dropped_at, hidden_of, loses, row_at};
 ghost use Rattle.jc_sides.specs.Limit.{IsWithin};
 ghost use Rattle.jc_sides.specs.Rules.{IsOf};
-ghost use Rattle.jc_table.specs.Ids.{name_at};
+ghost use Rattle.jc_index.specs.Ids.{name_at};
 
 use crate::losing::{Lost, losing};
 use crate::parts::is_among;
@@ -24,11 +24,11 @@ use jc_base::name::Name;
 use jc_exposed::exposed::Exposed;
 use jc_facts::class_facts::ClassFacts;
 use jc_facts::dropped::Dropped;
+use jc_index::ids::ClassId;
 use jc_sides::classes::base_classes;
 use jc_sides::found::push_some;
 use jc_sides::limit::is_over;
 use jc_sides::sides::Sides;
-use jc_table::ids::ClassId;
 use jc_table::table::Table;
 use std::alloc::{AllocError, Global};
 use std::collections::BTreeSet;

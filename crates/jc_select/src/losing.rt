@@ -8,16 +8,16 @@ ghost use Rattle.jc_promises.specs.rule.Bases.{is_kept, is_steady};
 ghost use Rattle.jc_facts.specs.world.Loading.{loads};
 ghost use Rattle.jc_facts.specs.world.World.{size};
 ghost use Rattle.jc_select.specs.steps.Losing.{AreLost, AreMarks, AreNumbersOf, AreRowsOf, has_left, hidden_of, is_asked, is_found, lost_at, loses};
-ghost use Rattle.jc_table.specs.Ids.{name_at, id_of};
+ghost use Rattle.jc_index.specs.Ids.{name_at, id_of};
 
 use crate::parts::{above, is_below_now};
 use jc_acts::seats::Seats;
 use jc_base::items::Items;
 use jc_exposed::exposed::{Exposed, first_exposed};
+use jc_index::ids::ClassId;
 use jc_sides::clients::is_steady;
 use jc_sides::kept::{is_hidden_class, kept};
 use jc_sides::sides::Sides;
-use jc_table::ids::ClassId;
 use std::alloc::{AllocError, Global};
 
 /// What classes have lost, whether clients can hold values of them or not.

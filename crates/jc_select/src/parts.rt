@@ -7,15 +7,15 @@ ghost use Rattle.jc_facts.specs.Options.{some_and};
 ghost use Rattle.jc_select.specs.steps.Parts.{AreNamed, offers_at, abstract_at, alike_below, stays_at, stands_at, was_at};
 ghost use Rattle.jc_select.specs.steps.Warned.{parts_differ};
 ghost use Rattle.jc_sides.specs.SharedOf.{IsShared, name_of};
-ghost use Rattle.jc_table.specs.Ids.{name_at, id_of};
+ghost use Rattle.jc_index.specs.Ids.{name_at, id_of};
 ghost use Rattle.jc_promises.specs.rule.Warnings.{interfaces_from, is_below_other, part};
 
 use jc_facts::flags::{is_abstract, is_interface};
 use jc_facts::key::Key;
+use jc_index::ids::ClassId;
 use jc_index::own::{candidate, declared};
 use jc_sides::shared::Shared;
 use jc_sides::sides::Sides;
-use jc_table::ids::ClassId;
 use jc_table::table::Table;
 use std::alloc::{AllocError, Global};
 

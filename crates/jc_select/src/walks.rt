@@ -3,18 +3,18 @@ ghost use Rattle.std.specs.Prelude.{◌<◌, true, IfSome, OnOk};
 ghost use Rattle.std.specs.List.{All};
 ghost use Rattle.jc_facts.specs.world.World.{size};
 ghost use Rattle.jc_select.specs.steps.Changes.{HasNone, HaveNone, HasNoMore};
-ghost use Rattle.jc_sides.specs.steps.KeySets.{Adds, has_member};
+ghost use Rattle.jc_sides.specs.steps.KeySets.{AddsKeys, has_member};
 
 use jc_facts::class_facts::ClassFacts;
 use jc_facts::key::Key;
+use jc_index::ids::ClassId;
 use jc_sides::members::push_if;
-use jc_table::ids::ClassId;
 use jc_table::table::Table;
 use std::alloc::{AllocError, Global};
 
 // Adds the keys of the methods of the record.
 fn add_methods(alloc: Global, keys: &mut Vec<Key>, class: &ClassFacts) -> Result<(), AllocError>
-    ensures { OnOk result (Adds (has_member (λ m. true) «class».now.methods) keys.old.items keys.new.items) }
+    ensures { OnOk result (AddsKeys (has_member (λ m. true) «class».now.methods) keys.old.items keys.new.items) }
 {
     for method in class.methods.as_slice() {
         push_if(alloc, keys, method, true)?;

@@ -8,7 +8,7 @@ use Rattle.jc_facts.specs.Names.{Bytes}
 use Rattle.jc_facts.specs.Options.{some_where}
 use Rattle.jc_promises.specs.rule.Collisions.{made_collision}
 use Rattle.jc_promises.specs.rule.Findings.{Subject, report_where}
-use Rattle.jc_table.specs.Ids.{name_at}
+use Rattle.jc_index.specs.Ids.{name_at}
 use Rattle.jc_sides.specs.BrokenOf.{BrokenOf, broken_if, found, collided}
 use Rattle.jc_sides.specs.Rules.{on_class, class_finding}
 use Rattle.jc_sides.specs.SidesOf.{SidesOf}

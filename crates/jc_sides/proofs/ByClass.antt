@@ -15,9 +15,9 @@ use Rattle.jc_facts.proofs.Exact.{Gives, given_back}
 use Rattle.jc_facts.proofs.Exactly.{rise_front}
 use Rattle.jc_facts.proofs.Options.{some_where-is}
 use Rattle.jc_facts.proofs.InOrder.{exact_given, given_rise}
-use Rattle.jc_table.specs.Ids.{names, name_at}
-use Rattle.jc_table.specs.Sides.{IsSide}
-use Rattle.jc_table.proofs.Numbers.{names-rise, names-length}
+use Rattle.jc_index.specs.Ids.{names, name_at}
+use Rattle.jc_index.specs.Sides.{IsSide}
+use Rattle.jc_index.proofs.Numbers.{names-rise, names-length}
 use Rattle.jc_sides.specs.Limit.{HasMore, over}
 use Rattle.jc_sides.specs.Rules.{on_class, class_finding, IsFinding, IsOnClass}
 use Rattle.jc_sides.specs.SidesOf.{SidesOf, AreSides}

@@ -12,9 +12,9 @@ use Rattle.jc_facts.specs.Exactly.{HasExactly}
 use Rattle.std.specs.declared.cmp.Ordering.{Ordering}
 use Rattle.jc_lemmas.proofs.Listed.{filter_in}
 use Rattle.jc_facts.proofs.InOrder.{Rises-filter}
-use Rattle.jc_table.specs.Ids.{names}
+use Rattle.jc_index.specs.Ids.{names}
 use Rattle.jc_facts.proofs.Exactly.{OfNames, exact_over, grown_start, grown_more, grown_all}
-use Rattle.jc_table.proofs.Numbers.{names-rise}
+use Rattle.jc_index.proofs.Numbers.{names-rise}
 use Rattle.jc_sides.specs.Rules.{HasEachInOrder, IsItemRule, IsOf}
 use Rattle.jc_sides.specs.SharedOf.{AreThose, name_of, SharedOf}
 use Rattle.jc_sides.specs.SidesOf.{SidesOf}

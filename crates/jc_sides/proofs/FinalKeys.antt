@@ -10,10 +10,10 @@ use Rattle.jc_facts.specs.file.Valid.{has_key}
 use Rattle.jc_facts.specs.world.Inheritance.{is_open_final, declares_as_final, is_final_in_chain}
 use Rattle.jc_facts.specs.world.World.{World, find_class, size}
 use Rattle.jc_lemmas.proofs.Bools.{or_without}
-use Rattle.jc_table.specs.Ids.{name_at, superclass_of}
-use Rattle.jc_table.proofs.Walking.{declared_from, finals-from, from-step, from-none, from-nothing}
+use Rattle.jc_index.specs.Ids.{name_at, superclass_of}
+use Rattle.jc_index.proofs.Walking.{declared_from, finals-from, from-step, from-none, from-nothing}
 use Rattle.jc_sides.specs.Members.{HasAll}
-use Rattle.jc_sides.specs.steps.KeySets.{Adds, has_member}
+use Rattle.jc_sides.specs.steps.KeySets.{AddsKeys, has_member}
 use Rattle.jc_sides.proofs.KeySets.{some_member}
 
 steps : (W : World) (k : Key) (m n id : ℕ) (next up : Option ℕ) (c : ClassFacts) → m ≡ suc n → next ≡ Some id → Some c ≡ find_class W (name_at W id) → up ≡ superclass_of W (name_at W id)
@@ -34,7 +34,7 @@ passed_start W id left keys l e = record {
 
 -- one more class
 pub passed_more : (W : World) (x : Bytes) (left more id : ℕ) (next up : Option ℕ) (c : ClassFacts) (keys now : List Key) → left ≡ suc more → next ≡ Some id → Some c ≡ find_class W (name_at W id) → up ≡ superclass_of W (name_at W id)
-    → IfSome up (λ id. id < size W) → HasPassed W x left next keys → Adds (has_member is_open_final c.methods) keys now → HasPassed W x more up now
+    → IfSome up (λ id. id < size W) → HasPassed W x left next keys → AddsKeys (has_member is_open_final c.methods) keys now → HasPassed W x more up now
 passed_more W x left more id next up c keys now q e f u b h a = record {
   below = b;
   has = λ k p. go k (has_key k keys) refl (declares_as_final k c) refl (h.has k p);

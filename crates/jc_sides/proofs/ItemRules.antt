@@ -16,7 +16,7 @@ use Rattle.jc_facts.specs.Names.{Bytes}
 use Rattle.jc_facts.specs.Options.{some_where}
 use Rattle.jc_facts.specs.Orders.{finding_order, collision_order}
 use Rattle.jc_promises.specs.rule.Bases.{is_kept}
-use Rattle.jc_table.proofs.Numbers.{names-in}
+use Rattle.jc_index.proofs.Numbers.{names-in}
 use Rattle.jc_sides.specs.SharedOf.{OfKept}
 use Rattle.jc_sides.specs.Rules.{on_key, key_finding, key_collision, IsFinding, IsCollision, IsItemRule, IsOf}
 use Rattle.jc_sides.specs.SidesOf.{SidesOf, AreSides}

@@ -16,7 +16,7 @@ use Rattle.jc_facts.proofs.KeySets.{key_exact, rises}
 use Rattle.jc_facts.proofs.Same.{key_itself}
 use Rattle.jc_index.proofs.HashedKeys.{key_is}
 use Rattle.jc_rows.specs.declared.row.RowItem.{RowItem}
-use Rattle.jc_table.specs.Keys.{numbered_keys}
+use Rattle.jc_rows.specs.Keys.{numbered_keys}
 use Rattle.jc_table.specs.RowKeys.{keys_of_row}
 use Rattle.jc_sides.specs.Rules.{HasEachKey, HasEachInOrder}
 use Rattle.jc_sides.specs.steps.KeySets.{AreInOrder}

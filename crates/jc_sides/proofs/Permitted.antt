@@ -11,8 +11,8 @@ use Rattle.jc_facts.specs.Names.{Bytes, same, is_name_among}
 use Rattle.jc_facts.proofs.Same.{same_is, same_itself}
 use Rattle.jc_lemmas.proofs.Listed.{EachOf, list_any-same}
 use Rattle.jc_worlds.proofs.Allowed.{among_each}
-use Rattle.jc_table.specs.Ids.{names}
-use Rattle.jc_table.proofs.Numbers.{names-length}
+use Rattle.jc_index.specs.Ids.{names}
+use Rattle.jc_index.proofs.Numbers.{names-length}
 use Rattle.jc_sides.specs.SharedOf.{SharedOf, IsShared, AreThose, HasThose, name_of}
 use Rattle.jc_sides.specs.SidesOf.{SidesOf}
 use Rattle.jc_lemmas.proofs.Bools.{and_true}

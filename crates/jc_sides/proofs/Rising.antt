@@ -10,8 +10,8 @@ use Rattle.jc_facts.specs.world.World.{World, size}
 use Rattle.jc_facts.proofs.Apart.{each_at}
 use Rattle.jc_index.proofs.Numbers.{names-length, names-rise}
 use Rattle.jc_lemmas.proofs.Listed.{EachOf}
-use Rattle.jc_table.specs.Ids.{name_at, names}
-use Rattle.jc_table.specs.Sides.{IsSide}
+use Rattle.jc_index.specs.Ids.{name_at, names}
+use Rattle.jc_index.specs.Sides.{IsSide}
 
 rises_at : (xs : List Bytes) → NamesRise (λ x. x) xs → (i j : ℕ) → i < j → j < length xs → Before (get_or xs i []) (get_or xs j [])
 unfolding Rises

@@ -4,9 +4,9 @@ use Rattle.jc_facts.specs.world.Loading.{load_fault}
 use Rattle.jc_facts.specs.Names.{Bytes}
 use Rattle.jc_facts.specs.declared.key.Key.{Key}
 use Rattle.jc_facts.specs.world.World.{World}
-use Rattle.jc_table.specs.Ids.{name_at, id_of}
-use Rattle.jc_table.specs.Keys.{numbered_keys, IsNumber}
-use Rattle.jc_table.proofs.Numbers.{id_of-Some}
+use Rattle.jc_index.specs.Ids.{name_at, id_of}
+use Rattle.jc_rows.specs.Keys.{numbered_keys, IsNumber}
+use Rattle.jc_index.proofs.Numbers.{id_of-Some}
 use Rattle.jc_sides.specs.Numbering.{AreNumbers}
 use Rattle.jc_sides.specs.declared.key_numbers.KeyNumbers.{KeyNumbers}
 use Rattle.jc_sides.specs.SharedOf.{IsShared, name_of, SharedOf}

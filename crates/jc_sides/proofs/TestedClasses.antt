@@ -8,8 +8,8 @@ use Rattle.jc_facts.specs.Options.{some_where}
 use Rattle.jc_promises.specs.rule.Bases.{is_kept}
 use Rattle.jc_facts.specs.world.World.{World, size}
 use Rattle.jc_lemmas.proofs.Listed.{EachOf, EachOf-append}
-use Rattle.jc_table.specs.Ids.{names, name_at}
-use Rattle.jc_table.proofs.Numbers.{names-length}
+use Rattle.jc_index.specs.Ids.{names, name_at}
+use Rattle.jc_index.proofs.Numbers.{names-length}
 use Rattle.jc_sides.specs.SharedOf.{IsShared, IsWhere, AddsWhere, AreThose, name_of, SharedOf}
 use Rattle.jc_sides.specs.SidesOf.{SidesOf, AreSides}
 use Rattle.jc_facts.proofs.Options.{some_where-is}

@@ -2,7 +2,7 @@
 use Rattle.std.specs.Prelude.{◌≡◌, ℕ, List, Some, length, slice_get}
 use Rattle.jc_facts.specs.declared.key.Key.{Key}
 use Rattle.jc_facts.specs.world.World.{World}
-use Rattle.jc_table.specs.Keys.{numbered_keys, IsNumber}
+use Rattle.jc_rows.specs.Keys.{numbered_keys, IsNumber}
 use Rattle.jc_sides.specs.SidesOf.{SidesOf}
 use Rattle.jc_sides.specs.declared.key_numbers.KeyNumbers.{KeyNumbers}
 use Rattle.jc_sides.specs.declared.translation.Translation.{Translation}

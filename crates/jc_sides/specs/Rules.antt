@@ -14,7 +14,7 @@ use Rattle.jc_facts.specs.KeyOrder.{key_cmp}
 use Rattle.jc_facts.specs.Names.{Bytes}
 use Rattle.jc_facts.specs.Exactly.{Rises}
 use Rattle.jc_facts.specs.file.Valid.{has_key}
-use Rattle.jc_table.specs.Ids.{names}
+use Rattle.jc_index.specs.Ids.{names}
 use Rattle.jc_sides.specs.SidesOf.{SidesOf, AreSides}
 
 -- ---- findings and collisions

@@ -4,7 +4,7 @@ use Rattle.std.specs.List.{filter, cons_option, All}
 use Rattle.jc_facts.specs.Names.{Bytes, is_name_among}
 use Rattle.jc_facts.specs.world.World.{size}
 use Rattle.jc_promises.specs.rule.Bases.{is_kept}
-use Rattle.jc_table.specs.Ids.{name_at, names}
+use Rattle.jc_index.specs.Ids.{name_at, names}
 use Rattle.jc_sides.specs.SidesOf.{SidesOf, AreSides}
 
 -- its name, and its numbers on the old side and on the new

@@ -1,6 +1,6 @@
 -- The two tables of a comparison, and the numbers of the classes of the one on the other, as its fields have them.
 use Rattle.std.specs.Prelude.{◌≡◌, map}
-use Rattle.jc_table.specs.Ids.{names, id_of}
+use Rattle.jc_index.specs.Ids.{names, id_of}
 use Rattle.jc_sides.specs.SidesOf.{SidesOf, AreSides}
 use Rattle.jc_sides.specs.declared.sides.Sides.TheInside.{Inside}
 

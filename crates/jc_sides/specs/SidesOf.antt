@@ -1,7 +1,7 @@
 -- A platform with an old and with a new release, as two worlds.
 use Rattle.jc_promises.specs.Pairs.{AreOfOneRun}
 use Rattle.jc_facts.specs.world.World.{World}
-use Rattle.jc_table.specs.Sides.{IsSide}
+use Rattle.jc_index.specs.Sides.{IsSide}
 
 -- the two worlds
 pub record SidesOf : Type 0 where

@@ -16,7 +16,7 @@ ghost use Rattle.jc_sides.specs.Rules.{HasEachKey, IsItemRule, IsOf};
 ghost use Rattle.jc_sides.specs.SharedOf.{IsShared, AreThose, name_of};
 ghost use Rattle.jc_sides.specs.steps.KeySets.{AreInOrder};
 ghost use Rattle.jc_sides.specs.SidesOf.{SidesOf};
-ghost use Rattle.jc_table.specs.Keys.{numbered_keys};
+ghost use Rattle.jc_rows.specs.Keys.{numbered_keys};
 ghost use Rattle.jc_table.specs.RowKeys.{keys_of_row};
 
 use crate::broken::BrokenAct;
@@ -29,7 +29,7 @@ use crate::shared::Shared;
 use crate::sides::Sides;
 use crate::translation::{Translation, numbers_at};
 use jc_facts::key::Key;
-use jc_table::row::RowItem;
+use jc_rows::row::RowItem;
 use jc_table::table::Table;
 use std::alloc::{AllocError, Global};
 use std::collections::BTreeSet;

@@ -3,12 +3,12 @@ ghost use Rattle.std.specs.Prelude.{◌≡◌, ◌<◌};
 ghost use Rattle.jc_facts.specs.world.World.{size};
 ghost use Rattle.jc_promises.specs.rule.Bases.{is_class_usable, is_kept};
 ghost use Rattle.jc_promises.specs.rule.Exposed.{is_hidden};
-ghost use Rattle.jc_table.specs.Ids.{name_at};
+ghost use Rattle.jc_index.specs.Ids.{name_at};
 ghost use Rattle.jc_sides.specs.SharedOf.{IsWhere};
 
 use crate::shared::Shared;
 use crate::sides::Sides;
-use jc_table::ids::ClassId;
+use jc_index::ids::ClassId;
 use jc_table::naming::is_nameable;
 use jc_table::table::Table;
 

@@ -4,11 +4,11 @@ ghost use Rattle.jc_facts.specs.Names.{is_init_name, is_key};
 ghost use Rattle.jc_facts.specs.world.World.{size};
 ghost use Rattle.jc_promises.specs.rule.Bases.{is_kept};
 ghost use Rattle.jc_facts.specs.world.Inheritance.{is_open_final, is_final_in_chain};
-ghost use Rattle.jc_table.specs.Ids.{name_at};
+ghost use Rattle.jc_index.specs.Ids.{name_at};
 ghost use Rattle.jc_table.specs.RowKeys.{keys_of_row};
 ghost use Rattle.jc_sides.specs.Members.{is_member, HasAll};
 ghost use Rattle.jc_sides.specs.SharedOf.{IsShared, name_of};
-ghost use Rattle.jc_sides.specs.steps.KeySets.{Adds, has_member};
+ghost use Rattle.jc_sides.specs.steps.KeySets.{AddsKeys, has_member};
 
 use crate::shared::{Shared, before};
 use crate::sides::Sides;
@@ -17,10 +17,10 @@ use jc_facts::class_facts::{ClassFacts, Member};
 use jc_facts::flags::{is_final, is_protected, is_public, is_static};
 use jc_facts::key::Key;
 use jc_field::keys::found_field_keys;
+use jc_index::ids::ClassId;
+use jc_index::members::key_of_member;
 use jc_method::keys::found_method_keys;
-use jc_table::ids::ClassId;
-use jc_table::members::key_of_member;
-use jc_table::row::RowItem;
+use jc_rows::row::RowItem;
 use jc_table::table::Table;
 use std::alloc::{AllocError, Global};
 
@@ -53,7 +53,7 @@ pub fn push_if(
     member: &Member,
     wanted: bool,
 ) -> Result<(), AllocError>
-    ensures { OnOk result (Adds (λ q. wanted && is_key q member.now) keys.old.items keys.new.items) }
+    ensures { OnOk result (AddsKeys (λ q. wanted && is_key q member.now) keys.old.items keys.new.items) }
 {
     if wanted {
         keys.push(key_of_member(alloc, member)?)?;
@@ -83,7 +83,7 @@ fn is_open_final(method: &Member) -> bool
 
 // Adds the keys of the class's methods that may not be overridden.
 fn add_finals(alloc: Global, keys: &mut Vec<Key>, class: &ClassFacts) -> Result<(), AllocError>
-    ensures { OnOk result (Adds (has_member is_open_final class.now.methods) keys.old.items keys.new.items) }
+    ensures { OnOk result (AddsKeys (has_member is_open_final class.now.methods) keys.old.items keys.new.items) }
 {
     for method in class.methods.as_slice() {
         let wanted = is_open_final(method);

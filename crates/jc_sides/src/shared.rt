@@ -6,7 +6,7 @@ ghost use Rattle.jc_sides.specs.SharedOf.{IsShared, name_of};
 use crate::sides::Sides;
 use jc_base::name::Name;
 use jc_facts::class_facts::ClassFacts;
-use jc_table::ids::ClassId;
+use jc_index::ids::ClassId;
 use std::marker::Model;
 
 /// A class that both sides have: its name, and its number on the old side and on the new.

@@ -2,9 +2,9 @@
 ghost use Rattle.std.specs.Prelude.{◌≡◌, ◌<◌, map, IfOk, IfSome};
 ghost use Rattle.jc_promises.specs.Pairs.{AreOfOneRun};
 ghost use Rattle.jc_facts.specs.world.World.{size};
-ghost use Rattle.jc_table.specs.Ids.{name_at, names, id_of};
+ghost use Rattle.jc_index.specs.Ids.{name_at, names, id_of};
 
-use jc_table::ids::ClassId;
+use jc_index::ids::ClassId;
 use jc_table::table::Table;
 use std::alloc::{AllocError, Global};
 use std::marker::Model;

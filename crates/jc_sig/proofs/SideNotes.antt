@@ -13,9 +13,9 @@ use Rattle.jc_facts.proofs.Exactly.{OfNames, grown_start, grown_more, grown_all}
 use Rattle.jc_facts.proofs.InOrder.{exact_none, exact_same}
 use Rattle.jc_facts.proofs.Options.{some_where-is}
 use Rattle.jc_facts.proofs.World.{find-platform}
-use Rattle.jc_table.specs.Ids.{names, name_at}
-use Rattle.jc_table.specs.Sides.{IsSide}
-use Rattle.jc_table.proofs.Numbers.{names-in, names-length, names-rise}
+use Rattle.jc_index.specs.Ids.{names, name_at}
+use Rattle.jc_index.specs.Sides.{IsSide}
+use Rattle.jc_index.proofs.Numbers.{names-in, names-length, names-rise}
 use Rattle.jc_sig.specs.Notes.{signature_at, declares, sig_note_order, SigNoteStands}
 use Rattle.jc_sig.specs.steps.Changes.{changed}
 use Rattle.jc_sig.specs.steps.OnRecords.{noted, note_at, OnRecords, OnName}

@@ -2,14 +2,14 @@
 ghost use Rattle.std.specs.Prelude.{◌≡◌, ◌<◌, IfOk};
 ghost use Rattle.jc_facts.specs.Exactly.{HasExactly};
 ghost use Rattle.jc_facts.specs.world.World.{size};
-ghost use Rattle.jc_table.specs.Ids.{name_at};
+ghost use Rattle.jc_index.specs.Ids.{name_at};
 ghost use Rattle.jc_sig.specs.Notes.{sig_note_order, SigNoteStands};
 ghost use Rattle.jc_sig.specs.steps.OnRecords.{OnName};
 
 use crate::records::on_records;
 use jc_facts::flags::is_public;
 use jc_facts::sig_note::SigNote;
-use jc_table::ids::ClassId;
+use jc_index::ids::ClassId;
 use jc_table::table::Table;
 use std::alloc::{AllocError, Global};
 

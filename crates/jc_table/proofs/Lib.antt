@@ -2,14 +2,3 @@ pub mod MemberKeys
 pub mod Rows
 pub mod RowKeys
 pub mod InRows
-pub use Rattle.jc_index.proofs.Numbers
-pub use Rattle.jc_index.proofs.Sides
-pub use Rattle.jc_index.proofs.Walking
-pub use Rattle.jc_index.proofs.Lookups
-pub use Rattle.jc_index.proofs.Aboves
-pub use Rattle.jc_index.proofs.Roots
-pub use Rattle.jc_index.proofs.Reached
-pub use Rattle.jc_index.proofs.Overlaps
-pub use Rattle.jc_index.proofs.NameSets
-pub use Rattle.jc_index.proofs.Keeps
-pub use Rattle.jc_loading.proofs.Entering

@@ -19,7 +19,7 @@ use Rattle.jc_facts.specs.world.Hierarchy.{chain, each, with_interfaces, interfa
 use Rattle.jc_worlds.specs.Hierarchy.{above}
 use Rattle.jc_index.specs.Ids.{name_at, superclass_of}
 use Rattle.jc_index.specs.Above.{AreAbove}
-use Rattle.jc_table.specs.steps.Collecting.{Adds, declares_at, HasKeys}
+use Rattle.jc_table.specs.steps.Collecting.{Collects, declares_at, HasKeys}
 use Rattle.jc_index.specs.steps.Walking.{chain_from}
 use Rattle.jc_index.proofs.Walking.{from-step, from-none, from-nothing}
 use Rattle.jc_index.proofs.Reached.{any_reached}
@@ -30,7 +30,7 @@ use Rattle.jc_facts.proofs.KeySets.{key_exact, Comes, rises}
 -- ---- the keys of one class
 
 -- the keys of these members are in the set
-pub comes_all : (first now : sorted.BTreeSet Key) (ms : List Member) (i : ℕ) → length ms ≤ i → Comes now (drop i ms) first ms → Adds (λ k. is_some (first_where (is_key k) ms)) first now
+pub comes_all : (first now : sorted.BTreeSet Key) (ms : List Member) (i : ℕ) → length ms ≤ i → Comes now (drop i ms) first ms → Collects (λ k. is_some (first_where (is_key k) ms)) first now
 comes_all first now ms i l h = λ k.
     sym (or_false (sorted.contains key_cmp now k)) ∙ ap (λ (ms : List Member). sorted.contains key_cmp now k || list_any (is_key k) ms) (sym (drop_all i ms l))
     ∙ h k ∙ ap (λ b. sorted.contains key_cmp first k || b) (found_any (is_key k) ms)
@@ -43,7 +43,7 @@ module _ (own : ClassFacts → Key → Option Member) where
   Follows W now rest before all = (k : Key) → (sorted.contains key_cmp now k || list_any (declares_at own W k) rest) ≡ (sorted.contains key_cmp before k || list_any (declares_at own W k) all)
 
   pub follows_more : (W : World) (first before now : sorted.BTreeSet Key) (ids : List ℕ) (i id : ℕ) (c : ClassFacts) → i < length ids → id ≡ get_or ids i id → Some c ≡ find_class W (name_at W id)
-      → Adds (λ k. is_some (own c k)) before now → Follows W before (drop i ids) first ids → Follows W now (drop (i + 1) ids) first ids
+      → Collects (λ k. is_some (own c k)) before now → Follows W before (drop i ids) first ids → Follows W now (drop (i + 1) ids) first ids
   follows_more W first before now ids i id c l g f a h = λ k.
       ap (λ b. b || list_any (declares_at own W k) (drop (i + 1) ids)) (a k)
       ∙ or_assoc (sorted.contains key_cmp before k) (is_some (own c k)) (list_any (declares_at own W k) (drop (i + 1) ids))
@@ -51,7 +51,7 @@ module _ (own : ClassFacts → Key → Option Member) where
       ∙ ap (λ (n : ℕ). sorted.contains key_cmp before k || (declares_at own W k n || list_any (declares_at own W k) (drop (i + 1) ids))) g
       ∙ ap (λ ns. sorted.contains key_cmp before k || list_any (declares_at own W k) ns) (sym (drop_more ids i id l)) ∙ h k
 
-  pub follows_all : (W : World) (first now : sorted.BTreeSet Key) (ids : List ℕ) (i : ℕ) → length ids ≤ i → Follows W now (drop i ids) first ids → Adds (λ k. list_any (declares_at own W k) ids) first now
+  pub follows_all : (W : World) (first now : sorted.BTreeSet Key) (ids : List ℕ) (i : ℕ) → length ids ≤ i → Follows W now (drop i ids) first ids → Collects (λ k. list_any (declares_at own W k) ids) first now
   follows_all W first now ids i l h = λ k.
       sym (or_false (sorted.contains key_cmp now k)) ∙ ap (λ (ns : List ℕ). sorted.contains key_cmp now k || list_any (declares_at own W k) ns) (sym (drop_all i ids l)) ∙ h k
 
@@ -93,7 +93,7 @@ module _ (own : ClassFacts → Key → Option Member) where
         sides false false c d = refl
 
     pub ahead_more : (m n a : ℕ) (next up : Option ℕ) (c : ClassFacts) (ids : List ℕ) (before half now : sorted.BTreeSet Key) → m ≡ suc n → next ≡ Some a → Some c ≡ find_class W (name_at W a) → AreAbove W (name_at W a) ids
-        → Adds (λ k. is_some (own c k)) before half → Adds (λ k. list_any (declares_at own W k) ids) half now → up ≡ superclass_of W (name_at W a) → IsAhead W x m next before → IsAhead W x n up now
+        → Collects (λ k. is_some (own c k)) before half → Collects (λ k. list_any (declares_at own W k) ids) half now → up ≡ superclass_of W (name_at W a) → IsAhead W x m next before → IsAhead W x n up now
     ahead_more m n a next up c ids before half now e q f above h j u i = λ k.
         ap (λ b. b || declared_up W k n up) (j k ∙ ap (λ b. b || list_any (declares_at own W k) ids) (h k))
         ∙ ap (λ b. ((sorted.contains key_cmp before k || is_some (own c k)) || b) || declared_up W k n up) (sym (any_reached W (λ d. is_some (own d k)) (name_at W a) c (sym f) ids above))

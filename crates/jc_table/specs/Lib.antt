@@ -2,12 +2,3 @@ pub mod Tables
 pub mod TableFields
 pub mod RowKeys
 pub mod steps
-pub use Rattle.jc_index.specs.Ids
-pub use Rattle.jc_index.specs.Root
-pub use Rattle.jc_index.specs.Sides
-pub use Rattle.jc_index.specs.Mentioned
-pub use Rattle.jc_index.specs.Above
-pub use Rattle.jc_index.specs.Lookups
-pub use Rattle.jc_index.specs.Kinds
-pub use Rattle.jc_rows.specs.Keys
-pub use Rattle.jc_rows.specs.Rows

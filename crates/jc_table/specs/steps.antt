@@ -1,2 +1,1 @@
 pub mod Collecting
-pub use Rattle.jc_index.specs.steps.Walking

@@ -8,7 +8,7 @@ ghost use Rattle.jc_facts.specs.Exactly.{HasExactly};
 ghost use Rattle.jc_worlds.specs.Hierarchy.{above};
 ghost use Rattle.jc_index.specs.Ids.{name_at};
 ghost use Rattle.jc_index.specs.Kinds.{own_of, declare_of};
-ghost use Rattle.jc_table.specs.steps.Collecting.{Adds, declares_at, HasKeys};
+ghost use Rattle.jc_table.specs.steps.Collecting.{Collects, declares_at, HasKeys};
 
 use crate::table::Table;
 use jc_facts::class_facts::ClassFacts;
@@ -25,7 +25,7 @@ fn add_class<'a>(
     class: &'a ClassFacts,
     kind: MemberKind,
 ) -> Result<(), AllocError>
-    ensures { IfOk result (λ _. Adds (λ k. is_some (own_of kind class.now k)) keys.old keys.new) }
+    ensures { IfOk result (λ _. Collects (λ k. is_some (own_of kind class.now k)) keys.old keys.new) }
 {
     for member in members(class, kind) {
         keys.insert(KeyRef::of_member(member))?;
@@ -41,7 +41,7 @@ fn add_all<'a>(
     kind: MemberKind,
 ) -> Result<(), AllocError>
     requires { All (λ id. id < size table.now) ids.now }
-    ensures { IfOk result (λ _. Adds (λ k. list_any (declares_at (own_of kind) table.now k) ids.now) keys.old keys.new) }
+    ensures { IfOk result (λ _. Collects (λ k. list_any (declares_at (own_of kind) table.now k) ids.now) keys.old keys.new) }
 {
     for id in ids {
         add_class(keys, table.facts(*id), kind)?;

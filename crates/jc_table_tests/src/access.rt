@@ -3,7 +3,7 @@ use crate::sides::{INTERFACE, OBJECT, PLAIN, Row, class_of, modular, name, table
 use jc_access::access::{Seat, accessible, class_access};
 use jc_access::assigning::assignable;
 use jc_access::protection::protected_ok;
-use jc_table::ids::Found;
+use jc_index::ids::Found;
 use jc_table::table::Table;
 use std::alloc::Global;
 use std::process::Abort;

@@ -2,7 +2,7 @@
 ghost use Rattle.std.specs.Prelude.{◌≡◌, ◌<◌, None};
 ghost use Rattle.jc_facts.specs.world.World.{size};
 ghost use Rattle.jc_facts.specs.world.Loading.{load_fault};
-ghost use Rattle.jc_table.specs.Ids.{name_at};
+ghost use Rattle.jc_index.specs.Ids.{name_at};
 
 use crate::sides::{INTERFACE, PLAIN, Row, key, loaded, table};
 use jc_facts::flags::is_interface;
@@ -10,9 +10,9 @@ use jc_facts::key::Key;
 use jc_field::find::find_field;
 use jc_field::plain::search_field;
 use jc_field::walk::walk_field;
+use jc_index::ids::ClassId;
 use jc_method::find::{find_interface_method, find_method};
 use jc_method::walk::{walk_interface_method, walk_method};
-use jc_table::ids::ClassId;
 use jc_table::table::Table;
 use std::alloc::Global;
 use std::process::Abort;

@@ -4,7 +4,7 @@ use jc_facts::key::Key;
 use jc_field::find::find_field;
 use jc_field::keys::field_keys;
 use jc_field::plain::search_field;
-use jc_table::ids::ClassId;
+use jc_index::ids::ClassId;
 use jc_table::table::Table;
 use std::alloc::Global;
 use std::process::Abort;

@@ -2,14 +2,14 @@
 ghost use Rattle.std.specs.Prelude.{◌≡◌, ◌<◌, None};
 ghost use Rattle.jc_facts.specs.world.World.{size};
 ghost use Rattle.jc_facts.specs.world.Loading.{load_fault};
-ghost use Rattle.jc_table.specs.Ids.{name_at};
+ghost use Rattle.jc_index.specs.Ids.{name_at};
 
 use crate::sides::{self, INTERFACE, PLAIN, key, loaded, table};
 use jc_facts::flags::is_interface;
 use jc_facts::key::Key;
+use jc_index::ids::{ClassId, Found};
 use jc_method::find::{find_in_chain, find_interface_method, find_method, inherits_instance};
 use jc_method::keys::method_keys;
-use jc_table::ids::{ClassId, Found};
 use jc_table::table::Table;
 use std::alloc::Global;
 use std::process::Abort;

@@ -1,8 +1,8 @@
 //! The rows of a class one of whose methods moved to its superclass, as the table of each release lends them.
 use crate::sides::{Declared, PLAIN, Row, key, table};
 use jc_facts::key::Key;
-use jc_table::ids::Found;
-use jc_table::row::RowItem;
+use jc_index::ids::Found;
+use jc_rows::row::RowItem;
 use jc_table::table::Table;
 use std::alloc::Global;
 use std::process::Abort;

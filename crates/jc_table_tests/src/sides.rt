@@ -4,14 +4,14 @@ ghost use Rattle.std.specs.List.{All};
 ghost use Rattle.jc_facts.specs.world.World.{differ_by_name, size};
 ghost use Rattle.jc_facts.specs.file.Valid.{IsValidClass};
 ghost use Rattle.jc_facts.specs.world.Loading.{load_fault};
-ghost use Rattle.jc_table.specs.Ids.{name_at};
+ghost use Rattle.jc_index.specs.Ids.{name_at};
 
 pub use crate::rows::{Declared, INTERFACE, OBJECT, PLAIN, ROOT, Row, class, classes};
 use jc_base::name::Name;
 use jc_facts::class_facts::ClassFacts;
 use jc_facts::key::Key;
-use jc_table::ids::ClassId;
-use jc_table::plain::{are_valid, names_differ};
+use jc_index::ids::ClassId;
+use jc_index::plain::{are_valid, names_differ};
 use jc_table::table::{Table, TableError};
 use std::alloc::Global;
 use std::process::Abort;

@@ -2,9 +2,9 @@
 use crate::sides::{INTERFACE, PLAIN, ROOT, Row, build, class_of, made, name, table};
 use jc_facts::class_facts::ClassFacts;
 use jc_facts::key_set::KeyRef;
-use jc_table::members::own_field;
-use jc_table::plain::find;
-use jc_table::root::{RootPart, root_fault};
+use jc_index::members::own_field;
+use jc_index::plain::find;
+use jc_index::root::{RootPart, root_fault};
 use jc_table::table::{Table, TableError};
 use std::alloc::Global;
 use std::process::Abort;

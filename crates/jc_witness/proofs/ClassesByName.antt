@@ -6,8 +6,8 @@ use Rattle.jc_facts.specs.world.World.{World, find_class}
 use Rattle.jc_facts.specs.world.Loading.{load_fault}
 use Rattle.jc_lemmas.proofs.Options.{none_from}
 use Rattle.jc_worlds.proofs.Loaded.{loads-found}
-use Rattle.jc_table.specs.Ids.{name_at, id_of}
-use Rattle.jc_table.proofs.Numbers.{id-find, id_of-Some}
+use Rattle.jc_index.specs.Ids.{name_at, id_of}
+use Rattle.jc_index.proofs.Numbers.{id-find, id_of-Some}
 
 pub number_name : (W : World) (x : Bytes) (n : ℕ) → id_of W x ≡ Some n → name_at W n ≡ x
 number_name W x n e = (id_of-Some W x n e).1

@@ -11,8 +11,8 @@ use Rattle.jc_lemmas.proofs.Bools.{neither_first, neither_last}
 use Rattle.jc_lemmas.proofs.Options.{none_from, cond-none}
 use Rattle.jc_facts.proofs.Options.{or_else-none}
 use Rattle.jc_index.specs.declared.root.RootPart.TheVariants as parts
-use Rattle.jc_table.specs.Root.{flags_are_wrong, declares_public_init, faulty_part, root_by, fault_of_root}
-use Rattle.jc_table.specs.Sides.{IsSide}
+use Rattle.jc_index.specs.Root.{flags_are_wrong, declares_public_init, faulty_part, root_by, fault_of_root}
+use Rattle.jc_index.specs.Sides.{IsSide}
 use Rattle.jc_complete.specs.Completeness.{IsOpenRoot, CanPlan}
 use Rattle.jc_bodies.specs.Files.{CanWrite}
 use Rattle.jc_sides.specs.SidesOf.{SidesOf}

@@ -10,7 +10,7 @@ use Rattle.jc_facts.specs.world.Loading.{load_fault}
 use Rattle.jc_promises.specs.rule.Bases.{is_class_usable}
 use Rattle.jc_promises.specs.rule.Exposed.{is_hidden, exposing_act}
 use Rattle.jc_promises.specs.plan.Planned.{acts_exposing}
-use Rattle.jc_table.specs.Ids.{id_of}
+use Rattle.jc_index.specs.Ids.{id_of}
 use Rattle.jc_witness.proofs.ClassesByName.{loaded_number}
 
 -- a hidden class has the act, if there is one

@@ -8,7 +8,7 @@ use Rattle.jc_facts.specs.Names.{Bytes, is_init_name}
 use Rattle.jc_facts.specs.world.Inheritance.{public_or_protected}
 use Rattle.jc_facts.specs.ByName.{lower}
 use Rattle.jc_promises.specs.plan.PlannedNames.{least_name, constructors}
-use Rattle.jc_table.proofs.NameSets.{less, irreflexive, neither}
+use Rattle.jc_index.proofs.NameSets.{less, irreflexive, neither}
 
 -- ---- of two and of three
 

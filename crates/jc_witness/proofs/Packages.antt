@@ -6,7 +6,7 @@ use Rattle.jc_facts.specs.Names.{Bytes}
 use Rattle.jc_facts.specs.world.World.{World, classes}
 use Rattle.jc_facts.specs.world.Mentioned.{all_mentions, mentioned}
 use Rattle.jc_promises.specs.plan.PlannedNames.{package_number, in_package, is_used, first_unused}
-use Rattle.jc_table.specs.Mentioned.{mentions_front}
+use Rattle.jc_index.specs.Mentioned.{mentions_front}
 use Rattle.jc_complete.proofs.PlanReady.{any_mentions}
 
 -- a name of one of the sides is in the package where one of that side begins with its front

@@ -1,7 +1,7 @@
 //! The package of planned clients.
 ghost use Rattle.std.specs.Prelude.{◌≡◌, ◌||◌, IfOk};
 ghost use Rattle.jc_facts.specs.world.Mentioned.{mentioned};
-ghost use Rattle.jc_table.specs.Mentioned.{mentions_front};
+ghost use Rattle.jc_index.specs.Mentioned.{mentions_front};
 ghost use Rattle.jc_promises.specs.plan.PlannedNames.{package_number, in_package, is_used, fresh_package};
 
 use jc_base::name::Name;

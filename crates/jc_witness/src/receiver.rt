@@ -5,8 +5,8 @@ ghost use Rattle.jc_facts.specs.Options.{some_and};
 ghost use Rattle.jc_facts.specs.client.Acts.{form_of};
 ghost use Rattle.jc_facts.specs.world.World.{size};
 ghost use Rattle.jc_promises.specs.plan.Planned.{found_by};
-ghost use Rattle.jc_table.specs.Ids.{name_at};
-ghost use Rattle.jc_table.specs.Sides.{IsSide};
+ghost use Rattle.jc_index.specs.Ids.{name_at};
+ghost use Rattle.jc_index.specs.Sides.{IsSide};
 ghost use Rattle.jc_witness.specs.Ground.{CanRefer};
 ghost use Rattle.jc_witness.specs.steps.Found.{IsFoundBy};
 
@@ -15,8 +15,8 @@ use jc_facts::act::Act;
 use jc_facts::flags::is_public;
 use jc_facts::key::Key;
 use jc_field::find::find_field;
+use jc_index::ids::{ClassId, Found};
 use jc_method::find::{find_interface_method, find_method};
-use jc_table::ids::{ClassId, Found};
 use jc_table::table::Table;
 
 // The member that the act finds by a reference to the class (JVMS 5.4.3.2 to 5.4.3.4).

@@ -4,8 +4,8 @@ ghost use Rattle.jc_promises.specs.Pairs.{AreOfOneRun};
 ghost use Rattle.jc_facts.specs.world.World.{size};
 
 use crate::releases::tables;
+use jc_index::ids::ClassId;
 use jc_sides::sides::Sides;
-use jc_table::ids::ClassId;
 use jc_table::table::Table;
 use jc_table_tests::rows::{PLAIN, ROOT, Row, classes};
 use std::alloc::Global;

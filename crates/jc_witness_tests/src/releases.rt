@@ -5,7 +5,7 @@ ghost use Rattle.jc_facts.specs.world.World.{OneModule, side};
 ghost use Rattle.jc_witness.specs.Ground.{HasShortSide};
 
 use jc_facts::class_facts::ClassFacts;
-use jc_table::plain::{are_valid, names_differ};
+use jc_index::plain::{are_valid, names_differ};
 use jc_table::table::Table;
 use jc_table_tests::rows::{ROOT, Row, classes};
 use jc_witness::short_names::have_short_names;

@@ -28,9 +28,10 @@ const MAX_ENTRIES: u32 = 1_000_000;
 ///
 /// Folders are followed, links to folders are passed over, and a link to anything else is a file,
 /// also one that leads nowhere. To read what doesn't lead to a regular file, as a FIFO, a socket, a
-/// device or nothing, is a fault, and it is never opened: what a path leads to is asked before, by the
-/// listing where this met only folders and regular files. What has the path of a class file with more
-/// bytes than `MAX_PATH` is a file, whatever it is, since the system takes no path so long.
+/// device or nothing, is a fault, and it isn't opened: what a path leads to is asked before, by the
+/// listing where this met only folders and regular files. What takes a file's place between the two
+/// may be opened. What has the path of a class file with more bytes than `MAX_PATH` is a file,
+/// whatever it is, since the system takes no path so long.
 ///
 /// A call on a root fails where the system fails, and a listing also where the root isn't a folder,
 /// where a folder is gone once it is listed, where a name isn't UTF-8, where there are more than

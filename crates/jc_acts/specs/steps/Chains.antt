@@ -3,7 +3,7 @@ use Rattle.std.specs.Prelude.{ℕ, Bool, false, cond, Option, None, Some}
 use Rattle.jc_facts.specs.Names.{Bytes, same}
 use Rattle.jc_facts.specs.Options.{some_and}
 use Rattle.jc_facts.specs.world.World.{World, find_class}
-use Rattle.jc_table.specs.Ids.{name_at, superclass_of}
+use Rattle.jc_index.specs.Ids.{name_at, superclass_of}
 
 -- there is a class of the number, and it has the name y
 abbrev pub has_name : World → Option ℕ → Bytes → Bool

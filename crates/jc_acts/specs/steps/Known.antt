@@ -7,7 +7,7 @@ use Rattle.jc_facts.specs.Options.{some_and}
 use Rattle.jc_facts.specs.world.World.{World, find_class, size}
 use Rattle.jc_facts.specs.world.Hierarchy.{each, with_interfaces}
 use Rattle.jc_facts.specs.world.Loading.{load_fault}
-use Rattle.jc_table.specs.Ids.{name_at}
+use Rattle.jc_index.specs.Ids.{name_at}
 use Rattle.jc_acts.specs.Touched.{passes_above}
 
 -- the name of the class x passes the test, or that of an interface that it names or that leads to

@@ -14,7 +14,7 @@ use Rattle.jc_facts.specs.client.Acts.{Form, form_of, is_put_act}
 use Rattle.jc_facts.specs.client.Outcome.{kind_fault}
 use Rattle.jc_facts.specs.world.Access.{is_member_open}
 use Rattle.jc_promises.specs.rule.OpenActs.{act_fault, where_open}
-use Rattle.jc_table.specs.Ids.{name_at}
+use Rattle.jc_index.specs.Ids.{name_at}
 use Rattle.jc_index.specs.declared.ids.Found.{Found}
 use Rattle.jc_sides.specs.SidesOf.{SidesOf}
 use Rattle.jc_acts.specs.declared.lookup.Looked.{Looked}

@@ -10,7 +10,7 @@ use Rattle.jc_facts.specs.world.Loading.{load_fault}
 use Rattle.jc_facts.specs.world.Assignment.{is_interface_of}
 use Rattle.jc_facts.specs.world.Search.{descend}
 use Rattle.jc_facts.specs.world.Lookup.{field_found, field_step}
-use Rattle.jc_table.specs.Ids.{name_at}
+use Rattle.jc_index.specs.Ids.{name_at}
 
 -- the class itself declares a field of the key
 abbrev pub declares_field : Key → ClassFacts → Bool

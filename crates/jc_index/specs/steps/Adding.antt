@@ -5,8 +5,8 @@ use Rattle.std.specs.Cmp.Lexicographic.{pointwise}
 use Rattle.jc_facts.specs.Names.{Bytes, is_name_among}
 
 -- there are now the names that there were before, and these
-abbrev pub Adds : List Bytes → List Bytes → List Bytes → Type 0
-Adds before now names = (x : Bytes) → is_name_among now x ≡ (is_name_among before x || is_name_among names x)
+abbrev pub AddsNames : List Bytes → List Bytes → List Bytes → Type 0
+AddsNames before now names = (x : Bytes) → is_name_among now x ≡ (is_name_among before x || is_name_among names x)
 
 -- the names, and this one at the end where a test finds none of them equal
 abbrev pub with_name : List Bytes → Bytes → List Bytes

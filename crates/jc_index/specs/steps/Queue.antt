@@ -20,7 +20,7 @@ missing zero queue = 0
 missing (suc n) queue = cond (is_in queue n) 0 1 + missing n queue
 
 -- these ids were added to the end of the queue where they were new
-pub record Adds (queue longer : List ℕ) (ids : List ℕ) : Type 0 where
+pub record Enqueues (queue longer : List ℕ) (ids : List ℕ) : Type 0 where
   pub keeps : (k : ℕ) → Has queue k → Has longer k
   pub has : All (Has longer) ids
   pub only : (p : ℕ → Bool) → ((k : ℕ) → Has queue k → p k ≡ true) → All (λ id. p id ≡ true) ids → (k : ℕ) → Has longer k → p k ≡ true

@@ -15,8 +15,8 @@ use Rattle.jc_facts.specs.world.Loading.{load_fault, fault_where}
 use Rattle.jc_facts.specs.world.Assignment.{passes_protected_check}
 use Rattle.jc_facts.specs.client.Acts.{form_of}
 use Rattle.jc_facts.specs.client.Outcome.{class_fault, class_step, look_up, use_fault, init_fault}
-use Rattle.jc_table.specs.Ids.{name_at}
-use Rattle.jc_table.specs.Lookups.{IsFound, member_of}
+use Rattle.jc_index.specs.Ids.{name_at}
+use Rattle.jc_index.specs.Lookups.{IsFound, member_of}
 use Rattle.jc_index.specs.declared.ids.Found.{Found}
 
 -- the class is the one of this number

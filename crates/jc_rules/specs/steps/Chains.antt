@@ -10,7 +10,7 @@ use Rattle.jc_facts.specs.Names.{Bytes}
 use Rattle.jc_facts.specs.world.World.{World, size}
 use Rattle.jc_sides.specs.Rules.{IsFinding, IsOf}
 use Rattle.jc_sides.specs.SidesOf.{SidesOf}
-use Rattle.jc_table.specs.Ids.{name_at}
+use Rattle.jc_index.specs.Ids.{name_at}
 
 -- the set has the numbers of the classes in the chain of x, and no other
 pub record HasChain (W : World) (x : Bytes) (chain : sorted.BTreeSet ℕ) : Type 0 where

@@ -12,7 +12,7 @@ use Rattle.jc_exposed.specs.declared.exposed.Exposed.{Exposed}
 use Rattle.jc_exposed.specs.Exposed.{AreExposed, AreWanted, is_wanted}
 use Rattle.jc_rules.specs.declared.losses.Losses.{Losses}
 use Rattle.jc_sides.specs.SidesOf.{SidesOf}
-use Rattle.jc_table.specs.Ids.{name_at, names}
+use Rattle.jc_index.specs.Ids.{name_at, names}
 
 -- the class is kept or hidden: it may take part in an assignment of clients
 abbrev pub may_take_part : SidesOf → Bytes → Bool

@@ -9,7 +9,7 @@ use Rattle.jc_promises.specs.rule.Selection.{first_kind}
 use Rattle.jc_facts.specs.world.Hierarchy.{chain}
 use Rattle.jc_facts.specs.world.World.{World}
 use Rattle.jc_sides.specs.SidesOf.{SidesOf}
-use Rattle.jc_table.specs.Ids.{name_at, id_of, superclass_of}
+use Rattle.jc_index.specs.Ids.{name_at, id_of, superclass_of}
 use Rattle.jc_select.specs.steps.Kinds.{kind_from}
 use Rattle.jc_select.specs.steps.Warned.{parts_differ}
 

@@ -11,7 +11,7 @@ use Rattle.jc_facts.specs.file.Valid.{has_key}
 use Rattle.jc_facts.specs.world.World.{World, size}
 use Rattle.jc_index.specs.steps.Choosing.{candidate_at}
 use Rattle.jc_sides.specs.SidesOf.{SidesOf}
-use Rattle.jc_table.specs.Ids.{name_at, id_of}
+use Rattle.jc_index.specs.Ids.{name_at, id_of}
 use Rattle.jc_select.specs.steps.Kinds.{kind_of, kind_from}
 
 -- what the class of this number itself has of the key

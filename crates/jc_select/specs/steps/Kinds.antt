@@ -4,7 +4,7 @@ use Rattle.jc_facts.specs.declared.key.Key.{Key}
 use Rattle.jc_facts.specs.Flags.{abstract_flag}
 use Rattle.jc_facts.specs.world.World.{World}
 use Rattle.jc_index.specs.declared.ids.Found.{Found}
-use Rattle.jc_table.specs.steps.Walking.{chain_from}
+use Rattle.jc_index.specs.steps.Walking.{chain_from}
 use Rattle.jc_facts.specs.declared.warning.ChainKind.{ChainKind}
 use Rattle.jc_facts.specs.declared.warning.ChainKind.TheVariants.{Nothing, Abstract, Concrete}
 use Rattle.jc_promises.specs.rule.Selection.{first_kind}

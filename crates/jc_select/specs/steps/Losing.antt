@@ -16,7 +16,7 @@ use Rattle.jc_facts.specs.world.Loading.{loads}
 use Rattle.jc_facts.specs.world.World.{World, size}
 use Rattle.jc_select.specs.declared.losing.Lost.{Lost}
 use Rattle.jc_sides.specs.SidesOf.{SidesOf}
-use Rattle.jc_table.specs.Ids.{name_at}
+use Rattle.jc_index.specs.Ids.{name_at}
 
 -- ---- a thing for each class
 

@@ -11,7 +11,7 @@ use Rattle.jc_facts.specs.Options.{some_and}
 use Rattle.jc_facts.specs.world.World.{World, size}
 use Rattle.jc_facts.specs.world.Hierarchy.{names_in}
 use Rattle.jc_index.specs.steps.Choosing.{own_at, candidate_at}
-use Rattle.jc_table.specs.Ids.{name_at, id_of}
+use Rattle.jc_index.specs.Ids.{name_at, id_of}
 use Rattle.jc_sides.specs.SidesOf.{SidesOf}
 use Rattle.jc_promises.specs.rule.Warnings.{is_below_other}
 

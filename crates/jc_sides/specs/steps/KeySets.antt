@@ -9,7 +9,7 @@ use Rattle.jc_facts.specs.Exactly.{Rises}
 use Rattle.jc_facts.specs.KeyOrder.{key_cmp}
 
 -- the list after has the keys before, and those that are listed
-pub record Adds (listed : Key → Bool) (before after : List Key) : Type 0 where
+pub record AddsKeys (listed : Key → Bool) (before after : List Key) : Type 0 where
   pub has : (q : Key) → has_key q after ≡ (has_key q before || listed q)
 
 -- one of the members passes, and has the key

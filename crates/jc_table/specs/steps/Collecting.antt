@@ -13,8 +13,8 @@ use Rattle.jc_worlds.specs.Hierarchy.{above}
 use Rattle.jc_index.specs.Ids.{name_at}
 
 -- the set has the keys that it had and those that pass the test
-abbrev pub Adds : (Key → Bool) → sorted.BTreeSet Key → sorted.BTreeSet Key → Type 0
-Adds test before now = (k : Key) → sorted.contains key_cmp now k ≡ (sorted.contains key_cmp before k || test k)
+abbrev pub Collects : (Key → Bool) → sorted.BTreeSet Key → sorted.BTreeSet Key → Type 0
+Collects test before now = (k : Key) → sorted.contains key_cmp now k ≡ (sorted.contains key_cmp before k || test k)
 
 -- the class of this number declares one of the key
 abbrev pub declares_at : (ClassFacts → Key → Option Member) → World → Key → ℕ → Bool

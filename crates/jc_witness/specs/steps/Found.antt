@@ -5,7 +5,7 @@ use Rattle.jc_facts.specs.Names.{Bytes}
 use Rattle.jc_facts.specs.client.Acts.{Form, FieldForm, MethodForm, InterfaceForm}
 use Rattle.jc_facts.specs.world.World.{World}
 use Rattle.jc_facts.specs.world.Lookup.{field_found, method_choices, interface_choices}
-use Rattle.jc_table.specs.Lookups.{IsAnswer, IsChoice}
+use Rattle.jc_index.specs.Lookups.{IsAnswer, IsChoice}
 use Rattle.jc_index.specs.declared.ids.Found.{Found}
 
 -- the lookup by this form of reference to the class c finds it, or nothing

@@ -1,6 +1,6 @@
 use Rattle.std.proofs.Common.{◌≡◌, sym, ◌∙◌, subst}
 use Rattle.jc_facts.specs.world.Access.{is_member_accessible}
-use Rattle.jc_table.specs.Ids.{name_at}
+use Rattle.jc_index.specs.Ids.{name_at}
 use Rattle.jc_access.specs.declared.access.Seat.{Seat}
 use Rattle.jc_access.specs.SeatAccess.{member_open}
 use Rattle.jc_access.specs.Speaking.{SpeaksFor}

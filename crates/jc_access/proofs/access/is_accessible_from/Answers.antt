@@ -1,6 +1,6 @@
 use Rattle.std.proofs.Common.{◌||◌, refl, sym, ◌∙◌, ap}
 use Rattle.jc_facts.specs.Names.{in_same_package}
-use Rattle.jc_table.specs.Ids.{name_at}
+use Rattle.jc_index.specs.Ids.{name_at}
 use Rattle.jc_access.proofs.Spoken.{class_inside}
 use Rattle.jc_access.proofs.access.is_accessible_from.Goals as goal
 

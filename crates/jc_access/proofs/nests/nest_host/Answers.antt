@@ -1,5 +1,5 @@
 use Rattle.std.proofs.Common.{◌∙◌, ap}
-use Rattle.jc_table.specs.Ids.{name_at}
+use Rattle.jc_index.specs.Ids.{name_at}
 use Rattle.jc_access.specs.steps.Nests.{takes_in}
 use Rattle.jc_access.proofs.Hosts.{host-taken, host-left, host-none}
 use Rattle.jc_access.proofs.nests.nest_host.Goals as goal

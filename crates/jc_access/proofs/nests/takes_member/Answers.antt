@@ -1,6 +1,6 @@
 use Rattle.std.proofs.Common.{◌∙◌, ap}
 use Rattle.jc_facts.specs.Names.{is_name_among, in_same_package}
-use Rattle.jc_table.specs.Ids.{id_of}
+use Rattle.jc_index.specs.Ids.{id_of}
 use Rattle.jc_access.proofs.Hosts.{takes-found, takes-none}
 use Rattle.jc_access.proofs.nests.takes_member.Goals as goal
 

@@ -1,6 +1,6 @@
 use Rattle.std.proofs.Common.{◌∙◌, ap}
 use Rattle.jc_facts.specs.world.Assignment.{is_assignable}
-use Rattle.jc_table.specs.Ids.{name_at}
+use Rattle.jc_index.specs.Ids.{name_at}
 use Rattle.jc_access.proofs.Spoken.{passes_unasked, passes_asked}
 use Rattle.jc_access.proofs.protection.protected_ok.Goals as goal
 

@@ -1,6 +1,6 @@
 use Rattle.std.proofs.Common.{◌≡◌, true, false, sym, ◌∙◌, ap, subst, refl, ◌&&◌}
 use Rattle.jc_facts.specs.world.Access.{is_member_open}
-use Rattle.jc_table.specs.Ids.{name_at}
+use Rattle.jc_index.specs.Ids.{name_at}
 use Rattle.jc_acts.specs.steps.LookedUp.{IsInside, member_of, as_usable, open_below}
 use Rattle.jc_acts.proofs.asked.is_open_below.Goals as goal
 

@@ -1,5 +1,5 @@
 use Rattle.std.proofs.Common.{sym, ◌∙◌, ap}
-use Rattle.jc_table.specs.Ids.{id_of, name_at}
+use Rattle.jc_index.specs.Ids.{id_of, name_at}
 use Rattle.jc_acts.proofs.Losses.{above_there, above_absent}
 use Rattle.jc_acts.proofs.chains.has_above.Goals as goal
 

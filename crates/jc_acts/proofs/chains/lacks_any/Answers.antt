@@ -1,7 +1,7 @@
 use Rattle.std.proofs.Common.{◌≡◌, ◌-◌, ◌+◌, ℕ, suc, Bool, not, None, refl, sym, ap, ◌∙◌, arith}
 use Rattle.jc_facts.specs.declared.class_facts.ClassFacts.{ClassFacts}
 use Rattle.jc_facts.specs.world.World.{size}
-use Rattle.jc_table.specs.Ids.{name_at}
+use Rattle.jc_index.specs.Ids.{name_at}
 use Rattle.jc_facts.specs.world.Hierarchy.{in_chain}
 use Rattle.jc_acts.proofs.Beside.{beside_starts, met_there, met_goes}
 use Rattle.jc_acts.proofs.Upwards.{any-from, any-here, any-above, any-out, any-end}

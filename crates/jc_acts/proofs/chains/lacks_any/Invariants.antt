@@ -1,7 +1,7 @@
 use Rattle.std.proofs.Common.{◌≡◌, ◌<◌, ◌-◌, not}
 use Rattle.std.specs.Prelude.{IfSome}
 use Rattle.jc_facts.specs.world.World.{size}
-use Rattle.jc_table.specs.Ids.{name_at}
+use Rattle.jc_index.specs.Ids.{name_at}
 use Rattle.std.specs.List.{list_any}
 use Rattle.jc_facts.specs.world.Hierarchy.{chain, in_chain}
 use Rattle.jc_acts.proofs.Beside.{IsBeside}

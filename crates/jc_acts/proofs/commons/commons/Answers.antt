@@ -4,7 +4,7 @@ use Rattle.std.proofs.lemmas.List.Elements.{All-contains, Contains-get_or}
 use Rattle.jc_facts.specs.Names.{Bytes}
 use Rattle.jc_facts.specs.world.World.{World, size}
 use Rattle.jc_facts.specs.world.Loading.{load_fault}
-use Rattle.jc_table.specs.Ids.{name_at}
+use Rattle.jc_index.specs.Ids.{name_at}
 use Rattle.jc_sides.specs.SharedOf.{SharedOf, IsShared, name_of}
 use Rattle.jc_acts.specs.steps.Commons.{AreAdded, Widens}
 use Rattle.jc_acts.proofs.Gathered.{AreDone, starts, goes, gathered}

@@ -3,7 +3,7 @@ use Rattle.std.specs.Prelude.{IfSome}
 use Rattle.std.proofs.lemmas.List.{get_or_read_under}
 use Rattle.jc_facts.specs.Names.{Bytes}
 use Rattle.jc_facts.specs.world.World.{World, size}
-use Rattle.jc_table.specs.Ids.{name_at}
+use Rattle.jc_index.specs.Ids.{name_at}
 use Rattle.jc_acts.specs.steps.Commons.{covers, kept_of, takes_in}
 use Rattle.jc_acts.proofs.Covering.{IsOnWay, starts, steps, ends, ends_at_top, ends_at_seat}
 use Rattle.jc_acts.proofs.commons.widen.Goals as goal

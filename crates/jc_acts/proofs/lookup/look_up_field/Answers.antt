@@ -1,7 +1,7 @@
 use Rattle.std.proofs.Common.{subst}
 use Rattle.jc_facts.specs.world.Lookup.{field_found}
-use Rattle.jc_table.specs.Ids.{name_at}
-use Rattle.jc_table.specs.Lookups.{IsAnswer}
+use Rattle.jc_index.specs.Ids.{name_at}
+use Rattle.jc_index.specs.Lookups.{IsAnswer}
 use Rattle.jc_acts.proofs.LookedUp.{field_member, field_fault}
 use Rattle.jc_acts.proofs.lookup.look_up_field.Goals as goal
 

@@ -4,8 +4,8 @@ use Rattle.jc_facts.specs.Names.{Bytes}
 use Rattle.jc_facts.specs.world.Hierarchy.{chain, in_chain}
 use Rattle.jc_facts.specs.world.Loading.{loads}
 use Rattle.jc_facts.specs.world.World.{find_class}
-use Rattle.jc_table.specs.Ids.{name_at, id_of}
-use Rattle.jc_table.proofs.Numbers.{find-None, id_of-Some}
+use Rattle.jc_index.specs.Ids.{name_at, id_of}
+use Rattle.jc_index.proofs.Numbers.{find-None, id_of-Some}
 use Rattle.jc_sides.specs.SidesFields.{worlds}
 use Rattle.jc_sides.specs.SidesOf.{SidesOf}
 use Rattle.jc_sides.proofs.Seen.{of_same_name}

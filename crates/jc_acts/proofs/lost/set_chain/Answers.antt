@@ -1,7 +1,7 @@
 use Rattle.std.proofs.Common.{◌≡◌, ◌<◌, ◌-◌, ◌+◌, suc, None, set, true, ap, subst, refl, ◌∙◌, arith}
 use Rattle.std.specs.Prelude.{IfSome}
 use Rattle.jc_facts.specs.world.World.{World, size}
-use Rattle.jc_table.specs.Ids.{name_at}
+use Rattle.jc_index.specs.Ids.{name_at}
 use Rattle.jc_acts.proofs.LostChains.{all_left}
 use Rattle.jc_acts.proofs.SetFlags.{starts, steps, ends, ends_at_top}
 use Rattle.jc_acts.proofs.lost.set_chain.Goals as goal

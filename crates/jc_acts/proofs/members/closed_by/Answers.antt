@@ -12,7 +12,7 @@ use Rattle.jc_acts.specs.steps.References.{acts_of}
 use Rattle.jc_acts.proofs.BothLooked.{none_found, by_looked}
 use Rattle.jc_sides.proofs.Seen.{of_old, of_new, loads_before, loads_after, number_before, number_after}
 use Rattle.jc_sides.proofs.BaseParts.{steady_parts}
-use Rattle.jc_table.specs.Ids.{name_at}
+use Rattle.jc_index.specs.Ids.{name_at}
 use Rattle.jc_acts.proofs.Firsts.{first_closed}
 use Rattle.jc_acts.proofs.members.closed_by.Goals as goal
 

@@ -1,5 +1,5 @@
 use Rattle.std.proofs.Common.{refl, sym, ◌∙◌}
-use Rattle.jc_table.specs.Ids.{name_at}
+use Rattle.jc_index.specs.Ids.{name_at}
 use Rattle.jc_acts.specs.steps.LookedUp.{member_of}
 use Rattle.jc_acts.proofs.UsedAt.{not_accessible, other_kind, final_put, open_use}
 use Rattle.jc_acts.proofs.open.use_fault.Goals as goal

@@ -2,7 +2,7 @@ use Rattle.std.proofs.Common.{◌≡◌, ◌<◌, sym, subst, ◌∙◌}
 use Rattle.jc_facts.specs.Names.{object_name}
 use Rattle.jc_facts.specs.world.World.{size}
 use Rattle.jc_facts.proofs.World.{find-name}
-use Rattle.jc_table.specs.Ids.{name_at}
+use Rattle.jc_index.specs.Ids.{name_at}
 use Rattle.jc_sides.specs.SidesOf.{SidesOf}
 use Rattle.jc_acts.proofs.seats.root.Goals as goal
 

@@ -1,7 +1,7 @@
 use Rattle.std.proofs.Common.{◌≡◌, ◌<◌, ◌-◌, ◌+◌, suc, None, sym, ◌∙◌, ap, subst, arith}
 use Rattle.std.specs.Prelude.{IfSome}
 use Rattle.jc_facts.specs.world.World.{World, size}
-use Rattle.jc_table.specs.Ids.{name_at}
+use Rattle.jc_index.specs.Ids.{name_at}
 use Rattle.jc_acts.specs.steps.Known.{known_at, IsKnown}
 use Rattle.jc_acts.proofs.SetAbove.{begins, ends, ends_at_top, goes_on}
 use Rattle.jc_acts.proofs.touched.answer_of.Goals as goal

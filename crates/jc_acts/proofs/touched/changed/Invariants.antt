@@ -1,5 +1,5 @@
 use Rattle.std.proofs.Common.{◌≡◌, map, take}
-use Rattle.jc_table.specs.Ids.{names}
+use Rattle.jc_index.specs.Ids.{names}
 use Rattle.jc_acts.specs.Touched.{is_changed}
 use Rattle.jc_acts.proofs.touched.changed.Given as goal
 

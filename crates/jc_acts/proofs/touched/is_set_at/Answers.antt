@@ -3,7 +3,7 @@ use Rattle.std.specs.List.{list_any}
 use Rattle.std.proofs.lemmas.Bool.{or_left}
 use Rattle.jc_facts.specs.Options.{some_and}
 use Rattle.jc_facts.specs.world.Hierarchy.{each, with_interfaces}
-use Rattle.jc_table.specs.Ids.{name_at}
+use Rattle.jc_index.specs.Ids.{name_at}
 use Rattle.jc_acts.specs.Touched.{flag_at}
 use Rattle.jc_acts.proofs.SetAbove.{at_number, flag_of, led_flags}
 use Rattle.jc_acts.proofs.touched.is_set_at.Goals as goal

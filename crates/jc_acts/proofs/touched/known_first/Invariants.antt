@@ -1,6 +1,6 @@
 use Rattle.std.proofs.Common.{◌≡◌, Bool, length, map, take}
 use Rattle.jc_facts.specs.Names.{Bytes}
-use Rattle.jc_table.specs.Ids.{names}
+use Rattle.jc_index.specs.Ids.{names}
 use Rattle.jc_acts.specs.Touched.{AreFlags}
 use Rattle.jc_acts.specs.steps.Known.{known_first}
 use Rattle.jc_acts.proofs.touched.known_first.Given as goal

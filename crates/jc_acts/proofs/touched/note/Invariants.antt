@@ -2,7 +2,7 @@ use Rattle.std.proofs.Common.{◌≡◌, ◌<◌, Bool, length}
 use Rattle.std.specs.Prelude.{IfSome}
 use Rattle.jc_facts.specs.Names.{Bytes}
 use Rattle.jc_facts.specs.world.World.{size}
-use Rattle.jc_table.specs.Ids.{name_at}
+use Rattle.jc_index.specs.Ids.{name_at}
 use Rattle.jc_acts.specs.Touched.{passes_above}
 use Rattle.jc_acts.specs.steps.Known.{AreKnown}
 use Rattle.jc_acts.proofs.SetAbove.{IsNoting}

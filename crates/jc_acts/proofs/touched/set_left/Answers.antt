@@ -3,7 +3,7 @@ use Rattle.std.specs.Prelude.{IfSome}
 use Rattle.jc_facts.specs.Names.{Bytes}
 use Rattle.jc_facts.specs.world.Hierarchy.{in_chain}
 use Rattle.jc_facts.specs.world.World.{World, size}
-use Rattle.jc_table.specs.Ids.{name_at}
+use Rattle.jc_index.specs.Ids.{name_at}
 use Rattle.jc_acts.proofs.Beside.{beside_starts, met_there, met_goes}
 use Rattle.jc_acts.proofs.SetFlags.{starts, steps, ends, ends_at_top, set_already}
 use Rattle.jc_acts.proofs.touched.set_left.Goals as goal

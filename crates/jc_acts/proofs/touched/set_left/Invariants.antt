@@ -2,7 +2,7 @@ use Rattle.std.proofs.Common.{◌<◌, ◌-◌, not}
 use Rattle.std.specs.Prelude.{IfSome}
 use Rattle.jc_facts.specs.world.Hierarchy.{in_chain}
 use Rattle.jc_facts.specs.world.World.{size}
-use Rattle.jc_table.specs.Ids.{name_at}
+use Rattle.jc_index.specs.Ids.{name_at}
 use Rattle.jc_acts.proofs.Beside.{IsBeside}
 use Rattle.jc_acts.proofs.SetFlags.{IsSetting}
 use Rattle.jc_acts.proofs.touched.set_left.Given as goal

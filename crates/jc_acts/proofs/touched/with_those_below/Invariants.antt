@@ -1,7 +1,7 @@
 use Rattle.std.proofs.Common.{◌≡◌, Bool, length, map, take}
 use Rattle.jc_facts.specs.Names.{Bytes}
 use Rattle.jc_facts.specs.world.World.{size}
-use Rattle.jc_table.specs.Ids.{names}
+use Rattle.jc_index.specs.Ids.{names}
 use Rattle.jc_acts.specs.Touched.{passes_above, AreFlags}
 use Rattle.jc_acts.specs.steps.Known.{AreKnown}
 use Rattle.jc_acts.proofs.touched.with_those_below.Given as goal

@@ -1,6 +1,6 @@
 use Rattle.std.proofs.Common.{◌==◌, refl, sym, ◌∙◌}
 use Rattle.jc_facts.specs.world.Access.{is_member_open}
-use Rattle.jc_table.specs.Ids.{name_at}
+use Rattle.jc_index.specs.Ids.{name_at}
 use Rattle.jc_acts.specs.steps.LookedUp.{member_of}
 use Rattle.jc_exposed.proofs.SeatStarts.{both}
 use Rattle.jc_exposed.proofs.exposed.is_by.Goals as goal

@@ -1,7 +1,7 @@
 use Rattle.std.proofs.Common.{◌<◌, [], arith, length, refl, ◌∙◌, ap, subst, sym}
 use Rattle.std.proofs.lemmas.List.{get_or_read_under}
 use Rattle.std.specs.List.{list_any, All}
-use Rattle.jc_table.specs.Ids.{name_at}
+use Rattle.jc_index.specs.Ids.{name_at}
 use Rattle.jc_exposed.specs.Exposures.{IsExposureIn, exposes_to}
 use Rattle.jc_exposed.specs.Rows.{row_at}
 use Rattle.jc_exposed.proofs.exposed.is_in.Goals as goal

@@ -1,6 +1,6 @@
 use Rattle.std.proofs.Common.{take}
 use Rattle.std.specs.List.{list_any}
-use Rattle.jc_table.specs.Ids.{names}
+use Rattle.jc_index.specs.Ids.{names}
 use Rattle.jc_exposed.specs.Exposing.{is_wanted, opens_usable}
 use Rattle.jc_exposed.specs.Rows.{AreRows}
 use Rattle.jc_exposed.proofs.exposing.found.Given as goal

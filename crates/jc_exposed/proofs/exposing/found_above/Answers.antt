@@ -1,6 +1,6 @@
 use Rattle.std.proofs.Common.{◌≡◌, ◌-◌, ◌+◌, suc, None, arith}
 use Rattle.jc_facts.specs.world.World.{size}
-use Rattle.jc_table.specs.Ids.{name_at}
+use Rattle.jc_index.specs.Ids.{name_at}
 use Rattle.jc_exposed.specs.Exposing.{is_wanted, opens_of}
 use Rattle.jc_exposed.proofs.AboveFinds.{ahead_starts, ahead_more, ahead_top, ahead_out}
 use Rattle.jc_exposed.proofs.exposing.found_above.Goals as goal

@@ -1,7 +1,7 @@
 use Rattle.std.proofs.Common.{◌<◌, ◌-◌}
 use Rattle.std.specs.Prelude.{IfSome}
 use Rattle.jc_facts.specs.world.World.{size}
-use Rattle.jc_table.specs.Ids.{name_at}
+use Rattle.jc_index.specs.Ids.{name_at}
 use Rattle.jc_exposed.specs.Exposing.{is_wanted, opens_of}
 use Rattle.jc_exposed.proofs.AboveFinds.{IsAhead}
 use Rattle.jc_exposed.proofs.exposing.found_above.Given as goal

@@ -2,7 +2,7 @@ use Rattle.std.proofs.lemmas.List.{get_or_read_under}
 use Rattle.std.proofs.Common.{◌<◌, [], ◌∙◌, sym, ap, subst}
 use Rattle.jc_facts.specs.world.World.{size}
 use Rattle.jc_exposed.specs.Exposing.{row_at}
-use Rattle.jc_table.specs.Ids.{name_at}
+use Rattle.jc_index.specs.Ids.{name_at}
 use Rattle.jc_exposed.proofs.FoundMembers.{row_finds}
 use Rattle.jc_exposed.proofs.exposing.found_at.Goals as goal
 

@@ -1,4 +1,4 @@
-use Rattle.jc_table.specs.Ids.{name_at}
+use Rattle.jc_index.specs.Ids.{name_at}
 use Rattle.jc_exposed.specs.Exposing.{is_wanted, opens_at}
 use Rattle.jc_exposed.proofs.FoundMembers.{finds_start, finds_next, finds_end}
 use Rattle.jc_exposed.proofs.exposing.found_at_all.Goals as goal

@@ -1,6 +1,6 @@
 use Rattle.std.proofs.Common.{take}
 use Rattle.std.specs.List.{list_any}
-use Rattle.jc_table.specs.Ids.{name_at}
+use Rattle.jc_index.specs.Ids.{name_at}
 use Rattle.jc_exposed.specs.Exposing.{Finds, is_wanted, opens_at}
 use Rattle.jc_exposed.proofs.exposing.found_at_all.Given as goal
 

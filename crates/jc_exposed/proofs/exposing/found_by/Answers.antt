@@ -1,6 +1,6 @@
 use Rattle.std.proofs.Common.{refl, subst}
 use Rattle.jc_facts.specs.client.Forms.{form_view}
-use Rattle.jc_table.specs.Ids.{name_at}
+use Rattle.jc_index.specs.Ids.{name_at}
 use Rattle.jc_acts.specs.steps.LookedUp.{LooksUp, IsInside}
 use Rattle.jc_exposed.proofs.FoundMembers.{found_one, found_none}
 use Rattle.jc_exposed.proofs.exposing.found_by.Goals as goal

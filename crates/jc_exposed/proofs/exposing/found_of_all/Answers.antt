@@ -1,4 +1,4 @@
-use Rattle.jc_table.specs.Ids.{name_at}
+use Rattle.jc_index.specs.Ids.{name_at}
 use Rattle.jc_exposed.specs.declared.namings.Naming.{Naming}
 use Rattle.std.proofs.Common.{◌==◌, ◌&&◌}
 use Rattle.jc_exposed.specs.Exposing.{every, opens}

@@ -1,5 +1,5 @@
 use Rattle.std.proofs.Common.{take}
-use Rattle.jc_table.specs.Ids.{name_at}
+use Rattle.jc_index.specs.Ids.{name_at}
 use Rattle.jc_exposed.specs.Exposing.{Finds, every, opens_one}
 use Rattle.jc_exposed.proofs.exposing.found_of_all.Given as goal
 

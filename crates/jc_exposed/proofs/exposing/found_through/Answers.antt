@@ -1,5 +1,5 @@
 use Rattle.std.proofs.Common.{◌∙◌, sym}
-use Rattle.jc_table.specs.Ids.{name_at}
+use Rattle.jc_index.specs.Ids.{name_at}
 use Rattle.jc_sound.proofs.Standing.{usable_parts}
 use Rattle.jc_exposed.proofs.exposing.found_through.Goals as goal
 

@@ -4,7 +4,7 @@ use Rattle.jc_facts.specs.KeyOrder.{key_cmp}
 use Rattle.jc_facts.specs.declared.member_act.MemberAct.{MemberAct}
 use Rattle.jc_promises.specs.rule.Exposed.{first_by}
 use Rattle.jc_facts.proofs.World.{found_name}
-use Rattle.jc_table.specs.Ids.{name_at}
+use Rattle.jc_index.specs.Ids.{name_at}
 use Rattle.jc_exposed.proofs.FirstThrough.{first_loads, has_key, has_act, act_is}
 use Rattle.jc_exposed.proofs.first_act.act_through.Goals as goal
 

@@ -1,5 +1,5 @@
 use Rattle.std.proofs.Common.{subst}
-use Rattle.jc_table.specs.Ids.{name_at}
+use Rattle.jc_index.specs.Ids.{name_at}
 use Rattle.jc_exposed.specs.Exposing.{opens_usable}
 use Rattle.jc_exposed.specs.FirstAct.{IsFirstThrough}
 use Rattle.jc_exposed.proofs.FirstThrough.{no_act}

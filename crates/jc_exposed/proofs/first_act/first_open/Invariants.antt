@@ -1,6 +1,6 @@
 use Rattle.std.proofs.Common.{◌≡◌, drop}
 use Rattle.std.specs.List.{find as first_where}
-use Rattle.jc_table.specs.Ids.{name_at}
+use Rattle.jc_index.specs.Ids.{name_at}
 use Rattle.jc_exposed.specs.FirstAct.{is_act_open}
 use Rattle.jc_exposed.proofs.first_act.first_open.Given as goal
 

@@ -2,7 +2,7 @@ use Rattle.std.proofs.Common.{◌≡◌, ◌<◌, ◌≤◌, Bool, arith, ap, na
 use Rattle.jc_facts.specs.Names.{Bytes}
 use Rattle.jc_facts.specs.world.World.{size}
 use Rattle.jc_facts.proofs.Options.{some_where-is}
-use Rattle.jc_table.specs.Ids.{name_at}
+use Rattle.jc_index.specs.Ids.{name_at}
 use Rattle.jc_exposed.specs.Exposing.{opens_usable}
 use Rattle.jc_exposed.proofs.FirstThrough.{none_more, none_at_all, first_here}
 use Rattle.jc_exposed.proofs.first_act.first_through.Goals as goal

@@ -1,6 +1,6 @@
 use Rattle.std.proofs.Common.{◌≡◌, take, false}
 use Rattle.std.specs.List.{list_any}
-use Rattle.jc_table.specs.Ids.{name_at, names}
+use Rattle.jc_index.specs.Ids.{name_at, names}
 use Rattle.jc_exposed.specs.Exposing.{opens_usable}
 use Rattle.jc_exposed.proofs.first_act.first_through.Given as goal
 

@@ -1,5 +1,5 @@
 use Rattle.std.proofs.Common.{◌==◌, ◌∙◌, sym}
-use Rattle.jc_table.specs.Ids.{name_at}
+use Rattle.jc_index.specs.Ids.{name_at}
 use Rattle.jc_exposed.specs.Exposing.{opens}
 use Rattle.jc_exposed.proofs.FirstThrough.{collects_one, collects_not}
 use Rattle.jc_exposed.proofs.first_act.if_open.Goals as goal

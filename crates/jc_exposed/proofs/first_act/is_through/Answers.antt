@@ -1,6 +1,6 @@
 use Rattle.std.proofs.Common.{sym, ap, subst, ◌∙◌}
 use Rattle.std.specs.List.{All, list_any}
-use Rattle.jc_table.specs.Ids.{name_at}
+use Rattle.jc_index.specs.Ids.{name_at}
 use Rattle.jc_exposed.specs.Exposures.{IsExposureIn, exposes_to}
 use Rattle.jc_exposed.proofs.first_act.is_through.Goals as goal
 

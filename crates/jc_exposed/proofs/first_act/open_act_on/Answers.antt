@@ -1,5 +1,5 @@
 use Rattle.std.proofs.Common.{◌∙◌, sym}
-use Rattle.jc_table.specs.Ids.{name_at}
+use Rattle.jc_index.specs.Ids.{name_at}
 use Rattle.jc_exposed.proofs.FirstThrough.{act_on_field, act_on_method, no_act_on}
 use Rattle.jc_exposed.proofs.first_act.open_act_on.Goals as goal
 

@@ -1,7 +1,7 @@
 use Rattle.std.proofs.Common.{[], ◌<◌, ◌∙◌, ap, subst, sym}
 use Rattle.std.proofs.lemmas.List.{get_or_read_under}
 use Rattle.jc_facts.specs.world.World.{size}
-use Rattle.jc_table.specs.Ids.{name_at}
+use Rattle.jc_index.specs.Ids.{name_at}
 use Rattle.jc_exposed.specs.Exposing.{row_at}
 use Rattle.jc_exposed.proofs.FirstThrough.{collects_row}
 use Rattle.jc_exposed.proofs.first_act.open_at.Goals as goal

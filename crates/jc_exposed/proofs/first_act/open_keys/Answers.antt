@@ -2,7 +2,7 @@ use Rattle.std.proofs.Common.{◌≡◌, ◌<◌, ◌≤◌, [], false, refl, ar
 use Rattle.jc_facts.specs.world.World.{size}
 use Rattle.jc_facts.proofs.Options.{some_where-is}
 use Rattle.jc_index.proofs.Numbers.{names-length}
-use Rattle.jc_table.specs.Ids.{name_at, names}
+use Rattle.jc_index.specs.Ids.{name_at, names}
 use Rattle.jc_exposed.specs.FirstAct.{has_open_at}
 use Rattle.jc_exposed.proofs.FirstThrough.{collects_none, collects_next, collects_end}
 use Rattle.jc_exposed.proofs.first_act.open_keys.Goals as goal

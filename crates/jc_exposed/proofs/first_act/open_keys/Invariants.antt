@@ -1,6 +1,6 @@
 use Rattle.std.proofs.Common.{take}
 use Rattle.std.specs.List.{list_any}
-use Rattle.jc_table.specs.Ids.{name_at, names}
+use Rattle.jc_index.specs.Ids.{name_at, names}
 use Rattle.jc_exposed.specs.FirstAct.{Collects, has_open_at}
 use Rattle.jc_exposed.proofs.first_act.open_keys.Given as goal
 

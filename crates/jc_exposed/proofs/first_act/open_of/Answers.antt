@@ -1,6 +1,6 @@
 use Rattle.std.proofs.Common.{[], false, refl, ◌==◌, ◌&&◌}
 use Rattle.std.specs.List.{cons_option}
-use Rattle.jc_table.specs.Ids.{name_at}
+use Rattle.jc_index.specs.Ids.{name_at}
 use Rattle.jc_exposed.specs.FirstAct.{has_open}
 use Rattle.jc_exposed.specs.declared.namings.Naming.{Naming}
 use Rattle.jc_exposed.proofs.FirstThrough.{collects_none, collects_next, collects_end}

@@ -3,7 +3,7 @@ use Rattle.jc_acts.specs.Touched.{flag_at}
 use Rattle.jc_desc.specs.Classes.{descriptor_names}
 use Rattle.jc_facts.specs.declared.class_facts.Member.{Member}
 use Rattle.jc_facts.specs.Names.{key_of}
-use Rattle.jc_table.specs.Ids.{name_at}
+use Rattle.jc_index.specs.Ids.{name_at}
 use Rattle.jc_exposed.proofs.GivenNamings.{gives_none, gives_next, gives_end}
 use Rattle.jc_exposed.proofs.own.own_of_members.Goals as goal
 

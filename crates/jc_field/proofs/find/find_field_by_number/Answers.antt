@@ -1,5 +1,5 @@
 use Rattle.std.proofs.Common.{sym}
-use Rattle.jc_table.specs.Ids.{name_at}
+use Rattle.jc_index.specs.Ids.{name_at}
 use Rattle.jc_field.proofs.Rows.{in_row}
 use Rattle.jc_field.proofs.find.find_field_by_number.Goals as goal
 

@@ -1,5 +1,5 @@
 use Rattle.std.proofs.lemmas.Result.{IfOk-weaker}
-use Rattle.jc_table.specs.Ids.{name_at}
+use Rattle.jc_index.specs.Ids.{name_at}
 use Rattle.jc_field.proofs.Rows.{found_above}
 use Rattle.jc_field.proofs.keys.found_field_keys.Goals as goal
 

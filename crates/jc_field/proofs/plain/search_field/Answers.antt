@@ -1,8 +1,8 @@
 use Rattle.std.proofs.Common.{sym, ◌∙◌, subst}
 use Rattle.jc_facts.specs.declared.key.Key.{Key}
 use Rattle.jc_facts.proofs.World.{find-name}
-use Rattle.jc_table.specs.Ids.{name_at}
-use Rattle.jc_table.specs.Lookups.{IsAnswer}
+use Rattle.jc_index.specs.Ids.{name_at}
+use Rattle.jc_index.specs.Lookups.{IsAnswer}
 use Rattle.jc_field.specs.steps.Fields.{found_to}
 use Rattle.jc_field.proofs.Levels.{to-all}
 use Rattle.jc_field.proofs.plain.search_field.Goals as goal

@@ -1,5 +1,5 @@
 use Rattle.std.proofs.Common.{arith, sym, ◌∙◌, ap}
-use Rattle.jc_table.specs.Ids.{id_of}
+use Rattle.jc_index.specs.Ids.{id_of}
 use Rattle.jc_field.proofs.Steps.{ready_there, ready_at, given_here, given_next, given_end}
 use Rattle.jc_field.proofs.walk.first_of.Goals as goal
 

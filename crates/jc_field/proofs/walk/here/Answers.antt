@@ -1,6 +1,6 @@
 use Rattle.jc_field.specs.steps.Fields.{own_found, interfaces_found}
-use Rattle.jc_table.specs.Ids.{name_at}
-use Rattle.jc_table.proofs.Lookups.{answer_or, answer_else}
+use Rattle.jc_index.specs.Ids.{name_at}
+use Rattle.jc_index.proofs.Lookups.{answer_or, answer_else}
 use Rattle.jc_field.proofs.walk.here.Goals as goal
 
 pub returns-in-Some : goal.returns-in-Some

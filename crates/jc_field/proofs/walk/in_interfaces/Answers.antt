@@ -1,8 +1,8 @@
 use Rattle.std.proofs.Common.{◌≡◌, ◌-◌, ◌+◌, suc, None, Some, arith, sym, ◌∙◌, subst, refl}
 use Rattle.jc_facts.specs.world.World.{World, size}
 use Rattle.jc_worlds.proofs.Loaded.{loads_from}
-use Rattle.jc_table.specs.Ids.{name_at}
-use Rattle.jc_table.specs.Lookups.{IsAnswer}
+use Rattle.jc_index.specs.Ids.{name_at}
+use Rattle.jc_index.specs.Lookups.{IsAnswer}
 use Rattle.jc_field.specs.steps.Fields.{interfaces_found}
 use Rattle.jc_field.proofs.Steps.{level_all, level_out, down_none, down_same, down_within, down_level, down_kind, own_gives, next_gives}
 use Rattle.jc_field.proofs.walk.in_interfaces.Goals as goal

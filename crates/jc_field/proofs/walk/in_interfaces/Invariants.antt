@@ -1,7 +1,7 @@
 use Rattle.std.proofs.Common.{◌≡◌, ◌<◌, ◌-◌, None}
 use Rattle.jc_facts.specs.world.World.{size}
 use Rattle.jc_facts.specs.world.Loading.{fault_at}
-use Rattle.jc_table.specs.Ids.{name_at}
+use Rattle.jc_index.specs.Ids.{name_at}
 use Rattle.jc_field.specs.steps.Fields.{interfaces_found}
 use Rattle.jc_field.proofs.walk.in_interfaces.Given as goal
 

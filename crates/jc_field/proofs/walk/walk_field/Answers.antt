@@ -2,8 +2,8 @@ use Rattle.std.proofs.Common.{◌≡◌, ◌-◌, ◌+◌, suc, None, Some, arit
 use Rattle.jc_facts.specs.world.World.{World, size}
 use Rattle.jc_facts.specs.world.Lookup.{field_found}
 use Rattle.jc_worlds.proofs.Loaded.{loads_from}
-use Rattle.jc_table.specs.Ids.{name_at}
-use Rattle.jc_table.specs.Lookups.{IsAnswer}
+use Rattle.jc_index.specs.Ids.{name_at}
+use Rattle.jc_index.specs.Lookups.{IsAnswer}
 use Rattle.jc_field.proofs.Steps.{level_all, level_out, here_gives, up_none, up_some, up_level}
 use Rattle.jc_field.proofs.walk.walk_field.Goals as goal
 

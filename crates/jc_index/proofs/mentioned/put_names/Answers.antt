@@ -1,6 +1,6 @@
 use Rattle.std.proofs.Common.{subst, ◌∷◌, [], sym, ◌∙◌}
 use Rattle.jc_facts.specs.Names.{Bytes}
-use Rattle.jc_index.specs.steps.Adding.{Adds}
+use Rattle.jc_index.specs.steps.Adding.{AddsNames}
 use Rattle.jc_index.proofs.Mentions.{adds_next, adds_found, adds_all}
 use Rattle.jc_index.proofs.mentioned.put_names.Goals as goal
 
@@ -10,7 +10,7 @@ loop-at-preserved-then-is_some c = adds_found c.args.set.now c.loop-at.set c.arg
 pub loop-at-preserved : goal.loop-at-preserved
 loop-at-preserved c =
     adds_next c.args.set.now c.loop-at.set c.put.new.self c.args.names.now c.loop-at.at c.index-names-at.result c.loop-at-test.true c.index-names-at.is c.loop-at.invariant
-    (subst (λ (x : Bytes). Adds c.loop-at.set c.put.new.self (x ∷ [])) c.in_ok-copy.ensures c.in_ok-put.ensures.adds)
+    (subst (λ (x : Bytes). AddsNames c.loop-at.set c.put.new.self (x ∷ [])) c.in_ok-copy.ensures c.in_ok-put.ensures.adds)
 
 pub returns : goal.returns
 returns c = adds_all c.args.set.now c.loop-at.set c.args.names.now c.loop-at.at c.loop-at-test.false c.loop-at.invariant

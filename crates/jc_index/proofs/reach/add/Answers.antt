@@ -1,6 +1,6 @@
 use Rattle.std.proofs.Common.{List, ℕ, take, ◌∙◌, subst}
 use Rattle.std.proofs.lemmas.List.{take_more, take_all}
-use Rattle.jc_index.specs.steps.Queue.{Adds}
+use Rattle.jc_index.specs.steps.Queue.{Enqueues}
 use Rattle.jc_index.proofs.Queues.{adds_more}
 use Rattle.jc_index.proofs.reach.add.Goals as goal
 
@@ -14,4 +14,4 @@ loop-id-preserved c = (
 
 pub returns-clause-adds : goal.returns-clause-adds
 returns-clause-adds c =
-    subst (λ (ids : List ℕ). Adds c.args.queue.now.items c.loop-id.queue.items ids) (take_all c.loop-id.id-index c.args.ids.now c.loop-id-test.false) c.loop-id.invariant.0
+    subst (λ (ids : List ℕ). Enqueues c.args.queue.now.items c.loop-id.queue.items ids) (take_all c.loop-id.id-index c.args.ids.now c.loop-id-test.false) c.loop-id.invariant.0

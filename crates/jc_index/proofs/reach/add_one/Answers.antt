@@ -1,5 +1,5 @@
 use Rattle.std.proofs.Common.{◌≡◌, ℕ, List, [], ◌∷◌, ◌++◌, false, length, set, sym, ◌∙◌, ap, subst, arith}
-use Rattle.jc_index.specs.steps.Queue.{is_in, ArePlaces, Adds}
+use Rattle.jc_index.specs.steps.Queue.{is_in, ArePlaces, Enqueues}
 use Rattle.jc_index.proofs.Queues.{adds_new, adds_old, more-places}
 use Rattle.jc_index.proofs.reach.add_one.Goals as goal
 
@@ -13,7 +13,7 @@ returns-then-is_queued-clause-adds c =
 pub returns-clause-adds : goal.returns-clause-adds
 returns-clause-adds c =
     let new : is_in c.args.queue.now.items c.args.id ≡ false = sym (c.is_queued.ensures ∙ ap (λ (q : List ℕ). is_in q c.args.id) c.as_slice.ensures.value) ∙ c.if-is_queued.false in
-    subst (λ (q : List ℕ). Adds c.args.queue.now.items q (c.args.id ∷ [])) (sym c.in_ok-push.ensures.items) (adds_new c.args.queue.now.items c.args.id new)
+    subst (λ (q : List ℕ). Enqueues c.args.queue.now.items q (c.args.id ∷ [])) (sym c.in_ok-push.ensures.items) (adds_new c.args.queue.now.items c.args.id new)
 
 pub returns-clause-places : goal.returns-clause-places
 returns-clause-places c =

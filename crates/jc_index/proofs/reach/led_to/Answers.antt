@@ -2,7 +2,7 @@ use Rattle.std.proofs.Common.{◌≡◌, ◌∙◌, ◌<◌, ℕ, List, [], leng
 use Rattle.std.specs.List.{All}
 use Rattle.std.proofs.lemmas.List.{get_or_default}
 use Rattle.jc_index.specs.steps.Reach.{next_of}
-use Rattle.jc_index.specs.steps.Queue.{Adds, ArePlaces}
+use Rattle.jc_index.specs.steps.Queue.{Enqueues, ArePlaces}
 use Rattle.jc_index.proofs.Queues.{Searching, no-places, starts, goes, smaller, ends, inside_edges, known-within, names_within}
 use Rattle.jc_index.proofs.reach.led_to.Goals as goal
 
@@ -34,8 +34,8 @@ loop-next-init c =
     let count : length c.add_known.new.queue.items ≡ c.add_known.new.queue.len = omega (arith, c.add_known.new.queue.ok.0) in (
       subst (λ n. Searching E c.args.start c.add.new.queue.items n) (count ∙ sym c.len-next.ensures)
           (starts E c.args.start c.args.known.now c.add_known.new.queue.items c.add.new.queue.items c.requires.known
-          (subst (λ (q : List ℕ). Adds q c.add_known.new.queue.items c.args.known.now) c.new-queue.ensures.items c.in_ok-add_known.ensures.adds)
-          (subst (λ (ids : List ℕ). Adds c.add_known.new.queue.items c.add.new.queue.items ids)
+          (subst (λ (q : List ℕ). Enqueues q c.add_known.new.queue.items c.args.known.now) c.new-queue.ensures.items c.in_ok-add_known.ensures.adds)
+          (subst (λ (ids : List ℕ). Enqueues c.add_known.new.queue.items c.add.new.queue.items ids)
           (named E c.args.start c.index-edges-start.result c.as_slice.result.now c.as_slice.ensures c.index-edges-start.is c.requires.start) c.in_ok-add.ensures.adds)),
       c.in_ok-add.ensures.places,
       c.add.ensures.count ∙ c.add_known.ensures.count ∙ c.requires.room,
@@ -62,9 +62,9 @@ add-requires-in-loop-next-clause-ids c =
 
 -- what was added is what the next of the queue names
 added : (edges : List (List ℕ)) (queue longer : List ℕ) (next id : ℕ) (ids lent : List ℕ) → next < length queue → id ≡ get_or queue next id → id < length edges
-    → ids ≡ get_or edges id ids → lent ≡ ids → Adds queue longer lent → Adds queue longer (next_of edges (get_or queue next 0))
+    → ids ≡ get_or edges id ids → lent ≡ ids → Enqueues queue longer lent → Enqueues queue longer (next_of edges (get_or queue next 0))
 added edges queue longer next id ids lent there at within is same a =
-    subst (λ (x : List ℕ). Adds queue longer x)
+    subst (λ (x : List ℕ). Enqueues queue longer x)
     (named edges id ids lent same is within ∙ ap (next_of edges) (sym (get_or_default queue next 0 id there ∙ sym at))) a
 
 pub loop-next-smaller : goal.loop-next-smaller

@@ -1,4 +1,4 @@
-use Rattle.jc_table.specs.Ids.{name_at}
+use Rattle.jc_index.specs.Ids.{name_at}
 use Rattle.jc_link.proofs.Named.{named_none, named_unloaded, named_closed, named_ok}
 use Rattle.jc_link.proofs.class_step.class_of.Goals as goal
 

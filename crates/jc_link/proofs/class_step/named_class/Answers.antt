@@ -1,7 +1,7 @@
 use Rattle.std.proofs.Common.{sym, ◌∙◌, ap, subst}
 use Rattle.std.specs.Prelude.{Ok, Err}
 use Rattle.jc_facts.specs.world.Types.{is_array_text}
-use Rattle.jc_table.specs.Ids.{name_at}
+use Rattle.jc_index.specs.Ids.{name_at}
 use Rattle.jc_link.specs.steps.ItemSteps.{IsNamed}
 use Rattle.jc_link.proofs.Named.{array_unnamed, array_named, class_unnamed, class_named}
 use Rattle.jc_link.proofs.class_step.named_class.Goals as goal

@@ -1,7 +1,7 @@
 use Rattle.std.proofs.Common.{refl, sym, ◌∙◌, ap}
 use Rattle.jc_facts.specs.world.World.{own_method_of}
 use Rattle.jc_facts.specs.client.Outcome.{init_key}
-use Rattle.jc_table.specs.Ids.{name_at}
+use Rattle.jc_index.specs.Ids.{name_at}
 use Rattle.jc_link.proofs.Inits.{init_kind, init_found, init_none}
 use Rattle.jc_link.proofs.creation.find_init.Goals as goal
 

@@ -1,5 +1,5 @@
 use Rattle.std.proofs.Common.{sym, ◌∙◌}
-use Rattle.jc_table.specs.Ids.{name_at}
+use Rattle.jc_index.specs.Ids.{name_at}
 use Rattle.jc_link.proofs.Gives.{init_unreached, init_unfound, init_found}
 use Rattle.jc_link.proofs.creation.init_error.Goals as goal
 

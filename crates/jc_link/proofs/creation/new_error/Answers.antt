@@ -1,5 +1,5 @@
 use Rattle.std.proofs.Common.{sym, ◌∙◌}
-use Rattle.jc_table.specs.Ids.{name_at}
+use Rattle.jc_index.specs.Ids.{name_at}
 use Rattle.jc_link.proofs.Gives.{new_unreached, new_uninstantiable, new_unfound, new_found}
 use Rattle.jc_link.proofs.creation.new_error.Goals as goal
 

@@ -1,5 +1,5 @@
 use Rattle.std.proofs.Common.{sym, ◌∙◌}
-use Rattle.jc_table.specs.Ids.{name_at}
+use Rattle.jc_index.specs.Ids.{name_at}
 use Rattle.jc_link.proofs.Gives.{access_unreached, access_unfound, access_used}
 use Rattle.jc_link.proofs.item.access_error.Goals as goal
 

@@ -5,7 +5,7 @@ use Rattle.jc_facts.specs.declared.class_facts.ClassFacts.{ClassFacts}
 use Rattle.jc_facts.specs.world.World.{differ_by_name, World, side}
 use Rattle.jc_facts.specs.client.Valid.{facts_of}
 use Rattle.jc_facts.specs.file.Valid.{IsValidClass}
-use Rattle.jc_table.specs.Sides.{overlap_of}
+use Rattle.jc_index.specs.Sides.{overlap_of}
 use Rattle.jc_table.specs.Tables.{HasCause}
 use Rattle.jc_link.specs.Refusals.{RefusesBy}
 use Rattle.std.specs.List.{list_all}

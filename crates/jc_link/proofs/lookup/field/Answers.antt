@@ -1,7 +1,7 @@
 use Rattle.std.proofs.Common.{subst}
 use Rattle.jc_facts.specs.world.Lookup.{field_found}
-use Rattle.jc_table.specs.Ids.{name_at}
-use Rattle.jc_table.specs.Lookups.{IsAnswer}
+use Rattle.jc_index.specs.Ids.{name_at}
+use Rattle.jc_index.specs.Lookups.{IsAnswer}
 use Rattle.jc_link.proofs.LookedUp.{field_member, field_none}
 use Rattle.jc_link.proofs.lookup.field.Goals as goal
 

@@ -4,9 +4,9 @@ use Rattle.jc_facts.specs.Flags.{interface_flag}
 use Rattle.jc_facts.specs.Options.{some_and}
 use Rattle.jc_facts.specs.world.Lookup.{method_choices}
 use Rattle.jc_facts.specs.world.Assignment.{is_interface_of}
-use Rattle.jc_table.specs.Ids.{name_at}
-use Rattle.jc_table.specs.Lookups.{IsChoice}
-use Rattle.jc_table.proofs.Sides.{classes_valid}
+use Rattle.jc_index.specs.Ids.{name_at}
+use Rattle.jc_index.specs.Lookups.{IsChoice}
+use Rattle.jc_index.proofs.Sides.{classes_valid}
 use Rattle.jc_link.proofs.LookedUp.{class_member, class_none, class_kind}
 use Rattle.jc_link.proofs.lookup.method.Goals as goal
 

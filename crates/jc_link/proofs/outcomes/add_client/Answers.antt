@@ -1,6 +1,6 @@
 use Rattle.std.proofs.Common.{◌++◌, ◌∙◌, ap, subst}
 use Rattle.std.specs.Prelude.{Err}
-use Rattle.jc_table.specs.Ids.{name_at}
+use Rattle.jc_index.specs.Ids.{name_at}
 use Rattle.jc_facts.specs.client.Linked.{item_outcomes}
 use Rattle.jc_link.specs.steps.ItemSteps.{IsAt, IsLoaded}
 use Rattle.jc_link.proofs.Client.{client_loads, client_fails}

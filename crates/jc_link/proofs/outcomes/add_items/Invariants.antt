@@ -1,7 +1,7 @@
 use Rattle.std.proofs.Common.{◌≡◌, ◌++◌}
 use Rattle.std.specs.Prelude.{IsTrue}
 use Rattle.std.specs.List.{list_all}
-use Rattle.jc_table.specs.Ids.{name_at}
+use Rattle.jc_index.specs.Ids.{name_at}
 use Rattle.jc_link.specs.steps.Asked.{names_no_clinit}
 use Rattle.jc_facts.specs.client.Linked.{item_outcomes}
 use Rattle.jc_link.proofs.outcomes.add_items.Given as goal

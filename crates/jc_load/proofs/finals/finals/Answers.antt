@@ -1,7 +1,7 @@
 use Rattle.std.proofs.Common.{◌≡◌, ◌-◌, ◌+◌, suc, None, sym, ◌∙◌, arith}
 use Rattle.jc_facts.specs.world.World.{size}
 use Rattle.jc_load.proofs.Upwards.{declared-here, declared-above, declared-out, declared-end}
-use Rattle.jc_table.proofs.Walking.{finals-from}
+use Rattle.jc_index.proofs.Walking.{finals-from}
 use Rattle.jc_load.proofs.finals.finals.Goals as goal
 
 pub loop-done-init : goal.loop-done-init

@@ -2,8 +2,8 @@ use Rattle.std.proofs.Common.{◌≡◌, ◌<◌, ◌-◌}
 use Rattle.std.specs.Prelude.{IfSome}
 use Rattle.jc_facts.specs.world.World.{size}
 use Rattle.jc_facts.specs.world.Inheritance.{is_final_in_chain}
-use Rattle.jc_table.specs.Ids.{name_at}
-use Rattle.jc_table.proofs.Walking.{declared_from}
+use Rattle.jc_index.specs.Ids.{name_at}
+use Rattle.jc_index.proofs.Walking.{declared_from}
 use Rattle.jc_load.proofs.finals.finals.Given as goal
 
 abbrev pub invariant-loop-done : goal.invariant-loop-done

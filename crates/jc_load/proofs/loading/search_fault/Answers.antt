@@ -1,7 +1,7 @@
 use Rattle.std.proofs.Common.{◌≡◌, sym, ◌∙◌, refl}
 use Rattle.jc_facts.specs.world.Loading.{load_fault}
 use Rattle.jc_facts.proofs.World.{find-name}
-use Rattle.jc_table.specs.Ids.{name_at}
+use Rattle.jc_index.specs.Ids.{name_at}
 use Rattle.jc_load.proofs.loading.search_fault.Goals as goal
 
 pub returns : goal.returns

@@ -4,7 +4,8 @@ use Rattle.jc_facts.specs.declared.link_error.LinkError.TheVariants.{NoClassDefF
 use Rattle.jc_facts.specs.world.World.{size}
 use Rattle.jc_loading.specs.declared.faults.State.TheVariants as states
 use Rattle.jc_index.proofs.Numbers.{id_of-Some, find-None}
-use Rattle.jc_loading.proofs.Entering.{absent, right_at, not-known}
+use Rattle.jc_worlds.proofs.Absent.{load_fault-absent}
+use Rattle.jc_loading.proofs.Entering.{right_at, not-known}
 use Rattle.jc_loading.proofs.faults.known_of.Goals as goal
 
 pub bounds : goal.bounds
@@ -13,7 +14,7 @@ bounds c =
     omega (arith, l, c.requires.right.count)
 
 pub returns-in-None-clause-says : goal.returns-in-None-clause-says
-returns-in-None-clause-says c = λ x e. absent c.args.index.now x (find-None c.args.index.now x (sym e ∙ c.in-None.is))
+returns-in-None-clause-says c = λ x e. load_fault-absent c.args.index.now x (find-None c.args.index.now x (sym e ∙ c.in-None.is))
 
 pub returns-in-None-clause-past : goal.returns-in-None-clause-past
 returns-in-None-clause-past c = λ x e q. absurd (let clash : Some NoClassDefFoundError ≡ None = q in cc)

@@ -3,8 +3,8 @@ use Rattle.std.specs.Prelude.{IfSome}
 use Rattle.jc_facts.specs.world.World.{size}
 use Rattle.jc_facts.specs.world.Hierarchy.{chain}
 use Rattle.jc_facts.specs.world.Lookup.{first_declared}
-use Rattle.jc_table.specs.Ids.{name_at}
-use Rattle.jc_table.specs.Lookups.{IsAnswer}
+use Rattle.jc_index.specs.Ids.{name_at}
+use Rattle.jc_index.specs.Lookups.{IsAnswer}
 use Rattle.jc_method.proofs.Chains.{first_starts, first_here, first_above, first_out, first_end, no_answer}
 use Rattle.jc_method.proofs.find.find_in_chain.Goals as goal
 

@@ -3,7 +3,7 @@ use Rattle.std.specs.Prelude.{IfSome}
 use Rattle.jc_facts.specs.world.World.{size}
 use Rattle.jc_facts.specs.world.Hierarchy.{chain}
 use Rattle.jc_facts.specs.world.Lookup.{first_declared}
-use Rattle.jc_table.specs.Ids.{name_at}
+use Rattle.jc_index.specs.Ids.{name_at}
 use Rattle.jc_method.proofs.Chains.{first_from}
 use Rattle.jc_method.proofs.find.find_in_chain.Given as goal
 

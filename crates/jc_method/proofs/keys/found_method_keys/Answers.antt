@@ -1,5 +1,5 @@
 use Rattle.std.proofs.lemmas.Result.{IfOk-weaker}
-use Rattle.jc_table.specs.Ids.{name_at}
+use Rattle.jc_index.specs.Ids.{name_at}
 use Rattle.jc_method.proofs.Rows.{found_above}
 use Rattle.jc_method.proofs.keys.found_method_keys.Goals as goal
 

@@ -2,11 +2,11 @@ use Rattle.std.proofs.Common.{sym, subst, Option}
 use Rattle.jc_facts.specs.Options.{and_then}
 use Rattle.jc_facts.specs.world.World.{find_class, declared_method}
 use Rattle.jc_facts.specs.world.Lookup.{public_method_of_object}
-use Rattle.jc_table.specs.Ids.{name_at}
-use Rattle.jc_table.specs.Lookups.{IsAnswer}
+use Rattle.jc_index.specs.Ids.{name_at}
+use Rattle.jc_index.specs.Lookups.{IsAnswer}
 use Rattle.jc_index.specs.declared.ids.Found.{Found}
 use Rattle.jc_method.proofs.Chains.{own_answer}
-use Rattle.jc_table.proofs.Lookups.{answer_or, answer_else}
+use Rattle.jc_index.proofs.Lookups.{answer_or, answer_else}
 use Rattle.jc_method.proofs.walk.own_or_object.Goals as goal
 
 pub returns-in-Some : goal.returns-in-Some

@@ -1,7 +1,7 @@
 use Rattle.jc_facts.specs.Options.{or_else, and_then}
 use Rattle.jc_facts.specs.world.World.{find_class, declared_method}
 use Rattle.jc_facts.specs.world.Lookup.{public_method_of_object, superinterface_choices, interface_choices}
-use Rattle.jc_table.specs.Ids.{name_at}
+use Rattle.jc_index.specs.Ids.{name_at}
 use Rattle.jc_index.proofs.Lookups.{choice_here, choice_next}
 use Rattle.jc_method.proofs.walk.walk_interface_method.Goals as goal
 

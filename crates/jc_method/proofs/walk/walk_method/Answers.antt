@@ -1,6 +1,6 @@
 use Rattle.jc_facts.specs.world.Hierarchy.{chain}
 use Rattle.jc_facts.specs.world.Lookup.{first_declared, superinterface_choices, method_choices}
-use Rattle.jc_table.specs.Ids.{name_at}
+use Rattle.jc_index.specs.Ids.{name_at}
 use Rattle.jc_index.proofs.Lookups.{choice_here, choice_next}
 use Rattle.jc_method.proofs.walk.walk_method.Goals as goal
 

@@ -1,7 +1,7 @@
 use Rattle.std.proofs.Common.{◌≡◌, drop}
 use Rattle.std.specs.List.{list_all}
 use Rattle.jc_promises.specs.rule.Exposed.{is_hidden}
-use Rattle.jc_table.specs.Ids.{name_at}
+use Rattle.jc_index.specs.Ids.{name_at}
 use Rattle.jc_rules.proofs.assigned.are_hidden.Given as goal
 
 abbrev pub invariant-loop-id : goal.invariant-loop-id

@@ -1,7 +1,7 @@
 use Rattle.std.proofs.Common.{◌≡◌, true, false, ◌∙◌}
 use Rattle.jc_facts.specs.Names.{Bytes}
 use Rattle.jc_promises.specs.rule.Bases.{is_kept}
-use Rattle.jc_table.specs.Ids.{name_at}
+use Rattle.jc_index.specs.Ids.{name_at}
 use Rattle.jc_sides.specs.SidesOf.{SidesOf}
 use Rattle.jc_rules.proofs.Assignments.{kept_some, kept_none}
 use Rattle.jc_rules.proofs.Assignments.{both_kept, second_hidden, first_hidden, both_hidden}

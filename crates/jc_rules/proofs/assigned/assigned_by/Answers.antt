@@ -1,7 +1,7 @@
 use Rattle.std.proofs.Common.{sym, ap, ◌∙◌}
 use Rattle.std.specs.List.{list_all}
 use Rattle.jc_promises.specs.rule.Exposed.{is_hidden}
-use Rattle.jc_table.specs.Ids.{name_at}
+use Rattle.jc_index.specs.Ids.{name_at}
 use Rattle.jc_sides.specs.SidesOf.{SidesOf}
 use Rattle.jc_rules.proofs.Assignments.{all_hidden, all_wanted, none_hidden, seat_of, no_seat_of}
 use Rattle.jc_rules.proofs.assigned.assigned_by.Goals as goal

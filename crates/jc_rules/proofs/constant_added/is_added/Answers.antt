@@ -5,7 +5,7 @@ use Rattle.jc_sides.specs.SharedOf.{name_of}
 use Rattle.jc_sides.specs.SidesFields.{worlds}
 use Rattle.jc_sides.proofs.BaseParts.{base_interface_parts}
 use Rattle.jc_sides.proofs.Seen.{of_old, of_new, loads_before, loads_after, number_before, number_after}
-use Rattle.jc_table.specs.Lookups.{IsAnswer}
+use Rattle.jc_index.specs.Lookups.{IsAnswer}
 use Rattle.jc_rules.proofs.ConstantAdded.{constant_then, constant_else}
 use Rattle.jc_rules.proofs.constant_added.is_added.Goals as goal
 

@@ -1,5 +1,5 @@
 use Rattle.std.proofs.Common.{sym, ◌∙◌}
-use Rattle.jc_table.specs.Ids.{name_at}
+use Rattle.jc_index.specs.Ids.{name_at}
 use Rattle.jc_rules.proofs.FinalMethods.{not_there, flags_say}
 use Rattle.jc_rules.proofs.final_methods.declares_final.Goals as goal
 

@@ -2,9 +2,9 @@ use Rattle.std.proofs.Common.{◌≡◌, ◌<◌, ◌-◌, ◌+◌, suc, None, s
 use Rattle.std.specs.Prelude.{IfSome}
 use Rattle.jc_facts.specs.world.Loading.{load_fault}
 use Rattle.jc_facts.specs.world.World.{size}
-use Rattle.jc_table.specs.Ids.{name_at}
+use Rattle.jc_index.specs.Ids.{name_at}
 use Rattle.jc_load.proofs.Upwards.{declared-out, declared-end}
-use Rattle.jc_table.proofs.Walking.{finals-from}
+use Rattle.jc_index.proofs.Walking.{finals-from}
 use Rattle.jc_rules.proofs.FinalMethods.{Loads, final_here, final_above, up_loads}
 use Rattle.jc_rules.proofs.final_methods.is_final_above.Goals as goal
 

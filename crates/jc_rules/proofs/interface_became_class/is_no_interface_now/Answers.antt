@@ -1,8 +1,8 @@
 use Rattle.std.proofs.Common.{◌≡◌, true, sym, ap, ◌∙◌}
 use Rattle.jc_facts.specs.Names.{Bytes}
 use Rattle.jc_facts.specs.world.Assignment.{is_interface_of}
-use Rattle.jc_table.specs.Ids.{name_at}
-use Rattle.jc_table.proofs.Numbers.{find-None}
+use Rattle.jc_index.specs.Ids.{name_at}
+use Rattle.jc_index.proofs.Numbers.{find-None}
 use Rattle.jc_sides.specs.SidesFields.{worlds}
 use Rattle.jc_sides.specs.SidesOf.{SidesOf}
 use Rattle.jc_sides.proofs.Seen.{of_same_name}

@@ -2,9 +2,9 @@ use Rattle.std.proofs.Common.{sym, subst, ◌∙◌}
 use Rattle.jc_facts.specs.world.Lookup.{interface_choices}
 use Rattle.jc_facts.specs.world.World.{World}
 use Rattle.jc_index.specs.steps.Choosing.{candidate_at, FindsAbove}
-use Rattle.jc_table.specs.Ids.{name_at}
-use Rattle.jc_table.specs.Lookups.{IsChoice}
-use Rattle.jc_table.proofs.Numbers.{class_at}
+use Rattle.jc_index.specs.Ids.{name_at}
+use Rattle.jc_index.specs.Lookups.{IsChoice}
+use Rattle.jc_index.proofs.Numbers.{class_at}
 use Rattle.jc_rules.proofs.InterfaceMethodLost.{inherits_none, inherits_found, inherits_over}
 use Rattle.jc_rules.proofs.interface_method_lost.inherits.Goals as goal
 

@@ -1,5 +1,5 @@
 use Rattle.std.proofs.Common.{◌≡◌, map, take}
-use Rattle.jc_table.specs.Ids.{names}
+use Rattle.jc_index.specs.Ids.{names}
 use Rattle.jc_rules.specs.steps.Losses.{loses}
 use Rattle.jc_rules.proofs.losses.losing.Given as goal
 

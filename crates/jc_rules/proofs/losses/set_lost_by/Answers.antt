@@ -2,7 +2,7 @@ use Rattle.std.proofs.Common.{◌≡◌, true, false, sym, ap, ◌∙◌}
 use Rattle.jc_acts.specs.Touched.{flag_at}
 use Rattle.jc_rules.specs.steps.Losses.{loses}
 use Rattle.jc_sides.specs.SidesOf.{SidesOf}
-use Rattle.jc_table.specs.Ids.{name_at}
+use Rattle.jc_index.specs.Ids.{name_at}
 use Rattle.jc_rules.proofs.LostFlags.{by_loser, by_other}
 use Rattle.jc_rules.proofs.losses.set_lost_by.Goals as goal
 

@@ -3,7 +3,7 @@ use Rattle.jc_acts.specs.Touched.{AreSet}
 use Rattle.jc_facts.specs.world.World.{size}
 use Rattle.jc_facts.proofs.Options.{some_where-is}
 use Rattle.jc_sides.specs.SidesOf.{SidesOf}
-use Rattle.jc_table.specs.Ids.{name_at}
+use Rattle.jc_index.specs.Ids.{name_at}
 use Rattle.jc_rules.proofs.LostFlags.{lost_by, lost_start, lost_next, lost_all}
 use Rattle.jc_rules.proofs.losses.set_lost_by_any.Goals as goal
 

@@ -3,7 +3,7 @@ use Rattle.jc_facts.specs.Names.{Bytes}
 use Rattle.jc_promises.specs.rule.Bases.{is_kept}
 use Rattle.jc_promises.specs.rule.Exposed.{is_hidden}
 use Rattle.jc_sides.specs.SidesOf.{SidesOf}
-use Rattle.jc_table.specs.Ids.{name_at}
+use Rattle.jc_index.specs.Ids.{name_at}
 use Rattle.jc_rules.proofs.Assignments.{kept_some, kept_none}
 use Rattle.jc_rules.proofs.losses.takes_part.Goals as goal
 

@@ -1,7 +1,7 @@
 use Rattle.std.proofs.Common.{sym, subst, ◌∙◌}
 use Rattle.jc_facts.specs.world.Lookup.{method_choices}
-use Rattle.jc_table.specs.Ids.{name_at}
-use Rattle.jc_table.specs.Lookups.{IsChoice}
+use Rattle.jc_index.specs.Ids.{name_at}
+use Rattle.jc_index.specs.Lookups.{IsChoice}
 use Rattle.jc_rules.proofs.NewlyFinal.{choice_passes, choice_none}
 use Rattle.jc_rules.proofs.newly_final.was_overridable.Goals as goal
 

@@ -2,7 +2,7 @@ use Rattle.std.proofs.Common.{take}
 use Rattle.jc_facts.proofs.Exactly.{OfNames}
 use Rattle.jc_facts.specs.Exactly.{HasExactly}
 use Rattle.jc_facts.specs.Orders.{note_order, noted_class}
-use Rattle.jc_table.specs.Ids.{names}
+use Rattle.jc_index.specs.Ids.{names}
 use Rattle.jc_rules.specs.steps.Notes.{IsConstantNote}
 use Rattle.jc_rules.proofs.note_constant.note_constant.Given as goal
 

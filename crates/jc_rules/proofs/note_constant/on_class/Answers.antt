@@ -5,7 +5,7 @@ use Rattle.jc_facts.specs.Orders.{note_order}
 use Rattle.jc_facts.specs.Exactly.{HasExactly}
 use Rattle.jc_facts.specs.world.World.{class_named}
 use Rattle.jc_sides.specs.SidesOf.{SidesOf}
-use Rattle.jc_table.specs.Ids.{name_at}
+use Rattle.jc_index.specs.Ids.{name_at}
 use Rattle.jc_rules.specs.steps.Notes.{is_in_both, OnConstants}
 use Rattle.jc_rules.proofs.NoteConstant.{both_kept, both_unkept, not_both, on_none}
 use Rattle.jc_rules.proofs.note_constant.on_class.Goals as goal

@@ -1,7 +1,7 @@
 use Rattle.std.proofs.Common.{sym, ◌∙◌}
 use Rattle.jc_facts.specs.Names.{Bytes}
 use Rattle.jc_facts.proofs.World.{found_name}
-use Rattle.jc_table.specs.Ids.{name_at}
+use Rattle.jc_index.specs.Ids.{name_at}
 use Rattle.jc_rules.proofs.NoteUnloadable.{loaded_note, made_note}
 use Rattle.jc_rules.proofs.note_unloadable.note_on.Goals as goal
 

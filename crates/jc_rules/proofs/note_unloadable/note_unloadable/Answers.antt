@@ -2,7 +2,7 @@ use Rattle.std.proofs.Common.{◌≡◌, ◌<◌, ◌≤◌, sym, ap, ◌∙◌,
 use Rattle.jc_facts.specs.world.World.{size}
 use Rattle.jc_facts.proofs.Options.{some_where-is}
 use Rattle.jc_sides.proofs.ByClass.{step}
-use Rattle.jc_table.specs.Ids.{name_at}
+use Rattle.jc_index.specs.Ids.{name_at}
 use Rattle.jc_rules.specs.steps.Notes.{unloadable}
 use Rattle.jc_rules.proofs.NoteUnloadable.{noted_all}
 use Rattle.jc_rules.proofs.note_unloadable.note_unloadable.Goals as goal

@@ -1,6 +1,6 @@
 use Rattle.std.proofs.Common.{◌≡◌, take}
 use Rattle.std.specs.List.{filter_map}
-use Rattle.jc_table.specs.Ids.{names}
+use Rattle.jc_index.specs.Ids.{names}
 use Rattle.jc_rules.specs.steps.Notes.{unloadable}
 use Rattle.jc_rules.proofs.note_unloadable.note_unloadable.Given as goal
 

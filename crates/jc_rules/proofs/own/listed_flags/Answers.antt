@@ -1,5 +1,5 @@
 use Rattle.std.proofs.Common.{Some, None}
-use Rattle.jc_table.specs.Ids.{name_at}
+use Rattle.jc_index.specs.Ids.{name_at}
 use Rattle.jc_rules.proofs.OwnFlags.{listed}
 use Rattle.jc_rules.proofs.own.listed_flags.Goals as goal
 

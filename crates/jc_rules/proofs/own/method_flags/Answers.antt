@@ -1,5 +1,5 @@
 use Rattle.std.proofs.Common.{sym, ◌∙◌}
-use Rattle.jc_table.specs.Ids.{name_at}
+use Rattle.jc_index.specs.Ids.{name_at}
 use Rattle.jc_method.proofs.Rows.{in_row}
 use Rattle.jc_rules.proofs.OwnFlags.{own_method}
 use Rattle.jc_rules.proofs.own.method_flags.Goals as goal

@@ -1,7 +1,7 @@
 use Rattle.std.proofs.Common.{◌≡◌, ◌+◌, ◌-◌, ℕ, suc, Option, Some, sym, subst, refl, arith}
 use Rattle.jc_facts.specs.Names.{Bytes}
 use Rattle.jc_facts.specs.world.World.{World, size}
-use Rattle.jc_table.specs.Ids.{name_at}
+use Rattle.jc_index.specs.Ids.{name_at}
 use Rattle.jc_rules.proofs.ChainWalk.{HasWalked, walk_starts, walk_steps, walked_all}
 use Rattle.jc_rules.proofs.superclass_lost.chain_of.Goals as goal
 

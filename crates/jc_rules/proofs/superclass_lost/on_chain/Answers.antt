@@ -4,7 +4,7 @@ use Rattle.std.specs.List.{filter_map}
 use Rattle.jc_facts.specs.declared.finding.Finding.{Finding}
 use Rattle.jc_facts.specs.Orders.{finding_order}
 use Rattle.jc_facts.specs.Exactly.{HasExactly}
-use Rattle.jc_table.specs.Ids.{name_at}
+use Rattle.jc_index.specs.Ids.{name_at}
 use Rattle.jc_rules.specs.steps.Chains.{target_finding, OfChain}
 use Rattle.jc_rules.proofs.SuperclassLost.{up_at, chain_more, chain_exact}
 use Rattle.jc_rules.proofs.superclass_lost.on_chain.Goals as goal

@@ -2,7 +2,7 @@ use Rattle.std.proofs.Common.{◌≡◌, false, Some, None, sym, ap, ◌∙◌}
 use Rattle.jc_facts.specs.Names.{Bytes, same}
 use Rattle.jc_facts.proofs.World.{found_name}
 use Rattle.jc_index.proofs.Aboves.{same_number}
-use Rattle.jc_table.specs.Ids.{name_at}
+use Rattle.jc_index.specs.Ids.{name_at}
 use Rattle.jc_sides.specs.BrokenOf.{found}
 use Rattle.jc_sides.specs.SidesOf.{SidesOf}
 use Rattle.jc_rules.specs.steps.Chains.{on_target}

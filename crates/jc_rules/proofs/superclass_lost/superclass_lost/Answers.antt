@@ -2,7 +2,7 @@ use Rattle.std.proofs.Common.{◌<◌, ◌≤◌, ◌+◌, true, false, length, 
 use Rattle.jc_facts.proofs.Exactly.{OfNames}
 use Rattle.jc_facts.specs.Orders.{finding_order}
 use Rattle.jc_facts.specs.world.World.{size}
-use Rattle.jc_table.specs.Ids.{names}
+use Rattle.jc_index.specs.Ids.{names}
 use Rattle.jc_sides.specs.Limit.{over}
 use Rattle.jc_sides.specs.Rules.{IsFinding}
 use Rattle.jc_sides.specs.SidesOf.{SidesOf, AreSides}

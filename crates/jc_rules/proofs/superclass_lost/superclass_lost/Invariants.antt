@@ -1,7 +1,7 @@
 use Rattle.std.proofs.Common.{◌≡◌, false, length, take}
 use Rattle.jc_facts.specs.Orders.{finding_order}
 use Rattle.jc_facts.specs.Exactly.{HasExactly}
-use Rattle.jc_table.specs.Ids.{names}
+use Rattle.jc_index.specs.Ids.{names}
 use Rattle.jc_facts.proofs.Exactly.{OfNames}
 use Rattle.jc_sides.specs.Limit.{over}
 use Rattle.jc_sides.specs.Rules.{IsFinding}

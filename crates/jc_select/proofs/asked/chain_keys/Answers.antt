@@ -4,7 +4,7 @@ use Rattle.jc_facts.specs.world.World.{size}
 use Rattle.jc_sides.specs.SharedOf.{SharedOf, name_of}
 use Rattle.jc_sides.specs.SidesOf.{SidesOf, AreSides}
 use Rattle.jc_index.proofs.Numbers.{id_of-Some}
-use Rattle.jc_table.specs.Ids.{name_at, superclass_of}
+use Rattle.jc_index.specs.Ids.{name_at, superclass_of}
 use Rattle.jc_select.specs.steps.Asked.{up_of}
 use Rattle.jc_select.proofs.ChainKeys.{way_start, way_more}
 use Rattle.jc_select.proofs.asked.chain_keys.Goals as goal

@@ -3,7 +3,7 @@ use Rattle.std.specs.List.{list_all}
 use Rattle.jc_promises.specs.rule.Warnings.{interfaces_from}
 use Rattle.jc_sides.specs.SharedOf.{SharedOf, name_of}
 use Rattle.jc_sides.specs.SidesOf.{SidesOf, AreSides}
-use Rattle.jc_table.specs.Ids.{name_at}
+use Rattle.jc_index.specs.Ids.{name_at}
 use Rattle.jc_select.specs.steps.Asked.{HaveThose}
 use Rattle.jc_select.specs.steps.Changes.{HaveNone}
 use Rattle.jc_select.specs.steps.Parts.{AreNamed, stands_at, was_at}

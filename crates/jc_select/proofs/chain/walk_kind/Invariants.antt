@@ -2,7 +2,7 @@ use Rattle.std.proofs.Common.{◌≡◌, ◌<◌, ◌-◌}
 use Rattle.std.specs.Prelude.{IfSome}
 use Rattle.jc_facts.specs.world.World.{size}
 use Rattle.jc_facts.specs.world.Hierarchy.{chain}
-use Rattle.jc_table.specs.Ids.{name_at}
+use Rattle.jc_index.specs.Ids.{name_at}
 use Rattle.jc_promises.specs.rule.Selection.{first_kind}
 use Rattle.jc_select.specs.steps.Kinds.{kind_from}
 use Rattle.jc_select.proofs.chain.walk_kind.Given as goal

@@ -2,7 +2,7 @@ use Rattle.std.proofs.Common.{◌≡◌, Some, sym, subst, ◌∙◌}
 use Rattle.jc_facts.specs.world.World.{find_class}
 use Rattle.jc_sides.specs.SidesOf.{SidesOf}
 use Rattle.jc_facts.proofs.SameRecords.{same_members}
-use Rattle.jc_table.specs.Ids.{name_at}
+use Rattle.jc_index.specs.Ids.{name_at}
 use Rattle.jc_select.proofs.ChangedKeys.{changed_own, unchanged_own}
 use Rattle.jc_select.proofs.changes.changed_keys.Goals as goal
 

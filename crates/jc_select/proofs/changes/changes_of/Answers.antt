@@ -1,7 +1,7 @@
 use Rattle.std.proofs.Common.{◌≡◌, true, sym, subst, ◌∙◌, is_some}
 use Rattle.jc_facts.specs.world.World.{class_named}
 use Rattle.jc_sides.specs.SidesOf.{SidesOf, AreSides}
-use Rattle.jc_table.specs.Ids.{name_at}
+use Rattle.jc_index.specs.Ids.{name_at}
 use Rattle.jc_select.proofs.ChangedKeys.{platform_keys}
 use Rattle.jc_select.proofs.changes.changes_of.Goals as goal
 

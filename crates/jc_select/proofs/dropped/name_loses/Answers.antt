@@ -5,7 +5,7 @@ use Rattle.jc_facts.specs.world.World.{size}
 use Rattle.jc_select.specs.steps.Losing.{row_at}
 use Rattle.jc_facts.specs.Names.{Bytes}
 use Rattle.jc_sides.specs.SidesOf.{SidesOf}
-use Rattle.jc_table.specs.Ids.{id_of, name_at}
+use Rattle.jc_index.specs.Ids.{id_of, name_at}
 use Rattle.jc_select.proofs.DroppedRows.{absent_loses, numbered_loses}
 use Rattle.jc_select.proofs.dropped.name_loses.Goals as goal
 

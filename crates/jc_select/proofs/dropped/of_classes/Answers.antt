@@ -3,7 +3,7 @@ use Rattle.jc_dropped.specs.Dropped.{IsDropped, dropped_order}
 use Rattle.jc_facts.specs.declared.dropped.Dropped.{Dropped}
 use Rattle.jc_facts.proofs.Exactly.{OfNames}
 use Rattle.jc_facts.specs.world.World.{size}
-use Rattle.jc_table.specs.Ids.{names}
+use Rattle.jc_index.specs.Ids.{names}
 use Rattle.jc_sides.specs.Limit.{over}
 use Rattle.jc_sides.specs.SidesOf.{SidesOf, AreSides}
 use Rattle.jc_sides.proofs.Limits.{over_none, past_of, told}

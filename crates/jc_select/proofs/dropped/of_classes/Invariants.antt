@@ -4,7 +4,7 @@ use Rattle.jc_facts.specs.declared.dropped.Dropped.{Dropped}
 use Rattle.jc_facts.specs.Exactly.{HasExactly}
 use Rattle.jc_facts.proofs.Exactly.{OfNames}
 use Rattle.jc_sides.specs.Limit.{over}
-use Rattle.jc_table.specs.Ids.{names}
+use Rattle.jc_index.specs.Ids.{names}
 use Rattle.jc_select.proofs.dropped.of_classes.Given as goal
 
 abbrev pub invariant-loop-n : goal.invariant-loop-n

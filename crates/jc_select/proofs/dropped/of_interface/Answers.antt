@@ -2,7 +2,7 @@ use Rattle.std.proofs.Common.{ap, ◌∙◌}
 use Rattle.jc_facts.specs.world.World.{find_class}
 use Rattle.jc_facts.proofs.World.{found_name}
 use Rattle.jc_sides.specs.SidesOf.{SidesOf}
-use Rattle.jc_table.specs.Ids.{name_at}
+use Rattle.jc_index.specs.Ids.{name_at}
 use Rattle.jc_select.proofs.DroppedRows.{left_out, listed}
 use Rattle.jc_select.proofs.dropped.of_interface.Goals as goal
 

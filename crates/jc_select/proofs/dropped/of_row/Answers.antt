@@ -6,8 +6,8 @@ use Rattle.jc_facts.specs.declared.dropped.Dropped.{Dropped}
 use Rattle.jc_facts.specs.Exactly.{HasExactly}
 use Rattle.jc_sides.specs.Rules.{IsOf}
 use Rattle.jc_sides.specs.SidesOf.{SidesOf, AreSides}
-use Rattle.jc_table.specs.Ids.{name_at}
-use Rattle.jc_table.specs.Sides.{IsSide}
+use Rattle.jc_index.specs.Ids.{name_at}
+use Rattle.jc_index.specs.Sides.{IsSide}
 use Rattle.jc_select.specs.steps.Losing.{dropped_at}
 use Rattle.jc_select.proofs.DroppedRows.{lost_at_step, row_exact, row_more}
 use Rattle.jc_select.proofs.dropped.of_row.Goals as goal

@@ -1,6 +1,6 @@
 use Rattle.std.proofs.Common.{◌≡◌, ℕ, List, ◌++◌, map}
 use Rattle.std.specs.List.{filter_map}
-use Rattle.jc_table.specs.Ids.{name_at}
+use Rattle.jc_index.specs.Ids.{name_at}
 use Rattle.jc_select.specs.steps.Losing.{dropped_at}
 use Rattle.jc_select.proofs.dropped.of_row.Given as goal
 

@@ -1,7 +1,7 @@
 use Rattle.std.proofs.Common.{◌≡◌, drop}
 use Rattle.std.specs.List.{list_any}
 use Rattle.jc_dropped.specs.Dropped.{loses_interface}
-use Rattle.jc_table.specs.Ids.{name_at}
+use Rattle.jc_index.specs.Ids.{name_at}
 use Rattle.jc_select.proofs.dropped.one_loses.Given as goal
 
 abbrev pub invariant-loop-name : goal.invariant-loop-name

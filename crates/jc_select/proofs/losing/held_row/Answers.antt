@@ -1,6 +1,6 @@
 use Rattle.std.proofs.Common.{◌≡◌, ◌<◌, ◌==◌, ℕ, List, [], arith, length, refl, ◌∙◌, ap, sym}
 use Rattle.std.proofs.lemmas.List.{get_or_read_under}
-use Rattle.jc_table.specs.Ids.{name_at}
+use Rattle.jc_index.specs.Ids.{name_at}
 use Rattle.jc_select.specs.steps.Losing.{row_at}
 use Rattle.jc_select.proofs.LostRows.{nil_of, held_empty, held_none, held_as}
 use Rattle.jc_select.proofs.losing.held_row.Goals as goal

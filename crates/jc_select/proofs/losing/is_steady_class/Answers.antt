@@ -1,5 +1,5 @@
 use Rattle.jc_select.proofs.LostRows.{unsteady}
-use Rattle.jc_table.specs.Ids.{name_at}
+use Rattle.jc_index.specs.Ids.{name_at}
 use Rattle.jc_select.proofs.losing.is_steady_class.Goals as goal
 
 pub returns-in-None : goal.returns-in-None

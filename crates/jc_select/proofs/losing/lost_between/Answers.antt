@@ -2,7 +2,7 @@ use Rattle.std.proofs.Common.{sym, subst, ap, ◌∙◌}
 use Rattle.std.specs.List.{filter}
 use Rattle.jc_facts.specs.world.Hierarchy.{superinterfaces}
 use Rattle.jc_sides.specs.SidesOf.{SidesOf, AreSides}
-use Rattle.jc_table.specs.Ids.{name_at}
+use Rattle.jc_index.specs.Ids.{name_at}
 use Rattle.jc_select.specs.steps.Losing.{has_left}
 use Rattle.jc_select.specs.steps.Parts.{AreNamed}
 use Rattle.jc_select.proofs.LostRows.{filtered}

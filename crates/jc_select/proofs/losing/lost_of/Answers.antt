@@ -3,7 +3,7 @@ use Rattle.jc_facts.specs.Names.{Bytes}
 use Rattle.jc_facts.specs.world.Loading.{load_fault}
 use Rattle.jc_sides.proofs.Seen.{of_same_name}
 use Rattle.jc_sides.specs.SidesFields.{worlds}
-use Rattle.jc_table.specs.Ids.{name_at, id_of}
+use Rattle.jc_index.specs.Ids.{name_at, id_of}
 use Rattle.jc_select.proofs.LostRows.{lost_absent, lost_unloaded}
 use Rattle.jc_select.proofs.losing.lost_of.Goals as goal
 

@@ -2,7 +2,7 @@ use Rattle.std.proofs.Common.{◌≡◌, [], sym, subst, ap, ◌∙◌, nat_lt, 
 use Rattle.jc_facts.specs.world.World.{size}
 use Rattle.jc_facts.proofs.Options.{some_where-is}
 use Rattle.jc_sides.specs.SidesOf.{SidesOf}
-use Rattle.jc_table.specs.Ids.{name_at}
+use Rattle.jc_index.specs.Ids.{name_at}
 use Rattle.jc_select.proofs.LostRows.{done_none, done_more, done_all}
 use Rattle.jc_select.specs.steps.Losing.{AreNumbersOf, lost_at}
 use Rattle.jc_select.proofs.losing.lost_rows.Goals as goal

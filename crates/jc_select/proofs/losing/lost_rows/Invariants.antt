@@ -1,5 +1,5 @@
 use Rattle.std.proofs.Common.{[]}
-use Rattle.jc_table.specs.Ids.{name_at}
+use Rattle.jc_index.specs.Ids.{name_at}
 use Rattle.jc_select.specs.steps.Losing.{AreDone, AreNumbersOf, lost_at}
 use Rattle.jc_select.proofs.losing.lost_rows.Given as goal
 

@@ -1,7 +1,7 @@
 use Rattle.std.proofs.Common.{◌≡◌, sym, ◌∙◌, ap, subst}
 use Rattle.jc_sides.specs.SidesOf.{SidesOf}
 use Rattle.jc_index.proofs.Numbers.{id_of-Some}
-use Rattle.jc_table.specs.Ids.{name_at}
+use Rattle.jc_index.specs.Ids.{name_at}
 use Rattle.jc_promises.specs.rule.Warnings.{is_below_other}
 use Rattle.jc_select.proofs.Collected.{not_below}
 use Rattle.jc_select.proofs.parts.is_below_now.Goals as goal

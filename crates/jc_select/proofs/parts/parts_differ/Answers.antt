@@ -2,7 +2,7 @@ use Rattle.std.proofs.Common.{◌≡◌, ◌&&◌, ◌∙◌, ap, subst}
 use Rattle.std.specs.List.{list_all}
 use Rattle.jc_sides.specs.SidesOf.{SidesOf, AreSides}
 use Rattle.jc_sides.specs.SharedOf.{SharedOf, name_of}
-use Rattle.jc_table.specs.Ids.{name_at}
+use Rattle.jc_index.specs.Ids.{name_at}
 use Rattle.jc_promises.specs.rule.Warnings.{part}
 use Rattle.jc_select.specs.steps.Parts.{AreNamed, stays_at, was_at}
 use Rattle.jc_select.proofs.Compared.{differ_is}

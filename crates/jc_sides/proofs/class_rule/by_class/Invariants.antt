@@ -1,6 +1,6 @@
 use Rattle.std.proofs.Common.{◌≡◌, false, length, take}
 use Rattle.std.specs.List.{filter_map}
-use Rattle.jc_table.specs.Ids.{names}
+use Rattle.jc_index.specs.Ids.{names}
 use Rattle.jc_sides.specs.Limit.{over}
 use Rattle.jc_sides.specs.Rules.{class_finding}
 use Rattle.jc_sides.proofs.class_rule.by_class.Given as goal

@@ -1,6 +1,6 @@
 use Rattle.std.proofs.Common.{ℕ, ap, ◌∙◌}
 use Rattle.jc_facts.proofs.World.{found_name}
-use Rattle.jc_table.specs.Ids.{name_at}
+use Rattle.jc_index.specs.Ids.{name_at}
 use Rattle.jc_sides.specs.BrokenOf.{found}
 use Rattle.jc_sides.specs.Rules.{on_class}
 use Rattle.jc_sides.specs.SidesFields.{worlds}

@@ -1,5 +1,5 @@
 use Rattle.std.proofs.Common.{sym, ◌∙◌}
-use Rattle.jc_table.specs.Ids.{name_at}
+use Rattle.jc_index.specs.Ids.{name_at}
 use Rattle.jc_sides.proofs.TestedClasses.{adds, adds_none, failing}
 use Rattle.jc_sides.proofs.classes.push_where.Goals as goal
 

@@ -1,6 +1,6 @@
 use Rattle.std.proofs.Common.{ap, ◌∙◌, is_some}
-use Rattle.jc_table.specs.Ids.{id_of}
-use Rattle.jc_table.proofs.Numbers.{id-find}
+use Rattle.jc_index.specs.Ids.{id_of}
+use Rattle.jc_index.proofs.Numbers.{id-find}
 use Rattle.jc_sides.proofs.clients.is_declared.Goals as goal
 
 pub returns : goal.returns

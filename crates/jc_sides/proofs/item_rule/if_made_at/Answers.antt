@@ -1,6 +1,6 @@
 use Rattle.std.proofs.Common.{option_map, sym, ◌∙◌, ap}
 use Rattle.std.proofs.lemmas.Result.{IfOk-weaker}
-use Rattle.jc_table.specs.Keys.{numbered_keys}
+use Rattle.jc_rows.specs.Keys.{numbered_keys}
 use Rattle.jc_sides.specs.SharedOf.{name_of}
 use Rattle.jc_sides.proofs.MadeKeys.{at_some, at_none}
 use Rattle.jc_sides.proofs.TranslatedKeys.{is_past}

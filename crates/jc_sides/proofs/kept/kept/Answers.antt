@@ -1,6 +1,6 @@
 use Rattle.std.proofs.Common.{sym, refl, ◌∙◌, subst}
 use Rattle.jc_promises.specs.rule.Bases.{is_kept}
-use Rattle.jc_table.specs.Ids.{name_at}
+use Rattle.jc_index.specs.Ids.{name_at}
 use Rattle.jc_sides.specs.SharedOf.{IsWhere}
 use Rattle.jc_sides.specs.SidesFields.{worlds}
 use Rattle.jc_sides.proofs.KeptOnSides.{unusable, absent, unusable_now, stays}

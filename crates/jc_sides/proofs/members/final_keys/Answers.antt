@@ -1,6 +1,6 @@
 use Rattle.std.proofs.Common.{◌≡◌, ◌-◌, ◌+◌, suc, None, arith}
 use Rattle.jc_facts.specs.world.World.{size}
-use Rattle.jc_table.specs.Ids.{name_at}
+use Rattle.jc_index.specs.Ids.{name_at}
 use Rattle.jc_sides.proofs.FinalKeys.{passed_start, passed_more, passed_out, passed_end}
 use Rattle.jc_sides.proofs.members.final_keys.Goals as goal
 

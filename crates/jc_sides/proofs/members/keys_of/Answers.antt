@@ -3,7 +3,7 @@ use Rattle.jc_facts.specs.Names.{is_init_name}
 use Rattle.jc_facts.specs.world.Inheritance.{is_final_in_chain}
 use Rattle.jc_field.specs.FoundKeys.{HaveFound as HaveFields}
 use Rattle.jc_method.specs.FoundKeys.{HaveFound as HaveMethods}
-use Rattle.jc_table.specs.Ids.{name_at}
+use Rattle.jc_index.specs.Ids.{name_at}
 use Rattle.jc_sides.specs.Members.{is_member, HasAll}
 use Rattle.jc_sides.specs.declared.members.Members.TheVariants as members
 use Rattle.jc_sides.specs.steps.KeySets.{has_member}

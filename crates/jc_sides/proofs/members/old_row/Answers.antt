@@ -4,7 +4,7 @@ use Rattle.jc_field.specs.FoundKeys.{HaveFound as HaveFields}
 use Rattle.jc_field.proofs.Rows.{row_finds as field_row_finds}
 use Rattle.jc_method.specs.FoundKeys.{HaveFound as HaveMethods}
 use Rattle.jc_method.proofs.Rows.{row_finds as method_row_finds}
-use Rattle.jc_table.specs.Ids.{name_at}
+use Rattle.jc_index.specs.Ids.{name_at}
 use Rattle.jc_table.specs.RowKeys.{keys_of_row}
 use Rattle.jc_sides.specs.Members.{is_member, HasAll}
 use Rattle.jc_sides.specs.declared.members.Members.{Members}

@@ -1,8 +1,8 @@
 use Rattle.std.proofs.Common.{◌≡◌, ◌≤◌, ◌∙◌, nat_lt, sym, arith}
 use Rattle.jc_facts.specs.world.World.{size}
 use Rattle.jc_facts.proofs.Options.{some_where-is}
-use Rattle.jc_table.specs.Ids.{id_of}
-use Rattle.jc_table.proofs.Keeps.{column-more, column-all}
+use Rattle.jc_index.specs.Ids.{id_of}
+use Rattle.jc_index.proofs.Keeps.{column-more, column-all}
 use Rattle.jc_sides.proofs.sides.new_ids.Goals as goal
 
 pub loop-n-preserved : goal.loop-n-preserved

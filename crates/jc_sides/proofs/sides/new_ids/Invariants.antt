@@ -1,5 +1,5 @@
 use Rattle.std.proofs.Common.{◌≡◌, map, take}
-use Rattle.jc_table.specs.Ids.{id_of, names}
+use Rattle.jc_index.specs.Ids.{id_of, names}
 use Rattle.jc_sides.proofs.sides.new_ids.Given as goal
 
 abbrev pub invariant-loop-n : goal.invariant-loop-n

@@ -1,5 +1,5 @@
 use Rattle.std.proofs.Common.{◌≡◌, length, slice_get, option_map, Some, sym, subst, ap, ◌∙◌, arith}
-use Rattle.jc_table.specs.Keys.{numbered_keys, IsNumber}
+use Rattle.jc_rows.specs.Keys.{numbered_keys, IsNumber}
 use Rattle.jc_sides.specs.SidesOf.{SidesOf}
 use Rattle.jc_sides.proofs.TranslatedKeys.{starts, one_more, all_of, is_there}
 use Rattle.jc_sides.proofs.translation.of_new.Goals as goal

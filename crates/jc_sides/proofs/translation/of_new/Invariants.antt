@@ -1,4 +1,4 @@
-use Rattle.jc_table.specs.Keys.{numbered_keys}
+use Rattle.jc_rows.specs.Keys.{numbered_keys}
 use Rattle.jc_sides.proofs.TranslatedKeys.{AreFirst}
 use Rattle.jc_sides.proofs.translation.of_new.Given as goal
 

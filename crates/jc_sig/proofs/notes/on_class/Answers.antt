@@ -2,9 +2,8 @@ use Rattle.std.proofs.Common.{◌≡◌, Some, sym, ◌∙◌}
 use Rattle.jc_facts.specs.Names.{Bytes}
 use Rattle.jc_facts.specs.world.World.{find_class}
 use Rattle.jc_facts.proofs.World.{find-name}
-use Rattle.jc_index.proofs.Numbers.{found-by}
-use Rattle.jc_table.proofs.Numbers.{find-None}
-use Rattle.jc_table.specs.Ids.{name_at}
+use Rattle.jc_index.proofs.Numbers.{found-by, find-None}
+use Rattle.jc_index.specs.Ids.{name_at}
 use Rattle.jc_sig.proofs.SideNotes.{on_platform, on_none, on_hidden_old, on_hidden_new, on_both}
 use Rattle.jc_sig.proofs.notes.on_class.Goals as goal
 

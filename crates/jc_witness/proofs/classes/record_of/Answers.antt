@@ -1,5 +1,5 @@
 use Rattle.std.proofs.Common.{sym, ap, ◌∙◌}
-use Rattle.jc_table.specs.Ids.{id_of}
+use Rattle.jc_index.specs.Ids.{id_of}
 use Rattle.jc_witness.proofs.ClassesByName.{record_is, no_record}
 use Rattle.jc_witness.proofs.classes.record_of.Goals as goal
 

@@ -1,5 +1,5 @@
 use Rattle.std.proofs.Common.{sym, ap, ◌∙◌, ◌||◌}
-use Rattle.jc_table.specs.Mentioned.{mentions_front}
+use Rattle.jc_index.specs.Mentioned.{mentions_front}
 use Rattle.jc_witness.proofs.Packages.{used_either}
 use Rattle.jc_witness.proofs.package.is_in_use.Goals as goal
 

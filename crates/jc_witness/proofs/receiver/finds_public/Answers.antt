@@ -1,6 +1,6 @@
 use Rattle.std.proofs.Common.{◌≡◌, Some, None, is_some, sym, ap, subst, ◌∙◌}
 use Rattle.jc_facts.specs.client.Acts.{form_of}
-use Rattle.jc_table.specs.Ids.{id_of, name_at}
+use Rattle.jc_index.specs.Ids.{id_of, name_at}
 use Rattle.jc_witness.specs.Ground.{CanRefer}
 use Rattle.jc_witness.specs.steps.Found.{IsFoundBy}
 use Rattle.jc_witness.proofs.ClassesByName.{loaded_number, number_name}

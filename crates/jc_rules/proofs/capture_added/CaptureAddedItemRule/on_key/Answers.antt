@@ -8,9 +8,9 @@ use Rattle.jc_sides.specs.SidesFields.{worlds}
 use Rattle.jc_sides.specs.SidesOf.{SidesOf}
 use Rattle.jc_sides.proofs.BaseParts.{base_class_parts}
 use Rattle.jc_sides.proofs.Seen.{of_new, to_new, loads_after, number_after}
-use Rattle.jc_table.specs.Ids.{name_at}
-use Rattle.jc_table.specs.Lookups.{IsChoice}
-use Rattle.jc_table.specs.Sides.{IsSide}
+use Rattle.jc_index.specs.Ids.{name_at}
+use Rattle.jc_index.specs.Lookups.{IsChoice}
+use Rattle.jc_index.specs.Sides.{IsSide}
 use Rattle.jc_rules.proofs.ChangedClasses.{base_class}
 use Rattle.jc_rules.proofs.CaptureAdded.{no_method, captured}
 use Rattle.jc_sides.proofs.BaseParts.{no_interface_now}

@@ -3,7 +3,7 @@ use Rattle.jc_sides.specs.Rules.{class_finding}
 use Rattle.jc_sides.specs.SharedOf.{name_of}
 use Rattle.jc_sides.specs.SidesFields.{worlds}
 use Rattle.jc_sides.specs.SidesOf.{SidesOf}
-use Rattle.jc_table.specs.Ids.{name_at}
+use Rattle.jc_index.specs.Ids.{name_at}
 use Rattle.jc_rules.proofs.ClassClosed.{of_platform, unkept, closed}
 use Rattle.jc_rules.proofs.class_closed.ClassClosedClassRule.on_class.Goals as goal
 

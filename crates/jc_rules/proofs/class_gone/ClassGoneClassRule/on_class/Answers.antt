@@ -1,7 +1,7 @@
 use Rattle.std.proofs.Common.{sym, ap, ◌∙◌}
 use Rattle.jc_promises.specs.rule.Bases.{is_class_usable}
 use Rattle.jc_sides.specs.SidesOf.{SidesOf}
-use Rattle.jc_table.specs.Ids.{name_at}
+use Rattle.jc_index.specs.Ids.{name_at}
 use Rattle.jc_rules.proofs.ClassGone.{still, gone}
 use Rattle.jc_rules.proofs.class_gone.ClassGoneClassRule.on_class.Goals as goal
 

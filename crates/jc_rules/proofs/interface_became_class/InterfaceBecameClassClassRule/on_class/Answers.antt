@@ -2,7 +2,7 @@ use Rattle.std.proofs.Common.{◌≡◌, true, false, [], ◌∷◌, sym, ◌∙
 use Rattle.std.proofs.lemmas.List.Elements.{All-from_recursion}
 use Rattle.jc_facts.specs.Names.{Bytes}
 use Rattle.jc_promises.specs.rule.Bases.{is_kept}
-use Rattle.jc_table.specs.Ids.{name_at}
+use Rattle.jc_index.specs.Ids.{name_at}
 use Rattle.jc_rules.specs.steps.Losses.{IsCovered, was_interface}
 use Rattle.jc_sides.specs.Rules.{on_class}
 use Rattle.jc_sides.specs.SidesOf.{SidesOf}

@@ -1,5 +1,5 @@
 use Rattle.std.proofs.Common.{subst}
-use Rattle.jc_table.specs.Keys.{numbered_keys, IsNumber}
+use Rattle.jc_rows.specs.Keys.{numbered_keys, IsNumber}
 use Rattle.jc_sides.specs.SidesOf.{SidesOf}
 use Rattle.jc_sides.proofs.key_numbers.KeyNumbers.of.Goals as goal
 

@@ -1,7 +1,7 @@
 use Rattle.std.proofs.Common.{◌<◌, sym, ◌∙◌, ap, subst, arith}
 use Rattle.jc_facts.specs.world.World.{World, size}
-use Rattle.jc_table.specs.Ids.{name_at, id_of}
-use Rattle.jc_table.proofs.Keeps.{column-length, column-at, id-below}
+use Rattle.jc_index.specs.Ids.{name_at, id_of}
+use Rattle.jc_index.proofs.Keeps.{column-length, column-at, id-below}
 use Rattle.jc_sides.specs.SidesOf.{SidesOf}
 use Rattle.jc_sides.proofs.sides.Sides.new_id.Goals as goal
 
