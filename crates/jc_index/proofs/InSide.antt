@@ -10,6 +10,7 @@ use Rattle.std.proofs.lemmas.Option.{slice_get_within, slice_get_read, get_or_fr
 use Rattle.jc_facts.specs.declared.class_facts.ClassFacts.{ClassFacts}
 use Rattle.jc_facts.specs.world.Mentioned.{mentions, all_mentions}
 use Rattle.jc_facts.specs.world.World.{World, classes}
+use Rattle.jc_index.specs.Ids.{name_in, name_or}
 use Rattle.jc_index.specs.SideFields.{world_of}
 use Rattle.jc_index.specs.declared.side.Side.TheInside.{Inside}
 use Rattle.jc_lemmas.proofs.Listed.{any_has}
@@ -27,6 +28,12 @@ pub class-front : (cs ds : List ClassFacts) (n : ℕ) → n < length cs → slic
 class-front [] ds n l = absurd (omega arith)
 class-front (c ∷ cs) ds zero l = refl
 class-front (c ∷ cs) ds (suc n) l = class-front cs ds n (omega arith)
+
+-- a class of the platform stands at its place on a side
+pub of-platform : (V : World) (at : ℕ) → at < length V.platform → name_in (classes V) at ≡ name_in V.platform at
+of-platform V at l =
+    let both : at < length (V.platform ++ V.release) = omega (arith, length-append V.platform V.release) in
+    ap name_or (class-front (V.platform ++ V.release) V.clients at both ∙ class-front V.platform V.release at l)
 
 class-behind : (cs ds : List ClassFacts) (n : ℕ) → slice_get (cs ++ ds) (length cs + n) ≡ slice_get ds n
 class-behind [] ds n = ap (slice_get ds) (let q : 0 + n ≡ n = omega arith in q)

@@ -29,6 +29,5 @@ pub mod Merged
 pub mod HashedKeys
 pub mod PlacesAbove
 pub mod PlatformFinals
-pub mod Across
 pub mod Visible
 pub mod Sealing

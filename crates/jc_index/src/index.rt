@@ -134,24 +134,6 @@ impl Index {
         self.classes.place(id)
     }
 
-    /// The class of the same name in the index of another release over the same platform; none where
-    /// there is none. A class of the platform has the same place there, so its name isn't looked for.
-    pub fn id_in(&self, id: ClassId, other: &Index) -> Option<ClassId>
-        requires class { id < size self.now }
-        requires platform { self.now.platform ≡ other.now.platform }
-        ensures value { result ≡ id_of other.now (name_at self.now id) }
-        ensures of_table { IfSome result (λ id. id < size other.now) }
-    {
-        // A count says that the other index stands for a side.
-        let _classes = other.count();
-        let place = self.place(id);
-        if self.side().in_platform(place) {
-            Some(other.id_at(place))
-        } else {
-            other.get(self.facts(id).name.as_bytes())
-        }
-    }
-
     /// The record of the class.
     pub fn facts(&self, id: ClassId) -> &ClassFacts
         requires { id < size self.now }

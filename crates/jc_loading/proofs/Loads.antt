@@ -27,7 +27,7 @@ use Rattle.jc_loading.specs.declared.faults.State.{State}
 use Rattle.jc_loading.specs.declared.faults.State.TheVariants as states
 use Rattle.jc_loading.specs.steps.Entering.{AllLoad, IsRight, IsSettled, is_entered, is_number_among, state_of}
 use Rattle.jc_loading.specs.steps.Passing.{Orders}
-use Rattle.jc_index.proofs.Across.{of-platform}
+use Rattle.jc_index.proofs.InSide.{of-platform}
 use Rattle.jc_index.proofs.Numbers.{id_of-Some, id_of-name_at, number_of}
 use Rattle.jc_index.proofs.Roots.{is_side}
 

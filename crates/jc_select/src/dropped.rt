@@ -223,19 +223,14 @@ fn exposed_of(
     Ok(exposed)
 }
 
-// What all classes drop, where nobody else asks for seats and for members; None where that is more than
-// the limit allows.
-fn limited(
-    alloc: Global,
-    sides: &Sides<'_>,
-    most: Option<usize>,
-) -> Result<Option<Vec<Dropped>>, AllocError>
-    ensures { IfOk result (λ made. IsWithin dropped_order (IsDropped sides.now.old sides.now.new) most (option_map (λ ds. ds.items) made)) }
+// What all classes drop, where nobody else asks for seats and for members.
+fn over_sides(alloc: Global, sides: &Sides<'_>) -> Result<Option<Vec<Dropped>>, AllocError>
+    ensures { IfOk result (λ made. IsWithin dropped_order (IsDropped sides.now.old sides.now.new) None (option_map (λ ds. ds.items) made)) }
 {
     let lost = Lost::new(alloc, sides)?;
     let seats = Seats::new(alloc, sides, base_classes(alloc, sides)?)?;
     let exposed = exposed_of(alloc, sides, &seats, &lost)?;
-    let made = limited_over(alloc, sides, &seats, &exposed, &lost, most)?;
+    let made = limited_over(alloc, sides, &seats, &exposed, &lost, None)?;
     Ok(made)
 }
 
@@ -259,37 +254,14 @@ pub fn dropped(alloc: Global, old: &Table, new: &Table) -> Result<Vec<Dropped>, 
     let _old = old.count();
     let _new = new.count();
     let sides = Sides::new(alloc, old, new)?;
-    let made = limited(alloc, &sides, None)?;
+    let made = over_sides(alloc, &sides)?;
     Ok(made.unwrap())
 }
 
-/// The same interfaces, where they are at most so many; None where they are more. Past the limit no more
-/// are made than what one class adds.
-///
-/// # Errors
-///
-/// `AllocError` where memory runs out.
-pub fn dropped_within(
-    alloc: Global,
-    old: &Table,
-    new: &Table,
-    most: usize,
-) -> Result<Option<Vec<Dropped>>, AllocError>
-    requires { AreOfOneRun old.now new.now }
-    ensures exact { IfOk result (λ made. AreDroppedWithin old.now new.now most (option_map (λ ds. ds.items) made)) }
-    ensures kept { IfOk result (λ made. IfSome (option_map (λ ds. ds.items) made) (InterfacesStill old.now new.now)) }
-{
-    // A count says that a table stands for a side.
-    let _old = old.count();
-    let _new = new.count();
-    let sides = Sides::new(alloc, old, new)?;
-    let made = limited(alloc, &sides, Some(most))?;
-    Ok(made)
-}
-
-/// The same interfaces within a limit, over sides, seats, losses and members that the caller made, for
-/// other parts of a report too. The members are those that expose at least the hidden classes that have
-/// lost an interface.
+/// The same interfaces, where they are at most so many, and None where they are more, over sides, seats,
+/// losses and members that the caller made, for other parts of a report too. The members are those that
+/// expose at least the hidden classes that have lost an interface. Past the limit no more interfaces are
+/// made than what one class adds.
 ///
 /// # Errors
 ///

@@ -16,4 +16,5 @@ pub mod BaseParts
 pub mod Pair
 pub mod Seen
 mod Permitted
+mod Across
 pub mod Rising

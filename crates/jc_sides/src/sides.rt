@@ -5,6 +5,7 @@ ghost use Rattle.jc_facts.specs.world.World.{size};
 ghost use Rattle.jc_index.specs.Ids.{name_at, names, id_of};
 
 use jc_index::ids::ClassId;
+use jc_index::index::Index;
 use jc_table::table::Table;
 use std::alloc::{AllocError, Global};
 use std::marker::Model;
@@ -41,15 +42,32 @@ impl<'a> Model for Sides<'a> {
     ghost invariant = { AreFields };
 }
 
+// The class of the new side that has the name of this one of the old side; none where there is none. A
+// class of the platform has the same place on both, so its name isn't looked for.
+fn id_in(old: &Index, id: ClassId, new: &Index) -> Option<ClassId>
+    requires class { id < size old.now }
+    requires platform { old.now.platform ≡ new.now.platform }
+    ensures { result ≡ id_of new.now (name_at old.now id) }
+{
+    // A count says that the new index stands for a side.
+    let _classes = new.count();
+    let place = old.place(id);
+    if old.side().in_platform(place) {
+        Some(new.id_at(place))
+    } else {
+        new.get(old.facts(id).name.as_bytes())
+    }
+}
+
 // For each class of the old side the one of its name on the new side; none where there is none.
-fn new_ids(alloc: Global, old: &Table, new: &Table) -> Result<Vec<Option<ClassId>>, AllocError>
+fn new_ids(alloc: Global, old: &Index, new: &Index) -> Result<Vec<Option<ClassId>>, AllocError>
     requires { old.now.platform ≡ new.now.platform }
     ensures { IfOk result (λ ids. ids.items ≡ map (id_of new.now) (names old.now)) }
 {
     let mut ids = Vec::with_capacity(alloc, old.count() as usize)?;
     for n in 0..old.count() {
         let id = old.id(n).unwrap();
-        ids.push(old.id_in(id, new))?;
+        ids.push(id_in(old, id, new))?;
     }
     Ok(ids)
 }
@@ -69,7 +87,7 @@ impl<'a> Sides<'a> {
         // A count says that a table stands for a side.
         let _old = old.count();
         let _new = new.count();
-        let new_ids = new_ids(alloc, old, new)?;
+        let new_ids = new_ids(alloc, old.index(), new.index())?;
         Ok(Sides { old, new, new_ids })
     }
 

@@ -1,8 +1,8 @@
 //! Notes on generic signatures that have changed between two releases.
-ghost use Rattle.std.specs.Prelude.{◌≡◌, ◌<◌, IfOk};
+ghost use Rattle.std.specs.Prelude.{◌≡◌, ◌<◌, IfOk, IfSome};
 ghost use Rattle.jc_facts.specs.Exactly.{HasExactly};
 ghost use Rattle.jc_facts.specs.world.World.{size};
-ghost use Rattle.jc_index.specs.Ids.{name_at};
+ghost use Rattle.jc_index.specs.Ids.{name_at, id_of};
 ghost use Rattle.jc_sig.specs.Notes.{sig_note_order, SigNoteStands};
 ghost use Rattle.jc_sig.specs.steps.OnRecords.{OnName};
 
@@ -12,6 +12,15 @@ use jc_facts::sig_note::SigNote;
 use jc_index::ids::ClassId;
 use jc_table::table::Table;
 use std::alloc::{AllocError, Global};
+
+// The class of the new side that has the name of this one of the old side; none where there is none.
+fn named_in(old: &Table, id: ClassId, new: &Table) -> Option<ClassId>
+    requires { id < size old.now }
+    ensures value { result ≡ id_of new.now (name_at old.now id) }
+    ensures of_table { IfSome result (λ id. id < size new.now) }
+{
+    new.get(old.facts(id).name.as_bytes())
+}
 
 // The notes on the class of this number on the old side, the class itself first, then in the order
 // of their keys.
@@ -29,7 +38,7 @@ fn on_class(
     if old.in_platform(id) {
         return Ok(Vec::new(alloc));
     }
-    let Some(after) = old.id_in(id, new) else {
+    let Some(after) = named_in(old, id, new) else {
         return Ok(Vec::new(alloc));
     };
     let was = old.facts(id);

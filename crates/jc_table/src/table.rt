@@ -347,17 +347,6 @@ impl Table {
         self.hierarchy.get(name)
     }
 
-    /// The class of the same name in the table of another release over the same platform; none where
-    /// there is none. A class of the platform has the same place there, so its name isn't looked for.
-    pub fn id_in(&self, id: ClassId, other: &Table) -> Option<ClassId>
-        requires class { id < size self.now }
-        requires platform { self.now.platform ≡ other.now.platform }
-        ensures value { result ≡ id_of other.now (name_at self.now id) }
-        ensures of_table { IfSome result (λ id. id < size other.now) }
-    {
-        self.index().id_in(id, other.index())
-    }
-
     /// The record of the class.
     pub fn facts(&self, id: ClassId) -> &ClassFacts
         requires { id < size self.now }

@@ -81,13 +81,11 @@ fn are_numbered(sides: &Sides<'_>, numbers: &[Option<u32>]) -> bool {
     true
 }
 
-// Whether each class of the one side has the number on the other that a look-up by its name gives.
-fn are_found(one: &Table, other: &Table) -> bool
-    requires { one.now.platform ≡ other.now.platform }
-{
-    for n in 0..one.count() {
-        let id = one.id(n).unwrap();
-        if one.id_in(id, other) != other.get(one.facts(id).name.as_bytes()) {
+// Whether each class of the old side has the number on the new one that a look-up by its name gives.
+fn are_found(sides: &Sides<'_>) -> bool {
+    for n in 0..sides.old.count() {
+        let id = sides.old.id(n).unwrap();
+        if sides.new_id(id) != sides.new.get(sides.old.facts(id).name.as_bytes()) {
             return false;
         }
     }
@@ -99,7 +97,7 @@ fn see_numbers(rt: &impl Abort, alloc: Global, old: &Table, new: &Table)
 {
     let sides = Sides::new(alloc, old, new).expect(rt, "memory");
     assert!(rt; are_numbered(&sides, NUMBERS));
-    assert!(rt; are_found(old, new) && are_found(new, old));
+    assert!(rt; are_found(&sides));
 }
 
 #[test]

@@ -1,18 +1,12 @@
 -- The number of a platform's class on two sides.
-use Rattle.std.proofs.Common.{◌≡◌, ◌<◌, ◌++◌, ℕ, true, List, length, length-append, sym, ◌∙◌, ap, subst, Some, arith}
+use Rattle.std.proofs.Common.{◌≡◌, ◌<◌, ℕ, true, List, length, sym, ◌∙◌, ap, subst, Some}
 use Rattle.std.specs.Prelude.{nat_lt, IsTrue}
 use Rattle.std.proofs.lemmas.Bool.{ltb-true}
 use Rattle.jc_facts.specs.declared.class_facts.ClassFacts.{ClassFacts}
 use Rattle.jc_facts.specs.world.World.{differ_by_name, World, classes, size}
-use Rattle.jc_index.specs.Ids.{name_at, id_of, name_or, name_in}
-use Rattle.jc_index.proofs.InSide.{class-front}
+use Rattle.jc_index.specs.Ids.{name_at, id_of, name_in}
+use Rattle.jc_index.proofs.InSide.{of-platform}
 use Rattle.jc_index.proofs.Numbers.{id_of-name_at}
-
--- a class of the platform stands at its place on a side
-pub of-platform : (V : World) (at : ℕ) → at < length V.platform → name_in (classes V) at ≡ name_in V.platform at
-of-platform V at l =
-    let both : at < length (V.platform ++ V.release) = omega (arith, length-append V.platform V.release) in
-    ap name_or (class-front (V.platform ++ V.release) V.clients at both ∙ class-front V.platform V.release at l)
 
 module _ (V W : World) (one : V.platform ≡ W.platform) (at : ℕ) (l : nat_lt at (length V.platform) ≡ true) where
   same-name : name_in (classes V) at ≡ name_in (classes W) at
