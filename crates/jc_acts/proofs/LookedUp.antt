@@ -6,7 +6,8 @@ use Rattle.jc_facts.specs.declared.class_facts.ClassFacts.{ClassFacts}
 use Rattle.jc_facts.specs.declared.key.Key.{Key}
 use Rattle.jc_facts.specs.declared.link_error.LinkError.{LinkError}
 use Rattle.jc_facts.specs.declared.link_error.LinkError.TheVariants.{IncompatibleClassChangeError, NoSuchFieldError, NoSuchMethodError}
-use Rattle.jc_facts.specs.Names.{Bytes, is_init_name, is_clinit_name}
+use Rattle.jc_facts.specs.Names.{Bytes}
+use Rattle.jc_desc.specs.Names.{is_init_name, is_clinit_name}
 use Rattle.jc_facts.specs.Options.{or_else, and_then}
 use Rattle.jc_facts.specs.world.World.{World, find_class, DeclaredMember, declared_method}
 use Rattle.jc_facts.specs.world.Hierarchy.{chain}

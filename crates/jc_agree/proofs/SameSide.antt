@@ -15,7 +15,8 @@ use Rattle.jc_trees.specs.declared.tree_read.TreeRead.{TreeRead}
 use Rattle.jc_trees.specs.declared.tree_read.TreeRead.TheVariants as reads
 use Rattle.jc_trees.proofs.OneRead.{one_given}
 use Rattle.jc_commands.specs.Check.{CheckRecords}
-use Rattle.jc_commands.specs.Command.{CheckOf, LinkOf, release_tree}
+use Rattle.jc_commands.specs.Command.{release_tree}
+use Rattle.jc_words.specs.Command.{CheckOf, LinkOf}
 use Rattle.jc_commands.specs.Link.{LinkRecords, release_side}
 use Rattle.jc_commands.specs.Releases.{read_as}
 use Rattle.jc_commands.proofs.Records.{same_library, same_side}

@@ -3,7 +3,7 @@
 use Rattle.std.specs.Prelude.{◌≡◌, List}
 use Rattle.jc_base.specs.Outside.{FileOf}
 use Rattle.jc_commands.specs.Check.{CheckRecords, old_side, new_side}
-use Rattle.jc_commands.specs.Command.{CheckOf, LinkOf}
+use Rattle.jc_words.specs.Command.{CheckOf, LinkOf}
 use Rattle.jc_commands.specs.Link.{LinkRecords, release_side}
 
 -- What is read of the same files. So what the laws say of the two sides of a check holds of what `link` is asked with either release.

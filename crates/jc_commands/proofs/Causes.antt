@@ -32,7 +32,8 @@ use Rattle.jc_trees.specs.declared.trees_error.TreesError.TheVariants as trees_e
 use Rattle.jc_commands.specs.Causes.{HasCause, StopsCommand}
 use Rattle.jc_commands.specs.Check.{CheckRecords, is_apart, over_findings, over_warnings, over_dropped, AreWarned, mismatch_of, puts_below}
 use Rattle.jc_trees.specs.ClassFiles.{Told}
-use Rattle.jc_commands.specs.Command.{CommandOf, CheckOf, LinkOf, HistoryOf, CheckCommand, LinkCommand, HistoryCommand, trees_of, asked_of}
+use Rattle.jc_commands.specs.Command.{trees_of, asked_of}
+use Rattle.jc_words.specs.Command.{CommandOf, CheckOf, LinkOf, HistoryOf, CheckCommand, LinkCommand, HistoryCommand}
 use Rattle.jc_commands.specs.History.{HistoryRecords}
 use Rattle.jc_commands.specs.steps.History.{IsJudged, StopsJudging}
 use Rattle.jc_commands.specs.Link.{LinkRecords, refusal_of, AreOutcomesOf}

@@ -28,7 +28,7 @@ use Rattle.jc_witness.specs.Witnesses.{MeetsOnly}
 use Rattle.jc_witness.proofs.Ground.{can_write}
 use Rattle.jc_witness.proofs.Shown.{is_witness}
 use Rattle.jc_commands.specs.Check.{IsShown, puts_below}
-use Rattle.jc_commands.specs.Command.{CheckOf}
+use Rattle.jc_words.specs.Command.{CheckOf}
 use Rattle.jc_commands.specs.Witness.{causes_of, witness_puts}
 use Rattle.jc_commands.specs.declared.body.ReportBody.{ReportBody}
 use Rattle.jc_commands.specs.declared.body.ReportBody.TheVariants as bodies

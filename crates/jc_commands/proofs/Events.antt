@@ -8,7 +8,8 @@ use Rattle.jc_gate.specs.Gates.{GateOf}
 use Rattle.jc_words.specs.declared.usage.Usage.{Usage}
 use Rattle.jc_commands.specs.Causes.{IsRefusedTo, IsRefused, IsAccepted, HasCause, HasFailed}
 use Rattle.jc_trees.specs.FirstTree.{IsFirstUnread}
-use Rattle.jc_commands.specs.Command.{CommandOf, CheckCommand, LinkCommand, MakeCommand, HistoryCommand, trees_of, asked_of}
+use Rattle.jc_commands.specs.Command.{trees_of, asked_of}
+use Rattle.jc_words.specs.Command.{CommandOf, CheckCommand, LinkCommand, MakeCommand, HistoryCommand}
 use Rattle.jc_commands.specs.Releases.{read_as}
 use Rattle.jc_commands.specs.Reports.{ToldTo, RecordsOf, ReportOf, Refuses, Accepts, IsReportOn}
 use Rattle.jc_commands.specs.Stop.{status_of}

@@ -23,7 +23,7 @@ use Rattle.jc_index.proofs.Roots.{has_root}
 use Rattle.jc_index.specs.Root.{faulty_part, fault_of_root}
 use Rattle.jc_index.specs.Sides.{overlap_of}
 use Rattle.jc_commands.specs.Check.{mismatch_of}
-use Rattle.jc_commands.specs.Command.{MakeCommand}
+use Rattle.jc_words.specs.Command.{MakeCommand}
 use Rattle.jc_commands.specs.Make.{IsSize, old_made, new_made, IsVerdictOnMade}
 use Rattle.jc_commands.specs.declared.report.Report.{Report}
 use Rattle.jc_commands.specs.declared.stop.Stop.{Stop}

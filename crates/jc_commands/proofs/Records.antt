@@ -20,7 +20,8 @@ use Rattle.jc_link.specs.Refusals.{refused_client}
 use Rattle.jc_index.specs.Root.{fault_of_root}
 use Rattle.jc_index.specs.Sides.{overlap_of}
 use Rattle.jc_commands.specs.Check.{CheckRecords, old_side, new_side, HasTooMany, HasTooManyWarnings, HasTooManyDropped, IsUnfit, is_apart, over_findings, over_warnings, over_dropped, AreWarned, mismatch_of, report_of}
-use Rattle.jc_commands.specs.Command.{CommandOf, CheckOf, LinkOf, HistoryOf, CheckCommand, LinkCommand, MakeCommand, HistoryCommand, trees_of}
+use Rattle.jc_commands.specs.Command.{trees_of}
+use Rattle.jc_words.specs.Command.{CommandOf, CheckOf, LinkOf, HistoryOf, CheckCommand, LinkCommand, MakeCommand, HistoryCommand}
 use Rattle.jc_commands.specs.History.{HistoryRecords, row_of, mismatch_of_row, IsUnfitRow}
 use Rattle.jc_commands.specs.Releases.{read_as, release_at, old_and_new, numbered, first_overlap, mismatch_among}
 use Rattle.jc_commands.specs.declared.releases.Release.{Release}

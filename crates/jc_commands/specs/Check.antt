@@ -34,7 +34,8 @@ use Rattle.jc_witness.specs.declared.witness.WitnessFile.{WitnessFile}
 use Rattle.jc_witness.specs.Witnesses.{IsWitness, IsWitnessOf, MeetsOnly, error_of, witness_files}
 use Rattle.jc_trees.specs.ReadTrees.{GiveAll}
 use Rattle.jc_trees.specs.declared.tree_read.TreeRead.TheVariants as reads
-use Rattle.jc_commands.specs.Command.{CheckOf, CheckCommand, trees_of}
+use Rattle.jc_commands.specs.Command.{trees_of}
+use Rattle.jc_words.specs.Command.{CheckOf, CheckCommand}
 use Rattle.jc_commands.specs.Releases.{read_as, old_and_new, mismatch_among}
 use Rattle.jc_commands.specs.DroppedPart.{AreAskedDropped, dropped_bytes}
 use Rattle.jc_commands.specs.Signatures.{AreSigNotes, AreNoted, sig_bytes}

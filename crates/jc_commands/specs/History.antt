@@ -10,7 +10,8 @@ use Rattle.jc_facts.specs.world.World.{World, side}
 use Rattle.jc_history.specs.Row.{Step, steps_of, AreVerdicts, KeepsRow}
 use Rattle.jc_trees.specs.ReadTrees.{GiveAll}
 use Rattle.jc_trees.specs.declared.tree_read.TreeRead.TheVariants as reads
-use Rattle.jc_commands.specs.Command.{HistoryOf, HistoryCommand, trees_of}
+use Rattle.jc_commands.specs.Command.{trees_of}
+use Rattle.jc_words.specs.Command.{HistoryOf, HistoryCommand}
 use Rattle.jc_commands.specs.Releases.{numbered, mismatch_among}
 use Rattle.jc_commands.specs.declared.limits.TheConstants.{MAX_FINDINGS}
 use Rattle.jc_commands.specs.declared.stop.Part.TheVariants as parts

@@ -12,7 +12,8 @@ use Rattle.jc_link.specs.Refusals.{refused_client}
 use Rattle.jc_link.specs.declared.refusal.ClientPart.{ClientPart}
 use Rattle.jc_trees.specs.ReadTrees.{GiveAll}
 use Rattle.jc_trees.specs.declared.tree_read.TreeRead.TheVariants as reads
-use Rattle.jc_commands.specs.Command.{LinkOf, LinkCommand, trees_of}
+use Rattle.jc_commands.specs.Command.{trees_of}
+use Rattle.jc_words.specs.Command.{LinkOf, LinkCommand}
 use Rattle.jc_commands.specs.Releases.{read_as, release_at, mismatch_among}
 use Rattle.jc_trees.specs.declared.tree.TreeName.TheVariants as names
 use Rattle.jc_commands.specs.declared.stop.Stop.{Stop}

@@ -16,7 +16,8 @@ use Rattle.jc_report.specs.HistoryText.{history_text_of}
 use Rattle.jc_complete.specs.Completeness.{IsBroken}
 use Rattle.jc_commands.specs.Check.{CheckRecords, CheckReport, IsCheckReport, IsShown, MeetsNone, old_side, new_side, report_of, check_bytes, puts_below}
 use Rattle.jc_trees.specs.ClassFiles.{Told}
-use Rattle.jc_commands.specs.Command.{CommandOf, CheckOf, CheckCommand, LinkCommand, MakeCommand, HistoryCommand, witness_dir, asked_of}
+use Rattle.jc_commands.specs.Command.{witness_dir, asked_of}
+use Rattle.jc_words.specs.Command.{CommandOf, CheckOf, CheckCommand, LinkCommand, MakeCommand, HistoryCommand}
 use Rattle.jc_commands.specs.History.{IsKeptRow}
 use Rattle.jc_commands.specs.Make.{IsSize}
 use Rattle.jc_commands.specs.Reports.{ToldTo, RecordsOf, ReportOf, IsReportOn, passes, bytes_of, puts_of}

@@ -2,7 +2,7 @@
 ghost use Rattle.std.specs.Prelude.{◌≡◌, IfOk, IfErr};
 ghost use Rattle.jc_base.specs.States.{change};
 ghost use Rattle.jc_commands.specs.Causes.{StopsCommand};
-ghost use Rattle.jc_commands.specs.Command.{CheckCommand};
+ghost use Rattle.jc_words.specs.Command.{CheckCommand};
 ghost use Rattle.jc_words.specs.CommandView.{check_of};
 ghost use Rattle.jc_commands.specs.ReportValue.{IsReportOf};
 

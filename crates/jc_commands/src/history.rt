@@ -3,7 +3,7 @@ ghost use Rattle.std.specs.Prelude.{◌≡◌, ◌<◌, length, map, IfOk, IfErr
 ghost use Rattle.std.specs.List.{All};
 ghost use Rattle.jc_base.specs.States.{change};
 ghost use Rattle.jc_commands.specs.Causes.{StopsCommand};
-ghost use Rattle.jc_commands.specs.Command.{HistoryCommand};
+ghost use Rattle.jc_words.specs.Command.{HistoryCommand};
 ghost use Rattle.jc_commands.specs.Releases.{numbered};
 ghost use Rattle.jc_commands.specs.ReportValue.{IsReportOf, IsSized};
 ghost use Rattle.jc_commands.specs.steps.History.{IsJudged, StopsJudging};

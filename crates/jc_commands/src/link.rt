@@ -2,7 +2,7 @@
 ghost use Rattle.std.specs.Prelude.{◌≡◌, IfOk, IfErr};
 ghost use Rattle.jc_base.specs.States.{change};
 ghost use Rattle.jc_commands.specs.Causes.{StopsCommand};
-ghost use Rattle.jc_commands.specs.Command.{LinkCommand};
+ghost use Rattle.jc_words.specs.Command.{LinkCommand};
 ghost use Rattle.jc_commands.specs.Link.{AreOutcomesOf};
 ghost use Rattle.jc_commands.specs.Releases.{modules_in, side_of};
 ghost use Rattle.jc_facts.specs.client.Linked.{outcomes};

@@ -3,7 +3,7 @@ ghost use Rattle.std.specs.Prelude.{◌≡◌, IfOk, IfErr};
 ghost use Rattle.jc_base.specs.States.{TreesState};
 ghost use Rattle.jc_promises.specs.rule.Verdict.{IsVerdict};
 ghost use Rattle.jc_facts.specs.world.World.{side};
-ghost use Rattle.jc_commands.specs.Command.{MakeCommand};
+ghost use Rattle.jc_words.specs.Command.{MakeCommand};
 ghost use Rattle.jc_commands.specs.Make.{IsSize};
 ghost use Rattle.jc_commands.specs.declared.stop.Stop.{Stop};
 ghost use Rattle.jc_commands.specs.steps.Check.{StopsMatching};

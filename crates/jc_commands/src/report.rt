@@ -4,7 +4,7 @@ ghost use Rattle.std.specs.Option.{option_map, IfSome};
 ghost use Rattle.jc_facts.specs.client.Linked.{are_all_ok};
 ghost use Rattle.jc_words.specs.CommandView.{check_of};
 ghost use Rattle.jc_commands.specs.Check.{check_bytes};
-ghost use Rattle.jc_commands.specs.Command.{LinkOf, HistoryOf, CheckCommand, LinkCommand, MakeCommand, HistoryCommand};
+ghost use Rattle.jc_words.specs.Command.{LinkOf, HistoryOf, CheckCommand, LinkCommand, MakeCommand, HistoryCommand};
 ghost use Rattle.jc_gate.specs.Gates.{IsStep, gate_of};
 ghost use Rattle.jc_version.specs.LevelNumbers.{number_of};
 ghost use Rattle.jc_commands.specs.Reports.{rules_of as rules_in};

@@ -5,7 +5,6 @@
 use Rattle.std.specs.Prelude.{ℕ, Bool, cond, List, [], ◌∷◌, ◌==◌, ◌&&◌, codes, false}
 use Rattle.std.specs.Str.{bytes_eq}
 use Rattle.std.specs.List.{list_any}
-pub use Rattle.jc_desc.specs.Names.{is_init_name, is_clinit_name}
 use Rattle.jc_facts.specs.declared.key.Key.{Key}
 use Rattle.jc_facts.specs.declared.class_facts.Member.{Member}
 

@@ -1,13 +1,11 @@
 //! Dropped interfaces, as text and as JSON.
 ghost use Rattle.std.specs.Prelude.{◌≡◌, IfOk};
 ghost use Rattle.serde_json.specs.View.{view};
-ghost use Rattle.jc_report.specs.DroppedForms.{line_of_dropped, dropped_text_of, dropped_value_of, dropped_json_of};
+ghost use Rattle.jc_report.specs.DroppedForms.{line_of_dropped, dropped_value_of};
 
-use crate::entries::lines;
 use crate::entry::Entry;
 use crate::json_values::name_value;
 use crate::printed::push_printed;
-use crate::put_listing::listing;
 use jc_facts::dropped::Dropped;
 use serde_json::{Value, json};
 use std::alloc::{AllocError, Global};
@@ -47,31 +45,4 @@ impl Entry for Dropped {
     fn value(&self, alloc: Global, _number: usize) -> Result<Value, AllocError> {
         dropped_value(alloc, self)
     }
-}
-
-/// The text of dropped interfaces: a line `dropped CLASS INTERFACE` for each.
-///
-/// # Errors
-///
-/// `AllocError` where memory runs out.
-pub fn dropped_text(alloc: Global, dropped: &[Dropped]) -> Result<Vec<u8>, AllocError>
-    ensures { IfOk result (λ text. text.items ≡ dropped_text_of dropped.now) }
-{
-    let text = lines(alloc, 1, dropped)?;
-    Ok(text)
-}
-
-/// The JSON of dropped interfaces: one object without spaces, and a line end. Its one key is `dropped`,
-/// each of whose entries has the keys `class` and `interface`. Names are printed as in the text, and keys
-/// stand in byte order.
-///
-/// # Errors
-///
-/// `AllocError` where memory runs out.
-#[tactic(auto, unfolding(crate::specs::DroppedForms::dropped_json_of))]
-pub fn dropped_json(alloc: Global, dropped: &[Dropped]) -> Result<Vec<u8>, AllocError>
-    ensures { IfOk result (λ text. text.items ≡ dropped_json_of dropped.now) }
-{
-    let text = listing(alloc, "dropped", dropped)?;
-    Ok(text)
 }

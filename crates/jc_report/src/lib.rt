@@ -1,7 +1,7 @@
 //! The printed forms of verdicts and of outcomes.
 #![tactic(auto)]
 
-pub mod dropped;
+mod dropped;
 pub mod entries;
 pub mod entry;
 pub mod history_text;

@@ -16,7 +16,7 @@ use Rattle.jc_facts.proofs.Same.{same_is, same_itself}
 use Rattle.jc_facts.proofs.World.{find-name, class_named-each}
 use Rattle.jc_lemmas.proofs.Bools.{not_true, tests_agree}
 use Rattle.jc_lemmas.proofs.Listed.{EachOf, EachOf-map, Passes, each_from, each_in, none, cases, any_has, any_passes, list_any-same}
-use Rattle.jc_worlds.proofs.Clients.{class_named-back}
+use Rattle.jc_worlds.proofs.Absent.{class_named-back}
 use Rattle.jc_worlds.proofs.Loaded.{loads-parts}
 use Rattle.jc_index.specs.Ids.{id_of, name_at, names}
 use Rattle.jc_index.specs.Interfaces.{interfaces_of}

@@ -14,7 +14,8 @@ use Rattle.jc_facts.specs.Flags.{public_flag, no_static_flag}
 use Rattle.jc_facts.specs.world.Hierarchy.{chain}
 use Rattle.jc_facts.specs.world.Loading.{load_fault}
 use Rattle.jc_facts.specs.world.Assignment.{is_interface_of}
-use Rattle.jc_facts.specs.Names.{Bytes, is_init_name, is_clinit_name}
+use Rattle.jc_facts.specs.Names.{Bytes}
+use Rattle.jc_desc.specs.Names.{is_init_name, is_clinit_name}
 use Rattle.jc_facts.specs.Options.{some_and, some_where}
 use Rattle.jc_facts.specs.Orders.{collision_order}
 use Rattle.jc_facts.specs.world.World.{World, DeclaredMember}

@@ -8,7 +8,8 @@ use Rattle.jc_facts.specs.declared.finding.Finding.{Finding}
 use Rattle.jc_facts.specs.declared.key.Key.{Key}
 use Rattle.jc_facts.specs.declared.link_error.LinkError.{LinkError}
 use Rattle.jc_facts.specs.declared.link_error.LinkError.TheVariants.{IllegalAccessError, InstantiationError}
-use Rattle.jc_facts.specs.Names.{Bytes, same, is_key, is_init_name}
+use Rattle.jc_facts.specs.Names.{Bytes, same, is_key}
+use Rattle.jc_desc.specs.Names.{is_init_name}
 use Rattle.jc_facts.specs.Flags.{public_flag}
 use Rattle.jc_facts.specs.Options.{or_else, and_then, some_and}
 use Rattle.jc_facts.specs.world.World.{find_class, own_method_of}

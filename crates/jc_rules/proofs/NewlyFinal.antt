@@ -4,7 +4,8 @@ use Rattle.std.specs.List.{list_any, Contains}
 use Rattle.std.proofs.lemmas.Bool.{and_parts, both_ways}
 use Rattle.std.proofs.lemmas.List.Elements.{recursion_from_All}
 use Rattle.jc_facts.specs.declared.key.Key.{Key}
-use Rattle.jc_facts.specs.Names.{Bytes, is_init_name, is_clinit_name}
+use Rattle.jc_facts.specs.Names.{Bytes}
+use Rattle.jc_desc.specs.Names.{is_init_name, is_clinit_name}
 use Rattle.jc_facts.specs.Flags.{public_flag, protected_flag, no_static_flag}
 use Rattle.jc_facts.specs.world.World.{World, DeclaredMember}
 use Rattle.jc_facts.specs.world.Hierarchy.{chain}

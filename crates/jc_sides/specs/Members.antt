@@ -1,7 +1,8 @@
 -- The keys of which a rule may speak.
 use Rattle.std.specs.Prelude.{◌≡◌, Bool, true, List, Option, Some, is_some}
 use Rattle.jc_facts.specs.declared.key.Key.{Key}
-use Rattle.jc_facts.specs.Names.{Bytes, is_init_name}
+use Rattle.jc_facts.specs.Names.{Bytes}
+use Rattle.jc_desc.specs.Names.{is_init_name}
 use Rattle.jc_facts.specs.file.Valid.{has_key}
 use Rattle.jc_facts.specs.Options.{some_and}
 use Rattle.jc_facts.specs.world.Inheritance.{is_final_in_chain}

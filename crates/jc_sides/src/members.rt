@@ -1,6 +1,7 @@
 //! The members of which a rule may speak, and their keys.
 ghost use Rattle.std.specs.Prelude.{◌≡◌, ◌<◌, ◌&&◌, IfOk, IfSome, OnOk, IsTrue};
-ghost use Rattle.jc_facts.specs.Names.{is_init_name, is_key};
+ghost use Rattle.jc_facts.specs.Names.{is_key};
+ghost use Rattle.jc_desc.specs.Names.{is_init_name};
 ghost use Rattle.jc_facts.specs.world.World.{size};
 ghost use Rattle.jc_promises.specs.rule.Bases.{is_kept};
 ghost use Rattle.jc_facts.specs.world.Inheritance.{is_open_final, is_final_in_chain};
@@ -112,7 +113,11 @@ fn final_keys(alloc: Global, table: &Table, class: ClassId) -> Result<Vec<Key>, 
 
 /// The row of the old side that has these members of the kept class; none where they are of the new
 /// side or stand in no row, or where no row is made of the class.
-pub fn old_row<'a>(sides: &Sides<'a>, class: &Shared<'_>, members: Members) -> Option<&'a [RowItem]>
+pub(crate) fn old_row<'a>(
+    sides: &Sides<'a>,
+    class: &Shared<'_>,
+    members: Members,
+) -> Option<&'a [RowItem]>
     requires shared { IsShared sides.now «class».now }
     requires kept { IsTrue (is_kept sides.now.old sides.now.new (name_of «class».now)) }
     ensures { IfSome result (λ row. HasAll (is_member members sides.now (name_of «class».now)) (keys_of_row sides.now.old row.now)) }
@@ -125,7 +130,11 @@ pub fn old_row<'a>(sides: &Sides<'a>, class: &Shared<'_>, members: Members) -> O
 }
 
 /// The same of the new side.
-pub fn new_row<'a>(sides: &Sides<'a>, class: &Shared<'_>, members: Members) -> Option<&'a [RowItem]>
+pub(crate) fn new_row<'a>(
+    sides: &Sides<'a>,
+    class: &Shared<'_>,
+    members: Members,
+) -> Option<&'a [RowItem]>
     requires shared { IsShared sides.now «class».now }
     requires kept { IsTrue (is_kept sides.now.old sides.now.new (name_of «class».now)) }
     ensures { IfSome result (λ row. HasAll (is_member members sides.now (name_of «class».now)) (keys_of_row sides.now.new row.now)) }

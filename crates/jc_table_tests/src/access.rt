@@ -1,5 +1,6 @@
 //! Access, assignment and the check on protected members on a small side.
-use crate::sides::{INTERFACE, OBJECT, PLAIN, Row, class_of, modular, name, table};
+use crate::rows::{INTERFACE, OBJECT, PLAIN, Row};
+use crate::sides::{class_of, modular, name, table};
 use jc_access::access::{Seat, accessible, class_access};
 use jc_access::assigning::assignable;
 use jc_access::protection::protected_ok;

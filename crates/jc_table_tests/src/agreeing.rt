@@ -4,7 +4,8 @@ ghost use Rattle.jc_facts.specs.world.World.{size};
 ghost use Rattle.jc_facts.specs.world.Loading.{load_fault};
 ghost use Rattle.jc_index.specs.Ids.{name_at};
 
-use crate::sides::{INTERFACE, PLAIN, Row, key, loaded, table};
+use crate::rows::{INTERFACE, PLAIN, Row};
+use crate::sides::{key, loaded, table};
 use jc_facts::flags::is_interface;
 use jc_facts::key::Key;
 use jc_field::find::find_field;

@@ -1,5 +1,6 @@
 //! Fields of a small side, by the walk and by the plain search.
-use crate::sides::{Declared, INTERFACE, PLAIN, Row, key, loaded, table};
+use crate::rows::{Declared, INTERFACE, PLAIN, Row};
+use crate::sides::{key, loaded, table};
 use jc_facts::key::Key;
 use jc_field::find::find_field;
 use jc_field::keys::field_keys;

@@ -1,5 +1,6 @@
 //! What linking small clients gives, step by step and error by error.
-use crate::sides::{INTERFACE, OBJECT, PLAIN, ROOT, Row, class, key, name, names, valid};
+use crate::rows::{INTERFACE, OBJECT, PLAIN, ROOT, Row, class};
+use crate::sides::{key, name, names, valid};
 use jc_base::items::Items;
 use jc_base::name::Name;
 use jc_facts::act::Act;

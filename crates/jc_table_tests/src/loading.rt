@@ -1,5 +1,6 @@
 //! Load faults of small sides, by the pass over all classes and by the plain search.
-use crate::sides::{INTERFACE, PLAIN, Row, class_of, key, modular, name, table};
+use crate::rows::{INTERFACE, PLAIN, Row};
+use crate::sides::{class_of, key, modular, name, table};
 use jc_facts::key::Key;
 use jc_facts::link_error::LinkError;
 use jc_load::extending::extendable;

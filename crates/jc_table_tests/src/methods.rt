@@ -4,7 +4,8 @@ ghost use Rattle.jc_facts.specs.world.World.{size};
 ghost use Rattle.jc_facts.specs.world.Loading.{load_fault};
 ghost use Rattle.jc_index.specs.Ids.{name_at};
 
-use crate::sides::{self, INTERFACE, PLAIN, key, loaded, table};
+use crate::rows::{self, INTERFACE, PLAIN};
+use crate::sides::{key, loaded, table};
 use jc_facts::flags::is_interface;
 use jc_facts::key::Key;
 use jc_index::ids::{ClassId, Found};
@@ -18,7 +19,7 @@ use std::process::Abort;
 // whether it inherits the method; and how many keys it has.
 #[derive(Clone, Copy)]
 struct Row {
-    class: sides::Row,
+    class: rows::Row,
     chain: Option<&'static [u8]>,
     found: Option<&'static [u8]>,
     inherits: bool,
@@ -36,7 +37,7 @@ const NONE: Row = Row {
 const ROWS: &[Row] = &[
     NONE,
     Row {
-        class: sides::Row {
+        class: rows::Row {
             name: b"p/Abstract",
             flags: INTERFACE,
             methods: &[(b"m", b"()V", 0x0401)],
@@ -49,7 +50,7 @@ const ROWS: &[Row] = &[
         ..NONE
     },
     Row {
-        class: sides::Row {
+        class: rows::Row {
             name: b"p/Default",
             flags: INTERFACE,
             interfaces: &[b"p/Abstract"],
@@ -63,7 +64,7 @@ const ROWS: &[Row] = &[
         ..NONE
     },
     Row {
-        class: sides::Row {
+        class: rows::Row {
             name: b"p/Private",
             flags: INTERFACE,
             methods: &[(b"m", b"()V", 0x0002)],
@@ -75,7 +76,7 @@ const ROWS: &[Row] = &[
         ..NONE
     },
     Row {
-        class: sides::Row {
+        class: rows::Row {
             name: b"p/Empty",
             flags: INTERFACE,
             interfaces: &[b"p/Default", b"p/Private"],
@@ -88,7 +89,7 @@ const ROWS: &[Row] = &[
     },
     // The maximally specific method, and not the abstract one that is named first.
     Row {
-        class: sides::Row {
+        class: rows::Row {
             name: b"p/Both",
             interfaces: &[b"p/Abstract", b"p/Default"],
             ..PLAIN
@@ -99,7 +100,7 @@ const ROWS: &[Row] = &[
         ..NONE
     },
     Row {
-        class: sides::Row {
+        class: rows::Row {
             name: b"p/Below",
             superclass: b"p/Both",
             interfaces: &[b"p/Private"],
@@ -112,7 +113,7 @@ const ROWS: &[Row] = &[
     },
     // A private method of an interface is no one's, a private static one of a class is found.
     Row {
-        class: sides::Row {
+        class: rows::Row {
             name: b"p/None",
             interfaces: &[b"p/Private"],
             ..PLAIN
@@ -121,7 +122,7 @@ const ROWS: &[Row] = &[
         ..NONE
     },
     Row {
-        class: sides::Row {
+        class: rows::Row {
             name: b"p/Own",
             superclass: b"p/Below",
             methods: &[(b"m", b"()V", 0x000a)],
@@ -134,7 +135,7 @@ const ROWS: &[Row] = &[
         ..NONE
     },
     Row {
-        class: sides::Row {
+        class: rows::Row {
             name: b"p/Last",
             superclass: b"p/Own",
             ..PLAIN

@@ -1,5 +1,6 @@
 //! The rows of a class one of whose methods moved to its superclass, as the table of each release lends them.
-use crate::sides::{Declared, PLAIN, Row, key, table};
+use crate::rows::{Declared, PLAIN, Row};
+use crate::sides::{key, table};
 use jc_facts::key::Key;
 use jc_index::ids::Found;
 use jc_rows::row::RowItem;

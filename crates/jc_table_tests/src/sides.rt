@@ -6,7 +6,7 @@ ghost use Rattle.jc_facts.specs.file.Valid.{IsValidClass};
 ghost use Rattle.jc_facts.specs.world.Loading.{load_fault};
 ghost use Rattle.jc_index.specs.Ids.{name_at};
 
-pub use crate::rows::{Declared, INTERFACE, OBJECT, PLAIN, ROOT, Row, class, classes};
+use crate::rows::{ROOT, Row, class, classes};
 use jc_base::name::Name;
 use jc_facts::class_facts::ClassFacts;
 use jc_facts::key::Key;

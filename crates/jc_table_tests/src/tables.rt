@@ -1,5 +1,6 @@
 //! Tables of small sides: a plain `p/A` over a platform of `java/lang/Object` alone, roots that aren't as they have to be, and classes on a cycle.
-use crate::sides::{INTERFACE, PLAIN, ROOT, Row, build, class_of, made, name, table};
+use crate::rows::{INTERFACE, PLAIN, ROOT, Row};
+use crate::sides::{build, class_of, made, name, table};
 use jc_facts::class_facts::ClassFacts;
 use jc_facts::key_set::KeyRef;
 use jc_index::members::own_field;

@@ -1,6 +1,7 @@
 //! Of which classes of the platform rows are made. Lookups from the others walk.
 use crate::agreeing::{same_field, same_method, see_rows};
-use crate::sides::{Declared, INTERFACE, PLAIN, ROOT, Row, key, loaded, table_over};
+use crate::rows::{Declared, INTERFACE, PLAIN, ROOT, Row};
+use crate::sides::{key, loaded, table_over};
 use jc_facts::key::Key;
 use jc_field::find::find_field;
 use jc_field::keys::found_field_keys;

@@ -4,7 +4,8 @@ use Rattle.std.proofs.lemmas.Cmp.{nat_list_cmp_total}
 use Rattle.std.proofs.lemmas.List.Sorted.{ranks_by}
 use Rattle.std.proofs.lemmas.List.{at_drop_more, at_drop_all}
 use Rattle.jc_facts.specs.declared.class_facts.Member.{Member}
-use Rattle.jc_facts.specs.Names.{Bytes, is_init_name}
+use Rattle.jc_facts.specs.Names.{Bytes}
+use Rattle.jc_desc.specs.Names.{is_init_name}
 use Rattle.jc_facts.specs.world.Inheritance.{public_or_protected}
 use Rattle.jc_facts.specs.ByName.{lower}
 use Rattle.jc_promises.specs.plan.PlannedNames.{least_name, constructors}

@@ -3,7 +3,8 @@ use Rattle.std.specs.Prelude.{Bool, true, not, None, length, ◌||◌, ◌≡◌
 use Rattle.std.specs.List.{All}
 use Rattle.jc_facts.specs.declared.act.Act.{Act}
 use Rattle.jc_facts.specs.declared.key.Key.{Key}
-use Rattle.jc_facts.specs.Names.{Bytes, is_clinit_name}
+use Rattle.jc_facts.specs.Names.{Bytes}
+use Rattle.jc_desc.specs.Names.{is_clinit_name}
 use Rattle.jc_facts.specs.client.Acts.{Form, FieldForm, MethodForm, InterfaceForm, form_of, is_act_on_field}
 use Rattle.jc_facts.specs.world.World.{World}
 use Rattle.jc_facts.specs.world.Assignment.{is_interface_of}

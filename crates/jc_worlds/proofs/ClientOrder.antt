@@ -17,7 +17,7 @@ use Rattle.jc_facts.specs.ByName.{placed, by_name}
 use Rattle.jc_lemmas.proofs.Listed.{each_in, EachOf, EachOf-map}
 use Rattle.jc_facts.proofs.Clients.{name_of}
 use Rattle.jc_facts.proofs.Same.{same_is, same_itself}
-use Rattle.jc_worlds.proofs.Clients.{class_named-back}
+use Rattle.jc_worlds.proofs.Absent.{class_named-back}
 use Rattle.jc_facts.proofs.World.{class_named-first}
 use Rattle.jc_lemmas.proofs.Options.{none_where}
 

@@ -15,7 +15,7 @@ use Rattle.jc_worlds.proofs.Loaded.{loaded-level, loaded-parts, loads_from, unro
 use Rattle.jc_worlds.proofs.Locality.{chain_step-local, field_step-local}
 use Rattle.jc_worlds.proofs.Agree.{search-agree}
 use Rattle.jc_worlds.proofs.Sides.{IsLibrary, sides, load_fault-side}
-pub use Rattle.jc_worlds.proofs.Absent.{class_named-back, class_named-absent}
+use Rattle.jc_worlds.proofs.Absent.{class_named-back, class_named-absent}
 use Rattle.std.proofs.lemmas.Bool.{or_right}
 use Rattle.jc_facts.specs.Flags.{public_flag}
 use Rattle.jc_facts.specs.world.Access.{is_class_accessible}

@@ -11,7 +11,8 @@ use Rattle.jc_desc.specs.PoolGrammar.{IsNumber, IsBody, AreSlots}
 use Rattle.jc_desc.proofs.Grammar.{chosen}
 use Rattle.jc_facts.specs.Names.{Bytes}
 use Rattle.jc_facts.specs.written.PoolEntries.{two, joined, PoolEntry, text, class, pair, member, same_entry, has, index_of, tag_of, body_of, length_before, entry_bytes, is_good, class_is_good, pair_is_good, use_is_good, fits}
-use Rattle.jc_write.proofs.Collected.{entry_is, within}
+use Rattle.jc_write.proofs.Collected.{within}
+use Rattle.jc_write.specs.steps.EntryOrder.{entry_is}
 
 -- ---- numbers
 

@@ -26,7 +26,8 @@ use Rattle.jc_commands.specs.DroppedPart.{dropped_bytes}
 use Rattle.jc_commands.specs.Signatures.{sig_bytes}
 use Rattle.jc_commands.proofs.SomeSignatures.{noted_list}
 use Rattle.jc_trees.specs.ClassFiles.{Told}
-use Rattle.jc_commands.specs.Command.{CommandOf, CheckOf, HistoryOf, CheckCommand, LinkCommand, MakeCommand, HistoryCommand, step_of_check, witness_dir, asked}
+use Rattle.jc_commands.specs.Command.{step_of_check, witness_dir}
+use Rattle.jc_words.specs.Command.{CommandOf, CheckOf, HistoryOf, CheckCommand, LinkCommand, MakeCommand, HistoryCommand, asked}
 use Rattle.jc_commands.specs.History.{IsKeptRow}
 use Rattle.jc_commands.specs.Reports.{RecordsOf, IsReportOn, rules_of, puts_of}
 use Rattle.jc_promises.specs.rule.Verdict.{IsVerdict}

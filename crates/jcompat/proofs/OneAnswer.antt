@@ -4,7 +4,8 @@ use Rattle.std.specs.Prelude.{Ok}
 use Rattle.jc_base.specs.Outside.{FileOf}
 use Rattle.jc_facts.specs.Names.{Bytes}
 use Rattle.jc_gate.specs.Gates.{GateOf}
-use Rattle.jc_commands.specs.Command.{CommandOf, asked_of}
+use Rattle.jc_commands.specs.Command.{asked_of}
+use Rattle.jc_words.specs.Command.{CommandOf}
 use Rattle.jc_commands.specs.ReportValue.{status_by}
 use Rattle.jc_commands.specs.Reports.{ToldTo, RecordsOf, ReportOf, IsReportOn, passes, bytes_of}
 use Rattle.jc_commands.proofs.Events.{told_to}

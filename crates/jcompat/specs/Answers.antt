@@ -12,7 +12,8 @@ use Rattle.jc_commands.specs.Check.{CheckReport, IsAnswered, IsCompatible, IsInc
 use Rattle.jc_commands.specs.DroppedPart.{dropped_bytes}
 use Rattle.jc_commands.specs.Signatures.{sig_bytes}
 use Rattle.jc_trees.specs.ClassFiles.{Told}
-use Rattle.jc_commands.specs.Command.{CommandOf, CheckOf, HistoryOf, CheckCommand, HistoryCommand, witness_dir, step_of_check, asked, asked_of}
+use Rattle.jc_commands.specs.Command.{witness_dir, step_of_check, asked_of}
+use Rattle.jc_words.specs.Command.{CommandOf, CheckOf, HistoryOf, CheckCommand, HistoryCommand, asked}
 use Rattle.jc_commands.specs.History.{IsKeptRow}
 use Rattle.jc_commands.specs.Outputs.{IsQuiet, PutsAll, PutsFront, HasPutFault, IsUntouched, HasFolderFault}
 use Rattle.jc_commands.specs.ReportValue.{status_by}

@@ -12,7 +12,7 @@ ghost use Rattle.jc_gate.specs.Gates.{GateOf, gate_of};
 ghost use Rattle.jc_commands.specs.Causes.{IsRefused, IsAccepted};
 ghost use Rattle.jcompat.specs.Alike.{OneAnswer};
 ghost use Rattle.jcompat.specs.Answers.{Answers, Ran, ran, Puts};
-ghost use Rattle.jc_commands.specs.Command.{CommandOf, MakeCommand, asked};
+ghost use Rattle.jc_words.specs.Command.{CommandOf, MakeCommand, asked};
 ghost use Rattle.jc_commands.specs.Make.{IsVerdictOnMade};
 ghost use Rattle.jc_commands.specs.Reports.{RecordsOf, ReportOf, Accepts, IsReportOn};
 ghost use Rattle.jc_commands.specs.declared.status.TheConstants.{PASSED, READ_FAULT, WRITE_FAULT, NO_MEMORY};

@@ -19,7 +19,7 @@ use Rattle.jc_select.specs.Within.{AnswersStill}
 use Rattle.jc_facts.specs.world.World.{World}
 use Rattle.jc_bodies.specs.Files.{CanWrite}
 use Rattle.jc_commands.specs.Check.{CheckReport, IsUnfit, IsVerdictOn, AreWarned, MeetsNone, mismatch_of, report_of}
-use Rattle.jc_commands.specs.Command.{CheckOf}
+use Rattle.jc_words.specs.Command.{CheckOf}
 use Rattle.jc_commands.specs.DroppedPart.{AreAskedDropped}
 use Rattle.jc_commands.specs.Signatures.{AreNoted}
 use Rattle.jc_commands.specs.declared.comparison.Comparison.{Comparison}

@@ -7,7 +7,8 @@ use Rattle.std.specs.Prelude.{â„•, zero, suc, Bool, true, not, cond, List, [], â
 use Rattle.std.specs.List.{list_any, starts_with}
 use Rattle.std.specs.Fmt.{decimal}
 use Rattle.jc_facts.specs.declared.class_facts.Member.{Member}
-use Rattle.jc_facts.specs.Names.{Bytes, is_name_among, is_init_name}
+use Rattle.jc_facts.specs.Names.{Bytes, is_name_among}
+use Rattle.jc_desc.specs.Names.{is_init_name}
 use Rattle.jc_facts.specs.file.Rules.{is_object_name}
 use Rattle.jc_facts.specs.Options.{and_then}
 use Rattle.jc_facts.specs.declared.class_facts.ClassFacts.{ClassFacts}

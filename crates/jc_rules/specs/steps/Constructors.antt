@@ -5,7 +5,7 @@ use Rattle.jc_facts.specs.declared.key.Key.{Key}
 use Rattle.jc_facts.specs.declared.link_error.LinkError.{LinkError}
 use Rattle.jc_facts.specs.declared.link_error.LinkError.TheVariants.{IllegalAccessError, InstantiationError, NoSuchMethodError}
 use Rattle.jc_facts.specs.Flags.{public_flag, protected_flag, abstract_flag, interface_flag}
-use Rattle.jc_facts.specs.Names.{is_init_name}
+use Rattle.jc_desc.specs.Names.{is_init_name}
 use Rattle.jc_facts.specs.Options.{some_and}
 use Rattle.jc_facts.specs.world.Loading.{fault_where}
 

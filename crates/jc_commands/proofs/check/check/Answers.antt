@@ -1,6 +1,6 @@
 use Rattle.std.proofs.Common.{◌∙◌, sym}
 use Rattle.jc_base.specs.States.{change}
-use Rattle.jc_commands.specs.Command.{CheckCommand}
+use Rattle.jc_words.specs.Command.{CheckCommand}
 use Rattle.jc_words.specs.CommandView.{check_of}
 use Rattle.jc_commands.proofs.Causes.{cause_reading, cause_comparing, verdict_reported}
 use Rattle.jc_commands.proofs.TreesTaken.{all_kinds, first_taken, second_taken, third_taken, three_taken, three_lists, release_list}

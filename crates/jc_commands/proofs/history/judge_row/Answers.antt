@@ -1,6 +1,6 @@
 use Rattle.std.proofs.Common.{◌∙◌, ap, map}
 use Rattle.jc_base.specs.States.{change}
-use Rattle.jc_commands.specs.Command.{HistoryCommand}
+use Rattle.jc_words.specs.Command.{HistoryCommand}
 use Rattle.jc_trees.specs.TreeView.{tree_of}
 use Rattle.jc_words.specs.CommandView.{history_of}
 use Rattle.jc_commands.proofs.Causes.{cause_reading, cause_judging, row_reported}

@@ -1,5 +1,5 @@
 use Rattle.jc_base.specs.States.{change}
-use Rattle.jc_commands.specs.Command.{LinkCommand}
+use Rattle.jc_words.specs.Command.{LinkCommand}
 use Rattle.jc_words.specs.CommandView.{link_of}
 use Rattle.jc_commands.proofs.Causes.{cause_reading, cause_linking, outcomes_reported}
 use Rattle.jc_commands.proofs.TreesTaken.{all_kinds, first_taken, second_taken, third_taken, three_taken, three_lists, release_list}

@@ -1,9 +1,9 @@
 use Rattle.std.proofs.Common.{refl}
 use Rattle.serde_json.proofs.OnLiterals.{serde_json_on_literals}
-use Rattle.jc_report.specs.DroppedForms.{line_of_dropped, dropped_json_of}
+use Rattle.jc_report.specs.DroppedForms.{line_of_dropped}
 use Rattle.jc_report.specs.Listing.{json_line}
 use Rattle.jc_report.proofs.laws.worked_dropped.Goals as goal
 
 pub returns : goal.returns
-unfolding dropped_json_of json_line serde_json_on_literals line_of_dropped
+unfolding json_line serde_json_on_literals line_of_dropped
 returns c = record { text = refl; json = refl; none = refl }

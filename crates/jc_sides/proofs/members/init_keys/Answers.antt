@@ -1,6 +1,7 @@
 use Rattle.std.proofs.Common.{◌≡◌, ◌<◌, ◌≤◌, List, length, get_or, ap, ◌∙◌, ◌&&◌, arith}
 use Rattle.jc_facts.specs.declared.class_facts.Member.{Member}
-use Rattle.jc_facts.specs.Names.{is_init_name, is_key}
+use Rattle.jc_facts.specs.Names.{is_key}
+use Rattle.jc_desc.specs.Names.{is_init_name}
 use Rattle.jc_sides.specs.steps.KeySets.{has_member}
 use Rattle.jc_sides.proofs.KeySets.{adds_none, put_member, adds_all, adds_each}
 use Rattle.jc_sides.proofs.members.init_keys.Goals as goal

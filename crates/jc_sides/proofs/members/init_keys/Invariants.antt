@@ -1,5 +1,5 @@
 use Rattle.std.proofs.Common.{take}
-use Rattle.jc_facts.specs.Names.{is_init_name}
+use Rattle.jc_desc.specs.Names.{is_init_name}
 use Rattle.jc_sides.specs.steps.KeySets.{AddsKeys, has_member}
 use Rattle.jc_sides.proofs.members.init_keys.Given as goal
 

@@ -1,5 +1,5 @@
 use Rattle.std.proofs.lemmas.Result.{IfOk-weaker}
-use Rattle.jc_facts.specs.Names.{is_init_name}
+use Rattle.jc_desc.specs.Names.{is_init_name}
 use Rattle.jc_facts.specs.world.Inheritance.{is_final_in_chain}
 use Rattle.jc_field.specs.FoundKeys.{HaveFound as HaveFields}
 use Rattle.jc_method.specs.FoundKeys.{HaveFound as HaveMethods}

@@ -1,7 +1,7 @@
 use Rattle.std.proofs.Common.{◌&&◌, ◌<◌, ◌≤◌, true, length, List, arith}
 use Rattle.std.specs.Option.{option_copied}
 use Rattle.jc_facts.specs.declared.class_facts.Member.{Member}
-use Rattle.jc_facts.specs.Names.{is_init_name}
+use Rattle.jc_desc.specs.Names.{is_init_name}
 use Rattle.jc_facts.specs.world.Inheritance.{public_or_protected}
 use Rattle.jc_promises.specs.plan.PlannedNames.{least_name, constructors}
 use Rattle.jc_witness.proofs.LowestOfNames.{found_next, found_end, constructor_first, no_constructor}
