@@ -1,5 +1,5 @@
 -- What a tree is read as doesn't depend on what it is called, so that two commands see one side.
-use Rattle.std.proofs.Common.{◌≡◌, Bool, List, [], map, subst}
+use Rattle.std.proofs.Common.{◌≡◌, Bool, List, map, subst}
 use Rattle.jc_base.specs.Outside.{FileOf}
 use Rattle.jc_facts.specs.declared.class_facts.ClassFacts.{ClassFacts}
 use Rattle.jc_facts.specs.Exactly.{by_names}
@@ -15,10 +15,10 @@ use Rattle.jc_trees.specs.declared.tree_read.TreeRead.{TreeRead}
 use Rattle.jc_trees.specs.declared.tree_read.TreeRead.TheVariants as reads
 use Rattle.jc_trees.proofs.OneRead.{one_given}
 use Rattle.jc_commands.specs.Check.{CheckRecords}
-use Rattle.jc_commands.specs.Command.{release_tree}
+use Rattle.jc_releases.specs.Command.{release_tree}
 use Rattle.jc_words.specs.Command.{CheckOf, LinkOf}
 use Rattle.jc_commands.specs.Link.{LinkRecords, release_side}
-use Rattle.jc_commands.specs.Releases.{read_as}
+use Rattle.jc_releases.specs.Releases.{read_as}
 use Rattle.jc_commands.proofs.Records.{same_library, same_side}
 use Rattle.jc_agree.specs.SameSide.{SeeTheSameSide}
 

@@ -8,8 +8,8 @@ use Rattle.jc_trees.specs.declared.limits.TheConstants.{MAX_FILES, MAX_PATH}
 use Rattle.jc_desc.specs.declared.limits.TheConstants.{MAX_CLASS_BYTES, MAX_TEXT, MAX_CODE}
 use Rattle.jc_words.specs.Command.{is_row}
 use Rattle.jc_words.specs.Number.{number_of}
-use Rattle.jc_commands.specs.declared.limits.TheConstants.{MAX_FINDINGS, MAX_WARNINGS, MAX_DROPPED}
-use Rattle.jc_commands.specs.declared.status.TheConstants.{PASSED, NOT_PASSED, USAGE, BAD_INPUT, READ_FAULT, WRITE_FAULT, NO_MEMORY, LIMIT}
+use Rattle.jc_releases.specs.declared.limits.TheConstants.{MAX_FINDINGS, MAX_WARNINGS, MAX_DROPPED}
+use Rattle.jc_releases.specs.declared.status.TheConstants.{PASSED, NOT_PASSED, USAGE, BAD_INPUT, READ_FAULT, WRITE_FAULT, NO_MEMORY, LIMIT}
 
 -- the exit statuses
 pub record StatusesAre : Type 0 where

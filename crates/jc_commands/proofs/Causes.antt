@@ -24,25 +24,25 @@ use Rattle.jc_index.specs.Root.{fault_of_root}
 use Rattle.jc_index.specs.Sides.{overlap_of}
 use Rattle.jc_commands.specs.declared.comparison.Comparison.{Comparison}
 use Rattle.jc_commands.specs.declared.report.Report.{Report}
-use Rattle.jc_commands.specs.declared.stop.Stop.{Stop}
-use Rattle.jc_commands.specs.declared.stop.Stop.TheVariants as stops
+use Rattle.jc_releases.specs.declared.stop.Stop.{Stop}
+use Rattle.jc_releases.specs.declared.stop.Stop.TheVariants as stops
 use Rattle.jc_trees.specs.FirstTree.{IsFirstUnread}
 use Rattle.jc_trees.specs.declared.trees_error.TreesError.{TreesError}
 use Rattle.jc_trees.specs.declared.trees_error.TreesError.TheVariants as trees_errors
 use Rattle.jc_commands.specs.Causes.{HasCause, StopsCommand}
 use Rattle.jc_commands.specs.Check.{CheckRecords, is_apart, over_findings, over_warnings, over_dropped, AreWarned, mismatch_of, puts_below}
 use Rattle.jc_trees.specs.ClassFiles.{Told}
-use Rattle.jc_commands.specs.Command.{trees_of, asked_of}
+use Rattle.jc_releases.specs.Command.{trees_of, asked_of}
 use Rattle.jc_words.specs.Command.{CommandOf, CheckOf, LinkOf, HistoryOf, CheckCommand, LinkCommand, HistoryCommand}
 use Rattle.jc_commands.specs.History.{HistoryRecords}
 use Rattle.jc_commands.specs.steps.History.{IsJudged, StopsJudging}
 use Rattle.jc_commands.specs.Link.{LinkRecords, refusal_of, AreOutcomesOf}
-use Rattle.jc_commands.specs.Releases.{modules_in, read_of, side_of}
+use Rattle.jc_releases.specs.Releases.{modules_in, read_of, side_of}
 use Rattle.jc_commands.specs.Reports.{ToldTo, RecordsOf, Refuses}
-use Rattle.jc_commands.specs.declared.releases.Release.{Release}
+use Rattle.jc_releases.specs.declared.releases.Release.{Release}
 use Rattle.jc_trees.specs.Tree.{TreeOf}
 use Rattle.jc_commands.specs.steps.Check.{IsComparison, StopsComparing, StopsCounting, StopsMatching, StopsWarning, StopsDropping, report_made}
-use Rattle.jc_commands.specs.steps.Trees.{stop_by_trees}
+use Rattle.jc_releases.specs.steps.Trees.{stop_by_trees}
 use Rattle.jc_commands.specs.steps.Link.{StopsLinking, stop_by_refusal}
 use Rattle.jc_trees.specs.ReadTrees.{GiveAll, StopsAmong}
 use Rattle.jc_trees.specs.declared.tree_read.TreeRead.{TreeRead}
@@ -54,7 +54,7 @@ use Rattle.jc_commands.proofs.Events.{for_ok}
 use Rattle.jc_commands.proofs.Records.{IsOfRecords, unfit_says, refusal_says, unfit_row_says, warned_few}
 use Rattle.jc_commands.proofs.SomeVerdict.{some_verdict, some_warnings}
 use Rattle.jc_commands.proofs.SomeDropped.{some_dropped}
-use Rattle.jc_commands.specs.declared.limits.TheConstants.{MAX_FINDINGS}
+use Rattle.jc_releases.specs.declared.limits.TheConstants.{MAX_FINDINGS}
 
 -- ---- why comparing stopped
 

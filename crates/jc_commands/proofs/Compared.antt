@@ -29,14 +29,14 @@ use Rattle.jc_witness.proofs.Ground.{can_write}
 use Rattle.jc_witness.proofs.Shown.{is_witness}
 use Rattle.jc_commands.specs.Check.{IsShown, puts_below}
 use Rattle.jc_words.specs.Command.{CheckOf}
-use Rattle.jc_commands.specs.Witness.{causes_of, witness_puts}
+use Rattle.jc_shown.specs.Witness.{causes_of, witness_puts}
 use Rattle.jc_commands.specs.declared.body.ReportBody.{ReportBody}
 use Rattle.jc_commands.specs.declared.body.ReportBody.TheVariants as bodies
 use Rattle.jc_commands.specs.declared.comparison.Comparison.{Comparison}
-use Rattle.jc_commands.specs.declared.shown.Shown.{Shown}
+use Rattle.jc_shown.specs.declared.shown.Shown.{Shown}
 use Rattle.jc_commands.specs.steps.Check.{IsComparison}
 use Rattle.jc_commands.specs.ReportValue.{HasToShow, IsShownIn, CanShowAll, CanShowAny, dir_shown, dir_in, puts_shown, puts_in}
-use Rattle.jc_commands.specs.Shown.{CanShow}
+use Rattle.jc_shown.specs.Shown.{CanShow}
 
 -- ---- the two sides
 

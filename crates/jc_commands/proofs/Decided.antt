@@ -32,19 +32,19 @@ use Rattle.jc_commands.specs.Causes.{IsRefused, IsAccepted}
 use Rattle.jc_trees.specs.FirstTree.{IsFirstUnread}
 use Rattle.jc_commands.specs.Check.{CheckRecords, old_side, new_side, is_apart, over_findings, over_warnings, over_dropped, AreWarned, mismatch_of, report_of}
 use Rattle.jc_trees.specs.ClassFiles.{FileRead, ClassRead, ModuleRead, IsFileIn, AreRecords, AreModular, without_items, without_code, records_in}
-use Rattle.jc_commands.specs.Command.{release_kind, release_tree, release_trees, trees_of, asked_of}
+use Rattle.jc_releases.specs.Command.{release_kind, release_tree, release_trees, trees_of, asked_of}
 use Rattle.jc_words.specs.Command.{CommandOf, CheckOf, LinkOf, HistoryOf, CheckCommand, LinkCommand, MakeCommand, HistoryCommand}
 use Rattle.jc_commands.specs.History.{HistoryRecords, row_of, mismatch_of_row}
 use Rattle.jc_history.specs.Row.{steps_of, AreVerdicts}
 use Rattle.jc_history.proofs.RowVerdicts.{all_few}
 use Rattle.jc_commands.specs.Link.{LinkRecords, release_side, refusal_of}
-use Rattle.jc_commands.specs.Releases.{read_as}
+use Rattle.jc_releases.specs.Releases.{read_as}
 use Rattle.jc_commands.specs.Reports.{RecordsOf, ReportOf, Refuses, Accepts, IsReportOn}
 use Rattle.jc_trees.specs.Tree.{TreeOf, library_at, clients_at}
-use Rattle.jc_commands.specs.declared.limits.TheConstants.{MAX_FINDINGS, MAX_WARNINGS, MAX_DROPPED}
-use Rattle.jc_commands.specs.declared.stop.Part.TheVariants as parts
-use Rattle.jc_commands.specs.declared.stop.Stop.{Stop}
-use Rattle.jc_commands.specs.declared.stop.Stop.TheVariants as stops
+use Rattle.jc_releases.specs.declared.limits.TheConstants.{MAX_FINDINGS, MAX_WARNINGS, MAX_DROPPED}
+use Rattle.jc_releases.specs.declared.stop.Part.TheVariants as parts
+use Rattle.jc_releases.specs.declared.stop.Stop.{Stop}
+use Rattle.jc_releases.specs.declared.stop.Stop.TheVariants as stops
 use Rattle.jc_trees.specs.ReadTrees.{Gives, GiveAll}
 use Rattle.jc_trees.specs.declared.tree_read.TreeRead.{TreeRead}
 use Rattle.jc_trees.specs.declared.tree_read.TreeRead.TheVariants as reads

@@ -8,22 +8,22 @@ use Rattle.jc_gate.specs.Gates.{GateOf}
 use Rattle.jc_words.specs.declared.usage.Usage.{Usage}
 use Rattle.jc_commands.specs.Causes.{IsRefusedTo, IsRefused, IsAccepted, HasCause, HasFailed}
 use Rattle.jc_trees.specs.FirstTree.{IsFirstUnread}
-use Rattle.jc_commands.specs.Command.{trees_of, asked_of}
+use Rattle.jc_releases.specs.Command.{trees_of, asked_of}
 use Rattle.jc_words.specs.Command.{CommandOf, CheckCommand, LinkCommand, MakeCommand, HistoryCommand}
-use Rattle.jc_commands.specs.Releases.{read_as}
+use Rattle.jc_releases.specs.Releases.{read_as}
 use Rattle.jc_commands.specs.Reports.{ToldTo, RecordsOf, ReportOf, Refuses, Accepts, IsReportOn}
-use Rattle.jc_commands.specs.Stop.{status_of}
+use Rattle.jc_releases.specs.Stop.{status_of}
 use Rattle.jc_trees.specs.declared.file_fault.TreeFault.{TreeFault}
-use Rattle.jc_commands.specs.declared.status.TheConstants.{PASSED, NOT_PASSED, READ_FAULT, WRITE_FAULT, NO_MEMORY}
-use Rattle.jc_commands.specs.declared.stop.Stop.{Stop}
-use Rattle.jc_commands.specs.declared.stop.Stop.TheVariants as stops
+use Rattle.jc_releases.specs.declared.status.TheConstants.{PASSED, NOT_PASSED, READ_FAULT, WRITE_FAULT, NO_MEMORY}
+use Rattle.jc_releases.specs.declared.stop.Stop.{Stop}
+use Rattle.jc_releases.specs.declared.stop.Stop.TheVariants as stops
 use Rattle.jc_trees.specs.declared.tree.TreeName.{TreeName}
 use Rattle.jc_commands.proofs.Records.{one_refused, accepted_or_refused, report_accepted}
 use Rattle.jc_trees.proofs.Results.{same_ok, same_err, ok_or_err}
 use Rattle.jc_trees.proofs.OneFault.{one_unread, AreClean, all_clean}
 use Rattle.jc_trees.proofs.OneRead.{all_read_clean}
 use Rattle.jc_trees.specs.declared.tree_read.TreeRead.TheVariants as reads
-use Rattle.jc_commands.specs.steps.Trees.{stop_by_trees}
+use Rattle.jc_releases.specs.steps.Trees.{stop_by_trees}
 
 -- ---- the trees of a command
 

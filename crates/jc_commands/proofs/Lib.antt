@@ -1,10 +1,6 @@
 pub mod Records
 pub mod Events
 pub mod Asked
-pub mod FilesPut
-pub mod WitnessPaths
-pub mod PathsApart
-pub mod CausesPut
 pub mod PartsPut
 pub mod Bodies
 pub mod Compared
@@ -20,6 +16,6 @@ pub mod RulesTell
 pub mod StepSaid
 pub mod RowVerdicts
 pub mod TreesTaken
-pub mod ReleasesOver
+pub mod TwoReleases
 pub mod RowJudged
 pub mod Decided

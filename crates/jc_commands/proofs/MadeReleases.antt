@@ -26,8 +26,8 @@ use Rattle.jc_commands.specs.Check.{mismatch_of}
 use Rattle.jc_words.specs.Command.{MakeCommand}
 use Rattle.jc_commands.specs.Make.{IsSize, old_made, new_made, IsVerdictOnMade}
 use Rattle.jc_commands.specs.declared.report.Report.{Report}
-use Rattle.jc_commands.specs.declared.stop.Stop.{Stop}
-use Rattle.jc_commands.specs.declared.stop.Stop.TheVariants as stops
+use Rattle.jc_releases.specs.declared.stop.Stop.{Stop}
+use Rattle.jc_releases.specs.declared.stop.Stop.TheVariants as stops
 use Rattle.jc_commands.specs.steps.Check.{StopsMatching}
 use Rattle.jc_trees.specs.ClassLists.{IsRecordList}
 use Rattle.jc_commands.specs.ReportValue.{TellsOf, IsBare, IsReportOf}

@@ -20,11 +20,11 @@ use Rattle.jc_link.specs.Refusals.{refused_client}
 use Rattle.jc_index.specs.Root.{fault_of_root}
 use Rattle.jc_index.specs.Sides.{overlap_of}
 use Rattle.jc_commands.specs.Check.{CheckRecords, old_side, new_side, HasTooMany, HasTooManyWarnings, HasTooManyDropped, IsUnfit, is_apart, over_findings, over_warnings, over_dropped, AreWarned, mismatch_of, report_of}
-use Rattle.jc_commands.specs.Command.{trees_of}
+use Rattle.jc_releases.specs.Command.{trees_of}
 use Rattle.jc_words.specs.Command.{CommandOf, CheckOf, LinkOf, HistoryOf, CheckCommand, LinkCommand, MakeCommand, HistoryCommand}
 use Rattle.jc_commands.specs.History.{HistoryRecords, row_of, mismatch_of_row, IsUnfitRow}
-use Rattle.jc_commands.specs.Releases.{read_as, release_at, old_and_new, numbered, first_overlap, mismatch_among}
-use Rattle.jc_commands.specs.declared.releases.Release.{Release}
+use Rattle.jc_releases.specs.Releases.{read_as, release_at, old_and_new, numbered, first_overlap, mismatch_among}
+use Rattle.jc_releases.specs.declared.releases.Release.{Release}
 use Rattle.jc_history.specs.Row.{steps_of, AreVerdicts}
 use Rattle.jc_history.proofs.RowVerdicts.{one_row, verdict_at}
 use Rattle.jc_commands.specs.Link.{LinkRecords, release_side, refusal_of, client_name}
@@ -32,11 +32,11 @@ use Rattle.jc_commands.specs.Make.{old_made, new_made}
 use Rattle.jc_commands.specs.DroppedPart.{AreAskedDropped}
 use Rattle.jc_commands.specs.Signatures.{AreNoted}
 use Rattle.jc_commands.specs.Reports.{RecordsOf, ReportOf, Refuses, Accepts, IsReportOn}
-use Rattle.jc_commands.specs.declared.limits.TheConstants.{MAX_FINDINGS, MAX_WARNINGS, MAX_DROPPED}
+use Rattle.jc_releases.specs.declared.limits.TheConstants.{MAX_FINDINGS, MAX_WARNINGS, MAX_DROPPED}
 use Rattle.jc_commands.proofs.SomeDropped.{dropped_few, dropped_one}
 use Rattle.jc_commands.proofs.SomeSignatures.{noted_one}
-use Rattle.jc_commands.specs.declared.stop.Stop.{Stop}
-use Rattle.jc_commands.specs.declared.stop.Stop.TheVariants as stops
+use Rattle.jc_releases.specs.declared.stop.Stop.{Stop}
+use Rattle.jc_releases.specs.declared.stop.Stop.TheVariants as stops
 use Rattle.jc_trees.specs.declared.tree.TreeName.TheVariants as names
 use Rattle.jc_trees.proofs.OneFault.{apart_numbers}
 use Rattle.jc_trees.proofs.OneRead.{one_read}

@@ -16,16 +16,16 @@ use Rattle.jc_index.specs.Root.{fault_of_root}
 use Rattle.jc_index.proofs.Roots.{has_root}
 use Rattle.jc_trees.specs.ClassLists.{IsRecordList}
 use Rattle.jc_commands.specs.History.{row_of, mismatch_of_row}
-use Rattle.jc_commands.specs.Releases.{numbered, sides_of, mismatch_among}
-use Rattle.jc_commands.specs.declared.releases.Release.{Release}
+use Rattle.jc_releases.specs.Releases.{numbered, sides_of, mismatch_among}
+use Rattle.jc_releases.specs.declared.releases.Release.{Release}
 use Rattle.jc_commands.specs.steps.History.{IsJudged, StopsJudging}
-use Rattle.jc_commands.specs.steps.Releases.{IsReleaseList, StopsOver}
-use Rattle.jc_commands.specs.declared.limits.TheConstants.{MAX_FINDINGS}
-use Rattle.jc_commands.specs.declared.stop.Part.TheVariants as parts
-use Rattle.jc_commands.specs.declared.stop.Stop.{Stop}
-use Rattle.jc_commands.specs.declared.stop.Stop.TheVariants as stops
+use Rattle.jc_releases.specs.steps.Releases.{IsReleaseList, StopsOver}
+use Rattle.jc_releases.specs.declared.limits.TheConstants.{MAX_FINDINGS}
+use Rattle.jc_releases.specs.declared.stop.Part.TheVariants as parts
+use Rattle.jc_releases.specs.declared.stop.Stop.{Stop}
+use Rattle.jc_releases.specs.declared.stop.Stop.TheVariants as stops
 use Rattle.jc_commands.proofs.Records.{first_none, unmapped}
-use Rattle.jc_commands.proofs.ReleasesOver.{row_sides}
+use Rattle.jc_commands.proofs.TwoReleases.{row_sides}
 use Rattle.jc_commands.proofs.RowVerdicts.{step_verdict}
 
 each_of_run : (platform : List ClassFacts) (releases : List (List ClassFacts)) → EachOf (AreOfOneRun (side platform [])) (row_of platform releases)

@@ -17,10 +17,10 @@ use Rattle.jc_lemmas.proofs.Listed.{EachOf, none, cases, here, there}
 use Rattle.jc_sound.proofs.VerdictLaw.{verdict_is_one}
 use Rattle.jc_history.specs.Row.{Step, steps_from, steps_of, AreVerdicts}
 use Rattle.jc_commands.specs.History.{row_of, mismatch_of_row, IsFitRow, IsUnfitRow}
-use Rattle.jc_commands.specs.declared.limits.TheConstants.{MAX_FINDINGS}
-use Rattle.jc_commands.specs.declared.stop.Part.TheVariants as parts
-use Rattle.jc_commands.specs.declared.stop.Stop.{Stop}
-use Rattle.jc_commands.specs.declared.stop.Stop.TheVariants as stops
+use Rattle.jc_releases.specs.declared.limits.TheConstants.{MAX_FINDINGS}
+use Rattle.jc_releases.specs.declared.stop.Part.TheVariants as parts
+use Rattle.jc_releases.specs.declared.stop.Stop.{Stop}
+use Rattle.jc_releases.specs.declared.stop.Stop.TheVariants as stops
 use Rattle.jc_commands.proofs.SomeVerdict.{some_verdict}
 
 some_from : (platform first : List ClassFacts) (later : List (List ClassFacts)) → HasRoot platform → All IsValidClass platform → All IsValidClass first → EachOf (All IsValidClass) later

@@ -11,7 +11,7 @@ use Rattle.jc_facts.specs.world.World.{World}
 use Rattle.jc_witness.specs.declared.witness.WitnessFile.{WitnessFile}
 use Rattle.jc_witness.specs.Witnesses.{witness_files}
 use Rattle.jc_commands.specs.Check.{IsShown, Shows, ShowEach}
-use Rattle.jc_commands.specs.Witness.{files_from}
+use Rattle.jc_shown.specs.Witness.{files_from}
 
 module _ (O N : World) (v : Verdict) (exact : IsVerdict O N v) where
   show_one : (e : Cause) → IsShown O N e → Shows O N v e (witness_files O N e)

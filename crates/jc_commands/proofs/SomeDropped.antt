@@ -29,7 +29,7 @@ use Rattle.jc_sound.proofs.ExactLists.{exact_list}
 use Rattle.jc_sound.proofs.VerdictLaw.{exactly_one}
 use Rattle.jc_sides.proofs.Subjects.{subject_order}
 use Rattle.jc_commands.specs.DroppedPart.{AreAskedDropped}
-use Rattle.jc_commands.specs.declared.limits.TheConstants.{MAX_DROPPED}
+use Rattle.jc_releases.specs.declared.limits.TheConstants.{MAX_DROPPED}
 use Rattle.jc_commands.proofs.Declarations.{found_in_world, super_all}
 use Rattle.jc_commands.proofs.Subjects.{on_subject, is_rule, none_or, names, keys, name_of, subjects, covered}
 

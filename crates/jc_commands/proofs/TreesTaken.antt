@@ -14,11 +14,11 @@ use Rattle.jc_trees.specs.declared.tree.TreeKind.TheVariants as kinds
 use Rattle.jc_trees.specs.declared.tree_read.TreeRead.{TreeRead}
 use Rattle.jc_trees.specs.declared.tree_read.TreeRead.TheVariants as reads
 use Rattle.jc_trees.proofs.TakenReads.{first_of_kind, rest_of_kinds, none_left}
-use Rattle.jc_commands.specs.Command.{release_trees, trees_of}
+use Rattle.jc_releases.specs.Command.{release_trees, trees_of}
 use Rattle.jc_words.specs.Command.{HistoryOf, HistoryCommand}
-use Rattle.jc_commands.specs.Releases.{modules_in, read_as, read_of}
-use Rattle.jc_commands.specs.declared.releases.Release.{Release}
-use Rattle.jc_commands.specs.steps.Releases.{IsReleaseList}
+use Rattle.jc_releases.specs.Releases.{modules_in, read_as, read_of}
+use Rattle.jc_releases.specs.declared.releases.Release.{Release}
+use Rattle.jc_releases.specs.steps.Releases.{IsReleaseList}
 
 -- ---- three trees, one after the other
 

@@ -34,16 +34,16 @@ use Rattle.jc_witness.specs.declared.witness.WitnessFile.{WitnessFile}
 use Rattle.jc_witness.specs.Witnesses.{IsWitness, IsWitnessOf, MeetsOnly, error_of, witness_files}
 use Rattle.jc_trees.specs.ReadTrees.{GiveAll}
 use Rattle.jc_trees.specs.declared.tree_read.TreeRead.TheVariants as reads
-use Rattle.jc_commands.specs.Command.{trees_of}
+use Rattle.jc_releases.specs.Command.{trees_of}
 use Rattle.jc_words.specs.Command.{CheckOf, CheckCommand}
-use Rattle.jc_commands.specs.Releases.{read_as, old_and_new, mismatch_among}
+use Rattle.jc_releases.specs.Releases.{read_as, old_and_new, mismatch_among}
 use Rattle.jc_commands.specs.DroppedPart.{AreAskedDropped, dropped_bytes}
 use Rattle.jc_commands.specs.Signatures.{AreSigNotes, AreNoted, sig_bytes}
-use Rattle.jc_commands.specs.Witness.{PutFile, PutsFiles, put_file, causes_of, witness_puts}
-use Rattle.jc_commands.specs.declared.limits.TheConstants.{MAX_FINDINGS, MAX_WARNINGS, MAX_DROPPED}
-use Rattle.jc_commands.specs.declared.stop.Part.TheVariants as parts
-use Rattle.jc_commands.specs.declared.stop.Stop.{Stop}
-use Rattle.jc_commands.specs.declared.stop.Stop.TheVariants as stops
+use Rattle.jc_shown.specs.Witness.{PutFile, PutsFiles, put_file, causes_of, witness_puts}
+use Rattle.jc_releases.specs.declared.limits.TheConstants.{MAX_FINDINGS, MAX_WARNINGS, MAX_DROPPED}
+use Rattle.jc_releases.specs.declared.stop.Part.TheVariants as parts
+use Rattle.jc_releases.specs.declared.stop.Stop.{Stop}
+use Rattle.jc_releases.specs.declared.stop.Stop.TheVariants as stops
 
 -- the records of its three trees, and the modules of the two releases
 pub record CheckRecords (files : List FileOf) (check : CheckOf) : Type 0 where

@@ -6,7 +6,7 @@ use Rattle.jc_facts.specs.Names.{Bytes}
 use Rattle.jc_facts.specs.world.World.{World}
 use Rattle.jc_report.specs.DroppedForms.{line_of_dropped, dropped_value_of}
 use Rattle.jc_report.specs.Listing.{part_bytes}
-use Rattle.jc_commands.specs.declared.limits.TheConstants.{MAX_DROPPED}
+use Rattle.jc_releases.specs.declared.limits.TheConstants.{MAX_DROPPED}
 
 -- those of the two sides, where they are asked for, within their limit, and else none
 abbrev pub AreAskedDropped : Bool → World → World → Option (List Dropped) → Type 0

@@ -10,13 +10,13 @@ use Rattle.jc_facts.specs.world.World.{World, side}
 use Rattle.jc_history.specs.Row.{Step, steps_of, AreVerdicts, KeepsRow}
 use Rattle.jc_trees.specs.ReadTrees.{GiveAll}
 use Rattle.jc_trees.specs.declared.tree_read.TreeRead.TheVariants as reads
-use Rattle.jc_commands.specs.Command.{trees_of}
+use Rattle.jc_releases.specs.Command.{trees_of}
 use Rattle.jc_words.specs.Command.{HistoryOf, HistoryCommand}
-use Rattle.jc_commands.specs.Releases.{numbered, mismatch_among}
-use Rattle.jc_commands.specs.declared.limits.TheConstants.{MAX_FINDINGS}
-use Rattle.jc_commands.specs.declared.stop.Part.TheVariants as parts
-use Rattle.jc_commands.specs.declared.stop.Stop.{Stop}
-use Rattle.jc_commands.specs.declared.stop.Stop.TheVariants as stops
+use Rattle.jc_releases.specs.Releases.{numbered, mismatch_among}
+use Rattle.jc_releases.specs.declared.limits.TheConstants.{MAX_FINDINGS}
+use Rattle.jc_releases.specs.declared.stop.Part.TheVariants as parts
+use Rattle.jc_releases.specs.declared.stop.Stop.{Stop}
+use Rattle.jc_releases.specs.declared.stop.Stop.TheVariants as stops
 
 -- the records of the platform and of each release, from the first to the last
 pub record HistoryRecords (files : List FileOf) (h : HistoryOf) : Type 0 where

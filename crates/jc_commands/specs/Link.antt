@@ -12,12 +12,12 @@ use Rattle.jc_link.specs.Refusals.{refused_client}
 use Rattle.jc_link.specs.declared.refusal.ClientPart.{ClientPart}
 use Rattle.jc_trees.specs.ReadTrees.{GiveAll}
 use Rattle.jc_trees.specs.declared.tree_read.TreeRead.TheVariants as reads
-use Rattle.jc_commands.specs.Command.{trees_of}
+use Rattle.jc_releases.specs.Command.{trees_of}
 use Rattle.jc_words.specs.Command.{LinkOf, LinkCommand}
-use Rattle.jc_commands.specs.Releases.{read_as, release_at, mismatch_among}
+use Rattle.jc_releases.specs.Releases.{read_as, release_at, mismatch_among}
 use Rattle.jc_trees.specs.declared.tree.TreeName.TheVariants as names
-use Rattle.jc_commands.specs.declared.stop.Stop.{Stop}
-use Rattle.jc_commands.specs.declared.stop.Stop.TheVariants as stops
+use Rattle.jc_releases.specs.declared.stop.Stop.{Stop}
+use Rattle.jc_releases.specs.declared.stop.Stop.TheVariants as stops
 
 -- the records of the platform and of the release with its modules, and the clients with the items of their code
 pub record LinkRecords (files : List FileOf) (link : LinkOf) : Type 0 where

@@ -3,8 +3,8 @@ use Rattle.std.specs.Prelude.{◌≡◌, ◌≢◌, ◌⊎◌, ℕ, List, Option
 use Rattle.jc_base.specs.States.{SinkState, FolderState, Change}
 use Rattle.jc_facts.specs.Names.{Bytes}
 use Rattle.jc_commands.specs.Outputs.{PutsAll, PutsFront, HasPutFault, HasFolderFault, IsQuiet}
-use Rattle.jc_commands.specs.Witness.{PutFile, PutsFiles, PutsSome}
-use Rattle.jc_commands.specs.declared.status.TheConstants.{WRITE_FAULT, NO_MEMORY}
+use Rattle.jc_shown.specs.Witness.{PutFile, PutsFiles, PutsSome}
+use Rattle.jc_releases.specs.declared.status.TheConstants.{WRITE_FAULT, NO_MEMORY}
 
 -- the bytes were put whole, and the status is the one that was due, or a prefix of them
 pub record IsPutWith (bytes : Bytes) (due : ℕ) (sink : Change SinkState) (status : ℕ) : Type 0 where

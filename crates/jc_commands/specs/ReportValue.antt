@@ -16,12 +16,12 @@ use Rattle.jc_report.specs.HistoryText.{history_text_of}
 use Rattle.jc_complete.specs.Completeness.{IsBroken}
 use Rattle.jc_commands.specs.Check.{CheckRecords, CheckReport, IsCheckReport, IsShown, MeetsNone, old_side, new_side, report_of, check_bytes, puts_below}
 use Rattle.jc_trees.specs.ClassFiles.{Told}
-use Rattle.jc_commands.specs.Command.{witness_dir, asked_of}
+use Rattle.jc_releases.specs.Command.{witness_dir, asked_of}
 use Rattle.jc_words.specs.Command.{CommandOf, CheckOf, CheckCommand, LinkCommand, MakeCommand, HistoryCommand}
 use Rattle.jc_commands.specs.History.{IsKeptRow}
 use Rattle.jc_commands.specs.Make.{IsSize}
 use Rattle.jc_commands.specs.Reports.{ToldTo, RecordsOf, ReportOf, IsReportOn, passes, bytes_of, puts_of}
-use Rattle.jc_commands.specs.Witness.{PutFile, causes_of, witness_puts}
+use Rattle.jc_shown.specs.Witness.{PutFile, causes_of, witness_puts}
 use Rattle.jc_select.specs.DroppedWithin.{InterfacesStill}
 use Rattle.jc_select.specs.Within.{AnswersStill}
 use Rattle.jc_commands.specs.declared.report.Report.{Report}
@@ -29,10 +29,10 @@ use Rattle.jc_commands.specs.declared.report.Condition.{Condition}
 use Rattle.jc_commands.specs.declared.report.Condition.TheVariants as conditions
 use Rattle.jc_commands.specs.declared.body.ReportBody.{ReportBody}
 use Rattle.jc_commands.specs.declared.body.CheckBody.{CheckBody}
-use Rattle.jc_commands.specs.declared.shown.Shown.{Shown}
+use Rattle.jc_shown.specs.declared.shown.Shown.{Shown}
 use Rattle.jc_commands.specs.declared.body.ReportBody.TheVariants as bodies
-use Rattle.jc_commands.specs.declared.status.TheConstants.{PASSED, NOT_PASSED}
-use Rattle.jc_commands.specs.Shown.{CanShow}
+use Rattle.jc_releases.specs.declared.status.TheConstants.{PASSED, NOT_PASSED}
+use Rattle.jc_shown.specs.Shown.{CanShow}
 use Rattle.jc_version.specs.LevelNumbers.{number_of}
 
 -- the status once it is put

@@ -11,13 +11,13 @@ use Rattle.jc_report.specs.HistoryText.{history_text_of, incompatible_steps}
 use Rattle.jc_gate.specs.Gates.{GateOf, all_pass}
 use Rattle.jc_commands.specs.Check.{CheckRecords, CheckReport, IsUnfit, IsFit, IsCheckReport, old_side, new_side, check_bytes, puts_below}
 use Rattle.jc_trees.specs.ClassFiles.{Told}
-use Rattle.jc_commands.specs.Command.{step_of_check}
+use Rattle.jc_releases.specs.Command.{step_of_check}
 use Rattle.jc_words.specs.Command.{CommandOf, CheckCommand, LinkCommand, MakeCommand, HistoryCommand}
 use Rattle.jc_commands.specs.History.{HistoryRecords, IsUnfitRow, IsFitRow, AreVerdictsOn}
 use Rattle.jc_commands.specs.Link.{LinkRecords, release_side, refusal_of, AreOutcomesOf}
 use Rattle.jc_commands.specs.Make.{IsSize, IsVerdictOnMade}
-use Rattle.jc_commands.specs.Witness.{PutFile}
-use Rattle.jc_commands.specs.declared.stop.Stop.{Stop}
+use Rattle.jc_shown.specs.Witness.{PutFile}
+use Rattle.jc_releases.specs.declared.stop.Stop.{Stop}
 
 -- ---- what is read
 

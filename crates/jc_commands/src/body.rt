@@ -1,9 +1,9 @@
 //! What is put of a command.
-use crate::shown::Shown;
 use jc_facts::dropped::Dropped;
 use jc_facts::sig_note::SigNote;
 use jc_facts::verdict::Verdict;
 use jc_facts::warning::Warning;
+use jc_shown::shown::Shown;
 
 /// What is put of a command.
 #[derive(Drop)]

@@ -6,13 +6,13 @@ ghost use Rattle.jc_words.specs.Command.{CheckCommand};
 ghost use Rattle.jc_words.specs.CommandView.{check_of};
 ghost use Rattle.jc_commands.specs.ReportValue.{IsReportOf};
 
-use crate::command::trees_of_check;
 use crate::comparison::Comparison;
-use crate::releases::take_release;
 use crate::report::Report;
-use crate::stop::Stop;
-use crate::unread::stop_of;
 use jc_base::trees::Trees;
+use jc_releases::command::trees_of_check;
+use jc_releases::releases::take_release;
+use jc_releases::stop::Stop;
+use jc_releases::unread::stop_of;
 use jc_trees::read_trees::read_trees;
 use jc_trees::tree::TreeName;
 use jc_trees::tree_read::take_records;

@@ -7,11 +7,11 @@ ghost use Rattle.jc_commands.specs.DroppedPart.{AreAskedDropped};
 ghost use Rattle.jc_commands.specs.steps.Check.{AreFoundWithin, StopsDropping};
 ghost use Rattle.jc_select.specs.DroppedWithin.{AreDroppedWithin, InterfacesStill};
 
-use crate::limits::{MAX_DROPPED, MAX_FINDINGS};
-use crate::stop::{Part, Stop};
 use jc_acts::seats::Seats;
 use jc_facts::dropped::Dropped;
 use jc_facts::verdict::Verdict;
+use jc_releases::limits::{MAX_DROPPED, MAX_FINDINGS};
+use jc_releases::stop::{Part, Stop};
 use jc_rules::compare::compare_over;
 use jc_rules::losses::Losses;
 use jc_select::dropped::dropped_over;

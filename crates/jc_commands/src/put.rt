@@ -4,28 +4,28 @@ ghost use Rattle.jc_base.specs.States.{change};
 ghost use Rattle.jc_gate.specs.Gates.{gate_of};
 ghost use Rattle.jc_commands.specs.Check.{verdict_bytes, behind_bytes, besides_bytes, check_bytes};
 ghost use Rattle.jc_commands.specs.Outputs.{PutsAll, PutsFront, HasPutFault, HasFolderFault, IsUntouched};
-ghost use Rattle.jc_commands.specs.Stop.{line_of, status_of};
-ghost use Rattle.jc_commands.specs.Witness.{PutsFiles, PutsSome};
+ghost use Rattle.jc_releases.specs.Stop.{line_of, status_of};
+ghost use Rattle.jc_shown.specs.Witness.{PutsFiles, PutsSome};
 ghost use Rattle.jc_commands.specs.ReportValue.{CanShowAll, CanShowAny, report_in, bytes_in, dir_shown, dir_in, puts_shown, puts_in, passes_by, status_by};
 ghost use Rattle.jc_commands.specs.Putting.{IsPutWith, IsPutAfter, IsCutBefore};
-ghost use Rattle.jc_commands.specs.declared.stop.Stop.{Stop};
+ghost use Rattle.jc_releases.specs.declared.stop.Stop.{Stop};
 ghost use Rattle.jc_report.specs.Listing.{part_bytes};
 
 use crate::body::{CheckBody, ReportBody};
-use crate::put_witnesses::put_witnesses;
 use crate::report::Report;
-use crate::status::{NO_MEMORY, WRITE_FAULT};
-use crate::stop::Stop;
 use jc_base::folder::{Folder, FolderError};
 use jc_base::sink::{Sink, SinkError};
 use jc_facts::verdict::Verdict;
 use jc_gate::gate::Gate;
+use jc_releases::status::{NO_MEMORY, WRITE_FAULT};
+use jc_releases::stop::Stop;
 use jc_report::entry::Entry;
 use jc_report::json::put_json;
 use jc_report::put_history::put_history;
 use jc_report::put_lines::put_lines;
 use jc_report::put_listing::put_listing;
 use jc_report::put_text::put_text;
+use jc_shown::put_witnesses::put_witnesses;
 use std::alloc::Global;
 
 // Puts the JSON of a verdict where it is asked for, made whole, and else its text, made line by line.

@@ -13,17 +13,17 @@ ghost use Rattle.jc_commands.specs.ReportValue.{TellsOf, HasToShow, IsShownIn, I
 
 use crate::body::{CheckBody, ReportBody};
 use crate::comparison::Comparison;
-use crate::shown::Shown;
-use crate::status::{NOT_PASSED, PASSED};
-use crate::versions::step_of_check;
 use jc_facts::finding::Finding;
 use jc_facts::outcome::Outcome;
 use jc_facts::verdict::{Collision, Verdict};
 use jc_gate::ask::all_pass;
 use jc_gate::gate::Gate;
+use jc_releases::status::{NOT_PASSED, PASSED};
+use jc_releases::versions::step_of_check;
 use jc_report::history_text::count_incompatible;
 use jc_report::link_text::link_text;
 use jc_report::made_text::made_text;
+use jc_shown::shown::Shown;
 use jc_table::table::Table;
 use jc_version::level::Level;
 use jc_words::check::Check;

@@ -28,8 +28,8 @@ use Rattle.jc_promises.specs.rule.Verdict.{IsVerdict}
 use Rattle.jc_sound.proofs.ClassGoneLaw.{class_gone_breaks}
 use Rattle.jc_facts.proofs.InOrder.{exact_same, exact_append}
 use Rattle.jc_sound.proofs.SoundnessLaws.{keeps}
-use Rattle.jc_rules.specs.steps.Notes.{NoteIn, IsUnloadable, IsFixed, IsConstantNote}
-use Rattle.jc_rules.proofs.NoteUnloadable.{notes_exact}
+use Rattle.jc_declared.specs.steps.Notes.{NoteIn, IsUnloadable, IsFixed, IsConstantNote}
+use Rattle.jc_declared.proofs.NoteUnloadable.{notes_exact}
 use Rattle.jc_sides.proofs.Pair.{pair_of}
 use Rattle.jc_sides.specs.SidesOf.{SidesOf, AreSides}
 

@@ -11,7 +11,7 @@ use Rattle.jc_promises.specs.rule.Bases.{is_class_usable}
 use Rattle.jc_promises.specs.rule.Exposed.{is_hidden, exposing_act}
 use Rattle.jc_promises.specs.plan.Planned.{acts_exposing}
 use Rattle.jc_index.specs.Ids.{id_of}
-use Rattle.jc_witness.proofs.ClassesByName.{loaded_number}
+use Rattle.jc_drafts.proofs.ClassesByName.{loaded_number}
 
 -- a hidden class has the act, if there is one
 pub of_hidden : (W : World) (a x : Bytes) → is_hidden W x ≡ true → (act : Option MemberAct) → act ≡ exposing_act W a x → cons_option act [] ≡ acts_exposing W a x

@@ -1,4 +1,2 @@
 pub mod Found
-pub mod Drafted
-pub mod DraftView
 pub mod PlanFiles

@@ -4,12 +4,12 @@ ghost use Rattle.jc_promises.specs.plan.Planned.{assigns, names_above, names_cla
 ghost use Rattle.jc_promises.specs.plan.PlannedBodies.{above_bodies, cast_steps, turn_steps, user_bodies};
 ghost use Rattle.jc_witness.specs.steps.PlanFiles.{package_of, files_of_plan};
 
-use crate::bodies::{cast_to, return_parameter};
-use crate::draft::{Draft, PUBLIC_CLASS};
 use crate::planned_files::{PlannedFiles, user_of};
 use crate::planner::Planner;
-use crate::texts::{from_to, root_name, with_parameter};
 use jc_base::name::Name;
+use jc_drafts::bodies::{cast_to, return_parameter};
+use jc_drafts::draft::{Draft, PUBLIC_CLASS};
+use jc_drafts::texts::{from_to, root_name, with_parameter};
 use jc_facts::verdict::Spot;
 use std::alloc::{AllocError, Global};
 

@@ -5,11 +5,11 @@ ghost use Rattle.jc_promises.specs.plan.PlannedBodies.{blueprint, captured_bodie
 ghost use Rattle.jc_promises.specs.plan.PlannedNames.{constructor, in_package};
 ghost use Rattle.jc_witness.specs.steps.PlanFiles.{package_of, files_of_plan};
 
-use crate::draft::{ABSTRACT_CLASS, Draft, PUBLIC, PUBLIC_CLASS};
 use crate::member_plans::{abstract_of, user_acting};
 use crate::planned_files::{PlannedFiles, both};
 use crate::planner::Planner;
 use jc_base::name::Name;
+use jc_drafts::draft::{ABSTRACT_CLASS, Draft, PUBLIC, PUBLIC_CLASS};
 use jc_facts::act::Act;
 use jc_facts::blueprint::Blueprint;
 use jc_facts::class_facts::Member;

@@ -10,13 +10,13 @@ ghost use Rattle.jc_witness.specs.Ground.{CanRefer};
 ghost use Rattle.jc_witness.specs.Exposing.{CanExpose};
 ghost use Rattle.jc_witness.specs.steps.PlanFiles.{package_of, files_of_plan};
 
-use crate::bodies::expose_and_return;
 use crate::class_plans::assigning;
-use crate::draft::{Draft, PUBLIC_CLASS, body};
 use crate::planned_files::{PlannedFiles, static_use};
 use crate::planner::Planner;
-use crate::texts::from_behind;
 use jc_base::name::Name;
+use jc_drafts::bodies::expose_and_return;
+use jc_drafts::draft::{Draft, PUBLIC_CLASS, body};
+use jc_drafts::texts::from_behind;
 use jc_facts::member_act::MemberAct;
 use jc_facts::verdict::Spot;
 use jc_sides::found::push_some;

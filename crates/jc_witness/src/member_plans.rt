@@ -6,12 +6,12 @@ ghost use Rattle.jc_facts.specs.client.Acts.{is_act_on_static};
 ghost use Rattle.jc_witness.specs.Ground.{CanRefer};
 ghost use Rattle.jc_witness.specs.steps.PlanFiles.{package_of, files_of_plan};
 
-use crate::bodies::{act_on, make_object};
-use crate::draft::{ABSTRACT_CLASS, Draft, PUBLIC_ABSTRACT, PUBLIC_CLASS, body};
 use crate::planned_files::{PlannedFiles, static_use, user_of};
 use crate::planner::Planner;
-use crate::texts::{with_parameter, without_parameters};
 use jc_base::name::Name;
+use jc_drafts::bodies::{act_on, make_object};
+use jc_drafts::draft::{ABSTRACT_CLASS, Draft, PUBLIC_ABSTRACT, PUBLIC_CLASS, body};
+use jc_drafts::texts::{with_parameter, without_parameters};
 use jc_facts::act::Act;
 use jc_facts::blueprint::Blueprint;
 use jc_facts::class_facts::Member;

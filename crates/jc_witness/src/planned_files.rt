@@ -6,10 +6,10 @@ ghost use Rattle.jc_promises.specs.plan.Planned.{no_plan, use_method, user};
 ghost use Rattle.jc_promises.specs.plan.PlannedBodies.{blueprint, user_bodies};
 ghost use Rattle.jc_witness.specs.steps.PlanFiles.{class_of_file, ending_with, in_order, package_of, files_of_plan};
 
-use crate::draft::{Draft, PUBLIC_STATIC, body};
 use crate::planner::Planner;
 use jc_base::items::Items;
 use jc_base::name::Name;
+use jc_drafts::draft::{Draft, PUBLIC_STATIC, body};
 use jc_facts::blueprint::{Blueprint, Step};
 use jc_facts::class_facts::Member;
 use jc_facts::verdict::Spot;

@@ -8,13 +8,13 @@ ghost use Rattle.jc_promises.specs.plan.Planned.{acts_exposing, receiver_for};
 ghost use Rattle.jc_promises.specs.plan.PlannedNames.{in_package, fresh_package, own_name, closed_name, constructor};
 ghost use Rattle.jc_witness.specs.Ground.{IsGround, CanRefer};
 
-use crate::classes::is_interface;
-use crate::constructor::constructor_of;
 use crate::exposing::exposing;
-use crate::package::{fresh, name_in};
-use crate::permitted::{missing_of, permitted_of};
 use crate::receiver::finds_public;
 use jc_base::name::Name;
+use jc_drafts::classes::is_interface;
+use jc_drafts::constructor::constructor_of;
+use jc_drafts::package::{fresh, name_in};
+use jc_drafts::permitted::{missing_of, permitted_of};
 use jc_facts::act::Act;
 use jc_facts::key::Key;
 use jc_facts::member_act::MemberAct;

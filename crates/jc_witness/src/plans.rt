@@ -15,7 +15,7 @@ use crate::exposed_plans::assigning_from;
 use crate::member_plans::{acting, constructing, inheriting, making, overriding};
 use crate::planned_files::PlannedFiles;
 use crate::planner::Planner;
-use crate::texts::root_name;
+use jc_drafts::texts::root_name;
 use jc_facts::act::Act;
 use jc_facts::finding::Finding;
 use jc_facts::key::Key;

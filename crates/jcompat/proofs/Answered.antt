@@ -15,9 +15,9 @@ use Rattle.jc_trees.specs.declared.file_fault.FileFault.{FileFault}
 use Rattle.jc_trees.specs.declared.file_fault.FileFault.TheVariants as faults
 use Rattle.jc_trees.specs.declared.file_fault.TreeFault.TheVariants as tree_faults
 use Rattle.jc_commands.specs.declared.report.Report.{Report}
-use Rattle.jc_commands.specs.declared.status.TheConstants.{PASSED, NOT_PASSED, WRITE_FAULT, NO_MEMORY, LIMIT}
-use Rattle.jc_commands.specs.declared.stop.Stop.{Stop}
-use Rattle.jc_commands.specs.declared.stop.Stop.TheVariants as stops
+use Rattle.jc_releases.specs.declared.status.TheConstants.{PASSED, NOT_PASSED, WRITE_FAULT, NO_MEMORY, LIMIT}
+use Rattle.jc_releases.specs.declared.stop.Stop.{Stop}
+use Rattle.jc_releases.specs.declared.stop.Stop.TheVariants as stops
 use Rattle.jc_commands.specs.Causes.{HasCause, HasFailed}
 use Rattle.jc_commands.specs.Outputs.{IsQuiet, IsUntouched, PutsAll, PutsFront}
 use Rattle.jcompat.specs.Answers.{Ran, Answers, Due, due_bytes, Puts, IsStopped, CutsWitnesses, CutsReport, CutsRefusal, Planned, IsPut, Leaves, OfFiles}
@@ -26,7 +26,7 @@ use Rattle.jc_commands.specs.DroppedPart.{dropped_bytes}
 use Rattle.jc_commands.specs.Signatures.{sig_bytes}
 use Rattle.jc_commands.proofs.SomeSignatures.{noted_list}
 use Rattle.jc_trees.specs.ClassFiles.{Told}
-use Rattle.jc_commands.specs.Command.{step_of_check, witness_dir}
+use Rattle.jc_releases.specs.Command.{step_of_check, witness_dir}
 use Rattle.jc_words.specs.Command.{CommandOf, CheckOf, HistoryOf, CheckCommand, LinkCommand, MakeCommand, HistoryCommand, asked}
 use Rattle.jc_commands.specs.History.{IsKeptRow}
 use Rattle.jc_commands.specs.Reports.{RecordsOf, IsReportOn, rules_of, puts_of}
@@ -40,8 +40,8 @@ use Rattle.jc_version.specs.Needs.{need_of, HasVersionGate}
 use Rattle.jc_version.proofs.Gate.{version_alone}
 use Rattle.jc_commands.proofs.RulesTell.{rules_tell, links_alone, none_found, found_none}
 use Rattle.jc_commands.proofs.StepSaid.{said_least, said_most}
-use Rattle.jc_commands.specs.Stop.{line_of, file_status, status_of}
-use Rattle.jc_commands.specs.Witness.{PutsFiles, PutsSome, causes_of, witness_puts}
+use Rattle.jc_releases.specs.Stop.{line_of, file_status, status_of}
+use Rattle.jc_shown.specs.Witness.{PutsFiles, PutsSome, causes_of, witness_puts}
 use Rattle.jc_commands.specs.ReportValue.{IsChecked, IsReportOf, Reports, bytes_in, dir_in, puts_in, passes_by, status_by}
 use Rattle.jc_commands.specs.Putting.{IsPutWith, IsPutAfter, IsCutBefore}
 use Rattle.jc_commands.proofs.Asked.{asked_without}

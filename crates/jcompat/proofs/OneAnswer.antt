@@ -1,13 +1,11 @@
 -- Two runs that ask the same.
-use Rattle.std.proofs.Common.{◌≡◌, Bool, Option, Some, List, sym, ap, subst, ◌∙◌}
-use Rattle.std.specs.Prelude.{Ok}
+use Rattle.std.proofs.Common.{◌≡◌, List, sym, ap, subst, ◌∙◌}
 use Rattle.jc_base.specs.Outside.{FileOf}
-use Rattle.jc_facts.specs.Names.{Bytes}
 use Rattle.jc_gate.specs.Gates.{GateOf}
-use Rattle.jc_commands.specs.Command.{asked_of}
+use Rattle.jc_releases.specs.Command.{asked_of}
 use Rattle.jc_words.specs.Command.{CommandOf}
 use Rattle.jc_commands.specs.ReportValue.{status_by}
-use Rattle.jc_commands.specs.Reports.{ToldTo, RecordsOf, ReportOf, IsReportOn, passes, bytes_of}
+use Rattle.jc_commands.specs.Reports.{RecordsOf, ReportOf, IsReportOn, passes, bytes_of}
 use Rattle.jc_commands.proofs.Events.{told_to}
 use Rattle.jc_commands.proofs.Records.{one_report_of}
 use Rattle.jc_trees.proofs.Results.{same_ok}

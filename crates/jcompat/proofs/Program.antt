@@ -1,5 +1,5 @@
 -- The program's own gates: each is the only one of its name.
-use Rattle.std.proofs.Common.{◌≡◌, List, [], ◌∷◌, refl}
+use Rattle.std.proofs.Common.{List, [], ◌∷◌, refl}
 use Rattle.jc_gate.specs.Gates.{GateOf}
 use Rattle.jc_gate.specs.Meanings.{HasLinksGate}
 use Rattle.jc_version.specs.Needs.{HasVersionGate}

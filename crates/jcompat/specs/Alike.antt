@@ -3,7 +3,7 @@
 use Rattle.std.specs.Prelude.{◌≡◌, ◌⊎◌, List, Some}
 use Rattle.jc_base.specs.Outside.{FileOf}
 use Rattle.jc_facts.specs.Names.{Bytes}
-use Rattle.jc_commands.specs.declared.status.TheConstants.{PASSED, NOT_PASSED}
+use Rattle.jc_releases.specs.declared.status.TheConstants.{PASSED, NOT_PASSED}
 use Rattle.jcompat.specs.Answers.{Ran, Answers, Puts}
 
 -- they have the same gates and words, and are told the same files

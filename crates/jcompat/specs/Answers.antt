@@ -12,19 +12,19 @@ use Rattle.jc_commands.specs.Check.{CheckReport, IsAnswered, IsCompatible, IsInc
 use Rattle.jc_commands.specs.DroppedPart.{dropped_bytes}
 use Rattle.jc_commands.specs.Signatures.{sig_bytes}
 use Rattle.jc_trees.specs.ClassFiles.{Told}
-use Rattle.jc_commands.specs.Command.{witness_dir, step_of_check, asked_of}
+use Rattle.jc_releases.specs.Command.{witness_dir, step_of_check, asked_of}
 use Rattle.jc_words.specs.Command.{CommandOf, CheckOf, HistoryOf, CheckCommand, HistoryCommand, asked}
 use Rattle.jc_commands.specs.History.{IsKeptRow}
 use Rattle.jc_commands.specs.Outputs.{IsQuiet, PutsAll, PutsFront, HasPutFault, IsUntouched, HasFolderFault}
 use Rattle.jc_commands.specs.ReportValue.{status_by}
 use Rattle.jc_commands.specs.Reports.{ToldTo, RecordsOf, ReportOf, IsReportOn, rules_of, passes, bytes_of, puts_of}
-use Rattle.jc_commands.specs.Stop.{line_of, status_of}
-use Rattle.jc_commands.specs.Witness.{PutFile, PutsFiles, PutsSome}
+use Rattle.jc_releases.specs.Stop.{line_of, status_of}
+use Rattle.jc_shown.specs.Witness.{PutFile, PutsFiles, PutsSome}
 use Rattle.jc_report.specs.HistoryText.{history_text_of}
 use Rattle.jc_version.specs.Needs.{need_of, HasVersionGate}
-use Rattle.jc_commands.specs.declared.status.TheConstants.{PASSED, NOT_PASSED, USAGE, BAD_INPUT, READ_FAULT, WRITE_FAULT, NO_MEMORY, LIMIT}
-use Rattle.jc_commands.specs.declared.stop.Stop.{Stop}
-use Rattle.jc_commands.specs.declared.stop.Stop.TheVariants as stops
+use Rattle.jc_releases.specs.declared.status.TheConstants.{PASSED, NOT_PASSED, USAGE, BAD_INPUT, READ_FAULT, WRITE_FAULT, NO_MEMORY, LIMIT}
+use Rattle.jc_releases.specs.declared.stop.Stop.{Stop}
+use Rattle.jc_releases.specs.declared.stop.Stop.TheVariants as stops
 
 -- the gates, what was asked for, the trees, both sinks and the folder for witness files before and after, and the exit status
 pub record Ran : Type 0 where

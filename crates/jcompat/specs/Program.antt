@@ -4,10 +4,10 @@ use Rattle.jc_gate.specs.Gates.{GateOf}
 use Rattle.jc_gate.specs.Meanings.{IsGateBy, has_no_finding, has_no_collision, has_at_most}
 use Rattle.jc_version.specs.Needs.{IsVersionGate, need_of}
 use Rattle.jc_commands.specs.Check.{CheckReport, IsBorneOut, check_bytes}
-use Rattle.jc_commands.specs.Command.{step_of_check}
+use Rattle.jc_releases.specs.Command.{step_of_check}
 use Rattle.jc_words.specs.Command.{CheckOf, CheckCommand, asked}
 use Rattle.jc_commands.specs.Reports.{rules_of}
-use Rattle.jc_commands.specs.declared.status.TheConstants.{PASSED, NOT_PASSED}
+use Rattle.jc_releases.specs.declared.status.TheConstants.{PASSED, NOT_PASSED}
 use Rattle.jcompat.specs.Answers.{Ran, Answers, OfFiles, Puts}
 
 -- the gates are `links`, `collisions`, `few`, which lets ten findings and collisions pass, and `version`, each by what it answers

@@ -15,8 +15,8 @@ ghost use Rattle.jcompat.specs.Answers.{Answers, Ran, ran, Puts};
 ghost use Rattle.jc_words.specs.Command.{CommandOf, MakeCommand, asked};
 ghost use Rattle.jc_commands.specs.Make.{IsVerdictOnMade};
 ghost use Rattle.jc_commands.specs.Reports.{RecordsOf, ReportOf, Accepts, IsReportOn};
-ghost use Rattle.jc_commands.specs.declared.status.TheConstants.{PASSED, READ_FAULT, WRITE_FAULT, NO_MEMORY};
-ghost use Rattle.jc_commands.specs.declared.stop.Stop.{Stop};
+ghost use Rattle.jc_releases.specs.declared.status.TheConstants.{PASSED, READ_FAULT, WRITE_FAULT, NO_MEMORY};
+ghost use Rattle.jc_releases.specs.declared.stop.Stop.{Stop};
 
 use crate::run::run;
 use jc_base::folder::Folder;

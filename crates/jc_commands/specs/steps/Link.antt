@@ -6,8 +6,8 @@ use Rattle.jc_link.specs.declared.refusal.LinkRefusal.{LinkRefusal}
 use Rattle.jc_link.specs.declared.refusal.LinkRefusal.TheVariants as refusals
 use Rattle.jc_commands.specs.Link.{refusal_of}
 use Rattle.jc_trees.specs.declared.tree.TreeName.TheVariants as names
-use Rattle.jc_commands.specs.declared.stop.Stop.{Stop}
-use Rattle.jc_commands.specs.declared.stop.Stop.TheVariants as stops
+use Rattle.jc_releases.specs.declared.stop.Stop.{Stop}
+use Rattle.jc_releases.specs.declared.stop.Stop.TheVariants as stops
 
 -- why linking the clients stopped
 abbrev pub StopsLinking : World → List ClientClass → Stop → Type 0

@@ -2,9 +2,9 @@ use Rattle.std.proofs.Common.{◌∙◌, sym, ap, length, subst}
 use Rattle.jc_promises.specs.Pairs.{AreOfOneRun}
 use Rattle.jc_facts.specs.world.World.{World}
 use Rattle.jc_witness.specs.Ground.{HasShortSide}
-use Rattle.jc_commands.specs.Releases.{side_of}
+use Rattle.jc_releases.specs.Releases.{side_of}
 use Rattle.jc_commands.proofs.Compared.{short_side}
-use Rattle.jc_commands.proofs.ReleasesOver.{two_sides, two_tables, two_lists, two_some, two_fit, two_stopped, two_of_run}
+use Rattle.jc_commands.proofs.TwoReleases.{two_sides, two_tables, two_lists, two_some, two_fit, two_stopped, two_of_run}
 use Rattle.jc_commands.proofs.comparison.sides_over.Goals as goal
 
 pub tables_over-requires-clause-releases : goal.tables_over-requires-clause-releases

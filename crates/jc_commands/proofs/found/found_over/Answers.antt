@@ -4,7 +4,7 @@ use Rattle.jc_exposed.specs.Exposed.{AreExposed, AreWanted}
 use Rattle.jc_rules.specs.steps.Losses.{exposed_of}
 use Rattle.jc_rules.specs.Verdicts.{IsVerdictWithin, KeepsAll, BreaksEach}
 use Rattle.jc_select.specs.steps.Losing.{hidden_of}
-use Rattle.jc_commands.specs.declared.limits.TheConstants.{MAX_FINDINGS}
+use Rattle.jc_releases.specs.declared.limits.TheConstants.{MAX_FINDINGS}
 use Rattle.std.specs.Prelude.{IfSome}
 use Rattle.jc_commands.proofs.found.found_over.Goals as goal
 

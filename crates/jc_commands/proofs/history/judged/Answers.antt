@@ -1,10 +1,10 @@
 use Rattle.std.proofs.Common.{◌∙◌, List, [], map, subst, sym}
 use Rattle.jc_facts.specs.declared.class_facts.ClassFacts.{ClassFacts}
 use Rattle.jc_trees.specs.ClassLists.{IsRecordList}
-use Rattle.jc_commands.specs.declared.releases.Release.{Release}
+use Rattle.jc_releases.specs.declared.releases.Release.{Release}
 use Rattle.jc_commands.specs.steps.History.{IsJudged, StopsJudging}
-use Rattle.jc_commands.specs.declared.stop.Part.TheVariants as parts
-use Rattle.jc_commands.specs.declared.stop.Stop.TheVariants as stops
+use Rattle.jc_releases.specs.declared.stop.Part.TheVariants as parts
+use Rattle.jc_releases.specs.declared.stop.Stop.TheVariants as stops
 use Rattle.jc_facts.specs.world.World.{side}
 use Rattle.jc_commands.proofs.RowJudged.{are_of_run, row_judged, row_refused, row_stopped, row_fits, valid_row, row_is}
 use Rattle.jc_commands.proofs.history.judged.Goals as goal

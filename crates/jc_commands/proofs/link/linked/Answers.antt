@@ -1,5 +1,5 @@
 use Rattle.jc_commands.proofs.Causes.{refusal_stops, none_refused}
-use Rattle.jc_commands.specs.Releases.{modules_in}
+use Rattle.jc_releases.specs.Releases.{modules_in}
 use Rattle.jc_commands.proofs.link.linked.Goals as goal
 
 pub returns-in-Ok-linked_in-clause-outcomes : goal.returns-in-Ok-linked_in-clause-outcomes

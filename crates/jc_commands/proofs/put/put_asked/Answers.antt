@@ -1,6 +1,6 @@
 use Rattle.std.proofs.Common.{ap}
 use Rattle.jc_commands.specs.ReportValue.{dir_shown}
-use Rattle.jc_commands.proofs.FilesPut.{none_put}
+use Rattle.jc_shown.proofs.FilesPut.{none_put}
 use Rattle.jc_commands.proofs.put.put_asked.Goals as goal
 
 pub returns-in-None-clause-whole : goal.returns-in-None-clause-whole

@@ -1,4 +1,4 @@
-use Rattle.jc_commands.proofs.FilesPut.{none_put}
+use Rattle.jc_shown.proofs.FilesPut.{none_put}
 use Rattle.jc_commands.proofs.put.put_shown.Goals as goal
 
 pub returns-in-Bytes-clause-whole : goal.returns-in-Bytes-clause-whole

@@ -4,11 +4,11 @@ use Rattle.jc_promises.specs.rule.Findings.{Stands}
 use Rattle.jc_facts.specs.Orders.{finding_order}
 use Rattle.jc_rules.proofs.AllRules.{no_finding}
 use Rattle.jc_rules.proofs.ByRule.{none_of}
-use Rattle.jc_rules.proofs.ConstructorClosed.{is_rule as constructor_closed}
-use Rattle.jc_rules.proofs.FieldClosed.{is_rule as field_closed}
-use Rattle.jc_rules.proofs.InterfaceMethodLost.{is_rule as interface_method_lost}
-use Rattle.jc_rules.proofs.MethodClosed.{is_rule as method_closed}
-use Rattle.jc_rules.proofs.MethodMadeFinal.{is_rule as method_made_final}
+use Rattle.jc_declared.proofs.ConstructorClosed.{is_rule as constructor_closed}
+use Rattle.jc_declared.proofs.FieldClosed.{is_rule as field_closed}
+use Rattle.jc_declared.proofs.InterfaceMethodLost.{is_rule as interface_method_lost}
+use Rattle.jc_declared.proofs.MethodClosed.{is_rule as method_closed}
+use Rattle.jc_declared.proofs.MethodMadeFinal.{is_rule as method_made_final}
 use Rattle.jc_rules.proofs.compare.found_by.Goals as goal
 
 pub by_items-requires-clause-ready : goal.by_items-requires-clause-ready

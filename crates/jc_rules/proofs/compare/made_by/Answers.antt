@@ -3,9 +3,9 @@ use Rattle.jc_promises.specs.rule.Collisions.{CollisionStands}
 use Rattle.jc_facts.specs.Orders.{collision_order}
 use Rattle.jc_rules.proofs.AllRules.{no_collision}
 use Rattle.jc_rules.proofs.ByRule.{none_of}
-use Rattle.jc_rules.proofs.CaptureAdded.{is_rule as capture_added}
-use Rattle.jc_rules.proofs.ConstantAdded.{is_rule as constant_added}
-use Rattle.jc_rules.proofs.FinalAdded.{is_rule as final_added}
+use Rattle.jc_declared.proofs.CaptureAdded.{is_rule as capture_added}
+use Rattle.jc_declared.proofs.ConstantAdded.{is_rule as constant_added}
+use Rattle.jc_declared.proofs.FinalAdded.{is_rule as final_added}
 use Rattle.jc_rules.proofs.compare.made_by.Goals as goal
 
 pub by_items-requires-clause-rule : goal.by_items-requires-clause-rule

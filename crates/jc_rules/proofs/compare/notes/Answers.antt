@@ -2,7 +2,7 @@ use Rattle.std.proofs.Common.{true, false, subst}
 use Rattle.jc_facts.specs.Orders.{note_order}
 use Rattle.jc_facts.specs.Exactly.{HasExactly}
 use Rattle.jc_sides.specs.SidesOf.{SidesOf}
-use Rattle.jc_rules.specs.steps.Notes.{NoteIn}
+use Rattle.jc_declared.specs.steps.Notes.{NoteIn}
 use Rattle.jc_rules.proofs.AllRules.{all_notes}
 use Rattle.jc_rules.proofs.compare.notes.Goals as goal
 

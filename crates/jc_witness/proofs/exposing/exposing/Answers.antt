@@ -2,7 +2,7 @@ use Rattle.std.proofs.Common.{◌≡◌, false, true, is_some, sym, ap, subst, �
 use Rattle.std.proofs.lemmas.Result.{IfOk-weaker}
 use Rattle.jc_promises.specs.rule.Exposed.{is_hidden, exposing_act}
 use Rattle.jc_index.specs.Ids.{id_of, name_at}
-use Rattle.jc_witness.proofs.ClassesByName.{loaded_number, number_name}
+use Rattle.jc_drafts.proofs.ClassesByName.{loaded_number, number_name}
 use Rattle.jc_witness.proofs.HiddenActs.{of_hidden, of_other, of_absent}
 use Rattle.jc_witness.proofs.exposing.exposing.Goals as goal
 

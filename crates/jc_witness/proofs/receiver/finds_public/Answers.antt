@@ -3,7 +3,7 @@ use Rattle.jc_facts.specs.client.Acts.{form_of}
 use Rattle.jc_index.specs.Ids.{id_of, name_at}
 use Rattle.jc_witness.specs.Ground.{CanRefer}
 use Rattle.jc_witness.specs.steps.Found.{IsFoundBy}
-use Rattle.jc_witness.proofs.ClassesByName.{loaded_number, number_name}
+use Rattle.jc_drafts.proofs.ClassesByName.{loaded_number, number_name}
 use Rattle.jc_witness.proofs.Refers.{found_public}
 use Rattle.jc_witness.proofs.receiver.finds_public.Goals as goal
 

@@ -3,10 +3,10 @@ use Rattle.std.specs.Prelude.{IfOk, IfErr, IfSome}
 use Rattle.jc_select.specs.DroppedWithin.{InterfacesStill}
 use Rattle.jc_words.specs.CommandView.{check_of}
 use Rattle.jc_commands.specs.DroppedPart.{AreAskedDropped}
-use Rattle.jc_commands.specs.Releases.{side_of}
+use Rattle.jc_releases.specs.Releases.{side_of}
 use Rattle.jc_commands.specs.steps.Check.{StopsDropping}
 use Rattle.jc_commands.proofs.Causes.{unmatched, unfit_counting, unfit_warning, unfit_dropping}
-use Rattle.jc_commands.proofs.ReleasesOver.{two_paired}
+use Rattle.jc_commands.proofs.TwoReleases.{two_paired}
 use Rattle.jc_commands.proofs.comparison.Comparison.of_records.Goals as goal
 
 pub returns-in-Ok-dropped-clause-compared : goal.returns-in-Ok-dropped-clause-compared

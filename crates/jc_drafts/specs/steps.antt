@@ -1,0 +1,3 @@
+-- Words of the clauses of private functions.
+pub mod Drafted
+pub mod DraftView

@@ -1,0 +1,3 @@
+-- Words of the clauses of private functions.
+pub mod Trees
+pub mod Releases

@@ -1,5 +1,0 @@
-use Rattle.jc_rules.proofs.CaptureAdded.{of_methods}
-use Rattle.jc_rules.proofs.capture_added.CaptureAddedItemRule.members.Goals as goal
-
-pub returns : goal.returns
-returns c = λ s x covered. of_methods s x

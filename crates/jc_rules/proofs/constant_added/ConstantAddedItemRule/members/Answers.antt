@@ -1,5 +1,0 @@
-use Rattle.jc_rules.proofs.ConstantAdded.{of_fields}
-use Rattle.jc_rules.proofs.constant_added.ConstantAddedItemRule.members.Goals as goal
-
-pub returns : goal.returns
-returns c = λ s x covered. of_fields s x

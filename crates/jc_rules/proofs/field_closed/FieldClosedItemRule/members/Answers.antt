@@ -1,6 +1,0 @@
-use Rattle.jc_rules.proofs.ChangedClasses.{steady}
-use Rattle.jc_rules.proofs.FieldClosed.{of_fields}
-use Rattle.jc_rules.proofs.field_closed.FieldClosedItemRule.members.Goals as goal
-
-pub returns : goal.returns
-returns c = λ s x covered. of_fields s x (steady s x covered)

@@ -1,6 +1,0 @@
-use Rattle.jc_rules.proofs.ChangedClasses.{steady}
-use Rattle.jc_rules.proofs.MethodClosed.{of_methods}
-use Rattle.jc_rules.proofs.method_closed.MethodClosedItemRule.members.Goals as goal
-
-pub returns : goal.returns
-returns c = λ s x covered. of_methods s x (steady s x covered)

@@ -1,5 +1,0 @@
-use Rattle.jc_rules.proofs.MethodMadeFinal.{of_finals}
-use Rattle.jc_rules.proofs.method_made_final.MethodMadeFinalItemRule.members.Goals as goal
-
-pub returns : goal.returns
-returns c = λ s x covered. of_finals s x

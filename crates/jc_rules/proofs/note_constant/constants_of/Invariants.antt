@@ -1,5 +1,0 @@
-use Rattle.jc_rules.proofs.NoteConstant.{HasLast}
-use Rattle.jc_rules.proofs.note_constant.constants_of.Given as goal
-
-abbrev pub invariant-loop-done : goal.invariant-loop-done
-invariant-loop-done l = HasLast l.constants l.done l.by_key

@@ -1,0 +1,4 @@
+pub mod FilesPut
+pub mod WitnessPaths
+pub mod PathsApart
+pub mod CausesPut

@@ -1,0 +1,2 @@
+-- Words of the clauses of private functions.
+pub mod PutFiles
