@@ -1,5 +1,4 @@
 //! Runs over trees in memory and over folders, against what they are to say.
-mod assembler;
 mod dropped;
 mod files;
 mod folders;
@@ -12,7 +11,6 @@ mod links;
 mod modules;
 mod outside;
 mod refusals;
-mod rows;
 mod signatures;
 mod verdicts;
 mod versions;
@@ -22,8 +20,6 @@ mod words;
 
 use crate::laws::run_surely;
 use crate::run_with_gates;
-use crate::tests::assembler::{cut, number};
-use crate::tests::rows::{Row, in_lines, words_of};
 use crate::tests::witnesses::{CAPTURED, holds, see_witnesses};
 use jc_base::mem_file::{MemFile, is_file_list};
 use jc_base::mem_folder::MemFolder;
@@ -34,6 +30,8 @@ use jc_base::sure_sink::SureSink;
 use jc_base::sure_trees::SureTrees;
 use jc_base::text::Text;
 use jc_base::trees::Trees;
+use jc_examples::assembler::{cut, number};
+use jc_examples::rows::{Row, in_lines, words_of};
 use jc_gate::at_most::AtMost;
 use jc_gate::collisions::Collisions;
 use jc_gate::gate::Gate;
@@ -91,14 +89,20 @@ fn run_over<T: Trees>(rt: &impl Host, words: &[Text], trees: &mut T, calls: &str
 
 // A run of the words of this line over these files, where calls fail.
 fn run_on(rt: &impl Host, line: &str, files: Vec<MemFile>, calls: &str) -> Ended {
-    let words = words_of(rt, line);
+    let words = words_of(rt.alloc(), line).expect(rt, "memory");
     run_over(rt, words.as_slice(), &mut trees(rt, files, calls), calls)
+}
+
+// The files of the row.
+fn files_of(rt: &impl Host, row: &Row<'_>) -> Vec<MemFile> {
+    row.files(rt.alloc()).expect(rt, "memory")
 }
 
 // Sees that the run said what the row says.
 fn see_ended(rt: &impl Host, row: &Row<'_>, ended: &Ended) {
     let said = (ended.status, ended.out.bytes(), ended.err.bytes());
-    assert!(rt; row.is_said(rt, said), "{}", row.shown());
+    let is_said = row.is_said(rt.alloc(), said).expect(rt, "memory");
+    assert!(rt; is_said, "{}", row.shown());
 }
 
 // The gates of the program.
@@ -123,10 +127,10 @@ fn gates_of_program(rt: &impl Host) -> Vec<Box<dyn Gate>> {
 // Sees that a run in which no call can fail says what the row says.
 fn see_sure(rt: &impl Host, row: &Row<'_>) {
     let alloc = rt.alloc();
-    let files = row.files(rt);
+    let files = row.files(alloc).expect(rt, "memory");
     assert!(rt; is_file_list(files.as_slice()));
     let mut trees = SureTrees::new(files);
-    let words = words_of(rt, row.line());
+    let words = words_of(alloc, row.line()).expect(rt, "memory");
     let words = words.as_slice();
     let mut out = SureSink::new(alloc);
     let mut err = SureSink::new(alloc);
@@ -141,11 +145,8 @@ fn see_sure(rt: &impl Host, row: &Row<'_>) {
         &mut folder,
         gates,
     );
-    assert!(rt;
-        row.is_said(rt, (status, out.bytes(), err.bytes())),
-        "{}",
-        row.shown()
-    );
+    let is_said = row.is_said(alloc, (status, out.bytes(), err.bytes()));
+    assert!(rt; is_said.expect(rt, "memory"), "{}", row.shown());
 }
 
 // Whether the folder holds as many files of the witness of a captured call as it should, and counts a
@@ -166,14 +167,14 @@ fn is_failing(calls: &str) -> bool {
 // Sees that a run over trees and streams that may fail says what the row says.
 fn see_run(rt: &impl Host, row: &Row<'_>) {
     let calls = row.shown();
-    let ended = run_on(rt, row.line(), row.files(rt), calls);
+    let ended = run_on(rt, row.line(), files_of(rt, row), calls);
     see_ended(rt, row, &ended);
     assert!(rt; is_left(&ended, calls), "{calls}");
 }
 
 // Sees that each row of the table is right, and its witnesses are, also where no call can fail.
 fn see_table(rt: &impl Host, table: &str) {
-    let lines = in_lines(rt, table);
+    let lines = in_lines(rt.alloc(), table).expect(rt, "memory");
     let (common, rows) = cut(lines.as_str(), "#");
     for own in rows.split('#') {
         let row = Row { common, own };

@@ -1,10 +1,10 @@
 //! Which gates are asked, and what comes of it.
 ghost use Rattle.std.specs.Prelude.{refl, codes, nat_eq, if◌then◌else◌};
 
-use super::assembler::{cut, number, values};
-use super::rows::{Row, words_of};
-use super::{Host, folder, see_table, sink, trees};
+use super::{Host, files_of, folder, see_table, sink, trees};
 use crate::run::run;
+use jc_examples::assembler::{cut, number, values};
+use jc_examples::rows::{Row, words_of};
 use jc_gate::gate::Gate;
 use std::cell::Cell;
 use std::rc::Rc;
@@ -142,7 +142,8 @@ $ link --platform P --release R --client C
 // The gates of a text, which tell their fate.
 fn watched_gates(rt: &impl Host, told: &str, fate: &Rc<Fate>) -> Vec<Box<dyn Gate>> {
     let mut watched: Vec<Box<dyn Gate>> = Vec::new(rt.alloc());
-    for gate in values(rt, told, "watched").as_slice() {
+    let gates = values(rt.alloc(), told, "watched").expect(rt, "memory");
+    for gate in gates.as_slice() {
         let (name, state) = cut(gate, ":");
         let gate = Watched {
             is_links: name == "links",
@@ -159,10 +160,11 @@ fn watched_gates(rt: &impl Host, told: &str, fate: &Rc<Fate>) -> Vec<Box<dyn Gat
 // The status of the row's run, whose gates tell their fate.
 fn asked_status(rt: &impl Host, row: &Row<'_>, fate: &Rc<Fate>) -> u8 {
     let told = row.shown();
+    let words = words_of(rt.alloc(), row.line()).expect(rt, "memory");
     run(
         rt.alloc(),
-        words_of(rt, row.line()).as_slice(),
-        &mut trees(rt, row.files(rt), told),
+        words.as_slice(),
+        &mut trees(rt, files_of(rt, row), told),
         &mut sink(rt, told, "out"),
         &mut sink(rt, told, "err"),
         &mut folder(rt, told),

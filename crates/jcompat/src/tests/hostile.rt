@@ -1,6 +1,6 @@
 //! Runs of which one call fails, and hierarchies that are wide or deep.
-use super::rows::{Row, push};
 use super::{Host, see_run, see_table};
+use jc_examples::rows::Row;
 
 const CAPTURE: &str = r##"$ check --platform P --old O --new N --witness d
 : P java/lang/Object init | O p/A init | N p/A init method=2:run:()V
@@ -59,6 +59,11 @@ fn a_failing_call_ends_a_run(rt: HostRuntime) {
     for table in [CAPTURE, CHECKS, LINKS, OTHERS] {
         see_table(&rt, table);
     }
+}
+
+// Puts more behind a text.
+fn push(rt: &impl Host, text: &mut String, more: &str) {
+    text.push_str(more).expect(rt, "memory")
 }
 
 /// A lattice of interfaces, and its lowest level.

@@ -1,9 +1,9 @@
 //! Trees and calls that are refused.
-use super::assembler::cut;
 use super::outside::{Disk, below, new_folder, put_file, remove};
-use super::rows::{Row, in_lines, words_of};
-use super::{Host, run_over, see_ended, see_table};
+use super::{Host, files_of, run_over, see_ended, see_table};
 use crate::disk_trees::DiskTrees;
+use jc_examples::assembler::cut;
+use jc_examples::rows::{Row, in_lines, words_of};
 use std::test::Fail;
 
 const OVER_ROOT: &str = "$ check --platform P --old O --new N
@@ -53,7 +53,7 @@ const ON_DISK: &str = ": P java/lang/Object init | N bytes notes.txt
 
 // Writes the files of the row to the folders of their roots.
 fn put_row(rt: &impl Host, folder: &str, row: &Row<'_>) {
-    for file in row.files(rt).as_slice() {
+    for file in files_of(rt, row).as_slice() {
         let root = below(rt, folder, file.root.as_str());
         put_file(rt, root.as_str(), file.path.as_str(), file.bytes.as_slice());
     }
@@ -64,7 +64,7 @@ fn see_folders(rt: &impl Host, trees: &mut Disk, folder: &str, row: &Row<'_>) {
     let line = format!(in rt.alloc();
         "check --platform {folder}/P --old {folder}/O --new {folder}/N"
     );
-    let words = words_of(rt, line.expect(rt, "memory").as_str());
+    let words = words_of(rt.alloc(), line.expect(rt, "memory").as_str()).expect(rt, "memory");
     see_ended(rt, row, &run_over(rt, words.as_slice(), trees, ""));
 }
 
@@ -73,7 +73,7 @@ fn real_folders_are_refused(rt: HostRuntime) -> Result<(), Fail> {
     let folder = new_folder(&rt, "check")?;
     let folder = folder.as_str();
     let mut trees = DiskTrees::new(rt.clone().expect(&rt, "memory"));
-    let lines = in_lines(&rt, ON_DISK);
+    let lines = in_lines(rt.alloc(), ON_DISK).expect(&rt, "memory");
     let (common, rows) = cut(lines.as_str(), "#");
     for own in rows.split('#') {
         let row = Row { common, own };

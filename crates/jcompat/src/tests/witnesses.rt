@@ -1,9 +1,9 @@
 //! Checks that ask for witnesses: what stands in the folder then, and what comes of linking it.
-use super::assembler::{cut, file, put_last};
-use super::rows::Row;
-use super::{Ended, Host, run_on, see_ended};
+use super::{Ended, Host, files_of, run_on, see_ended};
 use jc_base::mem_file::MemFile;
 use jc_base::mem_folder::MemFolder;
+use jc_examples::assembler::{cut, file};
+use jc_examples::rows::Row;
 use std::str;
 
 /// The files of the witness of a captured call.
@@ -28,7 +28,7 @@ fn client_file(rt: &impl Host, folder: &MemFolder, path: &str) -> MemFile {
     let (_, rest) = cut(path, "/");
     let (_, place) = cut(rest, "/");
     let bytes = Vec::from_slice(rt.alloc(), folder.get(path).unwrap_or(&[])).expect(rt, "memory");
-    file(rt, "C", place, bytes)
+    file(rt.alloc(), "C", place, bytes).expect(rt, "memory")
 }
 
 // The flag of a link of the witnesses of a check, which stands there where the check has it.
@@ -48,9 +48,11 @@ pub(super) fn linked(
     folder: &MemFolder,
     paths: &str,
 ) -> Ended {
-    let mut files = row.files(rt);
+    let mut files = files_of(rt, row);
     for path in paths.split_whitespace() {
-        put_last(rt, &mut files, client_file(rt, folder, path));
+        files
+            .push(client_file(rt, folder, path))
+            .expect(rt, "memory");
     }
     let flag = flag_of(row.line());
     let line = format!(in rt.alloc(); "link --platform P --release {release} --client C {flag}");
@@ -90,7 +92,7 @@ pub(super) fn checked(rt: &impl Host, row: &Row<'_>, puts: usize) -> Ended {
     let next = puts.saturating_add(1);
     let calls = format!(in rt.alloc(); "folder={next}").expect(rt, "memory");
     let line = format!(in rt.alloc(); "{} --witness d", row.line()).expect(rt, "memory");
-    let check = run_on(rt, line.as_str(), row.files(rt), calls.as_str());
+    let check = run_on(rt, line.as_str(), files_of(rt, row), calls.as_str());
     see_ended(rt, row, &check);
     assert!(rt; check.folder.faults() == 0, "{}", row.shown());
     check
@@ -98,7 +100,7 @@ pub(super) fn checked(rt: &impl Host, row: &Row<'_>, puts: usize) -> Ended {
 
 /// Sees that a check puts the row's witnesses, where it has any, and that they tell the releases apart.
 pub(super) fn see_witnesses(rt: &impl Host, row: &Row<'_>) {
-    let witnesses = row.texts(rt, "*");
+    let witnesses = row.texts(rt.alloc(), "*").expect(rt, "memory");
     if witnesses.is_empty() {
         return;
     }
