@@ -8,7 +8,7 @@ use std::collections::BTreeMap;
 
 /// How many bytes a text has at most of which each mention is a copy of its own: to copy so few costs
 /// less than to look for the copy before.
-const SHORT: usize = 64;
+const SHORT: usize = 32;
 
 /// So many bytes a text has at least that is looked for in the file first, as the last one of its long
 /// texts and then among all: the names of the files before are looked for by a hash of all the bytes.
