@@ -25,8 +25,7 @@ use Rattle.jc_acts.specs.Seats.{may_be_closed}
 use Rattle.jc_acts.proofs.Untouched.{looks_alike, one_record, above_alike}
 use Rattle.jc_sides.specs.Members.{OfPassing}
 use Rattle.jc_sides.specs.SidesOf.{SidesOf, AreSides}
-use Rattle.jc_facts.specs.declared.warning.ChainKind.{ChainKind}
-use Rattle.jc_facts.specs.declared.warning.ChainKind.TheVariants.{Nothing, Abstract, Concrete}
+use Rattle.jc_facts.specs.declared.warning.ChainKind.TheVariants.{Nothing}
 use Rattle.jc_promises.specs.rule.Selection.{declares_abstract, first_kind, chain_kind}
 use Rattle.jc_promises.specs.rule.Warnings.{is_base, is_below_other, interfaces_from, part, stays_in, parts_agree, warn_kind, warning_at}
 use Rattle.jc_select.specs.steps.Warned.{warned, parts_differ}

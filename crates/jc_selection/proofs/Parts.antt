@@ -1,5 +1,5 @@
 -- Two parts that agree: what is said of the interfaces of the one is true of the other.
-use Rattle.std.proofs.Common.{◌≡◌, Bool, true, false, List, refl, sym, ◌∙◌, ap, subst, Option, Some, None, not, ◌&&◌}
+use Rattle.std.proofs.Common.{◌≡◌, Bool, true, List, refl, sym, ◌∙◌, ap, subst, Option, Some, None, not, ◌&&◌}
 use Rattle.std.specs.Bool.{beq}
 use Rattle.std.specs.List.{list_any, list_all, filter, Contains}
 use Rattle.std.proofs.lemmas.Bool.{and_parts, and_from}

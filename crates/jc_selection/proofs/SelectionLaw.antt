@@ -1,17 +1,16 @@
 -- Selection is kept.
 use Rattle.std.proofs.Common.{◌≡◌, true, List, [], refl, subst, Option, Some, None, inr}
 use Rattle.std.specs.List.{Contains}
-use Rattle.std.proofs.lemmas.List.Elements.{recursion_from_All, All-contains}
+use Rattle.std.proofs.lemmas.List.Elements.{All-contains}
 use Rattle.jc_facts.specs.declared.key.Key.{Key}
 use Rattle.jc_facts.specs.declared.act.Act.TheVariants.{Override}
 use Rattle.jc_facts.specs.declared.link_error.LinkError.TheVariants.{IncompatibleClassChangeError}
 use Rattle.jc_facts.specs.declared.verdict.Collision.{Collision}
 use Rattle.jc_facts.specs.Names.{Bytes}
-use Rattle.jc_facts.specs.world.World.{World, side, with_clients}
-use Rattle.jc_facts.specs.file.Valid.{IsValidClass}
+use Rattle.jc_facts.specs.world.World.{World, with_clients}
 use Rattle.jc_facts.specs.client.Valid.{facts_of}
 use Rattle.jc_promises.specs.client.Meets.{Meets, MeetsFinal}
-use Rattle.jc_promises.specs.rule.Collisions.{made_collision, collision_at, CollisionStands, final_added}
+use Rattle.jc_promises.specs.rule.Collisions.{made_collision, final_added}
 use Rattle.jc_lemmas.proofs.Listed.{none}
 use Rattle.jc_sound.proofs.FindingLaws.{empty_means_none}
 use Rattle.jc_sound.proofs.Sound.{loads_kept, ground, named_client}

@@ -1,5 +1,5 @@
 -- Selection: where nothing is found and nothing is warned of, clients that answered all that was due answer all that is due now.
-use Rattle.std.specs.Prelude.{ℕ, List, [], ◌≡◌, None, All, Contains, IsFalse}
+use Rattle.std.specs.Prelude.{List, [], ◌≡◌, None, All, Contains, IsFalse}
 use Rattle.jc_facts.specs.declared.rule_numbers.TheConstants.{FINAL_ADDED}
 use Rattle.jc_facts.specs.declared.client.ClientClass.{ClientClass}
 use Rattle.jc_facts.specs.declared.verdict.Collision.{Collision}

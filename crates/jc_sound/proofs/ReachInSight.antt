@@ -24,7 +24,6 @@ use Rattle.jc_lemmas.proofs.Options.{none_where}
 use Rattle.jc_worlds.proofs.Sides.{find-library}
 use Rattle.jc_sound.specs.Sight.{class_in_sight, element_in_sight, text_in_sight, type_in_sight, receiver_in_sight, is_in_sight, ReachIsInSight}
 use Rattle.jc_sound.proofs.Standing.{Quiet, all_quiet, usable_parts, usable_accessible}
-use Rattle.jc_sound.proofs.ClientItems.{OpensExposed}
 use Rattle.jc_sound.proofs.Ground.{Ground}
 use Rattle.jc_sound.proofs.Itself.{same_pair, quiet_itself}
 use Rattle.jc_sound.proofs.Opening.{opens_exposed}

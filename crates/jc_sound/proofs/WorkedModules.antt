@@ -1,6 +1,5 @@
 -- The worked examples of modules: what the rules find between two sides of a run with modules, and what clients then meet.
-use Rattle.std.proofs.Common.{◌≡◌, true, false, List, [], ◌∷◌, refl, Some, None, codes, lit<}
-use Rattle.std.specs.Str.{is_utf8}
+use Rattle.std.proofs.Common.{◌≡◌, true, false, List, [], ◌∷◌, refl, Some, None, codes}
 use Rattle.std.proofs.lemmas.List.Elements.{All-from_recursion}
 use Rattle.jc_facts.specs.declared.class_facts.ClassFacts.{ClassFacts}
 use Rattle.jc_facts.specs.declared.client.Item.TheVariants as item
@@ -15,7 +14,7 @@ use Rattle.jc_facts.specs.world.Loading.{load_fault}
 use Rattle.jc_facts.specs.file.Valid.{IsValidClass}
 use Rattle.jc_facts.specs.client.Outcome.{outcome, Links}
 use Rattle.jc_promises.specs.plan.PlannedNames.{closed_name, least_name}
-use Rattle.jc_sound.proofs.Examples.{computes, init, a_class, extending, plain, sealed_interface, object, finding, Finds, ascii}
+use Rattle.jc_sound.proofs.Examples.{computes, init, a_class, extending, plain, sealed_interface, object, finding, Finds}
 use Rattle.jc_promises.proofs.Pairs.{pair_in}
 use Rattle.jc_sound.proofs.WorkedClients.{p_A, root_is_valid}
 use Rattle.jc_sound.proofs.WorkedVerdict.{root, plain_is_valid}

@@ -1,16 +1,13 @@
 -- What the gate of the versions answers.
 --     state_parts      the need and the step of a state
 --     version_gate      the gate before it is told a step
-use Rattle.std.proofs.Common.{◌≡◌, ◌≤◌, ◌<◌, ◌+◌, ◌*◌, ◌/◌, ◌%◌, ◌||◌, ◌&&◌, not, cond, ℕ, Bool, true, false, List, [], ◌∷◌, Option, Some, None, nat_le, arith, rules, refl, sym, ap, ◌∙◌}
+use Rattle.std.proofs.Common.{◌≡◌, ◌≤◌, ◌<◌, ◌||◌, ◌&&◌, not, cond, ℕ, Bool, true, false, List, [], ◌∷◌, Option, Some, None, nat_le, arith, rules, refl, sym, ap, ◌∙◌}
 use Rattle.std.specs.Prelude.{codes, max, if◌then◌else◌}
 use Rattle.std.specs.List.{list_any, list_all, filter}
 use Rattle.std.specs.Str.{bytes_eq}
 use Rattle.jc_gate.specs.Gates.{GateOf, all_pass}
 use Rattle.jc_gate.specs.Rules.{is_of_finding, is_of_collision}
 use Rattle.jc_gate.specs.Seen.{seen, informed_by}
-use Rattle.jc_version.specs.declared.level.Level.{Level}
-use Rattle.jc_version.specs.declared.level.Level.TheVariants as levels
-use Rattle.jc_version.specs.LevelNumbers.{number_of, number_or_none}
 use Rattle.jc_version.specs.Needs.{need_of_rule, need_of, state_by, need_in, step_in, informed_version, after_version, passes_version, IsVersionGate}
 
 pub need_of_state : (n s : ℕ) → s < 4 → need_in (state_by n s) ≡ n

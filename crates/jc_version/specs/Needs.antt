@@ -1,7 +1,7 @@
 -- Which step findings and collisions need, and the state of the gate that compares it with the step that it is told.
 --     need_of rules      3, 2 or 1
 --     IsVersionGate g      the gate is named `version`, and passes exactly where it is told a step that is at least the need of what it saw
-use Rattle.std.specs.Prelude.{◌≡◌, ◌≤◌, ◌+◌, ◌*◌, ◌/◌, ◌%◌, ℕ, Bool, false, List, [], ◌∷◌, Option, Some, None, nat_le, codes, max, if◌then◌else◌}
+use Rattle.std.specs.Prelude.{◌≡◌, ◌≤◌, ◌+◌, ◌*◌, ◌/◌, ◌%◌, ℕ, Bool, false, List, [], ◌∷◌, Some, None, nat_le, codes, max, if◌then◌else◌}
 use Rattle.std.specs.List.{list_any, filter}
 use Rattle.std.specs.Str.{bytes_eq}
 use Rattle.jc_gate.specs.Gates.{GateOf}

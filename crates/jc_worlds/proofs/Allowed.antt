@@ -1,7 +1,6 @@
 -- Clients with allowed names have no name that the side's classes use.
-use Rattle.std.proofs.Common.{◌≡◌, Bool, true, false, cond, List, [], ◌∷◌, refl, Option, Some, None, ◌||◌}
+use Rattle.std.proofs.Common.{◌≡◌, true, false, List, [], ◌∷◌, refl, Option, Some, None}
 use Rattle.std.proofs.lemmas.Bool.{and_parts, not-true, both_ways, or_right, or_left}
-use Rattle.std.specs.List.{list_any}
 use Rattle.jc_facts.specs.declared.class_facts.ClassFacts.{ClassFacts}
 use Rattle.jc_facts.specs.Names.{Bytes, same, is_name_among}
 use Rattle.jc_facts.specs.world.World.{World, find_class, class_named, classes}

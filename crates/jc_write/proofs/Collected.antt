@@ -6,7 +6,7 @@ use Rattle.std.proofs.lemmas.List.Folds.{list_any-append, list_all-append}
 use Rattle.jc_facts.specs.written.PoolEntries.{PoolEntry, text, class, pair, member, same_entry, has, add, collected, with_parts, all_parts, is_good, class_is_good, pair_is_good, use_is_good}
 use Rattle.jc_desc.specs.Utf8.{is_modified_utf8}
 use Rattle.jc_desc.specs.Pool.{names_class, names_any_member}
-use Rattle.jc_write.specs.steps.EntryOrder.{entry_is, entry_itself}
+use Rattle.jc_write.specs.steps.EntryOrder.{entry_itself}
 
 -- ---- what holds of each entry that is collected holds of the pool
 

@@ -1,14 +1,13 @@
 -- The items of a client class file, which its methods' code gives, and its first refusal (JVMS 4.6, 4.7.3, 4.7.23).
 --     items bytes      the items of the methods in order, or the first refusal
 --     IsBadCode bytes offset reason      the first refusal
-use Rattle.std.specs.Prelude.{◌≡◌, ℕ, zero, suc, ◌+◌, ◌-◌, ◌*◌, ◌/◌, List, [], ◌++◌, length, Option, Some, None, Result, Ok, Err, Bool, false, ◌||◌, ◌&&◌, nat_le, codes, true, if◌then◌else◌}
+use Rattle.std.specs.Prelude.{◌≡◌, ℕ, zero, suc, ◌+◌, ◌-◌, ◌/◌, List, [], ◌++◌, length, Option, Some, None, Result, Ok, Err, Bool, false, ◌||◌, ◌&&◌, nat_le, codes, true, if◌then◌else◌}
 use Rattle.jc_desc.specs.declared.limits.TheConstants.{MAX_CODE}
 use Rattle.jc_desc.specs.declared.versions.TheConstants.{BOOTSTRAP_MAJOR}
-use Rattle.jc_desc.specs.declared.fault.Fault.{Fault}
 use Rattle.jc_desc.specs.Pool.{PoolOf}
 use Rattle.jc_desc.specs.PoolAnswers.{some_if}
 use Rattle.jc_desc.specs.PoolSteps.{pool_at}
-use Rattle.jc_desc.specs.Faults.{number_at, part_at}
+use Rattle.jc_desc.specs.Faults.{number_at}
 use Rattle.jc_facts.specs.declared.class_facts.Member.{Member}
 use Rattle.jc_facts.specs.declared.client.Item.{Item}
 use Rattle.jc_facts.specs.declared.code_fault.CodeFault.{CodeFault}

@@ -2,7 +2,7 @@
 -- table (JVMS 4.7.3, 4.10, 6.5). No operand stack is looked at, so a receiver isn't known.
 --     used a op i      the items of one instruction
 --     scan_at, catches_at      those of the code and of its exception table, or the first refusal
-use Rattle.std.specs.Prelude.{ℕ, zero, suc, ◌+◌, ◌-◌, ◌/◌, List, [], ◌∷◌, ◌++◌, length, drop, get_or, slice_get, Option, Some, None, Result, Ok, Bool, false, ◌==◌, ◌&&◌, ◌||◌, not, nat_lt, is_some, if◌then◌else◌}
+use Rattle.std.specs.Prelude.{ℕ, zero, suc, ◌+◌, ◌-◌, ◌/◌, List, [], ◌∷◌, ◌++◌, length, drop, get_or, slice_get, Option, Some, None, Result, Ok, Bool, false, ◌==◌, ◌&&◌, ◌||◌, not, is_some, if◌then◌else◌}
 use Rattle.jc_desc.specs.Names.{is_init_name, is_clinit_name}
 use Rattle.jc_desc.specs.Pool.{PoolOf, short_from}
 use Rattle.jc_desc.specs.PoolAnswers.{MemberRefOf, HandleRefOf, class_in, tag_in, member_ref_in, handle_in, dynamic_in, some_if}
