@@ -1,5 +1,5 @@
 //! Long descriptors that were judged.
-ghost use Rattle.std.specs.Prelude.{◌≡◌, ◌&&◌, nat_eq, IfSome};
+ghost use Rattle.std.specs.Prelude.{◌≡◌, ◌&&◌, [], nat_eq, IfSome};
 ghost use Rattle.std.specs.Cmp.Lexicographic.{pointwise};
 ghost use Rattle.std.specs.Bool.{beq};
 ghost use Rattle.jc_desc.specs.Names.{is_init_name};
@@ -98,7 +98,9 @@ pub struct Judged<'a> {
 
 impl<'a> Judged<'a> {
     /// No answer is known yet.
-    pub fn new(alloc: Global) -> Judged<'a> {
+    pub fn new(alloc: Global) -> Judged<'a>
+        ensures { result.kept.items ≡ [] }
+    {
         Judged {
             kept: Vec::new(alloc),
         }

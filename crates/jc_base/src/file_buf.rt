@@ -56,6 +56,10 @@ fn read_at<R: Read>(source: &mut R, room: &mut [u8], at: usize, most: usize) -> 
 
 impl FileBuf {
     /// An empty buffer, with all the memory that it will need.
+    ///
+    /// # Errors
+    ///
+    /// `AllocError` where memory runs out.
     pub fn new(alloc: Global) -> Result<FileBuf, AllocError>
         ensures { IfOk result (λ buffer. buffer ≡ []) }
     {
@@ -91,6 +95,10 @@ impl FileBuf {
     /// Puts what one read of the source gives behind the bytes that it holds, at most so many bytes,
     /// and answers how many they were. Where some are asked for and none come, the source is at its
     /// end. After a failed read it holds what it held. Takes no memory of its own.
+    ///
+    /// # Errors
+    ///
+    /// The source's own, where its read fails.
     pub fn append_from<R: Read>(&mut self, source: &mut R, most: usize) -> io::Result<usize>
         requires { length self.old + most ≤ MAX_READ }
         ensures kept { StartsWith self.new self.old }

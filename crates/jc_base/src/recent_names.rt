@@ -14,7 +14,8 @@ const KEPT: usize = 8_192;
 /// takes the same memory in each run.
 #[derive(Drop)]
 pub struct RecentNames {
-    // Behind a shared reference, as no answer depends on which names were made before.
+    // Behind a shared reference, as no answer depends on which names were made before. No clause can name
+    // what a cell holds, so `new` has none.
     names: RefCell<Vec<Name>>,
 }
 

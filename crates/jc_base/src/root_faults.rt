@@ -32,8 +32,12 @@ impl RootFaults {
         self.counts.get(root).copied().unwrap_or(0)
     }
 
-    /// Counts a failed call on the root. Where memory runs out nothing is counted; memory is needed only
-    /// where no call on the root has failed before.
+    /// Counts a failed call on the root.
+    ///
+    /// # Errors
+    ///
+    /// `AllocError` where memory runs out; nothing is counted then. Memory is needed only where no call on
+    /// the root has failed before.
     pub fn raise(&mut self, alloc: Global, root: &str) -> Result<(), AllocError>
         ensures by_one { OnOk result (RoseByOne (count_at self.old root.now) (count_at self.new root.now)) }
         ensures others { KeepsOtherCounts root.now (count_at self.old) (count_at self.new) }

@@ -26,6 +26,7 @@ use Rattle.jc_facts.specs.print.WarnText.{line_of_warning}
 use Rattle.jc_promises.specs.rule.Verdict.{IsVerdict}
 use Rattle.jc_facts.specs.Verdicts.{count_of}
 use Rattle.jc_promises.specs.rule.Warnings.{AreWarnings}
+use Rattle.jc_report.specs.DroppedForms.{dropped_bytes}
 use Rattle.jc_report.specs.Json.{json_of, warning_json}
 use Rattle.jc_report.specs.Listing.{part_bytes}
 use Rattle.jc_selection.specs.SelectionKept.{MeetsNoFinal, StaysAnswered}
@@ -37,7 +38,7 @@ use Rattle.jc_trees.specs.declared.tree_read.TreeRead.TheVariants as reads
 use Rattle.jc_releases.specs.Command.{trees_of}
 use Rattle.jc_words.specs.Command.{CheckOf, CheckCommand}
 use Rattle.jc_releases.specs.Releases.{read_as, old_and_new, mismatch_among}
-use Rattle.jc_commands.specs.DroppedPart.{AreAskedDropped, dropped_bytes}
+use Rattle.jc_commands.specs.DroppedPart.{AreAskedDropped}
 use Rattle.jc_commands.specs.Signatures.{AreSigNotes, AreNoted, sig_bytes}
 use Rattle.jc_shown.specs.Witness.{PutFile, PutsFiles, put_file, causes_of, witness_puts}
 use Rattle.jc_releases.specs.declared.limits.TheConstants.{MAX_FINDINGS, MAX_WARNINGS, MAX_DROPPED}

@@ -43,7 +43,11 @@ fn verdict_on(alloc: Global, made: Made) -> Result<Verdict, Stop>
 }
 
 /// What `make` comes to: the verdict on generated releases of as many classes, from 1 to 4,096,
-/// however many findings it has. No tree is read, and only a lack of memory stands in its way.
+/// however many findings it has. No tree is read.
+///
+/// # Errors
+///
+/// `Memory` where memory runs out.
 pub fn make_releases<'a>(alloc: Global, asked: &Make) -> Result<Report<'a>, Stop>
     requires { IsSize asked.now.classes }
     ensures report { IfOk result (λ report. (trees : TreesState) → IsReportOf (MakeCommand asked.now.classes) trees report) }

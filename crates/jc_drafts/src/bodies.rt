@@ -78,6 +78,10 @@ fn push_construct(
 }
 
 /// The body of an initializer: it calls this one of the superclass.
+///
+/// # Errors
+///
+/// `AllocError` where memory runs out.
 pub fn initializer(
     alloc: Global,
     superclass: &Name,
@@ -93,6 +97,10 @@ pub fn initializer(
 }
 
 /// The parameter is cast to the class.
+///
+/// # Errors
+///
+/// `AllocError` where memory runs out.
 pub fn cast_to(alloc: Global, class: &Name) -> Result<Vec<Step>, AllocError>
     ensures { IfOk result (λ steps. steps.items ≡ cast_steps class.now) }
 {
@@ -105,6 +113,10 @@ pub fn cast_to(alloc: Global, class: &Name) -> Result<Vec<Step>, AllocError>
 }
 
 /// The parameter is returned.
+///
+/// # Errors
+///
+/// `AllocError` where memory runs out.
 pub fn return_parameter(alloc: Global) -> Result<Vec<Step>, AllocError>
     ensures { IfOk result (λ steps. steps.items ≡ turn_steps) }
 {
@@ -115,6 +127,10 @@ pub fn return_parameter(alloc: Global) -> Result<Vec<Step>, AllocError>
 }
 
 /// A new object of the class is made, by this initializer.
+///
+/// # Errors
+///
+/// `AllocError` where memory runs out.
 pub fn make_object(alloc: Global, class: &Name, descriptor: &[u8]) -> Result<Vec<Step>, AllocError>
     ensures { IfOk result (λ steps. steps.items ≡ make_steps class.now descriptor.now) }
 {
@@ -197,6 +213,10 @@ fn push_act(
 }
 
 /// The act on the class and the key is done, with the parameter as receiver where it takes one.
+///
+/// # Errors
+///
+/// `AllocError` where memory runs out.
 pub fn act_on(alloc: Global, act: Act, class: &Name, key: &Key) -> Result<Vec<Step>, AllocError>
     ensures { IfOk result (λ steps. steps.items ≡ act_steps act class.now key.now) }
 {
@@ -220,6 +240,10 @@ fn behind_receiver(act: Act, number: u16) -> u16
 
 /// The acts are done, with the parameters as receivers in order, and the parameter behind them is
 /// returned.
+///
+/// # Errors
+///
+/// `AllocError` where memory runs out.
 pub fn expose_and_return(alloc: Global, acts: &[MemberAct]) -> Result<Vec<Step>, AllocError>
     requires { length acts.now ≤ 254 }
     ensures { IfOk result (λ steps. steps.items ≡ exposed_steps 0 acts.now) }

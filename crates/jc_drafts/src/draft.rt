@@ -90,6 +90,10 @@ impl Draft {
     }
 
     /// A class with an initializer that calls this one of its superclass.
+    ///
+    /// # Errors
+    ///
+    /// `AllocError` where memory runs out.
     pub fn class(
         alloc: Global,
         name: Name,
@@ -109,6 +113,10 @@ impl Draft {
     }
 
     /// A public class below java/lang/Object.
+    ///
+    /// # Errors
+    ///
+    /// `AllocError` where memory runs out.
     pub fn plain(alloc: Global, name: Name) -> Result<Draft, AllocError>
         ensures { IfOk result (λ draft. draft ≡ blueprint (a_class name 0x0021 object_name takes_nothing [] [] [] []) (object_init ∷ [])) }
     {
@@ -116,6 +124,10 @@ impl Draft {
     }
 
     /// A public interface.
+    ///
+    /// # Errors
+    ///
+    /// `AllocError` where memory runs out.
     pub fn interface(alloc: Global, name: Name) -> Result<Draft, AllocError>
         ensures { IfOk result (λ draft. draft ≡ blueprint (an_interface name [] []) []) }
     {
@@ -123,6 +135,10 @@ impl Draft {
     }
 
     /// One more interface.
+    ///
+    /// # Errors
+    ///
+    /// `AllocError` where memory runs out.
     pub fn implements(mut self, interface: Name) -> Result<Draft, AllocError>
         ensures { IfOk result (λ draft. draft ≡ with_interface self interface) }
     {
@@ -131,6 +147,10 @@ impl Draft {
     }
 
     /// One more field.
+    ///
+    /// # Errors
+    ///
+    /// `AllocError` where memory runs out.
     pub fn field(mut self, field: Member) -> Result<Draft, AllocError>
         ensures { IfOk result (λ draft. draft ≡ with_field self field) }
     {
@@ -139,6 +159,10 @@ impl Draft {
     }
 
     /// One more method, with a body or none.
+    ///
+    /// # Errors
+    ///
+    /// `AllocError` where memory runs out.
     pub fn method(mut self, method: Member, body: Option<Body>) -> Result<Draft, AllocError>
         ensures { IfOk result (λ draft. draft ≡ with_method self method body) }
     {

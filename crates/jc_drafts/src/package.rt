@@ -18,6 +18,10 @@ fn numbered(alloc: Global, number: usize) -> Result<Name, AllocError>
 }
 
 /// A name of the package.
+///
+/// # Errors
+///
+/// `AllocError` where memory runs out.
 pub fn name_in(alloc: Global, package: &Name, simple: &[u8]) -> Result<Name, AllocError>
     ensures { IfOk result (λ name. name ≡ in_package «package».now simple.now) }
 {
@@ -44,6 +48,10 @@ fn is_in_use(alloc: Global, sides: &Sides<'_>, package: &Name) -> Result<bool, A
 }
 
 /// The first of w0, w1, w2 and so on in which neither side mentions a name.
+///
+/// # Errors
+///
+/// `AllocError` where memory runs out.
 pub fn fresh(alloc: Global, sides: &Sides<'_>) -> Result<Name, AllocError>
     ensures { IfOk result (λ name. name ≡ fresh_package sides.now.old sides.now.new) }
 {

@@ -39,6 +39,10 @@ fn names_of<'a>(class: &'a ClassFacts) -> &'a [Name]
 
 /// The first in byte order of the names that the class permits on the old side and that clients of
 /// both sides may have; none where there is none.
+///
+/// # Errors
+///
+/// `AllocError` where memory runs out.
 pub fn permitted_of<'a>(
     alloc: Global,
     sides: &Sides<'a>,
@@ -55,6 +59,10 @@ pub fn permitted_of<'a>(
 
 /// The same of the names that the class doesn't permit on the new side, where it has such a list
 /// there and is in the module of the clients.
+///
+/// # Errors
+///
+/// `AllocError` where memory runs out.
 pub fn missing_of<'a>(
     alloc: Global,
     sides: &Sides<'a>,

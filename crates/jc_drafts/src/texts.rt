@@ -8,6 +8,10 @@ use jc_base::name::Name;
 use std::alloc::{AllocError, Global};
 
 /// `java/lang/Object`.
+///
+/// # Errors
+///
+/// `AllocError` where memory runs out.
 pub fn root_name(alloc: Global) -> Result<Name, AllocError>
     ensures { IfOk result (λ name. name ≡ object_name) }
 {
@@ -23,6 +27,10 @@ fn push_class(bytes: &mut Vec<u8>, class: &Name) -> Result<(), AllocError>
 }
 
 /// The descriptor of a method that takes and returns nothing.
+///
+/// # Errors
+///
+/// `AllocError` where memory runs out.
 pub fn without_parameters(alloc: Global) -> Result<Name, AllocError>
     ensures { IfOk result (λ descriptor. descriptor ≡ takes_nothing) }
 {
@@ -30,6 +38,10 @@ pub fn without_parameters(alloc: Global) -> Result<Name, AllocError>
 }
 
 /// The descriptor of a method that takes an object of the class and returns nothing.
+///
+/// # Errors
+///
+/// `AllocError` where memory runs out.
 pub fn with_parameter(alloc: Global, class: &Name) -> Result<Name, AllocError>
     ensures { IfOk result (λ descriptor. descriptor ≡ takes class.now) }
 {
@@ -51,6 +63,10 @@ fn push_classes(bytes: &mut Vec<u8>, classes: &[Name]) -> Result<(), AllocError>
 
 /// The descriptor of a method that takes objects of these classes and then one of another class, and
 /// returns one of a third.
+///
+/// # Errors
+///
+/// `AllocError` where memory runs out.
 #[tactic(auto, using(crate::proofs::ExposedParts::turns_parts))]
 pub fn from_behind(
     alloc: Global,
@@ -69,6 +85,10 @@ pub fn from_behind(
 }
 
 /// The descriptor of a method that takes an object of one class and returns one of another.
+///
+/// # Errors
+///
+/// `AllocError` where memory runs out.
 pub fn from_to(alloc: Global, from: &Name, to: &Name) -> Result<Name, AllocError>
     ensures { IfOk result (λ descriptor. descriptor ≡ turns from.now to.now) }
 {

@@ -167,6 +167,10 @@ impl Signed {
 
 impl ClassFacts {
     /// A copy of the record. It is no `Clone`, since copying may want memory.
+    ///
+    /// # Errors
+    ///
+    /// `AllocError` where memory runs out.
     pub fn copy(&self, alloc: Global) -> Result<ClassFacts, AllocError>
         ensures { IfOk result (λ copy. copy ≡ self.now) }
     {

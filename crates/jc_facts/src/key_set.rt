@@ -31,6 +31,7 @@ impl<'a> Model for KeyRef<'a> {
 }
 
 impl<'a> KeyRef<'a> {
+    /// The key of this name and descriptor.
     pub fn new(name: &'a [u8], descriptor: &'a [u8]) -> KeyRef<'a>
         ensures { result ≡ record { name = name.now; descriptor = descriptor.now } }
     {

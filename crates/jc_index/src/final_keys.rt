@@ -45,6 +45,10 @@ fn names_of(alloc: Global, keys: &[Key]) -> Result<NumberedNames, AllocError>
 
 impl FinalKeys {
     /// These keys, each once.
+    ///
+    /// # Errors
+    ///
+    /// `AllocError` where memory runs out.
     pub fn new(alloc: Global, keys: Vec<Key>) -> Result<FinalKeys, AllocError>
         ensures { IfOk result (λ finals. (q : KeyOf) → has_key q finals ≡ has_key q keys.items) }
     {

@@ -66,8 +66,11 @@ pub fn step_error(table: &Table, from: ClassId, text: &Name) -> Option<LinkError
     }
 }
 
-/// The class that the text names, where the steps after the class step are reached: none is for an
-/// array, which gives this error then.
+/// The class that the text names, where the steps behind the class step are reached.
+///
+/// # Errors
+///
+/// The error of the class step, where it has one; else `array`, where the text names an array.
 pub fn named_class(
     table: &Table,
     from: ClassId,

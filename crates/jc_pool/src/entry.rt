@@ -136,6 +136,10 @@ fn entry_at(follows: bool, bytes: &[u8]) -> Result<(Slot<'_>, &[u8]), Fault>
 
 /// What the indices 0 to `count` hold, and the bytes behind the entries, or the first fault of an
 /// entry by itself. Takes memory for the table.
+///
+/// # Errors
+///
+/// `AllocError` where memory runs out; within, the first fault of an entry.
 pub fn slots_at(
     alloc: Global,
     count: u16,

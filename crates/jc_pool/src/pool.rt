@@ -127,6 +127,10 @@ impl<'a> Pool<'a> {
     /// The pool in front of a class file and the bytes behind it, or the first fault in the order of
     /// the steps: magic, version, count, entries, then what they name. Takes memory for a table of
     /// the entries.
+    ///
+    /// # Errors
+    ///
+    /// `AllocError` where memory runs out; within, the first fault.
     pub fn read_front(
         alloc: Global,
         bytes: &'a [u8],
@@ -189,9 +193,12 @@ impl<'a> Pool<'a> {
         }
     }
 
-    /// The pool of a class file of at most 4,194,304 bytes, and the offset after it. `Malformed`
-    /// comes exactly where the bytes don't begin with a pool, with the first fault; `Memory` where
-    /// there is none for the table of the entries.
+    /// The pool of a class file of at most 4,194,304 bytes, and the offset after it.
+    ///
+    /// # Errors
+    ///
+    /// `Malformed` exactly where the bytes don't begin with a pool, with the first fault; `Memory`
+    /// where there is none for the table of the entries.
     pub fn read(alloc: Global, bytes: &'a [u8]) -> Result<(Pool<'a>, u32), PoolError>
         requires { length bytes.now ≤ MAX_CLASS_BYTES }
         ensures { MatchResult result (λ x. ReadsPool bytes.now x.0 x.1) (PoolFails bytes.now) }

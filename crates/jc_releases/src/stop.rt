@@ -287,7 +287,11 @@ impl Stop {
         }
     }
 
-    /// The line on standard error, with its line end; nothing where memory runs out.
+    /// The line on standard error, with its line end.
+    ///
+    /// # Errors
+    ///
+    /// `AllocError` where memory runs out.
     pub fn line(&self, alloc: Global) -> Result<Vec<u8>, AllocError>
         ensures { IfOk result (λ line. line.items ≡ line_of self.now) }
     {

@@ -32,6 +32,10 @@ fn verdict_value(alloc: Global, verdict: &Verdict) -> Result<Value, AllocError>
 /// `member`, `number`, `operation`, `rule` and `seat`; each note has `class`, `detail`, `kind`,
 /// `member` and `side`. What isn't there is null, names are printed as in the text, and keys stand in
 /// byte order.
+///
+/// # Errors
+///
+/// `AllocError` where memory runs out.
 #[tactic(auto, unfolding(crate::specs::Json::json_of))]
 pub fn json(alloc: Global, verdict: &Verdict) -> Result<Vec<u8>, AllocError>
     ensures exact { IfOk result (λ text. text.items ≡ json_of verdict.now) }

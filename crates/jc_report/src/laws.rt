@@ -4,7 +4,7 @@ ghost use Rattle.jc_facts.specs.declared.verdict.Verdict.{Verdict};
 ghost use Rattle.jc_report.specs.Json.{json_of};
 ghost use Rattle.jc_facts.specs.print.SigText.{sig_text_of};
 ghost use Rattle.jc_report.specs.SigJson.{sig_json_of};
-ghost use Rattle.jc_report.specs.DroppedForms.{dropped_listing};
+ghost use Rattle.jc_report.specs.DroppedForms.{dropped_bytes};
 ghost use Rattle.jc_report.specs.Worked.{capture, empty, mixed, parameters_changed, result_changed, unread, no_longer_there, no_longer_named};
 
 /// Keys stand in byte order, what isn't there is null, and a backslash of a printed form is escaped.
@@ -24,7 +24,7 @@ pub fn worked_signatures()
 
 /// A name is printed in a line, and its backslashes once more escaped in JSON.
 pub fn worked_dropped()
-    ensures text { dropped_listing false (no_longer_there ∷ no_longer_named ∷ []) ≡ codes "dropped p/A p/I\ndropped p/\\\\\\xe9 p/M\n" }
-    ensures json { dropped_listing true (no_longer_there ∷ no_longer_named ∷ []) ≡ codes "{\"dropped\":[{\"class\":\"p/A\",\"interface\":\"p/I\"},{\"class\":\"p/\\\\\\\\\\\\xe9\",\"interface\":\"p/M\"}]}\n" }
-    ensures none { dropped_listing true [] ≡ codes "{\"dropped\":[]}\n" }
+    ensures text { dropped_bytes false (Some (no_longer_there ∷ no_longer_named ∷ [])) ≡ codes "dropped p/A p/I\ndropped p/\\\\\\xe9 p/M\n" }
+    ensures json { dropped_bytes true (Some (no_longer_there ∷ no_longer_named ∷ [])) ≡ codes "{\"dropped\":[{\"class\":\"p/A\",\"interface\":\"p/I\"},{\"class\":\"p/\\\\\\\\\\\\xe9\",\"interface\":\"p/M\"}]}\n" }
+    ensures none { dropped_bytes true (Some []) ≡ codes "{\"dropped\":[]}\n" }
 {}

@@ -161,6 +161,10 @@ fn link_word(errors: usize) -> &'static str
 /// The text of outcomes: a line for each, `class NAME OUTCOME` or `item NAME ACT CLASS MEMBER
 /// RECEIVER OUTCOME` with `-` for what isn't there, and the last line, which begins with `links` or,
 /// where there is an error, with `refused`.
+///
+/// # Errors
+///
+/// `AllocError` where memory runs out.
 #[tactic(auto, unfolding(jc_facts::specs::print::LinkText::link_text_of))]
 pub fn link_text(alloc: Global, outcomes: &[Outcome]) -> Result<Vec<u8>, AllocError>
     ensures { IfOk result (λ text. text.items ≡ link_text_of outcomes.now) }

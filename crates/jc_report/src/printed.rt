@@ -74,6 +74,10 @@ fn push_printed_byte<P: Printout>(text: &mut P, byte: u8) -> Result<(), AllocErr
 
 /// Prints bytes of a name, a path or a word at the end: a byte from 0x21 to 0x7e as itself, a
 /// backslash doubled, any other as `\xNN`. After an error a part may stand there.
+///
+/// # Errors
+///
+/// `AllocError` where memory runs out.
 pub fn push_printed<P: Printout>(text: &mut P, bytes: &[u8]) -> Result<(), AllocError>
     ensures { OnOk result (P.bytes text.new ≡ P.bytes text.old ++ printed bytes.now) }
 {

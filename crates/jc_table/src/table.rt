@@ -153,9 +153,12 @@ fn copies_of(alloc: Global, classes: &[ClassFacts]) -> Result<Vec<ClassFacts>, A
 
 impl Table {
     /// The table of a platform and a release: valid records, with names that differ in each of the
-    /// two, and no more than 120,000 together. The platform's `java/lang/Object` has to be as
-    /// `RootPart` says, and no name may be in both; the first cause is the answer, and `Memory` may
-    /// come in place of any but a bad root. The platform is copied; `over` takes it as it is.
+    /// two, and no more than 120,000 together. The platform is copied; `over` takes it as it is.
+    ///
+    /// # Errors
+    ///
+    /// `BadRoot` where the platform's `java/lang/Object` isn't as `RootPart` says, else `Overlap` where a
+    /// name is in both. `Memory` where memory runs out; it comes in place of any but a bad root.
     pub fn build(
         alloc: Global,
         platform: &[ClassFacts],

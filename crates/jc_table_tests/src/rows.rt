@@ -100,6 +100,10 @@ fn members(alloc: Global, list: &[Declared]) -> Result<Items<Member>, AllocError
 }
 
 /// The record of a row, of major 61.
+///
+/// # Errors
+///
+/// `AllocError` where memory runs out.
 pub fn class(alloc: Global, row: &Row) -> Result<ClassFacts, AllocError>
     ensures { IfOk result (λ made. made ≡ class_of row.now) }
 {
@@ -120,6 +124,10 @@ pub fn class(alloc: Global, row: &Row) -> Result<ClassFacts, AllocError>
 }
 
 /// The records of rows.
+///
+/// # Errors
+///
+/// `AllocError` where memory runs out.
 pub fn classes(alloc: Global, rows: &[Row]) -> Result<Vec<ClassFacts>, AllocError>
     ensures { IfOk result (λ made. made.items ≡ map class_of rows.now) }
 {

@@ -103,6 +103,10 @@ fn are_good_bodies(bodies: &[Option<Body>]) -> bool
 
 /// Whether a blueprint meets what `write_class` asks of it. Takes memory to look for keys that stand
 /// twice.
+///
+/// # Errors
+///
+/// `AllocError` where memory runs out.
 pub fn is_formed(alloc: Global, plan: &Blueprint) -> Result<bool, AllocError>
     ensures { IfOk result (λ r. IsTrue r ↔ IsFormed plan.now) }
 {

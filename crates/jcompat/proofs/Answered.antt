@@ -22,7 +22,6 @@ use Rattle.jc_commands.specs.Causes.{HasCause, HasFailed}
 use Rattle.jc_commands.specs.Outputs.{IsQuiet, IsUntouched, PutsAll, PutsFront}
 use Rattle.jcompat.specs.Answers.{Ran, Answers, Due, due_bytes, Puts, IsStopped, CutsWitnesses, CutsReport, CutsRefusal, Planned, IsPut, Leaves, OfFiles}
 use Rattle.jc_commands.specs.Check.{CheckReport, IsAnswered, IsCompatible, IsIncompatible, IsBorneOut, IsNoted, KeepsInterfaces, HoldsClients, verdict_bytes, warn_bytes, check_bytes, old_side, new_side, puts_below}
-use Rattle.jc_commands.specs.DroppedPart.{dropped_bytes}
 use Rattle.jc_commands.specs.Signatures.{sig_bytes}
 use Rattle.jc_commands.proofs.SomeSignatures.{noted_list}
 use Rattle.jc_trees.specs.ClassFiles.{Told}
@@ -35,6 +34,7 @@ use Rattle.jc_facts.specs.Verdicts.{is_incompatible}
 use Rattle.jc_facts.specs.world.World.{World}
 use Rattle.jc_gate.specs.Gates.{GateOf, all_pass}
 use Rattle.jc_gate.specs.Meanings.{HasLinksGate}
+use Rattle.jc_report.specs.DroppedForms.{dropped_bytes}
 use Rattle.jc_report.specs.HistoryText.{history_text_of}
 use Rattle.jc_version.specs.Needs.{need_of, HasVersionGate}
 use Rattle.jc_version.proofs.Gate.{version_alone}

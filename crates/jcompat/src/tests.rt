@@ -1,4 +1,5 @@
 //! Runs over trees in memory and over folders, against what they are to say.
+mod assembler;
 mod dropped;
 mod files;
 mod folders;
@@ -11,6 +12,7 @@ mod links;
 mod modules;
 mod outside;
 mod refusals;
+mod rows;
 mod signatures;
 mod verdicts;
 mod versions;
@@ -20,6 +22,8 @@ mod words;
 
 use crate::laws::run_surely;
 use crate::run_with_gates;
+use crate::tests::assembler::{cut, number};
+use crate::tests::rows::{Row, in_lines, words_of};
 use crate::tests::witnesses::{CAPTURED, holds, see_witnesses};
 use jc_base::mem_file::{MemFile, is_file_list};
 use jc_base::mem_folder::MemFolder;
@@ -30,8 +34,6 @@ use jc_base::sure_sink::SureSink;
 use jc_base::sure_trees::SureTrees;
 use jc_base::text::Text;
 use jc_base::trees::Trees;
-use jc_examples::assembler::{cut, number};
-use jc_examples::rows::{Row, in_lines, words_of};
 use jc_gate::at_most::AtMost;
 use jc_gate::collisions::Collisions;
 use jc_gate::gate::Gate;

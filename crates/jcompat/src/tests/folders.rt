@@ -1,10 +1,10 @@
 //! Real folders that take files.
 use super::Host;
+use super::assembler::cut;
 use super::outside::{below, new_folder, put_file, put_link, remove, see_readings, see_text};
 use crate::disk_folder::DiskFolder;
 use crate::disk_trees::DiskTrees;
 use jc_base::folder::{Folder, FolderError};
-use jc_examples::assembler::cut;
 use std::test::Fail;
 
 /// A real folder that takes files.

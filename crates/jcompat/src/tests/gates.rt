@@ -1,10 +1,10 @@
 //! Which gates are asked, and what comes of it.
 ghost use Rattle.std.specs.Prelude.{refl, codes, nat_eq, if◌then◌else◌};
 
+use super::assembler::{cut, number, values};
+use super::rows::{Row, words_of};
 use super::{Host, files_of, folder, see_table, sink, trees};
 use crate::run::run;
-use jc_examples::assembler::{cut, number, values};
-use jc_examples::rows::{Row, words_of};
 use jc_gate::gate::Gate;
 use std::cell::Cell;
 use std::rc::Rc;

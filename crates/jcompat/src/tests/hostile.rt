@@ -1,6 +1,6 @@
 //! Runs of which one call fails, and hierarchies that are wide or deep.
+use super::rows::Row;
 use super::{Host, see_run, see_table};
-use jc_examples::rows::Row;
 
 const CAPTURE: &str = r##"$ check --platform P --old O --new N --witness d
 : P java/lang/Object init | O p/A init | N p/A init method=2:run:()V

@@ -3,13 +3,13 @@ ghost use Rattle.std.specs.Prelude.{None, IfOk, IsTrue, ◌^◌, ◌-◌};
 ghost use Rattle.jc_base.specs.Outside.{are_distinct};
 ghost use Rattle.jc_base.specs.States.{TreesState};
 
+use super::assembler::{cut, file_of, value_or};
+use super::rows::{Row, words_of};
 use super::{Host, run_over, see_ended, see_table};
 use crate::disk_trees::is_ascending;
 use jc_base::file_buf::FileBuf;
 use jc_base::text::Text;
 use jc_base::trees::{TreeError, Trees};
-use jc_examples::assembler::{cut, file_of, value_or};
-use jc_examples::rows::{Row, words_of};
 use std::alloc::{AllocError, Global};
 
 /// Trees of class files of `java/lang/Object`: of the one at its place, and under the root `O` of so

@@ -1,8 +1,8 @@
 //! Releases that are named modules: files `module-info.class` of a module `m` that exports the package `p`, or
 //! no package.
+use super::rows::Row;
 use super::witnesses::{checked, linked};
 use super::{see_ended, see_table};
-use jc_examples::rows::Row;
 
 const ROWS: &str = "$ check --platform P --old O --new N --modular
 : P java/lang/Object init | P bytes module-info.class 0

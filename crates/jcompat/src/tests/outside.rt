@@ -1,5 +1,6 @@
 //! Real folders and files, and a word that isn't text.
 use super::Host;
+use super::assembler::cut;
 use crate::disk_trees::DiskTrees;
 use crate::std_sink::StdSink;
 use crate::writer::Writer;
@@ -11,7 +12,6 @@ use jc_base::sure_sink::SureSink;
 use jc_base::sure_trees::SureTrees;
 use jc_base::text::Text;
 use jc_base::trees::{TreeError, Trees};
-use jc_examples::assembler::cut;
 use std::alloc::Global;
 use std::env::{Env, FillError};
 use std::io::Write;

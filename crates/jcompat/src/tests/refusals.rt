@@ -1,9 +1,9 @@
 //! Trees and calls that are refused.
+use super::assembler::cut;
 use super::outside::{Disk, below, new_folder, put_file, remove};
+use super::rows::{Row, in_lines, words_of};
 use super::{Host, files_of, run_over, see_ended, see_table};
 use crate::disk_trees::DiskTrees;
-use jc_examples::assembler::cut;
-use jc_examples::rows::{Row, in_lines, words_of};
 use std::test::Fail;
 
 const OVER_ROOT: &str = "$ check --platform P --old O --new N

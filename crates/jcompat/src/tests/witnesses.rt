@@ -1,9 +1,9 @@
 //! Checks that ask for witnesses: what stands in the folder then, and what comes of linking it.
+use super::assembler::{cut, file};
+use super::rows::Row;
 use super::{Ended, Host, files_of, run_on, see_ended};
 use jc_base::mem_file::MemFile;
 use jc_base::mem_folder::MemFolder;
-use jc_examples::assembler::{cut, file};
-use jc_examples::rows::Row;
 use std::str;
 
 /// The files of the witness of a captured call.

@@ -11,16 +11,16 @@
 //!
 //! Lines before the first row are lines of each row. `~` is nothing, so that a word may be empty; `^` is a
 //! line's end in a word, and `\` ends what is put without a line's end.
-use crate::assembler::{cut, file_of};
+use super::assembler::{cut, file_of};
 use jc_base::mem_file::MemFile;
 use jc_base::text::Text;
 use std::alloc::{AllocError, Global};
 
 /// A row, and the lines before the first one.
 #[derive(Drop)]
-pub struct Row<'a> {
-    pub common: &'a str,
-    pub own: &'a str,
+pub(super) struct Row<'a> {
+    pub(super) common: &'a str,
+    pub(super) own: &'a str,
 }
 
 // The text of a line with this mark.
@@ -29,22 +29,12 @@ fn behind<'a>(line: &'a str, mark: &str) -> Option<&'a str> {
     if found == mark { Some(text) } else { None }
 }
 
-// The text of the first line with this mark.
-fn first<'a>(lines: &'a str, mark: &str) -> Option<&'a str> {
-    for line in lines.lines() {
-        if let Some(text) = behind(line, mark) {
-            return Some(text);
-        }
-    }
-    None
-}
-
 /// The table, where each mark begins a line.
 ///
 /// # Errors
 ///
 /// `AllocError` where memory runs out.
-pub fn in_lines(alloc: Global, table: &str) -> Result<String, AllocError> {
+pub(super) fn in_lines(alloc: Global, table: &str) -> Result<String, AllocError> {
     let table = table.replace(alloc, " : ", "\n: ")?;
     let table = table.as_str().replace(alloc, " > ", "\n> ")?;
     table.as_str().replace(alloc, " ! ", "\n! ")
@@ -61,7 +51,7 @@ fn meant(alloc: Global, text: &str) -> Result<String, AllocError> {
 /// # Errors
 ///
 /// `AllocError` where memory runs out.
-pub fn words_of(alloc: Global, line: &str) -> Result<Vec<Text>, AllocError> {
+pub(super) fn words_of(alloc: Global, line: &str) -> Result<Vec<Text>, AllocError> {
     let mut words = Vec::new(alloc);
     for word in line.split_whitespace() {
         words.push(Text::from_str(alloc, meant(alloc, word)?.as_str())?)?;
@@ -101,18 +91,21 @@ fn push_lines(alloc: Global, said: &mut String, text: &str) -> Result<(), AllocE
 }
 
 impl<'a> Row<'a> {
-    pub fn status(&self) -> u8 {
+    /// The exit status, 255 where none is given.
+    pub(super) fn status(&self) -> u8 {
         cut(self.own, " ").0.parse().unwrap_or(255)
     }
 
-    pub fn shown(&self) -> &'a str {
+    /// What is shown of the row.
+    pub(super) fn shown(&self) -> &'a str {
         cut(cut(self.own, "\n").0, " ").1
     }
 
     /// The line of the words.
-    pub fn line(&self) -> &'a str {
-        first(self.own, "$")
-            .or(first(self.common, "$"))
+    pub(super) fn line(&self) -> &'a str {
+        let mut lines = self.own.lines().chain(self.common.lines());
+        lines
+            .find_map(|line| behind(line, "$"))
             .unwrap_or(self.shown())
     }
 
@@ -121,7 +114,7 @@ impl<'a> Row<'a> {
     /// # Errors
     ///
     /// `AllocError` where memory runs out.
-    pub fn texts(&self, alloc: Global, mark: &str) -> Result<Vec<&'a str>, AllocError> {
+    pub(super) fn texts(&self, alloc: Global, mark: &str) -> Result<Vec<&'a str>, AllocError> {
         let mut texts = Vec::new(alloc);
         for line in self.common.lines().chain(self.own.lines()) {
             if let Some(text) = behind(line, mark) {
@@ -136,7 +129,7 @@ impl<'a> Row<'a> {
     /// # Errors
     ///
     /// `AllocError` where memory runs out.
-    pub fn files(&self, alloc: Global) -> Result<Vec<MemFile>, AllocError> {
+    pub(super) fn files(&self, alloc: Global) -> Result<Vec<MemFile>, AllocError> {
         let mut files = Vec::new(alloc);
         for text in self.texts(alloc, ":")?.as_slice() {
             put_files(alloc, &mut files, text)?;
@@ -158,7 +151,11 @@ impl<'a> Row<'a> {
     /// # Errors
     ///
     /// `AllocError` where memory runs out.
-    pub fn is_said(&self, alloc: Global, said: (u8, &[u8], &[u8])) -> Result<bool, AllocError> {
+    pub(super) fn is_said(
+        &self,
+        alloc: Global,
+        said: (u8, &[u8], &[u8]),
+    ) -> Result<bool, AllocError> {
         let (status, out, err) = said;
         Ok(
             status == self.status()

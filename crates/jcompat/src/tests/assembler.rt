@@ -6,7 +6,7 @@ use std::alloc::{AllocError, Global};
 const OBJECT: &str = "java/lang/Object";
 
 /// The text before the mark, and the text behind it, or the text and nothing.
-pub fn cut<'a>(text: &'a str, mark: &str) -> (&'a str, &'a str) {
+pub(super) fn cut<'a>(text: &'a str, mark: &str) -> (&'a str, &'a str) {
     text.split_once(mark).unwrap_or((text, ""))
 }
 
@@ -33,7 +33,11 @@ fn value_of<'a>(word: &'a str, key: &str) -> Option<&'a str> {
 /// # Errors
 ///
 /// `AllocError` where memory runs out.
-pub fn values<'a>(alloc: Global, words: &'a str, key: &str) -> Result<Vec<&'a str>, AllocError> {
+pub(super) fn values<'a>(
+    alloc: Global,
+    words: &'a str,
+    key: &str,
+) -> Result<Vec<&'a str>, AllocError> {
     let mut values = Vec::new(alloc);
     for word in words.split_whitespace() {
         if let Some(value) = value_of(word, key) {
@@ -44,7 +48,7 @@ pub fn values<'a>(alloc: Global, words: &'a str, key: &str) -> Result<Vec<&'a st
 }
 
 /// The first of them, or what stands for it where there is none.
-pub fn value_or<'a>(words: &'a str, key: &str, other: &'a str) -> &'a str {
+pub(super) fn value_or<'a>(words: &'a str, key: &str, other: &'a str) -> &'a str {
     for word in words.split_whitespace() {
         if let Some(value) = value_of(word, key) {
             return value;
@@ -54,7 +58,7 @@ pub fn value_or<'a>(words: &'a str, key: &str, other: &'a str) -> &'a str {
 }
 
 /// The number of this key, 0 where there is none.
-pub fn number(words: &str, key: &str) -> u64 {
+pub(super) fn number(words: &str, key: &str) -> u64 {
     value_or(words, key, "").parse().unwrap_or(0)
 }
 
@@ -82,14 +86,6 @@ struct ClassFile {
 }
 
 impl ClassFile {
-    fn new(alloc: Global) -> ClassFile {
-        ClassFile {
-            pool: Vec::new(alloc),
-            next: 1,
-            body: Vec::new(alloc),
-        }
-    }
-
     fn put(&mut self, number: u16) -> Result<(), AllocError> {
         self.body.extend_from_slice(&number.to_be_bytes())
     }
@@ -139,47 +135,38 @@ impl ClassFile {
         self.put(len)
     }
 
-    fn put_constant(&mut self, number: u16) -> Result<(), AllocError> {
-        self.put_attribute("ConstantValue", 2)?;
-        let index = self.entry(3, 0, &number.to_be_bytes())?;
-        self.put(index)
-    }
-
-    fn put_signature(&mut self, text: &str) -> Result<(), AllocError> {
-        if text.is_empty() {
+    // Puts the attribute of a value: a constant value of digits, a signature of another text, none of none.
+    fn put_value(&mut self, value: &str) -> Result<(), AllocError> {
+        if value.is_empty() {
             return Ok(());
         }
-        self.put_attribute("Signature", 2)?;
-        self.put_text(text)
-    }
-
-    // Puts the attributes of a member: its constant value of digits, or its signature, where it has one.
-    fn put_value(&mut self, value: &str) -> Result<(), AllocError> {
-        self.put(u16::from(!value.is_empty()))?;
         match value.parse::<u16>() {
-            Ok(number) => self.put_constant(number),
-            Err(_) => self.put_signature(value),
+            Ok(number) => {
+                self.put_attribute("ConstantValue", 2)?;
+                let index = self.entry(3, 0, &number.to_be_bytes())?;
+                self.put(index)
+            }
+            Err(_) => {
+                self.put_attribute("Signature", 2)?;
+                self.put_text(value)
+            }
         }
     }
 
-    // Puts the member `FLAGS:NAME:DESCRIPTOR` or, with a constant value or a signature,
-    // `FLAGS:NAME:DESCRIPTOR:VALUE`.
-    fn put_member(&mut self, member: &str) -> Result<(), AllocError> {
-        let (flags, rest) = cut(member, ":");
-        let (name, typed) = cut(rest, ":");
-        let (descriptor, value) = cut(typed, ":");
-        self.put(hex(flags))?;
-        self.put_text(name)?;
-        self.put_text(descriptor)?;
-        self.put_value(value)
-    }
-
-    // Puts the count of the members that the words have of this key, and each.
+    // Puts the count of the members that the words have of this key, and each: `FLAGS:NAME:DESCRIPTOR` or,
+    // with a constant value or a signature, `FLAGS:NAME:DESCRIPTOR:VALUE`.
     fn put_members(&mut self, alloc: Global, words: &str, key: &str) -> Result<(), AllocError> {
         let members = values(alloc, words, key)?;
         self.put(count(members.as_slice()))?;
         for member in members.as_slice() {
-            self.put_member(member)?;
+            let (flags, rest) = cut(member, ":");
+            let (name, typed) = cut(rest, ":");
+            let (descriptor, value) = cut(typed, ":");
+            self.put(hex(flags))?;
+            self.put_text(name)?;
+            self.put_text(descriptor)?;
+            self.put(u16::from(!value.is_empty()))?;
+            self.put_value(value)?;
         }
         Ok(())
     }
@@ -194,14 +181,6 @@ impl ClassFile {
         self.put_classes(names)
     }
 
-    fn put_host(&mut self, host: &str) -> Result<(), AllocError> {
-        if host.is_empty() {
-            return Ok(());
-        }
-        self.put_attribute("NestHost", 2)?;
-        self.put_class(host)
-    }
-
     // Puts the attributes of a class: its nest host, its nest members, the names that it permits, and its
     // signature.
     fn put_attributes(&mut self, alloc: Global, words: &str) -> Result<(), AllocError> {
@@ -212,10 +191,13 @@ impl ClassFile {
         let nest = u16::from(!host.is_empty()).saturating_add(u16::from(!members.is_empty()));
         let lists = nest.saturating_add(u16::from(!permits.is_empty()));
         self.put(lists.saturating_add(u16::from(!signature.is_empty())))?;
-        self.put_host(host)?;
+        if !host.is_empty() {
+            self.put_attribute("NestHost", 2)?;
+            self.put_class(host)?;
+        }
         self.put_list("NestMembers", members.as_slice())?;
         self.put_list("PermittedSubclasses", permits.as_slice())?;
-        self.put_signature(signature)
+        self.put_value(signature)
     }
 
     // Its bytes, of a version.
@@ -229,24 +211,6 @@ impl ClassFile {
     }
 }
 
-// The superclass of a class of which nothing is said of one.
-fn plain_superclass(name: &str) -> &str {
-    if name == OBJECT { "" } else { OBJECT }
-}
-
-// The class file of a class of this name and these words.
-fn class_file(alloc: Global, name: &str, words: &str) -> Result<ClassFile, AllocError> {
-    let mut file = ClassFile::new(alloc);
-    file.put(hex(value_or(words, "flags", "21")))?;
-    file.put_class(name)?;
-    file.put_class(value_or(words, "extends", plain_superclass(name)))?;
-    file.put_classes(values(alloc, words, "implements")?.as_slice())?;
-    file.put_members(alloc, words, "field")?;
-    file.put_members(alloc, words, "method")?;
-    file.put_attributes(alloc, words)?;
-    Ok(file)
-}
-
 // The class file of a text `NAME WORDS..`: a public class of this name, without a constructor, and
 // what the words say of it, as `init`, `flags=21`, `method=1:m:()V`, `sealed` for the version that has
 // seals, and so on. No bytes, where a word says nothing of a class.
@@ -255,8 +219,20 @@ fn class_bytes(alloc: Global, text: &str) -> Result<Vec<u8>, AllocError> {
     if !words.split_whitespace().all(is_known) {
         return Ok(Vec::new(alloc));
     }
+    let mut file = ClassFile {
+        pool: Vec::new(alloc),
+        next: 1,
+        body: Vec::new(alloc),
+    };
+    file.put(hex(value_or(words, "flags", "21")))?;
+    file.put_class(name)?;
+    file.put_class(value_or(words, "extends", if name == OBJECT { "" } else { OBJECT }))?;
+    file.put_classes(values(alloc, words, "implements")?.as_slice())?;
+    file.put_members(alloc, words, "field")?;
+    file.put_members(alloc, words, "method")?;
+    file.put_attributes(alloc, words)?;
     let is_sealed = value_or(words, "sealed", "no").is_empty();
-    class_file(alloc, name, words)?.bytes(alloc, if is_sealed { 61 } else { 52 })
+    file.bytes(alloc, if is_sealed { 61 } else { 52 })
 }
 
 /// A file of a tree.
@@ -264,7 +240,12 @@ fn class_bytes(alloc: Global, text: &str) -> Result<Vec<u8>, AllocError> {
 /// # Errors
 ///
 /// `AllocError` where memory runs out.
-pub fn file(alloc: Global, root: &str, path: &str, bytes: Vec<u8>) -> Result<MemFile, AllocError> {
+pub(super) fn file(
+    alloc: Global,
+    root: &str,
+    path: &str,
+    bytes: Vec<u8>,
+) -> Result<MemFile, AllocError> {
     let root = Text::from_str(alloc, root)?;
     let path = Text::from_str(alloc, path)?;
     Ok(MemFile { root, path, bytes })
@@ -279,23 +260,23 @@ fn bytes_of(alloc: Global, words: &str) -> Result<Vec<u8>, AllocError> {
     Ok(bytes)
 }
 
-// So many zeros.
-fn zeros(alloc: Global, count: &str) -> Result<Vec<u8>, AllocError> {
-    vec![in alloc; 0u8; count.parse().unwrap_or(0)]
-}
-
 /// The file under a root of a text: `NAME WORDS..` of a class at its place, `at PATH NAME WORDS..` of one
 /// at another, `bytes PATH HEX..`, or `zeros PATH COUNT`. It is empty where a word says nothing of a class.
 ///
 /// # Errors
 ///
 /// `AllocError` where memory runs out.
-pub fn file_of(alloc: Global, root: &str, text: &str) -> Result<MemFile, AllocError> {
+pub(super) fn file_of(alloc: Global, root: &str, text: &str) -> Result<MemFile, AllocError> {
     let (name, words) = cut(text, " ");
     let (path, content) = cut(words, " ");
     match name {
         "bytes" => file(alloc, root, path, bytes_of(alloc, content)?),
-        "zeros" => file(alloc, root, path, zeros(alloc, content)?),
+        "zeros" => file(
+            alloc,
+            root,
+            path,
+            vec![in alloc; 0u8; content.parse().unwrap_or(0)]?,
+        ),
         "at" => file(alloc, root, path, class_bytes(alloc, content)?),
         _ => {
             let own_path = format!(in alloc; "{name}.class")?;
