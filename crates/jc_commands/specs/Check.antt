@@ -1,5 +1,5 @@
 -- A check of two releases: what it reads, why that is refused, its verdict, and its warnings, its notes on signatures and its dropped interfaces where they are asked for.
-use Rattle.std.specs.Prelude.{◌≡◌, ◌≢◌, ◌≤◌, ◌<◌, ℕ, ◌+◌, List, [], ◌∷◌, ◌++◌, map, length, Bool, true, false, IsTrue, Option, Some, None, codes, if◌then◌else◌}
+use Rattle.std.specs.Prelude.{◌≡◌, ◌≢◌, ◌≤◌, ◌<◌, ℕ, ◌+◌, List, [], ◌∷◌, ◌++◌, map, length, Bool, true, false, IsTrue, Option, Some, None, if◌then◌else◌}
 use Rattle.std.specs.List.{All}
 use Rattle.jc_base.specs.Outside.{FileOf}
 use Rattle.jc_base.specs.States.{FolderState, Change}
@@ -21,14 +21,14 @@ use Rattle.jc_promises.specs.client.Keeps.{Keeps}
 use Rattle.jc_facts.specs.client.Valid.{facts_of}
 use Rattle.jc_promises.specs.client.Kept.{BreaksClass}
 use Rattle.jc_promises.specs.client.Meets.{Meets}
-use Rattle.jc_facts.specs.print.Text.{text_of}
-use Rattle.jc_facts.specs.print.WarnText.{line_of_warning}
 use Rattle.jc_promises.specs.rule.Verdict.{IsVerdict}
 use Rattle.jc_facts.specs.Verdicts.{count_of}
 use Rattle.jc_promises.specs.rule.Warnings.{AreWarnings}
 use Rattle.jc_report.specs.DroppedForms.{dropped_bytes}
-use Rattle.jc_report.specs.Json.{json_of, warning_json}
-use Rattle.jc_report.specs.Listing.{part_bytes}
+use Rattle.jc_report.specs.Json.{json_of}
+use Rattle.jc_report.specs.SigForms.{sig_bytes}
+use Rattle.jc_report.specs.Text.{text_of}
+use Rattle.jc_report.specs.WarnForms.{warn_bytes}
 use Rattle.jc_selection.specs.SelectionKept.{MeetsNoFinal, StaysAnswered}
 use Rattle.jc_complete.specs.Completeness.{IsBroken}
 use Rattle.jc_witness.specs.declared.witness.WitnessFile.{WitnessFile}
@@ -39,7 +39,7 @@ use Rattle.jc_releases.specs.Command.{trees_of}
 use Rattle.jc_words.specs.Command.{CheckOf, CheckCommand}
 use Rattle.jc_releases.specs.Releases.{read_as, old_and_new, mismatch_among}
 use Rattle.jc_commands.specs.DroppedPart.{AreAskedDropped}
-use Rattle.jc_commands.specs.Signatures.{AreSigNotes, AreNoted, sig_bytes}
+use Rattle.jc_commands.specs.Signatures.{AreSigNotes, AreNoted}
 use Rattle.jc_shown.specs.Witness.{PutFile, PutsFiles, put_file, causes_of, witness_puts}
 use Rattle.jc_releases.specs.declared.limits.TheConstants.{MAX_FINDINGS, MAX_WARNINGS, MAX_DROPPED}
 use Rattle.jc_releases.specs.declared.stop.Part.TheVariants as parts
@@ -145,10 +145,6 @@ pub record IsCheckReport {files : List FileOf} {check : CheckOf} (records : Chec
 -- the bytes of a verdict: its JSON where that is asked for, and else its text
 abbrev pub verdict_bytes : Bool → Verdict → Bytes
 verdict_bytes json v = if json then json_of v else text_of v
-
--- the bytes of warnings, where they are asked for
-abbrev pub warn_bytes : Bool → Option (List Warning) → Bytes
-warn_bytes json ws = part_bytes json (codes "warnings") (λ (w : Warning) n. line_of_warning w) (λ (w : Warning) n. warning_json w) ws
 
 -- the bytes of what stands behind the warnings, in this order
 abbrev pub behind_bytes : Bool → CheckReport → Bytes

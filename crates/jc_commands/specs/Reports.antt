@@ -5,8 +5,8 @@ use Rattle.jc_facts.specs.declared.outcome.Outcome.{Outcome}
 use Rattle.jc_facts.specs.declared.verdict.Verdict.{Verdict}
 use Rattle.jc_facts.specs.Names.{Bytes}
 use Rattle.jc_facts.specs.client.Linked.{are_all_ok}
-use Rattle.jc_facts.specs.print.LinkText.{link_text_of}
-use Rattle.jc_facts.specs.print.MadeText.{made_text_of}
+use Rattle.jc_report.specs.LinkText.{link_text_of}
+use Rattle.jc_report.specs.MadeText.{made_text_of}
 use Rattle.jc_report.specs.HistoryText.{history_text_of, incompatible_steps}
 use Rattle.jc_gate.specs.Gates.{GateOf, all_pass}
 use Rattle.jc_commands.specs.Check.{CheckRecords, CheckReport, IsUnfit, IsFit, IsCheckReport, old_side, new_side, check_bytes, puts_below}

@@ -1,12 +1,8 @@
 -- The notes on generic signatures that a check reports, where they are asked for.
-use Rattle.std.specs.Prelude.{List, Bool, true, false, Option, Some, None, codes}
+use Rattle.std.specs.Prelude.{List, Bool, true, false, Option, Some, None}
 use Rattle.jc_facts.specs.declared.sig_note.SigNote.{SigNote}
 use Rattle.jc_facts.specs.Exactly.{HasExactly}
-use Rattle.jc_facts.specs.Names.{Bytes}
-use Rattle.jc_facts.specs.print.SigText.{line_of_sig_note}
 use Rattle.jc_facts.specs.world.World.{World}
-use Rattle.jc_report.specs.SigJson.{sig_note_json}
-use Rattle.jc_report.specs.Listing.{part_bytes}
 use Rattle.jc_sig.specs.Notes.{SigNoteStands, sig_note_order}
 
 -- the list has exactly the notes on the two sides, each once and in their order (JVMS 4.7.9.1)
@@ -18,7 +14,3 @@ abbrev pub AreNoted : Bool → World → World → Option (List SigNote) → Typ
 AreNoted false O N None = Unit {0}
 AreNoted true O N (Some ns) = AreSigNotes O N ns
 AreNoted _ O N _ = ⊥
-
--- the bytes of notes, where they are asked for
-abbrev pub sig_bytes : Bool → Option (List SigNote) → Bytes
-sig_bytes json ns = part_bytes json (codes "signatures") (λ (m : SigNote) n. line_of_sig_note m) (λ (m : SigNote) n. sig_note_json m) ns

@@ -11,7 +11,6 @@ pub mod Generated
 pub mod file
 pub mod world
 pub mod client
-pub mod print
 pub mod code
 pub mod written
 pub mod Exactly

@@ -7,9 +7,11 @@ use jc_facts::finding::Finding;
 use jc_facts::key::Key;
 use jc_facts::link_error::LinkError;
 use jc_facts::verdict::{Collision, Note, Verdict};
+use jc_facts::warning::{WarnKind, Warning};
 use jc_report::json::json;
 use jc_report::put_listing::put_listing;
 use jc_report::text::text;
+use jc_report::warnings::{warn_json, warn_text};
 use std::alloc::Global;
 use std::process::Abort;
 
@@ -305,4 +307,37 @@ fn listed(rt: &impl Abort, alloc: Global, as_json: bool, want: &str) -> bool {
 fn lists_items_as_lines_or_below_one_key(rt: HostRuntime) {
     assert!(rt; listed(&rt, rt.alloc(), false, NOTES_TEXT));
     assert!(rt; listed(&rt, rt.alloc(), true, NOTES_JSON));
+}
+
+const WARNINGS: &[(Bytes, (Bytes, Bytes), WarnKind)] = &[
+    (b"p/A", (b"k", b"()V"), WarnKind::Lost),
+    (b"p/B", (b"k", b"()V"), WarnKind::Abstract),
+    (b"p/I", (b"k", b"()V"), WarnKind::Defaults),
+];
+
+const WARNINGS_TEXT: &str = "warning p/A k()V lost
+warning p/B k()V abstract
+warning p/I k()V defaults
+";
+
+const WARNINGS_JSON: &str =
+    r#"{"warnings":[{"class":"p/A","kind":"lost","member":"k()V"},{"class":"p/B","kind":"abstract","member":"k()V"},{"class":"p/I","kind":"defaults","member":"k()V"}]}
+"#;
+
+#[test]
+fn prints_each_kind_of_warning(rt: HostRuntime) {
+    let alloc = rt.alloc();
+    let mut warnings = Vec::new(alloc);
+    for (class, parts, kind) in WARNINGS {
+        let warning = Warning {
+            class: Name::from_bytes(alloc, class).expect(&rt, "memory"),
+            key: key(&rt, alloc, *parts),
+            kind: *kind,
+        };
+        warnings.push(warning).expect(&rt, "memory");
+    }
+    let text = warn_text(alloc, warnings.as_slice()).expect(&rt, "memory");
+    assert!(rt; text.as_slice() == WARNINGS_TEXT.as_bytes());
+    let json = warn_json(alloc, warnings.as_slice()).expect(&rt, "memory");
+    assert!(rt; json.as_slice() == WARNINGS_JSON.as_bytes());
 }

@@ -16,7 +16,7 @@ use Rattle.jc_facts.specs.declared.verdict.Note.{Note}
 use Rattle.jc_facts.specs.declared.verdict.Note.TheVariants as note
 use Rattle.jc_facts.specs.declared.verdict.Verdict.{Verdict}
 use Rattle.jc_facts.specs.Names.{Bytes, is_descriptor_of_method}
-use Rattle.jc_facts.specs.print.Text.{hex_digit_of, printed_byte, printed, rule_name, word_of_act, name_of_error, printed_key, printed_name, printed_member, line_of_finding, line_of_collision, word_of_side, line_of_note, verdict_word, last_line_of, text_of}
+use Rattle.jc_report.specs.Text.{hex_digit_of, printed_byte, printed, rule_name, word_of_act, name_of_error, printed_key, printed_name, printed_member, line_of_finding, line_of_collision, word_of_side, line_of_note, verdict_word, last_line_of, text_of}
 use Rattle.jc_report.specs.HistoryText.{with_front}
 use Rattle.jc_report.specs.Listing.{lines_from}
 use Rattle.jc_report.specs.steps.Fronted.{fronted, fronted_text}

@@ -6,7 +6,7 @@ use Rattle.std.proofs.lemmas.List.{at_drop_more}
 use Rattle.jc_base.specs.Outside.{TakesAll, TakesFront}
 use Rattle.jc_facts.specs.declared.verdict.Verdict.{Verdict}
 use Rattle.jc_facts.specs.Names.{Bytes}
-use Rattle.jc_facts.specs.print.Text.{text_of}
+use Rattle.jc_report.specs.Text.{text_of}
 use Rattle.jc_report.specs.HistoryText.{with_front, step_front, step_lines, last_line_of_history, history_text_of}
 use Rattle.jc_report.proofs.Puts.{IsPut, put_nothing, put_more, put_failed, put_all, put_last_failed}
 

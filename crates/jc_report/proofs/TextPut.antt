@@ -7,7 +7,7 @@ use Rattle.jc_facts.specs.declared.verdict.Collision.{Collision}
 use Rattle.jc_facts.specs.declared.verdict.Note.{Note}
 use Rattle.jc_facts.specs.declared.verdict.Verdict.{Verdict}
 use Rattle.jc_facts.specs.Names.{Bytes}
-use Rattle.jc_facts.specs.print.Text.{line_of_finding, lines_of_findings, line_of_collision, lines_of_collisions, line_of_note, lines_of_notes, last_line_of, text_of}
+use Rattle.jc_report.specs.Text.{line_of_finding, lines_of_findings, line_of_collision, lines_of_collisions, line_of_note, lines_of_notes, last_line_of, text_of}
 use Rattle.jc_report.specs.Listing.{lines_from}
 use Rattle.jc_report.specs.steps.Fronted.{fronted, fronted_text}
 use Rattle.jc_report.proofs.Puts.{IsPut, put_nothing, put_more, put_failed, put_all, put_last_failed}

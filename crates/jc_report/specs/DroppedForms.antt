@@ -3,7 +3,7 @@ use Rattle.std.specs.Prelude.{Bool, Option, List, [], ◌∷◌, ◌++◌, codes
 use Rattle.serde_json.specs.Data.{Data, string, object}
 use Rattle.jc_facts.specs.declared.dropped.Dropped.{Dropped}
 use Rattle.jc_facts.specs.Names.{Bytes}
-use Rattle.jc_facts.specs.print.Text.{printed}
+use Rattle.jc_report.specs.Text.{printed}
 use Rattle.jc_report.specs.Listing.{members_of, part_bytes}
 
 -- the line of one: class and interface, with single spaces

@@ -1,4 +1,4 @@
--- The JSON of a verdict, and of what stands beside it, as bytes: which members each object has, in the byte order of their keys, by what `serde_json` means by a text.
+-- The JSON of a verdict, as bytes: which members each object has, in the byte order of their keys, by what `serde_json` means by a text.
 use Rattle.std.specs.Prelude.{ℕ, List, [], ◌∷◌, ◌+◌, length, Option, Some, None, codes}
 use Rattle.serde_json.specs.Data.{Data, null, number, unsigned, string, array, object}
 use Rattle.serde_json.specs.View.{items_of}
@@ -10,11 +10,9 @@ use Rattle.jc_facts.specs.declared.verdict.Collision.{Collision}
 use Rattle.jc_facts.specs.declared.verdict.Note.{Note}
 use Rattle.jc_facts.specs.declared.verdict.Note.TheVariants as notes
 use Rattle.jc_facts.specs.declared.verdict.Verdict.{Verdict}
-use Rattle.jc_facts.specs.declared.warning.Warning.{Warning}
 use Rattle.jc_facts.specs.Names.{Bytes}
-use Rattle.jc_facts.specs.print.Text.{printed, printed_key, rule_name, word_of_act, name_of_error, word_of_side, verdict_word}
-use Rattle.jc_facts.specs.print.WarnText.{word_of_kind}
-use Rattle.jc_report.specs.Listing.{members_of, values_from, listing_json, json_line}
+use Rattle.jc_report.specs.Listing.{members_of, values_from, json_line}
+use Rattle.jc_report.specs.Text.{printed, printed_key, rule_name, word_of_act, name_of_error, word_of_side, verdict_word}
 
 -- a name, or null where there is none
 abbrev pub name_or_null : Option Bytes → Data
@@ -57,13 +55,6 @@ abbrev pub note_json : Note → Data
 note_json (notes.Unloadable old x e) = note_with x (string (name_of_error e)) (codes "unloadable") null (string (word_of_side old))
 note_json (notes.Fixed x k) = note_with x null (codes "constant") (string (printed_key k)) null
 
--- a warning
-abbrev pub warning_json : Warning → Data
-warning_json w = object (members_of (
-    (codes "class", string (printed w.class)) ∷
-    (codes "kind", string (word_of_kind w.kind)) ∷
-    (codes "member", string (printed_key w.key)) ∷ []))
-
 abbrev pub verdict_with : List Data → List Data → List Data → Bytes → Data
 verdict_with collisions findings ns word = object (members_of (
     (codes "collisions", array (items_of collisions)) ∷
@@ -80,7 +71,3 @@ verdict_json v =
 -- its text, as a line
 unfoldable pub json_of : Verdict → Bytes
 json_of v = json_line (verdict_json v)
-
--- the text of an object whose one key has warnings, as a line
-unfoldable pub warn_json_of : List Warning → Bytes
-warn_json_of ws = json_line (listing_json (codes "warnings") (values_from (λ w n. warning_json w) 1 ws))

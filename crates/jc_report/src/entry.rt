@@ -3,9 +3,9 @@ ghost use Rattle.std.specs.Prelude.{◌≡◌, false, IfOk};
 ghost use Rattle.serde_json.specs.Data.{Data};
 ghost use Rattle.serde_json.specs.View.{view};
 ghost use Rattle.serde_json.specs.Written.{has_float};
-ghost use Rattle.jc_facts.specs.print.Text.{line_of_finding, line_of_collision, line_of_note};
-ghost use Rattle.jc_facts.specs.print.WarnText.{line_of_warning};
-ghost use Rattle.jc_report.specs.Json.{finding_json, collision_json, note_json, warning_json};
+ghost use Rattle.jc_report.specs.Text.{line_of_finding, line_of_collision, line_of_note};
+ghost use Rattle.jc_report.specs.Json.{finding_json, collision_json, note_json};
+ghost use Rattle.jc_report.specs.WarnForms.{line_of_warning, warning_json};
 
 use crate::json_values::{collision_value, finding_value, note_value, warning_value};
 use crate::lines::{collision_line, finding_line, note_line, warning_line};

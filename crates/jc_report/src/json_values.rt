@@ -2,8 +2,9 @@
 ghost use Rattle.std.specs.Prelude.{◌≡◌, IfOk};
 ghost use Rattle.serde_json.specs.Data.{string};
 ghost use Rattle.serde_json.specs.View.{view};
-ghost use Rattle.jc_facts.specs.print.Text.{printed, printed_key};
-ghost use Rattle.jc_report.specs.Json.{name_or_null, member_or_null, finding_json, collision_json, note_with, note_json, warning_json};
+ghost use Rattle.jc_report.specs.Text.{printed, printed_key};
+ghost use Rattle.jc_report.specs.Json.{name_or_null, member_or_null, finding_json, collision_json, note_with, note_json};
+ghost use Rattle.jc_report.specs.WarnForms.{warning_json};
 
 use crate::printed::{push_key, push_printed};
 use crate::printed_words::{act_word, error_name, rule_text, side_word, warn_word};

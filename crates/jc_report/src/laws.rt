@@ -1,11 +1,11 @@
-//! The printed forms of some verdicts, notes on signatures and dropped interfaces.
+//! The printed forms of some verdicts, warnings, notes on signatures and dropped interfaces.
 ghost use Rattle.std.specs.Prelude.{◌≡◌, ◌++◌, [], ◌∷◌, Some, None, true, false, codes, ℕ};
 ghost use Rattle.jc_facts.specs.declared.verdict.Verdict.{Verdict};
 ghost use Rattle.jc_report.specs.Json.{json_of};
-ghost use Rattle.jc_facts.specs.print.SigText.{sig_text_of};
-ghost use Rattle.jc_report.specs.SigJson.{sig_json_of};
+ghost use Rattle.jc_report.specs.WarnForms.{warn_bytes};
+ghost use Rattle.jc_report.specs.SigForms.{sig_bytes};
 ghost use Rattle.jc_report.specs.DroppedForms.{dropped_bytes};
-ghost use Rattle.jc_report.specs.Worked.{capture, empty, mixed, parameters_changed, result_changed, unread, no_longer_there, no_longer_named};
+ghost use Rattle.jc_report.specs.Worked.{capture, empty, mixed, body_lost, default_added, parameters_changed, result_changed, unread, no_longer_there, no_longer_named};
 
 /// Keys stand in byte order, what isn't there is null, and a backslash of a printed form is escaped.
 pub fn worked_json()
@@ -14,12 +14,20 @@ pub fn worked_json()
     ensures mixed { json_of mixed ≡ codes "{\"collisions\":[],\"findings\":[{\"class\":\"p/\\\\\\\\\\\\xe9\",\"error\":\"NoClassDefFoundError\",\"member\":null,\"number\":1,\"operation\":\"class\",\"rule\":\"H1\",\"seat\":null},{\"class\":\"p/D\",\"error\":\"NoSuchFieldError\",\"member\":\"f:I\",\"number\":2,\"operation\":\"getstatic\",\"rule\":\"H7\",\"seat\":\"p/C\"}],\"notes\":[{\"class\":\"p/B\",\"detail\":\"VerifyError\",\"kind\":\"unloadable\",\"member\":null,\"side\":\"old\"},{\"class\":\"p/A\",\"detail\":null,\"kind\":\"constant\",\"member\":\"f:I\",\"side\":null}],\"verdict\":\"incompatible\"}\n" }
 {}
 
+/// A kind is one word in lower case; what isn't asked for has no bytes.
+pub fn worked_warnings()
+    ensures text { warn_bytes false (Some (body_lost ∷ default_added ∷ [])) ≡ codes "warning p/A k()V lost\nwarning p/I k()V defaults\n" }
+    ensures json { warn_bytes true (Some (default_added ∷ [])) ≡ codes "{\"warnings\":[{\"class\":\"p/I\",\"kind\":\"defaults\",\"member\":\"k()V\"}]}\n" }
+    ensures none { warn_bytes true (Some []) ≡ codes "{\"warnings\":[]}\n" }
+    ensures unasked { warn_bytes true None ≡ [] }
+{}
+
 /// The member of the class itself is `-`, or null in JSON; a change is one word in lower case.
 pub fn worked_signatures()
-    ensures text { sig_text_of (parameters_changed ∷ result_changed ∷ unread ∷ []) ≡ codes "note signature p/A - parameters\nnote signature p/A get()Ljava/lang/Object; result\nnote signature p/A - unread\n" }
-    ensures class { sig_json_of (parameters_changed ∷ []) ≡ codes "{\"signatures\":[{\"change\":\"parameters\",\"class\":\"p/A\",\"member\":null}]}\n" }
-    ensures none { sig_json_of [] ≡ codes "{\"signatures\":[]}\n" }
-    ensures member { sig_json_of (result_changed ∷ []) ≡ codes "{\"signatures\":[{\"change\":\"result\",\"class\":\"p/A\",\"member\":\"get()Ljava/lang/Object;\"}]}\n" }
+    ensures text { sig_bytes false (Some (parameters_changed ∷ result_changed ∷ unread ∷ [])) ≡ codes "note signature p/A - parameters\nnote signature p/A get()Ljava/lang/Object; result\nnote signature p/A - unread\n" }
+    ensures class { sig_bytes true (Some (parameters_changed ∷ [])) ≡ codes "{\"signatures\":[{\"change\":\"parameters\",\"class\":\"p/A\",\"member\":null}]}\n" }
+    ensures none { sig_bytes true (Some []) ≡ codes "{\"signatures\":[]}\n" }
+    ensures member { sig_bytes true (Some (result_changed ∷ [])) ≡ codes "{\"signatures\":[{\"change\":\"result\",\"class\":\"p/A\",\"member\":\"get()Ljava/lang/Object;\"}]}\n" }
 {}
 
 /// A name is printed in a line, and its backslashes once more escaped in JSON.

@@ -1,7 +1,7 @@
 //! The lines of findings, collisions, notes and warnings.
 ghost use Rattle.std.specs.Prelude.{◌≡◌, ◌++◌, codes, OnOk, IfOk};
-ghost use Rattle.jc_facts.specs.print.Text.{printed, printed_key, printed_member, word_of_side, name_of_error, line_of_finding, line_of_collision, line_of_note};
-ghost use Rattle.jc_facts.specs.print.WarnText.{line_of_warning};
+ghost use Rattle.jc_report.specs.Text.{printed, printed_key, printed_member, word_of_side, name_of_error, line_of_finding, line_of_collision, line_of_note};
+ghost use Rattle.jc_report.specs.WarnForms.{line_of_warning};
 
 use crate::printed::{push_decimal, push_key, push_name, push_printed};
 use crate::printed_words::{act_word, error_name, rule_text, side_word, warn_word};
@@ -27,7 +27,7 @@ fn push_member(text: &mut Vec<u8>, finding: &Finding) -> Result<(), AllocError>
 /// # Errors
 ///
 /// `AllocError` where memory runs out.
-#[tactic(auto, unfolding(jc_facts::specs::print::Text::line_of_finding))]
+#[tactic(auto, unfolding(crate::specs::Text::line_of_finding))]
 pub fn finding_line(alloc: Global, number: usize, finding: &Finding) -> Result<Vec<u8>, AllocError>
     ensures { IfOk result (λ line. line.items ≡ line_of_finding number finding.now) }
 {
@@ -54,7 +54,7 @@ pub fn finding_line(alloc: Global, number: usize, finding: &Finding) -> Result<V
 /// # Errors
 ///
 /// `AllocError` where memory runs out.
-#[tactic(auto, unfolding(jc_facts::specs::print::Text::line_of_collision))]
+#[tactic(auto, unfolding(crate::specs::Text::line_of_collision))]
 pub fn collision_line(
     alloc: Global,
     number: usize,
@@ -114,7 +114,7 @@ fn constant_line(alloc: Global, class: &Name, key: &Key) -> Result<Vec<u8>, Allo
 /// # Errors
 ///
 /// `AllocError` where memory runs out.
-#[tactic(auto, unfolding(jc_facts::specs::print::Text::line_of_note))]
+#[tactic(auto, unfolding(crate::specs::Text::line_of_note))]
 pub fn note_line(alloc: Global, note: &Note) -> Result<Vec<u8>, AllocError>
     ensures { IfOk result (λ line. line.items ≡ line_of_note note.now) }
 {
@@ -129,7 +129,7 @@ pub fn note_line(alloc: Global, note: &Note) -> Result<Vec<u8>, AllocError>
 /// # Errors
 ///
 /// `AllocError` where memory runs out.
-#[tactic(auto, unfolding(jc_facts::specs::print::WarnText::line_of_warning))]
+#[tactic(auto, unfolding(crate::specs::WarnForms::line_of_warning))]
 pub fn warning_line(alloc: Global, warning: &Warning) -> Result<Vec<u8>, AllocError>
     ensures { IfOk result (λ line. line.items ≡ line_of_warning warning.now) }
 {

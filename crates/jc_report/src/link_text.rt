@@ -1,7 +1,7 @@
 //! The text of outcomes.
 ghost use Rattle.std.specs.Prelude.{◌≡◌, ◌++◌, codes, OnOk, IfOk};
-ghost use Rattle.jc_facts.specs.print.LinkText.{word_of_outcome, words_of_item, words_of_subject, line_of_outcome, lines_of_outcomes, errors_of, word_of_link, link_text_of};
-ghost use Rattle.jc_facts.specs.print.Text.{printed, printed_key, printed_name, word_of_act};
+ghost use Rattle.jc_report.specs.LinkText.{word_of_outcome, words_of_item, words_of_subject, line_of_outcome, lines_of_outcomes, errors_of, word_of_link, link_text_of};
+ghost use Rattle.jc_report.specs.Text.{printed, printed_key, printed_name, word_of_act};
 
 use crate::printed::{push_decimal, push_key, push_name, push_printed};
 use crate::printed_words::{act_word, error_name};
@@ -118,7 +118,7 @@ fn push_subject(text: &mut Vec<u8>, outcome: &Outcome) -> Result<(), AllocError>
     }
 }
 
-#[tactic(auto, unfolding(jc_facts::specs::print::LinkText::line_of_outcome))]
+#[tactic(auto, unfolding(crate::specs::LinkText::line_of_outcome))]
 fn push_line(text: &mut Vec<u8>, outcome: &Outcome) -> Result<(), AllocError>
     ensures { OnOk result (text.new.items ≡ text.old.items ++ line_of_outcome outcome.now) }
 {
@@ -165,7 +165,7 @@ fn link_word(errors: usize) -> &'static str
 /// # Errors
 ///
 /// `AllocError` where memory runs out.
-#[tactic(auto, unfolding(jc_facts::specs::print::LinkText::link_text_of))]
+#[tactic(auto, unfolding(crate::specs::LinkText::link_text_of))]
 pub fn link_text(alloc: Global, outcomes: &[Outcome]) -> Result<Vec<u8>, AllocError>
     ensures { IfOk result (λ text. text.items ≡ link_text_of outcomes.now) }
 {

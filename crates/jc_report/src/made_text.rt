@@ -1,6 +1,6 @@
 //! The text of the verdict on generated releases.
 ghost use Rattle.std.specs.Prelude.{◌≡◌, ◌++◌, IfOk, OnOk};
-ghost use Rattle.jc_facts.specs.print.MadeText.{line_of_count, made_text_of};
+ghost use Rattle.jc_report.specs.MadeText.{line_of_count, made_text_of};
 
 use crate::printed::push_decimal;
 use crate::printed_words::verdict_word;
@@ -24,7 +24,7 @@ fn push_count(alloc: Global, text: &mut Vec<u8>, word: &str, count: usize) -> Re
 /// # Errors
 ///
 /// `AllocError` where memory runs out.
-#[tactic(auto, unfolding(jc_facts::specs::print::MadeText::made_text_of))]
+#[tactic(auto, unfolding(crate::specs::MadeText::made_text_of))]
 pub fn made_text(alloc: Global, classes: u32, verdict: &Verdict) -> Result<Vec<u8>, AllocError>
     ensures exact { IfOk result (λ text. text.items ≡ made_text_of classes verdict.now) }
 {

@@ -1,7 +1,7 @@
 //! Printed names, keys and numbers.
 ghost use Rattle.std.specs.Prelude.{◌≡◌, ◌++◌, ◌∷◌, [], ◌+◌, ◌<◌, ◌≤◌, ◌^◌, OnOk};
 ghost use Rattle.std.specs.Fmt.{decimal};
-ghost use Rattle.jc_facts.specs.print.Text.{hex_digit_of, printed_byte, printed, printed_key, printed_name};
+ghost use Rattle.jc_report.specs.Text.{hex_digit_of, printed_byte, printed, printed_key, printed_name};
 ghost use Rattle.jc_facts.specs.Names.{is_descriptor_of_method};
 
 use jc_base::name::Name;

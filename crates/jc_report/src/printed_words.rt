@@ -1,7 +1,7 @@
 //! The printed words of rules, acts, errors, releases, verdicts and warnings.
 ghost use Rattle.std.specs.Prelude.{◌≡◌, IfOk, string_bytes};
-ghost use Rattle.jc_facts.specs.print.Text.{rule_name, word_of_act, name_of_error, word_of_side, verdict_word as word_of_verdict};
-ghost use Rattle.jc_facts.specs.print.WarnText.{word_of_kind};
+ghost use Rattle.jc_report.specs.Text.{rule_name, word_of_act, name_of_error, word_of_side, verdict_word as word_of_verdict};
+ghost use Rattle.jc_report.specs.WarnForms.{word_of_kind};
 
 use jc_facts::act::Act;
 use jc_facts::finding::Finding;

@@ -2,7 +2,7 @@
 ghost use Rattle.std.specs.Prelude.{◌≤◌, true, OnOk, OnErr, IsErrOf};
 ghost use Rattle.jc_base.specs.Causes.{Rose};
 ghost use Rattle.jc_base.specs.Outside.{TakesAll, TakesFront};
-ghost use Rattle.jc_facts.specs.print.Text.{text_of};
+ghost use Rattle.jc_report.specs.Text.{text_of};
 ghost use Rattle.jc_report.specs.HistoryText.{with_front, step_front, step_lines, last_line_of_history, history_text_of};
 
 use crate::history_text::{front_of, last_line};

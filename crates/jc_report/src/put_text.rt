@@ -2,7 +2,7 @@
 ghost use Rattle.std.specs.Prelude.{◌≡◌, ◌≤◌, ◌<◌, ◌+◌, ◌^◌, ◌++◌, length, IfOk, OnOk, OnErr, IsErrOf};
 ghost use Rattle.jc_base.specs.Causes.{Rose};
 ghost use Rattle.jc_base.specs.Outside.{TakesAll, TakesFront};
-ghost use Rattle.jc_facts.specs.print.Text.{last_line_of, text_of};
+ghost use Rattle.jc_report.specs.Text.{last_line_of, text_of};
 ghost use Rattle.jc_report.specs.Listing.{lines_from};
 ghost use Rattle.jc_report.specs.steps.Fronted.{fronted, fronted_text};
 

@@ -1,10 +1,9 @@
 //! Notes on generic signatures, as text and as JSON.
-ghost use Rattle.std.specs.Prelude.{◌≡◌, ◌++◌, None, IfOk, OnOk};
+ghost use Rattle.std.specs.Prelude.{◌≡◌, ◌++◌, true, false, Some, None, IfOk, OnOk};
 ghost use Rattle.serde_json.specs.View.{view};
-ghost use Rattle.jc_facts.specs.print.Text.{printed_member};
-ghost use Rattle.jc_facts.specs.print.SigText.{word_of_change, line_of_sig_note, sig_text_of};
 ghost use Rattle.jc_report.specs.Json.{member_or_null};
-ghost use Rattle.jc_report.specs.SigJson.{sig_note_json, sig_json_of};
+ghost use Rattle.jc_report.specs.SigForms.{word_of_change, line_of_sig_note, sig_note_json, sig_bytes};
+ghost use Rattle.jc_report.specs.Text.{printed_member};
 
 use crate::entries::lines;
 use crate::entry::Entry;
@@ -45,7 +44,7 @@ fn push_signed(text: &mut Vec<u8>, key: &Option<Key>) -> Result<(), AllocError>
 }
 
 // The line of a note, its line end with it.
-#[tactic(auto, unfolding(jc_facts::specs::print::SigText::line_of_sig_note))]
+#[tactic(auto, unfolding(crate::specs::SigForms::line_of_sig_note))]
 fn sig_line(alloc: Global, note: &SigNote) -> Result<Vec<u8>, AllocError>
     ensures { IfOk result (λ line. line.items ≡ line_of_sig_note note.now) }
 {
@@ -101,7 +100,7 @@ impl Entry for SigNote {
 ///
 /// `AllocError` where memory runs out.
 pub fn sig_text(alloc: Global, notes: &[SigNote]) -> Result<Vec<u8>, AllocError>
-    ensures { IfOk result (λ text. text.items ≡ sig_text_of notes.now) }
+    ensures { IfOk result (λ text. text.items ≡ sig_bytes false (Some notes.now)) }
 {
     let text = lines(alloc, 1, notes)?;
     Ok(text)
@@ -114,9 +113,8 @@ pub fn sig_text(alloc: Global, notes: &[SigNote]) -> Result<Vec<u8>, AllocError>
 /// # Errors
 ///
 /// `AllocError` where memory runs out.
-#[tactic(auto, unfolding(crate::specs::SigJson::sig_json_of))]
 pub fn sig_json(alloc: Global, notes: &[SigNote]) -> Result<Vec<u8>, AllocError>
-    ensures { IfOk result (λ text. text.items ≡ sig_json_of notes.now) }
+    ensures { IfOk result (λ text. text.items ≡ sig_bytes true (Some notes.now)) }
 {
     let text = listing(alloc, "signatures", notes)?;
     Ok(text)

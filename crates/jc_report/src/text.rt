@@ -1,7 +1,7 @@
 //! The text of a verdict.
 ghost use Rattle.std.specs.Prelude.{◌≡◌, ◌++◌, codes, length, IfOk};
 ghost use Rattle.std.specs.Fmt.{decimal};
-ghost use Rattle.jc_facts.specs.print.Text.{last_line_of, text_of};
+ghost use Rattle.jc_report.specs.Text.{last_line_of, text_of};
 
 use crate::entries::lines;
 use crate::printed::push_decimal;

@@ -1,7 +1,6 @@
 //! The text and the JSON of warnings, as they stand for themselves.
-ghost use Rattle.std.specs.Prelude.{◌≡◌, IfOk};
-ghost use Rattle.jc_facts.specs.print.WarnText.{warn_text_of};
-ghost use Rattle.jc_report.specs.Json.{warn_json_of};
+ghost use Rattle.std.specs.Prelude.{◌≡◌, true, false, Some, IfOk};
+ghost use Rattle.jc_report.specs.WarnForms.{warn_bytes};
 
 use crate::entries::lines;
 use crate::put_listing::listing;
@@ -14,7 +13,7 @@ use std::alloc::{AllocError, Global};
 ///
 /// `AllocError` where memory runs out.
 pub fn warn_text(alloc: Global, warnings: &[Warning]) -> Result<Vec<u8>, AllocError>
-    ensures { IfOk result (λ text. text.items ≡ warn_text_of warnings.now) }
+    ensures { IfOk result (λ text. text.items ≡ warn_bytes false (Some warnings.now)) }
 {
     let text = lines(alloc, 1, warnings)?;
     Ok(text)
@@ -27,9 +26,8 @@ pub fn warn_text(alloc: Global, warnings: &[Warning]) -> Result<Vec<u8>, AllocEr
 /// # Errors
 ///
 /// `AllocError` where memory runs out.
-#[tactic(auto, unfolding(crate::specs::Json::warn_json_of))]
 pub fn warn_json(alloc: Global, warnings: &[Warning]) -> Result<Vec<u8>, AllocError>
-    ensures { IfOk result (λ text. text.items ≡ warn_json_of warnings.now) }
+    ensures { IfOk result (λ text. text.items ≡ warn_bytes true (Some warnings.now)) }
 {
     let text = listing(alloc, "warnings", warnings)?;
     Ok(text)

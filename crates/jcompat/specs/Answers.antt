@@ -8,8 +8,7 @@ use Rattle.jc_facts.specs.Names.{Bytes}
 use Rattle.jc_gate.specs.Gates.{GateOf}
 use Rattle.jc_gate.specs.Meanings.{HasLinksGate}
 use Rattle.jc_commands.specs.Causes.{HasCause, IsRefused, IsAccepted, HasFailed}
-use Rattle.jc_commands.specs.Check.{CheckReport, IsAnswered, IsCompatible, IsIncompatible, IsBorneOut, IsNoted, KeepsInterfaces, HoldsClients, verdict_bytes, warn_bytes, check_bytes}
-use Rattle.jc_commands.specs.Signatures.{sig_bytes}
+use Rattle.jc_commands.specs.Check.{CheckReport, IsAnswered, IsCompatible, IsIncompatible, IsBorneOut, IsNoted, KeepsInterfaces, HoldsClients, verdict_bytes, check_bytes}
 use Rattle.jc_trees.specs.ClassFiles.{Told}
 use Rattle.jc_releases.specs.Command.{witness_dir, step_of_check, asked_of}
 use Rattle.jc_words.specs.Command.{CommandOf, CheckOf, HistoryOf, CheckCommand, HistoryCommand, asked}
@@ -21,6 +20,8 @@ use Rattle.jc_releases.specs.Stop.{line_of, status_of}
 use Rattle.jc_shown.specs.Witness.{PutFile, PutsFiles, PutsSome}
 use Rattle.jc_report.specs.DroppedForms.{dropped_bytes}
 use Rattle.jc_report.specs.HistoryText.{history_text_of}
+use Rattle.jc_report.specs.SigForms.{sig_bytes}
+use Rattle.jc_report.specs.WarnForms.{warn_bytes}
 use Rattle.jc_version.specs.Needs.{need_of, HasVersionGate}
 use Rattle.jc_releases.specs.declared.status.TheConstants.{PASSED, NOT_PASSED, USAGE, BAD_INPUT, READ_FAULT, WRITE_FAULT, NO_MEMORY, LIMIT}
 use Rattle.jc_releases.specs.declared.stop.Stop.{Stop}

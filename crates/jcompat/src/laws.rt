@@ -4,7 +4,7 @@ ghost use Rattle.std.specs.Prelude.{◌≡◌, ◌≢◌, ◌⊎◌, ℕ, List, 
 ghost use Rattle.jc_base.specs.Outside.{FileOf};
 ghost use Rattle.jc_base.specs.States.{change};
 ghost use Rattle.jc_facts.specs.declared.verdict.Verdict.{Verdict};
-ghost use Rattle.jc_facts.specs.print.MadeText.{made_text_of};
+ghost use Rattle.jc_report.specs.MadeText.{made_text_of};
 ghost use Rattle.jc_promises.specs.rule.Verdict.{IsVerdict};
 ghost use Rattle.jc_promises.specs.Pairs.{IsPair};
 ghost use Rattle.jc_facts.specs.world.World.{World};

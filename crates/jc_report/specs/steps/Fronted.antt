@@ -2,7 +2,7 @@
 use Rattle.std.specs.Prelude.{ℕ, ◌+◌, ◌++◌, length}
 use Rattle.jc_facts.specs.declared.verdict.Verdict.{Verdict}
 use Rattle.jc_facts.specs.Names.{Bytes}
-use Rattle.jc_facts.specs.print.Text.{line_of_finding, line_of_collision, line_of_note, last_line_of}
+use Rattle.jc_report.specs.Text.{line_of_finding, line_of_collision, line_of_note, last_line_of}
 use Rattle.jc_report.specs.Listing.{lines_from}
 
 -- what each item is printed as, with the front before it

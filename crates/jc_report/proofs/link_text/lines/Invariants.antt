@@ -1,5 +1,5 @@
 use Rattle.std.proofs.Common.{◌≡◌, ◌++◌, drop}
-use Rattle.jc_facts.specs.print.LinkText.{lines_of_outcomes}
+use Rattle.jc_report.specs.LinkText.{lines_of_outcomes}
 use Rattle.jc_report.proofs.link_text.lines.Given as goal
 
 abbrev pub invariant-loop-outcome : goal.invariant-loop-outcome

@@ -1,5 +1,5 @@
 use Rattle.std.proofs.Common.{◌≡◌, ◌++◌, take}
-use Rattle.jc_facts.specs.print.Text.{printed}
+use Rattle.jc_report.specs.Text.{printed}
 use Rattle.jc_report.proofs.printed.push_printed.Given as goal
 
 abbrev pub invariant-loop-byte : goal.invariant-loop-byte

@@ -7,7 +7,7 @@ use Rattle.jc_facts.specs.declared.client.Item.TheVariants as items
 use Rattle.jc_facts.specs.declared.link_error.LinkError.{LinkError}
 use Rattle.jc_facts.specs.declared.outcome.Outcome.{Outcome}
 use Rattle.jc_facts.specs.Names.{Bytes}
-use Rattle.jc_facts.specs.print.Text.{printed, printed_key, printed_name, word_of_act, name_of_error}
+use Rattle.jc_report.specs.Text.{printed, printed_key, printed_name, word_of_act, name_of_error}
 
 -- Ok, or the error
 abbrev pub word_of_outcome : Option LinkError → Bytes

@@ -4,7 +4,7 @@ use Rattle.std.specs.Prelude.{ℕ, ◌++◌, length, codes}
 use Rattle.std.specs.Fmt.{decimal}
 use Rattle.jc_facts.specs.declared.verdict.Verdict.{Verdict}
 use Rattle.jc_facts.specs.Names.{Bytes}
-use Rattle.jc_facts.specs.print.Text.{verdict_word}
+use Rattle.jc_report.specs.Text.{verdict_word}
 
 -- the line of a word and a number
 abbrev pub line_of_count : Bytes → ℕ → Bytes
