@@ -1,3 +1,5 @@
 pub mod Forms
 pub mod Slots
 pub mod Texts
+pub mod Bodies
+pub mod LongNames

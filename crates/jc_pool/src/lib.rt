@@ -6,6 +6,7 @@ mod entry;
 mod forms;
 pub mod laws;
 mod links;
+pub mod long_names;
 mod names;
 pub mod pool;
 mod start;

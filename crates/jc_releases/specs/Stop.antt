@@ -6,7 +6,7 @@ use Rattle.jc_desc.specs.declared.fault.Reason.TheVariants as reasons
 use Rattle.jc_facts.specs.declared.code_fault.CodeReason.{CodeReason}
 use Rattle.jc_facts.specs.declared.code_fault.CodeReason.TheVariants as code_reasons
 use Rattle.jc_facts.specs.Names.{Bytes}
-use Rattle.jc_facts.specs.print.Text.{printed}
+use Rattle.jc_report.specs.Text.{printed}
 use Rattle.jc_index.specs.declared.root.RootPart.{RootPart}
 use Rattle.jc_index.specs.declared.root.RootPart.TheVariants as parts
 use Rattle.jc_link.specs.declared.refusal.ClientPart.{ClientPart}

@@ -1,6 +1,6 @@
 //! Why there is no report.
 ghost use Rattle.std.specs.Prelude.{◌≡◌, ◌++◌, codes, IfOk, OnOk};
-ghost use Rattle.jc_facts.specs.print.Text.{printed};
+ghost use Rattle.jc_report.specs.Text.{printed};
 ghost use Rattle.jc_trees.specs.Tree.{tree_words};
 ghost use Rattle.jc_releases.specs.Stop.{reason_name as name_of, code_reason_name as name_of_code_reason, part_name as part_name_of, client_part_name as name_of_client_part, report_part_name as name_of_part, file_words, unread_words, usage_words, line_of, file_status as file_status_of, tree_status as tree_status_of, status_of};
 

@@ -4,4 +4,4 @@ use Rattle.jc_attr.specs.steps.Front.{with_front}
 use Rattle.jc_attr.proofs.classes.some_classes_at.Given as goal
 
 abbrev pub invariant-loop : goal.invariant-loop
-invariant-loop l = with_front l.names.items (list_at (class_from l.pool) (l.count - l.counter) l.rest) ≡ list_at (class_from l.pool) l.count l.bytes
+invariant-loop l = (l.long ≡ l.pool) × (with_front l.names.items (list_at (class_from l.pool) (l.count - l.counter) l.rest) ≡ list_at (class_from l.pool) l.count l.bytes)

@@ -6,4 +6,4 @@ use Rattle.jc_facts.specs.Seen.{Holds}
 use Rattle.jc_read.proofs.member_list.some_members_at.Given as goal
 
 abbrev pub invariant-loop : goal.invariant-loop
-invariant-loop l = Holds l.keys (read_keys (members_view l.reads.items)) × (with_front (members_view l.reads.items) (members_at l.method l.pool l.class (read_keys (members_view l.reads.items)) (l.count - l.counter) l.rest) ≡ members_at l.method l.pool l.class [] l.count l.bytes)
+invariant-loop l = (l.kept.long ≡ l.pool) × Holds l.kept.keys (read_keys (members_view l.reads.items)) × (with_front (members_view l.reads.items) (members_at l.method l.pool l.class (read_keys (members_view l.reads.items)) (l.count - l.counter) l.rest) ≡ members_at l.method l.pool l.class [] l.count l.bytes)
