@@ -21,7 +21,7 @@ fn class_list(alloc: Global, pool: &Pool<'_>, body: &[u8]) -> Result<Option<Vec<
         Err(_) => Ok(None),
         Ok((names, rest)) => {
             if rest.is_empty() {
-                Ok(Some(names))
+                Ok(Some(names.into_vec()))
             } else {
                 Ok(None)
             }

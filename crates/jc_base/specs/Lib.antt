@@ -1,5 +1,7 @@
 pub mod Places
+pub mod Again
 pub mod Causes
+pub mod KnownAgain
 pub mod Outside
 pub mod States
 pub mod Schedule
@@ -8,6 +10,7 @@ pub mod MemFile
 pub mod MemPaths
 pub mod MemSink
 pub mod MemTrees
+pub mod HashedParts
 pub mod FileMap
 pub mod MemFolder
 pub mod SureFolder

@@ -11,6 +11,7 @@ pub mod mem_folder;
 pub mod mem_sink;
 pub mod mem_trees;
 pub mod name;
+pub mod names;
 pub mod recent_names;
 pub mod root_faults;
 mod schedule;

@@ -153,14 +153,26 @@ impl Ord for Name {
     }
 }
 
+/// As many bytes of a name are hashed; of a longer one half of them from each end. To hash a long name whole
+/// takes its length each time that it is looked for.
+const HASHED: usize = 1_024;
+
 impl Hash for Name {
-    ghost hash_input = { λ bytes. bytes ∷ [] };
+    ghost use Rattle.jc_base.specs.HashedParts.{hashed_parts};
+
+    ghost hash_input = { hashed_parts };
 
     ghost respects_eq = { Prim.search (hashing, rules) };
 
-    // All bytes at once, which is faster than one by one.
+    // Many bytes at once, which is faster than one by one.
     fn hash<H: Hasher>(&self, state: &mut H) {
-        state.write(self.as_bytes());
+        let bytes = self.as_bytes();
+        if bytes.len() <= HASHED {
+            state.write(bytes);
+        } else {
+            state.write(&bytes[..HASHED / 2]);
+            state.write(&bytes[bytes.len() - HASHED / 2..]);
+        }
     }
 }
 

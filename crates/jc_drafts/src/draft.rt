@@ -9,6 +9,7 @@ use crate::bodies::initializer;
 use crate::texts::{root_name, without_parameters};
 use jc_base::items::Items;
 use jc_base::name::Name;
+use jc_base::names::Names;
 use jc_facts::blueprint::{Blueprint, Body, Step};
 use jc_facts::class_facts::{ClassFacts, Member};
 use std::alloc::{AllocError, Global};
@@ -190,7 +191,7 @@ impl Draft {
                 major: MAJOR,
                 flags,
                 superclass: Some(superclass),
-                interfaces: Items::from_vec(interfaces),
+                interfaces: Names::from_vec(alloc, interfaces),
                 fields: Items::from_vec(fields),
                 methods: Items::from_vec(methods),
                 permits: None,

@@ -4,6 +4,7 @@ ghost use Rattle.std.specs.Prelude.{◌≡◌};
 use crate::key::Key;
 use jc_base::items::Items;
 use jc_base::name::Name;
+use jc_base::names::Names;
 
 /// A field or a method (JVMS 4.5, 4.6).
 #[derive(PartialEq, Eq, Debug, Drop)]
@@ -45,7 +46,7 @@ pub struct ClassFacts {
     pub major: u16,
     pub flags: u16,
     pub superclass: Option<Name>,
-    pub interfaces: Items<Name>,
+    pub interfaces: Names,
     pub fields: Items<Member>,
     pub methods: Items<Member>,
     /// The names that PermittedSubclasses gives, where the class has the attribute.

@@ -179,7 +179,7 @@ impl ClassFacts {
         let mut copy = ClassFacts::plain(alloc, name, superclass, Vec::new(alloc), Vec::new(alloc));
         copy.major = self.major;
         copy.flags = self.flags;
-        copy.interfaces = copy_names(alloc, &self.interfaces)?;
+        copy.interfaces = self.interfaces.copy(alloc)?;
         copy.fields = copy_members(alloc, &self.fields)?;
         copy.methods = copy_members(alloc, &self.methods)?;
         copy.permits = copy_permits(alloc, &self.permits)?;

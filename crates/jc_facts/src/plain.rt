@@ -5,6 +5,7 @@ ghost use Rattle.jc_facts.specs.Generated.{member, plain_class};
 use crate::class_facts::{ClassFacts, Member};
 use jc_base::items::Items;
 use jc_base::name::Name;
+use jc_base::names::Names;
 use std::alloc::{AllocError, Global};
 
 /// The major version of plain classes.
@@ -51,7 +52,7 @@ impl ClassFacts {
             major: MAJOR,
             flags: PUBLIC_CLASS,
             superclass,
-            interfaces: Items::from_vec(Vec::new(alloc)),
+            interfaces: Names::from_vec(alloc, Vec::new(alloc)),
             fields: Items::from_vec(fields),
             methods: Items::from_vec(methods),
             permits: None,

@@ -1,6 +1,7 @@
 //! Records of classes made from rows.
 use jc_base::items::Items;
 use jc_base::name::Name;
+use jc_base::names::Names;
 use jc_facts::class_facts::{ClassFacts, Constant, Fixed, Member, Signed};
 use jc_facts::key::Key;
 use std::alloc::Global;
@@ -137,7 +138,7 @@ pub(crate) fn class(rt: &impl Abort, alloc: Global, row: &Row) -> ClassFacts {
         major: row.major,
         flags: row.flags,
         superclass: name_of(rt, alloc, row.superclass),
-        interfaces: names_of(rt, alloc, row.interfaces),
+        interfaces: Names::from_vec(alloc, names_of(rt, alloc, row.interfaces).into_vec()),
         fields: members(rt, alloc, row.fields),
         methods: members(rt, alloc, row.methods),
         permits: permitted(rt, alloc, row.permits),

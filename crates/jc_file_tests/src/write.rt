@@ -2,6 +2,7 @@
 use crate::classes::{Row, class, plain};
 use jc_base::items::Items;
 use jc_base::name::Name;
+use jc_base::names::Names;
 use jc_facts::act::Act;
 use jc_facts::key::Key;
 use jc_write::formed::is_formed;
@@ -68,7 +69,7 @@ fn implementor(rt: &impl Abort, alloc: Global, count: u32) -> Blueprint {
             .expect(rt, "memory");
     }
     let mut facts = class(rt, alloc, &plain(52, 0x0021));
-    facts.interfaces = Items::from_vec(interfaces);
+    facts.interfaces = Names::from_vec(alloc, interfaces);
     Blueprint {
         facts,
         bodies: Items::from_vec(Vec::new(alloc)),

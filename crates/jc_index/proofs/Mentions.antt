@@ -2,9 +2,9 @@
 use Rattle.std.proofs.Common.{◌≡◌, ◌<◌, ◌≤◌, ◌+◌, ℕ, Bool, true, false, cond, ◌||◌, List, [], ◌∷◌, ◌++◌, length, take, get_or, refl, sym, ◌∙◌, ap, subst, arith}
 use Rattle.std.specs.Prelude.{nat_eq, Option, Some, None, is_some, IfSome}
 use Rattle.std.proofs.lemmas.Bool.{or_right}
-use Rattle.std.proofs.lemmas.Option.{slice_get_read, slice_get_within, get_or_from_slice_get}
+use Rattle.std.proofs.lemmas.Option.{slice_get_within, get_or_from_slice_get}
 use Rattle.std.specs.List.{list_any}
-use Rattle.std.specs.Cmp.Lexicographic.{pointwise, same_text}
+use Rattle.std.specs.Cmp.Lexicographic.{pointwise}
 use Rattle.std.proofs.lemmas.List.{take_more, take_all, length-append, length-take-le, get_or-take}
 use Rattle.std.proofs.lemmas.List.Folds.{list_any-append, list_any_at}
 use Rattle.jc_lemmas.proofs.Bools.{or_false, or_assoc}
@@ -14,7 +14,8 @@ use Rattle.jc_facts.specs.world.Mentioned.{mentions, all_mentions}
 use Rattle.jc_facts.specs.world.World.{class_named}
 use Rattle.jc_facts.proofs.Same.{same_is, same_itself}
 use Rattle.jc_index.proofs.NumberedNames.{any-among}
-use Rattle.jc_index.specs.steps.Adding.{AddsNames, IsAgain}
+use Rattle.jc_base.specs.Again.{IsAgain}
+use Rattle.jc_index.specs.steps.Adding.{AddsNames}
 
 -- ---- names that are added
 
@@ -47,17 +48,6 @@ adds_both a b c xs ys h k = λ y.
 pub adds_next : (a b c names : List Bytes) (n : ℕ) (x : Bytes) → n < length names → x ≡ get_or names n x → AddsNames a b (take n names) → AddsNames b c (x ∷ []) → AddsNames a c (take (n + 1) names)
 adds_next a b c names n x l e h k =
     subst (λ (ns : List Bytes). AddsNames a c ns) (ap (λ (y : Bytes). take n names ++ y ∷ []) e ∙ sym (take_more names n x l)) (adds_both a b c (take n names) (x ∷ []) h k)
-
--- one that is compared with an earlier one
-pub again_is : (names : List Bytes) (at earlier : ℕ) (x y a b : Bytes) → earlier < at → at < length names → x ≡ get_or names at x → y ≡ get_or names earlier y → a ≡ x → b ≡ y → true ≡ pointwise nat_eq b a → IsAgain names at earlier
-again_is names at earlier x y a b l m e f p q t =
-    let is : y ≡ x = sym q ∙ same_text b a t ∙ p in
-    record {
-      after = l;
-      name = x;
-      there = slice_get_read names (length names) at x refl m e;
-      before = slice_get_read names (length names) earlier y refl (omega (arith, l, m)) f ∙ ap Some is;
-    }
 
 -- one that stands at an earlier place too
 pub adds_again : (a b names : List Bytes) (at earlier : ℕ) → IsAgain names at earlier → AddsNames a b (take at names) → AddsNames a b (take (at + 1) names)

@@ -9,7 +9,7 @@ use Rattle.jc_facts.specs.Names.{Bytes}
 use Rattle.jc_facts.specs.Options.{and_then}
 use Rattle.jc_facts.specs.world.Search.{supers}
 use Rattle.jc_index.specs.Ids.{place_of}
-use Rattle.jc_index.specs.steps.Adding.{IsAgain}
+use Rattle.jc_base.specs.Again.{IsAgain}
 use Rattle.jc_index.specs.steps.Order.{names_at}
 use Rattle.jc_index.specs.steps.PlacesAbove.{places_above, place_above}
 use Rattle.jc_index.proofs.NamedAbove.{class-at}

@@ -8,11 +8,12 @@ ghost use Rattle.jc_index.specs.Mentioned.{mentions_front};
 ghost use Rattle.jc_index.specs.steps.Adding.{AddsNames};
 ghost use Rattle.jc_index.specs.MentionedNames.{AreMentionedNames};
 
-use crate::names::{NumberedNames, again};
+use crate::names::NumberedNames;
 use crate::packages::package_of;
 use crate::side::Side;
 use crate::supers::super_count;
 use jc_base::name::Name;
+use jc_base::names::Names;
 use jc_facts::class_facts::ClassFacts;
 use std::alloc::{AllocError, Global};
 
@@ -37,19 +38,20 @@ impl Drop for MentionedNames {
     }
 }
 
-/// Adds the names.
+/// Adds the names. One that is known to stand at an earlier place too isn't looked for again.
 pub(crate) fn put_names(
     alloc: Global,
     set: &mut NumberedNames,
-    names: &[Name],
+    names: &Names,
 ) -> Result<(), AllocError>
     ensures { OnOk result (AddsNames set.old set.new names.now) }
 {
-    for at in 0..names.len() {
-        if again(names, at).is_some() {
+    let list = names.as_slice();
+    for at in 0..list.len() {
+        if names.earlier(at).is_some() {
             continue;
         }
-        let copy = names[at].copy(alloc)?;
+        let copy = list[at].copy(alloc)?;
         set.put(copy)?;
     }
     Ok(())
@@ -59,7 +61,7 @@ pub(crate) fn put_names(
 fn put_supers(alloc: Global, set: &mut NumberedNames, class: &ClassFacts) -> Result<(), AllocError>
     ensures { OnOk result (AddsNames set.old set.new (supers class.now)) }
 {
-    let interfaces = class.interfaces.as_slice();
+    let interfaces = &class.interfaces;
     match &class.superclass {
         Some(name) => {
             let copy = name.copy(alloc)?;

@@ -9,6 +9,7 @@ use crate::mentioned::put_names;
 use crate::names::NumberedNames;
 use crate::packages::package_of;
 use jc_base::name::Name;
+use jc_base::names::Names;
 use std::alloc::{AllocError, Global};
 use std::marker::Model;
 
@@ -16,7 +17,7 @@ use std::marker::Model;
 /// of.
 #[derive(Drop)]
 pub struct Exports {
-    packages: Vec<Name>,
+    packages: Names,
     // The same, to be looked for.
     set: NumberedNames,
 }
@@ -27,9 +28,9 @@ impl Model for Exports {
 
     ghost Value = { List Bytes };
 
-    ghost view = { λ e. e.packages.items };
+    ghost view = { λ e. e.packages };
 
-    ghost invariant = { λ e. (x : Bytes) → is_name_among e.set x ≡ is_name_among e.packages.items x };
+    ghost invariant = { λ e. (x : Bytes) → is_name_among e.set x ≡ is_name_among e.packages x };
 }
 
 impl Exports {
@@ -41,8 +42,9 @@ impl Exports {
     pub fn new(alloc: Global, packages: Vec<Name>) -> Result<Exports, AllocError>
         ensures { IfOk result (λ exports. exports ≡ packages.items) }
     {
+        let packages = Names::from_vec(alloc, packages);
         let mut set = NumberedNames::new(alloc);
-        put_names(alloc, &mut set, packages.as_slice())?;
+        put_names(alloc, &mut set, &packages)?;
         Ok(Exports { packages, set })
     }
 

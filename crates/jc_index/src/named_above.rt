@@ -6,7 +6,6 @@ ghost use Rattle.jc_index.specs.Interfaces.{interfaces_of};
 
 use crate::ids::ClassId;
 use crate::named_classes::NamedClasses;
-use crate::names::again;
 use jc_base::items::Items;
 use jc_facts::class_facts::ClassFacts;
 use std::alloc::{AllocError, Global};
@@ -47,7 +46,7 @@ fn interface_ids(
     let names = class.interfaces.as_slice();
     let mut ids = Vec::with_capacity(alloc, names.len())?;
     for at in 0..names.len() {
-        if let Some(earlier) = again(names, at) {
+        if let Some(earlier) = class.interfaces.earlier(at) {
             let same = ids[earlier];
             ids.push(same)?;
             continue;

@@ -3,7 +3,7 @@ ghost use Rattle.std.specs.Prelude.{◌≡◌, ◌<◌, ◌++◌, ◌∷◌, [],
 ghost use Rattle.jc_facts.specs.Names.{is_name_among};
 ghost use Rattle.jc_facts.specs.world.World.{differ_by_name};
 ghost use Rattle.jc_index.specs.Ids.{place_of};
-ghost use Rattle.jc_index.specs.steps.Adding.{AddsNames, IsAgain, with_name};
+ghost use Rattle.jc_index.specs.steps.Adding.{AddsNames, with_name};
 ghost use Rattle.jc_index.specs.steps.Order.{names_at};
 
 use crate::name_key::NameKey;
@@ -105,31 +105,6 @@ impl NumberedNames {
         self.put(name)?;
         Ok(())
     }
-}
-
-/// So many bytes a name has at least that is compared with those just before it, before it is looked for:
-/// a class may name a long one many times.
-const LONG: usize = 256;
-
-/// It is compared with so many.
-const FEW: usize = 8;
-
-/// A place just before this one at which the same long name stands.
-pub(crate) fn again(names: &[Name], at: usize) -> Option<usize>
-    requires { at < length names.now }
-    ensures { IfSome result (λ earlier. IsAgain names.now at earlier) }
-{
-    let name = names[at].as_bytes();
-    if name.len() < LONG {
-        return None;
-    }
-    for earlier in at.saturating_sub(FEW)..at {
-        let before = names[earlier].as_bytes();
-        if before == name {
-            return Some(earlier);
-        }
-    }
-    None
 }
 
 /// The names of the classes, numbered as they stand. They share the bytes of the classes' own.

@@ -1,5 +1,7 @@
 -- Tests of lists, and lists put together, beside the lemmas of std.
-use Rattle.std.proofs.Common.{◌≡◌, Bool, true, List, [], ◌∷◌, ◌||◌, ◌⊎◌, inl, inr, ◌++◌, ◌∙◌, sym, refl, false, cond, Some, is_some}
+use Rattle.std.proofs.Common.{◌≡◌, ◌<◌, ℕ, zero, suc, Bool, true, List, [], ◌∷◌, ◌||◌, ◌⊎◌, inl, inr, ◌++◌, ◌∙◌, length, sym, refl, false, cond, Some, is_some, arith}
+use Rattle.std.specs.Prelude.{slice_get}
+use Rattle.std.proofs.lemmas.Option.{slice_get_within}
 use Rattle.std.proofs.lemmas.Bool.{or_cases, or_left, or_right}
 use Rattle.std.specs.List.{list_any, filter, find as first_where}
 use Rattle.std.proofs.lemmas.List.Folds.{list_any-append}
@@ -64,3 +66,17 @@ found_passes test (y ∷ xs) x e = go (test y) refl e (found_passes test xs x)
     go : (b : Bool) → test y ≡ b → cond b (Some y) (first_where test xs) ≡ Some x → (first_where test xs ≡ Some x → test x ≡ true) → test x ≡ true
     go true p q r = let k : y ≡ x = cc in rw (← k) p
     go false p q r = r q
+
+-- the item at a place stays where others come behind
+pub get_before : {A : Type 0} (xs ys : List A) (n : ℕ) → n < length xs → slice_get (xs ++ ys) n ≡ slice_get xs n
+get_before [] ys n l = absurd (omega (arith, l))
+get_before (x ∷ xs) ys zero l = refl
+get_before (x ∷ xs) ys (suc n) l = get_before xs ys n (omega (arith, l))
+
+pub get_front : {A : Type 0} (xs ys : List A) (n : ℕ) (x : A) → slice_get xs n ≡ Some x → slice_get (xs ++ ys) n ≡ Some x
+get_front xs ys n x h = get_before xs ys n (slice_get_within xs n x h) ∙ h
+
+-- the one that comes behind stands at their length
+pub get_pushed : {A : Type 0} (xs : List A) (x : A) → slice_get (xs ++ x ∷ []) (length xs) ≡ Some x
+get_pushed [] x = refl
+get_pushed (y ∷ xs) x = get_pushed xs x

@@ -1,6 +1,6 @@
 //! Names of long texts, found again by where these stand in the pool.
 ghost use Rattle.std.specs.Prelude.{◌≡◌, Some, IfOk, IfSome};
-ghost use Rattle.jc_desc.specs.PoolAnswers.{utf8_in, class_in};
+ghost use Rattle.jc_desc.specs.PoolAnswers.{utf8_in};
 ghost use Rattle.jc_pool.specs.steps.Bodies.{body_at};
 
 use crate::pool::Pool;
@@ -108,26 +108,5 @@ impl<'p, 'a> LongNames<'p, 'a> {
         } else {
             self.long(alloc, index, text)
         }
-    }
-
-    /// The name of a Class, or its array descriptor. None exactly where the index holds no Class.
-    ///
-    /// # Errors
-    ///
-    /// `AllocError` where memory runs out.
-    pub fn class(&mut self, alloc: Global, index: u16) -> Result<Option<Name>, AllocError>
-        ensures value { IfOk result (λ name. name ≡ class_in self.old index) }
-        ensures same { self.new ≡ self.old }
-    {
-        let Some(text) = self.pool.class(index) else {
-            return Ok(None);
-        };
-        let name = if text.len() < LONG {
-            self.pool.name(alloc, text)?
-        } else {
-            let at = self.pool.first_index(index);
-            self.long(alloc, at, text)?
-        };
-        Ok(Some(name))
     }
 }

@@ -3,7 +3,7 @@ ghost use Rattle.std.specs.Prelude.{◌≡◌, ◌≤◌, length, IfOk, MatchRes
 ghost use Rattle.std.specs.Option.{option_map};
 ghost use Rattle.std.specs.Result.{result_map_both};
 ghost use Rattle.jc_desc.specs.declared.limits.TheConstants.{MAX_CLASS_BYTES};
-ghost use Rattle.jc_desc.specs.Pool.{PoolOf, first_of, slot_of_index};
+ghost use Rattle.jc_desc.specs.Pool.{PoolOf};
 ghost use Rattle.jc_desc.specs.PoolGrammar.{ReadsPool};
 ghost use Rattle.jc_desc.specs.PoolSteps.{pool_at, linked};
 ghost use Rattle.jc_desc.specs.PoolAnswers.{tag_in, utf8_in, class_in, module_in, package_in, member_ref_in, member_of, handle_in, dynamic_in, constant_in, word_from, double_word_from};
@@ -262,13 +262,6 @@ impl<'a> Pool<'a> {
         } else {
             None
         }
-    }
-
-    // The first index of the entry at the index.
-    pub(crate) fn first_index(&self, index: u16) -> u16
-        ensures { result ≡ first_of (slot_of_index self.now.slots index) }
-    {
-        first(at(self.slots.as_slice(), index))
     }
 
     /// The text that a Module names (JVMS 4.4.11), whatever it is. None exactly where the index holds no

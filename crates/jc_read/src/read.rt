@@ -20,6 +20,7 @@ use jc_attr::class_head::{ClassHead, head_at};
 use jc_attr::classes::classes_at;
 use jc_base::items::Items;
 use jc_base::name::Name;
+use jc_base::names::Names;
 use jc_base::recent_names::RecentNames;
 use jc_desc::bytes::malformed;
 use jc_desc::fault::{Fault, Malformed, Reason};
@@ -66,12 +67,12 @@ fn record<'a>(
     alloc: Global,
     pool: &Pool<'a>,
     head: ClassHead<'a>,
-    interfaces: Vec<Name>,
+    interfaces: Names,
     fields: Vec<ReadMember>,
     methods: Vec<ReadMember>,
     found: OnClass,
 ) -> Result<ClassFacts, AllocError>
-    ensures { IfOk result (λ r. r ≡ record_from pool.now.major (head_view head.entry) interfaces.items (members_view fields.items) (members_view methods.items) (on_class_view found)) }
+    ensures { IfOk result (λ r. r ≡ record_from pool.now.major (head_view head.entry) interfaces (members_view fields.items) (members_view methods.items) (on_class_view found)) }
 {
     let mut constants = Vec::new(alloc);
     let mut none = Vec::new(alloc);
@@ -90,7 +91,7 @@ fn record<'a>(
         major: pool.major(),
         flags: head.flags,
         superclass: superclass(alloc, pool, head.superclass)?,
-        interfaces: Items::from_vec(interfaces),
+        interfaces,
         fields: Items::from_vec(fields),
         methods: Items::from_vec(methods),
         permits,

@@ -60,14 +60,14 @@ fn name_of(alloc: Global, name: &[u8]) -> Result<Option<Name>, AllocError>
     Ok(Some(Name::from_bytes(alloc, name)?))
 }
 
-fn names_of(alloc: Global, names: &[&[u8]]) -> Result<Items<Name>, AllocError>
-    ensures { IfOk result (λ copies. copies ≡ map (λ n. n.now) names.now) }
+fn names_of(alloc: Global, names: &[&[u8]]) -> Result<Vec<Name>, AllocError>
+    ensures { IfOk result (λ copies. copies.items ≡ map (λ n. n.now) names.now) }
 {
     let mut copies = Vec::new(alloc);
     for name in names {
         copies.push(Name::from_bytes(alloc, name)?)?;
     }
-    Ok(Items::from_vec(copies))
+    Ok(copies)
 }
 
 fn permitted(alloc: Global, names: Option<Names>) -> Result<Option<Items<Name>>, AllocError>
@@ -75,7 +75,7 @@ fn permitted(alloc: Global, names: Option<Names>) -> Result<Option<Items<Name>>,
 {
     match names {
         None => Ok(None),
-        Some(names) => Ok(Some(names_of(alloc, names)?)),
+        Some(names) => Ok(Some(Items::from_vec(names_of(alloc, names)?))),
     }
 }
 
@@ -112,12 +112,12 @@ pub fn class(alloc: Global, row: &Row) -> Result<ClassFacts, AllocError>
         major: 61,
         flags: row.flags,
         superclass: name_of(alloc, row.superclass)?,
-        interfaces: names_of(alloc, row.interfaces)?,
+        interfaces: jc_base::names::Names::from_vec(alloc, names_of(alloc, row.interfaces)?),
         fields: members(alloc, row.fields)?,
         methods: members(alloc, row.methods)?,
         permits: permitted(alloc, row.permits)?,
         nest_host: name_of(alloc, row.nest_host)?,
-        nest_members: names_of(alloc, row.nest_members)?,
+        nest_members: Items::from_vec(names_of(alloc, row.nest_members)?),
         constants: Items::from_vec(Vec::new(alloc)),
         signatures: Items::from_vec(Vec::new(alloc)),
     })

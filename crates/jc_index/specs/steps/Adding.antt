@@ -1,5 +1,5 @@
 -- Names that are collected, each once.
-use Rattle.std.specs.Prelude.{ℕ, ◌<◌, slice_get, Some, List, [], ◌∷◌, ◌++◌, ◌≡◌, ◌||◌, cond, nat_eq}
+use Rattle.std.specs.Prelude.{List, [], ◌∷◌, ◌++◌, ◌≡◌, ◌||◌, cond, nat_eq}
 use Rattle.std.specs.List.{list_any}
 use Rattle.std.specs.Cmp.Lexicographic.{pointwise}
 use Rattle.jc_facts.specs.Names.{Bytes, is_name_among}
@@ -11,10 +11,3 @@ AddsNames before now names = (x : Bytes) → is_name_among now x ≡ (is_name_am
 -- the names, and this one at the end where a test finds none of them equal
 abbrev pub with_name : List Bytes → Bytes → List Bytes
 with_name names x = cond (list_any (λ y. pointwise nat_eq x y) names) names (names ++ x ∷ [])
-
--- the name at this place stands at an earlier one too
-pub record IsAgain (names : List Bytes) (at earlier : ℕ) : Type 0 where
-  pub after : earlier < at
-  pub name : Bytes
-  pub there : slice_get names at ≡ Some name
-  pub before : slice_get names earlier ≡ Some name

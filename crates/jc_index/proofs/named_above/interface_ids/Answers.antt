@@ -1,10 +1,10 @@
-use Rattle.std.proofs.Common.{◌≡◌, List, Some, length, refl, sym, ◌∙◌, ap, subst, map, arith}
+use Rattle.std.proofs.Common.{◌≡◌, List, Some, length, refl, sym, ◌∙◌, ap, map, arith}
 use Rattle.std.specs.Prelude.{slice_get}
 use Rattle.std.proofs.lemmas.List.{take_all}
 use Rattle.std.proofs.lemmas.Option.{slice_get_read, slice_get_within}
 use Rattle.jc_facts.specs.Names.{Bytes}
 use Rattle.jc_index.specs.Ids.{id_of, name_at}
-use Rattle.jc_index.specs.steps.Adding.{IsAgain}
+use Rattle.jc_base.specs.Again.{IsAgain}
 use Rattle.jc_index.proofs.NamedAbove.{interface-above}
 use Rattle.jc_index.proofs.PlacesAbove.{row-more, row-again, row-length}
 use Rattle.jc_index.proofs.named_above.interface_ids.Goals as goal
@@ -20,12 +20,12 @@ get_above-requires-clause-named c =
 
 pub index-same-requires : goal.index-same-requires
 index-same-requires c =
-    let again : IsAgain c.args.class.now.interfaces c.loop-at.at c.in-Some.earlier = subst (λ (xs : List Bytes). IsAgain xs c.loop-at.at c.in-Some.earlier) c.as_slice-names.ensures (rw c.in-Some.is at c.again.ensures) in
+    let again : IsAgain c.args.class.now.interfaces c.loop-at.at c.in-Some.earlier = rw c.in-Some.is at c.earlier.ensures in
     omega (arith, again.after, row-length (id_of c.args.classes.now) c.args.class.now.interfaces c.loop-at.at c.loop-at.ids.items (slice_get_within c.args.class.now.interfaces c.loop-at.at again.name again.there) c.loop-at.invariant)
 
 pub loop-at-preserved-in-Some : goal.loop-at-preserved-in-Some
 loop-at-preserved-in-Some c =
-    let again : IsAgain c.args.class.now.interfaces c.loop-at.at c.in-Some.earlier = subst (λ (xs : List Bytes). IsAgain xs c.loop-at.at c.in-Some.earlier) c.as_slice-names.ensures (rw c.in-Some.is at c.again.ensures) in
+    let again : IsAgain c.args.class.now.interfaces c.loop-at.at c.in-Some.earlier = rw c.in-Some.is at c.earlier.ensures in
     row-again (id_of c.args.classes.now) c.args.class.now.interfaces c.loop-at.at c.in-Some.earlier c.loop-at.ids.items c.push.new.self.items c.index-same.result.now again c.loop-at.invariant c.index-same.ensures c.in_ok-push.ensures.items
 
 pub loop-at-preserved : goal.loop-at-preserved
