@@ -6,15 +6,9 @@ ghost use Rattle.jc_facts.specs.Names.{Bytes};
 ghost use Rattle.jc_attr.specs.steps.Firsts.{AreFirsts};
 
 use jc_base::names::Names;
+use jc_pool::long_texts::{LONG, MOST_KEPT};
 use jc_pool::pool::Pool;
 use std::alloc::{AllocError, Global};
-
-/// So many bytes a name has at least that is looked for among those of the list: to make a shorter one
-/// again costs little.
-const LONG: usize = 1_024;
-
-/// So many are kept: a file has no more texts of the greatest length.
-const MOST: usize = 64;
 
 /// The index of a Class in the pool, and the place in the list at which it was mentioned first.
 #[derive(Clone, Copy, Drop)]
@@ -40,7 +34,7 @@ fn first_of(firsts: &[First], index: u16) -> Option<usize>
 fn keep(firsts: &mut Vec<First>, index: u16, place: usize)
     ensures { (pool : PoolOf) (names : List Bytes) → AreFirsts pool names firsts.old.items → place < length names → slice_get names place ≡ class_in pool index → AreFirsts pool names firsts.new.items }
 {
-    if firsts.len() < MOST {
+    if firsts.len() < MOST_KEPT {
         match firsts.push(First { index, place }) {
             Ok(()) => {}
             Err(_) => {}

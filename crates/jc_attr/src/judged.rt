@@ -9,15 +9,9 @@ ghost use Rattle.jc_facts.specs.file.Rules.{member_descriptor_fits};
 use jc_desc::names::is_init;
 use jc_facts::flags::is_static;
 use jc_facts::rules::{is_field_descriptor, is_method_descriptor};
+use jc_pool::long_texts::{LONG, MOST_KEPT};
 use std::alloc::Global;
 use std::marker::Model;
-
-/// So many bytes a descriptor has at least of which the answer is kept: to judge a shorter one again
-/// costs little.
-const LONG: usize = 1_024;
-
-/// So many answers are kept: a file has no more texts of the greatest length.
-const MOST: usize = 64;
 
 /// A long descriptor, what it was judged as, and the answer.
 #[derive(Drop)]
@@ -122,7 +116,7 @@ impl<'a> Judged<'a> {
     // Keeps the answer, unless there are many. Where there is no memory for it, the descriptor is judged
     // again.
     fn keep(&mut self, judgement: Judgement<'a>) {
-        if self.kept.len() < MOST {
+        if self.kept.len() < MOST_KEPT {
             match self.kept.push(judgement) {
                 Ok(()) => {}
                 Err(_) => {}

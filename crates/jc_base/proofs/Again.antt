@@ -49,16 +49,6 @@ again_none names earlier now e h = λ at place k. go at place (get-last earlier 
     go at place (inl k) = h at place k
     go at place (inr k) = absurd (let clash : None ≡ Some place = k.1 in cc)
 
--- a place is added at which an earlier one is known
-pub again_some : (names : List (List ℕ)) (earlier now : List (Option ℕ)) (place : ℕ) → now ≡ earlier ++ Some place ∷ [] → IsAgain names (length earlier) place → AreAgain names earlier → AreAgain names now
-again_some names earlier now place e g h = λ at other k. go at other (get-last earlier (Some place) (Some other) at (ap (λ (os : List (Option ℕ)). slice_get os at) (sym e) ∙ k))
-  where
-    go : (at other : ℕ) → (slice_get earlier at ≡ Some (Some other)) ⊎ ((at ≡ length earlier) × (Some place ≡ Some other)) → IsAgain names at other
-    go at other (inl k) = h at other k
-    go at other (inr k) =
-        let same : place ≡ other = cc in
-        subst (λ (n : ℕ). IsAgain names n other) (sym k.0) (subst (λ (p : ℕ). IsAgain names (length earlier) p) same g)
-
 -- ---- two lists, name by name
 
 -- their test tells whether they are equal
@@ -108,14 +98,6 @@ one_differs xs ys at x y l m e f t = go (pointwise (pointwise nat_eq) xs ys) ref
     go : (b : Bool) → pointwise (pointwise nat_eq) xs ys ≡ b → false ≡ b
     go false k = refl
     go true k = sym (t ∙ ap not ((bytes_eq-Decides x y).1 (same ((names_told xs ys).0 k))))
-
--- they aren't as long
-pub other_length : (xs ys : List (List ℕ)) → ¬ (length xs ≡ length ys) → false ≡ pointwise (pointwise nat_eq) xs ys
-other_length xs ys d = go (pointwise (pointwise nat_eq) xs ys) refl
-  where
-    go : (b : Bool) → pointwise (pointwise nat_eq) xs ys ≡ b → false ≡ b
-    go false k = refl
-    go true k = absurd (d (ap length ((names_told xs ys).0 k)))
 
 -- ---- a list that is copied name by name
 

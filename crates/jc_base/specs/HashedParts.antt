@@ -1,6 +1,7 @@
 -- What of a name is hashed.
-use Rattle.std.specs.Prelude.{ℕ, List, [], ◌∷◌, ◌-◌, nat_le, length, take, drop, if◌then◌else◌}
+use Rattle.std.specs.Prelude.{ℕ, List, [], ◌∷◌, ◌-◌, ◌/◌, nat_le, length, take, drop, if◌then◌else◌}
+use Rattle.jc_base.specs.declared.name.TheConstants.{HASHED}
 
--- all bytes of one of at most 1,024, and else 512 from each end
+-- all bytes of one that is short enough, and else half as many as are hashed from each end
 abbrev pub hashed_parts : List ℕ → List (List ℕ)
-hashed_parts bytes = if nat_le (length bytes) 1024 then bytes ∷ [] else take 512 bytes ∷ drop (length bytes - 512) bytes ∷ []
+hashed_parts bytes = if nat_le (length bytes) HASHED then bytes ∷ [] else take (HASHED / 2) bytes ∷ drop (length bytes - HASHED / 2) bytes ∷ []

@@ -146,7 +146,7 @@ fn pad(earlier: &mut Vec<Option<usize>>, to: usize) -> Result<(), AllocError>
     Ok(())
 }
 
-// Whether both lists know that what they have at this place stands at one earlier place too.
+// The one earlier place at which what both lists have at this place stands too, where both know it.
 fn are_as_before(left: &Names, right: &Names, at: usize) -> Option<usize>
     ensures { IfSome result (λ earlier. IsAgain left.now at earlier × IsAgain right.now at earlier) }
 {

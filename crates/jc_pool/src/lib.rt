@@ -7,6 +7,7 @@ mod forms;
 pub mod laws;
 mod links;
 pub mod long_names;
+pub mod long_texts;
 mod names;
 pub mod pool;
 mod start;

@@ -3,17 +3,11 @@ ghost use Rattle.std.specs.Prelude.{◌≡◌, Some, IfOk, IfSome};
 ghost use Rattle.jc_desc.specs.PoolAnswers.{utf8_in};
 ghost use Rattle.jc_pool.specs.steps.Bodies.{body_at};
 
+use crate::long_texts::{LONG, MOST_KEPT};
 use crate::pool::Pool;
 use jc_base::name::Name;
 use std::alloc::{AllocError, Global};
 use std::marker::Model;
-
-/// So many bytes a text has at least whose name is kept: to compare a shorter one with those before
-/// costs little.
-const LONG: usize = 1_024;
-
-/// So many names are kept: a file has no more texts of the greatest length.
-const MOST: usize = 64;
 
 /// A name, and the index of its text.
 #[derive(Drop)]
@@ -23,8 +17,7 @@ struct LongName {
 }
 
 /// Names of the texts that one list of a class file mentions. That of a long text is found again by the
-/// index of the text, so that however often the list mentions it, its bytes are read once. A contract sees
-/// the pool.
+/// index of the text, and not by its bytes. A contract sees the pool.
 #[derive(Drop)]
 pub struct LongNames<'p, 'a> {
     pool: &'p Pool<'a>,
@@ -66,12 +59,12 @@ impl<'p, 'a> LongNames<'p, 'a> {
     }
 
     // Keeps the name of the text at the index, unless there are many. Where there is no memory for it, the
-    // text is read again.
+    // name is made again.
     fn keep(&mut self, index: u16, name: Name)
         requires { name ≡ body_at self.old index }
         ensures { self.new ≡ self.old }
     {
-        if self.made.len() < MOST {
+        if self.made.len() < MOST_KEPT {
             match self.made.push(LongName { index, name }) {
                 Ok(()) => {}
                 Err(_) => {}
