@@ -44,19 +44,29 @@ behind_one : {A : Type 0} (x : A) (read : Result (List A × Bytes) Fault) → be
 behind_one {A} x (Err e) = refl
 behind_one {A} x (Ok y) = refl
 
-pub behind_step : {A : Type 0} (item : Bytes → Result (A × Bytes) Fault) (n m : ℕ) (bytes : Bytes) (x : A) (next : Bytes) (total : Result Bytes Fault) → n ≡ suc m → item bytes ≡ Ok (x, next)
+pub behind_step : {A : Type 0} (item : Bytes → Result (A × Bytes) Fault) (n m : ℕ) (bytes next : Bytes) (total : Result Bytes Fault) → n ≡ suc m → behind (item bytes) ≡ Ok next
     → behind (list_at item n bytes) ≡ total → behind (list_at item m next) ≡ total
 unfolding list_at
-behind_step {A} item n m bytes x next total k r h =
-    let one : behind (list_at item n bytes) ≡ behind (list_at item m next) = rw (k, r) (behind_one x (list_at item m next)) in
-    sym one ∙ h
+behind_step {A} item n m bytes next total k r h = go (item bytes) refl r
+  where
+    go : (read : Result (A × Bytes) Fault) → item bytes ≡ read → behind read ≡ Ok next → behind (list_at item m next) ≡ total
+    go (Err e) q s = absurd (cc)
+    go (Ok x) q s =
+        let same : x.1 ≡ next = cc in
+        let one : behind (list_at item n bytes) ≡ behind (list_at item m x.1) = rw (k, q) (behind_one x.0 (list_at item m x.1)) in
+        ap (λ (rest : Bytes). behind (list_at item m rest)) (sym same) ∙ sym one ∙ h
 
-pub behind_fault : {A : Type 0} (item : Bytes → Result (A × Bytes) Fault) (n : ℕ) (bytes : Bytes) (e : Fault) (total : Result Bytes Fault) → 0 < n → item bytes ≡ Err e → behind (list_at item n bytes) ≡ total → Err e ≡ total
+pub behind_fault : {A : Type 0} (item : Bytes → Result (A × Bytes) Fault) (n : ℕ) (bytes : Bytes) (e : Fault) (total : Result Bytes Fault) → 0 < n → behind (item bytes) ≡ Err e → behind (list_at item n bytes) ≡ total → Err e ≡ total
 unfolding list_at
-behind_fault {A} item n bytes e total p r h =
-    let k : n ≡ suc (n - 1) = omega arith in
-    let one : behind (list_at item n bytes) ≡ Err e = rw (k, r) refl in
-    sym one ∙ h
+behind_fault {A} item n bytes e total p r h = go (item bytes) refl r
+  where
+    go : (read : Result (A × Bytes) Fault) → item bytes ≡ read → behind read ≡ Err e → Err e ≡ total
+    go (Ok x) q s = absurd (cc)
+    go (Err f) q s =
+        let same : f ≡ e = cc in
+        let k : n ≡ suc (n - 1) = omega arith in
+        let one : behind (list_at item n bytes) ≡ Err f = rw (k, q) refl in
+        ap (λ (g : Fault). Err g) (sym same) ∙ sym one ∙ h
 
 pub behind_done : {A : Type 0} (item : Bytes → Result (A × Bytes) Fault) (n : ℕ) (bytes : Bytes) (total : Result Bytes Fault) → n ≡ 0 → behind (list_at item n bytes) ≡ total → Ok bytes ≡ total
 unfolding list_at

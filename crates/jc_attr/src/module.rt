@@ -1,32 +1,42 @@
 //! The contents of a Module (JVMS 4.7.25).
-ghost use Rattle.std.specs.Prelude.{◌≡◌, ◌∷◌, ◌++◌, [], IfOk, OnOk};
+ghost use Rattle.std.specs.Prelude.{◌≡◌, ◌∷◌, ◌++◌, [], length, Option, IfOk, OnOk};
 ghost use Rattle.std.specs.Option.{option_map};
 ghost use Rattle.std.specs.Result.{result_map_both};
+ghost use Rattle.jc_desc.specs.declared.fault.Reason.TheVariants.{BadIndex};
 ghost use Rattle.jc_desc.specs.PoolAnswers.{class_in, module_in, package_in};
-ghost use Rattle.jc_facts.specs.file.Attributes.{behind, counted_at, list_at};
+ghost use Rattle.jc_facts.specs.Names.{Bytes};
+ghost use Rattle.jc_facts.specs.file.Attributes.{need, list_at};
 ghost use Rattle.jc_facts.specs.file.ModuleFile.{named_from, versioned_from, package_from, service_from, packages_from, present, requires_from, opens_from, exports_from, exported_of};
 ghost use Rattle.jc_facts.specs.file.ModuleGrammar.{IsModule};
 ghost use Rattle.jc_attr.specs.Forms.{HasForm};
 ghost use Rattle.jc_attr.specs.steps.Exported.{with_present, with_targets};
 
+use crate::passed::{Passed, behind_counted, behind_some};
 use jc_base::name::Name;
 use jc_desc::bytes::u16_at;
 use jc_desc::fault::{Fault, Reason};
 use jc_pool::pool::Pool;
 use std::alloc::{AllocError, Global};
 
+// The name, where there is one at the index with which these bytes begin.
+fn named<'a>(name: Option<&'a [u8]>, bytes: &[u8]) -> Result<&'a [u8], Fault>
+    ensures { result_map_both (λ x. x.now) (λ e. e) result ≡ need (option_map (λ x. x.now) name.entry) (length bytes.now) BadIndex }
+{
+    match name {
+        Some(name) => Ok(name),
+        None => Err(Fault {
+            left: bytes.len(),
+            reason: Reason::BadIndex,
+        }),
+    }
+}
+
 #[tactic(auto, unfolding(jc_facts::specs::file::ModuleFile::named_from))]
 fn module_at<'a, 'b>(pool: &Pool<'a>, bytes: &'b [u8]) -> Result<(&'a [u8], &'b [u8]), Fault>
     ensures { result_map_both (λ x. (x.0.now, x.1.now)) (λ e. e) result ≡ named_from (module_in pool.now) bytes.now }
 {
     let (index, rest) = u16_at(bytes)?;
-    let Some(name) = pool.module(index) else {
-        return Err(Fault {
-            left: bytes.len(),
-            reason: Reason::BadIndex,
-        });
-    };
-    Ok((name, rest))
+    Ok((named(pool.module(index), bytes)?, rest))
 }
 
 #[tactic(auto, unfolding(jc_facts::specs::file::ModuleFile::named_from))]
@@ -34,13 +44,7 @@ fn package_name_at<'a, 'b>(pool: &Pool<'a>, bytes: &'b [u8]) -> Result<(&'a [u8]
     ensures { result_map_both (λ x. (x.0.now, x.1.now)) (λ e. e) result ≡ named_from (package_in pool.now) bytes.now }
 {
     let (index, rest) = u16_at(bytes)?;
-    let Some(name) = pool.package(index) else {
-        return Err(Fault {
-            left: bytes.len(),
-            reason: Reason::BadIndex,
-        });
-    };
-    Ok((name, rest))
+    Ok((named(pool.package(index), bytes)?, rest))
 }
 
 // A class of whatever name, an array's too.
@@ -49,13 +53,7 @@ fn class_name_at<'a, 'b>(pool: &Pool<'a>, bytes: &'b [u8]) -> Result<(&'a [u8], 
     ensures { result_map_both (λ x. (x.0.now, x.1.now)) (λ e. e) result ≡ named_from (class_in pool.now) bytes.now }
 {
     let (index, rest) = u16_at(bytes)?;
-    let Some(name) = pool.class(index) else {
-        return Err(Fault {
-            left: bytes.len(),
-            reason: Reason::BadIndex,
-        });
-    };
-    Ok((name, rest))
+    Ok((named(pool.class(index), bytes)?, rest))
 }
 
 // A module, its flags, and a version.
@@ -75,45 +73,38 @@ fn versioned_at<'a, 'b>(pool: &Pool<'a>, bytes: &'b [u8]) -> Result<(&'a [u8], &
     Ok((name, rest))
 }
 
-#[tactic(auto, using(crate::proofs::Lists::behind_fault, crate::proofs::Lists::behind_done))]
-fn behind_some_requires<'b>(pool: &Pool<'_>, count: u16, bytes: &'b [u8]) -> Result<&'b [u8], Fault>
-    ensures { result_map_both (λ x. x.now) (λ e. e) result ≡ behind (list_at (versioned_from pool.now) count bytes.now) }
-{
-    let mut rest = bytes;
-    for _ in 0..count {
-        let (_, after) = match versioned_at(pool, rest) {
-            Ok(item) => item,
-            Err(fault) => return Err(fault),
-        };
-        rest = after;
-    }
-    Ok(rest)
+/// A module that is required.
+#[derive(Drop)]
+struct Required<'p, 'a> {
+    pool: &'p Pool<'a>,
 }
 
-// What comes behind a count and that many modules that are required.
-#[tactic(auto, unfolding(jc_facts::specs::file::Attributes::counted_at))]
-fn behind_requires<'b>(pool: &Pool<'_>, bytes: &'b [u8]) -> Result<&'b [u8], Fault>
-    ensures { result_map_both (λ x. x.now) (λ e. e) result ≡ behind (counted_at (versioned_from pool.now) bytes.now) }
-{
-    match u16_at(bytes) {
-        Err(fault) => Err(fault),
-        Ok((count, rest)) => behind_some_requires(pool, count, rest),
+impl<'p, 'a> Passed for Required<'p, 'a> {
+    ghost Read = { Bytes };
+
+    ghost read = { λ entry. versioned_from entry.pool.now };
+
+    fn behind<'b>(&self, bytes: &'b [u8]) -> Result<&'b [u8], Fault> {
+        let (_, rest) = versioned_at(self.pool, bytes)?;
+        Ok(rest)
     }
 }
 
-#[tactic(auto, using(crate::proofs::Lists::behind_fault, crate::proofs::Lists::behind_done))]
-fn behind_some_targets<'b>(pool: &Pool<'_>, count: u16, bytes: &'b [u8]) -> Result<&'b [u8], Fault>
-    ensures { result_map_both (λ x. x.now) (λ e. e) result ≡ behind (list_at (named_from (module_in pool.now)) count bytes.now) }
-{
-    let mut rest = bytes;
-    for _ in 0..count {
-        let (_, after) = match module_at(pool, rest) {
-            Ok(item) => item,
-            Err(fault) => return Err(fault),
-        };
-        rest = after;
+/// A module to which a package is exported or opened.
+#[derive(Drop)]
+struct Target<'p, 'a> {
+    pool: &'p Pool<'a>,
+}
+
+impl<'p, 'a> Passed for Target<'p, 'a> {
+    ghost Read = { Bytes };
+
+    ghost read = { λ entry. named_from (module_in entry.pool.now) };
+
+    fn behind<'b>(&self, bytes: &'b [u8]) -> Result<&'b [u8], Fault> {
+        let (_, rest) = module_at(self.pool, bytes)?;
+        Ok(rest)
     }
-    Ok(rest)
 }
 
 // The name of a package, where there are no targets, and what comes behind them.
@@ -126,7 +117,7 @@ fn targets_at<'a, 'b>(
 ) -> Result<(Option<&'a [u8]>, &'b [u8]), Fault>
     ensures { result_map_both (λ x. (option_map (λ n. n.now) x.0, x.1.now)) (λ e. e) result ≡ with_targets name.now (list_at (named_from (module_in pool.now)) count bytes.now) }
 {
-    match behind_some_targets(pool, count, bytes) {
+    match behind_some(&Target { pool }, count, bytes) {
         Err(fault) => Err(fault),
         Ok(rest) => {
             if count == 0 {
@@ -209,55 +200,37 @@ fn packages_at<'b>(
     }
 }
 
-#[tactic(auto, using(crate::proofs::Lists::behind_fault, crate::proofs::Lists::behind_done))]
-fn behind_some_packages<'b>(pool: &Pool<'_>, count: u16, bytes: &'b [u8]) -> Result<&'b [u8], Fault>
-    ensures { result_map_both (λ x. x.now) (λ e. e) result ≡ behind (list_at (package_from pool.now) count bytes.now) }
-{
-    let mut rest = bytes;
-    for _ in 0..count {
-        let (_, after) = match package_at(pool, rest) {
-            Ok(item) => item,
-            Err(fault) => return Err(fault),
-        };
-        rest = after;
-    }
-    Ok(rest)
+/// A package that is opened.
+#[derive(Drop)]
+struct Opened<'p, 'a> {
+    pool: &'p Pool<'a>,
 }
 
-// What comes behind a count and that many packages.
-#[tactic(auto, unfolding(jc_facts::specs::file::Attributes::counted_at))]
-fn behind_packages<'b>(pool: &Pool<'_>, bytes: &'b [u8]) -> Result<&'b [u8], Fault>
-    ensures { result_map_both (λ x. x.now) (λ e. e) result ≡ behind (counted_at (package_from pool.now) bytes.now) }
-{
-    match u16_at(bytes) {
-        Err(fault) => Err(fault),
-        Ok((count, rest)) => behind_some_packages(pool, count, rest),
+impl<'p, 'a> Passed for Opened<'p, 'a> {
+    ghost Read = { Option Bytes };
+
+    ghost read = { λ entry. package_from entry.pool.now };
+
+    fn behind<'b>(&self, bytes: &'b [u8]) -> Result<&'b [u8], Fault> {
+        let (_, rest) = package_at(self.pool, bytes)?;
+        Ok(rest)
     }
 }
 
-#[tactic(auto, using(crate::proofs::Lists::behind_fault, crate::proofs::Lists::behind_done))]
-fn behind_some_classes<'b>(pool: &Pool<'_>, count: u16, bytes: &'b [u8]) -> Result<&'b [u8], Fault>
-    ensures { result_map_both (λ x. x.now) (λ e. e) result ≡ behind (list_at (named_from (class_in pool.now)) count bytes.now) }
-{
-    let mut rest = bytes;
-    for _ in 0..count {
-        let (_, after) = match class_name_at(pool, rest) {
-            Ok(item) => item,
-            Err(fault) => return Err(fault),
-        };
-        rest = after;
-    }
-    Ok(rest)
+/// A class that is used as a service, or provides one.
+#[derive(Drop)]
+struct ServiceClass<'p, 'a> {
+    pool: &'p Pool<'a>,
 }
 
-// What comes behind a count and that many classes.
-#[tactic(auto, unfolding(jc_facts::specs::file::Attributes::counted_at))]
-fn behind_classes<'b>(pool: &Pool<'_>, bytes: &'b [u8]) -> Result<&'b [u8], Fault>
-    ensures { result_map_both (λ x. x.now) (λ e. e) result ≡ behind (counted_at (named_from (class_in pool.now)) bytes.now) }
-{
-    match u16_at(bytes) {
-        Err(fault) => Err(fault),
-        Ok((count, rest)) => behind_some_classes(pool, count, rest),
+impl<'p, 'a> Passed for ServiceClass<'p, 'a> {
+    ghost Read = { Bytes };
+
+    ghost read = { λ entry. named_from (class_in entry.pool.now) };
+
+    fn behind<'b>(&self, bytes: &'b [u8]) -> Result<&'b [u8], Fault> {
+        let (_, rest) = class_name_at(self.pool, bytes)?;
+        Ok(rest)
     }
 }
 
@@ -267,33 +240,24 @@ fn service_at<'a, 'b>(pool: &Pool<'a>, bytes: &'b [u8]) -> Result<(&'a [u8], &'b
     ensures { result_map_both (λ x. (x.0.now, x.1.now)) (λ e. e) result ≡ service_from pool.now bytes.now }
 {
     let (name, rest) = class_name_at(pool, bytes)?;
-    let rest = behind_classes(pool, rest)?;
+    let rest = behind_counted(&ServiceClass { pool }, rest)?;
     Ok((name, rest))
 }
 
-#[tactic(auto, using(crate::proofs::Lists::behind_fault, crate::proofs::Lists::behind_done))]
-fn behind_some_services<'b>(pool: &Pool<'_>, count: u16, bytes: &'b [u8]) -> Result<&'b [u8], Fault>
-    ensures { result_map_both (λ x. x.now) (λ e. e) result ≡ behind (list_at (service_from pool.now) count bytes.now) }
-{
-    let mut rest = bytes;
-    for _ in 0..count {
-        let (_, after) = match service_at(pool, rest) {
-            Ok(item) => item,
-            Err(fault) => return Err(fault),
-        };
-        rest = after;
-    }
-    Ok(rest)
+/// A service that is provided.
+#[derive(Drop)]
+struct Provided<'p, 'a> {
+    pool: &'p Pool<'a>,
 }
 
-// What comes behind a count and that many services.
-#[tactic(auto, unfolding(jc_facts::specs::file::Attributes::counted_at))]
-fn behind_services<'b>(pool: &Pool<'_>, bytes: &'b [u8]) -> Result<&'b [u8], Fault>
-    ensures { result_map_both (λ x. x.now) (λ e. e) result ≡ behind (counted_at (service_from pool.now) bytes.now) }
-{
-    match u16_at(bytes) {
-        Err(fault) => Err(fault),
-        Ok((count, rest)) => behind_some_services(pool, count, rest),
+impl<'p, 'a> Passed for Provided<'p, 'a> {
+    ghost Read = { Bytes };
+
+    ghost read = { λ entry. service_from entry.pool.now };
+
+    fn behind<'b>(&self, bytes: &'b [u8]) -> Result<&'b [u8], Fault> {
+        let (_, rest) = service_at(self.pool, bytes)?;
+        Ok(rest)
     }
 }
 
@@ -303,9 +267,9 @@ fn behind_services<'b>(pool: &Pool<'_>, bytes: &'b [u8]) -> Result<&'b [u8], Fau
 fn behind_opens<'b>(pool: &Pool<'_>, bytes: &'b [u8]) -> Result<&'b [u8], Fault>
     ensures { result_map_both (λ x. x.now) (λ e. e) result ≡ opens_from pool.now bytes.now }
 {
-    let opened = behind_packages(pool, bytes)?;
-    let used = behind_classes(pool, opened)?;
-    behind_services(pool, used)
+    let opened = behind_counted(&Opened { pool }, bytes)?;
+    let used = behind_counted(&ServiceClass { pool }, opened)?;
+    behind_counted(&Provided { pool }, used)
 }
 
 // What comes behind the module itself and those that it requires.
@@ -314,7 +278,7 @@ fn behind_itself<'b>(pool: &Pool<'_>, bytes: &'b [u8]) -> Result<&'b [u8], Fault
     ensures { result_map_both (λ x. x.now) (λ e. e) result ≡ requires_from pool.now bytes.now }
 {
     let (_, rest) = versioned_at(pool, bytes)?;
-    behind_requires(pool, rest)
+    behind_counted(&Required { pool }, rest)
 }
 
 #[tactic(auto, unfolding(jc_facts::specs::file::ModuleFile::exports_from))]
