@@ -4,4 +4,4 @@ use Rattle.jc_index.proofs.Choices.{rivals}
 use Rattle.jc_index.proofs.choose.has_rival.Goals as goal
 
 pub returns : goal.returns
-returns c = c.is_some.ensures ∙ rivals c.args.hierarchy.now (name_at c.args.hierarchy.now c.args.class) c.requires.loads c.args.key.now c.args.of c.any_rival.result c.any_rival.ensures
+returns c = c.is_some.ensures ∙ rivals c.args.hierarchy.now (name_at c.args.hierarchy.now c.args.class) c.requires.loads c.args.key.now c.args.of c.choose.result c.choose.ensures

@@ -1,9 +1,0 @@
-use Rattle.std.proofs.Common.{◌-◌}
-use Rattle.jc_facts.specs.world.World.{size}
-use Rattle.jc_index.specs.Ids.{name_at}
-use Rattle.jc_index.specs.steps.Choosing.{rival_at}
-use Rattle.jc_index.proofs.Walks.{IsOnWay}
-use Rattle.jc_index.proofs.choose.any_rival.Given as goal
-
-abbrev pub invariant-loop : goal.invariant-loop
-invariant-loop l = IsOnWay l.hierarchy (name_at l.hierarchy l.fn.class) (rival_at l.hierarchy l.key l.of) (size l.hierarchy - l.counter) l.at
