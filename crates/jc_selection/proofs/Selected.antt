@@ -39,7 +39,8 @@ use Rattle.jc_promises.specs.rule.Warnings.{is_base, interfaces_from, part, part
 use Rattle.jc_facts.specs.declared.warning.WarnKind.{WarnKind}
 use Rattle.jc_facts.specs.declared.warning.WarnKind.TheVariants as warn
 use Rattle.jc_selection.proofs.Parts.{is_offered, is_beside, offered_alike, beside_alike}
-use Rattle.jc_selection.proofs.Walked.{was, now, of_client_interface, of_client_class}
+use Rattle.jc_sound.proofs.ClientInterfaces.{was, now}
+use Rattle.jc_selection.proofs.Walked.{of_client_interface, of_client_class}
 use Rattle.jc_selection.proofs.Concrete.{chosen, one_by_owners}
 use Rattle.jc_selection.proofs.ChainKinds.{kind_or, first_kind-append, kind-abstract, kind-nothing, abstract_offers}
 use Rattle.jc_selection.proofs.Goods.{IsGood, are_of, named_offered, goods_with, goods_super, closed_with, closed_super}
@@ -290,13 +291,6 @@ module _ (O N : World) (cs : List ClassFacts) (g : Ground O N cs) (k : Key) (mk 
           let same_one : Some d ≡ Some e = sym v.found ∙ ap (find_class V) (same_is d.name z s.1) ∙ q in
           let w : d ≡ e = cc in
           subst (λ (y : ClassFacts). offers k y ≡ true) w s.0
-
-      -- it is offered at all
-      at_all : (V : World) (xs : List ClassFacts) (z : Bytes) → list_any (is_offered not k z) xs ≡ true → list_any (is_offered (λ b. true) k z) xs ≡ true
-      at_all V xs z a =
-          let p = any_passes (is_offered not k z) xs a in
-          let d : ClassFacts = p.one in
-          any_has (is_offered (λ b. true) k z) xs d p.is_in (and_from (offers k d && same d.name z) true (and_parts (offers k d && same d.name z) (not (declares_abstract k d)) p.passes).0 refl)
 
       owners_same : (z : Bytes) → list_any (λ (m : DeclaredMember). same m.owner z) (concrete_choices VO t k) ≡ list_any (λ (m : DeclaredMember). same m.owner z) (concrete_choices VN t k)
       owners_same z = chosen VO t k z ∙ go (list_any (is_offered not k z) (superinterfaces VO t)) refl ∙ sym (chosen VN t k z)

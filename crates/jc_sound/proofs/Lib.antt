@@ -18,6 +18,7 @@ pub mod FieldUse
 pub mod Members
 pub mod FieldClient
 pub mod MethodLooked
+pub mod ClientInterfaces
 pub mod MethodSets
 pub mod MethodClient
 pub mod Opening
