@@ -5,6 +5,7 @@ use Rattle.std.specs.List.{All}
 use Rattle.std.proofs.lemmas.List.{length-append}
 use Rattle.std.proofs.lemmas.List.Elements.{recursion_from_All}
 use Rattle.std.proofs.lemmas.List.Folds.{list_any-append}
+use Rattle.std.proofs.Math.Bool.{or-false}
 use Rattle.jc_facts.specs.declared.class_facts.ClassFacts.{ClassFacts}
 use Rattle.jc_facts.specs.Names.{Bytes, same, in_same_package, package_name}
 use Rattle.jc_facts.specs.Flags.{public_flag}
@@ -18,7 +19,6 @@ use Rattle.jc_facts.specs.Options.{some_and}
 use Rattle.jc_facts.specs.client.Allowed.{is_allowed_name}
 use Rattle.jc_facts.specs.client.Seats.{seat}
 use Rattle.jc_facts.proofs.Same.{same_is}
-use Rattle.jc_lemmas.proofs.Bools.{or_false}
 use Rattle.jc_lemmas.proofs.Listed.{EachOf}
 use Rattle.jc_worlds.proofs.AgreementLaw.{each_name}
 use Rattle.jc_worlds.proofs.Allowed.{unused_from_allowed}
@@ -109,7 +109,7 @@ class_spoken W a y d b g h side bare clients allowed x i l s =
     h
     ∙ sym (ap (λ v. (v && public_flag d.flags) || in_same_package x d.name) e
     ∙ ap (λ v. (is_visible W d.name && public_flag d.flags) || v) (class-client W bare clients allowed x y d g i)
-    ∙ or_false (is_visible W d.name && public_flag d.flags))
+    ∙ or-false (is_visible W d.name && public_flag d.flags))
 
 -- what is asked of the class named y, of its record
 pub nameable : (W : World) (y : Bytes) (d : ClassFacts) (b : Bool) → find_class W y ≡ Some d → b ≡ class_is W (λ c. is_visible W y && public_flag c.flags) y → b ≡ (is_visible W d.name && public_flag d.flags)

@@ -1,5 +1,6 @@
 -- What acts find is what the lookup of their form finds.
 use Rattle.std.proofs.Common.{◌≡◌, ℕ, true, false, cond, List, [], ◌∷◌, refl, sym, ◌∙◌, ap, Option, Some, None, Ok, Err, ◌||◌}
+use Rattle.std.proofs.lemmas.Bool.{not-true}
 use Rattle.jc_facts.specs.declared.act.Act.{Act}
 use Rattle.jc_facts.specs.declared.act.Act.TheVariants as act
 use Rattle.jc_facts.specs.declared.class_facts.ClassFacts.{ClassFacts}
@@ -20,7 +21,7 @@ use Rattle.jc_promises.specs.rule.OpenActs.{act_fault}
 use Rattle.jc_facts.specs.file.Valid.{IsValidClass}
 use Rattle.jc_promises.specs.rule.Bases.{is_key_of_method}
 use Rattle.jc_lemmas.proofs.Listed.{EachOf, each_in, EachOf-map}
-use Rattle.jc_lemmas.proofs.Bools.{neither_last, not_true}
+use Rattle.jc_lemmas.proofs.Bools.{neither_last}
 use Rattle.jc_worlds.specs.Choices.{IsPublicInstance}
 use Rattle.jc_worlds.proofs.Inherited.{superinterface_choices-public}
 use Rattle.jc_index.specs.Ids.{name_at}
@@ -82,7 +83,7 @@ module _ (W : World) (valid : (x : Bytes) (c : ClassFacts) → find_class W x �
       → first_of NoSuchMethodError (or_choices o (superinterface_choices W x k)) (use_at W a x what) ≡ use_at W a x what (member_of W f)
   choice_use o what put f h a =
       each_in (λ m. first_of NoSuchMethodError (or_choices o (superinterface_choices W x k)) (use_at W a x what) ≡ use_at W a x what m) (or_choices o (superinterface_choices W x k)) h.0
-      (each_first IsPublicInstance (use_at W a x what) (λ m n p q. use_alike W a x what m n put p q) NoSuchMethodError o (superinterface_choices W x k) (superinterface_choices-public W valid x k loaded (neither_last (is_init_name k.name) (is_clinit_name k.name) (not_true (is_init_name k.name || is_clinit_name k.name) method)))) h.1
+      (each_first IsPublicInstance (use_at W a x what) (λ m n p q. use_alike W a x what m n put p q) NoSuchMethodError o (superinterface_choices W x k) (superinterface_choices-public W valid x k loaded (neither_last (is_init_name k.name) (is_clinit_name k.name) (not-true (is_init_name k.name || is_clinit_name k.name) method)))) h.1
       ∙ member_use W a x what f h.0 h.2
 
   no_choice : (ms : List DeclaredMember) → ms ≡ [] → (g : DeclaredMember → Option LinkError) → first_of NoSuchMethodError ms g ≡ Some NoSuchMethodError

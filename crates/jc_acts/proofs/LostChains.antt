@@ -1,14 +1,14 @@
 -- What the chain of a class lost that the new side doesn't have, or that is the same on both sides.
 use Rattle.std.proofs.Common.{◌≡◌, ◌<◌, ◌-◌, ℕ, suc, Bool, true, false, not, ◌||◌, ◌&&◌, List, [], ◌∷◌, refl, sym, ◌∙◌, ap, Some, None, arith}
 use Rattle.std.specs.List.{list_any}
-use Rattle.std.proofs.lemmas.Bool.{and_parts}
+use Rattle.std.proofs.lemmas.Bool.{and_parts, not-true, or_right}
+use Rattle.std.proofs.Math.Bool.{and-true}
 use Rattle.jc_facts.specs.declared.class_facts.ClassFacts.{ClassFacts}
 use Rattle.jc_facts.specs.Names.{Bytes, same}
 use Rattle.jc_facts.specs.world.World.{World, find_class, size}
 use Rattle.jc_facts.specs.world.Hierarchy.{chain, in_chain, names_in}
 use Rattle.jc_facts.specs.world.Loading.{load_fault, loads}
 use Rattle.jc_facts.proofs.Same.{same_itself}
-use Rattle.jc_lemmas.proofs.Bools.{not_true, and_true}
 use Rattle.jc_worlds.proofs.Chains.{none_above}
 use Rattle.jc_index.specs.Ids.{name_at}
 use Rattle.jc_index.proofs.Numbers.{is_none-None}
@@ -28,11 +28,7 @@ gone_loses s id c l f a =
 -- no class of a list is outside of it
 all_in : (cs ds : List ClassFacts) → ((y : Bytes) → names_in ds y ≡ true → names_in cs y ≡ true) → list_any (λ d. not (names_in cs d.name)) ds ≡ false
 all_in cs [] h = refl
-all_in cs (d ∷ ds) h = rw (h d.name (ap (λ b. b || names_in ds d.name) (same_itself d.name))) (all_in cs ds (λ y q. h y (either (same d.name y) q)))
-  where
-    either : (b : Bool) {t : Bool} → t ≡ true → (b || t) ≡ true
-    either true q = refl
-    either false q = q
+all_in cs (d ∷ ds) h = rw (h d.name (ap (λ b. b || names_in ds d.name) (same_itself d.name))) (all_in cs ds (λ y q. h y (or_right (same d.name y) _ q)))
 
 -- the same chain has lost none
 pub same_loses : (s : SidesOf) (x : Bytes) → chain s.old x ≡ chain s.new x → false ≡ loses_class s x
@@ -42,7 +38,7 @@ same_loses s x e = sym (ap (λ ds. list_any (λ d. not (in_chain s.new x d.name)
 pub unchanged_loses : (s : SidesOf) → AreSides s → (x : Bytes) (b : Bool) → b ≡ true → b ≡ (not (may_be_closed s x) && loads s.new x) → false ≡ loses_class s x
 unchanged_loses s are x b t e =
     let p = and_parts (not (may_be_closed s x)) (loads s.new x) (sym e ∙ t) in
-    same_loses s x (looks_alike s are x (not_true (may_be_closed s x) p.0) (is_none-None (load_fault s.new x) p.1)).chain
+    same_loses s x (looks_alike s are x (not-true (may_be_closed s x) p.0) (is_none-None (load_fault s.new x) p.1)).chain
 
 -- flags that are set by two tests which tell the same
 pub set_as : (W : World) (p q : Bytes → Bool) (before after : List Bool) → ((y : Bytes) → p y ≡ q y) → AreSet W p before after → AreSet W q before after
@@ -50,9 +46,9 @@ set_as W p q before after same s = record { count = s.count; each = λ n l. s.ea
 
 -- all of a chain
 pub all_left : (W : World) (x : Bytes) (before after : List Bool) → AreSet W (λ y. in_chain W x y && true) before after → AreSet W (in_chain W x) before after
-all_left W x before after s = set_as W (λ y. in_chain W x y && true) (in_chain W x) before after (λ y. and_true (in_chain W x y)) s
+all_left W x before after s = set_as W (λ y. in_chain W x y && true) (in_chain W x) before after (λ y. and-true (in_chain W x y)) s
 
 -- all of the chain of a class that is absent on the new side left it
 pub gone_left : (s : SidesOf) (x : Bytes) (before after : List Bool) → find_class s.new x ≡ None → AreSet s.old (in_chain s.old x) before after → AreSet s.old (λ y. left_chain_of s y x) before after
 gone_left s x before after a set =
-    set_as s.old (in_chain s.old x) (λ y. left_chain_of s y x) before after (λ y. sym (ap (λ b. in_chain s.old x y && not b) (none_above s.new x y a) ∙ and_true (in_chain s.old x y))) set
+    set_as s.old (in_chain s.old x) (λ y. left_chain_of s y x) before after (λ y. sym (ap (λ b. in_chain s.old x y && not b) (none_above s.new x y a) ∙ and-true (in_chain s.old x y))) set

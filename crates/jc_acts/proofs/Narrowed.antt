@@ -75,9 +75,6 @@ not_open e o r h = ap (λ z. where_open z r) h
 -- ---- the two ways
 
 module _ (sides : SidesOf) (so : IsSide sides.old) (sn : IsSide sides.new) (x : Bytes) (u : Looked) (what : Act) where
-  abbrev f : Bytes → Option LinkError
-  f a = closed_use sides x u what a
-
   -- neither public nor protected: open to nobody
   pub shut : public_flag u.before.flags ≡ false → protected_flag u.before.flags ≡ false → (a : Bytes) → closed_use sides x u what a ≡ None
   shut p q a = not_open IllegalAccessError (use_at sides.old a x what (member_of sides.old u.before)) (looked_use sides.new a x what u.after) (shut_use sides.old a x what (member_of sides.old u.before) p q)

@@ -3,8 +3,8 @@ use Rattle.std.proofs.Common.{◌≡◌, ℕ, ◌<◌, Bool, true, false, cond, 
 use Rattle.std.specs.Bool.{beq}
 use Rattle.std.specs.List.{All}
 use Rattle.std.proofs.lemmas.List.Elements.{All-from_recursion}
-use Rattle.std.proofs.lemmas.Bool.{and_parts, not-false}
-use Rattle.jc_lemmas.proofs.Bools.{not_true, beq_is}
+use Rattle.std.proofs.lemmas.Bool.{and_parts, not-false, not-true}
+use Rattle.jc_lemmas.proofs.Bools.{beq_is}
 use Rattle.jc_lemmas.proofs.Listed.{EachOf, each_from, each_in}
 use Rattle.jc_facts.specs.declared.act.Act.{Act}
 use Rattle.jc_facts.specs.declared.link_error.LinkError.{LinkError}
@@ -116,7 +116,7 @@ module _ (sides : SidesOf) (are : AreSides sides) where
   unfolding first_at
   none_asked x u what commons holder c l name by h =
       sym (first_none (closed_use sides x u what) (all_seats sides) (each_from (λ a. closed_use sides x u what a ≡ None) (all_seats sides) (λ a i.
-      stays_open sides x u what a (each_in (LoadsOnBoth sides) (all_seats sides) a each_loads i).1 (kept_of commons holder) (not_true (public_flag u.before.flags) (and_parts (not (public_flag u.before.flags)) (protected_flag u.before.flags) by).0)
+      stays_open sides x u what a (each_in (LoadsOnBoth sides) (all_seats sides) a each_loads i).1 (kept_of commons holder) (not-true (public_flag u.before.flags) (and_parts (not (public_flag u.before.flags)) (protected_flag u.before.flags) by).0)
       (λ j. c.covered a i holder l (subst (λ (z : Bytes). in_chain sides.old a z ≡ true) (sym name) j)) h)))
 
 -- ---- the class that a seat has to stand below

@@ -1,16 +1,17 @@
 -- Flags of the classes of a side, and how more of them are set.
-use Rattle.std.proofs.Common.{◌≡◌, ℕ, suc, ◌+◌, ◌<◌, ◌≤◌, ◌≢◌, Bool, true, false, cond, not, ◌||◌, ◌&&◌, List, [], ◌∷◌, ◌++◌, length, map, take, drop, get_or, set, eqb, refl, sym, ◌∙◌, ap, subst, Option, Some, None, ◌⊎◌, inl, inr}
+use Rattle.std.proofs.Common.{◌≡◌, ℕ, suc, ◌+◌, ◌<◌, ◌≤◌, ◌≢◌, Bool, true, false, cond, not, ◌||◌, ◌&&◌, List, [], ◌∷◌, ◌++◌, length, map, take, get_or, set, eqb, refl, sym, ◌∙◌, ap, subst, Option, Some, None, ◌⊎◌, inl, inr}
 use Rattle.std.specs.Prelude.{IfSome, IsTrue}
 use Rattle.std.specs.List.{list_any}
 use Rattle.std.proofs.lemmas.Bool.Decides.{eqb_tells}
-use Rattle.std.proofs.lemmas.List.{length-set, set-get_or, length-map, get_or-map, map-append, take_more, take_all, at_drop_more, at_drop_all}
+use Rattle.std.proofs.lemmas.List.{length-set, set-get_or, length-map, get_or-map, map-append, take_more, take_all}
+use Rattle.std.proofs.Math.Bool.{or-false, and-false}
 use Rattle.jc_facts.specs.declared.class_facts.ClassFacts.{ClassFacts}
 use Rattle.jc_facts.specs.Names.{Bytes, same}
 use Rattle.jc_facts.specs.world.World.{World, find_class, size, classes, differ_by_name}
 use Rattle.jc_facts.specs.world.Hierarchy.{chain, in_chain, names_in}
 use Rattle.jc_facts.proofs.Same.{same_is, same_itself}
 use Rattle.jc_facts.proofs.World.{find-name}
-use Rattle.jc_lemmas.proofs.Bools.{or_assoc, or_false, and_never}
+use Rattle.jc_lemmas.proofs.Bools.{or_assoc}
 use Rattle.jc_index.specs.Ids.{id_of, name_at, names, superclass_of}
 use Rattle.jc_index.proofs.Numbers.{names-length, id_of-name_at}
 use Rattle.jc_acts.specs.Touched.{flag_at, AreFlags, AreSet}
@@ -19,7 +20,7 @@ use Rattle.jc_acts.proofs.Upwards.{any_from, any-from, any-step, any-out, any-en
 
 within_or : (l n : Bool) → (l || (n && l)) ≡ l
 within_or true n = refl
-within_or false n = and_never n
+within_or false n = and-false n
 
 cond_or : (b f : Bool) → cond b true f ≡ (f || (b && true))
 cond_or true true = refl
@@ -56,7 +57,7 @@ module _ (W : World) where
   flags_set p q before after f s = record { count = s.count; each = λ n l. s.each n l ∙ ap (λ b. b || q (name_at W n)) (f.each n l) }
 
   pub none_set : (q : Bytes → Bool) (flags : List Bool) → length flags ≡ size W → ((y : Bytes) → q y ≡ false) → AreSet W q flags flags
-  none_set q flags e h = record { count = e; each = λ n l. sym (ap (λ b. flag_at flags n || b) (h (name_at W n)) ∙ or_false (flag_at flags n)) }
+  none_set q flags e h = record { count = e; each = λ n l. sym (ap (λ b. flag_at flags n || b) (h (name_at W n)) ∙ or-false (flag_at flags n)) }
 
   -- ---- those of a list of tests, one after the other
 
@@ -64,20 +65,6 @@ module _ (W : World) where
   pub record AreSetBy {A : Type 0} (q : Bytes → A → Bool) (all rest : List A) (before after : List Bool) : Type 0 where
     pub count : length after ≡ size W
     pub each : (n : ℕ) → n < size W → (flag_at after n || list_any (q (name_at W n)) rest) ≡ (flag_at before n || list_any (q (name_at W n)) all)
-
-  module _ {A B : Type 0} (q : Bytes → A → Bool) (g : B → A) (bs : List B) (before : List Bool) where
-    pub by_next : (i : ℕ) (b : B) (flags after : List Bool) → i < length bs → b ≡ get_or bs i b → AreSet W (λ y. q y (g b)) flags after → AreSetBy q (map g bs) (map g (drop i bs)) before flags → AreSetBy q (map g bs) (map g (drop (i + 1) bs)) before after
-    by_next i b flags after l is s h = record {
-      count = s.count;
-      each = λ n k.
-          ap (λ t. t || list_any (q (name_at W n)) (map g (drop (i + 1) bs))) (s.each n k)
-          ∙ or_assoc (flag_at flags n) (q (name_at W n) (g b)) (list_any (q (name_at W n)) (map g (drop (i + 1) bs)))
-          ∙ ap (λ t. flag_at flags n || t) (ap (λ c. q (name_at W n) (g c) || list_any (q (name_at W n)) (map g (drop (i + 1) bs))) is ∙ sym (at_drop_more (λ cs. list_any (q (name_at W n)) (map g cs)) bs i b l))
-          ∙ h.each n k;
-    }
-
-    pub by_all : (i : ℕ) (flags : List Bool) → length bs ≤ i → AreSetBy q (map g bs) (map g (drop i bs)) before flags → AreSet W (λ y. list_any (q y) (map g bs)) before flags
-    by_all i flags l h = record { count = h.count; each = λ n k. sym (or_false (flag_at flags n)) ∙ ap (λ t. flag_at flags n || t) (sym (at_drop_all (λ cs. list_any (q (name_at W n)) (map g cs)) bs i l)) ∙ h.each n k }
 
   -- ---- those of a chain
 
@@ -108,7 +95,7 @@ module _ (W : World) where
     done x flags m next h on = record {
       count = on.count;
       each = λ n l.
-          sym (or_false (flag_at flags n)) ∙ ap (λ b. flag_at flags n || b) (sym (h (name_at W n))) ∙ on.ahead n l
+          sym (or-false (flag_at flags n)) ∙ ap (λ b. flag_at flags n || b) (sym (h (name_at W n))) ∙ on.ahead n l
           ∙ ap (λ b. flag_at before n || b) (any_leaves (name_at W n) (chain W x));
     }
 
@@ -136,7 +123,7 @@ module _ (W : World) where
           ap (λ fs. flag_at fs k) u ∙ put flags i k true false (subst (λ m. i < m) (sym e) l) ∙ cond_or (eqb i k) (flag_at flags k)
           ∙ ap (λ t. flag_at flags k || (t && true)) (sym (ap (λ y. same y (name_at W k)) n ∙ same_at i k l j)) ∙ ap (λ t. flag_at flags k || (same c.name (name_at W k) && t)) (sym h)
       flag_set flags after i k c false l j e n h u =
-          ap (λ fs. flag_at fs k) u ∙ sym (or_false (flag_at flags k)) ∙ ap (λ t. flag_at flags k || t) (sym (and_never (same c.name (name_at W k)))) ∙ ap (λ t. flag_at flags k || (same c.name (name_at W k) && t)) (sym h)
+          ap (λ fs. flag_at fs k) u ∙ sym (or-false (flag_at flags k)) ∙ ap (λ t. flag_at flags k || t) (sym (and-false (same c.name (name_at W k)))) ∙ ap (λ t. flag_at flags k || (same c.name (name_at W k) && t)) (sym h)
 
       set_length : (flags : List Bool) (i : ℕ) (b : Bool) → length (cond b (set flags i true) flags) ≡ length flags
       set_length flags i true = length-set flags i true

@@ -1,6 +1,5 @@
 -- What a loop has found so far along a list; q of the list is g of each of its items.
-use Rattle.std.proofs.Common.{◌≡◌, ℕ, ◌+◌, ◌<◌, ◌≤◌, Bool, true, false, List, [], ◌∷◌, length, drop, get_or, sym, ◌∙◌, ap, ◌&&◌, Option, Some, None}
-use Rattle.std.specs.List.{list_all}
+use Rattle.std.proofs.Common.{◌≡◌, ℕ, ◌+◌, ◌<◌, ◌≤◌, List, [], ◌∷◌, length, drop, get_or, sym, ◌∙◌, ap, Option, Some, None}
 use Rattle.std.proofs.lemmas.List.{at_drop_more, at_drop_all}
 use Rattle.jc_acts.specs.steps.Firsts.{with_or, first_at}
 
@@ -22,18 +21,3 @@ module _ {X Y A : Type 0} (f : X → Option A) (g : Y → X) (q : List Y → Lis
   pub first_end : (ys : List Y) (n : ℕ) → length ys ≤ n → first_at f (q (drop n ys)) ≡ None
   unfolding first_at
   first_end ys n l = at_drop_all (λ zs. first_at f (q zs)) ys n l ∙ ap (first_at f) none
-
--- ---- a test on all
-
-module _ {X Y : Type 0} (p : X → Bool) (g : Y → X) (q : List Y → List X) (more : (y : Y) (ys : List Y) → q (y ∷ ys) ≡ g y ∷ q ys) (none : q [] ≡ []) where
-  all_front : (ys : List Y) (n : ℕ) (d y : Y) → n < length ys → y ≡ get_or ys n d → list_all p (q (drop n ys)) ≡ (p (g y) && list_all p (q (drop (n + 1) ys)))
-  all_front ys n d y l is = at_drop_more (λ zs. list_all p (q zs)) ys n d l ∙ ap (list_all p) (more (get_or ys n d) (drop (n + 1) ys)) ∙ ap (λ z. p (g z) && list_all p (q (drop (n + 1) ys))) (sym is)
-
-  pub all_fails : (ys : List Y) (n : ℕ) (d y : Y) → n < length ys → y ≡ get_or ys n d → p (g y) ≡ false → list_all p (q (drop n ys)) ≡ false
-  all_fails ys n d y l is h = all_front ys n d y l is ∙ ap (λ b. b && list_all p (q (drop (n + 1) ys))) h
-
-  pub all_next : (ys : List Y) (n : ℕ) (d y : Y) → n < length ys → y ≡ get_or ys n d → p (g y) ≡ true → list_all p (q (drop n ys)) ≡ list_all p (q (drop (n + 1) ys))
-  all_next ys n d y l is h = all_front ys n d y l is ∙ ap (λ b. b && list_all p (q (drop (n + 1) ys))) h
-
-  pub all_end : (ys : List Y) (n : ℕ) → length ys ≤ n → list_all p (q (drop n ys)) ≡ true
-  all_end ys n l = at_drop_all (λ zs. list_all p (q zs)) ys n l ∙ ap (list_all p) none

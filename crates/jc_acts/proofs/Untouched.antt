@@ -2,7 +2,7 @@
 -- closed. That x loads on the new side doesn't follow: the records are the same, but what they name may no longer be visible.
 use Rattle.std.proofs.Common.{◌≡◌, Bool, true, false, not, cond, List, [], ◌∷◌, ◌++◌, refl, sym, ◌∙◌, ap, subst, Option, Some, None, is_some, is_none, ◌||◌, ◌&&◌, ◌⊎◌, inl, inr}
 use Rattle.std.specs.List.{list_any, filter, Contains}
-use Rattle.std.proofs.lemmas.Bool.{and_parts, and_from, or_cases}
+use Rattle.std.proofs.lemmas.Bool.{and_parts, and_from, or_cases, not-true, or_from}
 use Rattle.std.proofs.lemmas.List.Elements.{All-from_recursion, filter-append}
 use Rattle.std.proofs.lemmas.List.Folds.{list_any-append}
 use Rattle.jc_facts.specs.declared.act.Act.{Act}
@@ -25,7 +25,7 @@ use Rattle.jc_promises.specs.rule.Bases.{is_steady}
 use Rattle.jc_facts.proofs.Hierarchy.{any_each}
 use Rattle.jc_facts.proofs.Same.{same_is, same_itself}
 use Rattle.jc_facts.proofs.World.{find-name}
-use Rattle.jc_lemmas.proofs.Bools.{and_not, imply, neither_first, neither_last, not_true, neither}
+use Rattle.jc_lemmas.proofs.Bools.{and_not, imply, neither_first, neither_last}
 use Rattle.jc_lemmas.proofs.Options.{none_from}
 use Rattle.jc_lemmas.proofs.Listed.{EachOf, EachOf-both, any_has, any_none, any_passes, each_from, each_of, not_any}
 use Rattle.jc_worlds.specs.Agreement.{AgreeOn, LooksTheSame, ModulesAgreeOn}
@@ -162,7 +162,7 @@ module _ (W : World) (so : IsSide W) (p : Bytes → Bool) (root : p object_name 
     clear : list_any q (above W y) ≡ false
 
   clear_parts : (y : Bytes) → none_above y ≡ true → IsClear y
-  clear_parts y h = let r = and_parts (loads W y) (not (list_any q (above W y))) h in record { loaded = is_none-None (load_fault W y) r.0; clear = not_true (list_any q (above W y)) r.1 }
+  clear_parts y h = let r = and_parts (loads W y) (not (list_any q (above W y))) h in record { loaded = is_none-None (load_fault W y) r.0; clear = not-true (list_any q (above W y)) r.1 }
 
   clear_from : (y : Bytes) → load_fault W y ≡ None → list_any q (above W y) ≡ false → none_above y ≡ true
   clear_from y l c = and_from (loads W y) (not (list_any q (above W y))) (ap is_none l) (ap not c)
@@ -193,7 +193,7 @@ module _ (W : World) (so : IsSide W) (p : Bytes → Bool) (root : p object_name 
   root_chain : list_any q (chain W object_name) ≡ false
   root_chain =
       ap (list_any q) (bare_chain W object_name so.root.root (root_at W so) so.root.superclass so.root.interfaces)
-      ∙ neither (q so.root.root) false (ap p (find-name W object_name so.root.root (root_at W so)) ∙ root) refl
+      ∙ or_from (q so.root.root) false (ap p (find-name W object_name so.root.root (root_at W so)) ∙ root) refl
 
   root_interfaces : list_any q (superinterfaces W object_name) ≡ false
   root_interfaces = ap (list_any q) (bare_interfaces W object_name so.root.root (root_at W so) so.root.superclass so.root.interfaces)
@@ -201,7 +201,7 @@ module _ (W : World) (so : IsSide W) (p : Bytes → Bool) (root : p object_name 
   root_clear : none_above object_name ≡ true
   root_clear =
       clear_from object_name (bare_loads W object_name so.root.root (root_at W so) so.root.superclass so.root.interfaces)
-      (list_any-append q (chain W object_name) (superinterfaces W object_name) ∙ neither (list_any q (chain W object_name)) (list_any q (superinterfaces W object_name)) root_chain root_interfaces)
+      (list_any-append q (chain W object_name) (superinterfaces W object_name) ∙ or_from (list_any q (chain W object_name)) (list_any q (superinterfaces W object_name)) root_chain root_interfaces)
 
   -- the superclass of an interface is the root
   above_interface : (d : ClassFacts) → interface_flag d.flags ≡ true → (o : Option Bytes) → superclass_fits d o ≡ true → (list_any q (of_super (chain W) o) ≡ false) × (list_any q (interfaces_of W (of_super (chain W) o)) ≡ false)
@@ -220,9 +220,9 @@ module _ (W : World) (so : IsSide W) (p : Bytes → Bool) (root : p object_name 
       let u = above_interface t.0 j t.0.superclass (fit_of t.0 (side_valid W so i t.0 t.1)).superclass in
       clear_from i l
       (above_is W q i t.0 t.1 l
-      ∙ neither (q t.0 || list_any q (of_super (chain W) t.0.superclass)) (list_any q (each (with_interfaces W) t.0.interfaces) || list_any q (interfaces_of W (of_super (chain W) t.0.superclass)))
-      (neither (q t.0) (list_any q (of_super (chain W) t.0.superclass)) (neither_first (q t.0) (list_any q (each (with_interfaces W) t.0.interfaces)) e) u.0)
-      (neither (list_any q (each (with_interfaces W) t.0.interfaces)) (list_any q (interfaces_of W (of_super (chain W) t.0.superclass))) (neither_last (q t.0) (list_any q (each (with_interfaces W) t.0.interfaces)) e) u.1))
+      ∙ or_from (q t.0 || list_any q (of_super (chain W) t.0.superclass)) (list_any q (each (with_interfaces W) t.0.interfaces) || list_any q (interfaces_of W (of_super (chain W) t.0.superclass)))
+      (or_from (q t.0) (list_any q (of_super (chain W) t.0.superclass)) (neither_first (q t.0) (list_any q (each (with_interfaces W) t.0.interfaces)) e) u.0)
+      (or_from (list_any q (each (with_interfaces W) t.0.interfaces)) (list_any q (interfaces_of W (of_super (chain W) t.0.superclass))) (neither_last (q t.0) (list_any q (each (with_interfaces W) t.0.interfaces)) e) u.1))
 
   -- what such a class names is such a class
   supers_clear : (y : Bytes) (c : ClassFacts) → IsClear y → find_class W y ≡ Some c → EachOf (λ s. none_above s ≡ true) (supers c)
@@ -246,7 +246,7 @@ module _ (W : World) (so : IsSide W) (p : Bytes → Bool) (root : p object_name 
       by_super s e =
           clear_from s (first_loads c.superclass c.interfaces all_load s e)
           (list_any-append q (chain W s) (superinterfaces W s)
-          ∙ neither (list_any q (chain W s)) (list_any q (superinterfaces W s)) (sym (ap (λ o. list_any q (of_super (chain W) o)) e) ∙ a.supers) (sym (ap (λ o. list_any q (interfaces_of W (of_super (chain W) o))) e) ∙ a.beyond))
+          ∙ or_from (list_any q (chain W s)) (list_any q (superinterfaces W s)) (sym (ap (λ o. list_any q (of_super (chain W) o)) e) ∙ a.supers) (sym (ap (λ o. list_any q (interfaces_of W (of_super (chain W) o))) e) ∙ a.beyond))
 
       led : EachOf (λ i. list_any q (with_interfaces W i) ≡ false) c.interfaces
       led = each_from (λ i. list_any q (with_interfaces W i) ≡ false) c.interfaces (λ i. not_any (λ z. list_any q (with_interfaces W z)) c.interfaces i (sym (any_each q (with_interfaces W) c.interfaces) ∙ a.led))

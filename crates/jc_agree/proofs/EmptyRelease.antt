@@ -1,8 +1,10 @@
 -- An old release without classes: its side is the platform, of which the new side keeps everything.
 use Rattle.std.proofs.Common.{◌≡◌, Bool, true, false, not, cond, ℕ, List, [], ◌∷◌, ◌++◌, refl, sym, ◌∙◌, ap, subst, Option, Some, None, is_some, is_none, ◌||◌, ◌&&◌, ◌==◌, nat_lt, ◌⊎◌, inl, inr}
 use Rattle.std.specs.List.{list_any}
-use Rattle.std.proofs.lemmas.Bool.{and_parts, or_cases}
+use Rattle.std.proofs.lemmas.Bool.{and_parts, or_cases, not-true, and_right}
 use Rattle.std.proofs.lemmas.List.Elements.{All-from_recursion}
+use Rattle.std.specs.Cmp.{first_so, second_so}
+use Rattle.std.proofs.Math.Bool.{and-false}
 use Rattle.jc_facts.specs.declared.act.Act.{Act}
 use Rattle.jc_facts.specs.declared.class_facts.ClassFacts.{ClassFacts}
 use Rattle.jc_facts.specs.declared.class_facts.Member.{Member}
@@ -32,7 +34,7 @@ use Rattle.jc_facts.specs.world.Loading.{load_fault, loads, excludes, fault_wher
 use Rattle.jc_facts.specs.world.Modules.{OfClients, module_of, same_module}
 use Rattle.jc_promises.specs.Pairs.{IsPair}
 use Rattle.jc_facts.specs.world.Search.{supers}
-use Rattle.jc_lemmas.proofs.Bools.{both_first, both_last, imply, not_true}
+use Rattle.jc_lemmas.proofs.Bools.{imply}
 use Rattle.jc_lemmas.proofs.Listed.{EachOf-map, any_none}
 use Rattle.jc_lemmas.proofs.Options.{none_where, cond_none}
 use Rattle.jc_facts.proofs.Options.{or_else-both}
@@ -163,26 +165,26 @@ module _ (O N : World) (pair : IsPair O N) (empty : O.release ≡ []) where
     where
       go : (is_extendable O N x ≡ true) ⊎ (is_implementable O N x ≡ true) → IsOpenTo c
       go (inl p) =
-          let q = both_last (is_class_usable O x) (class_is O (λ c. not (interface_flag c.flags) && not (final_flag c.flags) && has_init c public_or_protected && is_open O N c) x) p in
+          let q = second_so (is_class_usable O x) (class_is O (λ c. not (interface_flag c.flags) && not (final_flag c.flags) && has_init c public_or_protected && is_open O N c) x) p in
           let r : (not (interface_flag c.flags) && not (final_flag c.flags) && has_init c public_or_protected && is_open O N c) ≡ true = rw f at q in
           let s = and_parts (not (interface_flag c.flags) && not (final_flag c.flags) && has_init c public_or_protected) (is_open O N c) r in
-          let t = both_first (not (interface_flag c.flags) && not (final_flag c.flags)) (has_init c public_or_protected) s.0 in
-          (not_true (final_flag c.flags) (both_last (not (interface_flag c.flags)) (not (final_flag c.flags)) t), s.1)
+          let t = first_so (not (interface_flag c.flags) && not (final_flag c.flags)) (has_init c public_or_protected) s.0 in
+          (not-true (final_flag c.flags) (second_so (not (interface_flag c.flags)) (not (final_flag c.flags)) t), s.1)
       go (inr p) =
-          let q = both_last (is_class_usable O x) (class_is O (λ c. interface_flag c.flags && is_open O N c) x) p in
+          let q = second_so (is_class_usable O x) (class_is O (λ c. interface_flag c.flags && is_open O N c) x) p in
           let r : (interface_flag c.flags && is_open O N c) ≡ true = rw f at q in
           let s = and_parts (interface_flag c.flags) (is_open O N c) r in
           let v : (not (module_flag c.flags) && not (final_flag c.flags && abstract_flag c.flags) && (not (interface_flag c.flags) || (not (final_flag c.flags) && (abstract_flag c.flags || nat_lt c.major 50)))) ≡ true = (valid x c f).flags in
-          let w = both_last (not (module_flag c.flags) && not (final_flag c.flags && abstract_flag c.flags)) (not (interface_flag c.flags) || (not (final_flag c.flags) && (abstract_flag c.flags || nat_lt c.major 50))) v in
+          let w = second_so (not (module_flag c.flags) && not (final_flag c.flags && abstract_flag c.flags)) (not (interface_flag c.flags) || (not (final_flag c.flags) && (abstract_flag c.flags || nat_lt c.major 50))) v in
           let t = imply (interface_flag c.flags) (not (final_flag c.flags) && (abstract_flag c.flags || nat_lt c.major 50)) w s.0 in
-          (not_true (final_flag c.flags) (both_first (not (final_flag c.flags)) (abstract_flag c.flags || nat_lt c.major 50) t), s.1)
+          (not-true (final_flag c.flags) (first_so (not (final_flag c.flags)) (abstract_flag c.flags || nat_lt c.major 50) t), s.1)
 
   -- the new side doesn't shut clients out either
   takes_clients : (x : Bytes) (c : ClassFacts) → find_class O x ≡ Some c → load_fault O x ≡ None → is_open O N c ≡ true → excludes N c OfClients ≡ false
   takes_clients x c f l o =
       let name : x ≡ c.name = sym (find-name O x c f) in
       let m : module_of O c.name ≡ module_of N c.name = subst (λ y. module_of O y ≡ module_of N y) name (platform_module O N x pair.run.kind (has_old x l) (has_new x l)) in
-      ap (λ k. not (same_module OfClients k) && is_some c.permits) (sym m) ∙ not_true (excludes O c OfClients) (both_first (not (excludes O c OfClients)) (permits_some O N c.permits) o)
+      ap (λ k. not (same_module OfClients k) && is_some c.permits) (sym m) ∙ not-true (excludes O c OfClients) (first_so (not (excludes O c OfClients)) (permits_some O N c.permits) o)
 
   none_of_three : (f i s l : Bool) → f ≡ false → s ≡ false → l ≡ false → (f || (i && not i) || (s || l)) ≡ false
   none_of_three false true false false e g h = refl
@@ -198,16 +200,12 @@ module _ (O N : World) (pair : IsPair O N) (empty : O.release ≡ []) where
       test : Option ClassFacts → Option ClassFacts → Bool
       test o p = some_and (λ c. some_and (λ d. final_flag d.flags || (interface_flag d.flags && not (interface_flag c.flags)) || newly_sealed O N c d) p) o
 
-      and_none : (a b : Bool) → b ≡ false → (a && b) ≡ false
-      and_none true b e = e
-      and_none false b e = refl
-
       go : (o : Option ClassFacts) → find_class O x ≡ o → (b : Bool) → (is_extendable O N x || is_implementable O N x) ≡ b → (is_steady O N x && (is_extendable O N x || is_implementable O N x) && test (find_class O x) (find_class N x)) ≡ false
-      go None f b e = and_none (is_steady O N x && (is_extendable O N x || is_implementable O N x)) (test (find_class O x) (find_class N x)) (ap (λ o. test o (find_class N x)) f)
-      go (Some c) f false e = ap (λ b. is_steady O N x && b && test (find_class O x) (find_class N x)) e ∙ ap (λ b. b && test (find_class O x) (find_class N x)) (and_none (is_steady O N x) false refl)
+      go None f b e = and_right (is_steady O N x && (is_extendable O N x || is_implementable O N x)) (test (find_class O x) (find_class N x)) (ap (λ o. test o (find_class N x)) f)
+      go (Some c) f false e = ap (λ b. is_steady O N x && b && test (find_class O x) (find_class N x)) e ∙ ap (λ b. b && test (find_class O x) (find_class N x)) (and_right (is_steady O N x) false refl)
       go (Some c) f true e =
           let k = open_class x c f e in
-          and_none (is_steady O N x && (is_extendable O N x || is_implementable O N x)) (test (find_class O x) (find_class N x))
+          and_right (is_steady O N x && (is_extendable O N x || is_implementable O N x)) (test (find_class O x) (find_class N x))
           (ap (λ p. test (find_class O x) p) (sym (find_alike x l)) ∙ ap (λ o. test o o) f ∙ none_of_three (final_flag c.flags) (interface_flag c.flags) (excludes N c OfClients) (leaves_out O N c.permits c.permits) k.0 (takes_clients x c f l k.1) (leaves_none c.permits))
 
   -- ---- rule 5
@@ -226,10 +224,10 @@ module _ (O N : World) (pair : IsPair O N) (empty : O.release ≡ []) where
       go false e = refl
       go true e =
           let p = and_parts (is_steady O N x && class_is O (λ c. not (abstract_flag c.flags || interface_flag c.flags)) x) (had_init O x k (λ m. public_flag m.flags)) e in
-          let q = both_last (is_steady O N x) (class_is O (λ c. not (abstract_flag c.flags || interface_flag c.flags)) x) p.0 in
+          let q = second_so (is_steady O N x) (class_is O (λ c. not (abstract_flag c.flags || interface_flag c.flags)) x) p.0 in
           let c = class_is-there O (λ c. not (abstract_flag c.flags || interface_flag c.flags)) x q in
-          let a : class_is O (λ d. abstract_flag d.flags || interface_flag d.flags) x ≡ false = ap (some_and (λ d. abstract_flag d.flags || interface_flag d.flags)) c.1 ∙ not_true (abstract_flag c.0.flags || interface_flag c.0.flags) c.2 in
-          ap error (sym (find_alike x l)) ∙ ap (λ b. cond b (Some InstantiationError) (missing_or (λ m. fault_where (not (public_flag m.flags)) IllegalAccessError) (init_of O x k))) a ∙ member (init_of O x k) (both_last _ (some_and (λ m. public_flag m.flags) (init_of O x k)) p.1)
+          let a : class_is O (λ d. abstract_flag d.flags || interface_flag d.flags) x ≡ false = ap (some_and (λ d. abstract_flag d.flags || interface_flag d.flags)) c.1 ∙ not-true (abstract_flag c.0.flags || interface_flag c.0.flags) c.2 in
+          ap error (sym (find_alike x l)) ∙ ap (λ b. cond b (Some InstantiationError) (missing_or (λ m. fault_where (not (public_flag m.flags)) IllegalAccessError) (init_of O x k))) a ∙ member (init_of O x k) (second_so _ (some_and (λ m. public_flag m.flags) (init_of O x k)) p.1)
 
   no_init : (x : Bytes) → load_fault O x ≡ None → (k : Key) → init_broken O N x k ≡ None
   no_init x l k = go (is_base_class O N x && had_init O x k public_or_protected) refl
@@ -242,20 +240,20 @@ module _ (O N : World) (pair : IsPair O N) (empty : O.release ≡ []) where
       go false e = refl
       go true e =
           ap (λ o. missing_or (λ m. fault_where (not (public_or_protected m)) IllegalAccessError) (and_then (λ c. own_method_of c k) o)) (sym (find_alike x l))
-          ∙ member (init_of O x k) (both_last _ (some_and public_or_protected (init_of O x k)) (both_last (is_base_class O N x) (had_init O x k public_or_protected) e))
+          ∙ member (init_of O x k) (second_so _ (some_and public_or_protected (init_of O x k)) (second_so (is_base_class O N x) (had_init O x k public_or_protected) e))
 
   -- ---- rules 7 and 8
 
   base_loads : (x : Bytes) → is_base_class O N x ≡ true → load_fault O x ≡ None
   unfolding is_base_class is_extendable
-  base_loads x h = usable_loads x (both_first (is_class_usable O x) (class_is O (λ c. not (interface_flag c.flags) && not (final_flag c.flags) && has_init c public_or_protected && is_open O N c) x) (both_first (is_extendable O N x) (is_steady O N x) (both_first (is_extendable O N x && is_steady O N x) (not (is_class_closed O N x)) h)))
+  base_loads x h = usable_loads x (first_so (is_class_usable O x) (class_is O (λ c. not (interface_flag c.flags) && not (final_flag c.flags) && has_init c public_or_protected && is_open O N c) x) (first_so (is_extendable O N x) (is_steady O N x) (first_so (is_extendable O N x && is_steady O N x) (not (is_class_closed O N x)) h)))
 
   seat_loads : (test : Bytes → Bool) (a : Bytes) → first_seat O N test ≡ Some a → load_fault O a ≡ None
   seat_loads test a e = go (test object_name) e
     where
       go : (b : Bool) → cond b (Some object_name) (least (λ s. is_base_class O N s && test s) (classes O)) ≡ Some a → load_fault O a ≡ None
       go true q = let k : object_name ≡ a = cc in subst (λ y. load_fault O y ≡ None) k root_loads
-      go false q = base_loads a (both_first (is_base_class O N a) (test a) (least-passes (λ s. is_base_class O N s && test s) (classes O) a q))
+      go false q = base_loads a (first_so (is_base_class O N a) (test a) (least-passes (λ s. is_base_class O N s && test s) (classes O) a q))
 
   module _ (x : Bytes) (l : load_fault O x ≡ None) (k : Key) where
     look_up-alike : (form : Form) (then : DeclaredMember → Option LinkError) → look_up O form x k then ≡ look_up N form x k then
@@ -323,13 +321,9 @@ module _ (O N : World) (pair : IsPair O N) (empty : O.release ≡ []) where
         found : DeclaredMember → Bool
         found m = not (public_flag m.member.flags && no_static_flag m.member.flags)
 
-        and_none : (a : Bool) → (a && false) ≡ false
-        and_none true = refl
-        and_none false = refl
-
         go : (o : Option DeclaredMember) (r b : Bool) → (b && are_none (or_choices o (superinterface_choices O x k)) && some_and found o && r) ≡ false
-        go None r b = ap (λ t. t && r) (and_none (b && are_none (superinterface_choices O x k)))
-        go (Some m) r b = ap (λ t. t && found m && r) (and_none b)
+        go None r b = ap (λ t. t && r) (and-false (b && are_none (superinterface_choices O x k)))
+        go (Some m) r b = ap (λ t. t && found m && r) (and-false b)
 
     no_final : final_added O N x k ≡ false
     unfolding final_added

@@ -17,7 +17,7 @@ use Rattle.jc_promises.specs.rule.Findings.{Stands, subject_of, takes_part, find
 use Rattle.jc_promises.specs.rule.Exposed.{acts_on}
 use Rattle.jc_facts.specs.Names.{Bytes, same, object_name}
 use Rattle.jc_promises.specs.rule.OpenActs.{field_acts, method_acts}
-use Rattle.jc_promises.specs.rule.Bases.{is_class_usable, is_kept, is_key_of_method, is_base_class}
+use Rattle.jc_promises.specs.rule.Bases.{is_kept, is_key_of_method, is_base_class}
 use Rattle.jc_facts.specs.world.Inheritance.{is_final_in_chain}
 use Rattle.jc_facts.specs.world.World.{World, with_clients}
 use Rattle.jc_promises.specs.plan.PlannedNames.{fresh_package}
@@ -36,7 +36,7 @@ use Rattle.jc_complete.proofs.PlanReady.{ready_of}
 use Rattle.jc_complete.proofs.PlanRules.{TakePart, of_each_rule, ConstructorClosed, by_new, by_init, by_class_gone, by_class_closed, by_interface_became_class, by_superclass_lost, by_constructor_closed, by_method_made_final, by_field_closed, by_method_closed, by_interface_method_lost}
 use Rattle.jc_complete.proofs.PlanUses.{root_usable, kept_usable, became_parts, class_differs, cut_parts}
 use Rattle.jc_complete.proofs.PlanExposed.{IsPart, part_usable, part_of}
-use Rattle.jc_sound.proofs.Standing.{IsUsable, usable_parts}
+use Rattle.jc_sound.proofs.Standing.{IsUsable}
 use Rattle.jc_sound.proofs.UsableLaw.{findings_are_of_loaded}
 use Rattle.jc_worlds.proofs.Loaded.{loads-found}
 use Rattle.jc_lemmas.proofs.Options.{none_where}
@@ -66,9 +66,6 @@ module _ (O N : World) (can : CanWrite O N) where
 
   usable_named_by : (x : Bytes) → IsUsable O x → IsNamed x
   usable_named_by x p = named_there O (sound_old O N can) x p.class p.is_there
-
-  usable_named : (x : Bytes) → is_class_usable O x ≡ true → IsNamed x
-  usable_named x u = usable_named_by x (usable_parts O x u)
 
   -- ---- findings
 

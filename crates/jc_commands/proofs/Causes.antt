@@ -1,6 +1,5 @@
 -- Why a command has no report, and what it comes to.
 use Rattle.std.proofs.Common.{◌≡◌, ◌≤◌, inl, inr, List, [], ◌∷◌, map, Option, Some, None, refl, sym, ap, subst, ◌∙◌}
-use Rattle.std.specs.Prelude.{Ok, IsOkAnd}
 use Rattle.jc_base.specs.Outside.{FileOf}
 use Rattle.jc_base.specs.States.{TreesState, Change}
 use Rattle.jc_facts.specs.declared.class_facts.ClassFacts.{ClassFacts}
@@ -8,7 +7,6 @@ use Rattle.jc_facts.specs.declared.client.ClientClass.{ClientClass}
 use Rattle.jc_facts.specs.declared.outcome.Outcome.{Outcome}
 use Rattle.jc_facts.specs.declared.verdict.Verdict.{Verdict}
 use Rattle.jc_facts.specs.declared.warning.Warning.{Warning}
-use Rattle.jc_facts.specs.Names.{Bytes}
 use Rattle.jc_facts.specs.Options.{or_else}
 use Rattle.jc_promises.specs.rule.Verdict.{IsVerdict}
 use Rattle.jc_facts.specs.Verdicts.{count_of}
@@ -16,7 +14,6 @@ use Rattle.jc_facts.specs.client.Linked.{in_order}
 use Rattle.jc_promises.specs.Pairs.{IsPair}
 use Rattle.jc_facts.specs.world.World.{World, Modules, side, side_in, find_class}
 use Rattle.jc_sound.proofs.VerdictLaw.{verdict_is_one}
-use Rattle.jc_gate.specs.Gates.{GateOf}
 use Rattle.jc_link.specs.Refusals.{name_fault, with_part, first_refused, refused_client, RefusesLink, MayLink}
 use Rattle.jc_link.specs.declared.refusal.LinkRefusal.{LinkRefusal}
 use Rattle.jc_link.specs.declared.refusal.LinkRefusal.TheVariants as refusals
@@ -29,10 +26,10 @@ use Rattle.jc_releases.specs.declared.stop.Stop.TheVariants as stops
 use Rattle.jc_trees.specs.FirstTree.{IsFirstUnread}
 use Rattle.jc_trees.specs.declared.trees_error.TreesError.{TreesError}
 use Rattle.jc_trees.specs.declared.trees_error.TreesError.TheVariants as trees_errors
-use Rattle.jc_commands.specs.Causes.{HasCause, StopsCommand}
+use Rattle.jc_commands.specs.Causes.{StopsCommand}
 use Rattle.jc_commands.specs.Check.{CheckRecords, is_apart, over_findings, over_warnings, over_dropped, AreWarned, mismatch_of, puts_below}
 use Rattle.jc_trees.specs.ClassFiles.{Told}
-use Rattle.jc_releases.specs.Command.{trees_of, asked_of}
+use Rattle.jc_releases.specs.Command.{trees_of}
 use Rattle.jc_words.specs.Command.{CommandOf, CheckOf, LinkOf, HistoryOf, CheckCommand, LinkCommand, HistoryCommand}
 use Rattle.jc_commands.specs.History.{HistoryRecords}
 use Rattle.jc_commands.specs.steps.History.{IsJudged, StopsJudging}
@@ -50,7 +47,6 @@ use Rattle.jc_trees.specs.declared.tree_read.TreeRead.TheVariants as reads
 use Rattle.jc_commands.specs.ReportValue.{TellsOf, HasToShow, IsBare, puts_in, IsReportOf}
 use Rattle.jc_commands.proofs.Bodies.{bare_dir, bare_puts, bare_can}
 use Rattle.jc_commands.proofs.Compared.{some_broken, each_shown, show_dir, show_puts, can_show_any}
-use Rattle.jc_commands.proofs.Events.{for_ok}
 use Rattle.jc_commands.proofs.Records.{IsOfRecords, unfit_says, refusal_says, unfit_row_says, warned_few}
 use Rattle.jc_commands.proofs.SomeVerdict.{some_verdict, some_warnings}
 use Rattle.jc_commands.proofs.SomeDropped.{some_dropped}
@@ -157,20 +153,6 @@ module _ (command : CommandOf) (c : Change TreesState) where
 
   cause_memory : (stop : Stop) → stop ≡ stops.Memory → StopsCommand command c stop
   cause_memory stop h = subst (λ (s : Stop). StopsCommand command c s) (sym h) tt
-
-  -- the words ask for the command
-  pub cause_asked : (gates : List GateOf) (words : List Bytes) → Ok command ≡ asked_of gates words → (stop : Stop) → StopsCommand command c stop → HasCause gates words c stop
-  cause_asked gates words is stop h = by_stop stop h (for_ok (asked_of gates words) command (λ d. StopsCommand d c stop) (sym is) h)
-    where
-      by_stop : (stop : Stop) → StopsCommand command c stop → IsOkAnd (asked_of gates words) (λ d. StopsCommand d c stop) → HasCause gates words c stop
-      by_stop (stops.Unread name fault) h k = k
-      by_stop (stops.ReadFault name) h k = k
-      by_stop stops.Memory h k = tt
-      by_stop (stops.BadRoot p) h k = k
-      by_stop (stops.Overlap t x) h k = k
-      by_stop (stops.ClientName x p) h k = k
-      by_stop (stops.TooMany part) h k = k
-      by_stop (stops.Usage usage) h k = absurd h
 
 -- what the trees were read as, one by one
 told_reads : (content : Option (List FileOf)) (wanted trees : List TreeOf) (all taken : List TreeRead) → wanted ≡ trees → all ≡ taken → Told content (λ files. GiveAll files wanted all)

@@ -7,6 +7,7 @@ use Rattle.std.specs.List.{AllByRecursion, list_any, list_all, filter}
 use Rattle.std.specs.Str.{bytes_eq}
 use Rattle.std.proofs.lemmas.Bool.{eqb-true}
 use Rattle.std.proofs.lemmas.List.Elements.{recursion_from_All}
+use Rattle.std.proofs.Math.Bool.{and-true}
 use Rattle.jc_facts.specs.declared.finding.Finding.{Finding}
 use Rattle.jc_facts.specs.declared.verdict.Collision.{Collision}
 use Rattle.jc_facts.specs.declared.verdict.Verdict.{Verdict}
@@ -99,8 +100,4 @@ selected_pass name (g ∷ gs) step rules = by (bytes_eq g.label name) (selected_
 pub links_alone : (gates : List GateOf) (g : GateOf) → filter (λ (h : GateOf). bytes_eq h.label (codes "links")) gates ≡ g ∷ [] → IsGateBy (codes "links") has_no_finding g → (step : Option ℕ) (rules : List ℕ)
     → all_pass gates (codes "links" ∷ []) step rules ≡ has_no_finding rules
 links_alone gates g only is step rules =
-    selected_pass (codes "links") gates step rules ∙ ap (list_all (λ (h : GateOf). h.passes step rules)) only ∙ and_true (g.passes step rules) ∙ is.passes step rules
-  where
-    and_true : (b : Bool) → (b && true) ≡ b
-    and_true true = refl
-    and_true false = refl
+    selected_pass (codes "links") gates step rules ∙ ap (list_all (λ (h : GateOf). h.passes step rules)) only ∙ and-true (g.passes step rules) ∙ is.passes step rules

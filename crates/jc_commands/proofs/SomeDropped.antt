@@ -5,7 +5,7 @@
 use Rattle.std.proofs.Common.{◌≡◌, ◌≤◌, ◌∙◌, ◌==◌, ◌⊎◌, inl, inr, Bool, true, false, cond, ◌&&◌, ℕ, List, [], ◌∷◌, length, Option, Some, None, refl, sym, ap, subst}
 use Rattle.std.specs.Prelude.{IsTrue}
 use Rattle.std.specs.List.{Contains, filter_map}
-use Rattle.std.specs.Cmp.{IsTotalOrder, then_total, on_total}
+use Rattle.std.specs.Cmp.{IsTotalOrder, then_total, on_total, first_so, second_so}
 use Rattle.std.specs.Cmp.Lexicographic.{nat_list_cmp_total}
 use Rattle.std.proofs.lemmas.Bool.{or_cases, eqb-true}
 use Rattle.std.proofs.lemmas.List.Elements.{Contains-append_left}
@@ -22,7 +22,6 @@ use Rattle.jc_facts.specs.world.World.{World, classes, find_class, size}
 use Rattle.jc_facts.proofs.InOrder.{exact_same}
 use Rattle.jc_facts.proofs.Same.{same_is}
 use Rattle.jc_facts.proofs.World.{find-name}
-use Rattle.jc_lemmas.proofs.Bools.{both_first, both_last}
 use Rattle.jc_lemmas.proofs.Listed.{EachOf}
 use Rattle.jc_worlds.proofs.Descent.{descend-absent}
 use Rattle.jc_sound.proofs.ExactLists.{exact_list}
@@ -92,9 +91,9 @@ module _ (O N : World) where
   was_above : (d : Dropped) → IsDropped O N d → is_superinterface O d.«class» d.interface ≡ true
   unfolding is_dropped loses_interface has_lost
   was_above d h =
-      let loses = both_first (loses_interface O N d.«class» d.interface) _ h in
-      let lost = both_last _ (has_lost O N d.«class» d.interface) loses in
-      both_last (is_steady O N d.interface) (is_superinterface O d.«class» d.interface) (both_first (is_steady O N d.interface && is_superinterface O d.«class» d.interface) _ lost)
+      let loses = first_so (loses_interface O N d.«class» d.interface) _ h in
+      let lost = second_so _ (has_lost O N d.«class» d.interface) loses in
+      second_so (is_steady O N d.interface) (is_superinterface O d.«class» d.interface) (first_so (is_steady O N d.interface && is_superinterface O d.«class» d.interface) _ lost)
 
   nothing_above : (x t : Bytes) → find_class O x ≡ None → is_superinterface O x t ≡ false
   unfolding superinterfaces interfaces_of chain

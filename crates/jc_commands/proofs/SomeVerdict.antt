@@ -7,6 +7,7 @@ use Rattle.std.specs.Ordering.{nat_cmp, ordering_then}
 use Rattle.std.specs.Option.{option_cmp}
 use Rattle.std.proofs.lemmas.Bool.{eqb-true, or_left}
 use Rattle.std.proofs.lemmas.List.Elements.{Contains-append_left, Contains-append_right}
+use Rattle.std.specs.Cmp.{first_so, second_so}
 use Rattle.jc_facts.specs.declared.class_facts.ClassFacts.{ClassFacts}
 use Rattle.jc_facts.specs.declared.class_facts.Member.{Member}
 use Rattle.jc_facts.specs.declared.finding.Finding.{Finding}
@@ -52,7 +53,6 @@ use Rattle.jc_sound.proofs.KeyLaws.{keys_are_declared, collision_keys_are_declar
 use Rattle.jc_sound.proofs.ClientItems.{chain-names}
 use Rattle.jc_sound.proofs.Standing.{usable_parts}
 use Rattle.jc_sound.proofs.UsableLaw.{Needs, none_needs, cond_needs, either_needs, findings_are_of_loaded, collisions_are_of_usable}
-use Rattle.jc_lemmas.proofs.Bools.{both_first, both_last}
 use Rattle.jc_lemmas.proofs.Options.{none_where}
 use Rattle.jc_facts.proofs.World.{find-name, class_named-name}
 use Rattle.jc_sides.proofs.Subjects.{subject_order}
@@ -80,7 +80,7 @@ finding_rule O N s (Some k) (Some t) = none_needs Finding (Contains rules s.rule
 
 of_kept : (O N : World) (x : Bytes) → is_kept O N x ≡ true → is_class_usable O x ≡ true
 unfolding is_kept
-of_kept O N x h = both_first (is_class_usable O x) (is_class_usable N x) h
+of_kept O N x h = first_so (is_class_usable O x) (is_class_usable N x) h
 
 -- the target of a finding stood above its class
 target_above : (O N : World) (s : Subject) (k : Option Key) (t : Bytes) → Needs (in_chain O s.«class» t ≡ true) (finding_by O N s k (Some t))
@@ -88,8 +88,8 @@ unfolding superclass_lost
 target_above O N s None t =
     either_needs (in_chain O s.«class» t ≡ true) (s.rule == 4) (superclass_lost O N s t) None
     (cond_needs (in_chain O s.«class» t ≡ true) (not (same s.«class» t) && in_chain O s.«class» t && not (in_chain N s.«class» t) && not (is_interface_of N t)) _
-    (λ h. both_last (not (same s.«class» t)) (in_chain O s.«class» t) (both_first (not (same s.«class» t) && in_chain O s.«class» t) (not (in_chain N s.«class» t))
-    (both_first (not (same s.«class» t) && in_chain O s.«class» t && not (in_chain N s.«class» t)) (not (is_interface_of N t)) h))))
+    (λ h. second_so (not (same s.«class» t)) (in_chain O s.«class» t) (first_so (not (same s.«class» t) && in_chain O s.«class» t) (not (in_chain N s.«class» t))
+    (first_so (not (same s.«class» t) && in_chain O s.«class» t && not (in_chain N s.«class» t)) (not (is_interface_of N t)) h))))
     (none_needs Finding (in_chain O s.«class» t ≡ true))
 target_above O N s (Some k) t = none_needs Finding (in_chain O s.«class» t ≡ true)
 
@@ -389,15 +389,11 @@ module _ (O N : World) (pair : IsPair O N) where
   -- a key that a class of the old release has a constant of is one of those that classes declare
   constant_key : (x : Bytes) (k : Key) → changes_constant O N x k ≡ true → Contains (keys O N) k
   unfolding has_lost_constant
-  constant_key x k h = go (in_release O x) refl (in_release N x) (and_right_of (is_kept O N x) _ h)
+  constant_key x k h = go (in_release O x) refl (in_release N x) (second_so (is_kept O N x) _ h)
     where
-      and_right_of : (a b : Bool) → (a && b) ≡ true → b ≡ true
-      and_right_of true b e = e
-      and_right_of false b e = absurd (cc)
-
       field : (c d : ClassFacts) → has_lost_constant c d k ≡ true → is_some (own_field_of c k) ≡ true
-      field c d e = has (λ m. static_flag m.flags && final_flag m.flags) (own_field_of c k) (both_first (has_static_final c k) (is_some (own_field_of d k))
-          (both_first (has_static_final c k && is_some (own_field_of d k)) (some_and (λ v. not (some_and (same_constant v) (value_of_constant d k))) (value_of_constant c k)) e))
+      field c d e = has (λ m. static_flag m.flags && final_flag m.flags) (own_field_of c k) (first_so (has_static_final c k) (is_some (own_field_of d k))
+          (first_so (has_static_final c k && is_some (own_field_of d k)) (some_and (λ v. not (some_and (same_constant v) (value_of_constant d k))) (value_of_constant c k)) e))
         where
           has : (test : Member → Bool) (o : Option Member) → some_and test o ≡ true → is_some o ≡ true
           has test None q = absurd (cc)
@@ -414,7 +410,7 @@ module _ (O N : World) (pair : IsPair O N) where
   note_covered (note.Unloadable false x e) h =
       covered O N (on_subject 1 x None None) (is_rule 1 refl) (released N x in_new h.0) (none_or (keys O N) None (λ k is. absurd (let clash : None ≡ Some k = is in cc))) (none_or (names O N) None (λ t is. absurd (let clash : None ≡ Some t = is in cc)))
   note_covered (note.Fixed x k) h =
-      covered O N (on_subject 2 x (Some k) None) (is_rule 2 refl) (usable_name x (of_kept O N x (both_first (is_kept O N x) _ h)))
+      covered O N (on_subject 2 x (Some k) None) (is_rule 2 refl) (usable_name x (of_kept O N x (first_so (is_kept O N x) _ h)))
       (none_or (keys O N) (Some k) (λ l is. let same : k ≡ l = cc in subst (Contains (keys O N)) same (constant_key x k h)))
       (none_or (names O N) None (λ t is. absurd (let clash : None ≡ Some t = is in cc)))
 

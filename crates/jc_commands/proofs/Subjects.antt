@@ -84,9 +84,6 @@ none_or {T} xs None h = here None (map (λ (x : T). Some x) xs)
 none_or {T} xs (Some x) h = there (Some x) None (map (λ (x : T). Some x) xs) (in_map (λ (x : T). Some x) xs x (h x refl))
 
 module _ (O N : World) where
-  abbrev pub both_classes : List ClassFacts
-  both_classes = classes O ++ classes N
-
   abbrev pub names : List Bytes
   names = map (λ (c : ClassFacts). c.name) (classes O ++ classes N)
 

@@ -3,6 +3,7 @@ use Rattle.std.proofs.Common.{◌≡◌, ℕ, Bool, true, false, List, [], ◌�
 use Rattle.std.proofs.lemmas.Bool.{and_from, both_ways, or_right}
 use Rattle.std.proofs.lemmas.List.Elements.{All-from_recursion, Contains-push}
 use Rattle.std.specs.List.{list_all}
+use Rattle.std.proofs.Math.Bool.{or-true}
 use Rattle.jc_facts.specs.declared.verdict.Spot.TheVariants as spot
 use Rattle.jc_facts.specs.declared.class_facts.ClassFacts.{ClassFacts}
 use Rattle.jc_facts.specs.declared.class_facts.Member.{Member}
@@ -62,13 +63,9 @@ pub record AreMethods (flags : ℕ) (ms : List Member) : Type 0 where
 pub open_member : (W : World) (a : Bytes) (m : DeclaredMember) → public_or_protected m.member ≡ true → in_chain W a m.owner ≡ true → in_chain W a a ≡ true → is_member_open W a a m ≡ true
 open_member W a m p i j = go (public_flag m.member.flags) (protected_flag m.member.flags) p
   where
-    last : (s : Bool) → (s || true) ≡ true
-    last true = refl
-    last false = refl
-
     go : (u t : Bool) → (u || t) ≡ true → (u || (t && in_chain W a m.owner && (static_flag m.member.flags || in_chain W a a))) ≡ true
     go true t h = refl
-    go false true h = rw (i, j) (last (static_flag m.member.flags))
+    go false true h = rw (i, j) (or-true (static_flag m.member.flags))
     go false false h = absurd (let z : false ≡ true = h in cc)
 
 module _ (O N : World) (w : Bytes) (r : Ready O N w) (a : Bytes) (u : IsUsable O a) (kind : interface_flag u.class.flags ≡ false) (extensible : final_flag u.class.flags ≡ false) (y : Bytes) (own : OldName O N u.class y)

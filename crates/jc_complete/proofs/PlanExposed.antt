@@ -5,8 +5,7 @@ use Rattle.std.proofs.lemmas.Bool.{and_parts, and_from, or_cases, or_left}
 use Rattle.std.proofs.lemmas.List.{length-append, length-map}
 use Rattle.std.proofs.lemmas.List.Elements.{Contains-append_left, Contains-append_right, Contains-push}
 use Rattle.std.proofs.lemmas.List.Folds.{list_all-append}
-use Rattle.std.proofs.lemmas.Option.{slice_get_read}
-use Rattle.std.proofs.Math.Seq.{get_or-append_seam}
+use Rattle.jc_lemmas.proofs.Lists.{get_pushed}
 use Rattle.jc_desc.specs.Names.{spells_class_name}
 use Rattle.jc_desc.specs.Utf8.{is_modified_utf8}
 use Rattle.jc_desc.specs.Classes.{descriptor_names}
@@ -145,14 +144,11 @@ part_of O N valid a x h = go (or_cases (is_class_usable O x && is_class_usable N
 
 -- ---- the last item
 
-at_end : {A : Type 0} (xs : List A) (z : A) → slice_get (xs ++ z ∷ []) (length xs) ≡ Some z
-at_end xs z = slice_get_read (xs ++ z ∷ []) (length (xs ++ z ∷ [])) (length xs) z refl (let l = length-append xs (z ∷ []) in omega (arith, l)) (sym (get_or-append_seam xs z [] z))
-
 spot_at : {A B : Type 0} (i : B) (f : A → B) (xs : List A) (z : B) → slice_get (i ∷ (map f xs ++ z ∷ [])) (length xs + 1) ≡ Some z
 spot_at i f xs z =
     let l = length-map xs f in
     let e : length xs + 1 ≡ length (i ∷ map f xs) = omega (arith, l) in
-    ap (slice_get (i ∷ (map f xs ++ z ∷ []))) e ∙ at_end (i ∷ map f xs) z
+    ap (slice_get (i ∷ (map f xs ++ z ∷ []))) e ∙ get_pushed (i ∷ map f xs) z
 
 -- ---- the client
 

@@ -43,6 +43,7 @@ use Rattle.jc_complete.specs.Completeness.{LinksWhole, Shows}
 use Rattle.jc_facts.proofs.Same.{same_itself, same_is}
 use Rattle.jc_worlds.proofs.Clients.{Fits, find-client, client_accessible}
 use Rattle.std.proofs.lemmas.List.Folds.{list_any-append}
+use Rattle.std.proofs.Math.Bool.{or-false}
 use Rattle.jc_worlds.proofs.Inherited.{superinterface_choices-public}
 use Rattle.jc_worlds.proofs.Loaded.{unroll}
 use Rattle.jc_worlds.proofs.Locality.{field_step-local}
@@ -206,13 +207,9 @@ module _ (O N : World) (w : Bytes) (r : Ready O N w) (c : Bytes) (b : IsBaseInte
     unfolding each
     offered =
         ap (list_any (offers k)) (superinterfaces-interface V r.root (root_find W (J.facts ∷ U.facts ∷ []) f r.root r.is_root w p) r.is_root.superclass r.is_root.interfaces j J.facts find_j loads_j refl)
-        ∙ list_any-append (offers k) (with_interfaces V c) [] ∙ last (list_any (offers k) (with_interfaces V c))
+        ∙ list_any-append (offers k) (with_interfaces V c) [] ∙ or-false (list_any (offers k) (with_interfaces V c))
         ∙ ap (list_any (offers k)) (lib_with W (J.facts ∷ U.facts ∷ []) f c (record { class = v.class; is_there = v.is_there; loaded = v.loaded; interface = kind }))
         ∙ sym (inherits-with W r.root p.there r.is_root.superclass r.is_root.interfaces c v.class k v.is_there v.loaded (interface_super W r.root p.there r.is_root.class c v.class v.is_there (p.valid c v.class v.is_there) kind))
-      where
-        last : (t : Bool) → (t || false) ≡ t
-        last true = refl
-        last false = refl
 
     same_method : public_method_of_object V k ≡ public_method_of_object W k
     unfolding public_method_of_object

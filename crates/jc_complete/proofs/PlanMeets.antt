@@ -1,6 +1,6 @@
 -- What planned clients meet of collisions.
 use Rattle.std.proofs.Common.{◌≡◌, ℕ, Bool, true, false, cond, List, [], ◌∷◌, ◌++◌, refl, sym, ◌∙◌, ap, subst, Option, Some, None, is_some, not, ◌&&◌, ◌||◌, inl, inr, ◌⊎◌, Contains, codes}
-use Rattle.std.proofs.lemmas.Bool.{and_parts, both_ways, not-true}
+use Rattle.std.proofs.lemmas.Bool.{and_parts, both_ways, not-true, and_right}
 use Rattle.std.specs.List.{list_any, find as first_where}
 use Rattle.jc_desc.specs.Names.{is_init_name, is_clinit_name}
 use Rattle.jc_facts.specs.declared.class_facts.ClassFacts.{ClassFacts}
@@ -184,12 +184,8 @@ module _ (W : World) (cs : List ClassFacts) (f : Fits W cs) where
           apart : (c : ClassFacts) → is_client V c.name ≡ false → (is_client V c.name && is_name_among c.interfaces i) ≡ false
           apart c e = rw e refl
 
-          last : (a b : Bool) → b ≡ false → (a && b) ≡ false
-          last true b e = e
-          last false b e = refl
-
           own : (is_client V c.name && is_name_among c.interfaces i) ≡ false
-          own = last (is_client V c.name) (is_name_among c.interfaces i) (ap (λ is. is_name_among is i) is)
+          own = and_right (is_client V c.name) (is_name_among c.interfaces i) (ap (λ is. is_name_among is i) is)
 
       -- where it doesn't declare the key, its lookup is that of the class above it
       pub choices_below : (k : Key) → own_method_of c k ≡ None → method_choices V x k ≡ method_choices W s k

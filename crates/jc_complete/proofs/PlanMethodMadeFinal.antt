@@ -3,6 +3,7 @@ use Rattle.std.proofs.Common.{◌≡◌, Bool, true, false, cond, List, [], ◌�
 use Rattle.std.proofs.lemmas.Bool.{and_parts, both_ways, not-true, or_cases, or_left, or_right}
 use Rattle.std.proofs.lemmas.List.Elements.{Contains-push}
 use Rattle.std.specs.List.{list_any}
+use Rattle.std.proofs.Math.Bool.{or-false}
 use Rattle.jc_desc.specs.Names.{is_init_name, is_clinit_name, spells_member_name}
 use Rattle.jc_desc.specs.Utf8.{is_modified_utf8}
 use Rattle.jc_desc.specs.Reading.{slots_of_method}
@@ -201,11 +202,7 @@ module _ (O N : World) (w : Bytes) (r : Ready O N w) (a : Bytes) (b : IsBase O N
 
   over_is : (above : List ClassFacts) → overrides_some_final y (init_method ∷ abstract_method k ∷ []) above ≡ reaches_final k (mine ∷ []) above
   unfolding overrides_some_final
-  over_is above = let p = plain_key k key in rw (p.0, p.1) (last (reaches_final k (mine ∷ []) above))
-    where
-      last : (t : Bool) → (t || false) ≡ t
-      last true = refl
-      last false = refl
+  over_is above = let p = plain_key k key in rw (p.0, p.1) (or-false (reaches_final k (mine ∷ []) above))
 
   over_o : overrides_some_final y (init_method ∷ abstract_method k ∷ []) (chain VO a) ≡ false
   unfolding is_final_in_chain

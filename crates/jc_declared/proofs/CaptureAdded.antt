@@ -1,7 +1,7 @@
 -- What the collision of methods that are found before those of a client's interfaces makes.
-use Rattle.std.proofs.Common.{◌≡◌, ℕ, Bool, true, false, not, cond, List, [], ◌∷◌, refl, sym, ◌∙◌, ap, Option, Some, None, is_none, ◌&&◌, ◌||◌, ◌⊎◌, inl, inr}
+use Rattle.std.proofs.Common.{◌≡◌, ℕ, Bool, true, false, not, cond, [], ◌∷◌, refl, sym, ◌∙◌, ap, Option, Some, None, ◌&&◌, ◌||◌, ◌⊎◌, inl, inr}
 use Rattle.std.specs.List.{Contains}
-use Rattle.std.proofs.lemmas.Bool.{and_parts}
+use Rattle.std.proofs.lemmas.Bool.{and_parts, not-true}
 use Rattle.std.proofs.lemmas.List.Elements.{recursion_from_All}
 use Rattle.jc_facts.specs.declared.act.Act.TheVariants.{InvokeVirtual}
 use Rattle.jc_facts.specs.declared.key.Key.{Key}
@@ -20,8 +20,8 @@ use Rattle.jc_facts.specs.Options.{some_and, some_where}
 use Rattle.jc_facts.specs.Orders.{collision_order}
 use Rattle.jc_facts.specs.world.World.{World, DeclaredMember}
 use Rattle.jc_promises.specs.rule.Bases.{is_base_class, is_key_of_method}
-use Rattle.jc_lemmas.proofs.Bools.{neither_last, not_true}
-use Rattle.jc_lemmas.proofs.Listed.{none, each_in}
+use Rattle.jc_lemmas.proofs.Bools.{neither_last}
+use Rattle.jc_lemmas.proofs.Listed.{each_in}
 use Rattle.jc_worlds.specs.Agreement.{LooksTheSame}
 use Rattle.jc_worlds.specs.Choices.{IsPublicInstance}
 use Rattle.jc_worlds.proofs.ChoiceLaws.{inherited_are_public}
@@ -43,13 +43,6 @@ use Rattle.jc_acts.proofs.Untouched.{looks_alike}
 use Rattle.jc_declared.proofs.ChangedClasses.{collision_of_changed}
 use Rattle.jc_declared.specs.steps.Changed.{changed_class}
 use Rattle.jc_sound.proofs.Opening.{one-is}
-
--- the table's lookup finds none where the world's finds nothing
-pub choice_none : (W : World) (f : Option Found) (ms : List DeclaredMember) → IsChoice W f ms → is_none f ≡ are_none ms
-choice_none W None [] c = refl
-choice_none W None (m ∷ ms) c = absurd (cc)
-choice_none W (Some f) [] c = absurd (none c.0 c.1)
-choice_none W (Some f) (m ∷ ms) c = refl
 
 -- ---- as the code tests it
 
@@ -104,7 +97,7 @@ public_fails m p = rw (p.0, p.1) refl
 
 inherited_fails : (W : World) → IsSide W → (x : Bytes) (k : Key) → load_fault W x ≡ None → is_key_of_method k ≡ true → (m : DeclaredMember) → Contains (superinterface_choices W x k) m → fails m ≡ false
 inherited_fails W d x k l h m c =
-    public_fails m (each_in IsPublicInstance (superinterface_choices W x k) m (recursion_from_All IsPublicInstance (superinterface_choices W x k) (inherited_are_public W (classes_valid W d) x k l (neither_last (is_init_name k.name) (is_clinit_name k.name) (not_true (is_init_name k.name || is_clinit_name k.name) h)))) c)
+    public_fails m (each_in IsPublicInstance (superinterface_choices W x k) m (recursion_from_All IsPublicInstance (superinterface_choices W x k) (inherited_are_public W (classes_valid W d) x k l (neither_last (is_init_name k.name) (is_clinit_name k.name) (not-true (is_init_name k.name || is_clinit_name k.name) h)))) c)
 
 none_passed : (c m n r : Bool) → (c ≡ false) ⊎ (m ≡ false) → (c && m && n && r) ≡ false
 none_passed false m n r h = refl

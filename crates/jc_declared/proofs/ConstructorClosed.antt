@@ -1,6 +1,8 @@
 -- What the rule on constructors finds, of a class's two records.
 use Rattle.std.proofs.Common.{◌≡◌, ℕ, Bool, true, false, cond, not, ◌&&◌, refl, sym, ◌∙◌, ap, Option, Some, None}
 use Rattle.std.proofs.lemmas.Bool.{and_parts}
+use Rattle.std.specs.Cmp.{second_so}
+use Rattle.std.proofs.Math.Bool.{and-false}
 use Rattle.jc_facts.specs.declared.act.Act.TheVariants as act
 use Rattle.jc_facts.specs.declared.class_facts.ClassFacts.{ClassFacts}
 use Rattle.jc_facts.specs.declared.class_facts.Member.{Member}
@@ -22,7 +24,6 @@ use Rattle.jc_lemmas.proofs.Lists.{found_passes}
 use Rattle.jc_worlds.proofs.Loaded.{loads-found}
 use Rattle.jc_sound.proofs.Standing.{usable_parts}
 use Rattle.jc_sound.proofs.UsableLaw.{Needs, or_else_needs, and_then_needs}
-use Rattle.jc_lemmas.proofs.Bools.{both_last, and_never}
 use Rattle.jc_declared.specs.steps.Constructors.{makes_no_objects, open_flags, declares_init, why_closed, fault_of_new, fault_of_super}
 use Rattle.jc_declared.specs.steps.Own.{flags_of, method_flags_of}
 use Rattle.jc_sides.specs.BrokenOf.{BrokenOf, broken_if, found}
@@ -47,7 +48,7 @@ on_5 = record { not_1 = refl; not_2 = refl; not_3 = refl; not_4 = refl }
 
 -- by the flags of what the class declares
 had_flags : (test : ℕ → Bool) (k : Key) (o : Option Member) → (is_init_name k.name && some_and (λ (m : Member). test m.flags) o) ≡ declares_init test k (flags_of o)
-had_flags test k None = and_never (is_init_name k.name)
+had_flags test k None = and-false (is_init_name k.name)
 had_flags test k (Some m) = refl
 
 closed_flags : (test : ℕ → Bool) (o : Option Member) → missing_or (λ (m : Member). fault_where (not (test m.flags)) IllegalAccessError) o ≡ why_closed test (flags_of o)
@@ -140,8 +141,8 @@ module _ (s : SidesOf) (x : Bytes) (c d : ClassFacts) (before : Some c ≡ find_
   unfolding Needs
   init_declared f h =
       or_else_needs (has_member (λ m. is_init_name m.name) c.methods k ≡ true) _ _
-      (and_then_needs (has_member (λ m. is_init_name m.name) c.methods k ≡ true) (report (on_key 5 x k) act.NewObject None) (not (makes_no_objects c) && declares_init (λ f. public_flag f) k was_of) _ (λ e. declared (λ f. public_flag f) (both_last (not (makes_no_objects c)) (declares_init (λ f. public_flag f) k was_of) e)))
-      (and_then_needs (has_member (λ m. is_init_name m.name) c.methods k ≡ true) (report (on_key 5 x k) act.InitSuper None) (is_base_class s.old s.new x && declares_init (λ f. open_flags f) k was_of) _ (λ e. declared (λ f. open_flags f) (both_last (is_base_class s.old s.new x) (declares_init (λ f. open_flags f) k was_of) e)))
+      (and_then_needs (has_member (λ m. is_init_name m.name) c.methods k ≡ true) (report (on_key 5 x k) act.NewObject None) (not (makes_no_objects c) && declares_init (λ f. public_flag f) k was_of) _ (λ e. declared (λ f. public_flag f) (second_so (not (makes_no_objects c)) (declares_init (λ f. public_flag f) k was_of) e)))
+      (and_then_needs (has_member (λ m. is_init_name m.name) c.methods k ≡ true) (report (on_key 5 x k) act.InitSuper None) (is_base_class s.old s.new x && declares_init (λ f. open_flags f) k was_of) _ (λ e. declared (λ f. open_flags f) (second_so (is_base_class s.old s.new x) (declares_init (λ f. open_flags f) k was_of) e)))
       f (sym finding_is ∙ h)
 
 -- ---- where it stands
@@ -158,7 +159,7 @@ of_inits s x steady k f m =
 -- what is declared with flags that pass isn't closed
 still_open : (test : ℕ → Bool) (k : Key) (was : Option ℕ) → declares_init test k was ≡ true → why_closed test was ≡ None
 still_open test k None h = absurd (cc)
-still_open test k (Some f) h = rw (both_last (is_init_name k.name) (test f) h) refl
+still_open test k (Some f) h = rw (second_so (is_init_name k.name) (test f) h) refl
 
 none_of_new : (c : ClassFacts) (k : Key) (was : Option ℕ) → fault_of_new c c k was was ≡ None
 none_of_new c k was = go (makes_no_objects c) (declares_init (λ f. public_flag f) k was) refl

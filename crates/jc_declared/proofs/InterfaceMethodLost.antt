@@ -1,6 +1,6 @@
 -- What the rule on methods that interfaces don't inherit any more finds.
 use Rattle.std.proofs.Common.{◌≡◌, ℕ, Bool, true, false, not, cond, refl, sym, ◌∙◌, ap, subst, Option, Some, None, is_some, is_none, ◌&&◌, ◌||◌, List, [], ◌∷◌, ◌⊎◌, inl, inr}
-use Rattle.std.proofs.lemmas.Bool.{and_parts, or_left, both_ways}
+use Rattle.std.proofs.lemmas.Bool.{and_parts, or_left, both_ways, and_left}
 use Rattle.std.specs.List.{list_any, Contains}
 use Rattle.jc_facts.specs.declared.act.Act.TheVariants.{Inherit}
 use Rattle.jc_facts.specs.declared.class_facts.ClassFacts.{ClassFacts}
@@ -206,15 +206,11 @@ module _ (W : World) (k : Key) where
     and_public true q h = refl
     and_public false q h = absurd (cc)
 
-    and_hidden : (p q : Bool) → p ≡ false → (p && q) ≡ false
-    and_hidden true q h = absurd (cc)
-    and_hidden false q h = refl
-
     pub declared_public : (m : Member) (r : Bool) → Some m ≡ own_method_of c k → public_flag m.flags ≡ true → r ≡ static_flag m.flags → not r ≡ is_some (public_method_of_object W k)
     declared_public m r o p q = ap not q ∙ sym (declared m o ∙ and_public (public_flag m.flags) (no_static_flag m.flags) p)
 
     pub declared_hidden : (m : Member) (r : Bool) → Some m ≡ own_method_of c k → r ≡ public_flag m.flags → r ≡ false → r ≡ is_some (public_method_of_object W k)
-    declared_hidden m r o p h = h ∙ sym (declared m o ∙ and_hidden (public_flag m.flags) (no_static_flag m.flags) (sym p ∙ h))
+    declared_hidden m r o p h = h ∙ sym (declared m o ∙ and_left (public_flag m.flags) (no_static_flag m.flags) (sym p ∙ h))
 
 -- ---- where it stands
 

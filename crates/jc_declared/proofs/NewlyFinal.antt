@@ -1,7 +1,7 @@
 -- Methods that are final now: what the lookup finds of them on the old side.
 use Rattle.std.proofs.Common.{◌≡◌, ℕ, Bool, true, false, not, ◌||◌, ◌&&◌, List, [], ◌∷◌, refl, sym, ◌∙◌, ap, Option, Some, None, ◌⊎◌, inl, inr}
 use Rattle.std.specs.List.{list_any, Contains}
-use Rattle.std.proofs.lemmas.Bool.{and_parts, both_ways}
+use Rattle.std.proofs.lemmas.Bool.{and_parts, both_ways, not-true}
 use Rattle.std.proofs.lemmas.List.Elements.{recursion_from_All}
 use Rattle.jc_facts.specs.declared.key.Key.{Key}
 use Rattle.jc_facts.specs.Names.{Bytes}
@@ -14,12 +14,11 @@ use Rattle.jc_facts.specs.world.Lookup.{method_choices, or_choices, first_declar
 use Rattle.jc_promises.specs.rule.Bases.{is_key_of_method}
 use Rattle.jc_facts.specs.world.Inheritance.{declares_as_final, is_final_in_chain, public_or_protected}
 use Rattle.jc_promises.specs.rule.Findings.{finds_overridable, first_passes}
-use Rattle.jc_lemmas.proofs.Bools.{neither_last, not_true}
+use Rattle.jc_lemmas.proofs.Bools.{neither_last}
 use Rattle.jc_lemmas.proofs.Listed.{EachOf, none, cases, each_in}
 use Rattle.jc_worlds.specs.Agreement.{LooksTheSame}
 use Rattle.jc_worlds.specs.Choices.{IsPublicInstance}
 use Rattle.jc_worlds.proofs.ChoiceLaws.{inherited_are_public}
-use Rattle.jc_declared.specs.steps.Methods.{becomes_final}
 use Rattle.jc_sides.specs.SidesOf.{SidesOf}
 use Rattle.jc_index.specs.Sides.{IsSide}
 use Rattle.jc_index.specs.Lookups.{IsChoice}
@@ -55,7 +54,7 @@ unfolding method_choices or_choices
 chosen W s x k l h m c = go (first_declared k (chain W x)) c
   where
     go : (o : Option DeclaredMember) → Contains (or_choices o (superinterface_choices W x k)) m → passes m ≡ first_passes passes (or_choices o (superinterface_choices W x k))
-    go None d = passes_alike (superinterface_choices W x k) (public_each (superinterface_choices W x k) (recursion_from_All IsPublicInstance (superinterface_choices W x k) (inherited_are_public W (classes_valid W s) x k l (neither_last (is_init_name k.name) (is_clinit_name k.name) (not_true (is_init_name k.name || is_clinit_name k.name) h))))) m d
+    go None d = passes_alike (superinterface_choices W x k) (public_each (superinterface_choices W x k) (recursion_from_All IsPublicInstance (superinterface_choices W x k) (inherited_are_public W (classes_valid W s) x k l (neither_last (is_init_name k.name) (is_clinit_name k.name) (not-true (is_init_name k.name || is_clinit_name k.name) h))))) m d
     go (Some n) d = ap passes (only_one n m d)
 
 -- whatever the table's lookup chooses
@@ -67,17 +66,13 @@ choice_passes W s x k l h f i =
 pub choice_none : (W : World) (x : Bytes) (k : Key) → IsChoice W None (method_choices W x k) → finds_overridable W x k ≡ false
 choice_none W x k e = ap (first_passes passes) e
 
--- the key is no initializer's
-pub newly_key : (s : SidesOf) (x : Bytes) (k : Key) → becomes_final s x k ≡ true → is_key_of_method k ≡ true
-newly_key s x k h = (and_parts (is_key_of_method k) (not (is_final_in_chain s.old x k)) (and_parts (is_key_of_method k && not (is_final_in_chain s.old x k)) (is_final_in_chain s.new x k) h).0).0
-
 -- where all lookups are as they were, no key is
 pub not_newly : (s : SidesOf) (x : Bytes) (k : Key) → LooksTheSame s.old s.new x → (a b o : Bool) → (a && b && is_final_in_chain s.new x k && not (is_final_in_chain s.old x k) && o) ≡ true → ⊥
 unfolding is_final_in_chain
 not_newly s x k same a b o h =
     let p = and_parts (a && b && is_final_in_chain s.new x k && not (is_final_in_chain s.old x k)) o h in
     let q = and_parts (a && b && is_final_in_chain s.new x k) (not (is_final_in_chain s.old x k)) p.0 in
-    both_ways (is_final_in_chain s.new x k) (sym alike ∙ not_true (is_final_in_chain s.old x k) q.1) (and_parts (a && b) (is_final_in_chain s.new x k) q.0).1
+    both_ways (is_final_in_chain s.new x k) (sym alike ∙ not-true (is_final_in_chain s.old x k) q.1) (and_parts (a && b) (is_final_in_chain s.new x k) q.0).1
   where
     alike : is_final_in_chain s.old x k ≡ is_final_in_chain s.new x k
     alike = ap (list_any (declares_as_final k)) same.chain

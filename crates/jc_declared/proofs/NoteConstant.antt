@@ -6,7 +6,7 @@ use Rattle.std.specs.List.{Contains, find as first_where, filter_map, cons_optio
 use Rattle.std.specs.Ordering.{is_eq}
 use Rattle.std.specs.declared.cmp.Ordering.TheVariants.{Less}
 use Rattle.std.proofs.lemmas.Bool.{and_parts, both_ways}
-use Rattle.std.proofs.lemmas.List.{drop_all, at_drop_more}
+use Rattle.std.proofs.lemmas.List.{at_drop_more}
 use Rattle.std.proofs.lemmas.List.Elements.{All-contains_itself, filter_map-append}
 use Rattle.std.proofs.lemmas.Map.Views.{btree_map_contains_key_iff}
 use Rattle.jc_facts.specs.declared.class_facts.ClassFacts.{ClassFacts}
@@ -36,7 +36,7 @@ use Rattle.jc_index.specs.Ids.{names, name_at}
 use Rattle.jc_index.proofs.Merged.{two_lists}
 use Rattle.jc_index.specs.Sides.{IsSide}
 use Rattle.jc_index.proofs.Numbers.{names-in, names-length, names-rise}
-use Rattle.jc_declared.specs.steps.Notes.{HasConstants, AreConstants, fixed_at, value_in, changed_in, static_final_flags, constant_note, is_in_both, loses, IsConstantNote, OnConstants}
+use Rattle.jc_declared.specs.steps.Notes.{AreConstants, fixed_at, value_in, changed_in, static_final_flags, constant_note, is_in_both, loses, IsConstantNote, OnConstants}
 use Rattle.jc_declared.specs.steps.Own.{flags_of, field_flags_of}
 use Rattle.jc_declared.proofs.NoteUnloadable.{of_release, not_platform}
 use Rattle.jc_sides.specs.Rules.{IsItemRule, IsOf}
@@ -207,9 +207,6 @@ module _ (s : SidesOf) (are : AreSides s) (x : Bytes) (both : is_in_both s x ≡
 abbrev pub HasLast : List Fixed → ℕ → tree.BTreeMap Key (Bor Fixed) → Type 0
 HasLast fs n map = (q : Key) → option_map (λ f. f.now) (tree.get key_cmp map q) ≡ first_where (λ (f : Fixed). same_key f.key q) (drop (length fs - n) fs)
 
-pub last_none : (fs : List Fixed) (map : tree.BTreeMap Key (Bor Fixed)) → ((q : Key) → tree.get key_cmp map q ≡ None) → HasLast fs 0 map
-last_none fs map h q = ap (option_map (λ f. f.now)) (h q) ∙ sym (ap (first_where (λ (f : Fixed). same_key f.key q)) (drop_all (length fs - 0) fs (omega arith)))
-
 option_cond : (b : Bool) (x : Bor Fixed) (o : Option (Bor Fixed)) → option_map (λ f. f.now) (cond b (Some x) o) ≡ cond b (Some x.now) (option_map (λ f. f.now) o)
 option_cond true x o = refl
 option_cond false x o = refl
@@ -229,11 +226,6 @@ last_more fs n at x f k old new l e v is w h u q =
     ∙ ap (λ (g : Fixed). cond (p g) (Some g) (first_where p (drop (at + 1) fs))) is
     ∙ sym (at_drop_more (first_where p) fs at f b)
     ∙ ap (λ i. first_where p (drop i fs)) start
-
-pub last_all : (c : ClassFacts) (fs : List Fixed) (n : ℕ) (map : tree.BTreeMap Key (Bor Fixed)) → fs ≡ c.constants → length fs ≤ n → HasLast fs n map → HasConstants c map
-last_all c fs n map e l h q =
-    let z : length fs - n ≡ 0 = omega (arith, l) in
-    h q ∙ ap (λ i. first_where (λ (f : Fixed). same_key f.key q) (drop i fs)) z ∙ ap (first_where (λ (f : Fixed). same_key f.key q)) e
 
 -- ---- the classes
 

@@ -2,6 +2,7 @@
 use Rattle.std.proofs.Common.{◌≡◌, ℕ, Bool, true, false, not, ◌||◌, nat_eq, List, [], ◌∷◌, ◌++◌, refl, ap, subst, ◌∙◌, arith, inl, inr, IsTrue}
 use Rattle.std.proofs.lemmas.Bool.{eqb-true, and_parts, and_from}
 use Rattle.std.specs.List.{list_all}
+use Rattle.std.proofs.Math.Bool.{or-true}
 use Rattle.jc_desc.specs.Names.{is_byte_of_name, is_nil, is_name_part, joined_parts, IsClassName, is_rest_of_name, spells_class_name}
 use Rattle.jc_desc.proofs.Grammar.{chosen}
 
@@ -41,14 +42,11 @@ rest_is begins (b ∷ bs) h = elim (chosen (nat_eq b 47) _ _ _ h) [
         first = b ∷ r.first;
         others = r.others;
         letters = and_from _ _ t.0 r.letters;
-        some = or_true (not begins);
+        some = or-true (not begins);
         parts = r.parts;
         whole = ap (λ (rest : List ℕ). b ∷ rest) r.whole ∙ longer b r.first r.others;
       }
-] where
-  or_true : (a : Bool) → (a || true) ≡ true
-  or_true true = refl
-  or_true false = refl
+]
 
 no_slash : (b : ℕ) → is_byte_of_name b ≡ true → nat_eq b 47 ≡ false
 no_slash b h = go (nat_eq b 47) refl where

@@ -3,6 +3,7 @@ use Rattle.std.proofs.Common.{◌≡◌, ℕ, suc, Bool, true, false, ◌||◌, 
 use Rattle.std.specs.List.{list_any, All}
 use Rattle.std.proofs.lemmas.List.Elements.{All-append, All-nil}
 use Rattle.std.proofs.lemmas.List.Folds.{list_any-append}
+use Rattle.std.proofs.Math.Bool.{or-false}
 use Rattle.jc_facts.specs.declared.class_facts.ClassFacts.{ClassFacts}
 use Rattle.jc_facts.specs.Names.{Bytes}
 use Rattle.jc_facts.specs.Options.{some_and}
@@ -14,7 +15,6 @@ use Rattle.jc_index.specs.Above.{AreAbove}
 use Rattle.jc_index.specs.steps.Walking.{chain_from}
 use Rattle.jc_index.proofs.Walking.{from-step, from-none, from-nothing}
 use Rattle.jc_index.proofs.Reached.{any_reached}
-use Rattle.jc_lemmas.proofs.Bools.{or_false}
 use Rattle.jc_exposed.specs.Exposures.{exposes_to, IsExposureIn}
 use Rattle.jc_exposed.specs.Exposing.{Finds}
 use Rattle.jc_exposed.specs.declared.exposure.Exposure.{Exposure}
@@ -87,7 +87,7 @@ module _ (W : World) (on : ℕ → Bool) (p : Bytes → ℕ → ClassFacts → B
 
     ahead_nothing : (m : ℕ) (next : Option ℕ) (ms : List Exposure) → chain_from W m next ≡ [] → IsAhead W on p x m next ms → Finds W on (λ a t. list_any (p a t) (above W x)) ms
     ahead_nothing m next ms e i = record {
-      exposed = λ a t o. sym (or_false (list_any (exposes_to W a t) ms)) ∙ ap (λ b. list_any (exposes_to W a t) ms || b) (sym (up_nothing W (p a t) (chain_from W m next) e)) ∙ i.ahead a t o;
+      exposed = λ a t o. sym (or-false (list_any (exposes_to W a t) ms)) ∙ ap (λ b. list_any (exposes_to W a t) ms || b) (sym (up_nothing W (p a t) (chain_from W m next) e)) ∙ i.ahead a t o;
       inside = i.inside;
     }
 

@@ -7,12 +7,13 @@ use Rattle.std.proofs.lemmas.Grind.{get_or-set_at}
 use Rattle.std.proofs.lemmas.List.{get_or-set_other, length-set, take_all, take_more}
 use Rattle.std.proofs.lemmas.List.Elements.{All-append, All-cons, All-get_or, All-nil}
 use Rattle.std.proofs.lemmas.List.Folds.{list_any-append}
+use Rattle.std.proofs.Math.Bool.{or-false, or-true, and-false}
 use Rattle.jc_facts.specs.Flags.{public_flag, protected_flag, static_flag}
 use Rattle.jc_facts.specs.Names.{Bytes}
 use Rattle.jc_facts.specs.world.World.{World, size}
 use Rattle.jc_facts.specs.world.Hierarchy.{in_chain}
 use Rattle.jc_facts.specs.world.Access.{is_member_open}
-use Rattle.jc_lemmas.proofs.Bools.{or_assoc, or_false, or_true}
+use Rattle.jc_lemmas.proofs.Bools.{or_assoc}
 use Rattle.jc_index.specs.Ids.{name_at}
 use Rattle.jc_acts.specs.Touched.{flag_at}
 use Rattle.jc_acts.specs.steps.LookedUp.{member_of}
@@ -31,11 +32,7 @@ module _ (W : World) where
 
   -- one that is neither public nor protected exposes none to any
   neither_exposes : (a : Bytes) (t : ℕ) (m : Exposure) → public_flag m.found.flags ≡ false → protected_flag m.found.flags ≡ false → exposes_to W a t m ≡ false
-  neither_exposes a t m p q = rw (p, q) (and_none (m.exposed == t))
-    where
-      and_none : (b : Bool) → (b && false) ≡ false
-      and_none true = refl
-      and_none false = refl
+  neither_exposes a t m p q = rw (p, q) (and-false (m.exposed == t))
 
   pub stays_alone : (m : Exposure) (row : List Exposure) → stands_alone row ≡ true → IsRowOf W m.exposed row → IsAdded W m row row
   stays_alone m [] s r = absurd (let clash : false ≡ true = s in cc)
@@ -48,13 +45,13 @@ module _ (W : World) where
   pub made_alone : (m : Exposure) (row now : List Exposure) → IsExposureIn W m → public_flag m.found.flags ≡ true → now ≡ m ∷ [] → IsAdded W m row now
   made_alone m row now i p e = subst (IsAdded W m row) (sym e) (record {
     row = record { inside = All-cons (IsExposureIn W) m [] i (All-nil (IsExposureIn W)); same = All-cons (λ (x : Exposure). x.exposed ≡ m.exposed) m [] refl (All-nil (λ (x : Exposure). x.exposed ≡ m.exposed)) };
-    exact = λ a. let x = public_exposes a m.exposed m refl p in ap (λ b. b || false) x ∙ sym (or_true (list_any (exposes_to W a m.exposed) row)) ∙ ap (λ b. list_any (exposes_to W a m.exposed) row || b) (sym x);
+    exact = λ a. let x = public_exposes a m.exposed m refl p in ap (λ b. b || false) x ∙ sym (or-true (list_any (exposes_to W a m.exposed) row)) ∙ ap (λ b. list_any (exposes_to W a m.exposed) row || b) (sym x);
   })
 
   pub left_out : (m : Exposure) (row : List Exposure) → IsRowOf W m.exposed row → public_flag m.found.flags ≡ false → protected_flag m.found.flags ≡ false → IsAdded W m row row
   left_out m row r p q = record {
     row = r;
-    exact = λ a. sym (or_false (list_any (exposes_to W a m.exposed) row)) ∙ ap (λ b. list_any (exposes_to W a m.exposed) row || b) (sym (neither_exposes a m.exposed m p q));
+    exact = λ a. sym (or-false (list_any (exposes_to W a m.exposed) row)) ∙ ap (λ b. list_any (exposes_to W a m.exposed) row || b) (sym (neither_exposes a m.exposed m p q));
   }
 
   pub put_last : (m : Exposure) (row now : List Exposure) → IsExposureIn W m → IsRowOf W m.exposed row → now ≡ row ++ m ∷ [] → IsAdded W m row now
@@ -63,7 +60,7 @@ module _ (W : World) where
       inside = All-append (IsExposureIn W) row (m ∷ []) r.inside (All-cons (IsExposureIn W) m [] i (All-nil (IsExposureIn W)));
       same = All-append (λ (x : Exposure). x.exposed ≡ m.exposed) row (m ∷ []) r.same (All-cons (λ (x : Exposure). x.exposed ≡ m.exposed) m [] refl (All-nil (λ (x : Exposure). x.exposed ≡ m.exposed)));
     };
-    exact = λ a. list_any-append (exposes_to W a m.exposed) row (m ∷ []) ∙ ap (λ b. list_any (exposes_to W a m.exposed) row || b) (or_false (exposes_to W a m.exposed m));
+    exact = λ a. list_any-append (exposes_to W a m.exposed) row (m ∷ []) ∙ ap (λ b. list_any (exposes_to W a m.exposed) row || b) (or-false (exposes_to W a m.exposed m));
   })
 
   -- ---- all rows
@@ -77,14 +74,7 @@ module _ (W : World) where
       go (inr p) = ap (λ b. (b && is_member_open W a (name_at W m.class) (member_of W m.found)) || false) p.0
 
   pub none_added : (rows : List (List Exposure)) → AreRowsIn W rows → AreAdded W [] rows rows
-  none_added rows r = record { shape = r; exact = λ a t l. sym (or_false (exposes_in W rows a t)) }
-
-  -- of a class without a row nothing is said
-  pub put_nowhere : (m : Exposure) (rows : List (List Exposure)) → AreRowsIn W rows → length rows ≤ m.exposed → AreAdded W (m ∷ []) rows rows
-  put_nowhere m rows r h = record {
-    shape = r;
-    exact = λ a t l. sym (or_false (exposes_in W rows a t)) ∙ ap (λ b. exposes_in W rows a t || b) (sym (other_class a t m (λ e. let k = r.count in absurd (omega (arith, l, h, e, k)))));
-  }
+  none_added rows r = record { shape = r; exact = λ a t l. sym (or-false (exposes_in W rows a t)) }
 
   module _ (m : Exposure) (rows : List (List Exposure)) (emptied row : List Exposure) where
     abbrev pub with_row : List (List Exposure)
@@ -109,8 +99,8 @@ module _ (W : World) where
         exact : (a : Bytes) (t : ℕ) → t < size W → (((t == m.exposed) ≡ true) × (t ≡ m.exposed)) ⊎ (((t == m.exposed) ≡ false) × (t ≢ m.exposed)) → exposes_in W with_row a t ≡ (exposes_in W rows a t || list_any (exposes_to W a t) (m ∷ []))
         exact a t h (inl p) =
             ap (list_any (exposes_to W a t)) (here t p.1)
-            ∙ subst (λ n. list_any (exposes_to W a n) row ≡ (exposes_in W rows a n || list_any (exposes_to W a n) (m ∷ []))) (sym p.1) (i.exact a ∙ ap (λ b. exposes_in W rows a m.exposed || b) (sym (or_false (exposes_to W a m.exposed m))))
-        exact a t h (inr p) = ap (list_any (exposes_to W a t)) (elsewhere t p.1) ∙ sym (or_false (exposes_in W rows a t)) ∙ ap (λ b. exposes_in W rows a t || b) (sym (other_class a t m (λ e. p.1 (sym e))))
+            ∙ subst (λ n. list_any (exposes_to W a n) row ≡ (exposes_in W rows a n || list_any (exposes_to W a n) (m ∷ []))) (sym p.1) (i.exact a ∙ ap (λ b. exposes_in W rows a m.exposed || b) (sym (or-false (exposes_to W a m.exposed m))))
+        exact a t h (inr p) = ap (list_any (exposes_to W a t)) (elsewhere t p.1) ∙ sym (or-false (exposes_in W rows a t)) ∙ ap (λ b. exposes_in W rows a t || b) (sym (other_class a t m (λ e. p.1 (sym e))))
 
     pub put_at : (n : ℕ) → n ≡ m.exposed → AreRowsIn W rows → n < length rows → IsAdded W m (row_at rows n) row → AreAdded W (m ∷ []) rows (set (set rows n emptied) n row)
     put_at n q r l i = subst (λ k. AreAdded W (m ∷ []) rows (set (set rows k emptied) k row)) (sym q) (put_here r (subst (λ k. k < length rows) q l) (subst (λ k. IsAdded W m (row_at rows k) row) q i))

@@ -9,6 +9,7 @@ use Rattle.std.specs.Cmp.Lexicographic.{nat_list_cmp_total}
 use Rattle.std.proofs.lemmas.Bool.{and_parts, and_from}
 use Rattle.std.proofs.lemmas.List.Folds.{list_any-append, list_any_more}
 use Rattle.std.proofs.lemmas.List.{at_drop_all, at_drop_more, take_all}
+use Rattle.std.proofs.Math.Bool.{or-false}
 use Rattle.jc_desc.specs.Classes.{descriptor_names}
 use Rattle.jc_facts.specs.declared.act.Act.{Act}
 use Rattle.jc_facts.specs.declared.class_facts.ClassFacts.{ClassFacts}
@@ -29,7 +30,7 @@ use Rattle.jc_facts.proofs.Same.{same_itself}
 use Rattle.jc_facts.proofs.World.{IsOf, class_named-each, each_named}
 use Rattle.jc_index.proofs.HashedKeys.{key_is}
 use Rattle.jc_index.proofs.Numbers.{IsClass, class_at, names-in, names-length, names-rise}
-use Rattle.jc_lemmas.proofs.Bools.{contradicts, or_false}
+use Rattle.jc_lemmas.proofs.Bools.{contradicts}
 use Rattle.jc_lemmas.proofs.Listed.{Passes, any_has, any_passes, cases, each_from, each_in, here, none, there}
 use Rattle.jc_lemmas.proofs.Lists.{any_weaker}
 use Rattle.jc_sound.proofs.ExposedAbove.{exposes_above, above-each}
@@ -126,7 +127,7 @@ collects_none p ks e h = subst (Collects p) (sym e) (record { exact = λ g. sym 
 
 -- the key alone, where its tests pass
 pub collects_one : (b o : Bool) (k l : Key) → (b && o) ≡ true → l ≡ k → Collects (λ g. b && (o && g k)) (l ∷ [])
-collects_one true true k l e h = subst (λ z. Collects (λ g. g k) (z ∷ [])) (sym h) (record { exact = λ g. or_false (g k) })
+collects_one true true k l e h = subst (λ z. Collects (λ g. g k) (z ∷ [])) (sym h) (record { exact = λ g. or-false (g k) })
 collects_one true false k l e h = absurd (let clash : false ≡ true = e in cc)
 collects_one false o k l e h = absurd (let clash : false ≡ true = e in cc)
 

@@ -4,7 +4,7 @@ use Rattle.std.specs.List.{list_any}
 use Rattle.std.proofs.lemmas.List.{take_all, take_more}
 use Rattle.std.proofs.lemmas.List.Elements.{All-append, All-cons, All-nil}
 use Rattle.std.proofs.lemmas.List.Folds.{list_any-append}
-use Rattle.jc_lemmas.proofs.Bools.{or_false}
+use Rattle.std.proofs.Math.Bool.{or-false, and-false}
 use Rattle.jc_facts.specs.Names.{Bytes}
 use Rattle.jc_facts.specs.declared.link_error.LinkError.{LinkError}
 use Rattle.jc_facts.specs.world.World.{World, size, find_class}
@@ -47,7 +47,7 @@ module _ (W : World) (on : ℕ → Bool) where
     pub finds_next : (xs : List A) (n : ℕ) (x d : A) (ms more now : List Exposure) → n < length xs → x ≡ get_or xs n d → now ≡ ms ++ more → Finds W on (one_of (take n xs)) ms → Finds W on (p x) more → Finds W on (one_of (take (n + 1) xs)) now
     finds_next xs n x d ms more now l i e f g =
         finds_same (λ a t. one_of (take n xs) a t || p x a t) (one_of (take (n + 1) xs)) now
-        (λ a t o. sym (ap (list_any (λ y. p y a t)) (take_more xs n d l ∙ ap (λ y. take n xs ++ y ∷ []) (sym i)) ∙ list_any-append (λ y. p y a t) (take n xs) (x ∷ []) ∙ ap (λ b. one_of (take n xs) a t || b) (or_false (p x a t))))
+        (λ a t o. sym (ap (list_any (λ y. p y a t)) (take_more xs n d l ∙ ap (λ y. take n xs ++ y ∷ []) (sym i)) ∙ list_any-append (λ y. p y a t) (take n xs) (x ∷ []) ∙ ap (λ b. one_of (take n xs) a t || b) (or-false (p x a t))))
         (finds_both (one_of (take n xs)) (p x) ms more now e f g)
 
     pub finds_end : (xs : List A) (n : ℕ) (ms : List Exposure) → length xs ≤ n → Finds W on (one_of (take n xs)) ms → Finds W on (one_of xs) ms
@@ -58,7 +58,7 @@ module _ (W : World) (id : ℕ) (n : Naming) where
   pub found_one : (f : Form) (m : Found) (s : Exposure) → id < size W → s.exposed ≡ n.exposed → s.class ≡ id → s.found ≡ m → LooksUp W (name_at W id) n.key f (Ok m) → IsInside W (Ok m) → Finds W every (opens_as W (name_at W id) n f) (s ∷ [])
   found_one f m s l e i g h inside = record {
     exposed = λ a t o.
-        or_false (exposes_to W a t s)
+        or-false (exposes_to W a t s)
         ∙ ap (λ x. (x == t) && is_member_open W a (name_at W s.class) (member_of W s.found)) e
         ∙ ap (λ x. (n.exposed == t) && is_member_open W a (name_at W x) (member_of W s.found)) i
         ∙ ap (λ x. (n.exposed == t) && is_member_open W a (name_at W id) (member_of W x)) g
@@ -67,11 +67,7 @@ module _ (W : World) (id : ℕ) (n : Naming) where
   }
 
   pub found_none : (f : Form) (e : LinkError) → LooksUp W (name_at W id) n.key f (Err e) → Finds W every (opens_as W (name_at W id) n f) []
-  found_none f e h = finds_nothing W every (opens_as W (name_at W id) n f) [] refl (λ a t o. ap (λ b. (n.exposed == t) && b) (looked W a (name_at W id) n.key f (Err e) h) ∙ never (n.exposed == t))
-    where
-      never : (b : Bool) → (b && false) ≡ false
-      never true = refl
-      never false = refl
+  found_none f e h = finds_nothing W every (opens_as W (name_at W id) n f) [] refl (λ a t o. ap (λ b. (n.exposed == t) && b) (looked W a (name_at W id) n.key f (Err e) h) ∙ and-false (n.exposed == t))
 
   -- all forms
   pub all_forms : (a : Bytes) (t : ℕ) → (opens_as W (name_at W id) n FieldForm a t || (is_key_of_method n.key && (opens_as W (name_at W id) n MethodForm a t || opens_as W (name_at W id) n InterfaceForm a t))) ≡ ((n.exposed == t) && opens W (name_at W id) a n.key)
@@ -105,9 +101,6 @@ module _ (W : World) (id : ℕ) (n : Naming) where
   calls_found first half now rs ss k e h j f g =
       finds_same W every (λ a t. opens_as W (name_at W id) n MethodForm a t || opens_as W (name_at W id) n InterfaceForm a t) calls_open now (λ a t o. sym (ap (λ b. b && (opens_as W (name_at W id) n MethodForm a t || opens_as W (name_at W id) n InterfaceForm a t)) k))
       (finds_both W every (opens_as W (name_at W id) n MethodForm) (opens_as W (name_at W id) n InterfaceForm) half ss now j (finds_first W every (opens_as W (name_at W id) n MethodForm) first half rs e h f) g)
-
-  pub calls_none : (ms : List Exposure) → is_key_of_method n.key ≡ false → ms ≡ [] → Finds W every calls_open ms
-  calls_none ms k e = finds_nothing W every calls_open ms e (λ a t o. ap (λ b. b && (opens_as W (name_at W id) n MethodForm a t || opens_as W (name_at W id) n InterfaceForm a t)) k)
 
   pub all_found : (first half now rs ss : List Exposure) → first ≡ [] → half ≡ first ++ rs → now ≡ half ++ ss → Finds W every (opens_as W (name_at W id) n FieldForm) rs → Finds W every calls_open ss → Finds W every (λ a t. (n.exposed == t) && opens W (name_at W id) a n.key) now
   all_found first half now rs ss e h j f g =

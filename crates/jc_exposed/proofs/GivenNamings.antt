@@ -1,10 +1,9 @@
 -- Lists of keys that name classes, put together.
-use Rattle.std.proofs.Common.{◌≡◌, ◌<◌, ◌≤◌, ◌+◌, ◌==◌, ℕ, Bool, true, false, List, [], ◌∷◌, ◌++◌, length, get_or, take, refl, sym, ◌∙◌, ap, subst, ◌||◌, ◌&&◌}
+use Rattle.std.proofs.Common.{◌≡◌, ◌<◌, ◌≤◌, ◌+◌, ◌==◌, ℕ, Bool, true, false, List, [], ◌∷◌, ◌++◌, length, get_or, take, sym, ◌∙◌, ap, subst, ◌||◌, ◌&&◌}
 use Rattle.std.specs.List.{list_any}
-use Rattle.std.proofs.lemmas.Bool.{eqb-true}
 use Rattle.std.proofs.lemmas.List.{take_all, take_more}
 use Rattle.std.proofs.lemmas.List.Folds.{list_any-append}
-use Rattle.jc_lemmas.proofs.Bools.{or_false, contradicts}
+use Rattle.std.proofs.Math.Bool.{or-false}
 use Rattle.jc_facts.specs.declared.key.Key.{Key}
 use Rattle.jc_exposed.specs.Namings.{Gives}
 use Rattle.jc_exposed.specs.declared.namings.Naming.{Naming}
@@ -26,19 +25,11 @@ module _ (on : ℕ → Bool) where
         → Gives on (λ g t. list_any (λ y. p y g t) (take (n + 1) xs)) now
     gives_next xs n x d ns more now l i e f h =
         gives_same (λ g t. list_any (λ y. p y g t) (take n xs) || p x g t) (λ g t. list_any (λ y. p y g t) (take (n + 1) xs)) now
-        (λ g t o. sym (ap (list_any (λ y. p y g t)) (take_more xs n d l ∙ ap (λ y. take n xs ++ y ∷ []) (sym i)) ∙ list_any-append (λ y. p y g t) (take n xs) (x ∷ []) ∙ ap (λ b. list_any (λ y. p y g t) (take n xs) || b) (or_false (p x g t))))
+        (λ g t o. sym (ap (list_any (λ y. p y g t)) (take_more xs n d l ∙ ap (λ y. take n xs ++ y ∷ []) (sym i)) ∙ list_any-append (λ y. p y g t) (take n xs) (x ∷ []) ∙ ap (λ b. list_any (λ y. p y g t) (take n xs) || b) (or-false (p x g t))))
         (gives_both (λ g t. list_any (λ y. p y g t) (take n xs)) (p x) ns more now e f h)
 
     pub gives_end : (xs : List A) (n : ℕ) (ns : List Naming) → length xs ≤ n → Gives on (λ g t. list_any (λ y. p y g t) (take n xs)) ns → Gives on (λ g t. list_any (λ y. p y g t) xs) ns
     gives_end xs n ns l f = subst (λ ys. Gives on (λ g t. list_any (λ y. p y g t) ys) ns) (take_all n xs l) f
 
   pub gives_one : (id : ℕ) (k : Key) (n : Naming) → n.exposed ≡ id → n.key ≡ k → Gives on (λ g t. (id == t) && g k) (n ∷ [])
-  gives_one id k n e i = record { exact = λ g t o. or_false ((n.exposed == t) && g n.key) ∙ ap (λ x. (x == t) && g n.key) e ∙ ap (λ x. (id == t) && g x) i }
-
-  -- of a class that isn't wanted nothing is said
-  pub gives_unwanted : (id : ℕ) (k : Key) → on id ≡ false → Gives on (λ g t. (id == t) && g k) []
-  gives_unwanted id k e = gives_none (λ g t. (id == t) && g k) [] refl (λ g t o. never g t o (id == t) refl)
-    where
-      never : (g : Key → Bool) (t : ℕ) → on t ≡ true → (b : Bool) → (id == t) ≡ b → (b && g k) ≡ false
-      never g t o true q = absurd (contradicts (on t) o (ap on (sym (eqb-true id t q)) ∙ e))
-      never g t o false q = refl
+  gives_one id k n e i = record { exact = λ g t o. or-false ((n.exposed == t) && g n.key) ∙ ap (λ x. (x == t) && g n.key) e ∙ ap (λ x. (id == t) && g x) i }

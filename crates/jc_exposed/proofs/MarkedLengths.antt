@@ -1,5 +1,5 @@
 -- The lengths of the names of wanted classes, as they are marked.
-use Rattle.std.proofs.Common.{◌≡◌, ◌<◌, ◌≤◌, ◌+◌, ◌⊎◌, inl, inr, ℕ, zero, suc, arith, Bool, true, false, List, [], ◌∷◌, length, set, refl, sym, ◌∙◌, ap}
+use Rattle.std.proofs.Common.{◌≡◌, ◌<◌, ◌≤◌, ◌+◌, ◌⊎◌, inl, inr, ℕ, arith, Bool, true, false, List, [], length, refl, sym, ◌∙◌, ap}
 use Rattle.std.specs.Str.{bytes_eq}
 use Rattle.std.proofs.lemmas.Bool.{cases_lt}
 use Rattle.jc_lemmas.proofs.Bools.{contradicts}
@@ -10,14 +10,6 @@ use Rattle.jc_index.specs.Ids.{name_at}
 use Rattle.jc_acts.specs.Touched.{flag_at}
 use Rattle.jc_exposed.specs.Lengths.{may_be, HaveLengths, Keeps}
 use Rattle.jc_exposed.specs.Named.{Lists}
-
--- a mark stays, whatever is marked
-pub kept_set : (lengths : List Bool) (i n : ℕ) → may_be lengths n ≡ true → may_be (set lengths i true) n ≡ true
-kept_set [] i n h = h
-kept_set (b ∷ bs) zero zero h = refl
-kept_set (b ∷ bs) zero (suc n) h = h
-kept_set (b ∷ bs) (suc i) zero h = h
-kept_set (b ∷ bs) (suc i) (suc n) h = kept_set bs i n h
 
 -- one more class
 pub lengths_next : (W : World) (wanted before after : List Bool) (n id : ℕ) → id ≡ n → Keeps before after → (flag_at wanted id ≡ true → may_be after (length (name_at W id)) ≡ true)

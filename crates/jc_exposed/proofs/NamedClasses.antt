@@ -6,7 +6,9 @@ use Rattle.std.specs.Str.{bytes_eq}
 use Rattle.std.proofs.lemmas.Bool.{eqb-true, eq-eqb}
 use Rattle.std.proofs.lemmas.List.{take_all, take_more}
 use Rattle.std.proofs.lemmas.List.Folds.{list_any-append}
-use Rattle.jc_lemmas.proofs.Bools.{contradicts, or_assoc, or_false, tests_agree}
+use Rattle.std.proofs.Math.Bool.{or-false}
+use Rattle.std.specs.Cmp.{both_ways}
+use Rattle.jc_lemmas.proofs.Bools.{contradicts, or_assoc}
 use Rattle.jc_desc.specs.Classes.{type_names, some_type_names, some_method_names, descriptor_names}
 use Rattle.jc_desc.specs.Reading.{field_of, method_of}
 use Rattle.jc_desc.specs.Views.{type_view, views}
@@ -43,7 +45,7 @@ module _ (W : World) (on : ℕ → Bool) where
       (lists_both (λ x. list_any (type_names x) (views (take n ts))) (λ x. type_names x (type_view y)) ids more now e f g)
     where
       last : (x : Bytes) (zs : List FieldType) → list_any (type_names x) (views (zs ++ y ∷ [])) ≡ (list_any (type_names x) (views zs) || type_names x (type_view y))
-      last x [] = or_false (type_names x (type_view y))
+      last x [] = or-false (type_names x (type_view y))
       last x (z ∷ zs) = ap (λ b. type_names x (type_view z) || b) (last x zs) ∙ sym (or_assoc (type_names x (type_view z)) (list_any (type_names x) (views zs)) (type_names x (type_view y)))
 
   pub types_end : (ts : List FieldType) (n : ℕ) (ids : List ℕ) → length ts ≤ n → Lists W on (λ x. list_any (type_names x) (views (take n ts))) ids → Lists W on (λ x. list_any (type_names x) (views ts)) ids
@@ -63,7 +65,7 @@ module _ (W : World) (on : ℕ → Bool) where
       is = (id_of-Some W name n (sym e)).1
 
       same_number : (t : ℕ) → t < size W → (n == t) ≡ bytes_eq name (name_at W t)
-      same_number t l = tests_agree (n == t) (bytes_eq name (name_at W t)) to from
+      same_number t l = both_ways (n == t) (bytes_eq name (name_at W t)) to from
         where
           to : (n == t) ≡ true → bytes_eq name (name_at W t) ≡ true
           to q = ap (λ m. bytes_eq name (name_at W m)) (sym (eqb-true n t q)) ∙ ap (bytes_eq name) is ∙ same_itself name
@@ -72,7 +74,7 @@ module _ (W : World) (on : ℕ → Bool) where
           from q = let k : Some n ≡ Some t = e ∙ ap (id_of W) (same_is name (name_at W t) q) ∙ id_of-name_at W t s.differ l in let j : n ≡ t = cc in eq-eqb n t j
 
       pub found_one : (wanted : Bool) → wanted ≡ on n → Lists W on (λ x. bytes_eq name x) (cons_option (then_some wanted n) [])
-      found_one true w = record { exact = λ t l o. or_false (n == t) ∙ same_number t l }
+      found_one true w = record { exact = λ t l o. or-false (n == t) ∙ same_number t l }
       found_one false w = record { exact = λ t l o. other t o (n == t) refl ∙ same_number t l }
         where
           other : (t : ℕ) → on t ≡ true → (b : Bool) → (n == t) ≡ b → false ≡ b

@@ -19,7 +19,7 @@ use Rattle.jc_facts.proofs.ClassIndices.{class_stands, class_read}
 use Rattle.jc_facts.proofs.Options.{some_then}
 use Rattle.jc_facts.proofs.AttributeLists.{taken, kept, one_of, of_name, AreOne, once_say, once_said}
 use Rattle.std.proofs.lemmas.Bool.{and_right}
-use Rattle.jc_lemmas.proofs.Bools.{both_last}
+use Rattle.std.specs.Cmp.{second_so}
 
 -- ---- contents
 
@@ -84,7 +84,7 @@ abbrev pub Apart : Bool → Bool → Type 0
 Apart a b = a ≡ true → b ≡ false
 
 tests_apart : (p q : Bool) (n x y : Bytes) → same x y ≡ false → Apart (p && same n x) (q && same n y)
-tests_apart p q n x y d e = and_right q (same n y) (names_apart n x y d (both_last p (same n x) e))
+tests_apart p q n x y d e = and_right q (same n y) (names_apart n x y d (second_so p (same n x) e))
 
 -- ---- members
 

@@ -5,6 +5,7 @@ use Rattle.std.proofs.Common.{◌≡◌, Bool, true, false, not, List, [], ◌�
 use Rattle.std.specs.Prelude.{is_some}
 use Rattle.std.specs.List.{list_any}
 use Rattle.std.proofs.lemmas.Bool.{and_parts, or_cases, or_left, or_right}
+use Rattle.std.proofs.Math.Bool.{or-false}
 use Rattle.jc_facts.specs.declared.class_facts.ClassFacts.{ClassFacts}
 use Rattle.jc_facts.specs.declared.class_facts.Member.{Member}
 use Rattle.jc_facts.specs.declared.key.Key.{Key}
@@ -31,7 +32,7 @@ use Rattle.jc_index.specs.Lookups.{declare_field}
 use Rattle.jc_index.specs.Sides.{IsSide}
 use Rattle.jc_field.specs.steps.Fields.{declares_field}
 use Rattle.jc_facts.proofs.Hierarchy.{any_each}
-use Rattle.jc_lemmas.proofs.Bools.{or_false, imply}
+use Rattle.jc_lemmas.proofs.Bools.{imply}
 use Rattle.jc_index.proofs.Sides.{side_valid, root_at}
 
 -- ---- sides
@@ -102,7 +103,7 @@ module _ (W : World) (side : IsSide W) (k : Key) where
       ∙ ap (λ b. declares_field k c || b)
       (some_or (first_some (λ z. field_found W z k) c.interfaces) (and_then (λ z. field_found W z k) c.superclass)
       ∙ ap (λ o. is_some (first_some (λ z. field_found W z k) c.interfaces) || is_some o) (no_super y c f j)
-      ∙ or_false (is_some (first_some (λ z. field_found W z k) c.interfaces))
+      ∙ or-false (is_some (first_some (λ z. field_found W z k) c.interfaces))
       ∙ below c (of_interfaces FromInterface c.superclass c.interfaces r) (kinds y c f h))
       ∙ sym (ap (list_any (declares_field k)) (with_interfaces-unroll W y c f h)))
 
@@ -160,11 +161,3 @@ module _ (W : World) (side : IsSide W) (k : Key) where
 pub found_is_declared : (W : World) → IsSide W → (x : Bytes) (k : Key) (m : DeclaredMember) → field_found W x k ≡ Some m → load_fault W x ≡ None → declare_field (above W x) k ≡ true
 unfolding IsAbove
 found_is_declared W s x k m e h = from_class W s k x h (ap is_some e)
-
--- ---- what a class itself declares is found
-
-pub own_found : (W : World) (k : Key) (y : Bytes) (c : ClassFacts) → find_class W y ≡ Some c → load_fault W y ≡ None → is_some (own_field_of c k) ≡ true → is_some (field_found W y k) ≡ true
-unfolding field_step
-own_found W k y c f h o =
-    ap is_some (stepped W k y c f h) ∙ some_or (found_in c (own_field_of c k)) (or_else (first_some (λ z. field_found W z k) c.interfaces) (and_then (λ z. field_found W z k) c.superclass))
-    ∙ or_left (is_some (found_in c (own_field_of c k))) (is_some (or_else (first_some (λ z. field_found W z k) c.interfaces) (and_then (λ z. field_found W z k) c.superclass))) (some_in c (own_field_of c k) ∙ o)

@@ -6,6 +6,7 @@ use Rattle.std.proofs.lemmas.Bool.{eqb-true, eq-eqb, ltb-true, lt-ltb, cases_lt}
 use Rattle.std.proofs.lemmas.List.{get_or-map, length-map, get_or_past}
 use Rattle.std.proofs.lemmas.List.Folds.{list_any-append, Any-from_list_any}
 use Rattle.std.proofs.lemmas.List.Elements.{All-contains, All-from_recursion, All-weaker, All-contains_itself}
+use Rattle.std.specs.Cmp.{both_ways}
 use Rattle.jc_facts.specs.declared.class_facts.ClassFacts.{ClassFacts}
 use Rattle.jc_facts.specs.Names.{Bytes, same}
 use Rattle.jc_facts.specs.Options.{some_and, and_then}
@@ -23,7 +24,6 @@ use Rattle.jc_index.specs.steps.Reach.{next_of, IsLedTo, AllLedTo}
 use Rattle.jc_index.specs.Above.{leads_to, leads_by, AreAbove, AreRows}
 use Rattle.jc_index.specs.steps.Named.{named_by, edges_of}
 use Rattle.jc_index.proofs.Numbers.{IsClass, is_class, class_at, superclass_is, find-None, id_of-Some, id_of-name_at, id-find, names-length, number_of}
-use Rattle.jc_lemmas.proofs.Bools.{tests_agree}
 use Rattle.jc_facts.proofs.Hierarchy.{names_in-each}
 
 -- ---- what interfaces lead to, level by level
@@ -264,7 +264,7 @@ module _ (W : World) where
     row_exact : (k : ℕ) → k < size W → list_any (λ m. m == k) ids ≡ leads_by W (name_at W n) (name_at W k)
     unfolding passes
     row_exact k m =
-        tests_agree (list_any (λ j. j == k) ids) (passes k) (λ h. s.least passes first_passes more_pass k (there_is (Any-from_list_any (λ j. j == k) ids h)))
+        both_ways (list_any (λ j. j == k) ids) (passes k) (λ h. s.least passes first_passes more_pass k (there_is (Any-from_list_any (λ j. j == k) ids h)))
         (λ h. any_has (λ j. j == k) ids k (held k m h) (eq-eqb k k refl))
       where
         there_is : Any (λ j. (j == k) ≡ true) ids → Contains ids k
@@ -342,7 +342,7 @@ module _ (W : World) where
 
   -- two numbers are one where their names are
   pub same_number : IsTrue (differ_by_name (classes W)) → (a b : ℕ) → a < size W → b < size W → same (name_at W a) (name_at W b) ≡ eqb a b
-  same_number d a b l m = tests_agree (same (name_at W a) (name_at W b)) (eqb a b) forth back
+  same_number d a b l m = both_ways (same (name_at W a) (name_at W b)) (eqb a b) forth back
     where
       forth : same (name_at W a) (name_at W b) ≡ true → eqb a b ≡ true
       forth h = let p : Some a ≡ Some b = sym (id_of-name_at W a d l) ∙ ap (id_of W) (same_is (name_at W a) (name_at W b) h) ∙ id_of-name_at W b d m in eq-eqb a b cc

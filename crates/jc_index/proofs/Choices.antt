@@ -2,7 +2,7 @@
 use Rattle.std.proofs.Common.{◌≡◌, ◌<◌, ℕ, Bool, true, false, cond, not, ◌||◌, ◌&&◌, List, [], ◌∷◌, ◌++◌, refl, sym, ◌∙◌, ap, subst, Option, Some, None, is_some, eqb, ◌⊎◌, inl, inr}
 use Rattle.std.specs.Prelude.{IsTrue}
 use Rattle.std.specs.List.{list_all, filter, Contains}
-use Rattle.std.proofs.lemmas.Bool.{or_parts, and_parts}
+use Rattle.std.proofs.lemmas.Bool.{or_parts, and_parts, not-true}
 use Rattle.std.proofs.lemmas.List.Elements.{Contains-append_left, Contains-append_right, Contains-append_cases}
 use Rattle.jc_facts.specs.declared.class_facts.ClassFacts.{ClassFacts}
 use Rattle.jc_facts.specs.declared.class_facts.Member.{Member}
@@ -257,23 +257,11 @@ module _ (W : World) (x : Bytes) (loads : load_fault W x ≡ None) where
     best_one m h =
         let a = in_filter is_concrete (filter (is_maximal W (declared_by k (superinterfaces W x))) (declared_by k (superinterfaces W x))) m h in
         let b = in_filter (is_maximal W (declared_by k (superinterfaces W x))) (declared_by k (superinterfaces W x)) m a.0 in
-        (b.0, not_true (abstract_flag m.member.flags) a.1, not_true (has_rival_below W x k m.owner) b.1)
-      where
-        not_true : (b : Bool) → not b ≡ true → b ≡ false
-        not_true true e = absurd (let clash : false ≡ true = e in cc)
-        not_true false e = refl
+        (b.0, not-true (abstract_flag m.member.flags) a.1, not-true (has_rival_below W x k m.owner) b.1)
 
     pub one_best : (m : DeclaredMember) → Contains (declared_by k (superinterfaces W x)) m → abstract_flag m.member.flags ≡ false → has_rival_below W x k m.owner ≡ false → Contains best m
     one_best m h a r = filter_in is_concrete (filter (is_maximal W (declared_by k (superinterfaces W x))) (declared_by k (superinterfaces W x))) m
         (filter_in (is_maximal W (declared_by k (superinterfaces W x))) (declared_by k (superinterfaces W x)) m h (ap not r)) (ap not a)
-
-    no_best : FindsAbove W x (best_at W x k) None → best ≡ []
-    no_best h = empty_from best (λ m c.
-        let b = best_one m c in
-        let i : IsOne m = one_of m b.0 in
-        let q : best_at W x k i.number ≡ cond (abstract_flag m.member.flags || has_rival_below W x k (name_at W i.number)) None (Some (record { owner = i.number; flags = m.member.flags })) = ap (if_best W x k) i.candidate in
-        let s : (abstract_flag m.member.flags || has_rival_below W x k (name_at W i.number)) ≡ false = ap (λ v. v || has_rival_below W x k (name_at W i.number)) b.1 ∙ ap (has_rival_below W x k) i.name ∙ b.2 in
-        let z : None ≡ Some (record { owner = i.number; flags = m.member.flags }) = sym (h i.number i.below i.above) ∙ q ∙ ap (λ v. cond v None (Some (record { owner = i.number; flags = m.member.flags }))) s in cc)
 
     -- the number of one that is chosen before others
     pub best_is : (n : ℕ) (r : Found) → best_at W x k n ≡ Some r → (candidate_at W k n ≡ Some r) × (abstract_flag r.flags ≡ false) × (has_rival_below W x k (name_at W r.owner) ≡ false)
@@ -310,19 +298,6 @@ module _ (W : World) (x : Bytes) (loads : load_fault W x ≡ None) where
         go true e (inl i) = (n, here n [], subst (IsFound W r) (sym i) f)
         go true e (inr c) = (n, here n [], subst (IsFound W r) (only_one m n (sub m h) (sub n (here n ms)) (all_same ms e c)) f)
         go false e c = (m, sub m h, f)
-
-    pub best_choice : (r : Found) → FindsAbove W x (best_at W x k) (Some r) → IsChoice W (Some r) (superinterface_choices W x k)
-    unfolding superinterface_choices
-    best_choice r h =
-        let b = best_is h.0 r h.3 in
-        let l : IsListed h.0 r = listed h.0 r h.2 b.0 in
-        let a : abstract_flag l.method.member.flags ≡ false = ap abstract_flag (sym l.flags) ∙ b.1 in
-        let v : has_rival_below W x k l.method.owner ≡ false = ap (has_rival_below W x k) (sym (ap (name_at W) l.number ∙ l.owner)) ∙ b.2 in
-        only_choice r l.method best (one_best l.method l.is_in a v) (λ n c. (best_one n c).0) (listed_found h.0 r h.1 l)
-
-    pub other_choice : (o : Option Found) → FindsAbove W x (best_at W x k) None → FindsAbove W x (candidate_at W k) o → IsChoice W o (superinterface_choices W x k)
-    unfolding superinterface_choices only_or
-    other_choice o n h = rw (no_best n) (any_choice o h)
 
 -- ---- one class and another
 

@@ -4,10 +4,10 @@ use Rattle.std.proofs.lemmas.List.{take_more, take_all}
 use Rattle.std.proofs.lemmas.List.Folds.{list_any-append}
 use Rattle.jc_facts.specs.declared.key.Key.{Key}
 use Rattle.std.proofs.lemmas.Bool.{and_parts, or_left, or_right}
+use Rattle.std.proofs.Math.Bool.{or-false}
 use Rattle.jc_facts.specs.Names.{Bytes, same, same_key, is_name_among}
 use Rattle.jc_facts.specs.file.Valid.{has_key}
 use Rattle.jc_facts.proofs.Same.{same_is, same_itself}
-use Rattle.jc_lemmas.proofs.Bools.{or_false}
 use Rattle.jc_index.specs.steps.HashedKeys.{with_one, HaveNames}
 use Rattle.jc_index.specs.steps.Adding.{AddsNames}
 
@@ -19,7 +19,7 @@ key_is k l h =
 
 -- a key that equals one that is there is there
 there : (q k : Key) (keys : List Key) → has_key k keys ≡ true → (b : Bool) → same_key q k ≡ b → has_key q keys ≡ (has_key q keys || b)
-there q k keys h false e = sym (or_false (has_key q keys))
+there q k keys h false e = sym (or-false (has_key q keys))
 there q k keys h true e = let is : q ≡ k = key_is q k e in let t : has_key q keys ≡ true = ap (λ (j : Key). has_key j keys) is ∙ h in rw t refl
 
 -- one more
@@ -28,13 +28,13 @@ one_more q k keys = go (has_key k keys) refl
   where
     go : (b : Bool) → has_key k keys ≡ b → has_key q (cond b keys (keys ++ k ∷ [])) ≡ (has_key q keys || same_key q k)
     go true h = there q k keys h (same_key q k) refl
-    go false h = list_any-append (same_key q) keys (k ∷ []) ∙ ap (λ (b : Bool). has_key q keys || b) (or_false (same_key q k))
+    go false h = list_any-append (same_key q) keys (k ∷ []) ∙ ap (λ (b : Bool). has_key q keys || b) (or-false (same_key q k))
 
 -- the same in a longer list
 pub next_listed : (q k : Key) (seen keys now : List Key) → has_key q keys ≡ has_key q seen → now ≡ with_one keys k → has_key q now ≡ has_key q (seen ++ k ∷ [])
 next_listed q k seen keys now h e =
     ap (has_key q) e ∙ one_more q k keys ∙ ap (λ (b : Bool). b || same_key q k) h
-    ∙ sym (list_any-append (same_key q) seen (k ∷ []) ∙ ap (λ (b : Bool). has_key q seen || b) (or_false (same_key q k)))
+    ∙ sym (list_any-append (same_key q) seen (k ∷ []) ∙ ap (λ (b : Bool). has_key q seen || b) (or-false (same_key q k)))
 
 -- ---- the names of keys
 
@@ -45,7 +45,7 @@ names_next ks n k before now l e a h q p = a q.name ∙ go (has_key q (take n ks
     split : has_key q (take (n + 1) ks) ≡ (has_key q (take n ks) || same_key q k)
     split =
         ap (has_key q) (take_more ks n k l) ∙ ap (λ (j : Key). has_key q (take n ks ++ j ∷ [])) (sym e)
-        ∙ list_any-append (same_key q) (take n ks) (k ∷ []) ∙ ap (λ (b : Bool). has_key q (take n ks) || b) (or_false (same_key q k))
+        ∙ list_any-append (same_key q) (take n ks) (k ∷ []) ∙ ap (λ (b : Bool). has_key q (take n ks) || b) (or-false (same_key q k))
 
     new : same_key q k ≡ true → is_name_among (k.name ∷ []) q.name ≡ true
     new s = or_left (same k.name q.name) false (ap (λ (j : Key). same k.name j.name) (key_is q k s) ∙ same_itself k.name)

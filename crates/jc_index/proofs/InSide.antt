@@ -3,10 +3,10 @@ use Rattle.std.proofs.Common.{◌≡◌, ℕ, zero, suc, ◌<◌, ◌≤◌, ◌
 use Rattle.std.specs.Prelude.{slice_get}
 use Rattle.std.specs.List.{list_any, Contains}
 use Rattle.std.proofs.Math.Seq.{take-append_seam}
-use Rattle.std.proofs.lemmas.List.{append_assoc, length-append, length-take-le, take-append-drop, take-append-le, take_all}
-use Rattle.std.proofs.lemmas.List.Folds.{list_any_more, list_any-append}
+use Rattle.std.proofs.lemmas.List.{append_assoc, length-append, take-append-drop, take-append-le, take_all}
+use Rattle.std.proofs.lemmas.List.Folds.{list_any_more}
 use Rattle.std.proofs.lemmas.List.Elements.{Contains-get_or}
-use Rattle.std.proofs.lemmas.Option.{slice_get_within, slice_get_read, get_or_from_slice_get}
+use Rattle.std.proofs.lemmas.Option.{slice_get_within, get_or_from_slice_get}
 use Rattle.jc_facts.specs.declared.class_facts.ClassFacts.{ClassFacts}
 use Rattle.jc_facts.specs.world.Mentioned.{mentions, all_mentions}
 use Rattle.jc_facts.specs.world.World.{World, classes}
@@ -34,10 +34,6 @@ pub of-platform : (V : World) (at : ℕ) → at < length V.platform → name_in 
 of-platform V at l =
     let both : at < length (V.platform ++ V.release) = omega (arith, length-append V.platform V.release) in
     ap name_or (class-front (V.platform ++ V.release) V.clients at both ∙ class-front V.platform V.release at l)
-
-class-behind : (cs ds : List ClassFacts) (n : ℕ) → slice_get (cs ++ ds) (length cs + n) ≡ slice_get ds n
-class-behind [] ds n = ap (slice_get ds) (let q : 0 + n ≡ n = omega arith in q)
-class-behind (c ∷ cs) ds n = ap (slice_get (c ∷ (cs ++ ds))) (let q : suc (length cs) + n ≡ suc (length cs + n) = omega arith in q) ∙ class-behind cs ds n
 
 mentions-append : (cs ds : List ClassFacts) → length (all_mentions (cs ++ ds)) ≡ length (all_mentions cs) + length (all_mentions ds)
 mentions-append [] ds = omega arith
@@ -68,26 +64,6 @@ module _ (s : Inside) (W : World) (v : world_of s ≡ W) where
   all_is =
       ap (λ (cs : List ClassFacts). s.platform ++ cs) beside_is ∙ ap (λ (cs : List ClassFacts). cs ++ (W.release ++ W.clients)) platform_is
       ∙ sym (append_assoc W.platform W.release W.clients)
-
-  -- so many are the release's
-  pub own_is : s.of_release ≤ length s.beside → s.of_release ≡ length W.release
-  own_is l = sym (length-take-le s.of_release s.beside l) ∙ ap (λ (V : World). length V.release) v
-
-  pub count_is : length s.platform + length s.beside ≡ length (classes W)
-  count_is = sym (length-append s.platform s.beside) ∙ ap length all_is
-
-  -- the class at a place of the platform, and at one behind it
-  pub first_there : (n : ℕ) (c : ClassFacts) → n < length s.platform → c ≡ get_or s.platform n c → Some c ≡ slice_get (classes W) n
-  first_there n c l e =
-      sym (slice_get_read s.platform (length s.platform) n c refl l e) ∙ sym (class-front s.platform s.beside n l) ∙ ap (λ (cs : List ClassFacts). slice_get cs n) all_is
-
-  pub later_there : (n m : ℕ) (c : ClassFacts) → length s.platform + m ≡ n → m < length s.beside → c ≡ get_or s.beside m c → Some c ≡ slice_get (classes W) n
-  later_there n m c k l e =
-      sym (slice_get_read s.beside (length s.beside) m c refl l e) ∙ sym (class-behind s.platform s.beside m) ∙ ap (slice_get (s.platform ++ s.beside)) k ∙ ap (λ (cs : List ClassFacts). slice_get cs n) all_is
-
-  -- a class of one of the two passes exactly where one of the side does
-  pub any_of_both : (p : ClassFacts → Bool) → (list_any p s.platform || list_any p s.beside) ≡ list_any p (classes W)
-  any_of_both p = sym (list_any-append p s.platform s.beside) ∙ ap (list_any p) all_is
 
   -- so many names do the two mention
   pub mentions_of_both : length (all_mentions s.platform) + length (all_mentions s.beside) ≡ length (all_mentions (classes W))

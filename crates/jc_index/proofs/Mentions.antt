@@ -7,11 +7,11 @@ use Rattle.std.specs.List.{list_any}
 use Rattle.std.specs.Cmp.Lexicographic.{pointwise}
 use Rattle.std.proofs.lemmas.List.{take_more, take_all, length-append, length-take-le, get_or-take}
 use Rattle.std.proofs.lemmas.List.Folds.{list_any-append, list_any_at}
-use Rattle.jc_lemmas.proofs.Bools.{or_false, or_assoc}
+use Rattle.std.proofs.Math.Bool.{or-false}
+use Rattle.jc_lemmas.proofs.Bools.{or_assoc}
 use Rattle.jc_facts.specs.declared.class_facts.ClassFacts.{ClassFacts}
 use Rattle.jc_facts.specs.Names.{Bytes, same, is_name_among}
 use Rattle.jc_facts.specs.world.Mentioned.{mentions, all_mentions}
-use Rattle.jc_facts.specs.world.World.{class_named}
 use Rattle.jc_facts.proofs.Same.{same_is, same_itself}
 use Rattle.jc_index.proofs.NumberedNames.{any-among}
 use Rattle.jc_base.specs.Again.{IsAgain}
@@ -25,7 +25,7 @@ adds_known names x h = λ y. go y (same x y) refl
   where
     go : (y : Bytes) (b : Bool) → same x y ≡ b → is_name_among names y ≡ (is_name_among names y || (b || false))
     go y true e = let there : is_name_among names y ≡ true = ap (is_name_among names) (sym (same_is x y e)) ∙ h in rw there refl
-    go y false e = sym (or_false (is_name_among names y))
+    go y false e = sym (or-false (is_name_among names y))
 
 -- one at the end
 pub adds_last : (names now : List Bytes) (x : Bytes) → now ≡ names ++ x ∷ [] → AddsNames names now (x ∷ [])
@@ -78,7 +78,7 @@ module _ (has : ClassFacts → Bytes → Bool) where
 
   pub are_of_next : (cs : List ClassFacts) (n : ℕ) (c : ClassFacts) (before now own : List Bytes) → n < length cs → c ≡ get_or cs n c → ((x : Bytes) → is_name_among own x ≡ has c x) → AddsNames before now own → AreOf (take n cs) before → AreOf (take (n + 1) cs) now
   are_of_next cs n c before now own l e f a h = λ x.
-      a x ∙ ap (λ (b : Bool). b || is_name_among own x) (h x) ∙ ap (λ (b : Bool). list_any (λ d. has d x) (take n cs) || b) (f x ∙ sym (or_false (has c x)))
+      a x ∙ ap (λ (b : Bool). b || is_name_among own x) (h x) ∙ ap (λ (b : Bool). list_any (λ d. has d x) (take n cs) || b) (f x ∙ sym (or-false (has c x)))
       ∙ sym (list_any-append (λ d. has d x) (take n cs) (c ∷ [])) ∙ ap (list_any (λ d. has d x)) (ap (λ (d : ClassFacts). take n cs ++ d ∷ []) e ∙ sym (take_more cs n c l))
 
   pub are_of_all : (cs : List ClassFacts) (n : ℕ) (names : List Bytes) → length cs ≤ n → AreOf (take n cs) names → AreOf cs names
@@ -94,14 +94,3 @@ pub count_next : (cs : List ClassFacts) (n : ℕ) (c : ClassFacts) (count more :
 count_next cs n c count more l e f h =
     f ∙ ap (λ (k : ℕ). k + length (mentions c)) h ∙ sym (one_more_counted (take n cs) c)
     ∙ ap (λ (ds : List ClassFacts). length (all_mentions ds)) (ap (λ (d : ClassFacts). take n cs ++ d ∷ []) e ∙ sym (take_more cs n c l))
-
--- ---- whether a class is named so
-
-pub any_named : (cs : List ClassFacts) (x : Bytes) → list_any (λ c. same c.name x) cs ≡ is_some (class_named cs x)
-unfolding class_named
-any_named [] x = refl
-any_named (c ∷ cs) x = go (same c.name x) (any_named cs x)
-  where
-    go : (b : Bool) → list_any (λ d. same d.name x) cs ≡ is_some (class_named cs x) → (b || list_any (λ d. same d.name x) cs) ≡ is_some (cond b (Some c) (class_named cs x))
-    go true h = refl
-    go false h = h

@@ -13,7 +13,7 @@ use Rattle.jc_facts.specs.Names.{Bytes, same}
 use Rattle.jc_facts.specs.Exactly.{name_order}
 use Rattle.jc_facts.proofs.Same.{same_is, same_itself}
 use Rattle.std.proofs.lemmas.Bool.{cases_lt}
-use Rattle.jc_lemmas.proofs.Bools.{tests_agree}
+use Rattle.std.specs.Cmp.{both_ways}
 
 -- x is less than y
 abbrev pub less : Bytes → Bytes → Bool
@@ -71,11 +71,11 @@ module _ (b : Bytes) (t : Bytes → Bool) (low : (y : Bytes) → less y b ≡ tr
     any_there inside x e =
         let is : get_or xs i [] ≡ x = get_or_default xs i [] x inside ∙ e in
         subst (λ (z : Bytes). list_any t xs ≡ t z) is
-        (tests_agree (list_any t xs) (t (get_or xs i [])) (λ h. first_passes inside (Any-from_list_any t xs h)) (list_any_at t xs i [] inside))
+        (both_ways (list_any t xs) (t (get_or xs i [])) (λ h. first_passes inside (Any-from_list_any t xs h)) (list_any_at t xs i [] inside))
 
     -- and none does where there is none
     pub any_past : length xs ≤ i → list_any t xs ≡ false
-    any_past past = tests_agree (list_any t xs) false (λ h. none_past past (Any-from_list_any t xs h)) (λ h. absurd (cc))
+    any_past past = both_ways (list_any t xs) false (λ h. none_past past (Any-from_list_any t xs h)) (λ h. absurd (cc))
 
 -- ---- the name itself
 

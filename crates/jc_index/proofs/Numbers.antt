@@ -6,6 +6,7 @@ use Rattle.std.specs.Ordering.{is_lt, is_eq, ordering_reverse}
 use Rattle.std.specs.Cmp.Lexicographic.{nat_list_cmp_total}
 use Rattle.std.specs.declared.cmp.Ordering.TheVariants.{Less, Equal, Greater}
 use Rattle.std.proofs.lemmas.Map.Text.{is_eq-slice_cmp}
+use Rattle.std.proofs.Math.Bool.{or-true}
 use Rattle.jc_facts.specs.declared.class_facts.ClassFacts.{ClassFacts}
 use Rattle.jc_facts.specs.Names.{Bytes, same}
 use Rattle.jc_facts.specs.Options.{and_then}
@@ -253,13 +254,9 @@ in-place : (ys : List Bytes) (x : Bytes) → Contains ys x → is_some (place_of
 in-place [] x k = absurd (none x k)
 in-place (y ∷ ys) x k = place-first y ys x ∙ go (cases y ys x k) (in-place ys x)
   where
-    or_right : (b : Bool) → (b || true) ≡ true
-    or_right true = refl
-    or_right false = refl
-
     go : (y ≡ x) ⊎ Contains ys x → (Contains ys x → is_some (place_of ys x) ≡ true) → (same y x || is_some (place_of ys x)) ≡ true
     go (inl is) r = let q : same y x ≡ true = ap (λ (z : Bytes). same y z) (sym is) ∙ same_itself y in rw q refl
-    go (inr c) r = rw (r c) (or_right (same y x))
+    go (inr c) r = rw (r c) (or-true (same y x))
 
 -- the names in order have a name exactly where a class has it
 pub named-in : (cs : List ClassFacts) (x : Bytes) → is_some (class_named cs x) ≡ true → Contains (names_of cs) x

@@ -1,13 +1,14 @@
 -- Which method of the superinterfaces is picked, by numbers of classes.
 use Rattle.std.proofs.Common.{◌≡◌, ℕ, Bool, true, false, cond, not, ◌||◌, List, [], ◌∷◌, refl, sym, ◌∙◌, ap, subst, Option, Some, None}
 use Rattle.std.specs.List.{list_any, Contains}
+use Rattle.std.proofs.lemmas.Bool.{not-true}
 use Rattle.jc_facts.specs.declared.key.Key.{Key}
 use Rattle.jc_facts.specs.Names.{Bytes}
 use Rattle.jc_facts.specs.Flags.{abstract_flag}
 use Rattle.jc_facts.specs.world.World.{World, DeclaredMember}
 use Rattle.jc_facts.specs.world.Loading.{load_fault}
 use Rattle.jc_facts.specs.world.Lookup.{is_maximal, only_or, superinterface_choices}
-use Rattle.jc_lemmas.proofs.Bools.{contradicts, not_true}
+use Rattle.jc_lemmas.proofs.Bools.{contradicts}
 use Rattle.jc_lemmas.proofs.Listed.{EachOf, each_from, here}
 use Rattle.jc_index.specs.Ids.{name_at}
 use Rattle.jc_index.specs.Lookups.{IsChoice}
@@ -26,7 +27,7 @@ module _ (W : World) (x : Bytes) (loads : load_fault W x ≡ None) (k : Key) whe
   picked_among p i [] e = (i.method, i.is_in, i.found)
   picked_among p i (m ∷ ms) e =
       subst (λ (ns : List DeclaredMember). IsChoice W (Some p) (only_or ns (methods_above W x k))) e
-      (only_choice W x loads k p i.method (best W x loads k) (one_best W x loads k i.method i.is_in (concrete (abstract_flag i.method.member.flags) refl) (not_true (has_rival_below W x k i.method.owner) i.maximal)) (λ n c. (best_one W x loads k n c).0) i.found)
+      (only_choice W x loads k p i.method (best W x loads k) (one_best W x loads k i.method i.is_in (concrete (abstract_flag i.method.member.flags) refl) (not-true (has_rival_below W x k i.method.owner) i.maximal)) (λ n c. (best_one W x loads k n c).0) i.found)
     where
       b : (Contains (methods_above W x k) m) × (abstract_flag m.member.flags ≡ false) × (has_rival_below W x k m.owner ≡ false)
       b = best_one W x loads k m (subst (λ (ns : List DeclaredMember). Contains ns m) (sym e) (here m ms))
@@ -77,7 +78,7 @@ module _ (W : World) (x : Bytes) (loads : load_fault W x ≡ None) (k : Key) whe
           let i : IsOne W x loads k m = one_of W x loads k m c in
           let f : Found = record { owner = i.number; flags = m.member.flags } in
           let v : (abstract_flag m.member.flags || has_rival_below W x k (name_at W i.number)) ≡ false =
-          ap (λ b. b || has_rival_below W x k (name_at W i.number)) e ∙ ap (has_rival_below W x k) i.name ∙ not_true (has_rival_below W x k m.owner) t
+          ap (λ b. b || has_rival_below W x k (name_at W i.number)) e ∙ ap (has_rival_below W x k) i.name ∙ not-true (has_rival_below W x k m.owner) t
           in
           absurd (let z : None ≡ Some f = sym (h i.number i.below i.above) ∙ ap (if_best W x k) i.candidate ∙ ap (λ b. cond b None (Some f)) v in cc)
 

@@ -5,7 +5,7 @@ use Rattle.std.proofs.lemmas.Bool.{cases_eq, eq-eqb, ne_eqb, eqb-true, cases_lt}
 use Rattle.std.proofs.lemmas.List.{append-nil, length-append, length-set, get_or_append_left, get_or_past, get_or_default, get_or_push, get_or-set_same, get_or-set_other}
 use Rattle.std.proofs.lemmas.List.Elements.{All-append, All-push, All-contains, All-from_recursion, All-weaker, All-contains_itself, Contains-append_left, Contains-push, Contains-get_or}
 use Rattle.std.proofs.lemmas.List.Folds.{list_any-append, list_any_at, Any-from_list_any}
-use Rattle.jc_lemmas.proofs.Bools.{tests_agree}
+use Rattle.std.specs.Cmp.{both_ways}
 use Rattle.jc_index.specs.steps.Reach.{next_of, AreLedTo, IsLedTo}
 use Rattle.jc_index.specs.steps.Queue.{is_in, Has, ArePlaces, missing, Enqueues}
 
@@ -73,7 +73,7 @@ module _ (places queue : List ℕ) (a : ArePlaces places queue) (id place : ℕ)
       (subst (λ p. p < length queue) same c.1, ap (λ p. get_or queue p 0) (sym same) ∙ is)
 
   pub there : (x : ℕ) → place < length queue → get_or queue place x ≡ x → eqb x id ≡ is_in queue id
-  there x l e = tests_agree (eqb x id) (is_in queue id) to from
+  there x l e = both_ways (eqb x id) (is_in queue id) to from
     where
       to : eqb x id ≡ true → is_in queue id ≡ true
       to t = let q : x ≡ id = eqb-true x id t in in_queue queue id (subst (λ j. Contains queue j) q (place, l, e))
@@ -82,7 +82,7 @@ module _ (places queue : List ℕ) (a : ArePlaces places queue) (id place : ℕ)
       from h = eq-eqb x id (sym e ∙ get_or_default queue place x 0 l ∙ (stands h).1)
 
   pub past : length queue ≤ place → false ≡ is_in queue id
-  past l = tests_agree false (is_in queue id) (λ h. absurd (let c : false ≡ true = h in cc)) (λ h. absurd (let s = (stands h).0 in omega arith))
+  past l = both_ways false (is_in queue id) (λ h. absurd (let c : false ≡ true = h in cc)) (λ h. absurd (let s = (stands h).0 in omega arith))
 
 -- ---- one number
 
@@ -98,13 +98,6 @@ puts_new queue id q = list_any-append (λ x. eqb x q) queue (id ∷ []) ∙ go (
     go true false = refl
     go false true = refl
     go false false = refl
-
-puts_old : (queue : List ℕ) (id : ℕ) → Has queue id → Puts queue queue id
-puts_old queue id h q = go (cases_eq id q)
-  where
-    go : (id ≡ q) ⊎ (id ≡ q → ⊥) → is_in queue q ≡ cond (eqb id q) true (is_in queue q)
-    go (inl e) = subst (λ j. is_in queue j ≡ cond (eqb id j) true (is_in queue j)) e (h ∙ rw (eq-eqb id id refl) refl)
-    go (inr n) = rw (ne_eqb id q n) refl
 
 module _ (before after : List ℕ) (id : ℕ) (u : Puts before after id) where
   has_it : Has after id
@@ -151,16 +144,6 @@ module _ (before after : List ℕ) (id : ℕ) (u : Puts before after id) where
       go : (id ≡ k) ⊎ Has before k → p k ≡ true
       go (inl e) = subst (λ j. p j ≡ true) e (the_one (λ i. p i ≡ true) id new)
       go (inr b) = old k b
-
-pub adds_none : (queue : List ℕ) → Enqueues queue queue []
-adds_none queue = record {
-  keeps = λ k h. h;
-  has = none_all (Has queue);
-  only = λ p old new k h. old k h;
-  end = [];
-  longer_by = sym (append-nil queue);
-  counted = λ n ids. refl;
-}
 
 pub adds_new : (queue : List ℕ) (id : ℕ) → is_in queue id ≡ false → Enqueues queue (queue ++ id ∷ []) (id ∷ [])
 adds_new queue id new =

@@ -5,6 +5,7 @@ use Rattle.std.specs.List.{Any, list_any}
 use Rattle.std.proofs.lemmas.Bool.{eqb-true, eq-eqb, or_left, or_right}
 use Rattle.std.proofs.lemmas.List.Folds.{Any-from_list_any}
 use Rattle.std.proofs.lemmas.List.Elements.{All-contains}
+use Rattle.std.specs.Cmp.{both_ways}
 use Rattle.jc_facts.specs.declared.class_facts.ClassFacts.{ClassFacts}
 use Rattle.jc_facts.specs.Names.{Bytes, same}
 use Rattle.jc_facts.specs.Options.{some_and}
@@ -19,7 +20,6 @@ use Rattle.jc_facts.proofs.World.{IsOf, find-name}
 use Rattle.jc_index.specs.Ids.{name_at}
 use Rattle.jc_index.specs.Above.{leads_to, leads_by, AreAbove}
 use Rattle.jc_index.proofs.Numbers.{id_of-Some, number_of}
-use Rattle.jc_lemmas.proofs.Bools.{tests_agree}
 
 any_at : (q : ℕ → Bool) (ids : List ℕ) (k : ℕ) → list_any (λ n. n == k) ids ≡ true → q k ≡ true → list_any q ids ≡ true
 any_at q [] k h e = absurd (let c : false ≡ true = h in cc)
@@ -85,4 +85,4 @@ module _ (W : World) (p : ClassFacts → Bool) (x : Bytes) (c : ClassFacts) (f :
 
   pub any_reached : list_any p (each (with_interfaces W) c.interfaces) ≡ list_any (λ n. some_and p (find_class W (name_at W n))) ids
   unfolding reached passes
-  any_reached = tests_agree (list_any p reached) (list_any passes ids) (λ e. to (Any-from_list_any p reached e)) (λ e. from (Any-from_list_any passes ids e))
+  any_reached = both_ways (list_any p reached) (list_any passes ids) (λ e. to (Any-from_list_any p reached e)) (λ e. from (Any-from_list_any passes ids e))

@@ -3,7 +3,7 @@ use Rattle.std.proofs.Common.{◌≡◌, ◌<◌, ◌≤◌, ◌+◌, ◌-◌, �
 use Rattle.std.specs.Prelude.{is_some, slice_get}
 use Rattle.std.specs.List.{All, Contains}
 use Rattle.std.proofs.lemmas.Bool.{cases_eq}
-use Rattle.std.proofs.lemmas.List.{length-append, length-drop, length-map, length-set, get_or-map, get_or-drop, get_or-set_same, get_or-set_other, get_or_default, take_more, take_all, drop_all, take-append-le, drop-append-le, take-append-drop}
+use Rattle.std.proofs.lemmas.List.{length-append, length-drop, length-map, length-set, get_or-map, get_or-drop, get_or-set_same, get_or-set_other, get_or_default, take_more, take-append-le, drop-append-le}
 use Rattle.std.proofs.lemmas.List.Elements.{All-weaker, Contains-push, Contains-push_cases, Contains-append_left}
 use Rattle.jc_index.specs.declared.part.Part.{Part}
 use Rattle.jc_index.specs.steps.Reach.{next_of, AreLedTo, IsLedTo, AllLedTo}
@@ -115,15 +115,6 @@ part-lies ids parts rows n k found part h v l s e is =
     let m : n < length parts = subst (λ j. n < j) (ap length (sym v) ∙ length-map parts (items_of ids)) l in
     h k part (get_or_default parts k None found (subst (λ j. j < length parts) (sym s) m) ∙ sym e ∙ is)
 
--- ---- what is known of it
-
--- nothing
-pub nothing_known : (edges : List (List ℕ)) (n : ℕ) → AreLedTo edges n []
-nothing_known edges n = record { further = λ k c. absurd (none k c); least = λ p first more k c. absurd (none k c) }
-  where
-    none : (k : ℕ) → Contains [] k → ⊥
-    none k c = absurd (let l : c.0 < 0 = c.1 in omega (arith, l))
-
 first_in : (xs : List ℕ) (i : ℕ) (P : ℕ → Type 0) → slice_get xs 0 ≡ Some i → All P xs → P i
 first_in [] i P e all = absurd (let c : None ≡ Some i = e in cc)
 first_in (x ∷ xs) i P e all = let same : Some x ≡ Some i = e in let is : x ≡ i = cc in subst P is (all 0 x (omega arith))
@@ -134,35 +125,3 @@ from_first edges n i ids e s = record {
   further = s.further;
   least = λ p first more k c. s.least p (more i (first_in (next_of edges n) i (λ j. p j ≡ true) e first)) more k c;
 }
-
--- nothing stands at the end of the list
-pub empty_range : (ids : List ℕ) (a : ℕ) → slice_range ids a a ≡ []
-empty_range ids a = let n : a - a ≡ 0 = omega arith in ap (λ j. take j (drop a ids)) n
-
--- ---- numbers that are made a part
-
-module _ (ids numbers : List ℕ) (start same : ℕ) (inside : start ≤ length ids) (e : take same (drop start ids) ≡ take same numbers) where
-  -- they stand there
-  pub put-inside : same ≡ length numbers → slice_range ids start (start + same) ≡ numbers
-  put-inside all =
-      let n : start + same - start ≡ same = omega arith in
-      ap (λ j. take j (drop start ids)) n ∙ e ∙ take_all same numbers (omega (arith, all))
-
-  -- the list goes on with them
-  pub put-longer : start + same ≡ length ids → slice_range (ids ++ drop same numbers) start (length (ids ++ drop same numbers)) ≡ numbers
-  put-longer all =
-      let whole : drop start ids ≡ take same (drop start ids) = sym (take_all same (drop start ids) (omega (arith, length-drop start ids, all))) in
-      let at : drop start (ids ++ drop same numbers) ≡ numbers =
-      drop-append-le start ids (drop same numbers) inside ∙ ap (λ xs. xs ++ drop same numbers) (whole ∙ e) ∙ take-append-drop same numbers
-      in
-      let n : length numbers ≤ length (ids ++ drop same numbers) - start = omega (arith, length-append ids (drop same numbers), length-drop same numbers, all) in
-      ap (take (length (ids ++ drop same numbers) - start)) at ∙ take_all (length (ids ++ drop same numbers) - start) numbers n
-
--- they stand at the end of the list
-pub put-end : (ids numbers : List ℕ) → slice_range (ids ++ numbers) (length ids) (length (ids ++ numbers)) ≡ numbers
-put-end ids numbers =
-    let at : drop (length ids) (ids ++ numbers) ≡ numbers =
-    drop-append-le (length ids) ids numbers (omega arith) ∙ ap (λ xs. xs ++ numbers) (drop_all (length ids) ids (omega arith))
-    in
-    let n : length numbers ≤ length (ids ++ numbers) - length ids = omega (arith, length-append ids numbers) in
-    ap (take (length (ids ++ numbers) - length ids)) at ∙ take_all (length (ids ++ numbers) - length ids) numbers n

@@ -1,9 +1,9 @@
 -- The names of classes as they stand, and the places of classes by their names.
-use Rattle.std.proofs.Common.{◌≡◌, ◌≢◌, ℕ, zero, suc, ◌+◌, ◌<◌, ◌≤◌, Bool, true, false, cond, ◌||◌, List, [], ◌∷◌, ◌++◌, length, take, drop, get_or, set, refl, sym, ◌∙◌, ap, subst, Option, Some, None, ◌⊎◌, inl, inr, arith}
+use Rattle.std.proofs.Common.{◌≡◌, ◌≢◌, ℕ, zero, suc, ◌+◌, ◌<◌, ◌≤◌, Bool, true, false, cond, ◌||◌, List, [], ◌∷◌, ◌++◌, length, take, drop, get_or, refl, sym, ◌∙◌, ap, subst, Option, Some, None, arith}
 use Rattle.std.specs.Prelude.{is_some, is_none, nat_lt, option_map, slice_get, IsTrue, IfSome}
-use Rattle.std.proofs.lemmas.Bool.{cases_eq, ltb-true}
+use Rattle.std.proofs.lemmas.Bool.{ltb-true}
 use Rattle.std.proofs.lemmas.Bool.Decides.{nat_tests}
-use Rattle.std.proofs.lemmas.List.{append-nil, map-append, drop_all, length-map, map_more, get_or-map, get_or-set_same, get_or-set_other, take-map, take_all}
+use Rattle.std.proofs.lemmas.List.{append-nil, map-append, drop_all, length-map, map_more, get_or-map, take-map, take_all}
 use Rattle.jc_lemmas.proofs.Listed.{each_in}
 use Rattle.jc_facts.specs.declared.class_facts.ClassFacts.{ClassFacts}
 use Rattle.jc_facts.specs.Names.{Bytes, same, is_name_among}
@@ -177,20 +177,6 @@ are_numbers cs order numbers d o m h = record {
   count = m ∙ order_length cs order o ∙ names_of-length cs;
   each = numbered_there cs order numbers d o h;
 }
-
--- one more number is noted
-pub noted : (order numbers now : List ℕ) (n at number : ℕ) → ((i j : ℕ) → i < j → j < length order → get_or order i 0 ≡ get_or order j 0 → i ≡ j) → n < length order → at ≡ get_or order n 0 → number ≡ n
-    → at < length numbers → now ≡ set numbers at number → ((k : ℕ) → k < n → get_or numbers (get_or order k 0) 0 ≡ k) → (k : ℕ) → k < n + 1 → get_or now (get_or order k 0) 0 ≡ k
-noted order numbers now n at number a l e f b q h k s = go (cases_eq k n)
-  where
-    go : (k ≡ n) ⊎ (k ≡ n → ⊥) → get_or now (get_or order k 0) 0 ≡ k
-    go (inl is) =
-        let there : get_or order k 0 ≡ at = ap (λ (i : ℕ). get_or order i 0) is ∙ sym e in
-        ap (λ (ns : List ℕ). get_or ns (get_or order k 0) 0) q ∙ ap (λ (i : ℕ). get_or (set numbers at number) i 0) there ∙ get_or-set_same numbers at number 0 b ∙ f ∙ sym is
-    go (inr differs) =
-        let before : k < n = omega arith in
-        let apart : get_or order k 0 ≢ at = λ is. differs (a k n before l (is ∙ e)) in
-        ap (λ (ns : List ℕ). get_or ns (get_or order k 0) 0) q ∙ get_or-set_other numbers at (get_or order k 0) number 0 apart ∙ h k before
 
 -- what was lent and is given back
 pub lent_back : {A : Type 0} (len : ℕ) (new items : List A) → length new ≡ length items → len ≡ length items → take len (new ++ drop (length new) items) ≡ new

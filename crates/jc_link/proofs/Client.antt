@@ -1,5 +1,5 @@
 -- The outcomes of a client, added to those before.
-use Rattle.std.proofs.Common.{◌≡◌, ℕ, List, [], ◌∷◌, ◌++◌, refl, ◌∙◌, ap, Option, Some, None}
+use Rattle.std.proofs.Common.{◌≡◌, ℕ, List, [], ◌∷◌, ◌++◌, refl, ◌∙◌, ap, Some, None}
 use Rattle.std.specs.Prelude.{Err}
 use Rattle.std.proofs.lemmas.List.{append_assoc}
 use Rattle.jc_facts.specs.declared.client.ClientClass.{ClientClass}
@@ -14,10 +14,6 @@ use Rattle.jc_link.specs.declared.asked.Asked.{Asked}
 use Rattle.jc_link.specs.steps.Asked.{outcomes_of_one}
 use Rattle.jc_link.specs.steps.ItemSteps.{IsAt, IsLoaded}
 use Rattle.jc_worlds.specs.Alike.{LinkAlike}
-
--- the outcome of a loading with this fault
-of_loading : Bytes → Option LinkError → Outcome
-of_loading x e = record { «class» = x; item = None; error = e }
 
 pub client_loads : (W : World) (a : Asked) (id : ℕ) (os mid after : List Outcome) → IsAt W a.name id → mid ≡ os ++ record { «class» = a.name; item = None; error = None } ∷ []
     → after ≡ mid ++ item_outcomes W (name_at W id) a.items → after ≡ os ++ outcomes_of_one W a

@@ -1,5 +1,5 @@
 -- What the lookup of a table finds is what the act's lookup finds.
-use Rattle.std.proofs.Common.{◌≡◌, Bool, true, false, not, ◌||◌, refl, sym, ◌∙◌, ap, Option, Some, None}
+use Rattle.std.proofs.Common.{◌≡◌, true, false, refl, sym, ◌∙◌, ap, Option, Some, None}
 use Rattle.std.specs.Prelude.{Ok, Err}
 use Rattle.std.specs.List.{All}
 use Rattle.std.proofs.lemmas.List.Elements.{recursion_from_All}
@@ -14,7 +14,7 @@ use Rattle.jc_facts.specs.world.World.{World, classes, DeclaredMember}
 use Rattle.jc_facts.specs.world.Loading.{load_fault}
 use Rattle.jc_facts.specs.world.Lookup.{field_found, method_choices, interface_choices}
 use Rattle.jc_facts.specs.world.Assignment.{is_interface_of}
-use Rattle.jc_facts.specs.client.Acts.{Form, FieldForm, MethodForm, InterfaceForm, form_of, is_put_act, is_field_form, is_act_on_field}
+use Rattle.jc_facts.specs.client.Acts.{Form, FieldForm, MethodForm, InterfaceForm, form_of, is_put_act}
 use Rattle.jc_facts.specs.client.Outcome.{look_up, found_or, first_of, use_fault}
 use Rattle.jc_facts.specs.file.Valid.{IsValidClass}
 use Rattle.jc_lemmas.proofs.Listed.{each_in}
@@ -33,11 +33,6 @@ interface_put : (act : Act) → form_of act ≡ InterfaceForm → is_put_act act
 interface_put acts.PutStatic e = absurd (cc)
 interface_put acts.PutField e = absurd (cc)
 interface_put _ e = refl
-
--- an act on a method names no class initializer
-pub no_clinit : (act : Act) (form : Form) (b : Bool) → form_of act ≡ form → is_field_form form ≡ false → (is_act_on_field act || not b) ≡ true → b ≡ false
-no_clinit act form true e f h = absurd (let clash : false ≡ true = sym (ap (λ z. z || false) (ap is_field_form e ∙ f)) ∙ h in cc)
-no_clinit act form false e f h = refl
 
 module _ (W : World) (act : Act) (c : Bytes) (k : Key) where
   -- the lookup of another form of the act

@@ -1,18 +1,15 @@
 -- Of a member found only the owner and the flags count.
-use Rattle.std.proofs.Common.{◌≡◌, ◌<◌, ℕ, [], refl, sym, ◌∙◌, ap, Option, Some, None}
+use Rattle.std.proofs.Common.{◌≡◌, ℕ, [], refl, sym, ◌∙◌, ap, Option, Some, None}
 use Rattle.jc_facts.specs.declared.act.Act.{Act}
 use Rattle.jc_facts.specs.declared.client.Place.{Place}
 use Rattle.jc_facts.specs.Names.{Bytes}
-use Rattle.jc_facts.specs.world.World.{World, size, DeclaredMember}
+use Rattle.jc_facts.specs.world.World.{World, DeclaredMember}
 use Rattle.jc_facts.specs.world.Access.{is_member_accessible}
 use Rattle.jc_facts.specs.world.Assignment.{passes_protected_check}
 use Rattle.jc_facts.specs.client.Outcome.{use_fault, assignment_ok, receiver_ok}
 use Rattle.jc_index.specs.Ids.{name_at}
 use Rattle.jc_index.specs.Lookups.{IsFound, member_of}
 use Rattle.jc_index.specs.declared.ids.Found.{Found}
-
-pub member_found : (W : World) (f : Found) → f.owner < size W → IsFound W f (member_of W f)
-member_found W f l = record { below = l; owner = refl; flags = refl }
 
 member_by : Bytes → ℕ → DeclaredMember
 member_by o flags = record { owner = o; member = record { name = []; descriptor = []; flags = flags } }

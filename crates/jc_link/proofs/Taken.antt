@@ -8,13 +8,13 @@ use Rattle.std.proofs.lemmas.Grind.{flat_map-append}
 use Rattle.std.proofs.lemmas.List.{append-nil}
 use Rattle.std.proofs.lemmas.List.Folds.{list_any-append}
 use Rattle.std.proofs.lemmas.List.Sorted.{list_any-IsPermutation}
+use Rattle.std.proofs.Math.Bool.{or-false}
 use Rattle.jc_facts.specs.declared.class_facts.ClassFacts.{ClassFacts}
 use Rattle.jc_facts.specs.declared.client.ClientClass.{ClientClass}
 use Rattle.jc_facts.specs.Names.{Bytes, same, is_name_among, package_name}
 use Rattle.jc_facts.specs.world.World.{World, side, class_named, find_class}
 use Rattle.jc_facts.specs.world.Search.{supers}
 use Rattle.jc_lemmas.proofs.Listed.{EachOf, EachOf-map}
-use Rattle.jc_lemmas.proofs.Bools.{or_false}
 use Rattle.jc_facts.proofs.Same.{same_is, same_itself}
 use Rattle.jc_link.specs.Refusals.{name_fault, first_refused}
 use Rattle.jc_link.specs.declared.client_names.ClientNames.{ClientNames}
@@ -68,7 +68,7 @@ module _ (ws : List Bytes) (x : Bytes) (h : is_name_among ws x ≡ true) where
 
 one_has : (name : ClassFacts → Bytes) (x : Bytes) (cs : List ClassFacts) → list_any (λ c. is_name_among (name c ∷ []) x) cs ≡ list_any (λ c. same (name c) x) cs
 one_has name x [] = refl
-one_has name x (c ∷ cs) = rw (or_false (same (name c) x), one_has name x cs) refl
+one_has name x (c ∷ cs) = rw (or-false (same (name c) x), one_has name x cs) refl
 
 is_there : (x : Bytes) (cs : List ClassFacts) → list_any (λ c. same c.name x) cs ≡ is_some (class_named cs x)
 unfolding class_named

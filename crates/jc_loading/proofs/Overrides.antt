@@ -21,17 +21,12 @@ use Rattle.std.proofs.lemmas.List.{drop_more, drop_all}
 use Rattle.jc_lemmas.proofs.Listed.{EachOf}
 use Rattle.jc_worlds.proofs.Descent.{descend-absent, descend-none_left, descend-found}
 use Rattle.std.proofs.lemmas.Bool.{and_right}
+use Rattle.std.proofs.Math.Bool.{or_comm, and-false}
 
 -- ---- the methods that are met
 
 meets-last : (k : Key) (xs : List DeclaredMember) (a : DeclaredMember) (cs : List ClassFacts) → reaches_final k (a ∷ xs) cs ≡ reaches_final k (xs ++ a ∷ []) cs
-meets-last k xs a cs = meets_final-append k (a ∷ []) xs cs ∙ swap (reaches_final k (a ∷ []) cs) (reaches_final k xs cs) ∙ sym (meets_final-append k xs (a ∷ []) cs)
-  where
-    swap : (p q : Bool) → (p || q) ≡ (q || p)
-    swap true true = refl
-    swap true false = refl
-    swap false true = refl
-    swap false false = refl
+meets-last k xs a cs = meets_final-append k (a ∷ []) xs cs ∙ or_comm (reaches_final k (a ∷ []) cs) (reaches_final k xs cs) ∙ sym (meets_final-append k xs (a ∷ []) cs)
 
 -- one class further up
 pub meets-step : (k : Key) (below : List DeclaredMember) (c : ClassFacts) (cs : List ClassFacts) → reaches_final k below (c ∷ cs) ≡ (overrides_this_final below (declared_method k c) || reaches_final k (linked_last below (declared_method k c)) cs)
@@ -121,11 +116,7 @@ unfixed-class k below c h = go (own_method_of c k) h
     last : (a : DeclaredMember) (f i : Bool) → final_flag a.member.flags ≡ f → no_static_flag a.member.flags ≡ i → (f && i) ≡ false → (is_overridden_by_any below a && f) ≡ false
     last a true true p q r = absurd (cc)
     last a true false p q r = rw (none-over below a q) refl
-    last a false i p q r = none (is_overridden_by_any below a)
-      where
-        none : (b : Bool) → (b && false) ≡ false
-        none true = refl
-        none false = refl
+    last a false i p q r = and-false (is_overridden_by_any below a)
 
     go : (o : Option Member) → some_and is_final_instance o ≡ false → overrides_this_final below (found_in c o) ≡ false
     go None r = refl

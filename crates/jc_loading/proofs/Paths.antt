@@ -6,6 +6,7 @@ use Rattle.jc_lemmas.proofs.Listed.{EachOf}
 use Rattle.std.proofs.lemmas.Bool.{eqb-true, eq-eqb, or_cases}
 use Rattle.std.proofs.lemmas.Bool.Decides.{eqb_tells}
 use Rattle.std.proofs.lemmas.Grind.{get_or-set_at}
+use Rattle.std.proofs.Math.Bool.{or-true}
 use Rattle.jc_facts.specs.declared.link_error.LinkError.{LinkError}
 use Rattle.jc_facts.specs.declared.link_error.LinkError.TheVariants.{ClassCircularityError}
 use Rattle.jc_facts.specs.Names.{Bytes}
@@ -17,7 +18,6 @@ use Rattle.jc_loading.specs.declared.faults.State.TheVariants as states
 use Rattle.jc_loading.specs.declared.faults.Frame.{Frame}
 use Rattle.jc_loading.specs.steps.Entering.{Leads, LeadsAlong, state_of, is_on, bottom}
 use Rattle.jc_loading.proofs.Entering.{leads-fault, circle}
-use Rattle.jc_lemmas.proofs.Bools.{or_true}
 
 -- ---- a state that is written
 
@@ -95,7 +95,7 @@ along-on W (f ∷ fs) top n h o = go (eqb_tells f.class n) o (along-on W fs top 
 
 -- the way leads from the top back to a class of the path or to the top itself
 pub along-circle : (W : World) (fs : List Frame) (top above id : ℕ) → LeadsAlong W fs top → Leads W (name_at W top) above (name_at W id) → (is_on id fs || eqb top id) ≡ true → load_fault W (name_at W top) ≡ Some ClassCircularityError
-along-circle W fs top above id h l o = circle W S lead (name_at W top) (top, rw (eq-eqb top top refl) (or_true (is_on top fs)), refl)
+along-circle W fs top above id h l o = circle W S lead (name_at W top) (top, rw (eq-eqb top top refl) (or-true (is_on top fs)), refl)
   where
     S : Bytes → Type 0
     S x = (n : ℕ) × ((is_on n fs || eqb top n) ≡ true) × (x ≡ name_at W n)

@@ -16,6 +16,7 @@ use Rattle.jc_facts.specs.world.Loading.{load_fault, fault_of_itself}
 use Rattle.jc_index.specs.Ids.{name_at, names}
 use Rattle.jc_index.proofs.Numbers.{names-length}
 use Rattle.std.proofs.lemmas.List.{take_more, take_all, map-append, length-map, get_or-map}
+use Rattle.std.proofs.Math.Bool.{or-false}
 use Rattle.jc_loading.specs.declared.faults.State.{State}
 use Rattle.jc_loading.specs.declared.faults.State.TheVariants as states
 use Rattle.jc_loading.specs.declared.faults.Frame.{Frame}
@@ -53,11 +54,7 @@ entered-written ss k n s l h = go (eqb_tells k n)
 -- ---- the path
 
 on-push : (n : ℕ) (fs : List Frame) (f : Frame) → is_on n (fs ++ f ∷ []) ≡ (is_on n fs || eqb f.class n)
-on-push n [] f = go (eqb f.class n)
-  where
-    go : (b : Bool) → (b || false) ≡ b
-    go true = refl
-    go false = refl
+on-push n [] f = or-false (eqb f.class n)
 on-push n (g ∷ fs) f = go (eqb g.class n) (is_on n (fs ++ f ∷ [])) (is_on n fs) (eqb f.class n) (on-push n fs f)
   where
     go : (a b c d : Bool) → b ≡ (c || d) → (a || b) ≡ ((a || c) || d)

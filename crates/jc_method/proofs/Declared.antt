@@ -9,16 +9,15 @@ use Rattle.jc_facts.specs.declared.class_facts.ClassFacts.{ClassFacts}
 use Rattle.jc_facts.specs.declared.class_facts.Member.{Member}
 use Rattle.jc_facts.specs.declared.key.Key.{Key}
 use Rattle.jc_facts.specs.Names.{Bytes, same, object_name}
-use Rattle.jc_facts.specs.Options.{or_else, and_then, some_and}
+use Rattle.jc_facts.specs.Options.{or_else, and_then}
 use Rattle.jc_facts.specs.world.World.{World, find_class, own_method_of, found_in, declared_method, DeclaredMember}
 use Rattle.jc_facts.specs.world.Hierarchy.{chain, of_super, superinterfaces}
 use Rattle.jc_facts.specs.world.Loading.{load_fault}
 use Rattle.jc_facts.specs.world.Lookup.{first_declared, superinterface_choices, or_choices, method_choices, if_public_instance, public_method_of_object, interface_choices}
-use Rattle.jc_facts.specs.world.Inheritance.{offers, is_inheritable, itself_and, inherits}
 use Rattle.jc_facts.specs.file.Valid.{IsValidClass}
 use Rattle.jc_lemmas.proofs.Listed.{none, cases, EachOf, any_has}
 use Rattle.jc_worlds.specs.Hierarchy.{above}
-use Rattle.jc_lemmas.proofs.Lists.{any_weaker, any_left, any_right}
+use Rattle.jc_lemmas.proofs.Lists.{any_left, any_right}
 use Rattle.jc_facts.proofs.World.{find-name, IsOf}
 use Rattle.jc_facts.proofs.Same.{same_is}
 use Rattle.jc_worlds.proofs.Above.{chain-each}
@@ -81,28 +80,6 @@ module _ (k : Key) where
     module _ (loads : load_fault W x ≡ None) where
       own_is : (c : ClassFacts) → find_class W x ≡ Some c → is_some (own_method_of c k) ≡ true → declare_method (above W x) k ≡ true
       own_is c f h = from_chain (ap (list_any (λ c. is_some (own_method_of c k))) (chain-unroll W x c f loads) ∙ or_left (has c) (list_any (λ c. is_some (own_method_of c k)) (of_super (chain W) c.superclass)) h)
-
-      pub inherits_is_declared : inherits W x k ≡ true → declare_method (above W x) k ≡ true
-      unfolding inherits
-      inherits_is_declared h = go (find_class W x) refl h
-        where
-          tells : (c : ClassFacts) → offers k c ≡ true → is_some (own_method_of c k) ≡ true
-          tells c e = at (own_method_of c k) e
-            where
-              at : (o : Option Member) → some_and is_inheritable o ≡ true → is_some o ≡ true
-              at None e = absurd (let clash : false ≡ true = e in cc)
-              at (Some m) e = refl
-
-          those : list_any (offers k) (superinterfaces W x) ≡ true → declare_method (above W x) k ≡ true
-          those h = from_superinterfaces (any_weaker (offers k) (λ c. is_some (own_method_of c k)) tells (superinterfaces W x) h)
-
-          go : (o : Option ClassFacts) → find_class W x ≡ o → list_any (offers k) (itself_and (superinterfaces W x) o) ≡ true → declare_method (above W x) k ≡ true
-          go None f h = absurd (let clash : false ≡ true = h in cc)
-          go (Some c) f h = either (or_cases (offers k c) (list_any (offers k) (superinterfaces W x)) h)
-            where
-              either : (offers k c ≡ true) ⊎ (list_any (offers k) (superinterfaces W x) ≡ true) → declare_method (above W x) k ≡ true
-              either (inl e) = own_is c f (tells c e)
-              either (inr e) = those e
 
       module _ (valid : (y : Bytes) (c : ClassFacts) → find_class W y ≡ Some c → IsValidClass c) where
         -- java/lang/Object stands in the chain

@@ -1,22 +1,10 @@
 -- A test of each item of a list, piece by piece.
 use Rattle.std.proofs.Common.{◌≡◌, ℕ, ◌+◌, ◌-◌, length, Bool, true, false, ◌&&◌, List, take, drop, refl, sym, ◌∙◌, ap, arith}
 use Rattle.std.specs.List.{list_all}
-use Rattle.std.proofs.lemmas.Bool.{and_parts}
+use Rattle.std.proofs.lemmas.Bool.{and_parts, and_from, and_left, and_right}
 use Rattle.std.proofs.lemmas.List.{take_all, take-append-drop, length-drop}
 use Rattle.std.proofs.lemmas.List.Folds.{list_all-append}
 use Rattle.std.proofs.Math.Seq.{take-add}
-
-both : (a b : Bool) → a ≡ true → b ≡ true → (a && b) ≡ true
-both true b h g = g
-both false b h g = h
-
-left_fails : (a b : Bool) → a ≡ false → (a && b) ≡ false
-left_fails false b h = refl
-left_fails true b h = absurd (let q : true ≡ false = h in cc)
-
-right_fails : (a b : Bool) → b ≡ false → (a && b) ≡ false
-right_fails false b h = refl
-right_fails true b h = h
 
 on_left : (a b : Bool) → a ≡ true → b ≡ (a && b)
 on_left true b h = refl
@@ -30,13 +18,13 @@ of_front p k n xs = ap (list_all p) (take-add k n xs) ∙ list_all-append p (tak
 
 -- a piece more passes
 pub piece_more : {A : Type 0} (p : A → Bool) (k n : ℕ) (xs : List A) → list_all p (take k xs) ≡ true → list_all p (take n (drop k xs)) ≡ true → list_all p (take (k + n) xs) ≡ true
-piece_more p k n xs h g = of_front p k n xs ∙ both (list_all p (take k xs)) (list_all p (take n (drop k xs))) h g
+piece_more p k n xs h g = of_front p k n xs ∙ and_from (list_all p (take k xs)) (list_all p (take n (drop k xs))) h g
 
 -- a piece doesn't pass
 pub piece_fails : {A : Type 0} (p : A → Bool) (k n : ℕ) (xs : List A) → list_all p (take n (drop k xs)) ≡ false → list_all p xs ≡ false
 piece_fails p k n xs h =
-    let behind : list_all p (drop k xs) ≡ false = of_parts p n (drop k xs) ∙ left_fails (list_all p (take n (drop k xs))) (list_all p (drop n (drop k xs))) h in
-    of_parts p k xs ∙ right_fails (list_all p (take k xs)) (list_all p (drop k xs)) behind
+    let behind : list_all p (drop k xs) ≡ false = of_parts p n (drop k xs) ∙ and_left (list_all p (take n (drop k xs))) (list_all p (drop n (drop k xs))) h in
+    of_parts p k xs ∙ and_right (list_all p (take k xs)) (list_all p (drop k xs)) behind
 
 -- the last piece tells, where it begins inside what has passed
 pub last_piece : {A : Type 0} (p : A → Bool) (j m : ℕ) (xs : List A) → list_all p (take (j + m) xs) ≡ true → list_all p (take (length xs - j) (drop j xs)) ≡ list_all p xs

@@ -3,7 +3,7 @@
 --     over_stopped      why it is left
 --     numbered_first, numbered_next, numbered_end      the loop that numbers releases
 use Rattle.std.proofs.Common.{◌≡◌, ◌<◌, ◌≤◌, ◌+◌, ◌⊎◌, inl, inr, ℕ, suc, List, [], ◌∷◌, ◌++◌, map, length, None, Some, refl, sym, ap, subst, ◌∙◌, append_assoc, arith}
-use Rattle.std.proofs.lemmas.List.{append-nil, length-map, length-append, map_push}
+use Rattle.std.proofs.lemmas.List.{length-map, length-append, map_push}
 use Rattle.std.specs.List.{All}
 use Rattle.std.proofs.lemmas.List.Elements.{recursion_from_All}
 use Rattle.jc_facts.specs.declared.class_facts.ClassFacts.{ClassFacts}
@@ -57,9 +57,6 @@ over_next platform all rest r tables table way is root apart = record {
   lists = way.lists.1;
   root = inr root;
 }
-
-pub over_all : (platform : List ClassFacts) (all : List Release) (tables : List World) → IsOver platform all [] tables → tables ≡ sides_of platform all
-over_all platform all tables way = sym (append-nil tables) ∙ way.built
 
 mismatch_none : (platform : List ClassFacts) (releases : List Release) → fault_of_root platform ≡ None → first_overlap platform releases ≡ None → mismatch_among platform releases ≡ None
 unfolding or_else
@@ -120,9 +117,6 @@ pub record IsNumbered (all rest : List TreeRead) (number : ℕ) (releases : List
   pub counted : number ≡ 1 + length releases
   pub libraries : EachOf (λ read. kind_of read ≡ kinds.Library) rest
 
-pub numbered_first : (all : List TreeRead) → All (λ read. kind_of read ≡ kinds.Library) all → IsNumbered all all 1 []
-numbered_first all h = record { read = refl; numbers = refl; counted = refl; libraries = recursion_from_All (λ read. kind_of read ≡ kinds.Library) all h }
-
 pub numbered_next : (all rest : List TreeRead) (read : TreeRead) (number : ℕ) (releases : List Release) (records : List ClassFacts) → IsNumbered all (read ∷ rest) number releases → read ≡ reads.Library records
     → IsNumbered all rest (number + 1) (releases ++ release_at (names.NthRelease number) records ∷ [])
 numbered_next all rest read number releases records way is = record {
@@ -143,12 +137,3 @@ numbered_next all rest read number releases records way is = record {
 
     count : 1 + length (map (λ (r : Release). r.records) releases) ≡ number
     count = let c = way.counted in omega (arith, c, length-map releases (λ (r : Release). r.records))
-
-pub numbered_few : (all rest : List TreeRead) (read : TreeRead) (number : ℕ) (releases : List Release) → IsNumbered all (read ∷ rest) number releases → length all ≤ 20 → number ≤ 20
-numbered_few all rest read number releases way few =
-    let c = way.counted in
-    let e : length (map (λ (r : Release). reads.Library r.records) releases ++ read ∷ rest) ≡ length all = ap length way.read in
-    omega (arith, c, e, few, length-append (map (λ (r : Release). reads.Library r.records) releases) (read ∷ rest), length-map releases (λ (r : Release). reads.Library r.records))
-
-pub numbered_end : (all : List TreeRead) (number : ℕ) (releases : List Release) → IsNumbered all [] number releases → map (λ (r : Release). reads.Library r.records) releases ≡ all
-numbered_end all number releases way = sym (append-nil (map (λ (r : Release). reads.Library r.records) releases)) ∙ way.read

@@ -1,5 +1,6 @@
 -- The JSON of a verdict has no float.
-use Rattle.std.proofs.Common.{◌≡◌, ◌||◌, ◌+◌, ℕ, Bool, true, false, List, [], ◌∷◌, Option, Some, None, refl, length}
+use Rattle.std.proofs.Common.{◌≡◌, ◌+◌, ℕ, false, List, [], ◌∷◌, Option, Some, None, refl, length}
+use Rattle.std.proofs.lemmas.Bool.{or_from}
 use Rattle.serde_json.specs.Data.{Data}
 use Rattle.serde_json.specs.View.{items_of}
 use Rattle.serde_json.specs.Written.{has_float, items_have_float}
@@ -12,10 +13,6 @@ use Rattle.jc_facts.specs.declared.verdict.Verdict.{Verdict}
 use Rattle.jc_facts.specs.Names.{Bytes}
 use Rattle.jc_report.specs.Json.{name_or_null, member_or_null, finding_json, collision_json, note_json, verdict_json}
 use Rattle.jc_report.specs.Listing.{values_from}
-
-pub either : (a b : Bool) → a ≡ false → b ≡ false → (a || b) ≡ false
-either true b x y = x
-either false b x y = y
 
 name_plain : (x : Option Bytes) → has_float (name_or_null x) ≡ false
 name_plain None = refl
@@ -38,7 +35,7 @@ note_plain (notes.Fixed x k) = refl
 -- the objects of items
 pub each_plain : {A : Type 0} (shaped : A → ℕ → Data) → ((x : A) (n : ℕ) → has_float (shaped x n) ≡ false) → (n : ℕ) (xs : List A) → items_have_float (items_of (values_from shaped n xs)) ≡ false
 each_plain shaped h n [] = refl
-each_plain shaped h n (x ∷ xs) = either _ _ (h x n) (each_plain shaped h (n + 1) xs)
+each_plain shaped h n (x ∷ xs) = or_from _ _ (h x n) (each_plain shaped h (n + 1) xs)
 
 pub verdict_plain : (v : Verdict) → has_float (verdict_json v) ≡ false
 verdict_plain v =

@@ -159,9 +159,6 @@ record IsLine (line : Bytes) : Type 0 where
   plain : EndsNone words
   whole : line ≡ words ++ 0x0a ∷ []
 
-line_of : (words : Bytes) → EndsNone words → IsLine (words ++ 0x0a ∷ [])
-line_of words h = record { words = words; plain = h; whole = refl }
-
 -- one more word, with a space before it
 then_word : {front next : Bytes} → EndsNone front → EndsNone next → EndsNone (front ++ codes " " ++ next)
 then_word {front} {next} h k = both {a = front ++ codes " "} (both {b = codes " "} h (text refl)) k

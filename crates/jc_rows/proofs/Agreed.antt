@@ -2,7 +2,7 @@
 use Rattle.std.proofs.Common.{◌≡◌, ◌<◌, ℕ, Bool, true, false, not, ◌||◌, ◌==◌, List, [], ◌∷◌, ◌++◌, refl, sym, ◌∙◌, ap, subst, Option, Some, None, ◌⊎◌, inl, inr}
 use Rattle.std.specs.Prelude.{slice_get}
 use Rattle.std.specs.List.{list_any, Contains}
-use Rattle.std.proofs.lemmas.Bool.{and_parts, and_from, eqb-true}
+use Rattle.std.proofs.lemmas.Bool.{and_parts, and_from, eqb-true, not-true}
 use Rattle.std.proofs.lemmas.List.Elements.{Contains-append_left, Contains-append_right, Contains-append_cases}
 use Rattle.jc_facts.specs.declared.class_facts.ClassFacts.{ClassFacts}
 use Rattle.jc_facts.specs.declared.key.Key.{Key}
@@ -18,7 +18,7 @@ use Rattle.jc_facts.specs.world.Lookup.{declared_by, if_inheritable, is_maximal,
 use Rattle.jc_facts.proofs.Options.{or_else-cases}
 use Rattle.jc_facts.proofs.Same.{same_is, same_itself}
 use Rattle.jc_facts.proofs.World.{find-name}
-use Rattle.jc_lemmas.proofs.Bools.{contradicts, not_true}
+use Rattle.jc_lemmas.proofs.Bools.{contradicts}
 use Rattle.jc_lemmas.proofs.Listed.{EachOf, each_in, any_has, any_passes, list_all-each, here, there, none}
 use Rattle.jc_worlds.proofs.Bare.{bare_chain}
 use Rattle.jc_worlds.proofs.Loaded.{loads-parts, loads-found}
@@ -350,7 +350,7 @@ module _ (W : World) (side : IsSide W) (rows : List (List RowItem)) (n : ℕ) (k
         go : IsOwn w.name ⊎ IsPicked w.name → IsOwnMethod w.name r ⊎ Contains (methods_above W w.name k) r → ⊥
         go (inl o) (inl d) =
             let e : r.owner ≡ origin.method.owner = ap (λ (m : DeclaredMember). m.owner) (own_same w.name r o d) ∙ same_owner o.method o.found in
-            contradicts (same r.owner origin.method.owner) (ap (same r.owner) (sym e) ∙ same_itself r.owner) (not_true (same r.owner origin.method.owner) p.0)
+            contradicts (same r.owner origin.method.owner) (ap (same r.owner) (sym e) ∙ same_itself r.owner) (not-true (same r.owner origin.method.owner) p.0)
         go (inl o) (inr d) =
             let a : is_superinterface W w.name r.owner ≡ true = above_is w.name o.good.0 r d in
             let b : is_superinterface W r.owner w.name ≡ true = ap (is_superinterface W r.owner) (sym (own_owner w.name o)) ∙ p.1 in
@@ -359,7 +359,7 @@ module _ (W : World) (side : IsSide W) (rows : List (List RowItem)) (n : ℕ) (k
         go (inr q) (inr d) =
             let t : is_under W side r.owner q.pick.method.owner ≡ true = ap (is_under W side r.owner) (same_owner q.pick.method q.pick.found) ∙ u in
             contradicts (list_any (λ (o : DeclaredMember). is_under W side o.owner q.pick.method.owner) (methods_above W w.name k))
-            (any_has (λ (o : DeclaredMember). is_under W side o.owner q.pick.method.owner) (methods_above W w.name k) r d t) (not_true (list_any (λ (o : DeclaredMember). is_under W side o.owner q.pick.method.owner) (methods_above W w.name k)) q.pick.maximal)
+            (any_has (λ (o : DeclaredMember). is_under W side o.owner q.pick.method.owner) (methods_above W w.name k) r d t) (not-true (list_any (λ (o : DeclaredMember). is_under W side o.owner q.pick.method.owner) (methods_above W w.name k)) q.pick.maximal)
 
     maximal : is_maximal W (methods_above W x k) origin.method ≡ true
     maximal = ap not (go (list_any (λ (o : DeclaredMember). is_under W side o.owner origin.method.owner) (methods_above W x k)) refl)
@@ -379,7 +379,7 @@ module _ (W : World) (side : IsSide W) (rows : List (List RowItem)) (n : ℕ) (k
         go true e =
             let r = any_passes (λ (o : DeclaredMember). is_under W side o.owner m.owner) (methods_above W s k) e in
             absurd (contradicts (list_any (λ (o : DeclaredMember). is_under W side o.owner m.owner) (methods_above W x k))
-            (any_has (λ (o : DeclaredMember). is_under W side o.owner m.owner) (methods_above W x k) r.one (v.up r.one r.is_in) r.passes) (not_true (list_any (λ (o : DeclaredMember). is_under W side o.owner m.owner) (methods_above W x k)) t))
+            (any_has (λ (o : DeclaredMember). is_under W side o.owner m.owner) (methods_above W x k) r.one (v.up r.one r.is_in) r.passes) (not-true (list_any (λ (o : DeclaredMember). is_under W side o.owner m.owner) (methods_above W x k)) t))
 
     -- where it is abstract, so is each other
     others_abstract : abstract_flag origin.method.member.flags ≡ true → (m : DeclaredMember) → Contains (methods_above W x k) m → is_maximal W (methods_above W x k) m ≡ true → IsWay m → abstract_flag m.member.flags ≡ true
@@ -394,7 +394,7 @@ module _ (W : World) (side : IsSide W) (rows : List (List RowItem)) (n : ℕ) (k
             let u : is_superinterface W origin.method.owner m.owner ≡ true = ap (λ z. is_superinterface W z m.owner) (own_owner w.name o) ∙ above_is w.name o.good.0 m d in
             absurd (contradicts (list_any (λ (o : DeclaredMember). is_under W side o.owner m.owner) (methods_above W x k))
             (any_has (λ (o : DeclaredMember). is_under W side o.owner m.owner) (methods_above W x k) origin.method origin.is_in (and_from (not (same origin.method.owner m.owner)) (is_superinterface W origin.method.owner m.owner) (ap not e) u))
-            (not_true (list_any (λ (o : DeclaredMember). is_under W side o.owner m.owner) (methods_above W x k)) t))
+            (not-true (list_any (λ (o : DeclaredMember). is_under W side o.owner m.owner) (methods_above W x k)) t))
 
         go : IsOwn w.name ⊎ IsPicked w.name → IsOwnMethod w.name m ⊎ Contains (methods_above W w.name k) m → abstract_flag m.member.flags ≡ true
         go (inl o) (inl d) = ap (λ (e : DeclaredMember). abstract_flag e.member.flags) (own_same w.name m o d) ∙ ap abstract_flag (same_flags o.method o.found) ∙ a

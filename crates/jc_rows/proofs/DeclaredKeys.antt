@@ -3,6 +3,8 @@ use Rattle.std.proofs.Common.{◌≡◌, Bool, true, false, List, [], ◌∷◌,
 use Rattle.std.specs.Prelude.{cond, is_some, ◌&&◌}
 use Rattle.std.specs.List.{list_any, Contains}
 use Rattle.std.proofs.lemmas.List.Folds.{list_any-append}
+use Rattle.std.proofs.Math.Bool.{or-false, or-true}
+use Rattle.std.specs.Cmp.{both_ways}
 use Rattle.jc_facts.specs.declared.class_facts.ClassFacts.{ClassFacts}
 use Rattle.jc_facts.specs.declared.class_facts.Member.{Member}
 use Rattle.jc_facts.specs.declared.key.Key.{Key}
@@ -11,7 +13,7 @@ use Rattle.jc_facts.specs.world.World.{differ_by_name, World, classes, class_nam
 use Rattle.jc_facts.specs.file.Valid.{has_key}
 use Rattle.jc_facts.proofs.Keys.{flip}
 use Rattle.jc_facts.proofs.World.{class_named-each, each_named, find-name}
-use Rattle.jc_lemmas.proofs.Bools.{or_assoc, or_false, or_true, tests_agree}
+use Rattle.jc_lemmas.proofs.Bools.{or_assoc}
 use Rattle.jc_lemmas.proofs.Listed.{each_in, each_from, any_passes, any_has}
 use Rattle.jc_lemmas.proofs.Lists.{found_any}
 use Rattle.jc_index.specs.Ids.{names}
@@ -27,15 +29,15 @@ module _ (q : Key) where
   has-key keys k = go (list_any (same_key k) keys) refl
     where
       there : list_any (same_key k) keys ≡ true → (b : Bool) → same_key q k ≡ b → has_key q keys ≡ (has_key q keys || b)
-      there h true e = subst (λ (j : Key). has_key j keys ≡ true) (sym (key_is q k e)) h ∙ sym (or_true (has_key q keys))
-      there h false e = sym (or_false (has_key q keys))
+      there h true e = subst (λ (j : Key). has_key j keys ≡ true) (sym (key_is q k e)) h ∙ sym (or-true (has_key q keys))
+      there h false e = sym (or-false (has_key q keys))
 
       go : (b : Bool) → list_any (same_key k) keys ≡ b → has_key q (cond b keys (keys ++ k ∷ [])) ≡ (has_key q keys || same_key q k)
       go true h = there h (same_key q k) refl
-      go false h = list_any-append (same_key q) keys (k ∷ []) ∙ ap (λ (b : Bool). has_key q keys || b) (or_false (same_key q k))
+      go false h = list_any-append (same_key q) keys (k ∷ []) ∙ ap (λ (b : Bool). has_key q keys || b) (or-false (same_key q k))
 
   has-keys : (keys : List Key) (ms : List Member) → has_key q (with_keys keys ms) ≡ (has_key q keys || list_any (is_key q) ms)
-  has-keys keys [] = sym (or_false (has_key q keys))
+  has-keys keys [] = sym (or-false (has_key q keys))
   has-keys keys (m ∷ ms) =
       has-keys (with_key keys (key_of m)) ms
       ∙ ap (λ (b : Bool). b || list_any (is_key q) ms) (has-key keys (key_of m) ∙ ap (λ (b : Bool). has_key q keys || b) (flip q (key_of m)))
@@ -50,7 +52,7 @@ module _ (q : Key) where
   some_declares (Some c) = declares c
 
   has-class : (keys : List Key) (o : Option ClassFacts) → has_key q (with_keys_of keys o) ≡ (has_key q keys || some_declares o)
-  has-class keys None = sym (or_false (has_key q keys))
+  has-class keys None = sym (or-false (has_key q keys))
   has-class keys (Some c) =
       has-keys (with_keys keys c.fields) c.methods
       ∙ ap (λ (b : Bool). b || list_any (is_key q) c.methods) (has-keys keys c.fields)
@@ -59,7 +61,7 @@ module _ (q : Key) where
       ∙ ap (λ (b : Bool). has_key q keys || (is_some (own_field_of c q) || b)) (found_any (is_key q) c.methods)
 
   has-all : (W : World) (keys : List Key) (xs : List Bytes) → has_key q (with_all_keys W keys xs) ≡ (has_key q keys || list_any (λ x. some_declares (class_with_rows W x)) xs)
-  has-all W keys [] = sym (or_false (has_key q keys))
+  has-all W keys [] = sym (or-false (has_key q keys))
   has-all W keys (x ∷ xs) =
       has-all W (with_keys_of keys (class_with_rows W x)) xs
       ∙ ap (λ (b : Bool). b || list_any (λ y. some_declares (class_with_rows W y)) xs) (has-class keys (class_with_rows W x))
@@ -96,7 +98,7 @@ module _ (W : World) (differ : differ_by_name (classes W) ≡ true) (k : Key) wh
           (ap (λ (y : Bytes). has_rows W y && declares k c) (find-name W x c e) ∙ sym (declared_at (has_rows W x) (find_class W x) c e) ∙ h)
 
   by_names : list_any (λ x. some_declares k (class_with_rows W x)) (names W) ≡ list_any (declares_with_rows W k) (classes W)
-  by_names = tests_agree (list_any (λ x. some_declares k (class_with_rows W x)) (names W)) (list_any (declares_with_rows W k) (classes W)) down up
+  by_names = both_ways (list_any (λ x. some_declares k (class_with_rows W x)) (names W)) (list_any (declares_with_rows W k) (classes W)) down up
     where
       down : list_any (λ x. some_declares k (class_with_rows W x)) (names W) ≡ true → list_any (declares_with_rows W k) (classes W) ≡ true
       down h = let p = any_passes (λ x. some_declares k (class_with_rows W x)) (names W) h in found_in_classes p.one p.passes

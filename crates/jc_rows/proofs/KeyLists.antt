@@ -38,10 +38,6 @@ pub stay_class : (keys : List Key) (o : Option ClassFacts) → Stay keys (with_k
 stay_class keys None n k e = e
 stay_class keys (Some c) n k e = stay_keys (with_keys keys c.fields) c.methods n k (stay_keys keys c.fields n k e)
 
-pub stay_all : (W : World) (keys : List Key) (xs : List Bytes) → Stay keys (with_all_keys W keys xs)
-stay_all W keys [] n k e = e
-stay_all W keys (x ∷ xs) n k e = stay_all W (with_keys_of keys (class_with_rows W x)) xs n k (stay_class keys (class_with_rows W x) n k e)
-
 -- so their numbers do
 pub numbers_stay : (before now : List Key) → Stay before now → (ms : List Member) (ns : List ℕ) → AreNumbers before ms ns → AreNumbers now ms ns
 numbers_stay before now s [] [] a = refl

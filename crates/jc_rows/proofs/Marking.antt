@@ -5,12 +5,12 @@ use Rattle.std.specs.List.{Contains}
 use Rattle.std.proofs.lemmas.Bool.{cases_eq, cases_lt}
 use Rattle.std.proofs.lemmas.List.{length-set, length-map, get_or-set_same, get_or-set_other, get_or_default, get_or_past, get_or-map, same_lists, take_more}
 use Rattle.std.proofs.lemmas.List.Elements.{Contains-push_cases}
+use Rattle.std.specs.Cmp.{both_ways}
 use Rattle.jc_facts.specs.declared.class_facts.ClassFacts.{ClassFacts}
 use Rattle.jc_facts.specs.Names.{Bytes, object_name}
 use Rattle.jc_facts.specs.world.Loading.{load_fault}
 use Rattle.jc_facts.specs.world.Search.{supers}
 use Rattle.jc_facts.specs.world.World.{World, size, find_class}
-use Rattle.jc_lemmas.proofs.Bools.{tests_agree}
 use Rattle.jc_lemmas.proofs.Listed.{EachOf, EachOf-map, none}
 use Rattle.jc_worlds.proofs.Loaded.{loads-found}
 use Rattle.jc_index.specs.Ids.{id_of, name_at, names}
@@ -234,7 +234,7 @@ module _ (W : World) where
           one n d k =
               let l : n < size W = (let e = m.count in omega (arith, e, k)) in
               get_or_default made n d false k
-              ∙ tests_agree (get_or made n false) (has_rows W (name_at W n)) (m.sound n l)
+              ∙ both_ways (get_or made n false) (has_rows W (name_at W n)) (m.sound n l)
               (λ h. read (name_at W n) n (id_of-name_at W n side.differ l) (rows_least W Marked steps m.object standing_marked (name_at W n) h))
               ∙ sym (get_or-map (has_rows W) (names W) n [] d (let e = names-length W in omega (arith, e, l)))
 

@@ -121,11 +121,6 @@ module _ (first second out : List RowItem) where
         ∙ ap (λ (r : List RowItem). or_else (entry (out ++ left) n) (entry r n)) (sym (append-nil out)) ∙ w.entries n;
   }
 
--- ---- by places
-
-pub begins : (first second : List RowItem) → Rises first → Rises second → IsUnderWay first second [] first second
-begins first second r s = record { first_rises = r; second_rises = s; entries = λ n. refl }
-
 -- the rest of a row, from its first item on
 pub rest_of : (row : List RowItem) (i : ℕ) (x : RowItem) → i < length row → x ≡ get_or row i x → drop i row ≡ x ∷ drop (i + 1) row
 rest_of row i x l e = drop_more row i x l ∙ ap (λ (z : RowItem). z ∷ drop (i + 1) row) (sym e)

@@ -1,8 +1,8 @@
 -- The members of all classes are numbered, one class after the other.
-use Rattle.std.proofs.Common.{◌≡◌, ℕ, ◌≤◌, ◌<◌, ◌+◌, List, [], ◌∷◌, ◌++◌, length, map, take, drop, get_or, refl, sym, ◌∙◌, ap, subst, Option, Some, None, arith, ◌⊎◌, inl, inr, length-append}
+use Rattle.std.proofs.Common.{◌≡◌, ℕ, ◌≤◌, ◌<◌, ◌+◌, List, [], ◌∷◌, ◌++◌, length, map, take, drop, get_or, sym, ◌∙◌, ap, subst, Option, Some, arith, ◌⊎◌, inl, inr, length-append}
 use Rattle.std.specs.Prelude.{slice_get}
 use Rattle.std.proofs.lemmas.Bool.{cases_lt}
-use Rattle.std.proofs.lemmas.List.{drop_more, take_more, take_all, map-append}
+use Rattle.std.proofs.lemmas.List.{drop_more, take_more, map-append}
 use Rattle.std.proofs.Math.ListN.{drop_of_length-le, get_or-append}
 use Rattle.std.proofs.Math.Seq.{get_or-append_seam}
 use Rattle.jc_facts.specs.declared.class_facts.ClassFacts.{ClassFacts}
@@ -24,9 +24,6 @@ pub record IsAddingMembers (before : List Key) (ms : List Member) (at : ℕ) (ke
   pub keys_are : with_keys keys (drop at ms) ≡ with_keys before ms
   pub right : AreNumbers keys (take at ms) ns
 
-pub members-start : (before : List Key) (ms : List Member) (at : ℕ) (ns : List ℕ) → at ≡ 0 → ns ≡ [] → IsAddingMembers before ms at before ns
-members-start before ms at ns e f = subst (λ (i : ℕ). IsAddingMembers before ms i before ns) (sym e) (subst (IsAddingMembers before ms 0 before) (sym f) (record { keys_are = refl; right = refl }))
-
 pub member-next : (before : List Key) (ms : List Member) (at : ℕ) (keys now : List Key) (ns : List ℕ) (m : Member) (n : ℕ) → at < length ms → m ≡ get_or ms at m → now ≡ with_key keys (key_of m) → slice_get now n ≡ Some (key_of m)
     → IsAddingMembers before ms at keys ns → IsAddingMembers before ms (at + 1) now (ns ++ (n ∷ []))
 member-next before ms at keys now ns m n l e f s a = record {
@@ -41,12 +38,6 @@ member-next before ms at keys now ns m n l e f s a = record {
       ∙ ap (map (λ (z : Member). Some (key_of z))) (sym (take_more ms at m l ∙ ap (λ (z : Member). take at ms ++ (z ∷ [])) (sym e)));
 }
 
-pub members-end : (before : List Key) (ms : List Member) (at : ℕ) (keys : List Key) (ns : List ℕ) → length ms ≤ at → IsAddingMembers before ms at keys ns → (keys ≡ with_keys before ms) × AreNumbers keys ms ns
-members-end before ms at keys ns l a = (
-  sym (ap (with_keys keys) (drop_of_length-le ms l)) ∙ a.keys_are,
-  a.right ∙ ap (map (λ (z : Member). Some (key_of z))) (take_all at ms l),
-)
-
 -- ---- a class
 
 pub adds_class : (before after : Numbering) (c : ClassFacts) (middle : List Key) (fields methods : List ℕ)
@@ -57,22 +48,6 @@ adds_class before after c middle fields methods m f k g a b = record {
   fields = record { numbers = fields; added = a; right = numbers_stay middle after.keys (subst (Stay middle) (sym k) (stay_keys middle c.methods)) c.fields fields f };
   methods = record { numbers = methods; added = b; right = g };
 }
-
-pub adds_nothing : (before after : Numbering) → after.keys ≡ before.keys → after.fields.items ≡ before.fields.items ++ ([] ∷ []) → after.methods.items ≡ before.methods.items ++ ([] ∷ []) → AddsClass before None after
-adds_nothing before after k a b = record {
-  keys = k;
-  fields = record { numbers = []; added = a; right = refl };
-  methods = record { numbers = []; added = b; right = refl };
-}
-
--- ---- all classes
-
-pub numbering-start : (W : World) (numbering : Numbering) (at : ℕ) → at ≡ 0 → numbering.keys ≡ [] → numbering.fields.items ≡ [] → numbering.methods.items ≡ [] → IsNumberingBefore W at numbering
-numbering-start W numbering at e k f g = subst (λ (i : ℕ). IsNumberingBefore W i numbering) (sym e) (record {
-  keys = ap (λ (ks : List Key). with_all_keys W ks (names W)) k;
-  fields = record { count = ap length f; right = λ n c l h. absurd (omega arith) };
-  methods = record { count = ap length g; right = λ n c l h. absurd (omega arith) };
-})
 
 module _ (W : World) (at : ℕ) (o : Option ClassFacts) (l : at < size W) (f : class_with_rows W (name_at W at) ≡ o) where
   -- the names from here on

@@ -3,7 +3,7 @@ use Rattle.std.proofs.Common.{◌≡◌, ℕ, ◌≤◌, ◌<◌, ◌+◌, suc, 
 use Rattle.std.specs.Prelude.{cond, nat_eq, slice_get, ◌&&◌}
 use Rattle.std.specs.List.{find as first_where}
 use Rattle.std.proofs.lemmas.Bool.{eqb-true, eq-eqb, ne_eqb, and_parts}
-use Rattle.std.proofs.lemmas.List.{drop_more, get_or_default, append_assoc, append-nil}
+use Rattle.std.proofs.lemmas.List.{get_or_default, append-nil}
 use Rattle.std.proofs.Math.ListN.{drop_of_length-le}
 use Rattle.jc_facts.specs.declared.class_facts.ClassFacts.{ClassFacts}
 use Rattle.jc_facts.specs.declared.class_facts.Member.{Member}
@@ -32,19 +32,6 @@ numbers-length keys ms ns a = go ns ms (ap length a)
     go [] (y ∷ ys) e = absurd (omega (arith, e))
     go (x ∷ xs) [] e = absurd (omega (arith, e))
     go (x ∷ xs) (y ∷ ys) e = ap suc (go xs ys (omega (arith, e)))
-
--- ---- the loop
-
-pub item_step : (class : ℕ) (ns : List ℕ) (ms : List Member) (done made : List RowItem) (at n : ℕ) (m : Member) → length ns ≡ length ms → at < length ms → n ≡ get_or ns at n → m ≡ get_or ms at m
-    → done ++ items_of class (drop at ns) (drop at ms) ≡ items_of class ns ms → made ≡ done ++ (record { key = n; found = record { owner = class; flags = m.flags } } ∷ [])
-    → made ++ items_of class (drop (at + 1) ns) (drop (at + 1) ms) ≡ items_of class ns ms
-item_step class ns ms done made at n m same l e f h g =
-    ap (λ (xs : List RowItem). xs ++ items_of class (drop (at + 1) ns) (drop (at + 1) ms)) g
-    ∙ append_assoc done (record { key = n; found = record { owner = class; flags = m.flags } } ∷ []) (items_of class (drop (at + 1) ns) (drop (at + 1) ms))
-    ∙ ap (λ (xs : List RowItem). done ++ xs)
-    (sym (ap (λ (xs : List ℕ). items_of class xs (drop at ms)) (drop_more ns at n (omega arith) ∙ ap (λ (z : ℕ). z ∷ drop (at + 1) ns) (sym e))
-    ∙ ap (λ (ys : List Member). items_of class (n ∷ drop (at + 1) ns) ys) (drop_more ms at m l ∙ ap (λ (z : Member). z ∷ drop (at + 1) ms) (sym f))))
-    ∙ h
 
 pub items_all : (class : ℕ) (ns : List ℕ) (ms : List Member) (done : List RowItem) (at : ℕ) → length ms ≤ at → done ++ items_of class (drop at ns) (drop at ms) ≡ items_of class ns ms → done ≡ items_of class ns ms
 items_all class ns ms done at l h =

@@ -2,9 +2,10 @@
 use Rattle.std.proofs.Common.{◌≡◌, ℕ, ◌<◌, ◌≤◌, ◌+◌, Bool, true, false, not, ◌||◌, cond, List, [], ◌∷◌, ◌++◌, length, map, take, set, get_or, refl, sym, ◌∙◌, ap, subst, Option, Some, None, ◌⊎◌, inl, inr, arith}
 use Rattle.std.specs.Prelude.{is_some, is_none}
 use Rattle.std.specs.List.{Contains, list_any}
-use Rattle.std.proofs.lemmas.Bool.{and_parts, or_cases, or_left, or_right, cases_eq}
+use Rattle.std.proofs.lemmas.Bool.{and_parts, or_cases, or_left, or_right, cases_eq, not-true}
 use Rattle.std.proofs.lemmas.List.{length-set, length-map, get_or-set_same, get_or-set_other, get_or_default, get_or-map, same_lists, append_assoc, take_more, take_all}
 use Rattle.std.proofs.lemmas.List.Elements.{Contains-push_cases}
+use Rattle.std.specs.Cmp.{both_ways}
 use Rattle.jc_facts.specs.declared.class_facts.ClassFacts.{ClassFacts}
 use Rattle.jc_facts.specs.declared.link_error.LinkError.{LinkError}
 use Rattle.jc_facts.specs.world.World.{differ_by_name, World, classes, size, find_class, class_named}
@@ -14,7 +15,6 @@ use Rattle.jc_facts.specs.world.Loading.{load_fault}
 use Rattle.jc_facts.specs.world.Search.{supers, supers_of}
 use Rattle.jc_facts.proofs.Same.{same_is, same_itself}
 use Rattle.jc_facts.proofs.World.{find-name, class_named-each}
-use Rattle.jc_lemmas.proofs.Bools.{not_true, tests_agree}
 use Rattle.jc_lemmas.proofs.Listed.{EachOf, EachOf-map, Passes, each_from, each_in, none, cases, any_has, any_passes, list_any-same}
 use Rattle.jc_worlds.proofs.Absent.{class_named-back}
 use Rattle.jc_worlds.proofs.Loaded.{loads-parts}
@@ -133,7 +133,7 @@ module _ (W : World) (side : IsSide W) where
 
   -- it is of the release, or a class that it names above itself stands on the release
   stands-step : (y : Bytes) (d : ClassFacts) → find_class W y ≡ Some d → load_fault W y ≡ None → stands_on_release W y ≡ (not (is_some (class_named W.platform y)) || list_any (stands_on_release W) (supers d))
-  stands-step y d f l = tests_agree (stands_on_release W y) (not (is_some (class_named W.platform y)) || list_any (stands_on_release W) (supers d)) down up
+  stands-step y d f l = both_ways (stands_on_release W y) (not (is_some (class_named W.platform y)) || list_any (stands_on_release W) (supers d)) down up
     where
       load : EachOf (λ s. load_fault W s ≡ None) (supers d)
       load = (loads-parts W y d f l).0
@@ -158,7 +158,7 @@ module _ (W : World) (side : IsSide W) where
       up h = go (or_cases (not (is_some (class_named W.platform y))) (list_any (stands_on_release W) (supers d)) h)
         where
           go : (not (is_some (class_named W.platform y)) ≡ true) ⊎ (list_any (stands_on_release W) (supers d) ≡ true) → stands_on_release W y ≡ true
-          go (inl n) = standing-from W y l d (in_release y d f (not_true (is_some (class_named W.platform y)) n)) (ap (is_over W y) (find-name W y d f) ∙ over-itself W y l)
+          go (inl n) = standing-from W y l d (in_release y d f (not-true (is_some (class_named W.platform y)) n)) (ap (is_over W y) (find-name W y d f) ∙ over-itself W y l)
           go (inr a) =
               let q = any_passes (stands_on_release W) (supers d) a in
               let p = standing-over W q.one q.passes in

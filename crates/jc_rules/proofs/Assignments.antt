@@ -2,6 +2,7 @@
 use Rattle.std.proofs.Common.{◌≡◌, ℕ, Bool, true, false, cond, ◌&&◌, List, [], ◌∷◌, refl, sym, ◌∙◌, ap, Option, Some, None, is_some}
 use Rattle.std.specs.List.{list_all, All}
 use Rattle.std.proofs.lemmas.List.Elements.{All-from_recursion, recursion_from_All}
+use Rattle.std.proofs.lemmas.Bool.{and_right}
 use Rattle.jc_facts.specs.declared.class_facts.ClassFacts.{ClassFacts}
 use Rattle.jc_facts.specs.declared.finding.Finding.{Finding}
 use Rattle.jc_facts.specs.declared.act.Act.TheVariants.{Assignment}
@@ -32,11 +33,7 @@ least_none test never (c ∷ cs) = rw (never c.name) (least_none test never cs)
 
 -- no seat passes a test that nothing passes
 pub never_seat : (O N : World) (test : Bytes → Bool) → ((a : Bytes) → test a ≡ false) → first_seat O N test ≡ None
-never_seat O N test never = ap (λ b. cond b (Some object_name) (least (λ a. is_base_class O N a && test a) (classes O))) (never object_name) ∙ least_none (λ a. is_base_class O N a && test a) (λ a. and_no (is_base_class O N a) (never a)) (classes O)
-  where
-    and_no : (b : Bool) {t : Bool} → t ≡ false → (b && t) ≡ false
-    and_no true e = e
-    and_no false e = refl
+never_seat O N test never = ap (λ b. cond b (Some object_name) (least (λ a. is_base_class O N a && test a) (classes O))) (never object_name) ∙ least_none (λ a. is_base_class O N a && test a) (λ a. and_right (is_base_class O N a) _ (never a)) (classes O)
 
 -- ---- whether a class is kept
 
@@ -66,11 +63,7 @@ not_all O (t ∷ ts) a h = go (is_hidden O (name_at O t)) refl h (not_all O ts a
   where
     go : (b : Bool) → is_hidden O (name_at O t) ≡ b → (b && list_all (λ t. is_hidden O (name_at O t)) ts) ≡ false → (list_all (λ t. is_hidden O (name_at O t)) ts ≡ false → are_all_exposed O ts a ≡ false) → (is_exposed O a (name_at O t) && are_all_exposed O ts a) ≡ false
     go false e q r = rw e refl
-    go true e q r = and_no (is_exposed O a (name_at O t)) (r q)
-      where
-        and_no : (b : Bool) {t : Bool} → t ≡ false → (b && t) ≡ false
-        and_no true e = e
-        and_no false e = refl
+    go true e q r = and_right (is_exposed O a (name_at O t)) _ (r q)
 
 module _ (O N : World) (on : Subject) where
   abbrev seated : Option Bytes → Option Finding

@@ -3,6 +3,7 @@ use Rattle.std.proofs.Common.{◌≡◌, ℕ, ◌<◌, Bool, true, false, cond, 
 use Rattle.std.specs.BTreeSet as sorted
 use Rattle.std.specs.Ordering.{nat_cmp}
 use Rattle.std.proofs.lemmas.Bool.{lt-ltb}
+use Rattle.std.proofs.Math.Bool.{and-false}
 use Rattle.jc_facts.specs.declared.finding.Finding.{Finding}
 use Rattle.jc_facts.specs.Names.{Bytes, same}
 use Rattle.jc_facts.specs.Options.{some_and}
@@ -23,11 +24,7 @@ set_has N x t chain k h l n = h.has k ∙ ap (λ (b : Bool). b && in_chain N x (
 
 -- the chain of a class that is absent has none
 pub empty_chain : (N : World) (x : Bytes) (chain : sorted.BTreeSet ℕ) → find_class N x ≡ None → sorted.IsOrdered nat_cmp chain → ((k : ℕ) → sorted.contains nat_cmp chain k ≡ false) → HasChain N x chain
-empty_chain N x chain a o e = record { ordered = o; has = λ k. e k ∙ sym (ap (λ (b : Bool). nat_lt k (size N) && b) (none_above N x (name_at N k) a) ∙ and_none (nat_lt k (size N))) }
-  where
-    and_none : (b : Bool) → (b && false) ≡ false
-    and_none true = refl
-    and_none false = refl
+empty_chain N x chain a o e = record { ordered = o; has = λ k. e k ∙ sym (ap (λ (b : Bool). nat_lt k (size N) && b) (none_above N x (name_at N k) a) ∙ and-false (nat_lt k (size N))) }
 
 pub gone_has_left : (s : SidesOf) (x t : Bytes) → find_class s.new t ≡ None → true ≡ has_left_chain s x t
 gone_has_left s x t a = sym (ap (λ b. not b && not (is_interface_of s.new t)) (absent_above s.new x t a) ∙ ap (λ o. not (some_and (λ c. interface_flag c.flags) o)) a)

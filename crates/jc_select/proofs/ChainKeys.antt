@@ -17,7 +17,6 @@ use Rattle.jc_index.proofs.Numbers.{IsClass, class_at}
 use Rattle.jc_sides.specs.SidesOf.{SidesOf, AreSides}
 use Rattle.jc_index.specs.Ids.{name_at, superclass_of}
 use Rattle.jc_index.specs.Sides.{IsSide}
-use Rattle.jc_select.specs.steps.Asked.{HaveNoRest, ChainsAgree}
 use Rattle.jc_select.specs.steps.Changes.{kind_at, HasChanged, HasNone, HasNoMore}
 use Rattle.jc_select.specs.steps.Kinds.{kind_from}
 use Rattle.jc_select.proofs.Chains.{own_is, kind_step, kinds_from, kind_out, kind_end}
@@ -98,6 +97,3 @@ way_more s are x m n more less i j before now up over keys changed all q r ei ej
       ∙ ap (λ a. kind_or a (kind_from s.old k more (superclass_of s.old (name_at s.old i)))) (c k p.1) ∙ ap (kind_or (kind_at s.new k j)) rest
       ∙ sym (one_up s.new are.new_side k n less j now lj r ej));
 }
-
-pub way_out : (s : SidesOf) (x : Bytes) (m n : ℕ) (before now : Option ℕ) (keys all : List Key) → IsOnWay s x m n before now keys → HaveNoRest s before now m n keys all → ChainsAgree s x all
-way_out s x m n before now keys all h r = λ k o. let p = r k o in h.ahead k p.0 (p.1 ∙ sym p.2)

@@ -1,10 +1,7 @@
 -- Of other keys than those that were collected classes have the same, or have nothing.
-use Rattle.std.proofs.Common.{◌≡◌, ◌<◌, ◌+◌, ◌++◌, ℕ, Bool, true, false, not, cond, ◌||◌, List, [], ◌∷◌, length, refl, sym, ◌∙◌, ap, subst, Option, Some, None, is_some, nat_lt, arith}
+use Rattle.std.proofs.Common.{◌≡◌, ◌<◌, ℕ, Bool, true, false, not, cond, ◌||◌, List, [], length, refl, sym, ◌∙◌, ap, Option, Some, None, is_some}
 use Rattle.std.specs.Prelude.{slice_index_or}
 use Rattle.std.specs.List.{find as first_where}
-use Rattle.std.proofs.Math.Seq.{get_or-append_seam}
-use Rattle.std.proofs.lemmas.Bool.{ltb-true, ltb-false}
-use Rattle.std.proofs.lemmas.List.{get_or_append_left, length-append}
 use Rattle.jc_facts.specs.declared.class_facts.ClassFacts.{ClassFacts}
 use Rattle.jc_facts.specs.declared.class_facts.Member.{Member}
 use Rattle.jc_facts.specs.declared.key.Key.{Key}
@@ -25,7 +22,7 @@ use Rattle.jc_sides.specs.steps.KeySets.{AddsKeys, has_member}
 use Rattle.jc_sides.proofs.KeySets.{some_member}
 use Rattle.jc_acts.proofs.Untouched.{platform_record}
 use Rattle.jc_index.specs.Ids.{name_at, id_of}
-use Rattle.jc_select.specs.steps.Changes.{kind_at, same_kind, differs, HasChanged, AreChanges, HasNone}
+use Rattle.jc_select.specs.steps.Changes.{kind_at, same_kind, differs, HasChanged, HasNone}
 use Rattle.jc_select.proofs.Chains.{own_kind, own_is}
 
 one_kind : (a b : ChainKind) → not (same_kind a b) ≡ false → a ≡ b
@@ -105,28 +102,3 @@ platform_keys s are i j l h e keys = λ k n.
 pub record AreSoFar (s : SidesOf) (n : ℕ) (changes : List (List Key)) : Type 0 where
   pub count : length changes ≡ n
   pub right : (i j : ℕ) → i < n → id_of s.new (name_at s.old i) ≡ Some j → HasChanged s i j (slice_index_or changes i [])
-
-pub so_far_none : (s : SidesOf) (changes : List (List Key)) → changes ≡ [] → AreSoFar s 0 changes
-so_far_none s changes e = record { count = ap (λ (xs : List (List Key)). length xs) e; right = λ i j l h. absurd (omega arith) }
-
-pub so_far_more : (s : SidesOf) (n id : ℕ) (changes now : List (List Key)) (keys : List Key) → id ≡ n → now ≡ changes ++ keys ∷ [] → ((j : ℕ) → id_of s.new (name_at s.old id) ≡ Some j → HasChanged s id j keys) → AreSoFar s n changes → AreSoFar s (n + 1) now
-so_far_more s n id changes now keys is e g h = record {
-  count = ap (λ (xs : List (List Key)). length xs) e ∙ omega (arith, h.count, length-append changes (keys ∷ []));
-  right = λ i j l q. subst (λ (xs : List (List Key)). HasChanged s i j (slice_index_or xs i [])) (sym e) (at i j l q (nat_lt i n) refl);
-}
-  where
-    at : (i j : ℕ) → i < n + 1 → id_of s.new (name_at s.old i) ≡ Some j → (b : Bool) → nat_lt i n ≡ b → HasChanged s i j (slice_index_or (changes ++ keys ∷ []) i [])
-    at i j l q false t =
-        let w : i ≡ n = omega (arith, ltb-false i n t) in
-        let v : slice_index_or (changes ++ keys ∷ []) i [] ≡ keys = ap (λ m. slice_index_or (changes ++ keys ∷ []) m []) (w ∙ sym h.count) ∙ get_or-append_seam changes keys [] [] in
-        subst (HasChanged s i j) (sym v) (subst (λ m. HasChanged s m j keys) (is ∙ sym w) (g j (ap (λ m. id_of s.new (name_at s.old m)) (is ∙ sym w) ∙ q)))
-    at i j l q true t =
-        let b : i < n = ltb-true i n t in
-        let v : slice_index_or (changes ++ keys ∷ []) i [] ≡ slice_index_or changes i [] = get_or_append_left changes (keys ∷ []) [] i (omega (arith, h.count)) in
-        subst (HasChanged s i j) (sym v) (h.right i j b q)
-
-pub so_far_all : (s : SidesOf) (n : ℕ) (changes : List (List Key)) → n ≡ size s.old → AreSoFar s n changes → AreChanges s changes
-so_far_all s n changes e h = record {
-  count = h.count ∙ e;
-  right = λ i j l q. h.right i j (subst (λ m. i < m) (sym e) l) q;
-}

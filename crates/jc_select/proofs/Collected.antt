@@ -2,9 +2,11 @@
 use Rattle.std.proofs.Common.{◌≡◌, ◌<◌, ℕ, suc, Bool, true, false, not, ◌||◌, ◌&&◌, ◌==◌, List, [], ◌∷◌, ◌++◌, refl, sym, ◌∙◌, ap, subst, Option, Some, None, cond}
 use Rattle.std.specs.Prelude.{IsTrue, is_some}
 use Rattle.std.specs.List.{All, list_any, filter, Contains}
-use Rattle.std.proofs.lemmas.Bool.{eqb-true, and_from, and_parts}
+use Rattle.std.proofs.lemmas.Bool.{eqb-true, and_from, and_parts, not-true}
 use Rattle.std.proofs.lemmas.List.Folds.{list_any-append}
 use Rattle.std.proofs.lemmas.List.Elements.{recursion_from_All, All-from_recursion}
+use Rattle.std.specs.Cmp.{both_ways}
+use Rattle.std.proofs.Math.Bool.{or-false}
 use Rattle.jc_facts.specs.declared.class_facts.ClassFacts.{ClassFacts}
 use Rattle.jc_facts.specs.declared.key.Key.{Key}
 use Rattle.jc_facts.specs.declared.class_facts.Member.{Member}
@@ -18,7 +20,6 @@ use Rattle.jc_facts.specs.world.Hierarchy.{chain, each, interfaces_of, is_superi
 use Rattle.jc_facts.proofs.Same.{same_is}
 use Rattle.jc_facts.proofs.World.{IsOf}
 use Rattle.jc_facts.proofs.Hierarchy.{each-all}
-use Rattle.jc_lemmas.proofs.Bools.{tests_agree, not_true}
 use Rattle.jc_lemmas.proofs.Listed.{EachOf, EachOf-append, each_in, any_has, any_passes, in_filter, filter_in, filter-each, each_of}
 use Rattle.jc_worlds.proofs.Interfaces.{above_is_one_step}
 use Rattle.jc_index.specs.Above.{leads_to, leads_by, AreAbove}
@@ -89,15 +90,11 @@ module _ (W : World) (d : IsTrue (differ_by_name (classes W))) (x : Bytes) (m a 
           ∙ ap (λ t. t || false) (sym (both n b)) ∙ next n b false (λ q. any-top W d a h.here (name_at W n) m l q u);
     }
 
-  right_false : (a : Bool) → (a || false) ≡ a
-  right_false true = refl
-  right_false false = refl
-
   pub at_end : m ≡ 0 → AreNamed W (superinterfaces W x) ids
   at_end e = record {
     within = h.within;
     exact = λ n b.
-        sym (right_false (list_any (λ i. i == n) ids))
+        sym (or-false (list_any (λ i. i == n) ids))
         ∙ ap (λ t. list_any (λ i. i == n) ids || t) (sym (ap (λ j. any_up W j (name_at W a) (name_at W n)) e ∙ any-none_left W d a h.here (name_at W n)))
         ∙ h.sum n b;
   }
@@ -150,7 +147,7 @@ offers_is W k n c f = ap (λ (o : Option ClassFacts). is_some (if_candidate (as_
     go (Some m) = offered (private_flag m.flags) (static_flag m.flags) n m.flags
 
 pub filtered_number : (p : ℕ → Bool) (ids : List ℕ) (n : ℕ) → list_any (λ i. i == n) (filter p ids) ≡ (p n && list_any (λ i. i == n) ids)
-filtered_number p ids n = tests_agree (list_any (λ i. i == n) (filter p ids)) (p n && list_any (λ i. i == n) ids) there back
+filtered_number p ids n = both_ways (list_any (λ i. i == n) (filter p ids)) (p n && list_any (λ i. i == n) ids) there back
   where
     there : list_any (λ i. i == n) (filter p ids) ≡ true → (p n && list_any (λ i. i == n) ids) ≡ true
     there h =
@@ -165,7 +162,7 @@ filtered_number p ids n = tests_agree (list_any (λ i. i == n) (filter p ids)) (
         any_has (λ i. i == n) (filter p ids) q.one (filter_in p ids q.one q.is_in (subst (λ i. p i ≡ true) (sym (eqb-true q.one n q.passes)) b.0)) q.passes
 
 filtered_name : (W : World) (k : Key) (cs : List ClassFacts) → EachOf (IsOf W) cs → (y : Bytes) (c : ClassFacts) → find_class W y ≡ Some c → names_in (filter (offers k) cs) y ≡ (offers k c && names_in cs y)
-filtered_name W k cs g y c f = tests_agree (names_in (filter (offers k) cs) y) (offers k c && names_in cs y) there back
+filtered_name W k cs g y c f = both_ways (names_in (filter (offers k) cs) y) (offers k c && names_in cs y) there back
   where
     is : (d : ClassFacts) → Contains cs d → same d.name y ≡ true → d ≡ c
     is d h e = let q : Some d ≡ Some c = sym (each_in (IsOf W) cs d g h) ∙ ap (find_class W) (same_is d.name y e) ∙ f in cc
@@ -230,7 +227,7 @@ offered_named W d x k ids those h e = record {
 pub below_other : (W : World) → IsTrue (differ_by_name (classes W)) → (a b : ℕ) → a < size W → b < size W → (n r : Bool) → n ≡ not (a == b) → n ≡ true → r ≡ (same (name_at W a) (name_at W b) || is_superinterface W (name_at W a) (name_at W b))
     → r ≡ is_below_other W (name_at W a) (name_at W b)
 below_other W d a b la lb n r e t h =
-    let s : same (name_at W a) (name_at W b) ≡ false = same_number W d a b la lb ∙ not_true (a == b) (sym e ∙ t) in
+    let s : same (name_at W a) (name_at W b) ≡ false = same_number W d a b la lb ∙ not-true (a == b) (sym e ∙ t) in
     h ∙ ap (λ q. q || is_superinterface W (name_at W a) (name_at W b)) s ∙ sym (ap (λ q. not q && is_superinterface W (name_at W a) (name_at W b)) s)
 
 false_last : (a b : Bool) → b ≡ false → false ≡ (a && b)

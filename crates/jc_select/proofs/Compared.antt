@@ -5,6 +5,7 @@ use Rattle.std.specs.Bool.{beq}
 use Rattle.std.specs.List.{list_any, list_all, Contains}
 use Rattle.std.proofs.lemmas.Bool.{eqb-true, eq-eqb, and_from}
 use Rattle.std.proofs.lemmas.List.Elements.{recursion_from_All}
+use Rattle.std.specs.Cmp.{both_ways}
 use Rattle.jc_facts.specs.declared.class_facts.ClassFacts.{ClassFacts}
 use Rattle.jc_facts.specs.declared.class_facts.Member.{Member}
 use Rattle.jc_facts.specs.declared.key.Key.{Key}
@@ -15,7 +16,6 @@ use Rattle.jc_facts.specs.world.World.{World, size, find_class, class_named, own
 use Rattle.jc_facts.specs.world.Hierarchy.{names_in}
 use Rattle.jc_facts.proofs.Same.{same_is, same_itself}
 use Rattle.jc_facts.proofs.World.{IsOf}
-use Rattle.jc_lemmas.proofs.Bools.{tests_agree}
 use Rattle.jc_lemmas.proofs.Listed.{EachOf, each_in, each_from, any_has, any_passes, list_all-each}
 use Rattle.jc_index.proofs.Numbers.{IsClass, class_at, find-None, number_of, id_of-Some, id_of-name_at}
 use Rattle.jc_index.specs.steps.Choosing.{as_found}
@@ -83,7 +83,7 @@ module _ (W : World) (cs : List ClassFacts) (g : EachOf (IsOf W) cs) (ids : List
       (p.one, record { below = b; is_in = p.is_in; listed = h; found = ap (find_class W) (sym e) ∙ each_in (IsOf W) cs p.one g p.is_in; name = sym e })
 
   pub all_alike : (f : ℕ → Bool) (q : ClassFacts → Bool) → ((n : ℕ) (c : ClassFacts) → IsOne n c → f n ≡ q c) → list_all f ids ≡ list_all q cs
-  all_alike f q same_test = tests_agree (list_all f ids) (list_all q cs) there back
+  all_alike f q same_test = both_ways (list_all f ids) (list_all q cs) there back
     where
       there : list_all f ids ≡ true → list_all q cs ≡ true
       there h = all_pass q cs (each_from (λ c. q c ≡ true) cs (λ c i. let o = of_class c i in sym (same_test o.0 c o.1) ∙ each_in (λ n. f n ≡ true) ids o.0 (list_all-each f ids h) o.1.listed))
@@ -92,7 +92,7 @@ module _ (W : World) (cs : List ClassFacts) (g : EachOf (IsOf W) cs) (ids : List
       back h = numbers_pass f ids (each_from (λ n. f n ≡ true) ids (λ n i. let o = of_number n i in same_test n o.0 o.1 ∙ each_in (λ c. q c ≡ true) cs o.0 (list_all-each q cs h) o.1.is_in))
 
   pub any_alike : (f : ℕ → Bool) (q : ClassFacts → Bool) → ((n : ℕ) (c : ClassFacts) → IsOne n c → f n ≡ q c) → list_any f ids ≡ list_any q cs
-  any_alike f q same_test = tests_agree (list_any f ids) (list_any q cs) there back
+  any_alike f q same_test = both_ways (list_any f ids) (list_any q cs) there back
     where
       there : list_any f ids ≡ true → list_any q cs ≡ true
       there h =
@@ -150,7 +150,7 @@ module _ (s : SidesOf) (are : AreSides s) (k : Key) (xs ys : List ClassFacts) (g
   was_is n d one = any_alike s.old xs gx before named_x (λ i. some_and (λ m. m == n) (id_of s.new (name_at s.old i))) (λ c. same c.name d.name) (λ i c o. ap (λ z. some_and (λ m. m == n) (id_of s.new z)) o.name ∙ is c.name)
     where
       is : (z : Bytes) → some_and (λ m. m == n) (id_of s.new z) ≡ same z d.name
-      is z = tests_agree (some_and (λ m. m == n) (id_of s.new z)) (same z d.name) there back
+      is z = both_ways (some_and (λ m. m == n) (id_of s.new z)) (same z d.name) there back
         where
           there : some_and (λ m. m == n) (id_of s.new z) ≡ true → same z d.name ≡ true
           there h = go (id_of s.new z) refl h

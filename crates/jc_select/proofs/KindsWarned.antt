@@ -17,13 +17,10 @@ use Rattle.jc_sides.specs.SidesOf.{SidesOf}
 use Rattle.jc_sides.proofs.BaseParts.{IsOnBoth, kept_parts}
 use Rattle.jc_sides.proofs.ItemRules.{kept_where}
 use Rattle.jc_sides.proofs.NamedAbove.{base_unkept}
-use Rattle.jc_facts.specs.declared.warning.ChainKind.{ChainKind}
-use Rattle.jc_facts.specs.declared.warning.ChainKind.TheVariants.{Nothing, Abstract, Concrete}
 use Rattle.jc_promises.specs.rule.Selection.{chain_kind}
 use Rattle.jc_promises.specs.rule.Warnings.{is_base, warn_kind, warning_at, warning_order, AreWarnings, WarningStands}
 use Rattle.jc_facts.specs.declared.warning.Warning.{Warning}
 use Rattle.jc_facts.specs.declared.warning.WarnKind.{WarnKind}
-use Rattle.jc_select.specs.steps.Kinds.{is_nothing}
 use Rattle.jc_select.specs.steps.Warned.{warned, warning_of, parts_differ}
 
 -- ---- a key of which there is a warning
@@ -93,17 +90,6 @@ not_method s x k h = sym (ap (λ b. cond (b && is_base s.old s.new x) (warn_kind
 pub is_changed : (s : SidesOf) (x : Bytes) (k : Key) (o : Option WarnKind) → is_key_of_method k ≡ true → is_base s.old s.new x ≡ true → o ≡ warn_kind (chain_kind s.old x k) (chain_kind s.new x k) (parts_differ s x k) → o ≡ warning_at s.old s.new x k
 unfolding warning_at
 is_changed s x k o mk base h = h ∙ sym (ap (λ b. cond b (warn_kind (chain_kind s.old x k) (chain_kind s.new x k) (parts_differ s x k)) None) (and_from (is_key_of_method k) (is_base s.old s.new x) mk base))
-
--- whatever the parts are
-pub of_abstract : (b : ChainKind) (differ : Bool) → None ≡ warn_kind Abstract b differ
-of_abstract Nothing differ = refl
-of_abstract Abstract differ = refl
-of_abstract Concrete differ = refl
-
-pub of_lost : (b : ChainKind) → is_nothing b ≡ true → (differ : Bool) → warn_kind Concrete b differ ≡ warn_kind Concrete Nothing differ
-of_lost Nothing h differ = refl
-of_lost Abstract h differ = absurd (let clash : false ≡ true = h in cc)
-of_lost Concrete h differ = absurd (let clash : false ≡ true = h in cc)
 
 -- ---- within a limit
 

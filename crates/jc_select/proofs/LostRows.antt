@@ -7,7 +7,7 @@ use Rattle.std.proofs.Common.{◌≡◌, ◌<◌, ◌+◌, ◌==◌, ◌∷◌, 
 use Rattle.std.specs.Prelude.{slice_index_or}
 use Rattle.std.specs.List.{All, filter, list_any}
 use Rattle.std.proofs.Math.Seq.{get_or-append_seam}
-use Rattle.std.proofs.lemmas.Bool.{eqb-true, ltb-true, ltb-false, and_parts}
+use Rattle.std.proofs.lemmas.Bool.{eqb-true, ltb-true, ltb-false, and_parts, or_from, and_right, or_parts}
 use Rattle.std.proofs.lemmas.List.{get_or_append_left, length-append}
 use Rattle.std.proofs.lemmas.List.Elements.{recursion_from_All, All-from_recursion}
 use Rattle.jc_acts.specs.Touched.{flag_at}
@@ -35,7 +35,6 @@ use Rattle.jc_select.proofs.Collected.{filtered_number}
 use Rattle.jc_select.specs.declared.losing.Lost.{Lost}
 use Rattle.jc_select.specs.steps.Losing.{AreDone, AreLost, AreNumbersOf, has_left, hidden_of, is_asked, is_found, lost_at, loses, row_at}
 use Rattle.jc_select.specs.steps.Parts.{AreNamed}
-use Rattle.jc_lemmas.proofs.Bools.{neither, second_fails}
 
 -- ---- a thing for one class after the other
 
@@ -136,9 +135,6 @@ numbers_none W test ids e h = record {
   exact = λ n l. ap (list_any (λ i. i == n)) e ∙ sym (h (name_at W n));
 }
 
-pub lost_not_before : (s : SidesOf) (x : Bytes) (ids : List ℕ) → ids ≡ [] → loads s.old x ≡ false → AreNumbersOf s.old (lost_at s x) ids
-lost_not_before s x ids e h = numbers_none s.old (lost_at s x) ids e (λ t. ap (λ b. b && loads s.new x && has_lost s.old s.new x t) h)
-
 not_after : (a c : Bool) → (a && false && c) ≡ false
 not_after true c = refl
 not_after false c = refl
@@ -183,12 +179,8 @@ held_empty s x row ids e z h = record {
   within = subst (All (λ n. n < size s.old)) (sym e) (All-from_recursion (λ n. n < size s.old) [] tt);
   exact = λ n l.
       let u : lost_at s x (name_at s.old n) ≡ false = sym (h.exact n l) ∙ ap (list_any (λ i. i == n)) z in
-      ap (list_any (λ i. i == n)) e ∙ sym (loses_is s x (name_at s.old n) ∙ second_fails (is_held s.old s.new x) (lost_at s x (name_at s.old n)) u);
+      ap (list_any (λ i. i == n)) e ∙ sym (loses_is s x (name_at s.old n) ∙ and_right (is_held s.old s.new x) (lost_at s x (name_at s.old n)) u);
 }
-
-first_of : (a b : Bool) → (a || b) ≡ false → (a ≡ false) × (b ≡ false)
-first_of true b e = absurd (cc)
-first_of false b e = (refl, e)
 
 -- it is neither kept nor found
 pub held_none : (s : SidesOf) (rows : List (List ℕ)) (n : ℕ) (ids : List ℕ) → ids ≡ [] → (length (row_at rows n) == 0) ≡ false → (is_kept s.old s.new (name_at s.old n) || is_found s rows n) ≡ false
@@ -200,7 +192,7 @@ held_none s rows n ids e full h = numbers_none s.old (loses s x) ids e (λ t. lo
     x = name_at s.old n
 
     p : (is_kept s.old s.new x ≡ false) × (is_found s rows n ≡ false)
-    p = first_of (is_kept s.old s.new x) (is_found s rows n) h
+    p = or_parts (is_kept s.old s.new x) (is_found s rows n) h
 
     unexposed : is_exposed_to_some s.old s.new x ≡ false
     unexposed = go (is_exposed_to_some s.old s.new x) refl
@@ -212,7 +204,7 @@ held_none s rows n ids e full h = numbers_none s.old (loses s x) ids e (λ t. lo
             let clash : true ≡ false = sym all ∙ p.1 in cc)
 
     unheld : is_held s.old s.new x ≡ false
-    unheld = neither (is_kept s.old s.new x) (stays_exposed s.old s.new x) p.0 (ap (λ b. b && loads s.new x) unexposed)
+    unheld = or_from (is_kept s.old s.new x) (stays_exposed s.old s.new x) p.0 (ap (λ b. b && loads s.new x) unexposed)
 
 -- it is
 pub held_as : (s : SidesOf) (rows : List (List ℕ)) (n : ℕ) (ids : List ℕ) → ids ≡ row_at rows n → (is_kept s.old s.new (name_at s.old n) || is_found s rows n) ≡ true → AreNumbersOf s.old (lost_at s (name_at s.old n)) (row_at rows n)
@@ -237,4 +229,4 @@ held_as s rows n ids e h row = record {
         go true g = ap (λ b. b && lost_at s x t) (stays (is_kept s.old s.new x) (is_found s rows n) h (λ q. (and_parts (is_asked s rows n) (is_exposed_to_some s.old s.new x) q).1) g refl)
         go false g =
             let u : lost_at s x t ≡ false = ap (λ b. loads s.old x && b && has_lost s.old s.new x t) g ∙ not_after (loads s.old x) (has_lost s.old s.new x t) in
-            second_fails (is_held s.old s.new x) (lost_at s x t) u ∙ sym u
+            and_right (is_held s.old s.new x) (lost_at s x t) u ∙ sym u

@@ -3,6 +3,7 @@ use Rattle.std.proofs.Common.{◌≡◌, ◌==◌, ℕ, Bool, true, false, not, 
 use Rattle.std.specs.Bool.{beq}
 use Rattle.std.specs.List.{filter, list_any, list_all, Contains}
 use Rattle.std.proofs.lemmas.Bool.{and_parts, and_from, eqb-true, eq-eqb}
+use Rattle.std.proofs.Math.Bool.{not-not}
 use Rattle.jc_facts.specs.declared.key.Key.{Key}
 use Rattle.jc_facts.specs.declared.warning.ChainKind.{ChainKind}
 use Rattle.jc_facts.specs.declared.warning.ChainKind.TheVariants.{Nothing, Abstract, Concrete}
@@ -33,12 +34,8 @@ nothing_is (Some f) = go (abstract_flag f.flags)
     go true = refl
     go false = refl
 
-not_not : (b : Bool) → not (not b) ≡ b
-not_not true = refl
-not_not false = refl
-
 offers_kind : (o p : Option Found) → kind_of o ≡ kind_of p → is_some o ≡ is_some p
-offers_kind o p e = sym (not_not (is_some o)) ∙ ap not (sym (nothing_is o) ∙ ap is_nothing e ∙ nothing_is p) ∙ not_not (is_some p)
+offers_kind o p e = sym (not-not (is_some o)) ∙ ap not (sym (nothing_is o) ∙ ap is_nothing e ∙ nothing_is p) ∙ not-not (is_some p)
 
 abbrev is_abstract : ChainKind → Bool
 is_abstract Nothing = false
@@ -127,7 +124,7 @@ module _ (s : SidesOf) (are : AreSides s) (x : Bytes) (k : Key) (before after : 
   -- none has anything
   pub none_agree : ((n : ℕ) → Contains before n → kind_at s.old k n ≡ Nothing) → ((n : ℕ) → Contains after n → kind_at s.new k n ≡ Nothing) → parts_differ s x k ≡ false
   none_agree a b =
-      let none : (W : _) (n : ℕ) → kind_at W k n ≡ Nothing → offers_at W k n ≡ false = λ W n e. sym (not_not (offers_at W k n)) ∙ ap not (sym (nothing_is (if_candidate (own_at W k n))) ∙ ap is_nothing e) in
+      let none : (W : _) (n : ℕ) → kind_at W k n ≡ Nothing → offers_at W k n ≡ false = λ W n e. sym (not-not (offers_at W k n)) ∙ ap not (sym (nothing_is (if_candidate (own_at W k n))) ∙ ap is_nothing e) in
       sym (differ_is s are x k [] [] true
       (offered_named s.old are.old_side.differ x k before [] named_before (sym (none_pass (offers_at s.old k) before (λ n h. none s.old n (a n h)))))
       (offered_named s.new are.new_side.differ x k after [] named_after (sym (none_pass (offers_at s.new k) after (λ n h. none s.new n (b n h)))))

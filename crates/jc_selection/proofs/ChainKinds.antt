@@ -1,7 +1,7 @@
 -- What chains have of a key.
 use Rattle.std.proofs.Common.{◌≡◌, Bool, true, false, cond, List, [], ◌∷◌, ◌++◌, refl, ◌∙◌, ap, Option, Some, None, not, ◌||◌, ◌&&◌}
 use Rattle.std.specs.List.{list_any}
-use Rattle.std.proofs.lemmas.Bool.{and_parts, or_left, or_right}
+use Rattle.std.proofs.lemmas.Bool.{and_parts, or_left, or_right, not-true}
 use Rattle.jc_desc.specs.Names.{is_init_name, is_clinit_name, spells_member_name}
 use Rattle.jc_desc.specs.Utf8.{is_modified_utf8}
 use Rattle.jc_facts.specs.declared.class_facts.ClassFacts.{ClassFacts}
@@ -16,7 +16,7 @@ use Rattle.jc_facts.specs.file.Valid.{IsValidClass, method_is_valid}
 use Rattle.jc_facts.specs.world.Inheritance.{offers, is_inheritable}
 use Rattle.jc_promises.specs.rule.Bases.{is_key_of_method}
 use Rattle.jc_facts.proofs.Same.{same_is}
-use Rattle.jc_lemmas.proofs.Bools.{imply, neither_first, neither_last, not_true}
+use Rattle.jc_lemmas.proofs.Bools.{imply, neither_first, neither_last}
 use Rattle.jc_worlds.proofs.Inherited.{found_all}
 use Rattle.jc_lemmas.proofs.Lists.{found_passes}
 use Rattle.jc_facts.specs.declared.warning.ChainKind.{ChainKind}
@@ -68,7 +68,7 @@ abstract_offers c k v mk h = go (own_method_of c k) refl h
     plain : (m : Member) → own_method_of c k ≡ Some m → plain_method_flags_fit c.major c.flags m.name m.flags ≡ true
     plain m e =
         let n : m.name ≡ k.name = same_is m.name k.name (and_parts (same m.name k.name) (same m.descriptor k.descriptor) (found_passes (is_key k) c.methods m e)).0 in
-        let z : is_clinit_name m.name ≡ false = ap is_clinit_name n ∙ neither_last (is_init_name k.name) (is_clinit_name k.name) (not_true (is_init_name k.name || is_clinit_name k.name) mk) in
+        let z : is_clinit_name m.name ≡ false = ap is_clinit_name n ∙ neither_last (is_init_name k.name) (is_clinit_name k.name) (not-true (is_init_name k.name || is_clinit_name k.name) mk) in
         let w : method_is_valid c m ≡ true = found_all (is_key k) (method_is_valid c) c.methods m e v.methods in
         let f : method_flags_fit c.major c.flags m.name m.flags ≡ true = (and_parts (spells_member_name m.name true && is_modified_utf8 m.name && method_descriptor_fits m.name m.flags m.descriptor && is_modified_utf8 m.descriptor) (method_flags_fit c.major c.flags m.name m.flags) w).1 in
         rw z at f
@@ -79,7 +79,7 @@ abstract_offers c k v mk h = go (own_method_of c k) refl h
         let x = and_parts (one_access_at_most f && implies (abstract_flag f) (not (private_flag f || static_flag f || final_flag f || native_flag f)) && implies (is_init_name m.name) (not (static_flag f || final_flag f || native_flag f || abstract_flag f))) _ p in
         let y = and_parts (one_access_at_most f && implies (abstract_flag f) (not (private_flag f || static_flag f || final_flag f || native_flag f))) _ x.0 in
         let z = and_parts (one_access_at_most f) (implies (abstract_flag f) (not (private_flag f || static_flag f || final_flag f || native_flag f))) y.0 in
-        let n : (private_flag f || static_flag f || final_flag f || native_flag f) ≡ false = not_true (private_flag f || static_flag f || final_flag f || native_flag f) (imply (abstract_flag f) (not (private_flag f || static_flag f || final_flag f || native_flag f)) z.1 a) in
+        let n : (private_flag f || static_flag f || final_flag f || native_flag f) ≡ false = not-true (private_flag f || static_flag f || final_flag f || native_flag f) (imply (abstract_flag f) (not (private_flag f || static_flag f || final_flag f || native_flag f)) z.1 a) in
         neither_first (private_flag f || static_flag f) (final_flag f) (neither_first (private_flag f || static_flag f || final_flag f) (native_flag f) n)
 
     by : (p s : Bool) → (p || s) ≡ false → (not s && not p) ≡ true

@@ -3,6 +3,7 @@ use Rattle.std.proofs.Common.{◌≡◌, Bool, true, false, cond, List, [], ◌�
 use Rattle.std.specs.List.{list_any, list_all, filter, Contains}
 use Rattle.std.proofs.lemmas.Bool.{and_from}
 use Rattle.std.proofs.lemmas.List.Folds.{list_any-append}
+use Rattle.std.proofs.Math.Bool.{or-false}
 use Rattle.jc_facts.specs.declared.class_facts.ClassFacts.{ClassFacts}
 use Rattle.jc_facts.specs.declared.class_facts.Member.{Member}
 use Rattle.jc_facts.specs.declared.key.Key.{Key}
@@ -14,7 +15,6 @@ use Rattle.jc_facts.specs.world.Hierarchy.{superinterfaces, is_superinterface}
 use Rattle.jc_facts.specs.world.Lookup.{declared_by, if_inheritable, is_maximal, is_concrete}
 use Rattle.jc_facts.specs.world.Inheritance.{offers}
 use Rattle.jc_facts.proofs.Same.{same_is, same_itself}
-use Rattle.jc_lemmas.proofs.Bools.{or_false}
 use Rattle.jc_lemmas.proofs.Listed.{here, there, each_in, any_has, any_passes, list_all-each}
 use Rattle.jc_promises.specs.rule.Selection.{concrete_choices, are_one}
 use Rattle.jc_selection.proofs.Parts.{is_offered, is_beside}
@@ -49,7 +49,7 @@ any_declared k p (c ∷ cs) =
     flags true true m = refl
     flags true false m = refl
     flags false true m = refl
-    flags false false m = or_false (p m)
+    flags false false m = or-false (p m)
 
     go : (o : Option Member) → own_method_of c k ≡ o → list_any p (if_inheritable (found_in c o)) ≡ (some_and (λ (m : Member). no_static_flag m.flags && not (private_flag m.flags)) o && some_and (λ (m : Member). p (record { owner = c.name; member = m })) o)
     go None e = refl

@@ -3,6 +3,7 @@ use Rattle.std.proofs.Common.{◌≡◌, Bool, true, List, refl, sym, ◌∙◌,
 use Rattle.std.specs.Bool.{beq}
 use Rattle.std.specs.List.{list_any, list_all, filter, Contains}
 use Rattle.std.proofs.lemmas.Bool.{and_parts, and_from}
+use Rattle.std.specs.Cmp.{both_ways}
 use Rattle.jc_facts.specs.declared.class_facts.ClassFacts.{ClassFacts}
 use Rattle.jc_facts.specs.declared.key.Key.{Key}
 use Rattle.jc_facts.specs.Names.{Bytes, same}
@@ -12,7 +13,7 @@ use Rattle.jc_facts.specs.world.Hierarchy.{names_in, is_superinterface}
 use Rattle.jc_facts.specs.world.Inheritance.{offers}
 use Rattle.jc_facts.proofs.World.{class_named-name, class_named-each, IsOf}
 use Rattle.jc_facts.proofs.Same.{same_is, same_itself}
-use Rattle.jc_lemmas.proofs.Bools.{tests_agree, beq_is}
+use Rattle.jc_lemmas.proofs.Bools.{beq_is}
 use Rattle.jc_lemmas.proofs.Listed.{EachOf, each_in, each_from, any_has, any_passes, in_filter, filter_in, list_all-each}
 use Rattle.jc_promises.specs.rule.Selection.{declares_abstract}
 use Rattle.jc_promises.specs.rule.Warnings.{is_below_other, stays_in, parts_agree}
@@ -98,7 +99,7 @@ module _ (O N : World) (k : Key) (xs ys : List ClassFacts) (gx : EachOf (IsOf O)
       let q : Some c ≡ Some d = sym a ∙ ap (find_class N) e ∙ b in cc
 
   pub offered_alike : (f : Bool → Bool) (z : Bytes) → list_any (is_offered f k z) xs ≡ list_any (is_offered f k z) ys
-  offered_alike f z = tests_agree (list_any (is_offered f k z) xs) (list_any (is_offered f k z) ys) there back
+  offered_alike f z = both_ways (list_any (is_offered f k z) xs) (list_any (is_offered f k z) ys) there back
     where
       there : list_any (is_offered f k z) xs ≡ true → list_any (is_offered f k z) ys ≡ true
       there h =
@@ -131,7 +132,7 @@ module _ (O N : World) (k : Key) (xs ys : List ClassFacts) (gx : EachOf (IsOf O)
     named c cs h = any_has (λ d. same d.name c.name) cs c h (same_itself c.name)
 
     pub beside_alike : list_any (is_beside O k z) xs ≡ list_any (is_beside N k z) ys
-    beside_alike = tests_agree (list_any (is_beside O k z) xs) (list_any (is_beside N k z) ys) there back
+    beside_alike = both_ways (list_any (is_beside O k z) xs) (list_any (is_beside N k z) ys) there back
       where
         -- the interface z itself
         at_old : names_in xs z ≡ true → (e : ClassFacts) × Contains xs e × (e.name ≡ z)

@@ -3,7 +3,7 @@ use Rattle.std.proofs.Common.{◌≡◌, ◌≢◌, ◌≤◌, ◌<◌, ◌+◌,
 use Rattle.std.specs.Str.{is_utf8}
 use Rattle.std.proofs.lemmas.List.{length-append, length-map}
 use Rattle.std.proofs.lemmas.List.Elements.{All-from_recursion, recursion_from_All}
-use Rattle.jc_lemmas.proofs.Bools.{both_last}
+use Rattle.std.specs.Cmp.{second_so}
 use Rattle.jc_lemmas.proofs.Listed.{EachOf, EachOf-append, EachOf-map}
 use Rattle.jc_base.specs.States.{FolderState, Change}
 use Rattle.jc_facts.specs.declared.client.ClientClass.{ClientClass}
@@ -44,7 +44,7 @@ files_apart (f ∷ fs) (c ∷ cs) r h =
 
 allowed_is_utf8 : (W : World) (x : Bytes) → is_allowed_name W x ≡ true → is_utf8 x ≡ true
 unfolding is_allowed_name
-allowed_is_utf8 W x h = both_last _ (is_utf8 x) h
+allowed_is_utf8 W x h = second_so _ (is_utf8 x) h
 
 module _ (O N : World) (e : Cause) (fs : List WitnessFile) (w : IsWitnessOf O N e fs) where
   pub names_apart : ApartRec class_of fs

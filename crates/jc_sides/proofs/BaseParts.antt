@@ -1,7 +1,7 @@
 -- What is known of a steady class, a base class and a base interface.
 use Rattle.std.proofs.Common.{◌≡◌, Bool, true, false, not, refl, ◌∙◌, ap, Option, Some, None, ◌||◌, ◌&&◌, is_some}
-use Rattle.std.proofs.lemmas.Bool.{and_parts, and_from, or_left}
-use Rattle.jc_lemmas.proofs.Bools.{and_false, neither_first, neither_last, not_true}
+use Rattle.std.proofs.lemmas.Bool.{and_parts, and_from, or_left, not-true}
+use Rattle.jc_lemmas.proofs.Bools.{and_false, neither_first, neither_last}
 use Rattle.jc_facts.specs.declared.class_facts.ClassFacts.{ClassFacts}
 use Rattle.jc_facts.specs.Names.{Bytes}
 use Rattle.jc_facts.specs.Flags.{interface_flag, final_flag}
@@ -35,7 +35,7 @@ pub steady_parts : (s : SidesOf) (x : Bytes) → is_steady s.old s.new x ≡ tru
 unfolding is_steady
 steady_parts s x h =
     let p = and_parts (is_kept s.old s.new x) (not (became_class s.old s.new x)) h in
-    record { both = kept_parts s x p.0; kept = p.0; stayed = not_true (became_class s.old s.new x) p.1 }
+    record { both = kept_parts s x p.0; kept = p.0; stayed = not-true (became_class s.old s.new x) p.1 }
 
 -- ---- base interfaces
 
@@ -84,7 +84,7 @@ extendable_kind s x h =
     let q = and_parts (not (interface_flag c.0.flags) && not (final_flag c.0.flags) && has_init c.0 public_or_protected) (is_open s.old s.new c.0) c.2 in
     let r = and_parts (not (interface_flag c.0.flags) && not (final_flag c.0.flags)) (has_init c.0 public_or_protected) q.0 in
     let t = and_parts (not (interface_flag c.0.flags)) (not (final_flag c.0.flags)) r.0 in
-    ap (some_and (λ d. interface_flag d.flags)) c.1 ∙ not_true (interface_flag c.0.flags) t.0
+    ap (some_and (λ d. interface_flag d.flags)) c.1 ∙ not-true (interface_flag c.0.flags) t.0
 
 pub base_class_parts : (s : SidesOf) (x : Bytes) → is_base_class s.old s.new x ≡ true → IsBaseClass s x
 unfolding is_base_class
@@ -109,7 +109,7 @@ no_interface_now s x h =
     let p = and_parts (is_extendable s.old s.new x && is_steady s.old s.new x) (not (is_class_closed s.old s.new x)) h in
     let q = and_parts (is_extendable s.old s.new x) (is_steady s.old s.new x) p.0 in
     let n : class_is s.old (λ c. class_is s.new (shuts s c) x) x ≡ false =
-    and_false (is_steady s.old s.new x && (is_extendable s.old s.new x || is_implementable s.old s.new x)) (class_is s.old (λ c. class_is s.new (shuts s c) x) x) (not_true (is_class_closed s.old s.new x) p.1) (and_from (is_steady s.old s.new x) (is_extendable s.old s.new x || is_implementable s.old s.new x) q.1 (or_left (is_extendable s.old s.new x) (is_implementable s.old s.new x) q.0)) in
+    and_false (is_steady s.old s.new x && (is_extendable s.old s.new x || is_implementable s.old s.new x)) (class_is s.old (λ c. class_is s.new (shuts s c) x) x) (not-true (is_class_closed s.old s.new x) p.1) (and_from (is_steady s.old s.new x) (is_extendable s.old s.new x || is_implementable s.old s.new x) q.1 (or_left (is_extendable s.old s.new x) (is_implementable s.old s.new x) q.0)) in
     let r = base_class_parts s x h in
     go (find_class s.old x) (find_class s.new x) r.both.there r.kind n
   where

@@ -9,7 +9,8 @@ use Rattle.jc_facts.specs.file.Valid.{has_key}
 use Rattle.jc_facts.specs.Options.{some_and}
 use Rattle.jc_facts.proofs.Keys.{flip}
 use Rattle.std.proofs.lemmas.List.Folds.{list_any-append}
-use Rattle.jc_lemmas.proofs.Bools.{or_assoc, or_false, or_true}
+use Rattle.std.proofs.Math.Bool.{or-false, or-true}
+use Rattle.jc_lemmas.proofs.Bools.{or_assoc}
 use Rattle.jc_sides.specs.Members.{HasAll}
 use Rattle.jc_sides.specs.steps.KeySets.{AddsKeys, has_member}
 
@@ -18,17 +19,14 @@ use Rattle.jc_sides.specs.steps.KeySets.{AddsKeys, has_member}
 pub push_adds : (m : Member) (k : Key) (wanted : Bool) (before after : List Key) → wanted ≡ true → k ≡ key_of m → after ≡ before ++ k ∷ [] → AddsKeys (λ q. wanted && is_key q m) before after
 push_adds m k wanted before after w e a = record {
   has = λ q. ap (has_key q) a ∙ list_any-append (same_key q) before (k ∷ [])
-      ∙ ap (λ (b : Bool). has_key q before || b) (or_false (same_key q k) ∙ ap (same_key q) e ∙ flip q (key_of m) ∙ ap (λ (b : Bool). b && is_key q m) (sym w));
+      ∙ ap (λ (b : Bool). has_key q before || b) (or-false (same_key q k) ∙ ap (same_key q) e ∙ flip q (key_of m) ∙ ap (λ (b : Bool). b && is_key q m) (sym w));
 }
-
-pub push_none : (m : Member) (wanted : Bool) (keys : List Key) → wanted ≡ false → AddsKeys (λ q. wanted && is_key q m) keys keys
-push_none m wanted keys w = record { has = λ q. sym (or_false (has_key q keys)) ∙ ap (λ (b : Bool). has_key q keys || (b && is_key q m)) (sym w) }
 
 -- ---- a loop that adds
 
 -- nothing yet
 pub adds_none : (keys : List Key) → AddsKeys (λ q. false) keys keys
-adds_none keys = record { has = λ q. sym (or_false (has_key q keys)) }
+adds_none keys = record { has = λ q. sym (or-false (has_key q keys)) }
 
 -- one more item
 pub adds_more : {A : Type 0} (p : Key → A → Bool) (d : A) (xs : List A) (i : ℕ) (first before after : List Key) → i < length xs → AddsKeys (λ q. list_any (p q) (take i xs)) first before → AddsKeys (λ q. p q (get_or xs i d)) before after
@@ -36,7 +34,7 @@ pub adds_more : {A : Type 0} (p : Key → A → Bool) (d : A) (xs : List A) (i :
 adds_more p d xs i first before after l h k = record {
   has = λ q. k.has q ∙ ap (λ (b : Bool). b || p q (get_or xs i d)) (h.has q)
       ∙ or_assoc (has_key q first) (list_any (p q) (take i xs)) (p q (get_or xs i d))
-      ∙ ap (λ (b : Bool). has_key q first || b) (ap (λ (b : Bool). list_any (p q) (take i xs) || b) (sym (or_false (p q (get_or xs i d)))) ∙ sym (list_any-append (p q) (take i xs) (get_or xs i d ∷ [])) ∙ ap (list_any (p q)) (sym (take_more xs i d l)));
+      ∙ ap (λ (b : Bool). has_key q first || b) (ap (λ (b : Bool). list_any (p q) (take i xs) || b) (sym (or-false (p q (get_or xs i d)))) ∙ sym (list_any-append (p q) (take i xs) (get_or xs i d ∷ [])) ∙ ap (list_any (p q)) (sym (take_more xs i d l)));
 }
 
 -- the same is listed
@@ -69,4 +67,4 @@ some_member test (m ∷ ms) q h = go (is_key q m) refl h (some_member test ms q)
     go : (b : Bool) → is_key q m ≡ b → some_and test (cond b (Some m) (first_where (is_key q) ms)) ≡ true → (some_and test (first_where (is_key q) ms) ≡ true → has_member test ms q ≡ true)
         → ((test m && is_key q m) || has_member test ms q) ≡ true
     go true e s r = let t : test m ≡ true = s in rw (t, e) refl
-    go false e s r = rw (r s) (or_true (test m && is_key q m))
+    go false e s r = rw (r s) (or-true (test m && is_key q m))

@@ -7,6 +7,7 @@ use Rattle.std.proofs.lemmas.List.Folds.{list_any_at}
 use Rattle.std.proofs.lemmas.List.Sorted.{list_any-IsPermutation}
 use Rattle.std.proofs.lemmas.Map.Views.{any-filter_same}
 use Rattle.std.proofs.lemmas.Slice.Eq.{bytes_eq-Decides}
+use Rattle.std.proofs.Math.Bool.{and-true}
 use Rattle.jc_facts.specs.Names.{Bytes, same, is_name_among}
 use Rattle.jc_facts.proofs.Same.{same_is, same_itself}
 use Rattle.jc_lemmas.proofs.Listed.{EachOf, list_any-same}
@@ -15,7 +16,6 @@ use Rattle.jc_index.specs.Ids.{names}
 use Rattle.jc_index.proofs.Numbers.{names-length}
 use Rattle.jc_sides.specs.SharedOf.{SharedOf, IsShared, AreThose, HasThose, name_of}
 use Rattle.jc_sides.specs.SidesOf.{SidesOf}
-use Rattle.jc_lemmas.proofs.Bools.{and_true}
 
 -- ---- names that are no longer listed
 
@@ -55,4 +55,4 @@ pub has_those : (test : Bytes → Bool) (s : SidesOf) (bs : List SharedOf) (set 
 has_those test s bs set those p b h =
     sym (list_any-IsPermutation (λ y. same y (name_of b)) (filter test (names s.old)) set (subst (λ (xs : List Bytes). IsPermutation xs set) those.all p))
     ∙ any-filter_same (λ y. same y (name_of b)) test (test (name_of b)) (λ k e. ap test (same_is k (name_of b) e)) (names s.old)
-    ∙ rw (listed s b h) (and_true (test (name_of b)))
+    ∙ rw (listed s b h) (and-true (test (name_of b)))

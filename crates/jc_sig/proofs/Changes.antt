@@ -1,11 +1,11 @@
 -- What has changed between two texts is what is computed.
 use Rattle.std.proofs.Common.{◌≡◌, ◌↔◌, Bool, true, false, not, cond, Option, Some, None, refl, sym, ap, ◌∙◌}
 use Rattle.std.specs.Option.{option_map, option_eq}
+use Rattle.std.proofs.lemmas.Bool.{not-true}
 use Rattle.jc_facts.specs.declared.key.Key.{Key}
 use Rattle.jc_facts.specs.declared.sig_note.SigChange.{SigChange}
 use Rattle.jc_facts.specs.Names.{Bytes, same, is_descriptor_of_method}
 use Rattle.jc_facts.proofs.Same.{same_itself}
-use Rattle.jc_lemmas.proofs.Bools.{not_true}
 use Rattle.jc_sig.specs.Trees.{TypeTree, ClassSigTree, MethodSigTree}
 use Rattle.jc_sig.specs.Grammar.{SpellsClassSig, SpellsMethodSig, SpellsFieldSig}
 use Rattle.jc_sig.specs.Reading.{class_sig_of, method_sig_of, field_sig_of}
@@ -55,7 +55,7 @@ module _ (A : Type 0) (Spells : Bytes → A → Type 0) (read : Bytes → Option
 
   by_changes : (part : A → A → SigChange) (before after : Option Bytes) (change : SigChange) → Changes Spells part before after change → (option_eq same before after ≡ false) × (change ≡ change_between read part before after)
   by_changes part before after change h = (
-    not_true (option_eq same before after) h.differ,
+    not-true (option_eq same before after) h.differ,
     h.change_is ∙ ap (λ (o : Option (Option A)). change_of part o h.new) (of_is before h.old h.old_is) ∙ ap (λ (o : Option (Option A)). change_of part (option_map read before) o) (of_is after h.new h.new_is),
   )
 

@@ -4,17 +4,11 @@ use Rattle.jc_sig.specs.declared.tree.ClassType.{ClassType}
 use Rattle.jc_sig.specs.declared.tree.Argument.{Argument, the_lemmas}
 use Rattle.jc_sig.specs.declared.tree.TypeSig.{Class}
 use Rattle.jc_sig.specs.Trees.{class, TypeTree}
-use Rattle.jc_sig.specs.Reading.{ReadType, behind, variable_from, class_from, list_from, arguments_from, type_from}
+use Rattle.jc_sig.specs.Reading.{ReadType, behind, class_from, list_from, arguments_from, type_from}
 use Rattle.jc_sig.specs.Views.{type_view, class_view, argument_view, arguments_of}
 
 pub view-Class : (c : ClassType) → type_view (Class c) ≡ class (class_view c)
 view-Class c = search (rules, the_lemmas)
-
--- a type variable
-pub type_variable : (n : ℕ) (bytes : List ℕ) (b : ℕ) (rest : List ℕ) → (n ≡ 0 → ⊥) → bytes ≡ b ∷ rest → b ≡ 84 → type_from n bytes ≡ variable_from rest
-unfolding type_from
-type_variable zero bytes b rest h e k = absurd (h refl)
-type_variable (suc n) bytes b rest h e k = rw (e, k) refl
 
 -- a class type
 pub type_class : (n : ℕ) (bytes : List ℕ) (b : ℕ) (rest : List ℕ) (c : ClassType) (next : List ℕ) → (n ≡ 0 → ⊥) → bytes ≡ b ∷ rest → b ≡ 76 → class_from (type_from (n - 1)) rest ≡ Some (class_view c, next)

@@ -2,18 +2,16 @@
 use Rattle.std.proofs.Common.{◌≡◌, ◌↔◌, ℕ, suc, ◌+◌, ◌<◌, List, [], ◌∷◌, ◌++◌, length, Option, Some, None, IfSome, IfNone, refl, sym, ap, ◌∙◌, arith}
 use Rattle.std.specs.List.{AllByRecursion}
 use Rattle.std.specs.Option.{option_map}
+use Rattle.std.proofs.lemmas.Option.{same_Some}
 use Rattle.jc_sig.specs.Trees.{TypeTree, ClassTree, ParameterTree, ClassSigTree, MethodSigTree, type_text, class_text, types_text, type_parameters_text, result_text, class_sig_text, method_sig_text}
 use Rattle.jc_sig.specs.Grammar.{IsTop, IsTopClass, IsParameter, IsClassSig, IsMethodSig, IsFieldSig, SpellsClassSig, SpellsMethodSig, SpellsFieldSig}
 use Rattle.jc_sig.specs.Reading.{top_class_from, type_parameters_from, types_from, result_from, class_sig_of, method_sig_of, field_sig_of}
 use Rattle.jc_sig.proofs.SoundSigs.{class_sig_is, method_sig_is, field_sig_is}
 use Rattle.jc_sig.proofs.AgainSigs.{top_class_again, type_parameters_again, types_again, result_again, class_sig_again, method_sig_again, field_sig_again}
 
-some_same : {A : Type 0} (x y : A) → Some x ≡ Some y → x ≡ y
-some_same x y e = cc
-
 -- one text, read, is one tree
 pub one_tree : {A : Type 0} (Is : A → Type 0) (text : A → List ℕ) (read : List ℕ → Option A) → ((bytes : List ℕ) (x : A) → (Is x × (bytes ≡ text x)) → read bytes ≡ Some x) → (x y : A) → Is x → Is y → text x ≡ text y → x ≡ y
-one_tree Is text read again x y hx hy e = some_same x y (sym (again (text x) x (hx, refl)) ∙ again (text x) y (hy, e))
+one_tree Is text read again x y hx hy e = same_Some x y (sym (again (text x) x (hx, refl)) ∙ again (text x) y (hy, e))
 
 pub found : {X A : Type 0} (view : X → A) (Is : A → Type 0) (text : A → List ℕ) (read : List ℕ → Option A) → ((bytes : List ℕ) (x : A) → read bytes ≡ Some x → Is x × (bytes ≡ text x))
     → (r : Option X) (bytes : List ℕ) → option_map view r ≡ read bytes → IfSome r (λ x. Is (view x) × (bytes ≡ text (view x)))

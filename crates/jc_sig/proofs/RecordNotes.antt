@@ -7,7 +7,7 @@ use Rattle.std.specs.Cmp.Lexicographic.{nat_list_cmp_total}
 use Rattle.std.specs.List.{Contains, filter_map, cons_option}
 use Rattle.std.specs.List.Sorted.{IsStrictlySortedBy}
 use Rattle.std.specs.Option.{option_map}
-use Rattle.std.specs.declared.cmp.Ordering.TheVariants.{Less, Equal}
+use Rattle.std.specs.declared.cmp.Ordering.TheVariants.{Less}
 use Rattle.std.proofs.lemmas.Bool.{and_parts}
 use Rattle.std.proofs.lemmas.List.Elements.{All-contains_itself, All-from_recursion, filter_map-append}
 use Rattle.std.proofs.lemmas.Map.Views.{btree_set_contains_iff}
@@ -16,7 +16,7 @@ use Rattle.jc_facts.specs.declared.class_facts.Signed.{Signed}
 use Rattle.jc_facts.specs.declared.key.Key.{Key}
 use Rattle.jc_facts.specs.declared.sig_note.SigChange.{SigChange}
 use Rattle.jc_facts.specs.declared.sig_note.SigNote.{SigNote}
-use Rattle.jc_facts.specs.Exactly.{HasExactly, Rises, name_order}
+use Rattle.jc_facts.specs.Exactly.{HasExactly, Rises}
 use Rattle.jc_facts.specs.KeyOrder.{key_cmp, key_total}
 use Rattle.jc_facts.specs.Names.{Bytes}
 use Rattle.jc_facts.proofs.Exactly.{exact_over}
@@ -51,9 +51,6 @@ none_either x key false = refl
 
 unsigned : (c : ClassFacts) (k : Key) → c.signatures ≡ [] → signature_at c (Some k) ≡ None
 unsigned c k e = ap (λ (ss : List Signed). option_map (λ (s : Signed). s.text) (signed_at ss k)) e
-
-same_name : (x : Bytes) → name_order x x ≡ Equal
-same_name x = tied_itself nat_list_cmp_total x
 
 module _ (x : Bytes) (c d : ClassFacts) where
   -- two records without signatures
@@ -90,7 +87,7 @@ module _ (x : Bytes) (c d : ClassFacts) where
   key_before k l m n b e f =
       let i = note_of x c d (Some k) m e in
       let j = note_of x c d (Some l) n f in
-      rw (i.0, j.0, i.1, j.1, same_name x, b) refl
+      rw (i.0, j.0, i.1, j.1, tied_itself nat_list_cmp_total x, b) refl
 
   -- the keys that the first record declares are all that are needed
   member_exact : (keys : sorted.BTreeSet Key) → IsStrictlySortedBy key_cmp keys.keys → HasMembers c keys → HasExactly sig_note_order (OnMember x c d) (filter_map h keys.keys)
@@ -122,7 +119,7 @@ module _ (x : Bytes) (c d : ClassFacts) where
   class_first m n p q =
       let i = note_of x c d m.key m p.1 in
       let j = note_of x c d n.key n q.2 in
-      rw (i.0, j.0, p.0, q.1, same_name x) refl
+      rw (i.0, j.0, p.0, q.1, tied_itself nat_list_cmp_total x) refl
 
   either : (n : SigNote) → OnRecords x c d n → OnClass n ⊎ OnMember x c d n
   either n e = go n.key refl

@@ -2,6 +2,7 @@
 use Rattle.std.proofs.Common.{◌≡◌, Bool, true, ◌++◌, map, refl, sym, ◌∙◌, ap, subst, Option, Some, None, is_some, is_none, ◌&&◌, ◌⊎◌, inl, inr}
 use Rattle.std.specs.List.{list_any, flat_map, find as first_where}
 use Rattle.std.proofs.lemmas.Bool.{and_parts, and_from, or_cases}
+use Rattle.std.specs.Cmp.{both_ways}
 use Rattle.jc_facts.specs.declared.class_facts.ClassFacts.{ClassFacts}
 use Rattle.jc_facts.specs.declared.class_facts.Member.{Member}
 use Rattle.jc_facts.specs.declared.key.Key.{Key}
@@ -18,7 +19,6 @@ use Rattle.jc_promises.specs.rule.Exposed.{is_hidden, Reference, keys_of, refere
 use Rattle.jc_promises.proofs.Exposed.{any-found}
 use Rattle.jc_facts.proofs.Mapped.{any-map, any-flat}
 use Rattle.jc_facts.proofs.World.{find-name, IsOf}
-use Rattle.jc_lemmas.proofs.Bools.{tests_agree}
 use Rattle.jc_lemmas.proofs.Listed.{EachOf, EachOf-append, Passes, any_passes, each_in}
 use Rattle.jc_lemmas.proofs.Lists.{first_where-any, any_left, any_right, any_weaker, found_passes}
 use Rattle.jc_lemmas.proofs.Options.{none_where}
@@ -79,7 +79,7 @@ exposes_above O pair a x r e =
 
 pub exposed_by_keys_above : ExposedByKeysAbove
 unfolding is_exposed references exposes
-exposed_by_keys_above O bare root vp vo a x = ap (λ b. is_hidden O x && b) (tests_agree (list_any (exposes O a x) (references O)) (list_any (exposes_by O a x) (classes O)) to from)
+exposed_by_keys_above O bare root vp vo a x = ap (λ b. is_hidden O x && b) (both_ways (list_any (exposes O a x) (references O)) (list_any (exposes_by O a x) (classes O)) to from)
   where
     to : list_any (exposes O a x) (references O) ≡ true → list_any (exposes_by O a x) (classes O) ≡ true
     to h = by (any_passes (exposes O a x) (references O) h)

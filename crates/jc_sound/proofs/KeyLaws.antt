@@ -2,6 +2,7 @@
 use Rattle.std.proofs.Common.{◌≡◌, Bool, true, not, List, [], ◌∷◌, ◌++◌, refl, ◌∙◌, ap, subst, Option, Some, None, is_some, is_none, ◌&&◌, ◌==◌, ◌⊎◌, inl, inr}
 use Rattle.std.proofs.lemmas.Bool.{and_parts, or_cases, or_left}
 use Rattle.std.specs.List.{list_any}
+use Rattle.std.specs.Cmp.{first_so, second_so}
 use Rattle.jc_facts.specs.declared.class_facts.ClassFacts.{ClassFacts}
 use Rattle.jc_facts.specs.declared.class_facts.Member.{Member}
 use Rattle.jc_facts.specs.declared.key.Key.{Key}
@@ -36,7 +37,7 @@ use Rattle.jc_worlds.proofs.Unrolled.{chain-unroll}
 use Rattle.jc_lemmas.proofs.Lists.{any_left, any_right, any_weaker}
 use Rattle.jc_sound.proofs.Looked.{look_up-takes}
 use Rattle.jc_sound.proofs.UsableLaw.{Needs, none_needs, cond_needs, either_needs, or_else_needs, and_then_needs, findings_are_of_loaded}
-use Rattle.jc_lemmas.proofs.Bools.{both_first, both_last, second_of_five, third_of_five}
+use Rattle.jc_lemmas.proofs.Bools.{second_of_five, third_of_five}
 use Rattle.jc_sound.proofs.AboveKeys.{test_declares, looked_above, chain_above, from_class}
 
 -- ---- parts
@@ -48,7 +49,7 @@ module _ (k : Key) (W : World) (x : Bytes) (loaded : load_fault W x ≡ None) wh
 
   by_init : (test : Member → Bool) → had_init W x k test ≡ true → list_any (declares_key k) (above W x) ≡ true
   unfolding and_then
-  by_init test h = go (find_class W x) refl (both_last (is_init_name k.name) (some_and test (init_of W x k)) h)
+  by_init test h = go (find_class W x) refl (second_so (is_init_name k.name) (some_and test (init_of W x k)) h)
     where
       go : (o : Option ClassFacts) → find_class W x ≡ o → some_and test (and_then (λ c. own_method_of c k) o) ≡ true → list_any (declares_key k) (above W x) ≡ true
       go None f e = absurd (cc)
@@ -146,8 +147,8 @@ module _ (O N : World) (pair : IsPair O N) where
   unfolding method_made_final field_closed method_closed interface_method_lost constructor_closed
   by_key s k h =
       either_needs P (s.rule == 5) (constructor_closed O N s k) _ (or_else_needs P _ _
-      (and_then_needs P (report s act.NewObject None) _ (new_error N s.class k) (λ e. of_old s.class k (by_init k O s.class h (λ m. public_flag m.flags) (both_last _ (had_init O s.class k (λ m. public_flag m.flags)) e))))
-      (and_then_needs P (report s act.InitSuper None) _ (init_error N s.class k) (λ e. of_old s.class k (by_init k O s.class h public_or_protected (both_last (is_base_class O N s.class) (had_init O s.class k public_or_protected) e)))))
+      (and_then_needs P (report s act.NewObject None) _ (new_error N s.class k) (λ e. of_old s.class k (by_init k O s.class h (λ m. public_flag m.flags) (second_so _ (had_init O s.class k (λ m. public_flag m.flags)) e))))
+      (and_then_needs P (report s act.InitSuper None) _ (init_error N s.class k) (λ e. of_old s.class k (by_init k O s.class h public_or_protected (second_so (is_base_class O N s.class) (had_init O s.class k public_or_protected) e)))))
       (either_needs P (s.rule == 6) (method_made_final O N s k) _ (cond_needs P (is_key_of_method k && is_base_class O N s.class && is_final_in_chain N s.class k && not (is_final_in_chain O s.class k) && finds_overridable O s.class k) _
       (λ e. of_new s.class k (by_finals k N s.class (base_now O N s.class (second_of_five (is_key_of_method k) (is_base_class O N s.class) (is_final_in_chain N s.class k) (not (is_final_in_chain O s.class k)) (finds_overridable O s.class k) e))
       (third_of_five (is_key_of_method k) (is_base_class O N s.class) (is_final_in_chain N s.class k) (not (is_final_in_chain O s.class k)) (finds_overridable O s.class k) e))))
@@ -178,10 +179,10 @@ unfolding collision_at constant_added capture_added final_added captures Needs
 collision_keys_are_declared O N pair rule x k c e =
     either_needs P (rule == 10) _ _ (cond_needs P (constant_added O N x k) _ (λ h.
     let a = and_parts (is_base_interface O N x && is_none (field_found O x k)) (is_some (field_found N x k)) h in
-    let b = base_interface_now O N x (both_first (is_base_interface O N x) (is_none (field_found O x k)) a.0) in
+    let b = base_interface_now O N x (first_so (is_base_interface O N x) (is_none (field_found O x k)) a.0) in
     constant b (field_found N x k) refl a.1))
     (either_needs P (rule == 11) _ _ (cond_needs P (capture_added O N x k) _ (λ h. capture (first_declared k (chain N x)) refl
-    (both_last (is_key_of_method k && is_base_class O N x && are_none (method_choices O x k)) (captures N x k) (both_first (is_key_of_method k && is_base_class O N x && are_none (method_choices O x k) && captures N x k) (leaves_room k) h))))
+    (second_so (is_key_of_method k && is_base_class O N x && are_none (method_choices O x k)) (captures N x k) (first_so (is_key_of_method k && is_base_class O N x && are_none (method_choices O x k) && captures N x k) (leaves_room k) h))))
     (either_needs P (rule == 12) _ None (cond_needs P (final_added O N x k) _ (λ h.
     by_finals k N x (base_now O N x (second_of_five (is_key_of_method k) (is_base_class O N x) (is_final_in_chain N x k) (not (is_final_in_chain O x k)) (not (finds_overridable O x k)) h))
     (third_of_five (is_key_of_method k) (is_base_class O N x) (is_final_in_chain N x k) (not (is_final_in_chain O x k)) (not (finds_overridable O x k)) h)))

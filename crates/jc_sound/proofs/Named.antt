@@ -2,6 +2,7 @@
 use Rattle.std.proofs.Common.{◌≡◌, Bool, true, false, List, [], ◌∷◌, ◌++◌, refl, sym, ◌∙◌, ap, subst, Option, Some, None, ◌||◌, ◌&&◌, ◌⊎◌, inl, inr}
 use Rattle.std.proofs.lemmas.Bool.{and_from, or_cases, or_left, or_right}
 use Rattle.std.specs.List.{list_any}
+use Rattle.std.proofs.lemmas.List.{append-nil}
 use Rattle.jc_facts.specs.declared.class_facts.ClassFacts.{ClassFacts}
 use Rattle.jc_facts.specs.Names.{Bytes, same, object_name, is_name_among}
 use Rattle.jc_facts.specs.world.World.{World, find_class, is_client}
@@ -52,12 +53,8 @@ module _ (W : World) (i : Bytes) where
       empty : interfaces_of W (root ∷ []) ≡ []
       empty = rw ri refl
 
-      nil : {A : Type 0} (xs : List A) → xs ++ [] ≡ xs
-      nil [] = refl
-      nil (x ∷ xs) = ap (λ ys. x ∷ ys) (nil xs)
-
       si : superinterfaces W s ≡ each (with_interfaces W) e.interfaces
-      si = superinterfaces-unroll W s e fs hs ∙ ap (λ o. each (with_interfaces W) e.interfaces ++ interfaces_of W (of_super (chain W) o)) q ∙ ap (λ cs. each (with_interfaces W) e.interfaces ++ interfaces_of W cs) rch ∙ ap (λ cs. each (with_interfaces W) e.interfaces ++ cs) empty ∙ nil (each (with_interfaces W) e.interfaces)
+      si = superinterfaces-unroll W s e fs hs ∙ ap (λ o. each (with_interfaces W) e.interfaces ++ interfaces_of W (of_super (chain W) o)) q ∙ ap (λ cs. each (with_interfaces W) e.interfaces ++ interfaces_of W cs) rch ∙ ap (λ cs. each (with_interfaces W) e.interfaces ++ cs) empty ∙ append-nil (each (with_interfaces W) e.interfaces)
 
       no_root : test root ≡ false
       no_root = ap (λ n. is_client W n && is_name_among root.interfaces i) (find-name W object_name root fr) ∙ ap (λ b. b && is_name_among root.interfaces i) rc

@@ -4,7 +4,7 @@ use Rattle.jc_facts.specs.declared.class_facts.ClassFacts.{ClassFacts}
 use Rattle.jc_facts.specs.Names.{Bytes, in_same_package, package_name}
 use Rattle.jc_facts.specs.Flags.{public_flag}
 use Rattle.jc_facts.specs.world.World.{World, OneModule, class_named, find_class, class_is}
-use Rattle.jc_facts.specs.world.Modules.{OfClients, module_by, module_of, same_module, is_exported, visible_by, is_visible, is_visible_from}
+use Rattle.jc_facts.specs.world.Modules.{OfClients, module_by, module_of, same_module, is_exported, visible_by, is_visible}
 use Rattle.jc_facts.specs.world.Access.{is_class_accessible}
 use Rattle.jc_facts.specs.world.Loading.{sealed_by, is_sealed_against, excludes, loads}
 use Rattle.jc_facts.specs.Options.{and_then}
@@ -21,12 +21,6 @@ module _ (W : World) (one : W.modules ≡ OneModule) where
 
   pub all_together : (x y : Bytes) → same_module (module_of W x) (module_of W y) ≡ true
   all_together x y = rw (one_module x, one_module y) refl
-
-  pub visible_from_all : (x y : Bytes) → is_visible_from W x y ≡ true
-  visible_from_all x y = ap (λ b. b || is_visible W y) (all_together x y)
-
-  pub of_clients : (x : Bytes) → same_module OfClients (module_of W x) ≡ true
-  of_clients x = ap (same_module OfClients) (one_module x)
 
   pub plain_access : (x : Bytes) (d : ClassFacts) → is_class_accessible W x d ≡ (public_flag d.flags || in_same_package x d.name)
   plain_access x d = ap (λ b. ((b || is_visible W d.name) && public_flag d.flags) || in_same_package x d.name) (all_together x d.name)

@@ -2,6 +2,7 @@
 use Rattle.std.proofs.Common.{◌≡◌, Bool, true, false, not, cond, List, [], ◌∷◌, refl, Option, Some, None, is_some, is_none, ◌||◌, ◌&&◌, ◌==◌, ◌⊎◌, inl, inr}
 use Rattle.std.specs.List.{list_any, list_all}
 use Rattle.std.proofs.lemmas.Bool.{and_parts, or_cases}
+use Rattle.std.specs.Cmp.{first_so, second_so}
 use Rattle.jc_facts.specs.declared.key.Key.{Key}
 use Rattle.jc_facts.specs.declared.finding.Finding.{Finding}
 use Rattle.jc_facts.specs.declared.act.Act.TheVariants.{Assignment}
@@ -23,7 +24,7 @@ use Rattle.jc_facts.specs.world.Hierarchy.{in_chain}
 use Rattle.jc_facts.specs.world.Loading.{loads}
 use Rattle.jc_facts.specs.world.Assignment.{is_interface_of}
 use Rattle.jc_sound.specs.Findings.{FindingsAreOfLoaded, CollisionsAreOfUsable}
-use Rattle.jc_lemmas.proofs.Bools.{both_first, both_last, second_of_five}
+use Rattle.jc_lemmas.proofs.Bools.{second_of_five}
 use Rattle.jc_sound.proofs.OpenActs.{first_seat-passes}
 
 module _ (O N : World) (x : Bytes) where
@@ -78,7 +79,7 @@ module _ {X : Type 0} (P : Type 0) where
 
 of_usable : (O : World) (x : Bytes) → is_class_usable O x ≡ true → loads O x ≡ true
 unfolding is_class_usable
-of_usable O x h = both_last (class_is O (λ c. is_visible O x && public_flag c.flags) x) (loads O x) h
+of_usable O x h = second_so (class_is O (λ c. is_visible O x && public_flag c.flags) x) (loads O x) h
 
 of_part : (O N : World) (a x : Bytes) → takes_part O N a x ≡ true → loads O x ≡ true
 unfolding is_exposed is_hidden
@@ -86,7 +87,7 @@ of_part O N a x h = go (or_cases (is_kept O N x) (is_hidden O x && list_any (exp
   where
     go : (is_kept O N x ≡ true) ⊎ ((is_hidden O x && list_any (exposes O a x) (references O)) ≡ true) → loads O x ≡ true
     go (inl k) = of_usable O x (of_kept O N x k)
-    go (inr k) = both_first (loads O x) (not (is_class_usable O x)) (both_first (loads O x && not (is_class_usable O x)) (list_any (exposes O a x) (references O)) k)
+    go (inr k) = first_so (loads O x) (not (is_class_usable O x)) (first_so (loads O x && not (is_class_usable O x)) (list_any (exposes O a x) (references O)) k)
 
 assign_needs : (O N : World) (s : Subject) (xs : List Bytes) → Needs (loads O s.class ≡ true) (assign_finding O N s (s.class ∷ xs))
 unfolding assign_finding Needs and_then
@@ -96,14 +97,14 @@ assign_needs O N s xs f e = go (list_all (is_kept O N) (s.class ∷ xs)) refl (f
     test a = list_all (takes_part O N a) (s.class ∷ xs)
 
     go : (b : Bool) → list_all (is_kept O N) (s.class ∷ xs) ≡ b → (o : Option Bytes) → first_seat O N test ≡ o → cond b (report s Assignment None VerifyError) (and_then (λ a. report s Assignment (Some a) VerifyError) o) ≡ Some f → loads O s.class ≡ true
-    go true h o q w = of_usable O s.class (of_kept O N s.class (both_first (is_kept O N s.class) (list_all (is_kept O N) xs) h))
-    go false h (Some a) q w = of_part O N a s.class (both_first (takes_part O N a s.class) (list_all (takes_part O N a) xs) (first_seat-passes O N test a q))
+    go true h o q w = of_usable O s.class (of_kept O N s.class (first_so (is_kept O N s.class) (list_all (is_kept O N) xs) h))
+    go false h (Some a) q w = of_part O N a s.class (first_so (takes_part O N a s.class) (list_all (takes_part O N a) xs) (first_seat-passes O N test a q))
     go false h None q w = absurd (cc)
 
 by_needs : (O N : World) (s : Subject) (k : Option Key) (t : Option Bytes) → Needs (loads O s.class ≡ true) (finding_by O N s k t)
 unfolding class_gone class_closed interface_became_class superclass_lost method_made_final field_closed method_closed interface_method_lost constructor_closed
 by_needs O N s None None =
-    either_needs P (s.rule == 1) (class_gone O N s) _ (cond_needs P _ _ (λ h. of_usable O s.class (both_first (is_class_usable O s.class) (not (is_class_usable N s.class)) h)))
+    either_needs P (s.rule == 1) (class_gone O N s) _ (cond_needs P _ _ (λ h. of_usable O s.class (first_so (is_class_usable O s.class) (not (is_class_usable N s.class)) h)))
     (either_needs P (s.rule == 2) (class_closed O N s) _ (cond_needs P _ _ (λ h. of_usable O s.class (of_closed O N s.class h)))
     (either_needs P (s.rule == 3) (interface_became_class O N s) None (either_needs P (is_interface_of O s.class && not (is_interface_of N s.class)) _ None (assign_needs O N s []) (none_needs _ P)) (none_needs _ P)))
   where
@@ -118,11 +119,11 @@ by_needs O N s None (Some t) =
     P = loads O s.class ≡ true
 by_needs O N s (Some k) None =
     either_needs P (s.rule == 5) (constructor_closed O N s k) _ (or_else_needs P _ _
-    (and_then_needs P _ _ (new_error N s.class k) (λ h. of_usable O s.class (of_steady O N s.class (both_first (is_steady O N s.class) _ (both_first (is_steady O N s.class && _) (had_init O s.class k _) h)))))
-    (and_then_needs P _ _ (init_error N s.class k) (λ h. of_usable O s.class (of_base O N s.class (both_first (is_base_class O N s.class) _ h)))))
+    (and_then_needs P _ _ (new_error N s.class k) (λ h. of_usable O s.class (of_steady O N s.class (first_so (is_steady O N s.class) _ (first_so (is_steady O N s.class && _) (had_init O s.class k _) h)))))
+    (and_then_needs P _ _ (init_error N s.class k) (λ h. of_usable O s.class (of_base O N s.class (first_so (is_base_class O N s.class) _ h)))))
     (either_needs P (s.rule == 6) (method_made_final O N s k) _ (cond_needs P (is_key_of_method k && is_base_class O N s.class && is_final_in_chain N s.class k && not (is_final_in_chain O s.class k) && finds_overridable O s.class k) _ (λ h. of_usable O s.class (of_base O N s.class (second_of_five (is_key_of_method k) (is_base_class O N s.class) (is_final_in_chain N s.class k) (not (is_final_in_chain O s.class k)) (finds_overridable O s.class k) h))))
     (either_needs P (s.rule == 7) (field_closed O N s k) _ (cond_needs P _ _ (λ h. of_usable O s.class (of_steady O N s.class h)))
-    (either_needs P (s.rule == 8) (method_closed O N s k) _ (cond_needs P _ _ (λ h. of_usable O s.class (of_steady O N s.class (both_last (is_key_of_method k) (is_steady O N s.class) h))))
+    (either_needs P (s.rule == 8) (method_closed O N s k) _ (cond_needs P _ _ (λ h. of_usable O s.class (of_steady O N s.class (second_so (is_key_of_method k) (is_steady O N s.class) h))))
     (either_needs P (s.rule == 9) (interface_method_lost O N s k) None (cond_needs P (is_key_of_method k && is_base_interface O N s.class && inherits O s.class k && not (inherits N s.class k) && is_none (public_method_of_object O k)) _ (λ h. of_usable O s.class (of_base_interface O N s.class (second_of_five (is_key_of_method k) (is_base_interface O N s.class) (inherits O s.class k) (not (inherits N s.class k)) (is_none (public_method_of_object O k)) h)))) (none_needs _ P)))))
   where
     P : Type 0
@@ -136,9 +137,9 @@ findings_are_of_loaded O N s f e = by_needs O N s s.key s.target f e
 pub collisions_are_of_usable : CollisionsAreOfUsable
 unfolding collision_at constant_added capture_added final_added Needs
 collisions_are_of_usable O N rule x k c e =
-    either_needs P (rule == 10) _ _ (cond_needs P (constant_added O N x k) _ (λ h. of_base_interface O N x (both_first (is_base_interface O N x) (is_none (field_found O x k)) (both_first (is_base_interface O N x && is_none (field_found O x k)) (is_some (field_found N x k)) h))))
-    (either_needs P (rule == 11) _ _ (cond_needs P (capture_added O N x k) _ (λ h. of_base O N x (both_last (is_key_of_method k) (is_base_class O N x) (both_first (is_key_of_method k && is_base_class O N x) (are_none (method_choices O x k)) (both_first (is_key_of_method k && is_base_class O N x && are_none (method_choices O x k)) (captures N x k) (both_first (is_key_of_method k && is_base_class O N x && are_none (method_choices O x k) && captures N x k) (leaves_room k) h))))))
-    (either_needs P (rule == 12) _ None (cond_needs P (final_added O N x k) _ (λ h. of_base O N x (both_last (is_key_of_method k) (is_base_class O N x) (both_first (is_key_of_method k && is_base_class O N x) (is_final_in_chain N x k) (both_first (is_key_of_method k && is_base_class O N x && is_final_in_chain N x k) (not (is_final_in_chain O x k)) (both_first (is_key_of_method k && is_base_class O N x && is_final_in_chain N x k && not (is_final_in_chain O x k)) _ h))))))
+    either_needs P (rule == 10) _ _ (cond_needs P (constant_added O N x k) _ (λ h. of_base_interface O N x (first_so (is_base_interface O N x) (is_none (field_found O x k)) (first_so (is_base_interface O N x && is_none (field_found O x k)) (is_some (field_found N x k)) h))))
+    (either_needs P (rule == 11) _ _ (cond_needs P (capture_added O N x k) _ (λ h. of_base O N x (second_so (is_key_of_method k) (is_base_class O N x) (first_so (is_key_of_method k && is_base_class O N x) (are_none (method_choices O x k)) (first_so (is_key_of_method k && is_base_class O N x && are_none (method_choices O x k)) (captures N x k) (first_so (is_key_of_method k && is_base_class O N x && are_none (method_choices O x k) && captures N x k) (leaves_room k) h))))))
+    (either_needs P (rule == 12) _ None (cond_needs P (final_added O N x k) _ (λ h. of_base O N x (second_so (is_key_of_method k) (is_base_class O N x) (first_so (is_key_of_method k && is_base_class O N x) (is_final_in_chain N x k) (first_so (is_key_of_method k && is_base_class O N x && is_final_in_chain N x k) (not (is_final_in_chain O x k)) (first_so (is_key_of_method k && is_base_class O N x && is_final_in_chain N x k && not (is_final_in_chain O x k)) _ h))))))
     (none_needs _ P)))
     c e
   where

@@ -7,6 +7,7 @@ use Rattle.std.proofs.lemmas.List.{drop_more, drop_all}
 use Rattle.std.proofs.lemmas.List.Elements.{All-weaker, All-contains_itself}
 use Rattle.std.proofs.lemmas.List.Folds.{list_any-append}
 use Rattle.std.proofs.lemmas.Map.Views.{btree_set_contains_iff}
+use Rattle.std.proofs.Math.Bool.{or-false}
 use Rattle.jc_facts.specs.declared.class_facts.ClassFacts.{ClassFacts}
 use Rattle.jc_facts.specs.declared.class_facts.Member.{Member}
 use Rattle.jc_facts.specs.declared.key.Key.{Key}
@@ -23,7 +24,7 @@ use Rattle.jc_table.specs.steps.Collecting.{Collects, declares_at, HasKeys}
 use Rattle.jc_index.specs.steps.Walking.{chain_from}
 use Rattle.jc_index.proofs.Walking.{from-step, from-none, from-nothing}
 use Rattle.jc_index.proofs.Reached.{any_reached}
-use Rattle.jc_lemmas.proofs.Bools.{or_false, or_assoc}
+use Rattle.jc_lemmas.proofs.Bools.{or_assoc}
 use Rattle.jc_lemmas.proofs.Lists.{found_any}
 use Rattle.jc_facts.proofs.KeySets.{key_exact, Comes, rises}
 
@@ -32,7 +33,7 @@ use Rattle.jc_facts.proofs.KeySets.{key_exact, Comes, rises}
 -- the keys of these members are in the set
 pub comes_all : (first now : sorted.BTreeSet Key) (ms : List Member) (i : ℕ) → length ms ≤ i → Comes now (drop i ms) first ms → Collects (λ k. is_some (first_where (is_key k) ms)) first now
 comes_all first now ms i l h = λ k.
-    sym (or_false (sorted.contains key_cmp now k)) ∙ ap (λ (ms : List Member). sorted.contains key_cmp now k || list_any (is_key k) ms) (sym (drop_all i ms l))
+    sym (or-false (sorted.contains key_cmp now k)) ∙ ap (λ (ms : List Member). sorted.contains key_cmp now k || list_any (is_key k) ms) (sym (drop_all i ms l))
     ∙ h k ∙ ap (λ b. sorted.contains key_cmp first k || b) (found_any (is_key k) ms)
 
 -- `own` gives the member of that kind that a class itself declares
@@ -53,7 +54,7 @@ module _ (own : ClassFacts → Key → Option Member) where
 
   pub follows_all : (W : World) (first now : sorted.BTreeSet Key) (ids : List ℕ) (i : ℕ) → length ids ≤ i → Follows W now (drop i ids) first ids → Collects (λ k. list_any (declares_at own W k) ids) first now
   follows_all W first now ids i l h = λ k.
-      sym (or_false (sorted.contains key_cmp now k)) ∙ ap (λ (ns : List ℕ). sorted.contains key_cmp now k || list_any (declares_at own W k) ns) (sym (drop_all i ids l)) ∙ h k
+      sym (or-false (sorted.contains key_cmp now k)) ∙ ap (λ (ns : List ℕ). sorted.contains key_cmp now k || list_any (declares_at own W k) ns) (sym (drop_all i ids l)) ∙ h k
 
   -- ---- along the walk
 
@@ -109,7 +110,7 @@ module _ (own : ClassFacts → Key → Option Member) where
     ahead_nothing : (m : ℕ) (next : Option ℕ) (keys : sorted.BTreeSet Key) → chain_from W m next ≡ [] → IsAhead W x m next keys → HasKeys own W x keys
     unfolding interfaces_of
     ahead_nothing m next keys e i = λ k.
-        sym (or_false (sorted.contains key_cmp keys k))
+        sym (or-false (sorted.contains key_cmp keys k))
         ∙ ap (λ (cs : List ClassFacts). sorted.contains key_cmp keys k || (list_any (λ c. is_some (own c k)) cs || list_any (λ c. is_some (own c k)) (interfaces_of W cs))) (sym e) ∙ i k
 
     pub ahead_top : (m : ℕ) (next : Option ℕ) (keys : sorted.BTreeSet Key) → next ≡ None → IsAhead W x m next keys → HasKeys own W x keys

@@ -5,6 +5,7 @@ use Rattle.std.proofs.Common.{◌≡◌, ◌≤◌, ◌<◌, ◌||◌, ◌&&◌,
 use Rattle.std.specs.Prelude.{codes, max, if◌then◌else◌}
 use Rattle.std.specs.List.{list_any, list_all, filter}
 use Rattle.std.specs.Str.{bytes_eq}
+use Rattle.std.proofs.Math.Bool.{and-true}
 use Rattle.jc_gate.specs.Gates.{GateOf, all_pass}
 use Rattle.jc_gate.specs.Rules.{is_of_finding, is_of_collision}
 use Rattle.jc_gate.specs.Seen.{seen, informed_by}
@@ -119,8 +120,4 @@ selected_pass (g ∷ gs) informed rules = by (bytes_eq g.label (codes "version")
 pub version_alone : (gates : List GateOf) (g : GateOf) → filter (λ (h : GateOf). bytes_eq h.label (codes "version")) gates ≡ g ∷ [] → IsVersionGate g → (step : ℕ) (rules : List ℕ) → 1 ≤ step → step ≤ 3
     → all_pass gates (codes "version" ∷ []) (Some step) rules ≡ nat_le (need_of rules) step
 version_alone gates g only is step rules least most =
-    selected_pass gates (Some step) rules ∙ ap (list_all (λ (h : GateOf). h.passes (Some step) rules)) only ∙ and_true (g.passes (Some step) rules) ∙ is.informed step rules least most
-  where
-    and_true : (b : Bool) → (b && true) ≡ b
-    and_true true = refl
-    and_true false = refl
+    selected_pass gates (Some step) rules ∙ ap (list_all (λ (h : GateOf). h.passes (Some step) rules)) only ∙ and-true (g.passes (Some step) rules) ∙ is.informed step rules least most

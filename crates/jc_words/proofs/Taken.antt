@@ -1,15 +1,15 @@
 -- A parse in two outcomes.
 use Rattle.std.proofs.Common.{◌≡◌, true, List, [], ◌∷◌, Some, None, refl}
+use Rattle.std.specs.Cmp.{first_so}
 use Rattle.clap.specs.Walk.{Row, Text}
 use Rattle.clap.specs.Simple.{App, built, is_simple, matches_of}
 use Rattle.clap.specs.Faults.{fault_of, is_free_app, is_simple_and_free}
 use Rattle.clap.specs.Kinds.{Kinds, IsAmong}
 use Rattle.clap.specs.declared.error.kind.ErrorKind.{ErrorKind}
-use Rattle.jc_lemmas.proofs.Bools.{both_first}
 use Rattle.jc_words.specs.Arguments.{taken, unless_fault}
 
 pub simple : (a : App) → is_simple_and_free a ≡ true → is_simple a ≡ true
-simple a e = both_first (is_simple a) (is_free_app (built a)) e
+simple a e = first_so (is_simple a) (is_free_app (built a)) e
 
 -- no fault is listed: the matches
 pub taken_some : (a : App) (ws vs : List Text) (rows : List Row) → ws ≡ vs → fault_of a ws ≡ [] → rows ≡ matches_of a ws → Some rows ≡ taken a vs

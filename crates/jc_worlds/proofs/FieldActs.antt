@@ -1,6 +1,7 @@
 -- Where no finding stands, each act of a client on a field through a library class stays open to it.
 use Rattle.std.proofs.Common.{◌≡◌, Bool, true, false, List, [], ◌∷◌, refl, sym, ◌∙◌, ap, subst, Option, Some, None, ◌||◌, ◌&&◌, ◌⊎◌, inl, inr}
 use Rattle.std.proofs.lemmas.Bool.{and_parts, and_from, or_cases, or_left, or_right}
+use Rattle.std.specs.Cmp.{both_ways}
 use Rattle.jc_facts.specs.declared.class_facts.ClassFacts.{ClassFacts}
 use Rattle.jc_facts.specs.declared.key.Key.{Key}
 use Rattle.jc_facts.specs.declared.class_facts.Member.{Member}
@@ -139,10 +140,4 @@ member_from_seat V W x a t m eo et h = go (or_cases p right h)
 -- of library classes, a client and its seat may use the same members
 pub member_seat : (V W : World) (x a t : Bytes) (m : DeclaredMember) → (package_name x ≡ package_name m.owner → ⊥) → in_chain V x m.owner ≡ in_chain W a m.owner → in_chain V x t ≡ in_chain W a t → in_chain V t x ≡ false
     → is_member_accessible V x t m ≡ is_member_open W a t m
-member_seat V W x a t m apart eo et back = alike (is_member_accessible V x t m) (is_member_open W a t m) (seat_from_member V W x a t m apart eo et back) (member_from_seat V W x a t m eo et)
-  where
-    alike : (a b : Bool) → (a ≡ true → b ≡ true) → (b ≡ true → a ≡ true) → a ≡ b
-    alike true true f g = refl
-    alike true false f g = sym (f refl)
-    alike false true f g = g refl
-    alike false false f g = refl
+member_seat V W x a t m apart eo et back = both_ways (is_member_accessible V x t m) (is_member_open W a t m) (seat_from_member V W x a t m apart eo et back) (member_from_seat V W x a t m eo et)

@@ -3,6 +3,7 @@ use Rattle.std.proofs.Common.{◌≡◌, ℕ, Bool, true, false, List, [], ◌�
 use Rattle.std.proofs.lemmas.Map.Views.{exact_unsigned_eq}
 use Rattle.std.proofs.lemmas.Bool.{and_parts, and_from}
 use Rattle.std.specs.List.{list_all, list_any}
+use Rattle.std.proofs.Math.Bool.{or-true}
 use Rattle.jc_desc.specs.Reading.{slots_of_method, method_of}
 use Rattle.jc_desc.specs.Pool.{no_result}
 use Rattle.jc_desc.specs.Names.{spells_class_name, spells_member_name, is_init_name, is_clinit_name}
@@ -17,7 +18,7 @@ use Rattle.jc_facts.specs.Options.{some_and}
 use Rattle.jc_facts.specs.file.Rules.{field_descriptor_fits, method_descriptor_fits, one_access_at_most, apart, implies, field_flags_fit, method_flags_fit, plain_method_flags_fit, slots_fit_in}
 use Rattle.jc_facts.proofs.Same.{same_is, same_itself}
 use Rattle.jc_facts.specs.file.Valid.{IsValidClass, is_valid_name, superclass_is_valid, field_is_valid, method_is_valid, has_key, keys_of, keys_differ}
-use Rattle.jc_lemmas.proofs.Bools.{or_under, or_true}
+use Rattle.jc_lemmas.proofs.Bools.{or_under}
 
 -- only java/lang/Object has no superclass, and that of an interface is java/lang/Object
 abbrev pub superclass_fits : ClassFacts → Option Bytes → Bool
@@ -133,7 +134,7 @@ not_any false false f h = refl
 
 or_into : (a b a' b' : Bool) → (a ≡ true → a' ≡ true) → (b ≡ true → b' ≡ true) → (a || b) ≡ true → (a' || b') ≡ true
 or_into true b a' b' f g h = let e : a' ≡ true = f refl in rw e refl
-or_into false b a' b' f g h = let e : b' ≡ true = g h in rw e (or_true a')
+or_into false b a' b' f g h = let e : b' ≡ true = g h in rw e (or-true a')
 
 same_back : (x y : Bytes) → same x y ≡ true → same y x ≡ true
 same_back x y h = subst (λ z. same z x ≡ true) (same_is x y h) (same_itself x)

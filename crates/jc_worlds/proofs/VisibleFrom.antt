@@ -141,10 +141,6 @@ accessible_parts W x d q a = and_parts (is_visible_from W x d.name) (public_flag
 pub accessible_from : (W : World) (x : Bytes) (d : ClassFacts) → is_visible_from W x d.name ≡ true → public_flag d.flags ≡ true → is_class_accessible W x d ≡ true
 accessible_from W x d e p = or_left (is_visible_from W x d.name && public_flag d.flags) (in_same_package x d.name) (and_from (is_visible_from W x d.name) (public_flag d.flags) e p)
 
--- so is one of the same package
-pub accessible-package : (W : World) (x : Bytes) (d : ClassFacts) → in_same_package x d.name ≡ true → is_class_accessible W x d ≡ true
-accessible-package W x d s = or_right (is_visible_from W x d.name && public_flag d.flags) (in_same_package x d.name) s
-
 -- a public class that is visible is accessible from every class
 pub accessible_visible : (W : World) (x y : Bytes) (d : ClassFacts) → find_class W y ≡ Some d → is_visible W y ≡ true → public_flag d.flags ≡ true → is_class_accessible W x d ≡ true
 accessible_visible W x y d f v p =

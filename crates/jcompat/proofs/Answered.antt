@@ -391,33 +391,31 @@ record IsStatus (n : ℕ) : Type 0 where
   most : n ≤ 7
   no_pass : n ≢ PASSED
   no_rejection : n ≢ NOT_PASSED
-  no_write : n ≢ WRITE_FAULT
 
-is_status : (n : ℕ) → n ≤ 7 → (n == 0) ≡ false → (n == 1) ≡ false → (n == 5) ≡ false → IsStatus n
-is_status n most e f g = record {
+is_status : (n : ℕ) → n ≤ 7 → (n == 0) ≡ false → (n == 1) ≡ false → IsStatus n
+is_status n most e f = record {
   most = most;
   no_pass = λ h. clash n n 0 refl h e;
   no_rejection = λ h. clash n n 1 refl h f;
-  no_write = λ h. clash n n 5 refl h g;
 }
 
 file_statuses : (fault : FileFault) → IsStatus (file_status fault)
-file_statuses faults.TooLong = is_status 7 (omega arith) refl refl refl
-file_statuses (faults.Malformed m) = is_status 3 (omega arith) refl refl refl
-file_statuses (faults.Misplaced x) = is_status 3 (omega arith) refl refl refl
-file_statuses (faults.BadCode offset reason) = is_status 3 (omega arith) refl refl refl
+file_statuses faults.TooLong = is_status 7 (omega arith) refl refl
+file_statuses (faults.Malformed m) = is_status 3 (omega arith) refl refl
+file_statuses (faults.Misplaced x) = is_status 3 (omega arith) refl refl
+file_statuses (faults.BadCode offset reason) = is_status 3 (omega arith) refl refl
 
 statuses : (stop : Stop) → IsStatus (status_of stop)
-statuses (stops.Usage usage) = is_status 2 (omega arith) refl refl refl
-statuses (stops.Unread name tree_faults.TooManyFiles) = is_status 7 (omega arith) refl refl refl
-statuses (stops.Unread name tree_faults.LongPath) = is_status 7 (omega arith) refl refl refl
+statuses (stops.Usage usage) = is_status 2 (omega arith) refl refl
+statuses (stops.Unread name tree_faults.TooManyFiles) = is_status 7 (omega arith) refl refl
+statuses (stops.Unread name tree_faults.LongPath) = is_status 7 (omega arith) refl refl
 statuses (stops.Unread name (tree_faults.File path fault)) = file_statuses fault
-statuses (stops.BadRoot part) = is_status 3 (omega arith) refl refl refl
-statuses (stops.Overlap name x) = is_status 3 (omega arith) refl refl refl
-statuses (stops.ClientName x part) = is_status 3 (omega arith) refl refl refl
-statuses (stops.TooMany part) = is_status 7 (omega arith) refl refl refl
-statuses (stops.ReadFault name) = is_status 4 (omega arith) refl refl refl
-statuses stops.Memory = is_status 6 (omega arith) refl refl refl
+statuses (stops.BadRoot part) = is_status 3 (omega arith) refl refl
+statuses (stops.Overlap name x) = is_status 3 (omega arith) refl refl
+statuses (stops.ClientName x part) = is_status 3 (omega arith) refl refl
+statuses (stops.TooMany part) = is_status 7 (omega arith) refl refl
+statuses (stops.ReadFault name) = is_status 4 (omega arith) refl refl
+statuses stops.Memory = is_status 6 (omega arith) refl refl
 
 module _ (r : Ran) (stop : Stop) (cause : HasCause r.gates r.words r.trees stop) (put : IsPutWith (line_of stop) (status_of stop) r.err r.status) (has_line : r.status ≡ WRITE_FAULT → stop ≢ stops.Memory)
     (quiet : IsQuiet r.out) (untouched : IsUntouched r.folder) (same : r.trees.after.content ≡ r.trees.before.content) where

@@ -1,5 +1,5 @@
 -- Bytes that are written in steps.
-use Rattle.std.proofs.Common.{◌≡◌, ◌≤◌, ◌-◌, Bool, true, false, ℕ, List, [], ◌++◌, length, take, drop, Option, Some, None, sym, ap, subst, ◌∙◌, arith, length-append, append_assoc, append-nil, take-append-drop}
+use Rattle.std.proofs.Common.{◌≡◌, ◌≤◌, ◌-◌, true, false, ℕ, List, [], ◌++◌, length, take, drop, Option, Some, None, sym, ap, subst, ◌∙◌, arith, length-append, append_assoc, append-nil, take-append-drop}
 use Rattle.std.specs.Io.KnownBytes.{Appends, Keeps}
 use Rattle.std.proofs.KnownBytes.{Appends-trans, Appends-kept}
 use Rattle.std.proofs.lemmas.List.{take_rest, take-append-le, take_all}
@@ -41,15 +41,3 @@ stops_short old now next bytes rest n e h a = stops old now next bytes rest h (k
     kept None y p = tt
     kept (Some x) None p = absurd p
     kept (Some x) (Some y) p = p ∙ append-nil x
-
--- nothing is left
-pub ends : (old now next : Option (List ℕ)) (bytes rest : List ℕ) (whole : Bool) → HasWritten old now bytes rest → rest ≡ [] → Keeps now next → IsWrittenSo old next bytes whole
-ends old now next bytes rest whole h empty k =
-    let done : bytes ≡ h.done = h.split ∙ ap (λ l. h.done ++ l) empty ∙ append-nil h.done in
-    let a : Appends old next bytes = subst (Appends old next) (sym done) (Appends-kept old now next h.done h.appended k) in
-    record {
-      count = length bytes;
-      within = omega arith;
-      front = subst (Appends old next) (sym (take_all (length bytes) bytes (omega arith))) a;
-      all = λ e. a;
-    }
