@@ -5,8 +5,8 @@ ghost use Rattle.jc_facts.specs.world.World.{size};
 ghost use Rattle.jc_index.specs.Ids.{name_at};
 
 use jc_base::name::Name;
+use jc_facts::packages::same_package;
 use jc_index::ids::ClassId;
-use jc_index::packages::same_package;
 use jc_table::table::Table;
 
 /// The name of the class, by its number in the table.

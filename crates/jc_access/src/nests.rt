@@ -7,9 +7,9 @@ ghost use Rattle.jc_access.specs.steps.Nests.{takes_in};
 
 use crate::names::name_of;
 use jc_base::name::Name;
+use jc_facts::packages::same_package;
 use jc_index::among::is_among;
 use jc_index::ids::ClassId;
-use jc_index::packages::same_package;
 use jc_table::table::Table;
 
 // Whether the class named as the host is there, of the member's package, and names it back.

@@ -1,5 +1,4 @@
 pub mod Numbers
-pub mod Slashes
 pub mod Walking
 pub mod Places
 pub mod InSide

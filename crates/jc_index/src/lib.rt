@@ -24,7 +24,6 @@ pub mod names;
 mod order;
 pub mod overlap;
 pub mod own;
-pub mod packages;
 mod part;
 mod parts;
 pub mod plain;

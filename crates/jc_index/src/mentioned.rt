@@ -9,12 +9,12 @@ ghost use Rattle.jc_index.specs.steps.Adding.{AddsNames};
 ghost use Rattle.jc_index.specs.MentionedNames.{AreMentionedNames};
 
 use crate::names::NumberedNames;
-use crate::packages::package_of;
 use crate::side::Side;
 use crate::supers::super_count;
 use jc_base::name::Name;
 use jc_base::names::Names;
 use jc_facts::class_facts::ClassFacts;
+use jc_facts::packages::package_of;
 use std::alloc::{AllocError, Global};
 
 // ---- what is kept of them

@@ -7,9 +7,9 @@ ghost use Rattle.jc_index.specs.SideModules.{modules_of, module_view};
 
 use crate::mentioned::put_names;
 use crate::names::NumberedNames;
-use crate::packages::package_of;
 use jc_base::name::Name;
 use jc_base::names::Names;
+use jc_facts::packages::package_of;
 use std::alloc::{AllocError, Global};
 use std::marker::Model;
 

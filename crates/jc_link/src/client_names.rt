@@ -13,8 +13,8 @@ use jc_base::name::Name;
 use jc_facts::class_facts::ClassFacts;
 use jc_facts::client::ClientClass;
 use jc_facts::limits::MAX_CLASS_NAME;
+use jc_facts::packages::package_of;
 use jc_index::name_set::NameSet;
-use jc_index::packages::package_of;
 use std::alloc::{AllocError, Global};
 use std::str;
 

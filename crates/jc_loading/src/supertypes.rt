@@ -13,9 +13,9 @@ use jc_base::name::Name;
 use jc_facts::class_facts::ClassFacts;
 use jc_facts::flags::{is_final, is_interface, is_public};
 use jc_facts::link_error::LinkError;
+use jc_facts::packages::same_package;
 use jc_index::ids::ClassId;
 use jc_index::index::Index;
-use jc_index::packages::same_package;
 
 /// Whether the class is accessible from the one of this name: it is public, and visible from there; or
 /// it is of its package (JVMS 5.4.4).
