@@ -30,8 +30,8 @@ const OVER_OTHERS: &str =
 #3 check --json --platform P --old O --new N ! jcompat: platform: bad root missing
 "##;
 
-/// The byte behind the last that is printed as itself.
-const DELETE: &str = "#2 a\u{7f}b ! jcompat: usage: unknown command a\\x7fb
+const DELETE: &str = "#2 the byte behind the last that is printed as itself
+$ a\u{7f}b ! jcompat: usage: unknown command a\\x7fb
 ";
 
 #[test]
