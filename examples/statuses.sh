@@ -110,7 +110,7 @@ check gone --witness old/p/A.class/below
 see 'a witness that cannot be written' 5 '' '' "${asked[@]}"
 check gone --witness written
 see 'a witness' 1 "$class_gone" '' "${asked[@]}"
-[ -s written/000001/p/A.class ] || [ -n "$(find written/000001 -name '*.class')" ] || {
+[ -s written/000001/w0/U.class ] || {
     echo 'statuses: a witness: FAILED, since nothing was written'
     exit 1
 }

@@ -101,10 +101,10 @@ unfolding computes
 constant_is_found = (refl, refl)
 
 no_items : (c : ClientClass) → Contains constants c → c.items ≡ []
-no_items c h = All-contains (λ (d : ClientClass). d.items ≡ []) constants c (All-from_recursion (λ (d : ClientClass). d.items ≡ []) constants (refl, refl, tt)) h
+no_items c h = All-contains (λ (d : ClientClass). d.items ≡ []) constants c (All-from_recursion (λ (d : ClientClass). d.items ≡ []) constants (refl, (refl, tt))) h
 
 -- so a constant that p/I gains takes nobody's place
 constant_that_nobody_puts : ConstantHits over_I constants U X found → ⊥
 unfolding computes
 constant_that_nobody_puts (inl h) = absurd (cc)
-constant_that_nobody_puts (inr (c, known, named, (r, place, puts))) = All-contains (λ (i : Item). ⊥) [] _ All-nil (subst (λ (is : List Item). Contains is (item.Access PutStatic U X r place)) (no_items c known) puts)
+constant_that_nobody_puts (inr (c, known, named, (r, place, puts))) = All-contains (λ (i : Item). ⊥) [] _ (All-nil (λ (i : Item). ⊥)) (subst (λ (is : List Item). Contains is (item.Access PutStatic U X r place)) (no_items c known) puts)

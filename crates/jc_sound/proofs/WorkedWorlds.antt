@@ -83,9 +83,9 @@ five_of_each_version_are_in_scope : IsInScope same_side same_side five
 unfolding computes
 five_of_each_version_are_in_scope =
     record {
-      valid = All-from_recursion IsValidClient five (record { facts = valid_A; items = refl }, record { facts = valid_B; items = refl }, record { facts = valid_C; items = refl }, record { facts = valid_D; items = refl }, record { facts = valid_E; items = refl }, tt);
+      valid = All-from_recursion IsValidClient five (record { facts = valid_A; items = refl }, (record { facts = valid_B; items = refl }, (record { facts = valid_C; items = refl }, (record { facts = valid_D; items = refl }, (record { facts = valid_E; items = refl }, tt)))));
       differ = refl;
-      allowed_old = All-from_recursion (λ c. IsTrue (is_allowed_name same_side c.facts.name)) five (simp utf8_A, simp utf8_B, simp utf8_C, simp utf8_D, simp utf8_E, tt);
-      allowed_new = All-from_recursion (λ c. IsTrue (is_allowed_name same_side c.facts.name)) five (simp utf8_A, simp utf8_B, simp utf8_C, simp utf8_D, simp utf8_E, tt);
-      open_supers = All-from_recursion (λ c. IsTrue (has_open_super (with_clients same_side (facts_of five)) c.facts)) five (refl, refl, refl, refl, refl, tt);
+      allowed_old = All-from_recursion (λ c. IsTrue (is_allowed_name same_side c.facts.name)) five (simp utf8_A, (simp utf8_B, (simp utf8_C, (simp utf8_D, (simp utf8_E, tt)))));
+      allowed_new = All-from_recursion (λ c. IsTrue (is_allowed_name same_side c.facts.name)) five (simp utf8_A, (simp utf8_B, (simp utf8_C, (simp utf8_D, (simp utf8_E, tt)))));
+      open_supers = All-from_recursion (λ c. IsTrue (has_open_super (with_clients same_side (facts_of five)) c.facts)) five (refl, (refl, (refl, (refl, (refl, tt)))));
     }
