@@ -1,6 +1,7 @@
 mod Nothing
 mod EmptyRelease
 mod Verdicts
+mod NothingListed
 mod Outcomes
 mod StaysOk
 mod Replayed

@@ -1,4 +1,5 @@
 pub mod Compatible
+pub mod NothingListed
 pub mod Replays
 pub mod SameSide
 pub mod Numbers

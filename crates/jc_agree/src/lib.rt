@@ -4,6 +4,7 @@
 #![tactic(auto)]
 
 ghost use Rattle.jc_agree.specs.Compatible.{SameRelease, EmptyRelease, CompatibleStaysOk};
+ghost use Rattle.jc_agree.specs.NothingListed.{SameReleaseLists, EmptyReleaseLists};
 ghost use Rattle.jc_agree.specs.Numbers.{StatusesAre, RulesAre, LimitsAre, VersionsAre};
 ghost use Rattle.jc_agree.specs.Replays.{WitnessesReplay};
 ghost use Rattle.jc_agree.specs.SameSide.{SeeTheSameSide};
@@ -18,6 +19,16 @@ pub fn same_release_is_compatible()
 /// An old release without classes is compatible with every new one, and nothing collides.
 pub fn empty_release_is_compatible()
     ensures { EmptyRelease }
+{}
+
+/// Between a release and itself there is no warning, no interface is dropped, and there is no note on a signature.
+pub fn same_release_lists_nothing()
+    ensures { SameReleaseLists }
+{}
+
+/// Nor between an old release without classes and any new one.
+pub fn empty_release_lists_nothing()
+    ensures { EmptyReleaseLists }
 {}
 
 /// Where `check` has no finding, what `link` says of clients that it says to be Ok with the old release, it says of them with the new
