@@ -6,3 +6,4 @@ mod Outcomes
 mod StaysOk
 mod Replayed
 mod SameSide
+mod Steps

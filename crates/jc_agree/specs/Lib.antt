@@ -2,4 +2,5 @@ pub mod Compatible
 pub mod NothingListed
 pub mod Replays
 pub mod SameSide
+pub mod Steps
 pub mod Numbers
