@@ -1,3 +1,4 @@
 pub mod Held
 pub mod DroppedLaws
 pub mod WorkedDropped
+mod Lost
