@@ -24,7 +24,7 @@ use Rattle.jc_facts.specs.world.Loading.{load_fault, loads, fault_where}
 use Rattle.jc_facts.specs.client.Outcome.{class_fault}
 use Rattle.jc_facts.specs.client.Valid.{facts_of}
 use Rattle.jc_promises.specs.client.Scope.{IsInScope}
-use Rattle.jc_promises.specs.client.Reach.{class_in_reach, type_in_reach}
+use Rattle.jc_promises.specs.client.Reach.{class_in_reach, type_in_reach, is_invoke_interface}
 use Rattle.jc_promises.specs.client.Meets.{Meets, MeetsFinal}
 use Rattle.jc_promises.specs.rule.Bases.{is_kept, became_class, is_steady, is_base_class}
 use Rattle.jc_promises.specs.rule.Collisions.{made_collision, final_added}
@@ -46,7 +46,7 @@ use Rattle.jc_worlds.proofs.AgreementLaw.{each_name}
 use Rattle.jc_worlds.proofs.Alike.{class_step-named}
 use Rattle.jc_worlds.proofs.Loaded.{loads-found}
 use Rattle.jc_worlds.proofs.ValidFacts.{fit_of}
-use Rattle.jc_sound.proofs.ClientItems.{IsHeld, client, library, held, TakesPart, of_client, of_library, PartText}
+use Rattle.jc_sound.proofs.ClientItems.{IsHeld, client, library, held, TakesPart, of_client, of_library, PartText, PartType}
 use Rattle.jc_sound.proofs.Context.{named_class}
 use Rattle.jc_sound.proofs.FindingLaws.{empty_means_none}
 use Rattle.jc_sound.proofs.Ground.{Ground}
@@ -258,8 +258,12 @@ module _ (O N : World) (cs : List ClientClass) (pair : IsPair O N) (q : Quiet O 
       reads = item.Access GetField x key (Some x) Other
 
       part : (load_fault VO x ≡ None) × Takes x
-      part = subst (λ o. PartText O N F g.fo g.fn g.quiet g.allowed_o g.allowed_n g.clients_load a in_place o) (named_class x at)
-          (item_part O N cs pair q scope stay c l.is_in l.loads_old reads (reach_is_in_sight O N cs pair scope c reads l.is_in l.loads_old (reached_class VO c.facts.name x c.items at ∙ l.holds)) x refl)
+      part = by (item_part O N cs pair q scope stay c l.is_in l.loads_old reads (reach_is_in_sight O N cs pair scope c reads l.is_in l.loads_old
+          (or_left (type_in_reach VO c.facts.name c.items x) (is_invoke_interface GetField) (reached_class VO c.facts.name x c.items at ∙ l.holds))) x refl)
+        where
+          by : PartType O N F g.fo g.fn g.quiet g.allowed_o g.allowed_n g.clients_load a in_place x ⊎ (is_invoke_interface GetField ≡ true) → (load_fault VO x ≡ None) × Takes x
+          by (inl p) = subst (λ o. PartText O N F g.fo g.fn g.quiet g.allowed_o g.allowed_n g.clients_load a in_place o) (named_class x at) p
+          by (inr e) = absurd (cc)
 
       n_loads : class_named F x ≡ None → loads N x ≡ true
       n_loads k = ap is_none (load_fault-side N F g.fn.bare g.fn.unused x k ∙ l.stays)

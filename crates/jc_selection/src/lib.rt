@@ -13,18 +13,18 @@ pub fn selection_is_kept()
     ensures { SelectionKept }
 {}
 
-/// A warning on a class is shown by a client where the class doesn't answer the key any more, and did, or it wasn't due to it and is now: a
-/// client directly below it, which declares nothing of the key, answered it as far as it was due, and no longer does.
+/// A warning is shown by a client where a class directly below its base, which declares nothing of the key, answered the key as far as it was
+/// due to it, and no longer does.
 pub fn warnings_are_shown()
     ensures { WarningsAreShown }
 {}
 
-/// Of which warnings on a class that holds, kind by kind.
-pub fn warned_classes_stop()
+/// Of which warnings that holds, kind by kind.
+pub fn warned_bases_stop()
     ensures { KindsStop }
 {}
 
-/// In no other case does a class stop to answer the key that stands directly below a base class, declares nothing of it and names no
+/// In no other case does a class stop to answer the key that stands directly below a base, declares nothing of it and names no other
 /// interface.
 pub fn no_others_stop()
     ensures { NoOthersStop }
