@@ -24,8 +24,8 @@ use Rattle.jc_promises.specs.rule.Bases.{is_class_usable, is_steady, is_class_cl
 use Rattle.jc_facts.specs.world.Inheritance.{public_or_protected, declares_as_final, is_final_in_chain, offers, itself_and, inherits}
 use Rattle.jc_promises.specs.rule.Collisions.{collision_at, constant_added, capture_added, captures, leaves_room, final_added}
 use Rattle.jc_facts.specs.world.Lookup.{are_none, field_found, method_choices, or_choices, superinterface_choices, first_declared, interface_choices, public_method_of_object}
-use Rattle.jc_promises.specs.rule.Findings.{Subject, finding_at, finding_by, report, assign_finding, class_gone, class_closed, interface_became_class, superclass_lost, constructor_closed, new_broken, init_broken, new_error, init_error, init_of, had_init, missing_or, method_made_final, finds_overridable, field_closed, method_closed, interface_method_lost, act_finding, first_act}
-use Rattle.jc_promises.specs.rule.OpenActs.{act_fault, where_open, closed_act, first_seat, field_acts, method_acts}
+use Rattle.jc_promises.specs.rule.Findings.{Subject, finding_at, finding_by, report, assign_finding, class_gone, class_closed, interface_became_class, superclass_lost, constructor_closed, new_broken, init_broken, new_error, init_error, missing_or, method_made_final, finds_overridable, field_closed, method_closed, interface_method_lost, act_finding, first_act}
+use Rattle.jc_promises.specs.rule.OpenActs.{act_fault, where_open, closed_act, first_seat, field_acts, method_acts, init_of, had_init}
 use Rattle.jc_facts.specs.world.Access.{is_member_open}
 use Rattle.jc_facts.specs.ByName.{least}
 use Rattle.jc_facts.specs.world.Assignment.{is_interface_of}
@@ -89,7 +89,7 @@ loads_is W x l = ap is_none l
 module _ (O N : World) (pair : IsPair O N) (empty : O.release ≡ []) where
   -- ---- the classes of the old side
 
-  find_old : (x : Bytes) → find_class O x ≡ class_named O.platform x
+  pub find_old : (x : Bytes) → find_class O x ≡ class_named O.platform x
   unfolding find_class class_named
   find_old x = class_named-front (O.platform ++ O.release) O.clients x (rw (pair.run.old_bare, class_named) refl) ∙ class_named-front O.platform O.release x (rw (empty, class_named) refl)
 
@@ -100,7 +100,7 @@ module _ (O N : World) (pair : IsPair O N) (empty : O.release ≡ []) where
   has_new : (x : Bytes) → load_fault O x ≡ None → is_some (class_named N.platform x) ≡ true
   has_new x l = ap (λ cs. is_some (class_named cs x)) (sym pair.run.platform) ∙ has_old x l
 
-  find_alike : (x : Bytes) → load_fault O x ≡ None → find_class O x ≡ find_class N x
+  pub find_alike : (x : Bytes) → load_fault O x ≡ None → find_class O x ≡ find_class N x
   find_alike x l = find_old x ∙ ap (λ cs. class_named cs x) pair.run.platform ∙ sym (find-platform N x (has_new x l))
 
   agree : AgreeOn O N (loads O)
@@ -115,7 +115,7 @@ module _ (O N : World) (pair : IsPair O N) (empty : O.release ≡ []) where
       let m = none_where (load_fault O y) t in
       within_platform O N x y (has_old x l) (has_old y m) (has_new x l) (has_new y m)
 
-  still_loads : (x : Bytes) → load_fault O x ≡ None → load_fault N x ≡ None
+  pub still_loads : (x : Bytes) → load_fault O x ≡ None → load_fault N x ≡ None
   still_loads x l = sym ((worlds_agree O N (loads O) agree x (loads_is O x l)).0 modules) ∙ l
 
   chain_alike : (x : Bytes) → load_fault O x ≡ None → (y : Bytes) → in_chain O x y ≡ in_chain N x y
