@@ -13,6 +13,7 @@ import java.util.List;
 import jcompat.Check;
 import jcompat.Host;
 import jcompat.Request;
+import jcompat.Status;
 import jcompat.Stop;
 
 import org.gradle.api.DefaultTask;
@@ -41,6 +42,8 @@ public class CompatTask extends DefaultTask {
     private String own;
     private boolean whole;
     private boolean strict;
+    private boolean required;
+    private int java;
 
     @Classpath
     public FileCollection getLast() {
@@ -143,16 +146,42 @@ public class CompatTask extends DefaultTask {
         this.strict = strict;
     }
 
+    @Input
+    public boolean isRequired() {
+        return required;
+    }
+
+    public void setRequired(boolean required) {
+        this.required = required;
+    }
+
+    @Input
+    public int getJava() {
+        return java;
+    }
+
+    public void setJava(int java) {
+        this.java = java;
+    }
+
+    /** Said as an error, since that is all that gradle -q shows. */
+    private void compareNothing(String why) {
+        if (required) {
+            throw new GradleException("jcompat: " + why);
+        }
+        getLogger().error("jcompat: {}", why);
+    }
+
     @TaskAction
     public void compare() throws IOException {
         String unable = Check.unable(program == null ? null : program.toPath());
         if (unable != null) {
-            getLogger().warn("jcompat: {}", unable);
+            compareNothing(unable);
             return;
         }
         List<File> before = new ArrayList<>(last.getFiles());
         if (before.isEmpty()) {
-            getLogger().warn("jcompat: the repositories have no release below {}, so nothing is compared", own);
+            compareNothing("the repositories have no release below " + own + ", so nothing is compared; a first release says baseline = 'none'");
             return;
         }
         Request request = new Request();
@@ -171,24 +200,27 @@ public class CompatTask extends DefaultTask {
         request.title = before.get(0).getName() + " to " + own;
         request.whole = whole;
         request.strict = strict;
+        request.java = java;
         request.explain = true;
         request.program = program == null ? null : program.toPath();
         request.options.addAll(Arrays.asList("--gate", gate));
         ByteArrayOutputStream printed = new ByteArrayOutputStream();
+        Check check = new Check(request, new Host(new PrintStream(printed, false, StandardCharsets.UTF_8.name()), getLogger()::warn, getLogger()::lifecycle));
         int status;
         try {
-            status = new Check(request, new Host(new PrintStream(printed, false, StandardCharsets.UTF_8.name()), getLogger()::warn, getLogger()::lifecycle)).run();
+            status = check.run();
         } catch (Stop stop) {
             throw new GradleException("jcompat compared nothing (status " + stop.status + ")" + (stop.getMessage() == null ? "" : ": " + stop.getMessage()));
         }
         Files.write(output.toPath().resolve("printed.txt"), printed.toByteArray());
+        Files.write(output.toPath().resolve("report.json"), check.document().getBytes(StandardCharsets.UTF_8));
         if (status == 0) {
             getLogger().lifecycle("jcompat: {}: {}", request.title, last(printed.toString(StandardCharsets.UTF_8.name())));
             return;
         }
         getLogger().error(printed.toString(StandardCharsets.UTF_8.name()));
-        throw new GradleException("jcompat: " + request.title + ": " + (status == Check.NOT_WHOLE ? "not all classes were compared"
-                : status == Check.NOT_STRICT ? "there are warnings or dropped interfaces" : "clients break, or what else the gate " + gate + " asks")
+        throw new GradleException("jcompat: " + request.title + ": " + (status == Status.NOT_WHOLE ? "not all classes were compared"
+                : status == Status.NEEDS_JAVA ? "it needs a newer Java than " + java : status == Status.NOT_STRICT ? "there are warnings or dropped interfaces" : "clients break, or what else the gate " + gate + " asks")
                 + "; " + request.page + " tells more");
     }
 

@@ -33,6 +33,8 @@ abstract class CompatMojo extends AbstractMojo {
     private RepositorySystemSession session;
     private List<RemoteRepository> repositories;
     private boolean skip;
+    /** Whether a build in which nothing can be compared fails. */
+    private boolean required;
     /** The version to compare with, or none. */
     private String baseline;
     File output;
@@ -47,15 +49,15 @@ abstract class CompatMojo extends AbstractMojo {
         }
         String unable = Check.unable(program == null ? null : program.toPath());
         if (unable != null) {
-            getLog().warn("jcompat: " + unable);
+            compareNothing(unable);
             return;
         }
         repository = new Repository(system, session, repositories);
         Artifact own = Repository.of(project.getArtifact());
         List<String> versions = baseline == null ? repository.below(own) : List.of(baseline);
         if (versions.isEmpty()) {
-            getLog().warn("jcompat: the repositories have no release of " + own.getGroupId() + ":" + own.getArtifactId() + " below " + own.getVersion()
-                    + ", so nothing is compared");
+            compareNothing("the repositories have no release of " + own.getGroupId() + ":" + own.getArtifactId() + " below " + own.getVersion()
+                    + ", so nothing is compared; a first release says jcompat.baseline=none");
             return;
         }
         try {
@@ -64,6 +66,14 @@ abstract class CompatMojo extends AbstractMojo {
         } catch (IOException failure) {
             throw new MojoExecutionException(failure.getMessage(), failure);
         }
+    }
+
+    /** Said as an error, since that is all that mvn -q shows. */
+    private void compareNothing(String why) throws MojoFailureException {
+        if (required) {
+            throw new MojoFailureException("jcompat: " + why);
+        }
+        getLog().error("jcompat: " + why);
     }
 
     abstract void compare(Artifact own, List<String> versions) throws IOException, MojoExecutionException, MojoFailureException;
@@ -101,13 +111,17 @@ abstract class CompatMojo extends AbstractMojo {
         request.program = program == null ? null : program.toPath();
         ByteArrayOutputStream printed = new ByteArrayOutputStream();
         PrintStream out = new PrintStream(printed, false, StandardCharsets.UTF_8.name());
+        Check check = new Check(request, new Host(out, getLog()::warn, getLog()::info));
         int status;
         try {
-            status = new Check(request, new Host(out, getLog()::warn, getLog()::info)).run();
+            status = check.run();
         } catch (Stop stop) {
             throw new MojoExecutionException("jcompat compared nothing (status " + stop.status + ")" + (stop.getMessage() == null ? "" : ": " + stop.getMessage()));
         }
         Files.write(output.toPath().resolve("printed.txt"), printed.toByteArray());
+        if (check.document() != null) {
+            Files.write(output.toPath().resolve("report.json"), check.document().getBytes(StandardCharsets.UTF_8));
+        }
         for (String line : printed.toString(StandardCharsets.UTF_8.name()).split("\n")) {
             if (status == 0 || line.startsWith("    ")) {
                 getLog().info(line);
