@@ -117,7 +117,8 @@ try 'two releases' 1 '1 H1 shapes/Square' old.jar new.jar --report report
 same_check report
 folded "$made/report"
 too 'in shapes: 1 H1, 1 H2, 1 H3, 1 H4, 1 H5, 1 H6, 1 H7, 4 H8, 1 H9, 1 Constant, 1 Capture, 1 Final' 'incompatible: 12 findings, 3 collisions, 1 notes$'
-too 'warning shapes/Canvas draw(Lshapes/Shape;)V lost$' 'warning shapes/Painter paint()V defaults$' '2 warnings, 1 dropped interfaces$'
+too '8 H8 shapes/Canvas draw(Lshapes/Shape;)V invokevirtual java/lang/Object NoSuchMethodError (and 1 warning)$' 'warning shapes/Painter paint()V defaults$' '2 warnings, 1 dropped interfaces$'
+says 'warning shapes/Canvas draw' && wrong 'a warning that a finding says'
 try 'options of jcompat' 1 '{' old.jar new.jar -- --json
 same_check out --json
 too 'check-jars: 2 warnings, 1 dropped interfaces$'
@@ -228,7 +229,7 @@ name='which version number is due'
 mkdir "$made/target"
 cp "$made/new.jar" "$made/target/shapes.jar"
 (cd "$made" && PATH=$top/tools:$PATH sh ./due) >"$made/out" 2>"$made/err"
-if [ "$(cat "$made/out")" = '2.0.0 is due' ]; then printf 'check-jars: %s: ok\n' "$name"; else wrong 'it is not 2.0.0'; fi
+if [ "$(cat "$made/out")" = '2.0.0 is due, at least' ]; then printf 'check-jars: %s: ok\n' "$name"; else wrong 'it is not 2.0.0'; fi
 
 # warnings, dropped interfaces and modules: releases of the examples of rules
 for rule in method_made_abstract interface_left package_not_exported; do
@@ -336,12 +337,11 @@ library two
 try 'lines of subclasses' 1 '2 H7 lib/Text size:I putfield java/lang/Object IllegalAccessError (and through 2 subclasses)$' one.jar two.jar --report report
 folded "$made/report"
 too '1 H4 lib/Text$Failure java/lang/RuntimeException assign - VerifyError (and 2 lines on the JDK.s classes)$' \
-    '[0-9]* H8 lib/Text max(Ljava/lang/Number;)Ljava/lang/String; invokevirtual java/lang/Object NoSuchMethodError (and through 2 subclasses)$' \
-    '[0-9]* H8 lib/Text$Other max(Ljava/lang/Number;)Ljava/lang/String; invokevirtual java/lang/Object NoSuchMethodError$' \
+    '[0-9]* H8 lib/Text max(Ljava/lang/Number;)Ljava/lang/String; invokevirtual java/lang/Object NoSuchMethodError (and through 2 subclasses, and 3 warnings)$' \
+    '[0-9]* H8 lib/Text$Other max(Ljava/lang/Number;)Ljava/lang/String; invokevirtual java/lang/Object NoSuchMethodError (and 1 warning)$' \
     '[0-9]* Capture lib/Text draw(Llib/Text$Line;)V invokevirtual - IllegalAccessError (and through 2 subclasses)$' \
     '3 collisions on members with a \$ in their name' '7 warnings'
-too 'warning lib/Text max(Ljava/lang/Number;)Ljava/lang/String; lost (and through 2 subclasses)$' \
-    'warning lib/Text put(Ljava/util/Date;)V lost (and through 2 subclasses)$' 'warning lib/Text$Other max(Ljava/lang/Number;)Ljava/lang/String; lost$'
+says 'warning lib/Text' && wrong 'a warning that a finding says'
 try 'lines in words' 1 '    method String Text.max(Number) is gone; there is String max(Object)$' one.jar two.jar --explain
 folded "$made/report"
 too '    text.max((Number) null);$' '    method void Text.put(java.util.Date) is gone; there is void put(java.sql.Date)$' '    field int Text.size is final now$' '    text.size = 0;$' '    class Text.Failure no longer has the superclass RuntimeException$'
@@ -358,7 +358,7 @@ try 'breaks that are meant' 1 'check-jars: line 4 of the accepted breaks accepts
 too 'check-jars: line 5 of the accepted breaks accepts nothing: H8 lib/Text put$' 'check-jars: accepted: 1 to 6$' 'incompatible: ' 'check-jars: 7 findings and 9 collisions are left'
 says '[0-9]* H7' && wrong 'an accepted line was printed'
 sed -n 's/^[0-9]* //p' "$made/report" >"$made/accepted"
-try 'all breaks' 0 'check-jars: 0 findings and 0 collisions are left, and 7 warnings.*; what is promised' one.jar two.jar --accepted accepted
+try 'all breaks' 0 'check-jars: 0 findings and 0 collisions are left, and 0 warnings.*; what is promised' one.jar two.jar --accepted accepted
 grep '^H' "$made/accepted" >"$made/findings"
 try 'breaks, and a gate' 1 'check-jars: 0 findings and 9 collisions are left' one.jar two.jar --accepted findings -- --gate=links,collisions
 try 'breaks, as a document' 0 '{"format":"jcompat check-jars","version":1,"status":0,' one.jar two.jar --accepted findings --json

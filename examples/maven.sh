@@ -66,9 +66,9 @@ version() {
     find . -name pom.xml -exec sed -i "s|<version>$1</version>|<version>$2</version>|" {} +
 }
 
-none='jcompat: the repositories have no release of com.example:shapes below 1.0.0, so nothing is compared'
-try 'a first release' 0 "$none" -q verify
-try 'one that has to have a release before it' 1 "$none" verify -Djcompat.required
+none='jcompat: the repositories have no release of com.example:%s below 1.0.0, so nothing is compared'
+try 'a first release' 0 "$(printf "$none" shapes)" -q verify
+try 'one that has to have a release before it' 1 "$(printf "$none" frame)" verify -Djcompat.required
 put parent 1.0.0 none pom.xml
 for module in frame shapes; do put $module 1.0.0 "$module/target/$module-1.0.0.jar" $module/pom.xml; done
 version 1.0.0 1.1.0-SNAPSHOT

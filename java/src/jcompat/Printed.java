@@ -28,21 +28,22 @@ final class Printed {
     void print(List<Line> left, List<String> needs) {
         long made = left.stream().filter(Line::isMade).count();
         // the one that a line is folded into is left too: a line is accepted with it
-        Map<Line, List<Line>> below = folding.below(left.stream().filter(line -> !line.isFurther()).collect(Collectors.toList()));
+        Map<Line, List<Line>> below = folding.below(left);
+        List<Line> tops = below.keySet().stream().filter(line -> !line.isFurther()).collect(Collectors.toList());
         Map<String, Map<String, Integer>> packages = new TreeMap<>();
-        below.forEach((line, all) -> {
-            print(line, all);
+        tops.forEach(line -> {
+            print(line, below.get(line));
             packages.computeIfAbsent(Names.packageOf(line.type), any -> new LinkedHashMap<>()).merge(line.rule, 1, Integer::sum);
         });
         if (made > 0) {
             out.println(made + " collisions on members with a $ in their name, which compilers make");
         }
         printNotes();
-        if (below.size() > 1) {
+        if (tops.size() > 1) {
             packages.forEach((name, counts) -> out.println("in " + name + ": "
                     + counts.entrySet().stream().map(entry -> entry.getValue() + " " + entry.getKey()).collect(Collectors.joining(", "))));
         }
-        folding.below(left.stream().filter(Line::isFurther).collect(Collectors.toList())).forEach(this::print);
+        below.keySet().stream().filter(Line::isFurther).forEach(line -> print(line, below.get(line)));
         report.others.forEach(out::println);
         needs.forEach(out::println);
         out.println(report.verdict);

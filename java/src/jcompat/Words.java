@@ -84,15 +84,40 @@ final class Words {
                 return Arrays.asList("class " + type + " has a new method " + declared(line) + ", which isn't a public instance method",
                         "class Y extends " + type + " implements J { }   y." + call(line) + ", which J has as a default method");
             case Line.WARNING:
-                return Arrays.asList(kind(line.type) + " " + type + (line.act.equals("lost") ? " gives classes no method " + declared(line) + " to run any more"
-                        : line.act.equals("abstract") ? " has an abstract method " + declared(line) + " now" : " gives classes " + declared(line) + " otherwise than before"),
-                        "class Y " + (kind(line.type).equals("class") ? "extends " : "implements ") + type + " { }   y." + call(line) + ";");
+                return Arrays.asList(warning(line, type), "class Y " + (kind(line.type).equals("class") ? "extends " : "implements ") + type
+                        + " { }, without a method " + Names.member(line.member) + " of its own, and " + call(line) + " is called on it");
             case Line.DROPPED:
                 return Arrays.asList(kind(line.type) + " " + type + " no longer " + (kind(line.type).equals("class") ? "implements " : "extends ") + Names.simple(line.member),
                         throughInterface(line.member, variable));
             default:
                 return Arrays.asList("class " + type + " has a new final method " + declared(line), subclass(line, ""));
         }
+    }
+
+    /** What the new release does to the classes of clients below the type. */
+    private String warning(Line line, String type) {
+        String method = declared(line);
+        if (line.act.equals("lost")) {
+            return kind(line.type) + " " + type + " gives classes no method " + method + " to run any more";
+        }
+        if (line.act.equals("abstract")) {
+            return kind(line.type) + " " + type + " has an abstract method " + method + " now: classes without it fail when it is called";
+        }
+        Member before = member(line, oldRelease);
+        Member now = member(line);
+        boolean isAbstract = now != null && (now.flags & ClassFile.ABSTRACT) != 0;
+        if (before == null && now != null) {
+            return type + (isAbstract ? " has a new abstract method " + method + ": classes without it fail when it is called"
+                    : " has a new default method " + method + ": classes that get one from elsewhere too fail when it is called, or run another");
+        }
+        if (before != null && now == null) {
+            return type + " no longer gives classes " + method;
+        }
+        if (before != null && isAbstract != ((before.flags & ClassFile.ABSTRACT) != 0)) {
+            return type + (isAbstract ? ": the method " + method + " has no default any more: classes without it fail when it is called"
+                    : ": the method " + method + " has a default now: classes that get one from elsewhere too fail when it is called, or run another");
+        }
+        return kind(line.type) + " " + type + " gives classes " + method + " otherwise than before, from another interface";
     }
 
     /** A call through an interface, or a cast to one that has no method to call. */
@@ -161,7 +186,11 @@ final class Words {
     }
 
     private Member member(Line line) {
-        for (ClassFile file : newRelease.chain(line.type)) {
+        return member(line, newRelease);
+    }
+
+    private Member member(Line line, Classes release) {
+        for (ClassFile file : release.chain(line.type)) {
             for (Member member : members(line, file)) {
                 if (text(line, member).equals(line.member)) {
                     return member;
