@@ -86,6 +86,8 @@ try 'a check that is skipped' 0 'jcompat: skipped' verify -Djcompat.skip
 try 'a last release that is not there' 1 'the release com.example:frame:jar:0.9.0 can.t be had' verify -Djcompat.baseline=0.9.0
 try 'a step that is too small' 1 'clients break, or what else the gate version asks' verify -Djcompat.gate=version
 try 'a Java that is too old' 1 'the new release needs Java 11, and --java is 8' verify -Djcompat.java=8 -pl frame
+rm -rf "$made/m2/com/example"
+try 'offline, where no list of releases is kept' 1 'the repositories couldn.t be asked for releases of com.example:frame' -o verify
 version 1.1.0-SNAPSHOT 2.0.0-SNAPSHOT
 try 'a step that is large enough' 0 'incompatible: 1 findings' verify -Djcompat.gate=version
 try 'a row of releases' 0 'history: 1 steps, 1 incompatible' package jcompat:history -pl shapes -am

@@ -47,6 +47,9 @@ public final class Main {
             return help(command, out);
         }
         switch (command) {
+            case "history":
+                words.add(0, "--row");
+                return new Check(new Arguments(words).check(), host).run();
             case "check":
                 Request request = new Arguments(words).check();
                 if (Packages.are(request)) {
@@ -70,7 +73,7 @@ public final class Main {
     }
 
     private static int help(String command, PrintStream out) throws IOException, Stop {
-        try (InputStream in = Main.class.getResourceAsStream("help/" + command + ".txt")) {
+        try (InputStream in = Main.class.getResourceAsStream("help/" + (command.equals("history") ? "check" : command) + ".txt")) {
             if (in == null) {
                 throw new Stop("there is no command " + command + ": see --help");
             }

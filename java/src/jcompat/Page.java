@@ -105,7 +105,8 @@ final class Page {
     }
 
     private void putVerdict() {
-        String kind = !isCompatible() ? "bad" : input.warnings() > 0 ? "may" : "good";
+        boolean isGood = input.warnings() == 0 && (input.verdictOfModules == null || input.verdictOfModules.startsWith("compatible"));
+        String kind = !isCompatible() ? "bad" : isGood ? "good" : "may";
         put("<a class=skip href=#lines>Skip to the lines</a>\n<header><p class=title>" + Html.text(title) + "</p><h1 class=" + kind + ">"
                 + verdict() + "</h1>\n<p class=lead>");
         put(isCompatible() ? "Clients that were compiled against the old release still link with the new one"
@@ -122,9 +123,11 @@ final class Page {
         long folded = report.all().size() + input.ofModules.size() - shown.size();
         long warnings = report.further.stream().filter(line -> line.rule.equals(Line.WARNING)).count();
         long dropped = report.further.size() - warnings;
+        long accepted = report.all().stream().filter(input::isAccepted).count();
         put("<p class=sum><strong>" + Html.count(findings, "finding") + "</strong>, " + Html.count(report.lines.size() - findings, "collision") + ", "
                 + Html.count(report.notes.size(), "note") + (warnings == 0 ? "" : ", " + Html.count(warnings, "warning"))
-                + (dropped == 0 ? "" : ", " + Html.count(dropped, "dropped interface")) + "." + (folded == 0 ? "" : " " + Html.count(folded, "line") + (folded == 1 ? " is" : " are")
+                + (dropped == 0 ? "" : ", " + Html.count(dropped, "dropped interface")) + (accepted == 0 ? "" : ", " + String.format(Locale.ROOT, "%,d", accepted)
+                + " of these accepted") + "." + (folded == 0 ? "" : " " + Html.count(folded, "line") + (folded == 1 ? " is" : " are")
                 + " folded into others, mostly the same member through a subclass.") + "</p></header>\n");
     }
 
