@@ -35,6 +35,13 @@ public final class Main {
         } catch (IOException failure) {
             status = Stop.NOT_RUN;
             err.println(name + ": " + failure);
+        } catch (OutOfMemoryError failure) {
+            status = Stop.NOT_RUN;
+            err.println(name + ": there isn't enough memory for Java: give it more, as by JAVA_TOOL_OPTIONS=-Xmx4g");
+        } catch (RuntimeException | Error failure) {
+            // Java itself would end with 1, which says that there are findings
+            status = Stop.NOT_RUN;
+            failure.printStackTrace(err);
         }
         out.flush();
         System.exit(status);

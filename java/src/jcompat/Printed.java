@@ -52,7 +52,7 @@ final class Printed {
     private void print(Line line, List<Line> all) {
         out.println(line + folding.folded(line, all));
         if (words != null) {
-            words.say(line).forEach(text -> out.println("    " + text));
+            words.safely(line).forEach(text -> out.println("    " + text));
         }
     }
 

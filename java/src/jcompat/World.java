@@ -4,7 +4,6 @@ import java.io.IOException;
 import java.nio.file.Files;
 import java.nio.file.Path;
 import java.util.ArrayList;
-import java.util.HashMap;
 import java.util.HashSet;
 import java.util.List;
 import java.util.Map;
@@ -138,20 +137,16 @@ final class World {
         Set<String> names = new HashSet<>();
         Set<String> there = new HashSet<>(libraryPaths);
         for (String path : libraryPaths) {
-            names.addAll(Mentions.declared(new ClassFile(Files.readAllBytes(platform.resolve(path)))));
+            names.addAll(Mentions.declared(Files.readAllBytes(platform.resolve(path))));
         }
         for (Taken release : releases) {
             for (String path : release.paths) {
-                names.addAll(Mentions.declared(new ClassFile(Files.readAllBytes(release.folder.resolve(path)))));
+                names.addAll(Mentions.declared(Files.readAllBytes(release.folder.resolve(path))));
             }
         }
         Folders.Maker maker = new Folders.Maker();
-        try (Closure closure = new Closure(jdk, List.of(), new Lowered())) {
-            Map<String, byte[]> needed = new HashMap<>();
-            closure.of(names, there, needed, needed);
-            for (Map.Entry<String, byte[]> each : needed.entrySet()) {
-                maker.put(platform.resolve(each.getKey()), each.getValue());
-            }
+        for (Map.Entry<String, byte[]> each : new Closure(jdk, new Lowered()).of(names, there).entrySet()) {
+            maker.put(platform.resolve(each.getKey()), each.getValue());
         }
     }
 

@@ -119,4 +119,12 @@ public class OddJarsTest {
         assertTrue(Hints.areSame(path("e.jar"), path("e.jar")));
         assertFalse(Hints.areSame(path("e.jar"), path("s.jar")));
     }
+
+    @Test
+    public void whatIsNoClassFileNamesNothing() throws Exception {
+        for (byte[] bytes : new byte[][] {new byte[0], Arrays.copyOf(FILE, 9), Arrays.copyOf(FILE, FILE.length - 3), "no class file, but long enough".getBytes(StandardCharsets.US_ASCII)}) {
+            assertEquals(Collections.emptySet(), Mentions.declared(bytes));
+        }
+        assertEquals(Collections.singleton("java/lang/Object"), Mentions.declared(FILE));
+    }
 }

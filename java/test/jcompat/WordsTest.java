@@ -27,7 +27,7 @@ public class WordsTest {
     private Classes release(String name, String source) throws Exception {
         Path folder = made.newFolder(name).toPath();
         List<String> words = new ArrayList<>(Arrays.asList("--release", "11", "-d", folder.toString()));
-        for (String type : source.split("(?=public )")) {
+        for (String type : source.split("(?=public (?:class|interface) )")) {
             String simple = type.replaceFirst("(?s)public (?:abstract |final )?(?:class|interface) (\\w+).*", "$1");
             Path file = made.newFolder(name + "-" + simple).toPath().resolve(simple + ".java");
             Files.write(file, ("package p; " + type).getBytes(StandardCharsets.UTF_8));
