@@ -40,8 +40,8 @@ final class Packages {
         if (request.accepted != null) {
             throw new Stop("--accepted is for two jars, and not for two packages");
         }
-        if (request.json || request.has("--json") || request.has("--witness")) {
-            throw new Stop("--json and --witness are for two jars, and not for two packages");
+        if (request.json || request.page != null || request.has("--json") || request.has("--witness")) {
+            throw new Stop("--json, --page and --witness are for two jars, and not for two packages");
         }
         try (Workspace shared = new Workspace(request.cache, request.jdk)) {
             List<Map<String, Path>> jars = new ArrayList<>();
