@@ -34,6 +34,7 @@ fi
 
 made=$(mktemp -d)
 trap 'rm -rf "$made"' EXIT
+export XDG_CACHE_HOME="$made/cache"
 
 # the new release breaks clients, so the status of the check is 1
 check() {
