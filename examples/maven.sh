@@ -83,6 +83,10 @@ sed -n 's/^[0-9]* H8/H8/p' shapes/target/jcompat/report.txt >shapes/compat.accep
 try 'a break that is meant' 0 'BUILD SUCCESS' verify
 rm shapes/compat.accepted
 try 'a check that is skipped' 0 'jcompat: skipped' verify -Djcompat.skip
+export MAVEN_OPTS=-Dos.arch=aarch64
+try 'a system that there is no program for' 0 'jcompat: there is no jcompat for linux-aarch64, so nothing is compared here' -q verify
+try 'the same, where a comparison is required' 1 'there is no jcompat for linux-aarch64' verify -Djcompat.required
+unset MAVEN_OPTS
 try 'a last release that is not there' 1 'the release com.example:frame:jar:0.9.0 can.t be had' verify -Djcompat.baseline=0.9.0
 try 'a step that is too small' 1 'clients break, or what else the gate version asks' verify -Djcompat.gate=version
 try 'a Java that is too old' 1 'the new release needs Java 11, and --java is 8' verify -Djcompat.java=8 -pl frame
