@@ -124,9 +124,12 @@ public final class Check {
             if (!request.json) {
                 print(each);
             }
-            Uncompared uncompared = new Uncompared(host, places());
-            uncompared.sayOld("the old release", each.report, each.oldRelease);
-            uncompared.sayNew("the new release", each.report, each.newRelease);
+            // most often the same classes don't load as modules, which is said once
+            if (each == comparisons.get(0) || !each.unloadable().equals(comparisons.get(0).unloadable())) {
+                Uncompared uncompared = new Uncompared(host, places());
+                uncompared.sayOld("the old release", each.report, each.oldRelease);
+                uncompared.sayNew("the new release", each.report, each.newRelease);
+            }
             if (accepted != null) {
                 accepted.say(each);
             }

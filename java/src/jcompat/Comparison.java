@@ -52,6 +52,11 @@ final class Comparison {
         isWhole = report.unloadable("old").isEmpty();
     }
 
+    /** The notes of classes that don't load. */
+    Set<String> unloadable() {
+        return report.notes.stream().filter(note -> !note.isConstant).map(note -> note.side + " " + note.type + " " + note.detail).collect(Collectors.toSet());
+    }
+
     /** Keeps what the program printed. */
     void keep(Path file) throws Stop {
         try {
