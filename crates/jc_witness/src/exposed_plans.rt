@@ -73,7 +73,8 @@ fn exposing_both(
 
 // How many items the act has.
 fn item_count(act: Act) -> u32
-    ensures { result ≡ items_of_act act }
+    ensures value { result ≡ items_of_act act }
+    ensures few { result ≤ 2 }
 {
     match act {
         Act::NewObject => 2,
