@@ -1,9 +1,9 @@
 //! Planned clients for assignments of hidden classes, which members expose to them.
-ghost use Rattle.std.specs.Prelude.{◌≡◌, ◌≤◌, ◌++◌, ◌∷◌, [], None, length, not, IfOk};
+ghost use Rattle.std.specs.Prelude.{◌≡◌, ◌≤◌, ◌++◌, ◌∷◌, [], None, length, IfOk};
 ghost use Rattle.std.specs.List.{All};
 ghost use Rattle.jc_facts.specs.declared.member_act.MemberAct.{MemberAct};
 ghost use Rattle.jc_facts.specs.world.Loading.{load_fault};
-ghost use Rattle.jc_promises.specs.plan.Planned.{acts_exposing, assigns_behind, assigns_from, receivers_exposed, takes_no_receiver};
+ghost use Rattle.jc_promises.specs.plan.Planned.{acts_exposing, assigns_behind, assigns_from, receivers_exposed};
 ghost use Rattle.jc_promises.specs.plan.PlannedBodies.{assigns_bodies, behind_bodies};
 ghost use Rattle.jc_witness.specs.Ground.{CanRefer};
 ghost use Rattle.jc_witness.specs.Exposing.{CanExpose};
@@ -15,7 +15,7 @@ use crate::initializers::with_calls;
 use crate::planned_files::{PlannedFiles, static_use};
 use crate::planner::Planner;
 use jc_base::name::Name;
-use jc_drafts::bodies::expose_and_return;
+use jc_drafts::bodies::{expose_and_return, takes_receiver};
 use jc_drafts::draft::{Draft, PUBLIC_CLASS, body};
 use jc_drafts::texts::from_behind;
 use jc_facts::act::Act;
@@ -23,16 +23,6 @@ use jc_facts::member_act::MemberAct;
 use jc_facts::verdict::Spot;
 use jc_sides::found::push_some;
 use std::alloc::{AllocError, Global};
-
-// Whether the act takes a receiver.
-fn takes_receiver(act: Act) -> bool
-    ensures { result ≡ not (takes_no_receiver act) }
-{
-    match act {
-        Act::NewObject | Act::InitSuper => false,
-        _ => !act.is_on_static(),
-    }
-}
 
 // The receivers that the acts of a client of this name take.
 fn receivers(
@@ -85,7 +75,8 @@ fn item_count(act: Act) -> u32
 // How many items these acts have.
 fn count_items(acts: &[MemberAct]) -> u32
     requires { length acts.now ≤ 2 }
-    ensures { result ≡ items_of_acts acts.now }
+    ensures value { result ≡ items_of_acts acts.now }
+    ensures few { result ≤ 4 }
 {
     let mut count = 0;
     for exposed in acts {
