@@ -16,8 +16,20 @@ returns c =
     let t = c.args.to.now in
     let a = c.args.seat.now in
     let made : ending_with [] c.finish.result (spot.Item (c.count_items.result + 1)) ≡ ending_with [] (used O N w acts s t a (with_inits (begun O N w acts s t a) a (codes "I") acts)) (spot.Item (items_of_acts acts + 1)) =
-        rw (
-            c.finish.ensures, c.in_ok-draft-3.ensures, c.in_ok-static_use.ensures, c.in_ok-descriptor.ensures, c.body.ensures, c.in_ok-steps.ensures, c.in_ok-draft-2.ensures, c.in_ok-draft.ensures, c.as_slice.ensures.value, c.in_ok-before.ensures,
-            c.in_ok-name.ensures, c.in_ok-above.ensures, c.constructor-constructor.ensures, c.count_items.ensures.value
-        ) refl in
+    rw (
+      c.finish.ensures,
+      c.in_ok-draft-3.ensures,
+      c.in_ok-static_use.ensures,
+      c.in_ok-descriptor.ensures,
+      c.body.ensures,
+      c.in_ok-steps.ensures,
+      c.in_ok-draft-2.ensures,
+      c.in_ok-draft.ensures,
+      c.as_slice.ensures.value,
+      c.in_ok-before.ensures,
+      c.in_ok-name.ensures,
+      c.in_ok-above.ensures,
+      c.constructor-constructor.ensures,
+      c.count_items.ensures.value,
+    ) refl in
     subst (λ x. IfOk c.one.result (λ (files : PlannedFiles). files ≡ x)) (made ∙ behind_file O N w acts s t a) c.one.ensures
