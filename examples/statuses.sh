@@ -4,7 +4,8 @@
 # Each exit status from 0 to 7 is brought about, and with it come just the bytes that are due on standard output and standard error. The words are
 # those that the process is given: empty ones count, and those that aren't UTF-8 are refused. A module-info.class in a real folder is read where
 # that is asked for, and only there. No JDK is needed: the class files are written below. There is a line for each try, and a last one with their
-# number. The status is 1 where one fails. Where the program isn't built, nothing is tried, which is said, and the status is 0.
+# number. The status is 1 where one fails. Where the program isn't built, nothing is tried, which is said, and the status is 0, or 1 where
+# JCOMPAT_ALL=1 asks for all.
 set -eu
 
 cd "$(dirname "$0")/.."
@@ -12,7 +13,8 @@ cd "$(dirname "$0")/.."
 program=$PWD/jcompat
 [ ! -d crates ] || program=$PWD/crates/jcompat/out/jcompat
 if [ ! -x "$program" ]; then
-    echo "statuses: skipped: the program isn't built"
+    printf "statuses: not run: the program isn't built\n"
+    [ "${JCOMPAT_ALL:-}" != 1 ] || exit 1
     exit 0
 fi
 
