@@ -149,9 +149,9 @@ module _ (O N : World) (alike : IsAlike O N) (k : Key) where
   no_change Concrete true e = refl
   no_change a false e = absurd (cc)
 
-  no_warning : (b : Bytes) → warning_at O N b k ≡ None
+  warns_none : (b : Bytes) → warning_at O N b k ≡ None
   unfolding warning_at chain_kind part interfaces_from
-  no_warning b = go (is_key_of_method k && is_base O N b) refl
+  warns_none b = go (is_key_of_method k && is_base O N b) refl
     where
       go : (t : Bool) → (is_key_of_method k && is_base O N b) ≡ t → cond t (warn_kind (chain_kind O b k) (chain_kind N b k) (not (parts_agree O N k (part O b k) (part N b k)))) None ≡ None
       go false e = refl
@@ -184,7 +184,7 @@ module _ (O N : World) (alike : IsAlike O N) (k : Key) where
 
 lists_nothing : (O N : World) → IsAlike O N → ListsNothing O N
 lists_nothing O N alike = record {
-  no_warning = λ ws h. none_listed (WarningStands O N) (λ w s. (let z : None ≡ Some w.kind = sym (no_warning O N alike w.key w.«class») ∙ s in cc)) ws h.sound;
+  no_warning = λ ws h. none_listed (WarningStands O N) (λ w s. (let z : None ≡ Some w.kind = sym (warns_none O N alike w.key w.«class») ∙ s in cc)) ws h.sound;
   none_dropped = λ ds h. none_listed (IsDropped O N) (λ d s. contradicts (is_dropped O N d.«class» d.interface) s (none_dropped O N alike d.«class» d.interface)) ds h.sound;
   no_signature_note = λ ns h. none_listed (SigNoteStands O N) (no_note O N alike) ns h.sound;
 }

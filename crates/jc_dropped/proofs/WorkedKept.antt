@@ -2,7 +2,6 @@
 use Rattle.std.proofs.Common.{◌≡◌, true, false, List, [], ◌∷◌, refl, Some, codes}
 use Rattle.jc_facts.specs.Names.{Bytes, object_name}
 use Rattle.jc_facts.specs.world.World.{World}
-use Rattle.jc_facts.specs.world.Loading.{load_fault}
 use Rattle.jc_promises.specs.rule.Bases.{is_class_usable}
 use Rattle.jc_sound.proofs.Examples.{computes, init, member, a_class, public_class, public_interface, over}
 use Rattle.jc_dropped.specs.Dropped.{stays_exposed}

@@ -1,5 +1,5 @@
 -- The worked examples of reach: a hidden class that an item opens to a client, and one that none does. And a client with a constant that meets no collision.
-use Rattle.std.proofs.Common.{◌≡◌, ◌⊎◌, inl, inr, true, false, List, [], ◌∷◌, refl, Option, Some, None, codes, subst}
+use Rattle.std.proofs.Common.{◌≡◌, inl, inr, true, false, List, [], ◌∷◌, refl, Some, None, codes, subst}
 use Rattle.std.specs.List.{Contains}
 use Rattle.std.proofs.lemmas.List.Elements.{All-from_recursion, All-contains, All-nil}
 use Rattle.jc_facts.specs.declared.class_facts.ClassFacts.{ClassFacts}
@@ -16,7 +16,7 @@ use Rattle.jc_facts.specs.client.Outcome.{outcome}
 use Rattle.jc_facts.specs.client.Valid.{facts_of}
 use Rattle.jc_promises.specs.client.Meets.{ConstantHits, may_name}
 use Rattle.jc_promises.specs.client.Reach.{is_opening, opens, class_in_reach}
-use Rattle.jc_sound.proofs.Examples.{computes, init, key, member, a_class, plain, extending, public_interface, over}
+use Rattle.jc_sound.proofs.Examples.{computes, init, key, member, a_class, extending, public_interface, over}
 use Rattle.jc_sound.proofs.WorkedClients.{p_A, U}
 
 abbrev p_S : Bytes
