@@ -1,4 +1,5 @@
 pub mod Held
 pub mod DroppedLaws
 pub mod WorkedDropped
+pub mod WorkedKept
 mod Lost
