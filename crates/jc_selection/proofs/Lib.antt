@@ -8,3 +8,4 @@ pub mod SelectionLaw
 mod Shown
 pub mod Unchanged
 pub mod WorkedWarnings
+mod WorkedShown

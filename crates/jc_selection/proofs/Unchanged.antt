@@ -29,9 +29,6 @@ use Rattle.jc_sound.proofs.Standing.{usable_parts}
 use Rattle.jc_selection.specs.Shown.{IsSameAbove, UnchangedIsUnwarned}
 use Rattle.jc_selection.proofs.Selected.{no_change}
 
-of_world : (W : World) (x : Bytes) (c : ClassFacts) → find_class W x ≡ Some c → load_fault W x ≡ None → interface_flag c.flags ≡ true → IsOf W c
-of_world W x c f l i = ap (find_class W) (find-name W x c f) ∙ f
-
 beq_itself : (b : Bool) → beq b b ≡ true
 beq_itself true = refl
 beq_itself false = refl
@@ -83,13 +80,17 @@ base_loads O N b h = go (or_cases (is_base_class O N b) (is_base_interface O N b
     go (inl p) = (usable_parts O b (and_parts (is_class_usable O b) _ (and_parts (is_extendable O N b) (is_steady O N b) (and_parts (is_extendable O N b && is_steady O N b) (not (is_class_closed O N b)) p).0).0).0).loaded
     go (inr p) = (usable_parts O b (and_parts (is_class_usable O b) _ (and_parts (is_implementable O N b) (is_steady O N b) (and_parts (is_implementable O N b && is_steady O N b) (not (is_class_closed O N b)) p).0).0).0).loaded
 
-pub in_part : (O : World) (b : Bytes) → load_fault O b ≡ None → EachOf (IsOf O) (interfaces_from O b)
+-- what holds of each interface that loads holds of those of a base
+part_each : (W : World) (P : ClassFacts → Type 0) → ((x : Bytes) (c : ClassFacts) → find_class W x ≡ Some c → load_fault W x ≡ None → interface_flag c.flags ≡ true → P c) → (b : Bytes) → load_fault W b ≡ None → EachOf P (interfaces_from W b)
 unfolding interfaces_from
-in_part O b l = of_kind (is_interface_of O b) refl
+part_each W P each_one b l = of_kind (is_interface_of W b) refl
   where
-    of_kind : (i : Bool) → is_interface_of O b ≡ i → EachOf (IsOf O) (cond i (with_interfaces O b) (superinterfaces O b))
-    of_kind true j = let c = loads-found O b l in with_interfaces-each O (IsOf O) (of_world O) b l c.0 c.1 (sym (ap (some_and (λ (d : ClassFacts). interface_flag d.flags)) c.1) ∙ j)
-    of_kind false j = superinterfaces-each O (IsOf O) (of_world O) b l
+    of_kind : (i : Bool) → is_interface_of W b ≡ i → EachOf P (cond i (with_interfaces W b) (superinterfaces W b))
+    of_kind true j = let c = loads-found W b l in with_interfaces-each W P each_one b l c.0 c.1 (sym (ap (some_and (λ (d : ClassFacts). interface_flag d.flags)) c.1) ∙ j)
+    of_kind false j = superinterfaces-each W P each_one b l
+
+pub part_loads : (W : World) (b : Bytes) → load_fault W b ≡ None → EachOf (λ (c : ClassFacts). load_fault W c.name ≡ None) (interfaces_from W b)
+part_loads W b l = part_each W (λ (c : ClassFacts). load_fault W c.name ≡ None) (λ x c f h i. ap (load_fault W) (find-name W x c f) ∙ h) b l
 
 unwarned : (a : ChainKind) (agree : Bool) → agree ≡ true → warn_kind a a (not agree) ≡ None
 unwarned a true e = no_change a
@@ -110,5 +111,5 @@ unchanged O N b k alike = go (is_key_of_method k && is_base O N b) refl
     go true e = subst (λ c. warn_kind (chain_kind O b k) c (not (parts_agree O N k (part O b k) (part N b k))) ≡ None) kinds
         (subst (λ p. warn_kind (chain_kind O b k) (chain_kind O b k) (not (parts_agree O N k (part O b k) p)) ≡ None) parts
         (unwarned (chain_kind O b k) (parts_agree O N k (part O b k) (part O b k)) (part_agrees O N k (part O b k)
-        (filter-each (IsOf O) (offers k) (interfaces_from O b) (in_part O b (base_loads O N b (and_parts (is_key_of_method k) (is_base O N b) e).1)))
+        (filter-each (IsOf O) (offers k) (interfaces_from O b) (part_each O (IsOf O) (λ x c f l i. ap (find_class O) (find-name O x c f) ∙ f) b (base_loads O N b (and_parts (is_key_of_method k) (is_base O N b) e).1)))
         (filter-each (λ (c : ClassFacts). superinterfaces O c.name ≡ superinterfaces N c.name) (offers k) (interfaces_from O b) (recursion_from_All (λ (c : ClassFacts). superinterfaces O c.name ≡ superinterfaces N c.name) (interfaces_from O b) alike.above)))))
