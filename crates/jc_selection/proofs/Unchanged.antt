@@ -1,13 +1,13 @@
 -- Where nothing above a base changed, nothing is warned of on it.
-use Rattle.std.proofs.Common.{◌≡◌, Bool, true, false, not, cond, List, [], ◌∷◌, refl, sym, ◌∙◌, ap, subst, Option, Some, None, ◌&&◌, ◌||◌, ◌⊎◌, inl, inr}
+use Rattle.std.proofs.Common.{◌≡◌, Bool, true, false, not, cond, List, [], ◌∷◌, refl, sym, ◌∙◌, ap, subst, Option, Some, None, ◌&&◌, ◌⊎◌, inl, inr}
 use Rattle.std.specs.Bool.{beq}
-use Rattle.std.specs.List.{list_all, filter, All, Contains}
+use Rattle.std.specs.List.{list_all, filter, Contains}
 use Rattle.std.proofs.lemmas.Bool.{and_parts, and_from, or_cases}
 use Rattle.std.proofs.lemmas.List.Elements.{recursion_from_All}
 use Rattle.jc_facts.specs.declared.class_facts.ClassFacts.{ClassFacts}
 use Rattle.jc_facts.specs.declared.key.Key.{Key}
 use Rattle.jc_facts.specs.declared.warning.ChainKind.{ChainKind}
-use Rattle.jc_facts.specs.declared.warning.ChainKind.TheVariants.{Nothing, Abstract, Concrete}
+use Rattle.jc_facts.specs.declared.warning.ChainKind.TheVariants.{Nothing}
 use Rattle.jc_facts.specs.Flags.{interface_flag}
 use Rattle.jc_facts.specs.Names.{Bytes, same}
 use Rattle.jc_facts.specs.Options.{some_and}
@@ -26,7 +26,7 @@ use Rattle.jc_lemmas.proofs.Listed.{EachOf, none, cases, each_in, each_from, any
 use Rattle.jc_worlds.proofs.Above.{with_interfaces-each, superinterfaces-each}
 use Rattle.jc_worlds.proofs.Loaded.{loads-found}
 use Rattle.jc_sound.proofs.Standing.{usable_parts}
-use Rattle.jc_selection.specs.Shown.{IsSameAbove, UnchangedIsUnwarned}
+use Rattle.jc_selection.specs.Shown.{UnchangedIsUnwarned}
 use Rattle.jc_selection.proofs.Selected.{no_change}
 
 beq_itself : (b : Bool) → beq b b ≡ true
