@@ -1,6 +1,5 @@
 -- Releases between which nothing is listed: what the old side loads, the new one has alike.
 use Rattle.std.proofs.Common.{◌≡◌, Bool, true, false, not, cond, List, [], ◌∷◌, refl, sym, ◌∙◌, ap, subst, Option, Some, None, is_some, ◌&&◌, ◌⊎◌, inl, inr}
-use Rattle.std.specs.Bool.{beq}
 use Rattle.std.specs.List.{list_all, filter, Contains}
 use Rattle.std.specs.Option.{option_eq}
 use Rattle.std.proofs.lemmas.Bool.{and_parts, and_from, or_cases}
@@ -18,23 +17,24 @@ use Rattle.jc_facts.specs.world.Hierarchy.{chain, with_interfaces, superinterfac
 use Rattle.jc_facts.specs.world.Loading.{load_fault}
 use Rattle.jc_facts.specs.world.Assignment.{is_interface_of}
 use Rattle.jc_facts.specs.world.Inheritance.{offers}
-use Rattle.jc_promises.specs.rule.Bases.{is_class_usable, is_steady, is_base_class, is_base_interface, is_extendable, is_implementable, is_class_closed, is_key_of_method}
-use Rattle.jc_promises.specs.rule.Selection.{chain_kind, first_kind, declares_abstract}
-use Rattle.jc_promises.specs.rule.Warnings.{is_base, interfaces_from, part, is_below_other, stays_in, parts_agree, warn_kind, warning_at, WarningStands}
+use Rattle.jc_promises.specs.rule.Bases.{is_key_of_method, is_steady}
+use Rattle.jc_promises.specs.rule.Selection.{chain_kind}
+use Rattle.jc_promises.specs.rule.Warnings.{is_base, interfaces_from, part, parts_agree, warn_kind, warning_at, WarningStands}
 use Rattle.jc_facts.proofs.Same.{same_itself}
 use Rattle.jc_facts.proofs.World.{class_named-name, class_named-each, find-name, find-platform}
 use Rattle.jc_lemmas.proofs.Bools.{contradicts}
-use Rattle.jc_lemmas.proofs.Listed.{EachOf, none, cases, each_in, each_from, any_has, filter-each}
+use Rattle.jc_lemmas.proofs.Listed.{EachOf-map}
 use Rattle.jc_worlds.proofs.Above.{with_interfaces-each, superinterfaces-each}
 use Rattle.jc_worlds.proofs.Agree.{Agree}
 use Rattle.jc_worlds.proofs.Agreement.{chain-agree, with_interfaces-agree, superinterfaces-agree}
 use Rattle.jc_worlds.proofs.Loaded.{loads-found, loads-parts}
-use Rattle.jc_sound.proofs.Standing.{usable_parts}
 use Rattle.jc_dropped.specs.Dropped.{is_held, has_lost, loses_interface, loses_above, is_dropped, IsDropped}
 use Rattle.jc_dropped.proofs.Held.{held_loads}
 use Rattle.jc_sig.specs.Notes.{signature_at, MemberChanges, ChangeAt, SigNoteStands}
 use Rattle.jc_agree.specs.NothingListed.{ListsNothing, SameReleaseLists, EmptyReleaseLists}
 use Rattle.jc_agree.proofs.Nothing.{none_listed}
+use Rattle.jc_selection.specs.Shown.{IsSameAbove}
+use Rattle.jc_selection.proofs.Unchanged.{base_loads, part_loads, unchanged}
 use Rattle.jc_agree.proofs.EmptyRelease.{find_old, find_alike, still_loads}
 
 -- what the old side has, the new one has alike: of each class that loads with the old side what stands above it, and of each name the class
@@ -82,109 +82,35 @@ none_dropped O N alike x t = go (is_held O N x) refl
 
 -- ---- warnings
 
--- a class that stands in the world, and loads there
-abbrev IsThere : World → ClassFacts → Type 0
-IsThere W c = (find_class W c.name ≡ Some c) × (load_fault W c.name ≡ None)
-
-there : (W : World) (x : Bytes) (c : ClassFacts) → find_class W x ≡ Some c → load_fault W x ≡ None → interface_flag c.flags ≡ true → IsThere W c
-there W x c f l i = let n : c.name ≡ x = find-name W x c f in (ap (find_class W) n ∙ f, ap (load_fault W) n ∙ l)
-
-beq_itself : (b : Bool) → beq b b ≡ true
-beq_itself true = refl
-beq_itself false = refl
-
-all_from : {A : Type 0} (p : A → Bool) (xs : List A) → EachOf (λ x. p x ≡ true) xs → list_all p xs ≡ true
-all_from p [] h = refl
-all_from p (x ∷ xs) h = and_from (p x) (list_all p xs) h.0 (all_from p xs h.1)
-
--- one that stands in a list is found there
-is_named : (cs : List ClassFacts) (c : ClassFacts) → Contains cs c → class_named cs c.name ≡ None → ⊥
-unfolding class_named
-is_named [] c h e = none c h
-is_named (d ∷ ds) c h e = go (cases d ds c h) (same d.name c.name) refl e (is_named ds c)
+no_warning : (O N : World) → IsAlike O N → (b : Bytes) (k : Key) → warning_at O N b k ≡ None
+unfolding warning_at interfaces_from
+no_warning O N alike b k = go (is_key_of_method k && is_base O N b) refl
   where
-    go : (d ≡ c) ⊎ Contains ds c → (b : Bool) → same d.name c.name ≡ b → cond b (Some d) (class_named ds c.name) ≡ None → (Contains ds c → class_named ds c.name ≡ None → ⊥) → ⊥
-    go w true q f r = let clash : Some d ≡ None = f in cc
-    go (inl w) false q f r = contradicts (same d.name c.name) (ap (λ (z : ClassFacts). same z.name c.name) w ∙ same_itself c.name) q
-    go (inr w) false q f r = r w f
+    go : (t : Bool) → (is_key_of_method k && is_base O N b) ≡ t → cond t (warn_kind (chain_kind O b k) (chain_kind N b k) (not (parts_agree O N k (part O b k) (part N b k)))) None ≡ None
+    go false e = refl
+    go true e = sym (ap (λ t. cond t (warn_kind (chain_kind O b k) (chain_kind N b k) (not (parts_agree O N k (part O b k) (part N b k)))) None) e) ∙ unchanged O N b k same
+      where
+        l : load_fault O b ≡ None
+        l = base_loads O N b (and_parts (is_key_of_method k) (is_base O N b) e).1
 
-module _ (O N : World) (alike : IsAlike O N) (k : Key) where
-  part_agrees : (cs : List ClassFacts) → EachOf (IsThere O) cs → parts_agree O N k cs cs ≡ true
-  unfolding parts_agree
-  part_agrees cs h = and_from (list_all (stays_in O N k cs cs) cs) (list_all (λ d. names_in cs d.name) cs)
-      (all_from (stays_in O N k cs cs) cs (each_from (λ c. stays_in O N k cs cs c ≡ true) cs stays))
-      (all_from (λ d. names_in cs d.name) cs (each_from (λ (d : ClassFacts). names_in cs d.name ≡ true) cs (λ d i. any_has (λ (c : ClassFacts). same c.name d.name) cs d i (same_itself d.name))))
-    where
-      found : (c : ClassFacts) → Contains cs c → class_named cs c.name ≡ Some c
-      found c i = go (class_named cs c.name) refl
-        where
-          go : (o : Option ClassFacts) → class_named cs c.name ≡ o → o ≡ Some c
-          go None e = absurd (is_named cs c i e)
-          go (Some d) e =
-              let p : IsThere O d = class_named-each (IsThere O) cs c.name d h e in
-              let n : d.name ≡ c.name = class_named-name cs c.name d e in
-              sym p.0 ∙ ap (find_class O) n ∙ (each_in (IsThere O) cs c h i).0
+        kind : is_interface_of O b ≡ is_interface_of N b
+        kind = ap (some_and (λ (c : ClassFacts). interface_flag c.flags)) (alike.find b l)
 
-      stays : (c : ClassFacts) → Contains cs c → stays_in O N k cs cs c ≡ true
-      stays c i = and_from (some_and (λ d. beq (declares_abstract k c) (declares_abstract k d)) (class_named cs c.name)) (list_all (λ j. beq (is_below_other O c.name j.name) (is_below_other N c.name j.name)) cs)
-          (ap (some_and (λ d. beq (declares_abstract k c) (declares_abstract k d))) (found c i) ∙ beq_itself (declares_abstract k c))
-          (all_from (λ (j : ClassFacts). beq (is_below_other O c.name j.name) (is_below_other N c.name j.name)) cs (each_from (λ (j : ClassFacts). beq (is_below_other O c.name j.name) (is_below_other N c.name j.name) ≡ true) cs (λ j m. below j)))
-        where
-          below : (j : ClassFacts) → beq (is_below_other O c.name j.name) (is_below_other N c.name j.name) ≡ true
-          below j =
-              subst (λ b. beq (is_below_other O c.name j.name) b ≡ true) (ap (λ ds. not (same c.name j.name) && names_in ds j.name) (alike.superinterfaces c.name (each_in (IsThere O) cs c h i).1))
-              (beq_itself (is_below_other O c.name j.name))
-
-  base_loads : (b : Bytes) → is_base O N b ≡ true → load_fault O b ≡ None
-  unfolding is_base_class is_base_interface is_extendable is_implementable
-  base_loads b h = go (or_cases (is_base_class O N b) (is_base_interface O N b) h)
-    where
-      go : (is_base_class O N b ≡ true) ⊎ (is_base_interface O N b ≡ true) → load_fault O b ≡ None
-      go (inl p) = (usable_parts O b (and_parts (is_class_usable O b) _ (and_parts (is_extendable O N b) (is_steady O N b) (and_parts (is_extendable O N b && is_steady O N b) (not (is_class_closed O N b)) p).0).0).0).loaded
-      go (inr p) = (usable_parts O b (and_parts (is_class_usable O b) _ (and_parts (is_implementable O N b) (is_steady O N b) (and_parts (is_implementable O N b && is_steady O N b) (not (is_class_closed O N b)) p).0).0).0).loaded
-
-  no_change : (a : ChainKind) (agree : Bool) → agree ≡ true → warn_kind a a (not agree) ≡ None
-  no_change Nothing true e = refl
-  no_change Abstract true e = refl
-  no_change Concrete true e = refl
-  no_change a false e = absurd (cc)
-
-  warns_none : (b : Bytes) → warning_at O N b k ≡ None
-  unfolding warning_at chain_kind part interfaces_from
-  warns_none b = go (is_key_of_method k && is_base O N b) refl
-    where
-      go : (t : Bool) → (is_key_of_method k && is_base O N b) ≡ t → cond t (warn_kind (chain_kind O b k) (chain_kind N b k) (not (parts_agree O N k (part O b k) (part N b k)))) None ≡ None
-      go false e = refl
-      go true e = subst (λ c. warn_kind (chain_kind O b k) c (not (parts_agree O N k (part O b k) (part N b k))) ≡ None) kinds
-          (subst (λ p. warn_kind (chain_kind O b k) (chain_kind O b k) (not (parts_agree O N k (part O b k) p)) ≡ None) parts
-          (no_change (chain_kind O b k) (parts_agree O N k (part O b k) (part O b k)) (part_agrees (part O b k) (filter-each (IsThere O) (offers k) (interfaces_from O b) in_part))))
-        where
-          l : load_fault O b ≡ None
-          l = base_loads b (and_parts (is_key_of_method k) (is_base O N b) e).1
-
-          kind : is_interface_of O b ≡ is_interface_of N b
-          kind = ap (some_and (λ (c : ClassFacts). interface_flag c.flags)) (alike.find b l)
-
-          kinds : chain_kind O b k ≡ chain_kind N b k
-          kinds = ap (λ i. cond i Nothing (first_kind k (chain O b))) kind ∙ ap (λ cs. cond (is_interface_of N b) Nothing (first_kind k cs)) (alike.chain b l)
-
-          parts : part O b k ≡ part N b k
-          parts = ap (λ i. filter (offers k) (cond i (with_interfaces O b) (superinterfaces O b))) kind
-              ∙ ap (λ cs. filter (offers k) (cond (is_interface_of N b) cs (superinterfaces O b))) (alike.with_interfaces b l)
-              ∙ ap (λ cs. filter (offers k) (cond (is_interface_of N b) (with_interfaces N b) cs)) (alike.superinterfaces b l)
-
-          in_part : EachOf (IsThere O) (interfaces_from O b)
-          in_part = of_kind (is_interface_of O b) refl
-            where
-              of_kind : (i : Bool) → is_interface_of O b ≡ i → EachOf (IsThere O) (cond i (with_interfaces O b) (superinterfaces O b))
-              of_kind true j = let c = loads-found O b l in with_interfaces-each O (IsThere O) (there O) b l c.0 c.1 (let z : interface_flag c.0.flags ≡ true = sym (ap (some_and (λ (d : ClassFacts). interface_flag d.flags)) c.1) ∙ j in z)
-              of_kind false j = superinterfaces-each O (IsThere O) (there O) b l
+        same : IsSameAbove O N b
+        same = record {
+          kind = kind;
+          chain = alike.chain b l;
+          interfaces = ap (λ i. cond i (with_interfaces O b) (superinterfaces O b)) kind
+              ∙ ap (λ cs. cond (is_interface_of N b) cs (superinterfaces O b)) (alike.with_interfaces b l)
+              ∙ ap (λ cs. cond (is_interface_of N b) (with_interfaces N b) cs) (alike.superinterfaces b l);
+          above = All-from_recursion (λ (c : ClassFacts). superinterfaces O c.name ≡ superinterfaces N c.name) (interfaces_from O b) (EachOf-map (λ (c : ClassFacts) h. alike.superinterfaces c.name h) (interfaces_from O b) (part_loads O b l));
+        }
 
 -- ---- the lists
 
 lists_nothing : (O N : World) → IsAlike O N → ListsNothing O N
 lists_nothing O N alike = record {
-  no_warning = λ ws h. none_listed (WarningStands O N) (λ w s. (let z : None ≡ Some w.kind = sym (warns_none O N alike w.key w.«class») ∙ s in cc)) ws h.sound;
+  no_warning = λ ws h. none_listed (WarningStands O N) (λ w s. (let z : None ≡ Some w.kind = sym (no_warning O N alike w.«class» w.key) ∙ s in cc)) ws h.sound;
   none_dropped = λ ds h. none_listed (IsDropped O N) (λ d s. contradicts (is_dropped O N d.«class» d.interface) s (none_dropped O N alike d.«class» d.interface)) ds h.sound;
   no_signature_note = λ ns h. none_listed (SigNoteStands O N) (no_note O N alike) ns h.sound;
 }

@@ -6,4 +6,6 @@ pub mod Goods
 pub mod Selected
 pub mod SelectionLaw
 mod Shown
+pub mod Unchanged
 pub mod WorkedWarnings
+mod WorkedShown

@@ -1,4 +1,4 @@
--- A class directly below a base, with an interface of its own that declares the key abstract or without, stops to answer the key.
+-- A class directly below a base, with an interface of its own that declares the key abstract or without, stops answering the key.
 use Rattle.std.proofs.Common.{◌≡◌, Bool, true, false, cond, not, List, [], ◌∷◌, ◌++◌, refl, sym, ◌∙◌, ap, Option, Some, None, ◌||◌, ◌&&◌, ◌⊎◌, inl, inr}
 use Rattle.std.specs.List.{list_any, list_all}
 use Rattle.std.specs.Cmp.{both_ways}
@@ -633,6 +633,13 @@ lost_is Abstract Nothing d h = absurd (cc)
 lost_is Abstract Abstract d h = absurd (cc)
 lost_is Abstract Concrete d h = absurd (cc)
 
+lost_not : (p q : ChainKind) (d : Bool) → warn_kind p q d ≡ Some warn.Lost → q ≡ Concrete → ⊥
+lost_not Concrete Concrete d h e = cc
+lost_not Nothing Concrete d h e = cc
+lost_not Abstract Concrete d h e = cc
+lost_not p Nothing d h e = cc
+lost_not p Abstract d h e = cc
+
 abstract_is : (p q : ChainKind) (d : Bool) → warn_kind p q d ≡ Some warn.Abstract → q ≡ Abstract
 abstract_is Nothing Abstract d h = refl
 abstract_is Concrete Concrete d h = absurd (cc)
@@ -677,10 +684,14 @@ starts_by false false true m e f h = absurd (let z : false ≡ true = h refl in 
 pub kinds_stop : KindsStop
 unfolding warning_at
 kinds_stop O N x stands = record {
+  was_answered = was_answered;
+  is_lost = λ e. lost_not (chain_kind O a k) (chain_kind N a k) differ (kind e);
   lost = λ e n. stops_by (answered_below N a k) (answered_below O a k) (due_below O a k) (due_below N a k) n (was_answered e);
-  lost_to_abstract = λ e n. stops_by (answered_below N a k) (answered_below O a k) (due_below O a k) (due_below N a k) (answered_by N a k Abstract (chain_below_is N a k Abstract (λ c. cc) n).1) (was_answered e);
-  abstract = λ e h. (let q : kind_below N a k ≡ Abstract = (chain_below_is N a k Abstract (λ c. cc) (abstract_is (chain_kind O a k) (chain_kind N a k) differ (kind e))).1 in
-      starts_by (answered_below N a k) (answered_below O a k) (due_below O a k) (due_below N a k) (answered_by N a k Abstract q) (abstract_due N a k q) h);
+  lost_to_abstract = λ e n. stops_by (answered_below N a k) (answered_below O a k) (due_below O a k) (due_below N a k) (answered_by N a k Abstract n) (was_answered e);
+  is_due = λ e. abstract_due N a k (now_abstract e);
+  is_unanswered = λ e. answered_by N a k Abstract (now_abstract e);
+  abstract = λ e h. starts_by (answered_below N a k) (answered_below O a k) (due_below O a k) (due_below N a k) (answered_by N a k Abstract (now_abstract e)) (abstract_due N a k (now_abstract e)) h;
+  has_nothing = λ e. defaults_is (chain_kind O a k) (chain_kind N a k) differ (kind e);
   defaults = λ e o n p q. stops_by (answered_below N a k) (answered_below O a k) (due_below O a k) (due_below N a k) (answered_by N a k Nothing n ∙ q) (answered_by O a k Nothing o ∙ p);
 }
   where
@@ -699,6 +710,9 @@ kinds_stop O N x stands = record {
         by : (c : Bool) → cond c (warn_kind (chain_kind O a k) (chain_kind N a k) differ) None ≡ Some x.kind → warn_kind (chain_kind O a k) (chain_kind N a k) differ ≡ Some x.kind
         by true q = q
         by false q = absurd (cc)
+
+    now_abstract : x.kind ≡ warn.Abstract → kind_below N a k ≡ Abstract
+    now_abstract e = (chain_below_is N a k Abstract (λ c. cc) (abstract_is (chain_kind O a k) (chain_kind N a k) differ (kind e))).1
 
     was_answered : x.kind ≡ warn.Lost → answered_below O a k ≡ true
     was_answered e = answered_by O a k Concrete (chain_below_is O a k Concrete (λ c. cc) (lost_is (chain_kind O a k) (chain_kind N a k) differ (kind e))).1

@@ -13,22 +13,22 @@ unfoldable pub selects : ℕ
 unfolding computes first_kind chain_kind concrete_choices is_due is_answered interfaces_from part parts_agree warning_at
 selects = 0
 
-abbrev p_A : Bytes
+abbrev pub p_A : Bytes
 p_A = codes "p/A"
 
-abbrev p_B : Bytes
+abbrev pub p_B : Bytes
 p_B = codes "p/B"
 
-abbrev p_I : Bytes
+abbrev pub p_I : Bytes
 p_I = codes "p/I"
 
-abbrev p_J : Bytes
+abbrev pub p_J : Bytes
 p_J = codes "p/J"
 
-abbrev k : Key
+abbrev pub k : Key
 k = key (codes "k") (codes "()V")
 
-abbrev method : ℕ → Member
+abbrev pub method : ℕ → Member
 method flags = member (codes "k") (codes "()V") flags
 
 -- an interface that has an abstract method now

@@ -4,7 +4,7 @@
 #![tactic(auto)]
 
 ghost use Rattle.jc_selection.specs.SelectionKept.{SelectionKept};
-ghost use Rattle.jc_selection.specs.Shown.{WarningsAreShown, KindsStop, NoOthersStop};
+ghost use Rattle.jc_selection.specs.Shown.{WarningsAreShown, KindsStop, NoOthersStop, UnchangedIsUnwarned};
 
 /// Selection is kept: where the verdict has no finding and no warning stands, each client class in
 /// scope that answered all that was due to it with the old release answers all that is due with the
@@ -19,13 +19,18 @@ pub fn warnings_are_shown()
     ensures { WarningsAreShown }
 {}
 
-/// Of which warnings that holds, kind by kind.
+/// What each kind of warning says of such a class, and for which it holds.
 pub fn warned_bases_stop()
     ensures { KindsStop }
 {}
 
-/// In no other case does a class stop to answer the key that stands directly below a base, declares nothing of it and names no other
+/// In no other case does a class stop answering the key that stands directly below a base, declares nothing of it and names no other
 /// interface.
 pub fn no_others_stop()
     ensures { NoOthersStop }
+{}
+
+/// Where nothing above a base changed, nothing is warned of on it.
+pub fn unchanged_is_unwarned()
+    ensures { UnchangedIsUnwarned }
 {}
