@@ -1,14 +1,11 @@
 -- Releases between which nothing is listed: what the old side loads, the new one has alike.
-use Rattle.std.proofs.Common.{◌≡◌, Bool, true, false, not, cond, List, [], ◌∷◌, refl, sym, ◌∙◌, ap, subst, Option, Some, None, is_some, ◌&&◌, ◌⊎◌, inl, inr}
-use Rattle.std.specs.List.{list_all, filter, Contains}
+use Rattle.std.proofs.Common.{◌≡◌, Bool, true, false, not, cond, refl, sym, ◌∙◌, ap, subst, Option, Some, None, is_some, ◌&&◌}
 use Rattle.std.specs.Option.{option_eq}
-use Rattle.std.proofs.lemmas.Bool.{and_parts, and_from, or_cases}
+use Rattle.std.proofs.lemmas.Bool.{and_parts}
 use Rattle.jc_facts.specs.declared.class_facts.ClassFacts.{ClassFacts}
 use Rattle.jc_facts.specs.declared.key.Key.{Key}
 use Rattle.jc_facts.specs.declared.sig_note.SigChange.{SigChange}
 use Rattle.jc_facts.specs.declared.sig_note.SigNote.{SigNote}
-use Rattle.jc_facts.specs.declared.warning.ChainKind.{ChainKind}
-use Rattle.jc_facts.specs.declared.warning.ChainKind.TheVariants.{Nothing, Abstract, Concrete}
 use Rattle.jc_facts.specs.Flags.{interface_flag}
 use Rattle.jc_facts.specs.Names.{Bytes, same, is_descriptor_of_method}
 use Rattle.jc_facts.specs.Options.{some_and}
@@ -16,18 +13,16 @@ use Rattle.jc_facts.specs.world.World.{World, find_class, class_named}
 use Rattle.jc_facts.specs.world.Hierarchy.{chain, with_interfaces, superinterfaces, is_superinterface, names_in}
 use Rattle.jc_facts.specs.world.Loading.{load_fault}
 use Rattle.jc_facts.specs.world.Assignment.{is_interface_of}
-use Rattle.jc_facts.specs.world.Inheritance.{offers}
 use Rattle.jc_promises.specs.rule.Bases.{is_key_of_method, is_steady}
 use Rattle.jc_promises.specs.rule.Selection.{chain_kind}
 use Rattle.jc_promises.specs.rule.Warnings.{is_base, interfaces_from, part, parts_agree, warn_kind, warning_at, WarningStands}
 use Rattle.jc_facts.proofs.Same.{same_itself}
-use Rattle.jc_facts.proofs.World.{class_named-name, class_named-each, find-name, find-platform}
+use Rattle.jc_facts.proofs.World.{find-platform}
 use Rattle.jc_lemmas.proofs.Bools.{contradicts}
 use Rattle.jc_lemmas.proofs.Listed.{EachOf-map}
-use Rattle.jc_worlds.proofs.Above.{with_interfaces-each, superinterfaces-each}
 use Rattle.jc_worlds.proofs.Agree.{Agree}
 use Rattle.jc_worlds.proofs.Agreement.{chain-agree, with_interfaces-agree, superinterfaces-agree}
-use Rattle.jc_worlds.proofs.Loaded.{loads-found, loads-parts}
+use Rattle.jc_worlds.proofs.Loaded.{loads-parts}
 use Rattle.jc_dropped.specs.Dropped.{is_held, has_lost, loses_interface, loses_above, is_dropped, IsDropped}
 use Rattle.jc_dropped.proofs.Held.{held_loads}
 use Rattle.jc_sig.specs.Notes.{signature_at, MemberChanges, ChangeAt, SigNoteStands}
@@ -82,9 +77,9 @@ none_dropped O N alike x t = go (is_held O N x) refl
 
 -- ---- warnings
 
-no_warning : (O N : World) → IsAlike O N → (b : Bytes) (k : Key) → warning_at O N b k ≡ None
+warns_none : (O N : World) → IsAlike O N → (b : Bytes) (k : Key) → warning_at O N b k ≡ None
 unfolding warning_at interfaces_from
-no_warning O N alike b k = go (is_key_of_method k && is_base O N b) refl
+warns_none O N alike b k = go (is_key_of_method k && is_base O N b) refl
   where
     go : (t : Bool) → (is_key_of_method k && is_base O N b) ≡ t → cond t (warn_kind (chain_kind O b k) (chain_kind N b k) (not (parts_agree O N k (part O b k) (part N b k)))) None ≡ None
     go false e = refl
@@ -110,7 +105,7 @@ no_warning O N alike b k = go (is_key_of_method k && is_base O N b) refl
 
 lists_nothing : (O N : World) → IsAlike O N → ListsNothing O N
 lists_nothing O N alike = record {
-  no_warning = λ ws h. none_listed (WarningStands O N) (λ w s. (let z : None ≡ Some w.kind = sym (no_warning O N alike w.«class» w.key) ∙ s in cc)) ws h.sound;
+  no_warning = λ ws h. none_listed (WarningStands O N) (λ w s. (let z : None ≡ Some w.kind = sym (warns_none O N alike w.«class» w.key) ∙ s in cc)) ws h.sound;
   none_dropped = λ ds h. none_listed (IsDropped O N) (λ d s. contradicts (is_dropped O N d.«class» d.interface) s (none_dropped O N alike d.«class» d.interface)) ds h.sound;
   no_signature_note = λ ns h. none_listed (SigNoteStands O N) (no_note O N alike) ns h.sound;
 }

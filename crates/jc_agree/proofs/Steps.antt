@@ -1,6 +1,5 @@
 -- A step of a row and the check of its two releases.
-use Rattle.std.proofs.Common.{◌≡◌, ℕ, zero, suc, ◌+◌, Bool, false, List, [], ◌∷◌, map, refl, sym, ◌∙◌, ap, subst, Option, Some, None, slice_get, arith}
-use Rattle.std.specs.List.{All, AllZip}
+use Rattle.std.proofs.Common.{◌≡◌, ℕ, zero, suc, ◌+◌, Bool, List, [], ◌∷◌, map, refl, ◌∙◌, ap, subst, Some, slice_get, arith}
 use Rattle.std.proofs.lemmas.List.Elements.{recursion_from_All}
 use Rattle.jc_base.specs.Outside.{FileOf}
 use Rattle.jc_facts.specs.declared.class_facts.ClassFacts.{ClassFacts}
@@ -14,7 +13,7 @@ use Rattle.jc_lemmas.proofs.Listed.{EachOf}
 use Rattle.jc_sound.proofs.VerdictLaw.{verdict_is_one}
 use Rattle.jc_shown.specs.Witness.{causes_of}
 use Rattle.jc_trees.specs.ReadTrees.{Gives, GiveAll}
-use Rattle.jc_trees.specs.Tree.{TreeOf, library_at}
+use Rattle.jc_trees.specs.Tree.{library_at}
 use Rattle.jc_trees.specs.declared.tree.TreeName.{TreeName}
 use Rattle.jc_trees.specs.declared.tree.TreeName.TheVariants as names
 use Rattle.jc_trees.specs.declared.tree_read.TreeRead.TheVariants as reads
@@ -22,12 +21,12 @@ use Rattle.jc_trees.proofs.OneRead.{one_given}
 use Rattle.jc_words.specs.Command.{CheckOf, HistoryOf}
 use Rattle.jc_releases.specs.Command.{release_tree, release_trees}
 use Rattle.jc_releases.specs.Releases.{read_as}
-use Rattle.jc_commands.specs.Check.{CheckRecords, IsVerdictOn, IsBorneOut, old_side, new_side}
-use Rattle.jc_commands.specs.History.{HistoryRecords, IsKeptRow, AreVerdictsOn, row_of}
+use Rattle.jc_commands.specs.Check.{CheckRecords, old_side, new_side}
+use Rattle.jc_commands.specs.History.{HistoryRecords, row_of}
 use Rattle.jc_commands.proofs.Compared.{each_shown}
 use Rattle.jc_commands.proofs.Records.{same_library, same_side}
 use Rattle.jc_commands.proofs.ShownFrom.{each_has_clients}
-use Rattle.jc_agree.specs.Steps.{IsCheckOfStep, SaysAsChecked, StepsAreChecks, StepsAreBorneOut, AreShown, RowIsShown, StepsAreShown}
+use Rattle.jc_agree.specs.Steps.{IsCheckOfStep, SaysAsChecked, StepsAreChecks, StepsAreBorneOut, RowIsShown, StepsAreShown}
 use Rattle.jc_agree.proofs.SameSide.{gives_to}
 
 -- ---- numbered
