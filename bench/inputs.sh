@@ -9,8 +9,8 @@
 #   api/old, new    the API of JDK 7 and of JDK 8, from the ct.sym of that javac
 #   update/old, new two updates of OpenJDK 17, all modules, from Debian packages
 #   openjfx/old, new  a library that became a module: the classes of one jar, of which the new release has the module's file too
-#   NAME/old, new   two releases of a library, the jars of Debian packages, by apt-get download; NAME/with has libraries that they need, and
-#                   NAME/clients classes that were compiled against the old release, or against one between the two
+#   NAME/old, new   two releases of a library, the jars of Debian packages, by apt-get download; NAME/with has libraries that they need,
+#                   NAME/clients classes that were compiled against the old release, or against one between the two, and NAME/jars their jars
 #
 # What the archive hasn't any more is passed over, which is said. Left out are what is below META-INF, and the classes that the JDK has too, as
 # check-jars does; of libraries those of a release too, and of clients those in packages that the others have.
@@ -154,12 +154,22 @@ release() {
     rm -rf "$made"
 }
 
+# jars NAME PACKAGE..: the jars of clients, as they are
+jars() {
+    local folder=$scratch/$1/jars
+    mkdir -p "$folder"
+    shift
+    files "$scratch/packages" "$@" || return
+    find "$scratch/packages" -name '*.jar' -type f -exec mv -t "$folder" {} +
+    rm -rf "$scratch/packages"
+}
+
 # pair NAME OLD NEW LIBRARIES CLIENTS: the last four have names of packages with spaces between
 pair() {
     local made=$scratch/$1
     release "$1" old $2 && release "$1" new $3 || return
     [ -z "$4" ] || { release "$1" with $4 && without "$made/with" "$made/old" "$made/new"; } || return
-    [ -z "$5" ] || { release "$1" clients $5 && alone "$made/clients" "$out/jdk" "$made"/[onw]*; } || return
+    [ -z "$5" ] || { release "$1" clients $5 && alone "$made/clients" "$out/jdk" "$made"/[onw]* && jars "$1" $5; } || return
     mv -- "$made" "$out/$1"
 }
 

@@ -30,10 +30,10 @@ import javax.tools.ToolProvider;
  * is given, its report of the two releases is the file <code>report</code>, followed with <code>--warn</code> by the file
  * <code>warnings</code>, with <code>--signatures</code> by the file <code>signatures</code>, and with <code>--dropped</code> by the file
  * <code>dropped</code>, where these stand. Sources in <code>needs</code> are there when the new release is
- * compiled, file by file, and not when the client is run.
+ * compiled, file by file, and not when the client is run. Other files of a release than sources stand beside its classes.
  *
  * <p>A release with a <code>module-info.java</code> stands on the module path, and the client on the class path; the report is that with
- * <code>--modular</code> then, and the file <code>links</code> has what <code>jcompat link --modular</code> says of the report's first witness over the
+ * <code>--modular</code> then. Where that has a line, the file <code>links</code> has what <code>jcompat link --modular</code> says of the first witness over the
  * old and then over the new release, in which <code>Replay.java</code> finds the errors too. An old release without such a file, beside a new one that
  * has it, is compiled with that and the client, as if all were one module: there alone a compiler lets a sealed class permit a class of another package.
  *
@@ -187,6 +187,8 @@ public final class ReplayClients {
         }
 
         void compile() throws IOException, Fault {
+            addResources("old");
+            addResources("new");
             if (isModule("new") && !isModule("old")) {
                 for (String part : List.of("old", "new", "client")) {
                     compileInOneModule(part);
@@ -205,6 +207,17 @@ public final class ReplayClients {
                 }
             }
             compile("client", files(sources.resolve("client"), ".java"), "old");
+        }
+
+        /** Puts the files of a release that are no sources into the folder of its classes. */
+        private void addResources(String release) throws IOException {
+            for (Path file : files(sources.resolve(release), "")) {
+                if (!file.toString().endsWith(".java")) {
+                    Path to = classes.resolve(sources.relativize(file));
+                    Files.createDirectories(to.getParent());
+                    Files.copy(file, to);
+                }
+            }
         }
 
         /** Compiles a part, with the client or the old release and the new one's module's file beside it. */
@@ -316,7 +329,7 @@ public final class ReplayClients {
             }
             Output report = run(words);
             same("the report is", wanted, report.text + report.error);
-            if (isModular()) {
+            if (isModular() && !rules(sources).isEmpty()) {
                 compareLinks(platform, program, witnesses.resolve("000001"));
                 replayWitnesses(witnesses);
             }

@@ -3,23 +3,21 @@
 #
 # What it keeps of a report has to be what the program says over the folders that the jars are made of, with the same status; what it prints
 # has to hold all lines of that, folded or not; what it refuses has to have the status 70 and its line, and its cache holds nothing but the
-# platform, and the compiled JarReport, afterwards. There is a line for each try. The status is 1 where one fails. Without unzip, or a JDK of
-# version 9 to 21 on the path, nothing is tried, which is said, and the status is 0; without dpkg-deb no packages are.
+# platform afterwards. There is a line for each try. The status is 1 where one fails. What can't be tried, without a JDK of version 11 or later on the
+# path, or without dpkg-deb, is said, and the status is 0, or 1 where JCOMPAT_ALL=1 asks for all.
 set -eu
 
 cd "$(dirname "$0")/.."
 
-skip() {
-    printf 'check-jars: skipped: %s\n' "$1"
-    exit 0
+# lacks WHAT WHY: says what isn't tried
+lacks() {
+    printf 'check-jars: not run: %s\n' "$1"
+    [ "${JCOMPAT_ALL:-}" != 1 ] || exit 1
 }
 
-command -v unzip >/dev/null || skip 'unzip is not on the path'
-command -v jar >/dev/null || skip 'jar of a JDK is not on the path'
-command -v jimage >/dev/null || skip 'jimage of a JDK is not on the path'
-# as "17.0.15"
-version=$(jimage --version)
-[ "${version%%[!0-9]*}" -le 21 ] || skip "the JDK is version $version, and jcompat reads class files up to Java 21"
+for tool in java javac jar; do
+    command -v "$tool" >/dev/null || { lacks "all, since $tool of a JDK is not on the path" && exit; }
+done
 
 top=$PWD
 made=$(mktemp -d)
@@ -105,13 +103,22 @@ done
 jar --create --file "$made/versions.jar" -C examples/old . --release 9 -C examples/old shapes/Square.class 2>"$made/err"
 jar --create --file "$made/texts.jar" -C examples/src .
 printf 'no jar\n' >"$made/text.jar"
-mkdir "$made/empty"
+mkdir "$made/empty" "$made/jars"
+cp "$made/old.jar" "$made/jars"
+jar --create --file "$made/lib.aar" -C "$made/jars" old.jar
+# the old release with a class that lacks its superclass
+cp -R examples/old "$made/lacking-classes"
+printf 'package p;\n\npublic class Lost extends Gone {\n}\n\nclass Gone {\n}\n' >"$made/Lost.java"
+javac -d "$made/lacking-classes" "$made/Lost.java"
+rm "$made/lacking-classes/p/Gone.class"
+jar --create --file "$made/lacking.jar" -C "$made/lacking-classes" .
 
 try 'two releases' 1 '1 H1 shapes/Square' old.jar new.jar --report report
 same_check report
 folded "$made/report"
 too 'in shapes: 1 H1, 1 H2, 1 H3, 1 H4, 1 H5, 1 H6, 1 H7, 4 H8, 1 H9, 1 Constant, 1 Capture, 1 Final' 'incompatible: 12 findings, 3 collisions, 1 notes$'
-too 'warning shapes/Canvas draw(Lshapes/Shape;)V lost$' 'warning shapes/Painter paint()V defaults$' '2 warnings, 1 dropped interfaces$'
+too '8 H8 shapes/Canvas draw(Lshapes/Shape;)V invokevirtual java/lang/Object NoSuchMethodError (and 1 warning)$' 'warning shapes/Painter paint()V defaults$' '2 warnings, 1 dropped interfaces$'
+says 'warning shapes/Canvas draw' && wrong 'a warning that a finding says'
 try 'options of jcompat' 1 '{' old.jar new.jar -- --json
 same_check out --json
 too 'check-jars: 2 warnings, 1 dropped interfaces$'
@@ -123,12 +130,17 @@ try 'a library that lacks' 0 "check-jars: 1 of 3 classes of the old release were
 too 'note unloadable old gallery/Dot' '       1  shapes/Circle$' 'check-jars: 1 of these 1 are in: --with new.jar$'
 try 'a library that lacks, where all has to be compared' 71 'note unloadable old gallery/Dot' client.jar client.jar --whole
 try 'the same as JSON' 71 '{"collisions":\[\]' client.jar client.jar --whole -- --json
+try 'findings beside what was not compared' 1 "check-jars: 1 of 11 classes of the old release weren't compared" lacking.jar new.jar --whole
 try 'a library that is there' 0 'compatible: 0 findings, 0 collisions, 0 notes' client.jar client.jar --with old.jar --whole
 try 'a release that is also a library' 1 'check-jars: 10 classes (as shapes/Brush) of the libraries left out: the old release has the same' old.jar new.jar --with old.jar
 try 'a multi-release jar' 0 'check-jars: versions.jar is a multi-release jar' old.jar versions.jar
 try 'no class file' 70 'check-jars: texts.jar has no class file' texts.jar new.jar
 try 'an empty folder' 70 'check-jars: empty has no class file' empty new.jar
 try 'no jar' 70 "check-jars: text.jar isn't a jar" old.jar text.jar
+try 'an archive of Android' 70 'check-jars: lib.aar has no class file, so there is nothing to compare; there is a jar in it, as old.jar' lib.aar new.jar
+try 'a folder of jars' 70 'check-jars: jars has no class file, so there is nothing to compare; there is a jar in it, as old.jar: compare jar by jar' jars new.jar
+try 'sources' 70 'check-jars: texts.jar has no class file, so there is nothing to compare; it has sources' texts.jar new.jar
+try 'one file twice' 0 'check-jars: old.jar and old.jar are the same file, so nothing can differ' old.jar old.jar
 try 'no file' 70 'check-jars: there is no file gone.jar' gone.jar new.jar
 try 'one jar' 70 'check-jars: two jars are needed' old.jar
 try 'three jars' 70 'check-jars: there is a third release, new.jar' old.jar old.jar new.jar
@@ -149,11 +161,28 @@ try 'a file that is left out' 0 "check-jars: --without 'tmpl/\*' leaves out 1 cl
 try 'all is left out' 70 'check-jars: --without leaves nothing' old.jar new.jar --without '*'
 jar --create --file "$made/below.jar" -C examples old
 try 'classes elsewhere' 3 'check-jars: old/shapes/[A-Z][a-z]*.class of the new release stands elsewhere than its name' old.jar below.jar
-# a class file for Java 22
-cp examples/old/shapes/Square.class "$made/newer/shapes"
-printf '\102' | dd of="$made/newer/shapes/Square.class" bs=1 seek=7 conv=notrunc 2>"$made/err"
-jar --create --file "$made/newer.jar" -C "$made/newer" .
-try 'a newer class file' 3 'check-jars: shapes/Square.class of the new release is for Java 22, and jcompat reads class files up to Java 21' old.jar newer.jar
+# class files for Java 22, 25 with previews, and 26: the minor version, then the major one
+cp -R examples/old/. "$made/newer"
+# versioned NAME BYTES: a jar whose class Square has this version
+versioned() {
+    printf "$2" | dd of="$made/newer/shapes/Square.class" bs=1 seek=4 conv=notrunc 2>"$made/err"
+    jar --create --file "$made/$1.jar" -C "$made/newer" .
+}
+versioned java22 '\000\000\000\102'
+versioned java25 '\000\000\000\105'
+versioned previews '\377\377\000\105'
+versioned java26 '\000\000\000\106'
+needs='needs Java 22, the old release ran on 17: clients on 17 to 21 get UnsupportedClassVersionError$'
+try 'a class file for Java 22' 0 "$needs" old.jar java22.jar
+too 'compatible: 0 findings, 0 collisions, 0 notes$' 'check-jars: java22.jar: 1 class file is for Java 22, read as for Java 21'
+try 'one for Java 25' 0 'check-jars: java25.jar: 1 class file is for Java 25, read as for Java 21' old.jar java25.jar
+try 'a Java that is too old' 73 'check-jars: the new release needs Java 22, and --java is 17$' old.jar java22.jar --java 17
+try 'a Java that is new enough' 0 "$needs" old.jar java22.jar --java 22
+try 'findings, and a Java that is too old' 1 'check-jars: the new release needs Java 17' old.jar new.jar --java 11
+try 'the Java that is needed, in a row' 0 "step 1, old.jar to java22.jar: $needs" --row old.jar java22.jar
+try 'previews' 3 'check-jars: shapes/Square.class of the new release uses previews of Java 25, which may change what class files mean' old.jar previews.jar
+try 'a class file for Java 26' 3 'check-jars: shapes/Square.class of the new release is for Java 26, and jcompat reads class files up to Java 25' old.jar java26.jar
+try 'no Java' 70 'check-jars: new, behind --java, is no version of Java' old.jar new.jar --java new
 
 # rows of releases
 try 'a row of releases' 1 'step 1, old.jar to old.jar: compatible: 0 findings, 0 collisions, 0 notes$' --row old.jar old.jar new.jar --report report
@@ -182,8 +211,10 @@ try 'a step that is large enough' 0 'incompatible: 12 findings, 3 collisions, 1 
 try 'a version in place of that in a name' 0 'incompatible: 12 findings' shapes-1.4.2.jar shapes-1.5.0.jar --to 2.0.0 -- --gate version
 try 'versions of names without one' 0 'incompatible: 12 findings' old.jar new.jar --from 0.3.0 --to 0.4.0 -- --gate version
 try 'a version that is none' 1 'check-jars: no versions are handed on, since the name of shapes-1.5.0.Final.jar has none as 1.2.3$' shapes-1.4.2.jar shapes-1.5.0.Final.jar -- --gate version
-try 'a version that is none, and no gate' 1 'check-jars: no versions are handed on' shapes-1.4.2.jar shapes-1.5.0.Final.jar
-try 'a version that is not later' 0 "check-jars: no versions are handed on, since 1.4.2 isn't later than 1.4.2" shapes-1.4.2.jar shapes-1.4.2.jar
+try 'a version that is none, and no gate' 1 '1 H1 shapes/Square' shapes-1.4.2.jar shapes-1.5.0.Final.jar
+! says 'check-jars: no versions' || wrong 'versions that nobody asked for'
+try 'a version that is not later' 1 "check-jars: no versions are handed on, since 1.4.2 isn't later than 1.4.2" shapes-1.4.2.jar shapes-1.4.2.jar --gate version
+try 'releases that are swapped' 1 "check-jars: 1.4.2 isn't later than 2.0.0: are the old and the new release swapped?" shapes-2.0.0.jar shapes-1.4.2.jar
 try 'a version that is given, and is none' 2 'jcompat: usage: version 1.5$' shapes-1.4.2.jar shapes-1.5.0.jar --to 1.5
 try 'a version that is given, and is not later' 2 'jcompat: usage: versions 1.4.2 1.4.0$' shapes-1.4.2.jar new.jar --to 1.4.0
 try 'one version alone' 70 'check-jars: one version is given, and the name of new.jar has none as 1.2.3: give it by --to' shapes-1.4.2.jar new.jar --from 1.4.0
@@ -198,7 +229,7 @@ name='which version number is due'
 mkdir "$made/target"
 cp "$made/new.jar" "$made/target/shapes.jar"
 (cd "$made" && PATH=$top/tools:$PATH sh ./due) >"$made/out" 2>"$made/err"
-if [ "$(cat "$made/out")" = '2.0.0 is due' ]; then printf 'check-jars: %s: ok\n' "$name"; else wrong 'it is not 2.0.0'; fi
+if [ "$(cat "$made/out")" = '2.0.0 is due, at least' ]; then printf 'check-jars: %s: ok\n' "$name"; else wrong 'it is not 2.0.0'; fi
 
 # warnings, dropped interfaces and modules: releases of the examples of rules
 for rule in method_made_abstract interface_left package_not_exported; do
@@ -238,6 +269,13 @@ try 'a package that is no longer exported' 1 "$unexported" package_not_exported-
 too 'check-jars: --modular: the old release and the new release compared as a module' "    class Ruler is in a package that its module doesn't export\$"
 try 'clients that have all on the class path' 0 'compatible: 0 findings, 0 collisions, 0 notes$' package_not_exported-old.jar package_not_exported-new.jar --no-modular
 ! says 'check-jars: --modular' || wrong 'the releases are compared as modules'
+try 'both verdicts' 1 'on the class path:$' package_not_exported-old.jar package_not_exported-new.jar --report report
+too 'compatible: 0 findings, 0 collisions, 0 notes$' 'as modules:$' 'incompatible: 1 findings, 0 collisions, 0 notes$'
+grep -q '^compatible' "$made/report" && grep -q '^incompatible' "$made/report.modules" || wrong 'the two reports are not kept'
+try 'both verdicts, as a document' 1 '{"format":"jcompat check-jars","version":1,"status":1,' package_not_exported-old.jar package_not_exported-new.jar --json
+too '.*"clients":"on the class path","verdict":"compatible".*"clients":"as modules","verdict":"incompatible"'
+try 'as modules alone' 1 "$unexported" package_not_exported-old.jar package_not_exported-new.jar --modular
+! says 'on the class path:' || wrong 'the class path is compared too'
 try 'a release that became a module' 1 "$unexported" plain.jar package_not_exported-new.jar
 too 'check-jars: --modular: the new release compared as a module'
 try 'a module of a multi-release jar' 1 "$unexported" plain later.jar
@@ -299,12 +337,11 @@ library two
 try 'lines of subclasses' 1 '2 H7 lib/Text size:I putfield java/lang/Object IllegalAccessError (and through 2 subclasses)$' one.jar two.jar --report report
 folded "$made/report"
 too '1 H4 lib/Text$Failure java/lang/RuntimeException assign - VerifyError (and 2 lines on the JDK.s classes)$' \
-    '[0-9]* H8 lib/Text max(Ljava/lang/Number;)Ljava/lang/String; invokevirtual java/lang/Object NoSuchMethodError (and through 2 subclasses)$' \
-    '[0-9]* H8 lib/Text$Other max(Ljava/lang/Number;)Ljava/lang/String; invokevirtual java/lang/Object NoSuchMethodError$' \
+    '[0-9]* H8 lib/Text max(Ljava/lang/Number;)Ljava/lang/String; invokevirtual java/lang/Object NoSuchMethodError (and through 2 subclasses, and 3 warnings)$' \
+    '[0-9]* H8 lib/Text$Other max(Ljava/lang/Number;)Ljava/lang/String; invokevirtual java/lang/Object NoSuchMethodError (and 1 warning)$' \
     '[0-9]* Capture lib/Text draw(Llib/Text$Line;)V invokevirtual - IllegalAccessError (and through 2 subclasses)$' \
     '3 collisions on members with a \$ in their name' '7 warnings'
-too 'warning lib/Text max(Ljava/lang/Number;)Ljava/lang/String; lost (and through 2 subclasses)$' \
-    'warning lib/Text put(Ljava/util/Date;)V lost (and through 2 subclasses)$' 'warning lib/Text$Other max(Ljava/lang/Number;)Ljava/lang/String; lost$'
+says 'warning lib/Text' && wrong 'a warning that a finding says'
 try 'lines in words' 1 '    method String Text.max(Number) is gone; there is String max(Object)$' one.jar two.jar --explain
 folded "$made/report"
 too '    text.max((Number) null);$' '    method void Text.put(java.util.Date) is gone; there is void put(java.sql.Date)$' '    field int Text.size is final now$' '    text.size = 0;$' '    class Text.Failure no longer has the superclass RuntimeException$'
@@ -321,9 +358,11 @@ try 'breaks that are meant' 1 'check-jars: line 4 of the accepted breaks accepts
 too 'check-jars: line 5 of the accepted breaks accepts nothing: H8 lib/Text put$' 'check-jars: accepted: 1 to 6$' 'incompatible: ' 'check-jars: 7 findings and 9 collisions are left'
 says '[0-9]* H7' && wrong 'an accepted line was printed'
 sed -n 's/^[0-9]* //p' "$made/report" >"$made/accepted"
-try 'all breaks' 0 'check-jars: 0 findings and 0 collisions are left, and 7 warnings.*; what is promised' one.jar two.jar --accepted accepted
+try 'all breaks' 0 'check-jars: 0 findings and 0 collisions are left, and 0 warnings.*; what is promised' one.jar two.jar --accepted accepted
 grep '^H' "$made/accepted" >"$made/findings"
 try 'breaks, and a gate' 1 'check-jars: 0 findings and 9 collisions are left' one.jar two.jar --accepted findings -- --gate=links,collisions
+try 'breaks, as a document' 0 '{"format":"jcompat check-jars","version":1,"status":0,' one.jar two.jar --accepted findings --json
+too '.*"kind":"finding","rule":"H7",.*"accepted":true'
 try 'breaks, as JSON' 0 '{"collisions":\[{' one.jar two.jar --accepted findings -- --json
 try 'no file of breaks' 70 'check-jars: gone, which has' one.jar two.jar --accepted gone
 
@@ -348,12 +387,12 @@ if command -v dpkg-deb >/dev/null; then
     dpkg-deb --root-owner-group --build "$made/package1.1" "$made/shapes-1.1.deb" >"$made/err"
     try 'a jar that is gone' 70 '    70 .*shapes: only in the old package$' shapes-1.0.deb shapes-1.1.deb
 else
-    printf 'check-jars: two packages: skipped: dpkg-deb is not on the path\n'
+    lacks 'two packages, since dpkg-deb is not on the path'
 fi
 
 for left in "$XDG_CACHE_HOME"/jcompat/*; do
     case $left in
-    */jdk-* | */report-*) ;;
+    */jdk-*) ;;
     *) printf 'check-jars: left behind: %s\n' "$left" && exit 1 ;;
     esac
 done

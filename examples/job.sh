@@ -3,7 +3,7 @@
 #
 # Of its steps those are run that have a script, but for the build, in whose place jars of the examples stand. What is got is an archive of the
 # program and its tools. A first pull request breaks clients, a second one accepts all of it, and a third accepts a part. The status is 1 where one
-# goes otherwise. Without what the steps call nothing is run, which is said, and the status is 0.
+# goes otherwise. Without what the steps call nothing is run, which is said, and the status is 0, or 1 where JCOMPAT_ALL=1 asks for all.
 set -eu
 
 cd "$(dirname "$0")/.."
@@ -14,11 +14,9 @@ fail() {
     exit 1
 }
 
-for tool in unzip jar jimage curl git bash; do
-    command -v "$tool" >/dev/null || { printf 'job: skipped: %s is not on the path\n' "$tool" && exit 0; }
+for tool in jar java javac curl git bash; do
+    command -v "$tool" >/dev/null || { printf 'job: not run: %s is not on the path\n' "$tool" && [ "${JCOMPAT_ALL:-}" != 1 ] && exit 0 || exit 1; }
 done
-version=$(jimage --version)
-[ "${version%%[!0-9]*}" -le 21 ] || { printf 'job: skipped: the JDK is version %s\n' "$version" && exit 0; }
 
 top=$PWD
 made=$(mktemp -d)
@@ -27,12 +25,12 @@ unset JAVA_HOME
 export XDG_CACHE_HOME="$made/cache"
 
 # the archive: the program is that of the clone, which is built, or of the archive that this one lies in
-mkdir -p "$made/jcompat-0/docs"
+mkdir -p "$made/jcompat-0"
 program=crates/jcompat/out/jcompat
 [ -x "$program" ] || program=jcompat
 cp "$program" "$made/jcompat-0/jcompat"
 cp -R tools "$made/jcompat-0"
-cp docs/FINDINGS.md "$made/jcompat-0/docs"
+if [ -d java ]; then tools/build-java "$made/jcompat-0/jcompat.jar"; else cp jcompat.jar "$made/jcompat-0"; fi
 tar -C "$made" -czf "$made/archive.tar.gz" jcompat-0
 
 # the steps, each in a file, in order
@@ -85,15 +83,15 @@ has() {
 
 project
 job 1
-has summary '### incompatible: 12 findings, 3 collisions, 1 notes' '| package | H1 |' '| `shapes` | 1 |' '- `2 warnings'
+has summary '### incompatible: 12 findings, 3 collisions, 1 notes' '| package | H1 |' '| `shapes` | 1 |' '- 2 warnings'
 has log '::error file=src/main/java/shapes/Canvas.java,title=H8 shapes/Canvas::method void Canvas.draw(Shape) is gone' 'and 5 more lines'
 [ "$(grep -c '^::' "$made/log")" -eq 10 ] || fail 'there are not ten annotations'
 grep -q '<li id=n15 ' "$made/project/compat.html" || fail 'the page lacks a line'
-cp "$made/project/report" "$made"
+cp "$made/project/report.json" "$made"
 printf 'job: a pull request that breaks clients: ok\n'
 
 project
-sed -n 's/^[0-9]\{1,\} \(H.*\)/\1  # 2.0/p' "$made/report" >"$made/project/compat.accepted"
+tr '{' '\n' <"$made/report.json" | sed -n 's/.*"kind":"finding".*"text":"\([^"]*\)".*/\1  # 2.0/p' >"$made/project/compat.accepted"
 job 0
 has summary '- accepted by this pull request: `H8 shapes/Canvas draw(Lshapes/Shape;)V invokevirtual java/lang/Object NoSuchMethodError  # 2.0`'
 printf 'job: one that accepts all of it: ok\n'

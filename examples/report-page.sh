@@ -4,7 +4,7 @@
 # Each line of the report has to stand on the page, which asks a network for nothing. In Chromium, without a screen, the page is filtered, links to
 # a line and to what a rule means are followed, and where PICTURE.png is named a picture is taken. What isn't a report, and a report with a rule
 # that the page doesn't know, have to end well. There is a line for each try. The status is 1 where one fails. Without a JDK nothing is tried, and
-# without Chromium no page is opened, which is said, and the status is 0.
+# without Chromium no page is opened, which is said, and the status is 0, or 1 where JCOMPAT_ALL=1 asks for all.
 set -eu
 
 case ${1:-} in
@@ -12,6 +12,12 @@ case ${1:-} in
 *) picture=$PWD/$1 ;;
 esac
 cd "$(dirname "$0")/.."
+
+lacks() {
+    say "not run: $1"
+    [ "${JCOMPAT_ALL:-}" != 1 ] || exit 1
+    exit 0
+}
 
 say() {
     printf 'report-page: %s\n' "$1"
@@ -23,12 +29,12 @@ fail() {
 }
 
 if ! command -v java >/dev/null || ! command -v javac >/dev/null; then
-    say 'skipped: java and javac are not on the path'
-    exit 0
+    lacks 'all, since java and javac are not on the path'
 fi
 
 made=$(mktemp -d)
 trap 'rm -rf "$made"' EXIT
+export XDG_CACHE_HOME="$made/cache"
 
 # the new release breaks clients, so the status of the check is 1
 check() {
@@ -61,7 +67,7 @@ say 'lines and JSON give one page: ok'
 if command -v jar >/dev/null; then
     for side in old new; do jar -cf "$made/$side.jar" -C "examples/$side" shapes; done
     tools/report-page "$made/report" "$made/old.jar" "$made/new.jar" --title shapes >"$made/jars.html"
-    cmp "$made/text.html" "$made/jars.html" || fail 'jars and folders give two pages'
+    sed "s|$made/old.jar|examples/old|g; s|$made/new.jar|examples/new|g" "$made/jars.html" | cmp "$made/text.html" - || fail 'jars and folders give two pages'
     say 'jars and folders give one page: ok'
 fi
 
@@ -69,6 +75,18 @@ sed '1s/ H1 / H99 /' "$made/report" >"$made/newer"
 page "$made/newer" >"$made/newer.html" || fail 'a rule of a newer release stops the page'
 grep -q '<b>H99</b> shapes.Square: a client ends with NoClassDefFoundError' "$made/newer.html" || fail 'a rule of a newer release has no sentence'
 say 'a rule that is not known has a sentence: ok'
+
+# warnings: the code links, and the page doesn't call it compatible without a word
+for side in old new; do
+    mkdir -p "$made/abstract/$side"
+    javac -d "$made/abstract/$side" $(find examples/rules/abstract_method_added/$side -name '*.java')
+done
+tools/check-jars "$made/abstract/old" "$made/abstract/new" --needed --json --page "$made/own.html" >"$made/document.json" || fail 'a warning alone fails the check'
+tools/report-page "$made/document.json" "$made/abstract/old" "$made/abstract/new" >"$made/warned.html"
+for one in own warned; do
+    grep -q '<h1 class=may>Links; 1 call may fail</h1>' "$made/$one.html" && grep -q '<b>warning</b> ' "$made/$one.html" || fail "$one.html hides a warning"
+done
+say 'warnings are on the page, and its headline says so: ok'
 
 # refused LINE WORD..: the page isn't made, with the status 70 and one line that ends so
 refused() {
@@ -91,8 +109,7 @@ refused 'no option --dark' --dark
 say 'what is no report is refused: ok'
 
 browser=$(command -v chromium || command -v chromium-browser || command -v google-chrome) || {
-    say 'there is no Chromium, so no page was opened'
-    exit 0
+    lacks 'the page in a browser, since there is no Chromium'
 }
 
 browse() {

@@ -59,7 +59,7 @@ module _ (files : List FileOf) (name : TreeName) (t : TreeOf) where
   files_to : (all : List FileRead) → AreFiles files t all → AreFiles files (named name t) all
   files_to all h = record { clean = clean_to h.clean; exact = exact_same (by_names path_read) (IsFileIn files t) (IsFileIn files (named name t)) all in_to in_from h.exact }
 
-  gives_to : (read : TreeRead) → Gives files t read → Gives files (named name t) read
+  pub gives_to : (read : TreeRead) → Gives files t read → Gives files (named name t) read
   gives_to (reads.Library records) h = (h.0, files_to (map ClassRead (without_code records)) h.1)
   gives_to (reads.Modular m) h = (h.0, record { all = h.1.all; are = files_to h.1.all h.1.are; records_are = h.1.records_are; exports_are = h.1.exports_are })
   gives_to (reads.Clients cs) h = (h.0, files_to (map ClassRead cs) h.1)

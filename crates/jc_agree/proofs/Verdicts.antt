@@ -1,7 +1,5 @@
 -- Verdicts that find nothing.
-use Rattle.std.proofs.Common.{◌≡◌, false, ℕ, List, [], ◌∷◌, refl, sym, ◌∙◌, Some, None, ◌==◌}
-use Rattle.std.specs.List.{All}
-use Rattle.std.proofs.lemmas.List.Elements.{recursion_from_All}
+use Rattle.std.proofs.Common.{◌≡◌, false, ℕ, refl, sym, ◌∙◌, Some, None, ◌==◌}
 use Rattle.jc_facts.specs.declared.key.Key.{Key}
 use Rattle.jc_facts.specs.declared.verdict.Verdict.{Verdict}
 use Rattle.jc_facts.specs.Names.{Bytes}
@@ -12,14 +10,9 @@ use Rattle.jc_facts.specs.world.World.{World}
 use Rattle.jc_promises.proofs.Pairs.{side_valid}
 use Rattle.jc_sound.proofs.Itself.{quiet_itself, no_constant, no_capture, no_final}
 use Rattle.jc_agree.specs.Compatible.{FindsNothing, SameRelease, EmptyRelease}
-use Rattle.jc_agree.proofs.Nothing.{where_none}
+use Rattle.jc_agree.proofs.Nothing.{where_none, none_listed}
 use Rattle.jc_agree.proofs.EmptyRelease.{nothing_found, nothing_added}
 use Rattle.jc_lemmas.proofs.Options.{cond_none}
-
--- a list of things none of which stands
-none_listed : {A : Type 0} (P : A → Type 0) → ((x : A) → P x → ⊥) → (xs : List A) → All P xs → xs ≡ []
-none_listed P never [] h = refl
-none_listed P never (x ∷ xs) h = absurd (never x (recursion_from_All P (x ∷ xs) h).0)
 
 module _ (O N : World) (v : Verdict) (is : IsVerdict O N v) where
   finds_nothing : ((s : Subject) → finding_at O N s ≡ None) → ((rule : ℕ) (x : Bytes) (k : Key) → collision_at O N rule x k ≡ None) → FindsNothing v

@@ -1,4 +1,6 @@
 pub mod Compatible
+pub mod NothingListed
 pub mod Replays
 pub mod SameSide
+pub mod Steps
 pub mod Numbers

@@ -4,9 +4,11 @@
 #![tactic(auto)]
 
 ghost use Rattle.jc_agree.specs.Compatible.{SameRelease, EmptyRelease, CompatibleStaysOk};
+ghost use Rattle.jc_agree.specs.NothingListed.{SameReleaseLists, EmptyReleaseLists};
 ghost use Rattle.jc_agree.specs.Numbers.{StatusesAre, RulesAre, LimitsAre, VersionsAre};
 ghost use Rattle.jc_agree.specs.Replays.{WitnessesReplay};
 ghost use Rattle.jc_agree.specs.SameSide.{SeeTheSameSide};
+ghost use Rattle.jc_agree.specs.Steps.{StepsAreChecks, StepsAreBorneOut, StepsAreShown};
 
 use jc_link::laws::names_are_allowed;
 
@@ -18,6 +20,16 @@ pub fn same_release_is_compatible()
 /// An old release without classes is compatible with every new one, and nothing collides.
 pub fn empty_release_is_compatible()
     ensures { EmptyRelease }
+{}
+
+/// Between a release and itself there is no warning, no interface is dropped, and there is no note on a signature.
+pub fn same_release_lists_nothing()
+    ensures { SameReleaseLists }
+{}
+
+/// Nor between an old release without classes and any new one.
+pub fn empty_release_lists_nothing()
+    ensures { EmptyReleaseLists }
 {}
 
 /// Where `check` has no finding, what `link` says of clients that it says to be Ok with the old release, it says of them with the new
@@ -38,6 +50,15 @@ pub fn witnesses_replay()
 /// above, which speak of two sides, say what `link` says with either release of a check.
 pub fn link_sees_what_check_sees()
     ensures { SeeTheSameSide }
+{}
+
+/// The verdict of `history` on a step is that of `check` on the two releases of the step, without `--modular`; and so what bears out the
+/// report of that check bears out each printed line of the step. Each line is shown by class files wherever clients can be planned and
+/// written.
+pub fn steps_are_checks()
+    ensures verdict { StepsAreChecks }
+    ensures borne_out { StepsAreBorneOut }
+    ensures shown { StepsAreShown }
 {}
 
 /// Each status, limit and rule number in digits, and the versions of class files by which reading goes. No contract says what these

@@ -2,3 +2,4 @@ pub mod Held
 pub mod DroppedLaws
 pub mod WorkedDropped
 pub mod WorkedKept
+mod Lost

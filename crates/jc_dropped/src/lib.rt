@@ -4,6 +4,7 @@
 #![tactic(auto)]
 
 ghost use Rattle.jc_dropped.specs.InterfacesKept.{NoneDroppedNoneLost, InterfacesStay, InstancesStay};
+ghost use Rattle.jc_dropped.specs.Lost.{EachDroppedIsLost, EachLossIsListed};
 
 /// Only causes are listed: where no class drops an interface, none loses one.
 pub fn none_dropped_none_lost()
@@ -20,4 +21,11 @@ pub fn interfaces_stay()
 /// keep each interface that clients can name.
 pub fn instances_stay()
     ensures { InstancesStay }
+{}
+
+/// A class drops an interface exactly where some client in scope loses one: each that is listed is lost by a client, and where the verdict
+/// has no finding each that a client loses is listed, of the class where it is lost.
+pub fn is_dropped_exactly()
+    ensures is_lost { EachDroppedIsLost }
+    ensures is_listed { EachLossIsListed }
 {}

@@ -17,6 +17,7 @@ use Rattle.jc_facts.specs.world.Inheritance.{offers}
 use Rattle.jc_facts.proofs.Same.{same_is, same_itself}
 use Rattle.jc_lemmas.proofs.Listed.{here, there, each_in, any_has, any_passes, list_all-each}
 use Rattle.jc_promises.specs.rule.Selection.{concrete_choices, are_one}
+use Rattle.jc_selection.specs.Shown.{choices_among}
 use Rattle.jc_selection.proofs.Parts.{is_offered, is_beside}
 
 -- a test of those that pass another
@@ -55,18 +56,17 @@ any_declared k p (c ∷ cs) =
     go None e = refl
     go (Some m) e = flags (private_flag m.flags) (static_flag m.flags) (record { owner = c.name; member = m })
 
-module _ (W : World) (x : Bytes) (k : Key) where
+module _ (W : World) (is : List ClassFacts) (k : Key) where
   abbrev all : List DeclaredMember
-  all = declared_by k (superinterfaces W x)
+  all = declared_by k is
 
   -- a method of a class of this name
   abbrev pub is_of : Bytes → DeclaredMember → Bool
   is_of z m = same m.owner z
 
   -- the interface of this name is the owner of one
-  pub chosen : (z : Bytes) → list_any (is_of z) (concrete_choices W x k) ≡ (not (list_any (is_beside W k z) (superinterfaces W x)) && list_any (is_offered not k z) (superinterfaces W x))
-  unfolding concrete_choices
-  chosen z =
+  pub chosen_among : (z : Bytes) → list_any (is_of z) (choices_among W k is) ≡ (not (list_any (is_beside W k z) is) && list_any (is_offered not k z) is)
+  chosen_among z =
       any_filter (is_of z) is_concrete (filter (is_maximal W all) all)
       ∙ any_filter (λ m. is_concrete m && is_of z m) (is_maximal W all) all
       ∙ same_tests all
@@ -134,11 +134,16 @@ module _ (W : World) (x : Bytes) (k : Key) where
               swap true false false = refl
               swap false b a = refl
 
-      beside : list_any (λ (o : DeclaredMember). not (same o.owner z) && is_superinterface W o.owner z) all ≡ list_any (is_beside W k z) (superinterfaces W x)
-      beside = any_declared k (λ (o : DeclaredMember). not (same o.owner z) && is_superinterface W o.owner z) (superinterfaces W x) ∙ any_same (of_own k (λ (o : DeclaredMember). not (same o.owner z) && is_superinterface W o.owner z)) (is_beside W k z) beside_one (superinterfaces W x)
+      beside : list_any (λ (o : DeclaredMember). not (same o.owner z) && is_superinterface W o.owner z) all ≡ list_any (is_beside W k z) is
+      beside = any_declared k (λ (o : DeclaredMember). not (same o.owner z) && is_superinterface W o.owner z) is ∙ any_same (of_own k (λ (o : DeclaredMember). not (same o.owner z) && is_superinterface W o.owner z)) (is_beside W k z) beside_one is
 
-      offered : list_any (λ (m : DeclaredMember). is_concrete m && is_of z m) all ≡ list_any (is_offered not k z) (superinterfaces W x)
-      offered = any_declared k (λ (m : DeclaredMember). is_concrete m && is_of z m) (superinterfaces W x) ∙ any_same (of_own k (λ (m : DeclaredMember). is_concrete m && is_of z m)) (is_offered not k z) offered_one (superinterfaces W x)
+      offered : list_any (λ (m : DeclaredMember). is_concrete m && is_of z m) all ≡ list_any (is_offered not k z) is
+      offered = any_declared k (λ (m : DeclaredMember). is_concrete m && is_of z m) is ∙ any_same (of_own k (λ (m : DeclaredMember). is_concrete m && is_of z m)) (is_offered not k z) offered_one is
+
+-- of the superinterfaces of a class
+pub chosen : (W : World) (x : Bytes) (k : Key) (z : Bytes) → list_any (λ (m : DeclaredMember). same m.owner z) (concrete_choices W x k) ≡ (not (list_any (is_beside W k z) (superinterfaces W x)) && list_any (is_offered not k z) (superinterfaces W x))
+unfolding concrete_choices
+chosen W x k z = chosen_among W (superinterfaces W x) k z
 
 -- methods of the same classes are one where the others are
 pub one_by_owners : (xs ys : List DeclaredMember) → ((z : Bytes) → list_any (λ (m : DeclaredMember). same m.owner z) xs ≡ list_any (λ (m : DeclaredMember). same m.owner z) ys) → are_one xs ≡ true → are_one ys ≡ true

@@ -5,4 +5,5 @@ pub mod ChainKinds
 pub mod Goods
 pub mod Selected
 pub mod SelectionLaw
+mod Shown
 pub mod WorkedWarnings

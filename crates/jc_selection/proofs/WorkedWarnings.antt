@@ -4,7 +4,6 @@ use Rattle.jc_facts.specs.declared.key.Key.{Key}
 use Rattle.jc_facts.specs.declared.class_facts.Member.{Member}
 use Rattle.jc_facts.specs.Names.{Bytes, object_name}
 use Rattle.jc_sound.proofs.Examples.{computes, member, init, key, a_class, extending, plain, public_interface, over}
-use Rattle.jc_facts.specs.declared.warning.ChainKind.TheVariants.{Abstract}
 use Rattle.jc_promises.specs.rule.Selection.{first_kind, chain_kind, concrete_choices, is_due, is_answered}
 use Rattle.jc_promises.specs.rule.Warnings.{interfaces_from, part, parts_agree, warning_at}
 use Rattle.jc_facts.specs.declared.warning.WarnKind.TheVariants as warn

@@ -1,1 +1,2 @@
 pub mod SelectionKept
+pub mod Shown

@@ -11,7 +11,7 @@ use Rattle.jc_witness.specs.Ground.{CanRefer}
 -- the acts of clients of the seat a: the seat loads, the acts are few, and each can be looked up
 pub record CanTake (W : World) (a : Bytes) (acts : List MemberAct) : Type 0 where
   pub seat : load_fault W a ≡ None
-  pub few : length acts ≤ 254
+  pub few : length acts ≤ 2
   pub refer : All (λ (s : MemberAct). CanRefer W s.act s.«class» s.key) acts
 
 -- with a seat, its clients can take those that expose the classes x and y

@@ -4,19 +4,21 @@ ghost use Rattle.std.specs.List.{All};
 ghost use Rattle.jc_facts.specs.declared.member_act.MemberAct.{MemberAct};
 ghost use Rattle.jc_facts.specs.world.Loading.{load_fault};
 ghost use Rattle.jc_promises.specs.plan.Planned.{acts_exposing, assigns_behind, assigns_from, receivers_exposed};
-ghost use Rattle.jc_promises.specs.plan.PlannedBodies.{assigns_bodies, body_of, init_body, exposed_steps};
-ghost use Rattle.jc_promises.specs.plan.PlannedNames.{constructor};
+ghost use Rattle.jc_promises.specs.plan.PlannedBodies.{assigns_bodies, behind_bodies};
 ghost use Rattle.jc_witness.specs.Ground.{CanRefer};
 ghost use Rattle.jc_witness.specs.Exposing.{CanExpose};
+ghost use Rattle.jc_witness.specs.steps.MoreInits.{items_of_act, items_of_acts};
 ghost use Rattle.jc_witness.specs.steps.PlanFiles.{package_of, files_of_plan};
 
 use crate::class_plans::assigning;
+use crate::initializers::with_calls;
 use crate::planned_files::{PlannedFiles, static_use};
 use crate::planner::Planner;
 use jc_base::name::Name;
-use jc_drafts::bodies::expose_and_return;
+use jc_drafts::bodies::{expose_and_return, takes_receiver};
 use jc_drafts::draft::{Draft, PUBLIC_CLASS, body};
 use jc_drafts::texts::from_behind;
+use jc_facts::act::Act;
 use jc_facts::member_act::MemberAct;
 use jc_facts::verdict::Spot;
 use jc_sides::found::push_some;
@@ -34,7 +36,7 @@ fn receivers(
 {
     let mut names = Vec::new(alloc);
     for exposed in acts {
-        if !exposed.act.is_on_static() {
+        if takes_receiver(exposed.act) {
             let receiver = planner.receiver(exposed.act, &exposed.class, &exposed.key, own);
             names.push(receiver.copy(alloc)?)?;
         }
@@ -59,6 +61,30 @@ fn exposing_both(
     Ok(acts)
 }
 
+// How many items the act has.
+fn item_count(act: Act) -> u32
+    ensures value { result ≡ items_of_act act }
+    ensures few { result ≤ 2 }
+{
+    match act {
+        Act::NewObject => 2,
+        _ => 1,
+    }
+}
+
+// How many items these acts have.
+fn count_items(acts: &[MemberAct]) -> u32
+    requires { length acts.now ≤ 2 }
+    ensures value { result ≡ items_of_acts acts.now }
+    ensures few { result ≤ 4 }
+{
+    let mut count = 0;
+    for exposed in acts {
+        count += item_count(exposed.act);
+    }
+    count
+}
+
 // A class extends the seat, takes these acts, and returns an object of one class as one of another.
 fn assigning_behind(
     alloc: Global,
@@ -68,9 +94,9 @@ fn assigning_behind(
     to: &Name,
     seat: &Name,
 ) -> Result<PlannedFiles, AllocError>
-    requires few { length acts.now ≤ 254 }
+    requires few { length acts.now ≤ 2 }
     requires refers { All (λ (s : MemberAct). CanRefer planner.now.old s.act s.«class» s.key) acts.now }
-    ensures { IfOk result (λ files. files ≡ files_of_plan (assigns_behind planner.now.old planner.now.new (package_of planner.now) acts.now from.now to.now seat.now) ((init_body seat.now (constructor planner.now.old seat.now) ∷ body_of (exposed_steps 0 acts.now) ∷ []) ∷ [])) }
+    ensures { IfOk result (λ files. files ≡ files_of_plan (assigns_behind planner.now.old planner.now.new (package_of planner.now) acts.now from.now to.now seat.now) (behind_bodies planner.now.old acts.now seat.now ∷ [])) }
 {
     let name = planner.own_name(alloc, b"Y", seat)?;
     let before = receivers(alloc, planner, acts, &name)?;
@@ -78,12 +104,13 @@ fn assigning_behind(
     let above = seat.copy(alloc)?;
     let constructor = planner.constructor(seat);
     let draft = Draft::class(alloc, name, PUBLIC_CLASS, above, constructor)?;
+    let draft = with_calls(alloc, draft, seat, acts)?;
     let steps = expose_and_return(alloc, acts)?;
     let draft = draft.method(static_use(alloc, descriptor)?, body(steps))?;
     PlannedFiles::one(
         alloc,
         draft.finish(alloc),
-        Spot::Item(acts.len() as u32 + 1),
+        Spot::Item(count_items(acts) + 1),
     )
 }
 

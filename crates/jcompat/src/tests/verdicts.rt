@@ -46,6 +46,27 @@ const CLASSES: &str = r"$ check --platform P --old O --new N
 > compatible: 0 findings, 0 collisions, 0 notes
 ";
 
+const INITIALIZERS: &str = r"$ check --platform P --old O --new N
+: P java/lang/Object init | O,N p/B flags=20 init
+: O p/C extends=p/B init | N p/C init
+#1 a class that lost a hidden superclass, which an initializer takes : O,N p/A method=1:<init>:(Lp/B;)V
+> 1 H4 p/C p/B assign java/lang/Object VerifyError | incompatible: 1 findings, 0 collisions, 0 notes
+* d/000001/w0/Y.class | item w0/Y assign p/C p/B - | VerifyError
+#1 the same, of an initializer that subclasses alone call : O,N p/A init method=4:<init>:(Lp/B;)V
+> 1 H4 p/C p/B assign p/A VerifyError | incompatible: 1 findings, 0 collisions, 0 notes
+* d/000001/w0/Y.class | item w0/Y assign p/C p/B - | VerifyError
+#1 the same, of a public initializer of an abstract class : O,N p/A flags=421 init method=1:<init>:(Lp/B;)V
+> 1 H4 p/C p/B assign p/A VerifyError | incompatible: 1 findings, 0 collisions, 0 notes
+* d/000001/w0/Y.class | item w0/Y assign p/C p/B - | VerifyError
+#0 the same, of an initializer for classes of its package : O,N p/A init method=0:<init>:(Lp/B;)V
+> compatible: 0 findings, 0 collisions, 0 notes
+#1 two hidden classes, which two initializers take that subclasses alone call : O,N p/A init method=4:<init>:(Lp/B;I)V method=4:<init>:(JLp/S;)V
+: O p/S flags=20 extends=p/B init | N p/S flags=20 init
+> 1 H4 p/C p/B assign p/A VerifyError | 2 H4 p/S p/B assign p/A VerifyError | incompatible: 2 findings, 0 collisions, 0 notes
+* d/000001/w0/Y.class | item w0/Y assign p/C p/B - | VerifyError
+* d/000002/w0/Y.class | item w0/Y assign p/S p/B - | VerifyError
+";
+
 const MEMBERS: &str = r"$ check --platform P --old O --new N
 : P java/lang/Object init
 #0 a method that moved to the superclass : O p/B init | O p/A extends=p/B init method=1:m:()V | N p/B init method=1:m:()V | N p/A extends=p/B init
@@ -115,7 +136,7 @@ const LIBRARY: &str = r"$ check --platform P --old O --new N
 
 #[test]
 fn checks_have_their_verdicts_and_witnesses(rt: HostRuntime) {
-    for table in [CLASSES, MEMBERS, FINALS, LIBRARY] {
+    for table in [CLASSES, INITIALIZERS, MEMBERS, FINALS, LIBRARY] {
         see_table(&rt, table);
     }
 }

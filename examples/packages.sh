@@ -1,0 +1,67 @@
+#!/bin/sh
+# Packs the program, and tries what tools/package makes: examples/packages.sh, from any folder.
+#
+# From the archive and from the Debian package, unpacked to a folder, check-jars compares the releases of the examples as it does here, report-page makes a page, and no
+# document names a file that isn't packed. Without dpkg-deb, a JDK or the built program nothing is packed, which is said, and the status is 0, or 1 where
+# JCOMPAT_ALL=1 asks for all.
+set -eu
+
+cd "$(dirname "$0")/.."
+
+lacks() {
+    printf 'packages: not run: %s\n' "$1"
+    [ "${JCOMPAT_ALL:-}" != 1 ] || exit 1
+}
+
+fail() {
+    printf 'packages: %s\n' "$1" >&2
+    exit 1
+}
+
+for tool in dpkg-deb gzip git jar javac java strip tar; do
+    command -v "$tool" >/dev/null || { lacks "$tool is not on the path" && exit; }
+done
+[ -x crates/jcompat/out/jcompat ] || { lacks 'the program is not built' && exit; }
+git rev-parse --verify -q HEAD >/dev/null || { lacks 'this is no clone' && exit; }
+
+top=$PWD
+made=$(mktemp -d)
+trap 'rm -rf "$made"' EXIT
+export XDG_CACHE_HOME="$made/cache"
+tools/package "$made/out" >"$made/said" || fail 'it is not packed'
+mkdir "$made/archive" "$made/root"
+tar -xzf "$made"/out/*.tar.gz -C "$made/archive" --strip-components 1
+dpkg-deb -x "$made"/out/*.deb "$made/root"
+
+# try NAME TOP TOOLS: what is unpacked to the folder works, with its tools in the other one
+try() {
+    # the program stands at the top of the archive, and beside the tools of the package
+    PATH=$3:$2:$BEFORE
+    status=0
+    check-jars examples/old examples/new --needed --json >"$made/document" || status=$?
+    [ "$status" -eq 1 ] || fail "$1: check-jars ends with the status $status"
+    report-page "$made/document" examples/old examples/new >"$made/page" || fail "$1: there is no page"
+    grep -q '<li id=n12 ' "$made/page" || fail "$1: the page lacks a line"
+    annotate <"$made/document" | grep -q '^### incompatible' || fail "$1: nothing is told to a review"
+    check-jars --version | grep -q '^jcompat 0\.' || fail "$1: there is no version"
+    printf 'packages: %s: ok\n' "$1"
+}
+BEFORE=$PATH
+unset GITHUB_STEP_SUMMARY
+try 'the archive' "$made/archive" "$made/archive/tools"
+try 'the Debian package' "$made/root/usr/share/doc/jcompat" "$made/root/usr/bin"
+PATH=$BEFORE
+
+! grep -rnE 'tools/(check-jars|report-page|annotate)|\./jcompat ' "$made/root/usr/share/doc/jcompat" --include='*.md' || fail 'a document of the package calls what is not on the path'
+[ -x "$made/root/usr/bin/jcompat-check-jars" ] || fail 'the earlier name is gone'
+printf 'packages: the documents of the package call what is on the path: ok\n'
+
+if [ -d "$made/out/maven" ]; then
+    for file in $(find "$made/out/maven" -name '*.jar' -o -name '*.pom'); do
+        [ "$(sha256sum <"$file" | cut -d ' ' -f 1)" = "$(cat "$file.sha256")" ] || fail "$file has another checksum"
+    done
+    [ "$(find "$made/out/maven" -name '*.jar' | wc -l)" -eq 2 ] || fail 'the repository has other jars than the two plugins'
+    printf 'packages: the repository: ok\n'
+else
+    lacks 'the repository, since the packages maven and gradle are not there'
+fi

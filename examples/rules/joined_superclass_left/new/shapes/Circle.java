@@ -1,0 +1,6 @@
+package shapes;
+
+public class Circle {
+    public Circle() {
+    }
+}

@@ -1,0 +1,6 @@
+package shapes;
+
+public class Circle extends Figure {
+    public Circle() {
+    }
+}

@@ -1,0 +1,6 @@
+package shapes;
+
+public class Frame {
+    public Frame(Figure figure) {
+    }
+}

@@ -1,0 +1,6 @@
+package shapes;
+
+public class Square extends Figure {
+    public Square() {
+    }
+}

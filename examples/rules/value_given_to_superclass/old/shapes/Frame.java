@@ -1,0 +1,6 @@
+package shapes;
+
+public class Frame {
+    protected Frame(Figure figure) {
+    }
+}

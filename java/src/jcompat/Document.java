@@ -1,0 +1,116 @@
+package jcompat;
+
+import java.util.ArrayList;
+import java.util.LinkedHashMap;
+import java.util.List;
+import java.util.Map;
+import java.util.TreeSet;
+import java.util.stream.Collectors;
+
+/** The machine form of what was found: one document, which docs/check-jars.schema.json describes. */
+final class Document {
+    static final String FORMAT = "jcompat check-jars";
+    /** Grows where a key is taken away or means something else; a new key leaves it. */
+    static final int VERSION = 1;
+
+    private final Outcome outcome;
+
+    Document(Outcome outcome) {
+        this.outcome = outcome;
+    }
+
+    Map<String, Object> map() {
+        Map<String, Object> map = new LinkedHashMap<>();
+        map.put("format", FORMAT);
+        map.put("version", VERSION);
+        map.put("status", outcome.status);
+        map.put("old", release(0, outcome.oldJavas));
+        map.put("new", release(1, outcome.newJavas));
+        map.put("with", outcome.request.with.stream().map(Object::toString).collect(Collectors.toList()));
+        map.put("jdk", outcome.jdk.version);
+        map.put("needs", outcome.needs);
+        map.put("comparisons", outcome.comparisons.stream().map(Document::comparison).collect(Collectors.toList()));
+        return map;
+    }
+
+    private Map<String, Object> release(int index, Javas javas) {
+        Map<String, Object> map = new LinkedHashMap<>();
+        map.put("name", outcome.request.releases.get(index).toString());
+        map.put("version", outcome.version(index));
+        map.put("classes", outcome.world.releases.get(index).paths.size());
+        map.put("java", javas.newest);
+        map.put("previews", new ArrayList<>(javas.previews));
+        map.put("module", outcome.world.releases.get(index).module != null);
+        return map;
+    }
+
+    private static Map<String, Object> comparison(Comparison comparison) {
+        Map<String, Object> map = new LinkedHashMap<>();
+        Report report = comparison.report;
+        map.put("clients", comparison.name());
+        map.put("verdict", report.verdict.replaceFirst(":.*", ""));
+        map.put("status", comparison.status);
+        map.put("whole", comparison.isWhole);
+        map.put("counts", counts(comparison));
+        Words words = new Words(comparison.oldRelease, comparison.newRelease);
+        map.put("lines", report.all().stream().map(line -> line(line, comparison, words)).collect(Collectors.toList()));
+        map.put("notes", report.notes.stream().map(Document::note).collect(Collectors.toList()));
+        map.put("missing", new ArrayList<>(report.notes.stream().filter(note -> !note.isConstant)
+                .flatMap(note -> (note.side.equals("old") ? comparison.oldRelease : comparison.newRelease).missingAbove(note.type).stream())
+                .collect(Collectors.toCollection(TreeSet::new))));
+        return map;
+    }
+
+    private static Map<String, Object> counts(Comparison comparison) {
+        Map<String, Object> map = new LinkedHashMap<>();
+        List<Line> lines = comparison.report.all();
+        map.put("findings", count(lines, "finding"));
+        map.put("collisions", count(lines, "collision"));
+        map.put("warnings", comparison.options.contains("--warn") ? count(lines, "warning") : null);
+        map.put("dropped", comparison.options.contains("--dropped") ? count(lines, "dropped") : null);
+        map.put("notes", comparison.report.notes.size());
+        map.put("accepted", comparison.accepted.size());
+        return map;
+    }
+
+    private static long count(List<Line> lines, String kind) {
+        return lines.stream().filter(line -> line.kind().equals(kind)).count();
+    }
+
+    private static Map<String, Object> line(Line line, Comparison comparison, Words words) {
+        Map<String, Object> map = new LinkedHashMap<>();
+        boolean isNumbered = !line.isFurther();
+        map.put("number", isNumbered ? line.number : null);
+        map.put("kind", line.kind());
+        map.put("rule", isNumbered ? line.rule : null);
+        map.put("class", line.type);
+        map.put("member", line.kind().equals("dropped") ? null : given(line.member));
+        map.put("interface", line.kind().equals("dropped") ? line.member : null);
+        map.put("act", given(line.act));
+        map.put("seat", given(line.seat));
+        map.put("error", given(line.error));
+        map.put("text", line.text);
+        List<String> said = words.safely(line);
+        map.put("words", said.get(0));
+        map.put("client", said.get(1));
+        Line top = comparison.folding.top(line);
+        map.put("into", top == line ? null : top.text);
+        map.put("made", line.isMade());
+        map.put("accepted", comparison.accepted.contains(line));
+        return map;
+    }
+
+    private static String given(String word) {
+        return word.equals("-") ? null : word;
+    }
+
+    private static Map<String, Object> note(Note note) {
+        Map<String, Object> map = new LinkedHashMap<>();
+        map.put("kind", note.isConstant ? "constant" : "unloadable");
+        map.put("side", note.side);
+        map.put("class", note.type);
+        map.put("member", note.isConstant ? note.detail : null);
+        map.put("error", note.isConstant ? null : note.detail);
+        return map;
+    }
+}
