@@ -1,5 +1,5 @@
 -- The program's own gates: each is the only one of its name. What is answered before they are made.
-use Rattle.std.proofs.Common.{◌≡◌, ◌==◌, inl, Bool, false, nat_le, ℕ, List, [], ◌∷◌, Option, Some, None, refl, sym, ap, ◌∙◌, arith}
+use Rattle.std.proofs.Common.{◌≡◌, inl, Bool, false, nat_le, ℕ, List, [], ◌∷◌, Option, Some, None, refl, sym, ap, ◌∙◌, arith}
 use Rattle.std.specs.Prelude.{codes}
 use Rattle.std.proofs.lemmas.List.{append-nil}
 use Rattle.jc_base.specs.Outside.{TakesFront}
