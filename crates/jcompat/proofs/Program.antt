@@ -1,6 +1,8 @@
 -- The program's own gates: each is the only one of its name. What is answered before they are made.
-use Rattle.std.proofs.Common.{◌≡◌, ◌==◌, inl, Bool, false, nat_le, ℕ, List, [], ◌∷◌, Option, Some, None, refl, sym, ap, tt, arith}
+use Rattle.std.proofs.Common.{◌≡◌, inl, Bool, false, nat_le, ℕ, List, [], ◌∷◌, Option, Some, None, refl, sym, ap, ◌∙◌, arith}
 use Rattle.std.specs.Prelude.{codes}
+use Rattle.std.proofs.lemmas.List.{append-nil}
+use Rattle.jc_base.specs.Outside.{TakesFront}
 use Rattle.jc_base.specs.States.{TreesState, SinkState, FolderState, Change}
 use Rattle.jc_facts.specs.Names.{Bytes}
 use Rattle.jc_gate.specs.Gates.{GateOf}
@@ -38,7 +40,7 @@ own_answers r gates answers = record {
 
 -- ---- there was no memory for the gates
 
-is_enough : Option ℕ → List ℕ → Bool
+abbrev is_enough : Option ℕ → List ℕ → Bool
 is_enough None rules = false
 is_enough (Some step) rules = nat_le (need_of rules) step
 
@@ -59,8 +61,13 @@ are_planned = (
   record { named = refl; uninformed = λ rules. refl; informed = λ step rules least most. refl },
 )
 
-not_five : {P : Type 0} → NO_MEMORY ≡ 5 → P
-not_five e = absurd (grind arith)
+not_five : {P : Type 0} (six : ℕ) → six ≡ 6 → six ≡ 5 → P
+not_five six is e = absurd (grind arith)
+
+-- no byte is a prefix of none
+front_of_nothing : (before after : Option Bytes) → after ≡ before → TakesFront before after []
+front_of_nothing None after same = same
+front_of_nothing (Some old) after same = (0, omega arith, same ∙ ap Some (sym (append-nil old)))
 
 pub idle_answers : (words : List Bytes) (trees : Change TreesState) (out err : Change SinkState) (folder : Change FolderState) → IsIdle trees out err folder
     → (gates : List GateOf) × OwnAnswers (ran gates words trees out err folder NO_MEMORY)
@@ -72,5 +79,5 @@ idle_answers words trees out err folder idle = (planned_gates, own_answers r are
     answers : Answers r
     answers =
         stop_answers r stops.Memory tt
-        (record { known = inl refl; whole = λ due apart. absurd (apart refl); cut = λ h. search; cause = not_five })
-        (λ five. not_five five) (ap (λ s. s.taken) idle.output) idle.folder_is (ap (λ t. t.content) idle.trees_are)
+        (record { known = inl refl; whole = λ due apart. absurd (apart refl); cut = λ h. front_of_nothing err.before.taken err.after.taken (ap (λ s. s.taken) idle.errors); cause = not_five NO_MEMORY refl })
+        (not_five NO_MEMORY refl) (ap (λ s. s.taken) idle.output) idle.folder_is (ap (λ t. t.content) idle.trees_are)

@@ -8,8 +8,8 @@ use Rattle.jcompat.proofs.Program.{own_answers}
 use Rattle.jcompat.proofs.run_with_gates.OwnLists.{own-1, at-1-1, at-1-2, at-1-3, at-1-4}
 use Rattle.jcompat.proofs.run_with_gates.Goals as goal
 
-pub returns : goal.returns
-returns g c = (
+pub returns-clause-answers : goal.returns-clause-answers
+returns-clause-answers g c = (
   _,
   own_answers _
       (rw (c.in_ok-push-4.ensures.items, c.in_ok-push-3.ensures.items, c.in_ok-push-2.ensures.items, c.in_ok-push.ensures.items, c.new-gates.ensures.items) (
