@@ -20,7 +20,7 @@ use Rattle.jc_facts.specs.client.Acts.{Form, FieldForm, form_of, is_act_on_stati
 use Rattle.jc_facts.specs.world.Assignment.{is_interface_of, is_assignable, passes_protected_check}
 use Rattle.jc_facts.specs.world.Loading.{load_fault, fault_where}
 use Rattle.jc_facts.specs.client.Outcome.{outcome, use_fault, kind_fault, assignment_ok, receiver_ok}
-use Rattle.jc_promises.specs.client.Reach.{receiver_in_reach, type_in_reach}
+use Rattle.jc_promises.specs.client.Reach.{receiver_in_reach, type_in_reach, is_in_reach}
 use Rattle.jc_facts.specs.client.Allowed.{is_allowed_name}
 use Rattle.jc_facts.specs.file.Valid.{IsValidClass}
 use Rattle.jc_promises.specs.rule.Bases.{is_key_of_method}
@@ -39,7 +39,7 @@ use Rattle.jc_sound.proofs.MethodLooked.{looked-declared, declared_one_access}
 use Rattle.jc_sound.proofs.Reach.{declared_library}
 use Rattle.jc_sound.proofs.Standing.{IsUsable, usable_accessible}
 use Rattle.jc_complete.proofs.PlanLoads.{lib_find, lib_fault}
-use Rattle.jc_complete.proofs.PlanSeats.{assign_is, in_reach_if, seat_chain, access_is}
+use Rattle.jc_complete.proofs.PlanSeats.{assign_is, in_reach_if, act_in_reach, seat_chain, access_is}
 use Rattle.jc_complete.proofs.PlanActs.{look_up-side, found-taken, steps, use-allowed, access_says}
 
 -- an act on a usable class and a key that is open to the seat a
@@ -223,8 +223,8 @@ module _ (O : World) (root : ClassFacts) (has_root : find_class O object_name �
   reach_of items z d f g l q = in_reach_if V y items z d f g l q
 
   -- its receiver is accessible
-  pub open_reach : (items : List Item) → receiver_in_reach V y items rec ≡ true
-  open_reach items = go (is_act_on_static what) (some_and (λ m. public_flag m.member.flags) (found_by O (form_of what) c k))
+  pub open_reach : (items : List Item) → is_in_reach V y items (act_item what c k rec) ≡ true
+  open_reach items = act_in_reach V y items what c k rec (go (is_act_on_static what) (some_and (λ m. public_flag m.member.flags) (found_by O (form_of what) c k)))
     where
       go : (s t : Bool) → receiver_in_reach V y items (cond s None (Some (cond t c y))) ≡ true
       go true t = refl

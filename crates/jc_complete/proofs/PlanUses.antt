@@ -1,6 +1,6 @@
 -- Rules 1, 3, 4 and, of new objects, 5: the client U shows them.
 use Rattle.std.proofs.Common.{◌≡◌, Bool, true, false, List, [], ◌∷◌, refl, sym, ◌∙◌, ap, subst, Some, None, not, ◌&&◌, ◌||◌}
-use Rattle.std.proofs.lemmas.Bool.{and_parts, and_from, both_ways, not-true, or_left, or_right}
+use Rattle.std.proofs.lemmas.Bool.{and_parts, both_ways, not-true, or_left, or_right}
 use Rattle.jc_facts.specs.declared.class_facts.ClassFacts.{ClassFacts}
 use Rattle.jc_facts.specs.declared.client.Item.{Item}
 use Rattle.jc_facts.specs.declared.client.Item.TheVariants as item
@@ -13,7 +13,7 @@ use Rattle.jc_facts.specs.world.Hierarchy.{in_chain, names_in}
 use Rattle.jc_facts.specs.world.Assignment.{is_assignable, is_class_assignable, is_interface_of}
 use Rattle.jc_facts.specs.world.Loading.{fault_where}
 use Rattle.jc_facts.specs.client.Outcome.{outcome}
-use Rattle.jc_promises.specs.client.Reach.{type_in_reach}
+use Rattle.jc_promises.specs.client.Reach.{type_in_reach, is_in_reach}
 use Rattle.jc_promises.specs.rule.Bases.{is_class_usable, is_kept}
 use Rattle.jc_promises.specs.rule.Findings.{gone_error}
 use Rattle.jc_promises.specs.plan.Planned.{Plan, names_class, assigns, takes, turns}
@@ -27,7 +27,7 @@ use Rattle.jc_worlds.proofs.Bare.{bare_chain, bare_loads}
 use Rattle.jc_complete.proofs.PlanGround.{Planned, Ready, letter}
 use Rattle.jc_complete.proofs.PlanValid.{IsUse, use_takes, use_turns}
 use Rattle.jc_complete.proofs.PlanLoads.{lib_find, lib_fault, lib_chain}
-use Rattle.jc_complete.proofs.PlanSeats.{side_name, side_plain, assign_is, in_reach_if}
+use Rattle.jc_complete.proofs.PlanSeats.{side_name, side_plain, assign_is, in_reach_if, assign_in_reach}
 use Rattle.jc_complete.proofs.PlanUser as user
 
 -- a plan shows the error and meets no collision
@@ -114,8 +114,8 @@ module _ (O N : World) (w : Bytes) (r : Ready O N w) where
       reach_of : (y : Bytes) → is_array_text y ≡ false → (u : IsUsable O y) → type_in_reach (with_clients O cs) (letter w 85) (user.U O N w r d fit items refl).items y ≡ true
       reach_of y p u = in_reach_if (with_clients O cs) (letter w 85) (user.U O N w r d fit items refl).items y u.class p (lib_find O cs fo y u.class u.is_there) (lib_fault O cs fo y u.class u.is_there ∙ u.loaded) (usable_accessible O y u (letter w 85))
 
-      reach : (type_in_reach (with_clients O cs) (letter w 85) (user.U O N w r d fit items refl).items s && type_in_reach (with_clients O cs) (letter w 85) (user.U O N w r d fit items refl).items t) ≡ true
-      reach = and_from (type_in_reach (with_clients O cs) (letter w 85) (user.U O N w r d fit items refl).items s) (type_in_reach (with_clients O cs) (letter w 85) (user.U O N w r d fit items refl).items t) (reach_of s ps us) (reach_of t pt ut)
+      reach : is_in_reach (with_clients O cs) (letter w 85) (user.U O N w r d fit items refl).items (item.Assign s t) ≡ true
+      reach = assign_in_reach (with_clients O cs) (letter w 85) (user.U O N w r d fit items refl).items s t (reach_of s ps us) (reach_of t pt ut)
 
       old : fault_where (not (is_assignable (with_clients O cs) s t)) VerifyError ≡ None
       old = rw (assign_is (with_clients O cs) s t ps pt ∙ assign_side O cs fo s t us ut ∙ was) refl

@@ -1,9 +1,13 @@
 -- Where no finding stands, what clients name and assign with the old release they can with the new one.
-use Rattle.std.proofs.Common.{◌≡◌, ℕ, zero, suc, Bool, true, false, List, [], ◌∷◌, refl, sym, ◌∙◌, ap, subst, Option, Some, None, not, ◌||◌, ◌⊎◌, inl, inr}
+use Rattle.std.proofs.Common.{◌≡◌, ℕ, zero, suc, Bool, true, false, List, [], ◌∷◌, refl, sym, ◌∙◌, ap, subst, Option, Some, None, not, ◌||◌, ◌&&◌, ◌⊎◌, inl, inr}
 use Rattle.std.specs.List.{list_any}
 use Rattle.std.proofs.lemmas.Bool.{and_parts, or_cases, or_left, or_right, not-false}
 use Rattle.jc_facts.specs.declared.class_facts.ClassFacts.{ClassFacts}
 use Rattle.jc_facts.specs.declared.client.Item.{Item}
+use Rattle.jc_facts.specs.declared.client.Item.TheVariants as item
+use Rattle.jc_facts.specs.declared.client.Place.{Place}
+use Rattle.jc_facts.specs.declared.act.Act.{Act}
+use Rattle.jc_facts.specs.declared.key.Key.{Key}
 use Rattle.jc_facts.specs.declared.link_error.LinkError.TheVariants.{IllegalAccessError}
 use Rattle.jc_facts.specs.Names.{Bytes, same}
 use Rattle.jc_facts.specs.world.Types.{Element, Primitive, Class, TypeText, type_read}
@@ -16,13 +20,13 @@ use Rattle.jc_facts.specs.world.Loading.{load_fault, loads, fault_where}
 use Rattle.jc_facts.specs.world.Assignment.{is_interface_of, is_class_assignable, is_element_assignable, assign_to, assign_types, is_assignable}
 use Rattle.jc_facts.specs.client.Outcome.{class_fault, element_fault, type_fault, class_step}
 use Rattle.jc_facts.specs.client.Allowed.{is_allowed_name}
-use Rattle.jc_promises.specs.client.Reach.{opens, class_in_reach, element_in_reach, text_in_reach, type_in_reach, receiver_in_reach}
+use Rattle.jc_promises.specs.client.Reach.{opens, class_in_reach, element_in_reach, text_in_reach, type_in_reach, receiver_in_reach, is_invoke_interface, is_interface_element, is_interface_type, is_in_reach}
 use Rattle.jc_promises.specs.rule.Findings.{takes_part}
 use Rattle.jc_promises.specs.rule.Bases.{is_class_usable, is_kept}
 use Rattle.jc_promises.specs.rule.Exposed.{is_exposed}
 use Rattle.jc_lemmas.proofs.Listed.{EachOf}
 use Rattle.jc_facts.proofs.World.{names, find-name, class_named-name, IsOf}
-use Rattle.jc_facts.proofs.Same.{same_is}
+use Rattle.jc_facts.proofs.Same.{same_is, same_itself}
 use Rattle.jc_worlds.proofs.Above.{fault_where-none, chain-each}
 use Rattle.jc_worlds.proofs.Loaded.{loads-found, loads-parts, loads-induction}
 use Rattle.jc_facts.proofs.Options.{or_else-none, or_else-both}
@@ -48,6 +52,23 @@ in_list W (c ∷ cs) y h e = go (same c.name y) refl e (in_list W cs y h.1)
 
 pub chain-names : (W : World) (x y : Bytes) → load_fault W x ≡ None → in_chain W x y ≡ true → (c : ClassFacts) × (find_class W y ≡ Some c)
 chain-names W x y h e = in_list W (chain W x) y (chain-each W (IsOf W) (λ z c f l. ap (find_class W) (find-name W z c f) ∙ f) x h) e
+
+-- a type is assignable to itself in every world, or in none
+assign_itself : (V W : World) (s : Bytes) → is_assignable V s s ≡ is_assignable W s s
+unfolding is_assignable assign_to
+assign_itself V W s = go (type_read s)
+  where
+    by_element : (p : Element) → is_element_assignable V p p ≡ is_element_assignable W p p
+    by_element (Primitive p) = refl
+    by_element (Class y) = rw (same_itself y) refl
+
+    at_dims : (d : ℕ) (p : Element) → assign_to V d p d p ≡ assign_to W d p d p
+    at_dims zero p = by_element p
+    at_dims (suc d) p = at_dims d p
+
+    go : (o : Option TypeText) → assign_types V o o ≡ assign_types W o o
+    go None = refl
+    go (Some a) = at_dims a.dims a.element
 
 module _ (O N : World) (cs : List ClassFacts) (fo : Fits O cs) (fn : Fits N cs) (quiet : Quiet O N)
     (allowed_o : EachOf (λ n. is_allowed_name O n ≡ true) (names cs)) (allowed_n : EachOf (λ n. is_allowed_name N n ≡ true) (names cs))
@@ -239,27 +260,63 @@ module _ (O N : World) (cs : List ClassFacts) (fo : Fits O cs) (fn : Fits N cs) 
     abbrev pub PartType : Bytes → Type 0
     PartType t = PartText (type_read t)
 
+    -- the types are equal, or that assigned to takes part, and is an interface or the other one takes part too
+    abbrev pub PartAssign : Bytes → Bytes → Type 0
+    PartAssign s t = (s ≡ t) ⊎ (PartType t × (PartType s ⊎ (is_interface_type VO t ≡ true)))
+
+    -- what is assignable to an interface, or to an array of one, still is
+    assign_interface-kept : (s t : Bytes) → TakesPart t → is_interface_of VO t ≡ true → is_class_assignable VN s t ≡ true
+    assign_interface-kept s t p i = or_left (same s t || is_interface_of VN t) (in_chain VN s t) (or_right (same s t) (is_interface_of VN t) (interface-kept t p i))
+
     -- an assignment between such types
-    pub is_assignable-kept : (s t : Bytes) → PartType s → PartType t → is_assignable VO s t ≡ true → is_assignable VN s t ≡ true
-    unfolding is_assignable assign_to
-    is_assignable-kept s t ps pt h = go (type_read s) (type_read t) ps pt h
+    pub is_assignable-kept : (s t : Bytes) → PartAssign s t → is_assignable VO s t ≡ true → is_assignable VN s t ≡ true
+    unfolding is_assignable assign_to is_interface_type
+    is_assignable-kept s t (inl e) h =
+        let was : is_assignable VO s s ≡ true = subst (λ z. is_assignable VO s z ≡ true) (sym e) h in
+        subst (λ z. is_assignable VN s z ≡ true) e (assign_itself VN VO s ∙ was)
+    is_assignable-kept s t (inr p) h = go (type_read s) (type_read t) p.0 p.1 h
       where
-        by_element : (p q : Element) → PartElement p → PartElement q → is_element_assignable VO p q ≡ true → is_element_assignable VN p q ≡ true
-        by_element (Primitive p) (Primitive q) u v h = h
-        by_element (Class p) (Class q) u v h = assign_class-kept p q u.0 u.1 v.1 h
-        by_element (Class p) (Primitive q) u v h = h
-        by_element (Primitive p) (Class q) u v h = h
+        by_element : (p q : Element) → PartElement q → PartElement p ⊎ (is_interface_element VO q ≡ true) → is_element_assignable VO p q ≡ true → is_element_assignable VN p q ≡ true
+        by_element (Primitive p) (Primitive q) v u h = h
+        by_element (Class p) (Class q) v (inl u) h = assign_class-kept p q u.0 u.1 v.1 h
+        by_element (Class p) (Class q) v (inr i) h = assign_interface-kept p q v.1 i
+        by_element (Class p) (Primitive q) v u h = h
+        by_element (Primitive p) (Class q) v u h = h
 
-        at_dims : (d f : ℕ) (p q : Element) → PartElement p → PartElement q → assign_to VO d p f q ≡ true → assign_to VN d p f q ≡ true
-        at_dims zero zero p q u v h = by_element p q u v h
-        at_dims zero (suc f) p q u v h = h
-        at_dims (suc d) zero p q u v h = h
-        at_dims (suc d) (suc f) p q u v h = at_dims d f p q u v h
+        at_dims : (d f : ℕ) (p q : Element) → PartElement q → PartElement p ⊎ (is_interface_element VO q ≡ true) → assign_to VO d p f q ≡ true → assign_to VN d p f q ≡ true
+        at_dims zero zero p q v u h = by_element p q v u h
+        at_dims zero (suc f) p q v u h = h
+        at_dims (suc d) zero p q v u h = h
+        at_dims (suc d) (suc f) p q v u h = at_dims d f p q v u h
 
-        go : (o m : Option TypeText) → PartText o → PartText m → assign_types VO o m ≡ true → assign_types VN o m ≡ true
-        go None m u v h = absurd (cc)
-        go (Some p) None u v h = absurd (cc)
-        go (Some p) (Some q) u v h = at_dims p.dims q.dims p.element q.element u v h
+        go : (o m : Option TypeText) → PartText m → PartText o ⊎ (some_and (λ a. is_interface_element VO a.element) m ≡ true) → assign_types VO o m ≡ true → assign_types VN o m ≡ true
+        go None m v u h = absurd (cc)
+        go (Some p) None v u h = absurd (cc)
+        go (Some p) (Some q) v u h = at_dims p.dims q.dims p.element q.element v u h
+
+    -- of an assignment, by tests that say that its types take part
+    pub part_assign : (s t : Bytes) (u v : Bool) → (u ≡ true → PartType s) → (v ≡ true → PartType t) → (same s t || (v && (u || is_interface_type VO t))) ≡ true → PartAssign s t
+    part_assign s t u v ps pt h = go (or_cases (same s t) (v && (u || is_interface_type VO t)) h)
+      where
+        source : (u ≡ true) ⊎ (is_interface_type VO t ≡ true) → PartType s ⊎ (is_interface_type VO t ≡ true)
+        source (inl q) = inl (ps q)
+        source (inr q) = inr q
+
+        go : (same s t ≡ true) ⊎ ((v && (u || is_interface_type VO t)) ≡ true) → PartAssign s t
+        go (inl q) = inl (same_is s t q)
+        go (inr q) = let p = and_parts v (u || is_interface_type VO t) q in inr (pt p.0, source (or_cases u (is_interface_type VO t) p.1))
+
+    -- the receiver takes part, or isn't looked at
+    abbrev pub PartReceiver : Act → Option Bytes → Type 0
+    PartReceiver act r = (s : Bytes) → r ≡ Some s → PartType s ⊎ (is_invoke_interface act ≡ true)
+
+    -- of a receiver, by a test that says that it takes part
+    pub part_receiver : (act : Act) (r : Option Bytes) (u : Bool) → (u ≡ true → (s : Bytes) → r ≡ Some s → PartType s) → (u || is_invoke_interface act) ≡ true → PartReceiver act r
+    part_receiver act r u p h s e = go (or_cases u (is_invoke_interface act) h)
+      where
+        go : (u ≡ true) ⊎ (is_invoke_interface act ≡ true) → PartType s ⊎ (is_invoke_interface act ≡ true)
+        go (inl q) = inl (p q s e)
+        go (inr q) = inr q
 
     -- ---- what a client has in reach
 
@@ -286,7 +343,7 @@ module _ (O N : World) (cs : List ClassFacts) (fo : Fits O cs) (fn : Fits N cs) 
           by l (inl q) = held_part y (held x c kx y l (λ d f. let w : is_class_accessible VO x d ≡ true = rw f at q in w))
           by l (inr q) = opened l q (class_named cs y) refl
 
-      pub reached_type : (t : Bytes) → type_in_reach VO x items t ≡ true → PartType t
+      reached_type : (t : Bytes) → type_in_reach VO x items t ≡ true → PartType t
       unfolding type_in_reach
       reached_type t r = go (type_read t) r
         where
@@ -298,6 +355,12 @@ module _ (O N : World) (cs : List ClassFacts) (fo : Fits O cs) (fn : Fits N cs) 
           go None h = tt
           go (Some t) h = by t.element h
 
-      pub reached_receiver : (r : Option Bytes) → receiver_in_reach VO x items r ≡ true → (t : Bytes) → r ≡ Some t → PartType t
-      reached_receiver None h t e = absurd (cc)
-      reached_receiver (Some z) h t e = let q : z ≡ t = cc in subst PartType q (reached_type z h)
+      reached_known : (r : Option Bytes) → receiver_in_reach VO x items r ≡ true → (t : Bytes) → r ≡ Some t → PartType t
+      reached_known None h t e = absurd (cc)
+      reached_known (Some z) h t e = let q : z ≡ t = cc in subst PartType q (reached_type z h)
+
+      pub reached_receiver : (act : Act) (t : Bytes) (k : Key) (r : Option Bytes) (place : Place) → is_in_reach VO x items (item.Access act t k r place) ≡ true → PartReceiver act r
+      reached_receiver act t k r place = part_receiver act r (receiver_in_reach VO x items r) (reached_known r)
+
+      pub reached_assign : (s t : Bytes) → is_in_reach VO x items (item.Assign s t) ≡ true → PartAssign s t
+      reached_assign s t = part_assign s t (type_in_reach VO x items s) (type_in_reach VO x items t) (reached_type s) (reached_type t)

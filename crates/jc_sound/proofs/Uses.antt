@@ -3,6 +3,7 @@ use Rattle.std.proofs.Common.{◌≡◌, Bool, true, false, cond, List, refl, sy
 use Rattle.std.proofs.lemmas.Bool.{and_parts, and_from, or_cases, or_left, or_right, not-false}
 use Rattle.jc_facts.specs.declared.class_facts.ClassFacts.{ClassFacts}
 use Rattle.jc_facts.specs.declared.act.Act.{Act}
+use Rattle.jc_facts.specs.declared.act.Act.TheVariants.{InvokeInterface}
 use Rattle.jc_facts.specs.declared.key.Key.{Key}
 use Rattle.jc_facts.specs.declared.client.Place.{Place}
 use Rattle.jc_facts.specs.declared.link_error.LinkError.{LinkError}
@@ -17,6 +18,7 @@ use Rattle.jc_facts.specs.world.Loading.{fault_where}
 use Rattle.jc_facts.specs.world.Assignment.{is_assignable, is_interface_of, passes_protected_check}
 use Rattle.jc_facts.specs.client.Acts.{Form, MethodForm, form_of, is_act_on_static, is_put_act, is_special}
 use Rattle.jc_facts.specs.client.Outcome.{puts_own, assignment_ok, receiver_ok, is_direct_super}
+use Rattle.jc_promises.specs.client.Reach.{is_invoke_interface}
 use Rattle.jc_promises.specs.rule.OpenActs.{act_fault}
 use Rattle.jc_facts.proofs.Same.{same_is}
 use Rattle.jc_worlds.proofs.Above.{fault_where-none}
@@ -34,6 +36,10 @@ and-map a b a' b' h f g = let p = and_parts a b h in and_from a' b' (f p.0) (g p
 pub or-map : (a b b' : Bool) → (a || b) ≡ true → (a ≡ false → b ≡ true → b' ≡ true) → (a || b') ≡ true
 or-map true b b' h f = refl
 or-map false b b' h f = f refl h
+
+not_special : (act : Act) → is_invoke_interface act ≡ true → is_special act ≡ true → ⊥
+not_special InvokeInterface i s = cc
+not_special _ i s = cc
 
 -- what a member that is not public asks of a class of another package
 pub record IsInherited (V : World) (x t : Bytes) (m : DeclaredMember) : Type 0 where
@@ -130,10 +136,10 @@ module _ (O N : World) (cs : List ClassFacts) (g : Ground O N cs) (x : Bytes) (a
   abbrev VN : World
   VN = with_clients N cs
 
-  -- what is assigned with the old release is with the new one
+  -- what is assigned with the old release is with the new one; the receiver of invokeinterface is asked only below the class that it names
   pub record Holds : Type 0 where
     pub receiver : (s : Bytes) → r ≡ Some s → is_assignable VO s t ≡ true → is_assignable VN s t ≡ true
-    pub self : (s : Bytes) → r ≡ Some s → is_assignable VO s x ≡ true → is_assignable VN s x ≡ true
+    pub self : (s : Bytes) → r ≡ Some s → (is_invoke_interface act ≡ true → in_chain VN x t ≡ true) → is_assignable VO s x ≡ true → is_assignable VN s x ≡ true
     pub direct : is_special act ≡ true → (form_of act ≡ MethodForm → is_interface_of VN t ≡ false) → is_direct_super VO x t ≡ true → is_direct_super VN x t ≡ true
 
   abbrev pub NotAnInterface : Type 0
@@ -152,7 +158,7 @@ module _ (O N : World) (cs : List ClassFacts) (g : Ground O N cs) (x : Bytes) (a
       by (Some z) e s d =
           and-map (is_assignable VO z t && passes_protected_check VO x t m z) (not (is_special act) || is_assignable VO z x) (is_assignable VN z t && passes_protected_check VN x t m' z) (not (is_special act) || is_assignable VN z x) d
           (λ u. and-map (is_assignable VO z t) (passes_protected_check VO x t m z) (is_assignable VN z t) (passes_protected_check VN x t m' z) u (h.receiver z e) (p z e s))
-          (λ u. or-map (not (is_special act)) (is_assignable VO z x) (is_assignable VN z x) u (λ _ w. h.self z e w))
+          (λ u. or-map (not (is_special act)) (is_assignable VO z x) (is_assignable VN z x) u (λ q w. h.self z e (λ i. absurd (not_special act i (not-false (is_special act) q))) w))
 
   -- a public member of the right kind
   pub public_use : Holds → NotAnInterface → (m m' : DeclaredMember) → IsUsed VO x act t r place m → public_flag m'.member.flags ≡ true → protected_flag m'.member.flags ≡ false
@@ -164,11 +170,12 @@ module _ (O N : World) (cs : List ClassFacts) (g : Ground O N cs) (x : Bytes) (a
     assignment = assignment-kept h m m' i (λ s e st _. passes_protected_check-public VN x t m' s np) u.assignment;
   }
 
-  pub protected-kept : (m : DeclaredMember) (s : Bytes) → in_chain VO x t ≡ in_chain VN x t → (is_assignable VO s x ≡ true → is_assignable VN s x ≡ true) → passes_protected_check VO x t m s ≡ true → passes_protected_check VN x t m s ≡ true
+  pub protected-kept : (m : DeclaredMember) (s : Bytes) → in_chain VO x t ≡ in_chain VN x t → (in_chain VN x t ≡ true → is_assignable VO s x ≡ true → is_assignable VN s x ≡ true) → passes_protected_check VO x t m s ≡ true → passes_protected_check VN x t m s ≡ true
   unfolding passes_protected_check
   protected-kept m s e f h =
       or-map (not (in_chain VN x t && protected_flag m.member.flags && not (in_same_package m.owner x))) (is_assignable VO s x) (is_assignable VN s x)
-      (subst (λ b. (not (b && protected_flag m.member.flags && not (in_same_package m.owner x)) || is_assignable VO s x) ≡ true) e h) (λ _ q. f q)
+      (subst (λ b. (not (b && protected_flag m.member.flags && not (in_same_package m.owner x)) || is_assignable VO s x) ≡ true) e h)
+      (λ n q. f (and_parts (in_chain VN x t) (protected_flag m.member.flags) (and_parts (in_chain VN x t && protected_flag m.member.flags) (not (in_same_package m.owner x)) (not-false (in_chain VN x t && protected_flag m.member.flags && not (in_same_package m.owner x)) n)).0).0 q)
 
   -- the same member
   pub same_use : Holds → NotAnInterface → (m : DeclaredMember) → in_chain VO x t ≡ in_chain VN x t → is_member_accessible VO x t m ≡ is_member_accessible VN x t m → IsUsed VO x act t r place m → IsUsed VN x act t r place m
@@ -176,7 +183,7 @@ module _ (O N : World) (cs : List ClassFacts) (g : Ground O N cs) (x : Bytes) (a
     access = sym f ∙ u.access;
     kind = u.kind;
     final = u.final;
-    assignment = assignment-kept h m m i (λ s q st w. protected-kept m s e (h.self s q) w) u.assignment;
+    assignment = assignment-kept h m m i (λ s q st w. protected-kept m s e (λ i. h.self s q (λ _. i)) w) u.assignment;
   }
 
   -- an inherited one
@@ -305,7 +312,7 @@ module _ (O N : World) (cs : List ClassFacts) (g : Ground O N cs) (x : Bytes) (a
 
             by : (b : Bool) → in_chain VN x t ≡ b → (not (b && protected_flag m'.member.flags && not (in_same_package m'.owner x)) || is_assignable VN z x) ≡ true
             by false q = refl
-            by true q = or_right (not (true && protected_flag m'.member.flags && not (in_same_package m'.owner x))) (is_assignable VN z x) (h.self z e (was q))
+            by true q = or_right (not (true && protected_flag m'.member.flags && not (in_same_package m'.owner x))) (is_assignable VN z x) (h.self z e (λ _. q) (was q))
 
         through : (static_flag m'.member.flags || in_chain N a s) ≡ true → (static_flag m'.member.flags || in_chain VN x t || in_chain VN t x) ≡ true
         through w = by (static_flag m'.member.flags) refl w

@@ -1,6 +1,6 @@
 -- Sight, which is wider than reach, and what is kept of it.
---     is_in_sight O cs x i      over the old side O with the clients cs, the item's types name classes that load, and that x may name, or that are
---                               clients or exposed to the seat of x
+--     is_in_sight O cs x i      over the old side O with the clients cs, the classes that the item asks of its types load, and x may name each, or it
+--                               is a client or exposed to the seat of x
 use Rattle.std.specs.Prelude.{Bool, true, List, Option, None, Some, ◌||◌, ◌&&◌, ◌≡◌, IsTrue}
 use Rattle.std.specs.List.{Contains}
 use Rattle.jc_facts.specs.declared.class_facts.ClassFacts.{ClassFacts}
@@ -8,7 +8,7 @@ use Rattle.jc_facts.specs.declared.client.ClientClass.{ClientClass}
 use Rattle.jc_facts.specs.declared.client.Item.{Item}
 use Rattle.jc_facts.specs.declared.client.Item.TheVariants as item
 use Rattle.jc_facts.specs.declared.verdict.Collision.{Collision}
-use Rattle.jc_facts.specs.Names.{Bytes}
+use Rattle.jc_facts.specs.Names.{Bytes, same}
 use Rattle.jc_facts.specs.Options.{some_and}
 use Rattle.jc_facts.specs.world.Types.{Element, Primitive, Class, TypeText, type_read}
 use Rattle.jc_facts.specs.world.World.{World, find_class, with_clients, is_client}
@@ -18,7 +18,7 @@ use Rattle.jc_facts.specs.world.Loading.{load_fault, loads}
 use Rattle.jc_facts.specs.client.Outcome.{Links}
 use Rattle.jc_promises.specs.client.Scope.{IsInScope}
 use Rattle.jc_facts.specs.client.Valid.{facts_of}
-use Rattle.jc_promises.specs.client.Reach.{is_in_reach}
+use Rattle.jc_promises.specs.client.Reach.{is_invoke_interface, is_interface_type, is_in_reach}
 use Rattle.jc_facts.specs.client.Seats.{seat}
 use Rattle.jc_promises.specs.client.Meets.{Meets}
 use Rattle.jc_promises.specs.rule.Findings.{Subject, finding_at}
@@ -49,10 +49,10 @@ abbrev pub receiver_in_sight : World → List ClassFacts → Bytes → Option By
 receiver_in_sight O cs x None = true
 receiver_in_sight O cs x (Some s) = type_in_sight O cs x s
 
--- each class that the receiver and the types of an assignment name is in sight of x, whatever items x has
+-- each class that the receiver and the types of an assignment name is in sight of x, whatever items x has; nothing is asked where reach asks nothing
 abbrev pub is_in_sight : World → List ClassFacts → Bytes → Item → Bool
-is_in_sight O cs x (item.Access act t k r place) = receiver_in_sight O cs x r
-is_in_sight O cs x (item.Assign s t) = type_in_sight O cs x s && type_in_sight O cs x t
+is_in_sight O cs x (item.Access act t k r place) = receiver_in_sight O cs x r || is_invoke_interface act
+is_in_sight O cs x (item.Assign s t) = same s t || (type_in_sight O cs x t && (type_in_sight O cs x s || is_interface_type (with_clients O cs) t))
 is_in_sight O cs x i = true
 
 -- What is in reach of a client in scope that loads is in sight of it.

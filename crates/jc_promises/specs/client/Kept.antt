@@ -21,8 +21,8 @@ use Rattle.jc_facts.specs.world.Inheritance.{is_inheritable}
 abbrev pub DeclareNone : List ClientClass → Type 0
 DeclareNone cs = All (λ c. All (λ (m : Member). IsTrue (is_init_name m.name || is_clinit_name m.name || not (is_inheritable m))) c.facts.methods) cs
 
--- each client that loads with the old side loads with the new, and each class that it names and each assignment between classes that it may
--- name that is Ok with the old side is Ok with the new
+-- each client that loads with the old side loads with the new, and each class that it names and each assignment that is in reach by what it may
+-- name and is Ok with the old side is Ok with the new
 pub record KeepsTypes (O N : World) (cs : List ClientClass) : Type 0 where
   pub loading : (c : ClientClass) → Contains cs c → load_fault (with_clients O (facts_of cs)) c.facts.name ≡ None
       → load_fault (with_clients N (facts_of cs)) c.facts.name ≡ None
