@@ -1,3 +1,4 @@
 pub mod Held
 pub mod DroppedLaws
 pub mod WorkedDropped
+pub mod WorkedKept

@@ -1,5 +1,5 @@
 -- The answers of a run that puts a report, and of one that puts why there is none.
-use Rattle.std.proofs.Common.{◌≡◌, ◌≢◌, ◌≤◌, ◌⊎◌, ◌==◌, inl, inr, Bool, true, false, not, nat_le, ℕ, List, [], ◌∷◌, ◌++◌, Option, Some, None, refl, sym, ap, subst, ◌∙◌, arith}
+use Rattle.std.proofs.Common.{◌≡◌, ◌≢◌, ◌≤◌, ◌⊎◌, ◌==◌, inl, inr, Bool, true, false, not, nat_le, ℕ, List, [], ◌∷◌, Option, Some, None, refl, sym, ap, subst, ◌∙◌, arith}
 use Rattle.std.specs.Prelude.{Result, Ok, IfOk, IfSome, IsTrue, ◌↔◌, codes}
 use Rattle.std.proofs.lemmas.Bool.{both_ways, le-leb, leb-true}
 use Rattle.jc_base.specs.Outside.{FileOf}
@@ -21,7 +21,7 @@ use Rattle.jc_releases.specs.declared.stop.Stop.TheVariants as stops
 use Rattle.jc_commands.specs.Causes.{HasCause, HasFailed}
 use Rattle.jc_commands.specs.Outputs.{IsQuiet, IsUntouched, PutsAll, PutsFront}
 use Rattle.jcompat.specs.Answers.{Ran, Answers, Due, due_bytes, Puts, IsStopped, CutsWitnesses, CutsReport, CutsRefusal, Planned, IsPut, Leaves, OfFiles}
-use Rattle.jc_commands.specs.Check.{CheckReport, IsAnswered, IsCompatible, IsIncompatible, IsBorneOut, IsNoted, KeepsInterfaces, HoldsClients, verdict_bytes, check_bytes, old_side, new_side, puts_below}
+use Rattle.jc_commands.specs.Check.{CheckReport, IsAnswered, IsCompatible, IsIncompatible, IsBorneOut, IsNoted, KeepsInterfaces, HoldsClients, check_bytes, old_side, new_side, puts_below}
 use Rattle.jc_commands.proofs.SomeSignatures.{noted_list}
 use Rattle.jc_trees.specs.ClassFiles.{Told}
 use Rattle.jc_releases.specs.Command.{step_of_check, witness_dir}
@@ -33,10 +33,7 @@ use Rattle.jc_facts.specs.Verdicts.{is_incompatible}
 use Rattle.jc_facts.specs.world.World.{World}
 use Rattle.jc_gate.specs.Gates.{GateOf, all_pass}
 use Rattle.jc_gate.specs.Meanings.{HasLinksGate}
-use Rattle.jc_report.specs.DroppedForms.{dropped_bytes}
 use Rattle.jc_report.specs.HistoryText.{history_text_of}
-use Rattle.jc_report.specs.SigForms.{sig_bytes}
-use Rattle.jc_report.specs.WarnForms.{warn_bytes}
 use Rattle.jc_version.specs.Needs.{need_of, HasVersionGate}
 use Rattle.jc_version.proofs.Gate.{version_alone}
 use Rattle.jc_commands.proofs.RulesTell.{rules_tell, links_alone, none_found, found_none}
@@ -241,37 +238,37 @@ module _ (r : Ran) (report : Report) (is : Reports r.gates r.words r.trees.befor
       λ files told. borne_out files (up.checked files told),
     )
 
-    answered : IsWhole → (report : CheckReport) × Puts r (check_bytes check.json report) × (report.verdict.findings ≡ [] → report.warnings ≡ Some [] → OfFiles r (λ files. IsAnswered files check report))
+    answered : IsWhole → (report : CheckReport) × Puts r (check_bytes check.json report)
+        × OfFiles r (λ files. IsBorneOut files check report × (report.verdict.findings ≡ [] → report.warnings ≡ Some [] → IsAnswered files check report))
     answered p = (
       up.of,
       p.puts (check_bytes check.json up.of) up.text,
-      λ none nothing files told.
+      λ files told.
           let c = up.checked files told in
-          let still : AnswersStill (old_side c.records) (new_side c.records) [] = subst (λ (o : Option (List Warning)). IfSome o (AnswersStill (old_side c.records) (new_side c.records))) nothing c.answered in
-          record { records = c.records; parts = c.parts; none = none; nothing = nothing; answered = still up.of.verdict c.parts.verdict.exact none refl },
+          let still : up.of.warnings ≡ Some [] → AnswersStill (old_side c.records) (new_side c.records) [] = λ nothing. subst (λ (o : Option (List Warning)). IfSome o (AnswersStill (old_side c.records) (new_side c.records))) nothing c.answered in
+          (borne_out files c, λ none nothing. record { records = c.records; parts = c.parts; none = none; nothing = nothing; answered = still nothing up.of.verdict c.parts.verdict.exact none refl }),
     )
 
     noted : IsTrue check.signatures → IsWhole
-        → OfFiles r (λ files. (report : CheckReport) × (notes : List SigNote)
-        × Puts r (verdict_bytes check.json report.verdict ++ (warn_bytes check.json report.warnings ++ (sig_bytes check.json (Some notes) ++ dropped_bytes check.json report.dropped))) × IsNoted files check report notes)
-    noted wanted p files told =
-        let c = up.checked files told in
-        let ns = noted_list check.signatures (old_side c.records) (new_side c.records) up.of.signatures wanted c.parts.signatures in
-        let parts : List SigNote → List ℕ = λ notes. verdict_bytes check.json up.of.verdict ++ (warn_bytes check.json up.of.warnings ++ (sig_bytes check.json (Some notes) ++ dropped_bytes check.json up.of.dropped)) in (
-          up.of,
-          ns.0,
-          p.puts (parts ns.0) (up.text ∙ ap (λ (o : Option (List SigNote)). verdict_bytes check.json up.of.verdict ++ (warn_bytes check.json up.of.warnings ++ (sig_bytes check.json o ++ dropped_bytes check.json up.of.dropped))) ns.1),
-          record { records = c.records; parts = c.parts; signatures = ns.1; exact = ns.2 },
-        )
+        → (report : CheckReport) × Puts r (check_bytes check.json report) × OfFiles r (λ files. (notes : List SigNote) × IsNoted files check report notes)
+    noted wanted p = (
+      up.of,
+      p.puts (check_bytes check.json up.of) up.text,
+      λ files told.
+          let c = up.checked files told in
+          let ns = noted_list check.signatures (old_side c.records) (new_side c.records) up.of.signatures wanted c.parts.signatures in
+          (ns.0, record { records = c.records; parts = c.parts; signatures = ns.1; exact = ns.2 }),
+    )
 
-    interfaces : IsWhole → (report : CheckReport) × Puts r (check_bytes check.json report) × (report.verdict.findings ≡ [] → report.dropped ≡ Some [] → OfFiles r (λ files. KeepsInterfaces files check report))
+    interfaces : IsWhole → (report : CheckReport) × Puts r (check_bytes check.json report)
+        × OfFiles r (λ files. IsBorneOut files check report × (report.verdict.findings ≡ [] → report.dropped ≡ Some [] → KeepsInterfaces files check report))
     interfaces p = (
       up.of,
       p.puts (check_bytes check.json up.of) up.text,
-      λ none nothing files told.
+      λ files told.
           let c = up.checked files told in
-          let still : InterfacesStill (old_side c.records) (new_side c.records) [] = subst (λ (o : Option (List Dropped)). IfSome o (InterfacesStill (old_side c.records) (new_side c.records))) nothing c.interfaces in
-          record { records = c.records; parts = c.parts; none = none; nothing = nothing; kept = still up.of.verdict c.parts.verdict.exact none refl },
+          let still : up.of.dropped ≡ Some [] → InterfacesStill (old_side c.records) (new_side c.records) [] = λ nothing. subst (λ (o : Option (List Dropped)). IfSome o (InterfacesStill (old_side c.records) (new_side c.records))) nothing c.interfaces in
+          (borne_out files c, λ none nothing. record { records = c.records; parts = c.parts; none = none; nothing = nothing; kept = still nothing up.of.verdict c.parts.verdict.exact none refl }),
     )
 
     unbroken : check.gates ≡ codes "links" ∷ [] → HasLinksGate r.gates → (r.status ≡ PASSED) ⊎ (r.status ≡ NOT_PASSED) → IsWhole

@@ -1,10 +1,16 @@
--- The program's own gates: each is the only one of its name.
-use Rattle.std.proofs.Common.{List, [], ◌∷◌, refl}
+-- The program's own gates: each is the only one of its name. What is answered before they are made.
+use Rattle.std.proofs.Common.{◌≡◌, ◌==◌, inl, Bool, false, nat_le, ℕ, List, [], ◌∷◌, Option, Some, None, refl, sym, ap, tt, arith}
+use Rattle.std.specs.Prelude.{codes}
+use Rattle.jc_base.specs.States.{TreesState, SinkState, FolderState, Change}
+use Rattle.jc_facts.specs.Names.{Bytes}
 use Rattle.jc_gate.specs.Gates.{GateOf}
-use Rattle.jc_gate.specs.Meanings.{HasLinksGate}
-use Rattle.jc_version.specs.Needs.{HasVersionGate}
-use Rattle.jcompat.specs.Answers.{Ran, Answers}
-use Rattle.jcompat.specs.Program.{AreProgramGates, OwnAnswers}
+use Rattle.jc_gate.specs.Meanings.{HasLinksGate, has_no_finding, has_no_collision, has_at_most}
+use Rattle.jc_releases.specs.declared.status.TheConstants.{NO_MEMORY}
+use Rattle.jc_releases.specs.declared.stop.Stop.TheVariants as stops
+use Rattle.jc_version.specs.Needs.{HasVersionGate, need_of}
+use Rattle.jcompat.proofs.Answered.{stop_answers}
+use Rattle.jcompat.specs.Answers.{Ran, Answers, ran}
+use Rattle.jcompat.specs.Program.{AreProgramGates, OwnAnswers, IsIdle}
 
 links_of : (gates : List GateOf) → AreProgramGates gates → HasLinksGate gates
 links_of (links ∷ collisions ∷ few ∷ version ∷ []) h = (links, rw (h.0.named, h.1.named, h.2.named, h.3.named) refl, h.0)
@@ -29,3 +35,42 @@ own_answers r gates answers = record {
   unbroken = λ known check asked_for named. answers.unbroken known check asked_for named (links_of r.gates gates);
   versioned = λ known check asked_for named step said. answers.versioned known check asked_for named step said (version_of r.gates gates);
 }
+
+-- ---- there was no memory for the gates
+
+is_enough : Option ℕ → List ℕ → Bool
+is_enough None rules = false
+is_enough (Some step) rules = nat_le (need_of rules) step
+
+-- gates that answer as the program's do
+abbrev planned_gates : List GateOf
+planned_gates =
+    record { label = codes "links"; passes = λ step rules. has_no_finding rules }
+    ∷ record { label = codes "collisions"; passes = λ step rules. has_no_collision rules }
+    ∷ record { label = codes "few"; passes = λ step rules. has_at_most 10 rules }
+    ∷ record { label = codes "version"; passes = is_enough }
+    ∷ []
+
+are_planned : AreProgramGates planned_gates
+are_planned = (
+  record { named = refl; passes = λ step rules. refl },
+  record { named = refl; passes = λ step rules. refl },
+  record { named = refl; passes = λ step rules. refl },
+  record { named = refl; uninformed = λ rules. refl; informed = λ step rules least most. refl },
+)
+
+not_five : {P : Type 0} → NO_MEMORY ≡ 5 → P
+not_five e = absurd (grind arith)
+
+pub idle_answers : (words : List Bytes) (trees : Change TreesState) (out err : Change SinkState) (folder : Change FolderState) → IsIdle trees out err folder
+    → (gates : List GateOf) × OwnAnswers (ran gates words trees out err folder NO_MEMORY)
+idle_answers words trees out err folder idle = (planned_gates, own_answers r are_planned answers)
+  where
+    r : Ran
+    r = ran planned_gates words trees out err folder NO_MEMORY
+
+    answers : Answers r
+    answers =
+        stop_answers r stops.Memory tt
+        (record { known = inl refl; whole = λ due apart. absurd (apart refl); cut = λ h. search; cause = not_five })
+        (λ five. not_five five) (ap (λ s. s.taken) idle.output) idle.folder_is (ap (λ t. t.content) idle.trees_are)

@@ -1,5 +1,5 @@
 -- The answers of the top call.
-use Rattle.std.specs.Prelude.{◌≡◌, ◌≢◌, ◌≤◌, ◌⊎◌, ◌↔◌, ℕ, List, [], ◌∷◌, ◌++◌, Some, None, Ok, IfOk, IsTrue, Bool, true, false, codes}
+use Rattle.std.specs.Prelude.{◌≡◌, ◌≢◌, ◌≤◌, ◌⊎◌, ◌↔◌, ℕ, List, [], ◌∷◌, Some, None, Ok, IfOk, IsTrue, Bool, true, false, codes}
 use Rattle.jc_base.specs.Outside.{FileOf}
 use Rattle.jc_base.specs.States.{TreesState, SinkState, FolderState, Change}
 use Rattle.jc_facts.specs.declared.sig_note.SigNote.{SigNote}
@@ -8,7 +8,7 @@ use Rattle.jc_facts.specs.Names.{Bytes}
 use Rattle.jc_gate.specs.Gates.{GateOf}
 use Rattle.jc_gate.specs.Meanings.{HasLinksGate}
 use Rattle.jc_commands.specs.Causes.{HasCause, IsRefused, IsAccepted, HasFailed}
-use Rattle.jc_commands.specs.Check.{CheckReport, IsAnswered, IsCompatible, IsIncompatible, IsBorneOut, IsNoted, KeepsInterfaces, HoldsClients, verdict_bytes, check_bytes}
+use Rattle.jc_commands.specs.Check.{CheckReport, IsAnswered, IsCompatible, IsIncompatible, IsBorneOut, IsNoted, KeepsInterfaces, HoldsClients, check_bytes}
 use Rattle.jc_trees.specs.ClassFiles.{Told}
 use Rattle.jc_releases.specs.Command.{witness_dir, step_of_check, asked_of}
 use Rattle.jc_words.specs.Command.{CommandOf, CheckOf, HistoryOf, CheckCommand, HistoryCommand, asked}
@@ -18,10 +18,7 @@ use Rattle.jc_commands.specs.ReportValue.{status_by}
 use Rattle.jc_commands.specs.Reports.{ToldTo, RecordsOf, ReportOf, IsReportOn, rules_of, passes, bytes_of, puts_of}
 use Rattle.jc_releases.specs.Stop.{line_of, status_of}
 use Rattle.jc_shown.specs.Witness.{PutFile, PutsFiles, PutsSome}
-use Rattle.jc_report.specs.DroppedForms.{dropped_bytes}
 use Rattle.jc_report.specs.HistoryText.{history_text_of}
-use Rattle.jc_report.specs.SigForms.{sig_bytes}
-use Rattle.jc_report.specs.WarnForms.{warn_bytes}
 use Rattle.jc_version.specs.Needs.{need_of, HasVersionGate}
 use Rattle.jc_releases.specs.declared.status.TheConstants.{PASSED, NOT_PASSED, USAGE, BAD_INPUT, READ_FAULT, WRITE_FAULT, NO_MEMORY, LIMIT}
 use Rattle.jc_releases.specs.declared.stop.Stop.{Stop}
@@ -138,19 +135,20 @@ pub record Answers (r : Ran) : Type 0 where
   pub checked : (r.status ≡ PASSED) ⊎ (r.status ≡ NOT_PASSED) → (check : CheckOf) → asked r.words ≡ Ok (CheckCommand check)
       → (report : CheckReport) × Puts r (check_bytes check.json report) × (report.verdict.findings ≡ [] → OfFiles r (λ files. IsCompatible files check report.verdict))
       × (report.verdict.findings ≢ [] → OfFiles r (λ files. IsIncompatible files check report.verdict)) × OfFiles r (λ files. IsBorneOut files check report)
-  -- of a check that asks for warnings: where the verdict in what was put has no finding and no warning was put, each client class in scope, abstract or
-  -- not, that answered with the old release all that was due to it answers all that is due with the new, unless it meets a collision of a method made final
+  -- of a check, by its report, which was put: where that has no finding and no warning, which it can have where they are asked for alone, each client class in
+  -- scope, abstract or not, that answered with the old release all that was due to it answers all that is due with the new, unless it meets a collision of a method
+  -- made final
   pub answered : (r.status ≡ PASSED) ⊎ (r.status ≡ NOT_PASSED) → (check : CheckOf) → asked r.words ≡ Ok (CheckCommand check)
-      → (report : CheckReport) × Puts r (check_bytes check.json report) × (report.verdict.findings ≡ [] → report.warnings ≡ Some [] → OfFiles r (λ files. IsAnswered files check report))
-  -- of a check that asks for notes on signatures: what was put is its verdict, then its warnings where they are asked for, then the notes, a line for each
-  -- or one JSON object of all, and then its dropped interfaces where they are asked for. The notes are exactly those on the generic signatures of the two releases
+      → (report : CheckReport) × Puts r (check_bytes check.json report)
+      × OfFiles r (λ files. IsBorneOut files check report × (report.verdict.findings ≡ [] → report.warnings ≡ Some [] → IsAnswered files check report))
+  -- of a check that asks for notes on signatures: its report, which was put, has exactly those on the generic signatures of the two releases
   pub noted : (r.status ≡ PASSED) ⊎ (r.status ≡ NOT_PASSED) → (check : CheckOf) → asked r.words ≡ Ok (CheckCommand check) → IsTrue check.signatures
-      → OfFiles r (λ files. (report : CheckReport) × (notes : List SigNote)
-      × Puts r (verdict_bytes check.json report.verdict ++ (warn_bytes check.json report.warnings ++ (sig_bytes check.json (Some notes) ++ dropped_bytes check.json report.dropped))) × IsNoted files check report notes)
-  -- of a check that asks for dropped interfaces: where the verdict in what was put has no finding and no interface was put as dropped, each client world in scope
-  -- that meets none of its collisions keeps, above each class that is a client or whose values clients can hold, each interface that clients can name
+      → (report : CheckReport) × Puts r (check_bytes check.json report) × OfFiles r (λ files. (notes : List SigNote) × IsNoted files check report notes)
+  -- of a check, by its report, which was put: where that has no finding and no dropped interface, which it can have where they are asked for alone, each client
+  -- world in scope that meets none of its collisions keeps, above each class that is a client or whose values clients can hold, each interface that clients can name
   pub interfaces : (r.status ≡ PASSED) ⊎ (r.status ≡ NOT_PASSED) → (check : CheckOf) → asked r.words ≡ Ok (CheckCommand check)
-      → (report : CheckReport) × Puts r (check_bytes check.json report) × (report.verdict.findings ≡ [] → report.dropped ≡ Some [] → OfFiles r (λ files. KeepsInterfaces files check report))
+      → (report : CheckReport) × Puts r (check_bytes check.json report)
+      × OfFiles r (λ files. IsBorneOut files check report × (report.verdict.findings ≡ [] → report.dropped ≡ Some [] → KeepsInterfaces files check report))
   -- of a check that asks for witnesses: below the path such class files stand for each finding and each collision, by its number, and every other path
   -- is as before
   pub witnessed : (r.status ≡ PASSED) ⊎ (r.status ≡ NOT_PASSED) → (check : CheckOf) → asked r.words ≡ Ok (CheckCommand check) → (dir : Bytes) → check.witness ≡ Some dir

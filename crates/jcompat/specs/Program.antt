@@ -1,13 +1,19 @@
 -- The program's own gates, and what is promised of a run with them.
 use Rattle.std.specs.Prelude.{◌≡◌, ◌≤◌, ◌⊎◌, ◌↔◌, ℕ, List, [], ◌∷◌, Some, Ok, codes}
+use Rattle.jc_base.specs.States.{TreesState, SinkState, FolderState, Change}
 use Rattle.jc_gate.specs.Gates.{GateOf}
 use Rattle.jc_gate.specs.Meanings.{IsGateBy, has_no_finding, has_no_collision, has_at_most}
 use Rattle.jc_version.specs.Needs.{IsVersionGate, need_of}
 use Rattle.jc_commands.specs.Check.{CheckReport, IsBorneOut, check_bytes}
 use Rattle.jc_releases.specs.Command.{step_of_check}
 use Rattle.jc_words.specs.Command.{CheckOf, CheckCommand, asked}
+use Rattle.jc_words.specs.declared.usage.Usage.TheVariants as usages
+use Rattle.jc_commands.specs.Outputs.{IsUntouched}
+use Rattle.jc_commands.specs.Putting.{IsPutWith}
 use Rattle.jc_commands.specs.Reports.{rules_of}
-use Rattle.jc_releases.specs.declared.status.TheConstants.{PASSED, NOT_PASSED}
+use Rattle.jc_releases.specs.Stop.{line_of}
+use Rattle.jc_releases.specs.declared.status.TheConstants.{PASSED, NOT_PASSED, USAGE}
+use Rattle.jc_releases.specs.declared.stop.Stop.TheVariants as stops
 use Rattle.jcompat.specs.Answers.{Ran, Answers, OfFiles, Puts}
 
 -- the gates are `links`, `collisions`, `few`, which lets ten findings and collisions pass, and `version`, each by what it answers
@@ -28,3 +34,17 @@ pub record OwnAnswers (r : Ran) : Type 0 where
   pub versioned : (r.status ≡ PASSED) ⊎ (r.status ≡ NOT_PASSED) → (check : CheckOf) → asked r.words ≡ Ok (CheckCommand check) → check.gates ≡ codes "version" ∷ []
       → (step : ℕ) → step_of_check check ≡ Some step
       → (report : CheckReport) × Puts r (check_bytes check.json report) × ((r.status ≡ PASSED) ↔ (need_of (rules_of report.verdict) ≤ step))
+
+-- no call was made on the trees, on a sink or on the folder
+pub record IsIdle (trees : Change TreesState) (out err : Change SinkState) (folder : Change FolderState) : Type 0 where
+  pub trees_are : trees.after ≡ trees.before
+  pub output : out.after ≡ out.before
+  pub errors : err.after ≡ err.before
+  pub folder_is : IsUntouched folder
+
+-- a word isn't UTF-8: the line `usage: words` was put to the error stream, with its status; or that put failed, or there was no memory. No other call was made
+pub record IsNoText (trees : Change TreesState) (out err : Change SinkState) (folder : Change FolderState) (status : ℕ) : Type 0 where
+  pub line : IsPutWith (line_of (stops.Usage usages.Words)) USAGE err status
+  pub trees_are : trees.after ≡ trees.before
+  pub output : out.after ≡ out.before
+  pub folder_is : IsUntouched folder

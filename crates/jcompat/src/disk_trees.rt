@@ -21,7 +21,7 @@ use std::path::Path;
 use std::rt::Files;
 
 /// A root with more entries below it isn't listed.
-const MAX_ENTRIES: u32 = 1_000_000;
+pub(crate) const MAX_ENTRIES: u32 = 1_000_000;
 
 /// Real folders. A root is the path of a folder, and its files are what stands below it and is no
 /// folder. What they are isn't told.

@@ -12,6 +12,7 @@ ghost use Rattle.jc_gate.specs.Gates.{GateOf, gate_of};
 ghost use Rattle.jc_commands.specs.Causes.{IsRefused, IsAccepted};
 ghost use Rattle.jcompat.specs.Alike.{OneAnswer};
 ghost use Rattle.jcompat.specs.Answers.{Answers, Ran, ran, Puts};
+ghost use Rattle.jcompat.specs.declared.disk_trees.TheConstants.{MAX_ENTRIES};
 ghost use Rattle.jc_words.specs.Command.{CommandOf, MakeCommand, asked};
 ghost use Rattle.jc_commands.specs.Make.{IsVerdictOnMade};
 ghost use Rattle.jc_commands.specs.Reports.{RecordsOf, ReportOf, Accepts, IsReportOn};
@@ -64,6 +65,11 @@ pub fn generated_releases()
 /// one status.
 pub fn one_answer()
     ensures { OneAnswer }
+{}
+
+/// A real folder with more than 1,000,000 entries below it isn't listed. No other clause says what the constant is.
+pub fn entries_of_a_folder()
+    ensures { MAX_ENTRIES ≡ 1000000 }
 {}
 
 /// The top call over trees, sinks and a folder that don't fail. Only a lack of memory stands in the way

@@ -1,11 +1,11 @@
 //! Says whether clients that were compiled against an old release of a library link with a new one.
 #![tactic(auto)]
 
-ghost use Rattle.std.specs.Prelude.{◌≡◌, ◌⊎◌, List, IfOk, IfSome};
+ghost use Rattle.std.specs.Prelude.{◌≡◌, List, None, map, drop, string_bytes, IfOk, OnErr, IfSome};
 ghost use Rattle.jc_base.specs.States.{change};
 ghost use Rattle.jc_gate.specs.Gates.{GateOf};
 ghost use Rattle.jcompat.specs.Answers.{ran};
-ghost use Rattle.jcompat.specs.Program.{OwnAnswers};
+ghost use Rattle.jcompat.specs.Program.{OwnAnswers, IsIdle, IsNoText};
 
 mod disk_folder;
 mod disk_trees;
@@ -37,19 +37,30 @@ use std::env::Env;
 use std::io::ErrorKind;
 use std::process::ExitCode;
 
+// The texts behind the first of those that are given, which is the program's name: also those that are empty.
+fn words_behind_name(alloc: Global, given: &[String]) -> Result<Vec<Text>, AllocError>
+    ensures { IfOk result (λ words. words.items ≡ map string_bytes (drop 1 given.now)) }
+{
+    let mut words = Vec::new(alloc);
+    let Some((_, behind)) = given.split_first() else {
+        return Ok(words);
+    };
+    for word in behind {
+        words.push(Text::from_str(alloc, word.as_str())?)?;
+    }
+    Ok(words)
+}
+
 // The words after the program's name, or none where there is one that isn't UTF-8.
 fn words_after_name(rt: &(impl Env + AllocGlobal)) -> Result<Option<Vec<Text>>, AllocError> {
     let alloc = rt.alloc();
-    let mut words = Vec::new(alloc);
     let given = match env::args(rt) {
         Ok(given) => given,
         Err(error) if error.kind() == ErrorKind::OutOfMemory => return Err(AllocError),
         Err(_) => return Ok(None),
     };
-    for word in given.skip(1) {
-        words.push(Text::from_str(alloc, word.as_str())?)?;
-    }
-    Ok(Some(words))
+    let given: Vec<String> = given.collect(alloc)?;
+    Ok(Some(words_behind_name(alloc, given.as_slice())?))
 }
 
 // Runs with these words and the gates of the program: `links`, `collisions`, `few`, which lets ten rules
@@ -62,7 +73,8 @@ fn run_with_gates<T: Trees, O: Sink, E: Sink, F: Folder>(
     err: &mut E,
     witnesses: &mut F,
 ) -> Result<u8, AllocError>
-    ensures { IfOk result (λ status. (gates : List GateOf) × OwnAnswers (ran gates words.now (change T.state trees.old trees.new) (change O.state out.old out.new) (change E.state err.old err.new) (change F.state witnesses.old witnesses.new) status)) }
+    ensures answers { IfOk result (λ status. (gates : List GateOf) × OwnAnswers (ran gates words.now (change T.state trees.old trees.new) (change O.state out.old out.new) (change E.state err.old err.new) (change F.state witnesses.old witnesses.new) status)) }
+    ensures no_memory { OnErr result (IsIdle (change T.state trees.old trees.new) (change O.state out.old out.new) (change E.state err.old err.new) (change F.state witnesses.old witnesses.new)) }
 {
     let mut gates: Vec<Box<dyn Gate>> = Vec::new(alloc);
     gates.push(Box::new(alloc, Links::new())?)?;
@@ -72,8 +84,7 @@ fn run_with_gates<T: Trees, O: Sink, E: Sink, F: Folder>(
     Ok(run(alloc, words, trees, out, err, witnesses, gates))
 }
 
-// Runs with these words and the gates of the program, unless there is no memory for these. No command takes a
-// word that isn't UTF-8.
+// Runs with these words and the gates of the program. No command takes a word that isn't UTF-8.
 fn run_words<T: Trees, O: Sink, E: Sink, F: Folder>(
     alloc: Global,
     words: Option<Vec<Text>>,
@@ -82,7 +93,8 @@ fn run_words<T: Trees, O: Sink, E: Sink, F: Folder>(
     err: &mut E,
     witnesses: &mut F,
 ) -> u8
-    ensures { IfSome words (λ given. (result ≡ NO_MEMORY) ⊎ ((gates : List GateOf) × OwnAnswers (ran gates given.items (change T.state trees.old trees.new) (change O.state out.old out.new) (change E.state err.old err.new) (change F.state witnesses.old witnesses.new) result))) }
+    ensures answers { IfSome words (λ given. (gates : List GateOf) × OwnAnswers (ran gates given.items (change T.state trees.old trees.new) (change O.state out.old out.new) (change E.state err.old err.new) (change F.state witnesses.old witnesses.new) result)) }
+    ensures no_text { words ≡ None → IsNoText (change T.state trees.old trees.new) (change O.state out.old out.new) (change E.state err.old err.new) (change F.state witnesses.old witnesses.new) result }
 {
     match words {
         Some(words) => match run_with_gates(alloc, words.as_slice(), trees, out, err, witnesses) {

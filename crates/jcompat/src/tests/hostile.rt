@@ -61,8 +61,8 @@ fn a_failing_call_ends_a_run(rt: HostRuntime) {
     }
 }
 
-// Puts more behind a text.
-fn push(rt: &impl Host, text: &mut String, more: &str) {
+/// Puts more behind a text.
+pub(super) fn push(rt: &impl Host, text: &mut String, more: &str) {
     text.push_str(more).expect(rt, "memory")
 }
 

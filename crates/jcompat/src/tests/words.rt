@@ -30,9 +30,13 @@ const OVER_OTHERS: &str =
 #3 check --json --platform P --old O --new N ! jcompat: platform: bad root missing
 "##;
 
+const DELETE: &str = "#2 the byte behind the last that is printed as itself
+$ a\u{7f}b ! jcompat: usage: unknown command a\\x7fb
+";
+
 #[test]
 fn words_are_taken_or_refused(rt: HostRuntime) {
-    for table in [OVER_TREES, OVER_OTHERS] {
+    for table in [OVER_TREES, OVER_OTHERS, DELETE] {
         see_table(&rt, table);
     }
 }

@@ -1,0 +1,139 @@
+#!/usr/bin/env bash
+# Tries what no clause can say of the program, since only a process shows it: examples/statuses.sh, from any folder.
+#
+# Each exit status from 0 to 7 is brought about, and with it come just the bytes that are due on standard output and standard error. The words are
+# those that the process is given: empty ones count, and those that aren't UTF-8 are refused. A module-info.class in a real folder is read where
+# that is asked for, and only there. No JDK is needed: the class files are written below. There is a line for each try, and a last one with their
+# number. The status is 1 where one fails. Where the program isn't built, nothing is tried, which is said, and the status is 0.
+set -eu
+
+cd "$(dirname "$0")/.."
+
+program=$PWD/jcompat
+[ ! -d crates ] || program=$PWD/crates/jcompat/out/jcompat
+if [ ! -x "$program" ]; then
+    echo "statuses: skipped: the program isn't built"
+    exit 0
+fi
+
+made=$(mktemp -d)
+trap 'rm -rf "$made"' EXIT
+cd "$made"
+
+# A platform with its root alone; a release with the class p/A; one where nothing is left of it; one whose class file is cut off; one with a class file
+# of a byte too many; one that is a module and exports nothing; and one whose module-info.class is empty. The class files are of Java 8, the module's of Java 9.
+object='\0001\0000\0020java/lang/Object'
+init='\0001\0000\0006<init>\0001\0000\0003()V'
+mkdir -p platform/java/lang old/p gone cut/p long/p named/p empty/p
+printf %b '\0312\0376\0272\0276\0000\0000\0000\0064\0000\0005\0007\0000\0002'"$object$init"'\0000\0041\0000\0001\0000\0000\0000\0000\0000\0000\0000\0001\0000\0001\0000\0003\0000\0004\0000\0000\0000\0000' >platform/java/lang/Object.class
+printf %b '\0312\0376\0272\0276\0000\0000\0000\0064\0000\0007\0007\0000\0002\0001\0000\0003p/A\0007\0000\0004'"$object$init"'\0000\0041\0000\0001\0000\0003\0000\0000\0000\0000\0000\0001\0000\0001\0000\0005\0000\0006\0000\0000\0000\0000' >old/p/A.class
+head -c 10 old/p/A.class >cut/p/A.class
+truncate -s 4194305 long/p/A.class
+cp old/p/A.class named/p
+printf %b '\0312\0376\0272\0276\0000\0000\0000\0065\0000\0010\0007\0000\0002\0001\0000\0013module-info\0023\0000\0004\0001\0000\0001m\0023\0000\0006\0001\0000\0011java.base\0001\0000\0006Module\0200\0000\0000\0001\0000\0000\0000\0000\0000\0000\0000\0000\0000\0001\0000\0007\0000\0000\0000\0026\0000\0003\0000\0000\0000\0000\0000\0001\0000\0005\0200\0000\0000\0000\0000\0000\0000\0000\0000\0000\0000\0000' >named/module-info.class
+cp old/p/A.class empty/p
+: >empty/module-info.class
+# a folder whose name isn't ASCII
+cp -R old 'é'
+
+tries=0
+
+# see NAME STATUS OUTPUT LINE WORD..: the program with these words ends with the status, having put just this output and this line on standard error
+see() {
+    name=$1 wanted=$2
+    printf %s "$3" >due
+    printf %s "$4" >due_line
+    shift 4
+    status=0
+    "$program" "$@" >out 2>line || status=$?
+    judge
+}
+
+# judge: fails unless the status and the streams of the last try are those that were due
+judge() {
+    if [ "$status" -ne "$wanted" ] || ! cmp -s due out || ! cmp -s due_line line; then
+        printf 'statuses: %s: FAILED, with the status %s in place of %s\n' "$name" "$status" "$wanted"
+        diff due out || true
+        diff due_line line || true
+        exit 1
+    fi
+    printf 'statuses: %s: ok\n' "$name"
+    tries=$((tries + 1))
+}
+
+compatible=$'compatible: 0 findings, 0 collisions, 0 notes\n'
+class_gone=$'1 H1 p/A - class - NoClassDefFoundError\nincompatible: 1 findings, 0 collisions, 0 notes\n'
+class_shut=$'1 H1 p/A - class - IllegalAccessError\nincompatible: 1 findings, 0 collisions, 0 notes\n'
+words=$'jcompat: usage: words\n'
+
+# check NEW WORD..: the words of a check of the release old with this one
+check() {
+    new=$1
+    shift
+    asked=(check --platform platform --old old --new "$new" "$@")
+}
+
+check old
+see 'a release with itself' 0 "$compatible" '' "${asked[@]}"
+check 'é'
+see 'a folder whose name is not ASCII' 0 "$compatible" '' "${asked[@]}"
+check gone
+see 'a class that is gone' 1 "$class_gone" '' "${asked[@]}"
+
+see 'no words' 2 '' $'jcompat: usage: no command\n'
+see 'an empty word as the command' 2 '' $'jcompat: usage: unknown command \n' ''
+check old ''
+see 'an empty word behind the last one' 2 '' "$words" "${asked[@]}"
+check old --gate ''
+see 'an empty word as a value' 2 '' $'jcompat: usage: unknown gate \n' "${asked[@]}"
+see 'a command that is not UTF-8' 2 '' "$words" $'\xff'
+check $'old\xff'
+see 'a value that is not UTF-8' 2 '' "$words" "${asked[@]}"
+
+check cut
+see 'a class file that is cut off' 3 '' $'jcompat: new: p/A.class: Short at 10\n' "${asked[@]}"
+check nowhere
+see 'a folder that is not there' 4 '' $'jcompat: new: read fault\n' "${asked[@]}"
+
+check gone
+name='an output that is full' wanted=5 status=0
+: >due
+: >due_line
+: >out
+"$program" "${asked[@]}" >/dev/full 2>line || status=$?
+judge
+name='a full stream for a line that is due' status=0
+: >line
+"$program" >out 2>/dev/full || status=$?
+judge
+check gone --witness old/p/A.class/below
+see 'a witness that cannot be written' 5 '' '' "${asked[@]}"
+check gone --witness written
+see 'a witness' 1 "$class_gone" '' "${asked[@]}"
+[ -s written/000001/w0/U.class ] || {
+    echo 'statuses: a witness: FAILED, since nothing was written'
+    exit 1
+}
+
+name='no memory' wanted=6 status=0
+: >due
+: >due_line
+(
+    ulimit -v 20000
+    "$program" make 4096 >out 2>line
+) || status=$?
+judge
+
+check long
+see 'a class file with a byte too many' 7 '' $'jcompat: new: p/A.class: limit bytes\n' "${asked[@]}"
+
+check named
+see 'a module that is not asked for' 0 "$compatible" '' "${asked[@]}"
+check named --modular
+see 'a module that exports nothing' 1 "$class_shut" '' "${asked[@]}"
+check empty
+see 'an empty module-info.class that is not asked for' 0 "$compatible" '' "${asked[@]}"
+check empty --modular
+see 'an empty module-info.class' 3 '' $'jcompat: new: module-info.class: Short at 0\n' "${asked[@]}"
+
+echo "statuses: $tries tries"
