@@ -652,6 +652,17 @@ abstract_is Abstract Nothing d h = absurd (cc)
 abstract_is Abstract Abstract d h = absurd (cc)
 abstract_is Abstract Concrete d h = absurd (cc)
 
+defaults_is : (p q : ChainKind) (d : Bool) → warn_kind p q d ≡ Some warn.Defaults → (p ≡ Nothing) × (q ≡ Nothing)
+defaults_is Nothing Nothing d h = (refl, refl)
+defaults_is Concrete Concrete d h = absurd (cc)
+defaults_is Concrete Nothing d h = absurd (let clash : Some warn.Lost ≡ Some warn.Defaults = h in cc)
+defaults_is Concrete Abstract d h = absurd (let clash : Some warn.Lost ≡ Some warn.Defaults = h in cc)
+defaults_is Nothing Abstract d h = absurd (let clash : Some warn.Abstract ≡ Some warn.Defaults = h in cc)
+defaults_is Nothing Concrete d h = absurd (cc)
+defaults_is Abstract Nothing d h = absurd (cc)
+defaults_is Abstract Abstract d h = absurd (cc)
+defaults_is Abstract Concrete d h = absurd (cc)
+
 -- a base whose chain has anything is a class, and the chain of a class below has it too
 chain_below_is : (W : World) (a : Bytes) (k : Key) (t : ChainKind) → (Nothing ≡ t → ⊥) → chain_kind W a k ≡ t → (is_interface_of W a ≡ false) × (kind_below W a k ≡ t)
 unfolding chain_kind
