@@ -121,7 +121,7 @@ name='no memory' wanted=6 status=0
 : >due
 : >due_line
 (
-    ulimit -v 20000
+    ulimit -v 10000
     "$program" make 4096 >out 2>line
 ) || status=$?
 judge
