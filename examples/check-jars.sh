@@ -193,7 +193,8 @@ says 'step 1, old.jar to old.jar:$' && wrong 'a step of which there is nothing t
 [ "$(grep -c '^[0-9]' "$made/out")" -eq 15 ] || wrong 'there are other lines than the fifteen of step 2'
 try 'a row in words' 1 '    method void Canvas.draw(Shape) is gone; there is boolean draw(Shape)$' --row "$top/examples/old" new.jar --explain
 try 'a row with a multi-release jar' 0 'check-jars: versions.jar is a multi-release jar' --row old.jar versions.jar old.jar
-try 'a row that lacks a library' 71 'check-jars: 1 of 3 classes of release 2 weren.t compared' --row old.jar client.jar client.jar --whole
+try 'a row that lacks a library' 71 'check-jars: 1 of 3 classes of release 2 weren.t compared' --row client.jar client.jar client.jar --whole
+try 'findings, and a row that lacks a library' 1 'check-jars: 1 of 3 classes of release 2 weren.t compared' --row old.jar client.jar client.jar --whole
 try 'a row whose last release lacks one' 1 "check-jars: 1 of 3 classes of release 2 don't load here" --row old.jar client.jar --whole
 too '       1  shapes/Circle$'
 try 'a row with a library' 0 'history: 1 steps, 0 incompatible$' --row client.jar client.jar --with old.jar --whole
