@@ -33,7 +33,17 @@ public final class Check {
     /** The status: one of {@link Status}. A {@link Stop} where nothing was compared. */
     public int run() throws IOException, Stop {
         try (Workspace shared = new Workspace(request.cache, request.jdk)) {
-            return run(shared);
+            int status = run(shared);
+            saySame();
+            return status;
+        }
+    }
+
+    private void saySame() throws IOException {
+        for (int i = 1; i < request.releases.size(); i++) {
+            if (Hints.areSame(request.releases.get(i - 1), request.releases.get(i))) {
+                host.say(request.releases.get(i - 1) + " and " + request.releases.get(i) + " are the same file, so nothing can differ");
+            }
         }
     }
 

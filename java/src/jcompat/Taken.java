@@ -17,7 +17,7 @@ import java.util.stream.Collectors;
 
 /** The class files of a jar or a folder, taken to a folder of the run, at the places of their names. */
 final class Taken {
-    private static final Pattern VERSIONED = Pattern.compile("META-INF/versions/(\\d+)/(.*\\.class)");
+    private static final Pattern VERSIONED = Pattern.compile("META-INF/versions/(\\d{1,9})/(.*\\.class)");
     /** What the program takes of a class file, and then some, so that a jar for a full disk isn't unpacked. */
     private static final int MOST_BYTES = 4_194_304 + 1;
     private static final long MOST_BYTES_OF_ALL = 8L << 30;

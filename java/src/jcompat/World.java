@@ -38,11 +38,6 @@ final class World {
             taken.sayNewer(host);
             releases.add(taken);
         }
-        for (int i = 1; i < request.releases.size(); i++) {
-            if (Hints.areSame(request.releases.get(i - 1), request.releases.get(i))) {
-                host.say(request.releases.get(i - 1) + " and " + request.releases.get(i) + " are the same file, so nothing can differ");
-            }
-        }
         for (Path library : request.with) {
             add(library);
         }
