@@ -80,7 +80,7 @@ module _ (O N : World) (w : Bytes) (r : Ready O N w) where
       u = usable_parts O x was
 
       both : (outcome (with_clients O ((user.U O N w r d fit items refl).facts ∷ [])) (letter w 85) (item.Class x) ≡ None) × (outcome (with_clients N ((user.U O N w r d fit items refl).facts ∷ [])) (letter w 85) (item.Class x) ≡ Some (gone_error N x))
-      both = breaks O N _ (user.fo O N w r d fit items refl) (user.fn O N w r d fit items refl) (user.allowed_n O N w r d fit items refl) (letter w 85) (user.U O N w r d fit items refl).facts (user.named O N w r d fit items refl) x (side_plain r.root w O r.old x u.class u.is_there) was gone
+      both = breaks O N _ (user.fo O N w r d fit items refl) (user.fn O N w r d fit items refl) (user.client_names O N w r d fit items refl) (letter w 85) (user.U O N w r d fit items refl).facts (user.named O N w r d fit items refl) x (side_plain r.root w O r.old x u.class u.is_there) was gone
 
   -- U returns an s as a t, both usable
   assign_is_shown : (s t : Bytes) → IsUsable O s → IsUsable O t → IsUsable N s → IsUsable N t → is_class_assignable O s t ≡ true → is_class_assignable N s t ≡ false → ShowsAlone O N (assigns w s t) VerifyError

@@ -22,6 +22,7 @@ use Rattle.jc_facts.specs.client.Valid.{facts_of}
 use Rattle.jc_promises.specs.client.Reach.{is_in_reach}
 use Rattle.jc_promises.specs.client.Keeps.{Keeps}
 use Rattle.jc_promises.specs.client.Meets.{Meets}
+use Rattle.jc_promises.specs.rule.Bases.{allowed}
 use Rattle.jc_promises.specs.rule.Findings.{Stands}
 use Rattle.jc_promises.specs.rule.Collisions.{CollisionStands}
 use Rattle.jc_facts.specs.world.Mentioned.{mentioned}
@@ -56,9 +57,10 @@ abbrev pub FailsBy : World → ClientClass → Spot → LinkError → Type 0
 FailsBy W c spot.Load e = load_fault W c.facts.name ≡ Some e
 FailsBy W c (spot.Item n) e = (load_fault W c.facts.name ≡ None) × ((i : Item) × (slice_get c.items n ≡ Some i) × (outcome W c.facts.name i ≡ Some e))
 
--- the plan's clients are in scope, link whole with the old side, and their spot has this error with the new one
+-- the plan's clients are in scope, by allowed names, link whole with the old side, and their spot has this error with the new one
 pub record Shows (O N : World) (p : Plan) (e : LinkError) : Type 0 where
   pub in_scope : IsInScope O N p.clients
+  pub allowed_names : All (λ c. IsTrue (allowed O N c.facts.name)) p.clients
   pub links : All (LinksWhole (with_clients O (facts_of p.clients))) p.clients
   pub spot : ClientClass
   pub is_in : Contains p.clients spot

@@ -3,7 +3,6 @@
 --     interfaces_stay, instances_stay      what follows for clients, without a verdict and with one
 use Rattle.std.proofs.Common.{◌≡◌, Bool, true, false, not, List, [], ◌∷◌, refl, sym, ◌∙◌, ap, subst, Option, Some, None, is_some, ◌||◌, ◌&&◌, ◌⊎◌, inl, inr}
 use Rattle.std.proofs.lemmas.Bool.{and_parts, and_from, or_cases, or_left, or_right, both_ways}
-use Rattle.std.proofs.lemmas.List.Elements.{recursion_from_All}
 use Rattle.std.specs.List.{Contains}
 use Rattle.jc_facts.specs.declared.class_facts.ClassFacts.{ClassFacts}
 use Rattle.jc_facts.specs.Names.{Bytes, same, object_name, in_same_package}
@@ -16,14 +15,14 @@ use Rattle.jc_facts.specs.world.Hierarchy.{chain, of_super, each, with_interface
 use Rattle.jc_facts.specs.world.Loading.{load_fault, fault_of_interface}
 use Rattle.jc_facts.specs.world.Assignment.{is_interface_of}
 use Rattle.jc_facts.specs.client.Valid.{facts_of}
-use Rattle.jc_facts.specs.client.Allowed.{is_allowed_name}
+use Rattle.jc_promises.specs.client.Names.{is_free_name, is_client_name}
 use Rattle.jc_facts.specs.file.Valid.{IsValidClass}
 use Rattle.jc_promises.specs.rule.Bases.{is_class_usable, is_kept, is_steady}
 use Rattle.jc_facts.specs.declared.dropped.Dropped.{Dropped}
 use Rattle.jc_dropped.specs.Dropped.{stays_exposed, is_held, has_lost, loses_interface, loses_above, is_dropped, AreDropped}
 use Rattle.jc_dropped.proofs.Held.{held_loads, stays_loaded}
 use Rattle.jc_dropped.specs.InterfacesKept.{DropNothing, NoneDroppedNoneLost, InterfacesStay, InstancesStay}
-use Rattle.jc_lemmas.proofs.Listed.{none, EachOf, EachOf-both, any_none}
+use Rattle.jc_lemmas.proofs.Listed.{none, EachOf, EachOf-map, EachOf-both, any_none}
 use Rattle.jc_lemmas.proofs.Bools.{and_not}
 use Rattle.jc_lemmas.proofs.Lists.{any_left, any_right, any_cases}
 use Rattle.jc_facts.proofs.Hierarchy.{each-map}
@@ -39,11 +38,12 @@ use Rattle.jc_worlds.proofs.Offers.{superinterfaces-interface}
 use Rattle.jc_worlds.proofs.Above.{named_interface, named_interfaces, superinterfaces-each}
 use Rattle.jc_worlds.proofs.Sides.{find-library, load_fault-side, superinterfaces-side, with_interfaces-side}
 use Rattle.jc_worlds.proofs.Clients.{Fits, find-client, client_module}
-use Rattle.jc_worlds.proofs.Packages.{allowed_parts, same_package_apart}
+use Rattle.jc_worlds.proofs.Packages.{same_package_apart}
 use Rattle.jc_worlds.proofs.VisibleFrom.{accessible_parts, visible_from-client}
 use Rattle.jc_sound.proofs.Standing.{Quiet, usable_parts, usable_from, all_quiet, stays_usable, stays_steady, stays_kept}
 use Rattle.jc_sound.proofs.ClientLoads.{super_access}
-use Rattle.jc_sound.proofs.Scope.{client_of, fits, allowed_names}
+use Rattle.jc_sound.proofs.ClientNames.{free_old, free_new, free_parts, fits_old, fits_new}
+use Rattle.jc_sound.proofs.Scope.{client_of, scope_names}
 use Rattle.jc_sound.proofs.FindingLaws.{empty_means_none}
 use Rattle.jc_sound.proofs.SoundnessLaws.{keeps}
 
@@ -76,12 +76,12 @@ none_lost O N quiet x t = never_lost O N t (λ y. quiet y t) x
 
 -- ---- a library class that a client names
 
-module _ (W : World) (cs : List ClassFacts) (fits : Fits W cs) (allowed : EachOf (λ n. is_allowed_name W n ≡ true) (names cs)) where
+module _ (W : World) (cs : List ClassFacts) (fits : Fits W cs) (free : EachOf (λ n. is_free_name W n ≡ true) (names cs)) where
   -- it is usable where it loads
   usable_above : (x : Bytes) (c : ClassFacts) → class_named cs x ≡ Some c → (y : Bytes) (d : ClassFacts) → class_named cs y ≡ None → find_class W y ≡ Some d → load_fault (with_clients W cs) y ≡ None
       → is_class_accessible (with_clients W cs) x d ≡ true → is_class_usable W y ≡ true
   usable_above x c e y d l f h a =
-      let p = allowed_parts W x (EachOf-class_named (λ n. is_allowed_name W n ≡ true) cs x c e allowed) in
+      let p = free_parts W x (EachOf-class_named (λ n. is_free_name W n ≡ true) cs x c e free) in
       let q : in_same_package x d.name ≡ false = same_package_apart W x y d p.apart f in
       let r = accessible_parts W x d q a in
       let v : is_visible W y ≡ true = subst (λ z. is_visible W z ≡ true) (find-name W y d f) (sym (visible_from-client W x d.name (client_module W cs fits x c e)) ∙ r.0) in
@@ -107,7 +107,7 @@ not_among cs (c ∷ ds) t d k h e = go (or_cases (same c.name t) (names_in ds t)
 -- ---- the law, without a verdict
 
 module _ (O N : World) (cs : List ClassFacts) (fo : Fits O cs) (fn : Fits N cs)
-    (allowed_o : EachOf (λ n. is_allowed_name O n ≡ true) (names cs)) (allowed_n : EachOf (λ n. is_allowed_name N n ≡ true) (names cs))
+    (client_names : EachOf (λ n. is_client_name O N n ≡ true) (names cs))
     (valid_n : (x : Bytes) (c : ClassFacts) → find_class N x ≡ Some c → IsValidClass c)
     (root : ClassFacts) (root_n : find_class N object_name ≡ Some root) (root_super : root.superclass ≡ None) (root_interfaces : root.interfaces ≡ [])
     (t : Bytes) (lost : (x : Bytes) → loses_interface O N x t ≡ false) (asked : (is_some (class_named cs t) || is_steady O N t) ≡ true) where
@@ -116,6 +116,12 @@ module _ (O N : World) (cs : List ClassFacts) (fo : Fits O cs) (fn : Fits N cs)
 
   abbrev pub VN : World
   VN = with_clients N cs
+
+  free_o : EachOf (λ n. is_free_name O n ≡ true) (names cs)
+  free_o = EachOf-map (free_old O N) (names cs) client_names
+
+  free_n : EachOf (λ n. is_free_name N n ≡ true) (names cs)
+  free_n = EachOf-map (free_new O N) (names cs) client_names
 
   abbrev test : ClassFacts → Bool
   test c = same c.name t
@@ -146,7 +152,7 @@ module _ (O N : World) (cs : List ClassFacts) (fo : Fits O cs) (fn : Fits N cs)
   library_superinterfaces x k u e = go (class_named cs t) refl asked
     where
       go : (o : Option ClassFacts) → class_named cs t ≡ o → (is_some o || is_steady O N t) ≡ true → names_in (superinterfaces N x) t ≡ true
-      go (Some d) q h = absurd (not_among cs (superinterfaces O x) t d q (no_client_above O cs fo allowed_o x (held_loads O N x u).0) e)
+      go (Some d) q h = absurd (not_among cs (superinterfaces O x) t d q (no_client_above O cs fo free_o x (held_loads O N x u).0) e)
       go None q h =
           and_not (is_steady O N t && is_superinterface O x t) (is_superinterface N x t) (second (is_held O N x) (has_lost O N x t) u (lost x))
           (and_from (is_steady O N t) (is_superinterface O x t) h e)
@@ -228,8 +234,8 @@ module _ (O N : World) (cs : List ClassFacts) (fo : Fits O cs) (fn : Fits N cs)
           let nm = class_named-name cs x c k in
           or_left (is_class_usable O y && is_class_usable N y) (stays_exposed O N y)
           (and_from (is_class_usable O y) (is_class_usable N y)
-          (usable_above O cs fo allowed_o x c k y to.0 q (find-library O cs fo.bare y q ∙ to.1) lo (subst (λ z. is_class_accessible VO z to.0 ≡ true) nm (ao to.0 to.1)))
-          (usable_above N cs fn allowed_n x c k y tn.0 q (find-library N cs fn.bare y q ∙ tn.1) ln (subst (λ z. is_class_accessible VN z tn.0 ≡ true) nm (an tn.0 tn.1))))
+          (usable_above O cs fo free_o x c k y to.0 q (find-library O cs fo.bare y q ∙ to.1) lo (subst (λ z. is_class_accessible VO z to.0 ≡ true) nm (ao to.0 to.1)))
+          (usable_above N cs fn free_n x c k y tn.0 q (find-library N cs fn.bare y q ∙ tn.1) ln (subst (λ z. is_class_accessible VN z tn.0 ≡ true) nm (an tn.0 tn.1))))
 
   at_client : (x : Bytes) (c : ClassFacts) → class_named cs x ≡ Some c → load_fault VO x ≡ None → EachOf Stays (supers c) → Stays x
   unfolding superinterfaces interfaces_of
@@ -289,15 +295,12 @@ module _ (O N : World) (cs : List ClassFacts) (fo : Fits O cs) (fn : Fits N cs)
 pub interfaces_stay : InterfacesStay
 unfolding is_client
 interfaces_stay O N cs pair quiet scope x t h n a b e =
-    stays_above O N (facts_of cs) (fits O cs pair.run.old_bare allowed_o) (fits N cs pair.run.new_bare allowed_n) allowed_o allowed_n
+    stays_above O N (facts_of cs) (fits_old O N (facts_of cs) pair.run.old_bare client_names) (fits_new O N (facts_of cs) pair.run.new_bare client_names) client_names
     (side_valid N pair.run.new_bare (new_platform_valid O N pair) pair.new_valid) pair.root.root (new_root O N pair) pair.root.superclass pair.root.interfaces
     t (λ y. none_lost O N quiet y t) b x h n a e
   where
-    allowed_o : EachOf (λ n. is_allowed_name O n ≡ true) (names (facts_of cs))
-    allowed_o = allowed_names O cs (recursion_from_All (λ c. is_allowed_name O c.facts.name ≡ true) cs scope.allowed_old)
-
-    allowed_n : EachOf (λ n. is_allowed_name N n ≡ true) (names (facts_of cs))
-    allowed_n = allowed_names N cs (recursion_from_All (λ c. is_allowed_name N c.facts.name ≡ true) cs scope.allowed_new)
+    client_names : EachOf (λ n. is_client_name O N n ≡ true) (names (facts_of cs))
+    client_names = scope_names O N cs scope
 
 -- an empty list says so
 pub drop_nothing : (O N : World) (ds : List Dropped) → AreDropped O N ds → ds ≡ [] → DropNothing O N
@@ -335,11 +338,8 @@ instances_stay O N v ds pair verdict dropped empty nothing cs scope met x t h a 
         go (inl u) = or_left (is_kept O N y) (stays_exposed O N y) (stays_kept O N q y u)
         go (inr s) = or_right (is_kept O N y) (stays_exposed O N y) s
 
-    allowed_n : EachOf (λ n. is_allowed_name N n ≡ true) (names (facts_of cs))
-    allowed_n = allowed_names N cs (recursion_from_All (λ c. is_allowed_name N c.facts.name ≡ true) cs scope.allowed_new)
-
     fn : Fits N (facts_of cs)
-    fn = fits N cs pair.run.new_bare allowed_n
+    fn = fits_new O N (facts_of cs) pair.run.new_bare (scope_names O N cs scope)
 
     library : (is_class_usable O x || stays_exposed O N x) ≡ true → load_fault N x ≡ None
     library k = go (or_cases (is_class_usable O x) (stays_exposed O N x) k)

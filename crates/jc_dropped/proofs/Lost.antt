@@ -127,7 +127,8 @@ module _ (O N : World) (can : CanPlan O N) (x t : Bytes) where
   unfolding is_dropped loses_interface has_lost is_steady became_class
   loses h = record {
     clients = st.client ∷ [];
-    in_scope = st.in_scope;
+    in_scope = st.scope.0;
+    allowed_names = st.scope.1;
     links = All-from_recursion (LinksWhole VO) (st.client ∷ []) (st.links, tt);
     meets_nothing = st.alone;
     client = st.client;
@@ -238,7 +239,7 @@ module _ (O N : World) (cs : List ClientClass) (pair : IsPair O N) (q : Quiet O 
   in_place = (seat_x O N F g c.facts.name c.facts kc l.loads_old).is_seat
 
   abbrev Takes : Bytes → Type 0
-  Takes y = TakesPart O N F g.fo g.fn g.quiet g.allowed_o g.allowed_n g.clients_load a in_place y
+  Takes y = TakesPart O N F g.fo g.fn g.quiet g.client_names g.clients_load a in_place y
 
   -- a client, or one of which clients hold values
   held_x : (is_some (class_named F x) || is_held O N x) ≡ true
@@ -261,8 +262,8 @@ module _ (O N : World) (cs : List ClientClass) (pair : IsPair O N) (q : Quiet O 
       part = by (item_part O N cs pair q scope stay c l.is_in l.loads_old reads (reach_is_in_sight O N cs pair scope c reads l.is_in l.loads_old
           (or_left (type_in_reach VO c.facts.name c.items x) (is_invoke_interface GetField) (reached_class VO c.facts.name x c.items at ∙ l.holds))) x refl)
         where
-          by : PartType O N F g.fo g.fn g.quiet g.allowed_o g.allowed_n g.clients_load a in_place x ⊎ (is_invoke_interface GetField ≡ true) → (load_fault VO x ≡ None) × Takes x
-          by (inl p) = subst (λ o. PartText O N F g.fo g.fn g.quiet g.allowed_o g.allowed_n g.clients_load a in_place o) (named_class x at) p
+          by : PartType O N F g.fo g.fn g.quiet g.client_names g.clients_load a in_place x ⊎ (is_invoke_interface GetField ≡ true) → (load_fault VO x ≡ None) × Takes x
+          by (inl p) = subst (λ o. PartText O N F g.fo g.fn g.quiet g.client_names g.clients_load a in_place o) (named_class x at) p
           by (inr e) = absurd (cc)
 
       n_loads : class_named F x ≡ None → loads N x ≡ true
@@ -286,7 +287,7 @@ module _ (O N : World) (cs : List ClientClass) (pair : IsPair O N) (q : Quiet O 
   -- a client, or an interface that clients can name
   asked : (is_some (class_named F t) || is_steady O N t) ≡ true
   unfolding class_fault and_then
-  asked = go (held O N F g.fo g.fn g.quiet g.allowed_o g.allowed_n g.clients_load c.facts.name c.facts kc t p.0 access)
+  asked = go (held O N F g.fo g.fn g.quiet g.client_names g.clients_load c.facts.name c.facts kc t p.0 access)
     where
       found : (d : ClassFacts) × (find_class VO t ≡ Some d)
       found = let z = class_is-there VO (λ d. interface_flag d.flags) t l.interface_old in (z.0, z.1)
@@ -300,14 +301,14 @@ module _ (O N : World) (cs : List ClientClass) (pair : IsPair O N) (q : Quiet O 
       access : (d : ClassFacts) → find_class VO t ≡ Some d → is_class_accessible VO c.facts.name d ≡ true
       access d e = let z : fault_where (not (is_class_accessible VO c.facts.name d)) IllegalAccessError ≡ None = rw e at p.1 in not-false (is_class_accessible VO c.facts.name d) (fault_where-none (not (is_class_accessible VO c.facts.name d)) IllegalAccessError z)
 
-      go : IsHeld O N F g.fo g.fn g.quiet g.allowed_o g.allowed_n g.clients_load t → (is_some (class_named F t) || is_steady O N t) ≡ true
+      go : IsHeld O N F g.fo g.fn g.quiet g.client_names g.clients_load t → (is_some (class_named F t) || is_steady O N t) ≡ true
       go (client d k) = or_left (is_some (class_named F t)) (is_steady O N t) (ap is_some k)
       go (library k u) = or_right (is_some (class_named F t)) (is_steady O N t) (stays_steady O N q t u)
 
   not_none : ((y : Bytes) → is_dropped O N y t ≡ false) → ⊥
   not_none quiet =
       contradicts (is_superinterface VN x t)
-      (stays_above O N F g.fo g.fn g.allowed_o g.allowed_n (side_valid N pair.run.new_bare (new_platform_valid O N pair) pair.new_valid) pair.root.root (new_root O N pair) pair.root.superclass pair.root.interfaces
+      (stays_above O N F g.fo g.fn g.client_names (side_valid N pair.run.new_bare (new_platform_valid O N pair) pair.new_valid) pair.root.root (new_root O N pair) pair.root.superclass pair.root.interfaces
       t (never_lost O N t quiet) asked x x_loads l.stays held_x l.had) l.lost
 
   -- some class of the old side drops it

@@ -20,6 +20,7 @@ use Rattle.jc_promises.specs.Pairs.{IsPair}
 use Rattle.jc_promises.specs.client.Scope.{IsInScope}
 use Rattle.jc_promises.specs.client.Reach.{class_in_reach}
 use Rattle.jc_promises.specs.client.Meets.{Meets}
+use Rattle.jc_promises.specs.rule.Bases.{allowed}
 use Rattle.jc_promises.specs.rule.Verdict.{IsVerdict}
 use Rattle.jc_complete.specs.Completeness.{CanPlan, LinksWhole, MeetsNothing}
 use Rattle.jc_dropped.specs.Dropped.{is_dropped, AreDropped}
@@ -40,10 +41,11 @@ pub record Loses (O N : World) (cs : List ClientClass) (c : ClientClass) (x t : 
   pub had : IsTrue (is_superinterface (with_clients O (facts_of cs)) x t)
   pub lost : IsFalse (is_superinterface (with_clients N (facts_of cs)) x t)
 
--- some client loses it: of clients in scope that link whole with the old release and meet no collision
+-- some client loses it: of clients in scope, by allowed names, that link whole with the old release and meet no collision
 pub record SomeClientLoses (O N : World) (x t : Bytes) : Type 0 where
   pub clients : List ClientClass
   pub in_scope : IsInScope O N clients
+  pub allowed_names : All (λ c. IsTrue (allowed O N c.facts.name)) clients
   pub links : All (LinksWhole (with_clients O (facts_of clients))) clients
   pub meets_nothing : MeetsNothing O N clients
   pub client : ClientClass

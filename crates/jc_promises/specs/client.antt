@@ -1,3 +1,4 @@
+pub mod Names
 pub mod Scope
 pub mod Reach
 pub mod Meets

@@ -3,7 +3,7 @@ use Rattle.std.proofs.Common.{◌≡◌, Bool, true, false, cond, not, List, [],
 use Rattle.std.specs.List.{list_any, list_all}
 use Rattle.std.specs.Cmp.{both_ways}
 use Rattle.std.proofs.lemmas.Bool.{and_parts, and_from, or_cases, or_left, or_right, not-true}
-use Rattle.std.proofs.lemmas.List.Elements.{recursion_from_All, All-from_recursion, Contains-push, Contains-append_right}
+use Rattle.std.proofs.lemmas.List.Elements.{All-from_recursion, Contains-push, Contains-append_right}
 use Rattle.std.proofs.lemmas.List.Folds.{list_any-append, list_all-append}
 use Rattle.std.proofs.lemmas.List.{append-nil}
 use Rattle.std.proofs.Math.Bool.{or-false}
@@ -28,14 +28,13 @@ use Rattle.jc_facts.specs.client.Outcome.{outcome}
 use Rattle.jc_facts.specs.client.Valid.{IsValidClient, facts_of}
 use Rattle.jc_facts.specs.client.Allowed.{is_allowed_name}
 use Rattle.jc_facts.specs.file.Valid.{IsValidClass, is_valid_name}
-use Rattle.jc_promises.specs.client.Scope.{IsInScope}
 use Rattle.jc_promises.specs.plan.PlannedNames.{fresh_package, own_name, constructor}
 use Rattle.jc_promises.specs.plan.Planned.{an_interface, a_class, init_method, abstract_method}
 use Rattle.jc_promises.specs.rule.Bases.{is_base_class, is_base_interface, is_key_of_method}
 use Rattle.jc_promises.specs.rule.Selection.{first_kind, chain_kind, declares_abstract, concrete_choices, are_one, answers, is_due, is_answered}
 use Rattle.jc_promises.specs.rule.Warnings.{is_base, interfaces_from, part, parts_agree, warn_kind, warning_at}
 use Rattle.jc_facts.proofs.Same.{same_itself}
-use Rattle.jc_facts.proofs.World.{names as class_names, find-name, IsOf}
+use Rattle.jc_facts.proofs.World.{find-name, IsOf}
 use Rattle.jc_facts.proofs.Hierarchy.{any_each, each-all}
 use Rattle.jc_lemmas.proofs.Bools.{contradicts}
 use Rattle.jc_lemmas.proofs.Lists.{any_left}
@@ -46,7 +45,8 @@ use Rattle.jc_worlds.proofs.Clients.{Fits, find-client}
 use Rattle.jc_worlds.proofs.Sides.{superinterfaces-side}
 use Rattle.jc_worlds.proofs.Unrolled.{with_interfaces-unroll}
 use Rattle.jc_sound.proofs.Reach.{declared_library}
-use Rattle.jc_sound.proofs.Scope.{fits, allowed_names, overrides_none}
+use Rattle.jc_sound.proofs.ClientNames.{fits_old, fits_new}
+use Rattle.jc_sound.proofs.Scope.{fits, scope_names, overrides_none}
 use Rattle.jc_sound.proofs.Sound.{named_clients}
 use Rattle.jc_sound.proofs.Standing.{IsUsable, usable_accessible}
 use Rattle.jc_complete.specs.Completeness.{LinksWhole}
@@ -55,7 +55,7 @@ use Rattle.jc_complete.proofs.PlanGround.{Root, Planned, Ready, letter}
 use Rattle.jc_complete.proofs.PlanInterfaceMethodLost.{same_back, IsBaseInterface, base_interface}
 use Rattle.jc_complete.proofs.PlanInterfaces.{LibInterface, lib_with, each_with}
 use Rattle.jc_complete.proofs.PlanActs.{seat_base}
-use Rattle.jc_complete.proofs.PlanItems.{links_whole, scope_from, calls_above, below_root_loads}
+use Rattle.jc_complete.proofs.PlanItems.{links_whole, ScopeOfPlan, scope_from, calls_above, below_root_loads}
 use Rattle.jc_complete.proofs.PlanLoads.{TakesInterface, lib_find, lib_fault, client_loads, root_side, may_extend, may_implement, may_implement_client, shuts_none}
 use Rattle.jc_complete.proofs.PlanLookups.{below_init}
 use Rattle.jc_complete.proofs.PlanMeets.{chain_below, interfaces_below}
@@ -410,7 +410,7 @@ module _ (O N : World) (w : Bytes) (r : Ready O N w) (s : Bytes) (b : IsBase O N
     init_y : outcome VO y (item.Init s (constructor O s)) ≡ None
     init_y = below_init O (J.facts ∷ (Y t).facts ∷ []) fo y (Y t).facts s b.was.class (named_y t) refl b.was.is_there b.was.loaded y_o mo.allowed (side_plain r.root w O r.old s b.was.class b.was.is_there) (usable_accessible O s b.was y) b.class_o (constructor O s) ctor
 
-    scope : IsInScope O N (J ∷ Y t ∷ [])
+    scope : ScopeOfPlan O N (J ∷ Y t ∷ [])
     unfolding differ_by_name class_named
     scope = scope_from O N (J ∷ Y t ∷ []) r.old.bare (valid_J, (valid_Y t, tt)) (rw yj refl) (r.old.free 74 refl, (mo.allowed, tt)) (r.new.free 74 refl, (mn.allowed, tt))
         (inl refl, (calls_above VO y 0x0021 s (constructor O s) (bs ++ named t) [] [] [] y_o init_y, tt))
@@ -418,7 +418,8 @@ module _ (O N : World) (w : Bytes) (r : Ready O N w) (s : Bytes) (b : IsBase O N
     pub stops : (((Due O || t) ≡ true) → Answered O ≡ true) → (Due N || t) ≡ true → Answered N ≡ false → SomeClientStops O N x k
     stops answered due unanswered = record {
       clients = J ∷ Y t ∷ [];
-      in_scope = scope;
+      in_scope = scope.0;
+      allowed_names = scope.1;
       links = All-from_recursion (LinksWhole VO) (J ∷ Y t ∷ []) (links_whole VO J (loads_j O r.old b.was mo t) tt, (links_whole VO (Y t) y_o ((refl, init_y), tt), tt));
       client = Y t;
       below = below;
@@ -770,17 +771,11 @@ no_others O N a k cs y can scope base above names declares s = decide (answered_
     only : y.facts.interfaces ≡ st.interfaces
     only = names ∙ st.named_is
 
-    allowed_o : EachOf (λ n. is_allowed_name O n ≡ true) (class_names (facts_of cs))
-    allowed_o = allowed_names O cs (recursion_from_All (λ c. is_allowed_name O c.facts.name ≡ true) cs scope.allowed_old)
-
-    allowed_n : EachOf (λ n. is_allowed_name N n ≡ true) (class_names (facts_of cs))
-    allowed_n = allowed_names N cs (recursion_from_All (λ c. is_allowed_name N c.facts.name ≡ true) cs scope.allowed_new)
-
     fo : Fits O (facts_of cs)
-    fo = fits O cs r.old.bare allowed_o
+    fo = fits_old O N (facts_of cs) r.old.bare (scope_names O N cs scope)
 
     fn : Fits N (facts_of cs)
-    fn = fits N cs r.new.bare allowed_n
+    fn = fits_new O N (facts_of cs) r.new.bare (scope_names O N cs scope)
 
     named : class_named (facts_of cs) y.facts.name ≡ Some y.facts
     named = each_in (λ (c : ClientClass). class_named (facts_of cs) c.facts.name ≡ Some c.facts) cs y (named_clients cs scope.differ) s.is_in

@@ -23,6 +23,7 @@ use Rattle.jc_facts.specs.world.Assignment.{is_interface_of}
 use Rattle.jc_facts.specs.world.Loading.{load_fault}
 use Rattle.jc_facts.specs.client.Valid.{facts_of}
 use Rattle.jc_promises.specs.client.Scope.{IsInScope}
+use Rattle.jc_promises.specs.rule.Bases.{allowed}
 use Rattle.jc_promises.specs.rule.Selection.{first_kind, chain_kind, declares_abstract, are_one, answers, is_due, is_answered}
 use Rattle.jc_promises.specs.rule.Warnings.{is_base, interfaces_from, warning_at, WarningStands}
 use Rattle.jc_complete.specs.Completeness.{CanPlan, LinksWhole}
@@ -72,10 +73,11 @@ pub record Stops (O N : World) (cs : List ClientClass) (y : ClientClass) (k : Ke
   pub due : IsTrue (is_due (with_clients N (facts_of cs)) y.facts.name k)
   pub unanswered : IsFalse (is_answered (with_clients N (facts_of cs)) y.facts.name k)
 
--- of clients in scope that link whole with the old release, one directly below the base b that declares nothing of the key
+-- of clients in scope, by allowed names, that link whole with the old release, one directly below the base b that declares nothing of the key
 pub record SomeClientStops (O N : World) (b : Bytes) (k : Key) : Type 0 where
   pub clients : List ClientClass
   pub in_scope : IsInScope O N clients
+  pub allowed_names : All (λ c. IsTrue (allowed O N c.facts.name)) clients
   pub links : All (LinksWhole (with_clients O (facts_of clients))) clients
   pub client : ClientClass
   pub below : IsTrue (some_and (same b) client.facts.superclass || is_name_among client.facts.interfaces b)

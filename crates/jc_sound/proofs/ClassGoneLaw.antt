@@ -1,9 +1,7 @@
 -- What a class that is gone breaks: each client that could name it can't.
 use Rattle.std.proofs.Common.{◌≡◌, Bool, true, false, List, refl, sym, ◌∙◌, ap, subst, Option, Some, None, not, ◌&&◌, ◌==◌}
 use Rattle.std.proofs.lemmas.Bool.{and_parts, both_ways, not-true}
-use Rattle.std.proofs.lemmas.List.Elements.{recursion_from_All}
 use Rattle.jc_facts.specs.declared.class_facts.ClassFacts.{ClassFacts}
-use Rattle.jc_facts.specs.declared.client.ClientClass.{ClientClass}
 use Rattle.jc_facts.specs.declared.client.Item.TheVariants as item
 use Rattle.jc_facts.specs.declared.act.Act.{Act}
 use Rattle.jc_facts.specs.declared.act.Act.TheVariants.{ClassRef}
@@ -19,7 +17,7 @@ use Rattle.jc_facts.specs.world.Access.{is_class_accessible}
 use Rattle.jc_facts.specs.world.Loading.{load_fault, fault_where}
 use Rattle.jc_facts.specs.client.Outcome.{outcome, class_fault, class_step}
 use Rattle.jc_facts.specs.client.Valid.{facts_of}
-use Rattle.jc_facts.specs.client.Allowed.{is_allowed_name}
+use Rattle.jc_promises.specs.client.Names.{is_client_name}
 use Rattle.jc_promises.specs.rule.Bases.{is_class_usable}
 use Rattle.jc_promises.specs.rule.Findings.{Subject, finding_at, finding_by, class_gone, report_where, gone_error, fault_or}
 use Rattle.jc_sound.specs.Findings.{ClassGoneBreaks}
@@ -32,9 +30,10 @@ use Rattle.jc_worlds.proofs.Sides.{find-library, load_fault-side}
 use Rattle.jc_facts.specs.world.Modules.{is_visible}
 use Rattle.jc_worlds.proofs.Clients.{Fits, client_module}
 use Rattle.jc_worlds.proofs.VisibleFrom.{accessible_parts, visible_from-client}
-use Rattle.jc_worlds.proofs.Packages.{allowed_parts, same_package_apart}
+use Rattle.jc_worlds.proofs.Packages.{same_package_apart}
 use Rattle.jc_sound.proofs.Standing.{IsUsable, usable_parts, usable_from, usable_accessible}
-use Rattle.jc_sound.proofs.Scope.{fits, allowed_names}
+use Rattle.jc_sound.proofs.ClientNames.{free_new, free_parts, fits_old, fits_new}
+use Rattle.jc_sound.proofs.Scope.{scope_names}
 use Rattle.jc_sound.proofs.SoundnessLaws.{client_there}
 use Rattle.jc_worlds.proofs.ValidFacts.{fit_of}
 use Rattle.jc_sound.proofs.Context.{named_class}
@@ -58,7 +57,7 @@ by_class_gone O N s (Some k) (Some t) f e h = absurd (cc)
 
 -- ---- what its class breaks
 
-module _ (O N : World) (cs : List ClassFacts) (fo : Fits O cs) (fn : Fits N cs) (allowed_n : EachOf (λ n. is_allowed_name N n ≡ true) (names cs))
+module _ (O N : World) (cs : List ClassFacts) (fo : Fits O cs) (fn : Fits N cs) (client_names : EachOf (λ n. is_client_name O N n ≡ true) (names cs))
     (y : Bytes) (c : ClassFacts) (client : class_named cs y ≡ Some c) (x : Bytes) (plain : is_array_text x ≡ false) (was : is_class_usable O x ≡ true) (gone : is_class_usable N x ≡ false) where
   abbrev VO : World
   VO = with_clients O cs
@@ -108,7 +107,7 @@ module _ (O N : World) (cs : List ClassFacts) (fo : Fits O cs) (fn : Fits N cs) 
   unfolding or_else and_then
   hidden h =
       let there = loads-found N x h in
-      let apart = allowed_parts N y (EachOf-class_named (λ n. is_allowed_name N n ≡ true) cs y c client allowed_n) in
+      let apart = free_parts N y (free_new O N y (EachOf-class_named (λ n. is_client_name O N n ≡ true) cs y c client client_names)) in
       let other : in_same_package y there.0.name ≡ false = same_package_apart N y x there.0 apart.apart there.1 in
       let hid : is_class_accessible N y there.0 ≡ false = shut there.0 there.1 other (is_class_accessible N y there.0) refl in
       fault_is VN None (Some there.0) (new_load ∙ h) (sym (find-library N cs fn.bare x library) ∙ there.1)
@@ -155,13 +154,10 @@ class_gone_breaks O N old_bare new_bare vp vo s f is_1 stands cs scope c is_in =
         let v = side_valid O old_bare vp vo s.class u.class u.is_there in
         subst (λ (z : Bytes). is_array_text z ≡ false) (find-name O s.class u.class u.is_there) (fit_of u.class v).name
 
-    allowed_o : EachOf (λ n. is_allowed_name O n ≡ true) (names (facts_of cs))
-    allowed_o = allowed_names O cs (recursion_from_All (λ (c : ClientClass). is_allowed_name O c.facts.name ≡ true) cs scope.allowed_old)
-
-    allowed_n : EachOf (λ n. is_allowed_name N n ≡ true) (names (facts_of cs))
-    allowed_n = allowed_names N cs (recursion_from_All (λ (c : ClientClass). is_allowed_name N c.facts.name ≡ true) cs scope.allowed_new)
+    client_names : EachOf (λ n. is_client_name O N n ≡ true) (names (facts_of cs))
+    client_names = scope_names O N cs scope
 
     broken : Broken s.class (gone_error N s.class)
     broken =
         let t = client_there cs c is_in in
-        breaks O N (facts_of cs) (fits O cs old_bare allowed_o) (fits N cs new_bare allowed_n) allowed_n c.facts.name t.0 t.1 s.class plain parts.0 (not-true (is_class_usable N s.class) parts.1)
+        breaks O N (facts_of cs) (fits_old O N (facts_of cs) old_bare client_names) (fits_new O N (facts_of cs) new_bare client_names) client_names c.facts.name t.0 t.1 s.class plain parts.0 (not-true (is_class_usable N s.class) parts.1)

@@ -19,7 +19,7 @@ use Rattle.jc_facts.specs.world.Access.{is_class_accessible}
 use Rattle.jc_facts.specs.world.Loading.{load_fault, loads, fault_where}
 use Rattle.jc_facts.specs.world.Assignment.{is_interface_of, is_class_assignable, is_element_assignable, assign_to, assign_types, is_assignable}
 use Rattle.jc_facts.specs.client.Outcome.{class_fault, element_fault, type_fault, class_step}
-use Rattle.jc_facts.specs.client.Allowed.{is_allowed_name}
+use Rattle.jc_promises.specs.client.Names.{is_client_name}
 use Rattle.jc_promises.specs.client.Reach.{opens, class_in_reach, element_in_reach, text_in_reach, type_in_reach, receiver_in_reach, is_invoke_interface, is_interface_element, is_interface_type, is_in_reach}
 use Rattle.jc_promises.specs.rule.Findings.{takes_part}
 use Rattle.jc_promises.specs.rule.Bases.{is_class_usable, is_kept}
@@ -71,7 +71,7 @@ assign_itself V W s = go (type_read s)
     go (Some a) = at_dims a.dims a.element
 
 module _ (O N : World) (cs : List ClassFacts) (fo : Fits O cs) (fn : Fits N cs) (quiet : Quiet O N)
-    (allowed_o : EachOf (λ n. is_allowed_name O n ≡ true) (names cs)) (allowed_n : EachOf (λ n. is_allowed_name N n ≡ true) (names cs))
+    (client_names : EachOf (λ n. is_client_name O N n ≡ true) (names cs))
     (clients_load : (x : Bytes) (c : ClassFacts) → class_named cs x ≡ Some c → load_fault (with_clients O cs) x ≡ None → load_fault (with_clients N cs) x ≡ None) where
   abbrev VO : World
   VO = with_clients O cs
@@ -97,9 +97,9 @@ module _ (O N : World) (cs : List ClassFacts) (fo : Fits O cs) (fn : Fits N cs) 
       go (Some d) k t = made d (find-client N cs fn y d k) (clients_load y d k p.0) (sym (same_class_access O N x d (subst (λ z. SeeAlike O N x z) (sym (class_named-name cs y d k)) (clients_alike O N x y (client_module O cs fo x c e) (client_module O cs fo y d k) (client_module N cs fn x c e) (client_module N cs fn y d k)))) ∙ access d (find-client O cs fo y d k))
       go None k t =
           let o = find-library O cs fo.bare y k ∙ t.1 in
-          let u = library_usable O N cs fo fn quiet allowed_o allowed_n x c e y t.0 k o p.0 (access t.0 t.1) in
+          let u = library_usable O N cs fo fn quiet client_names x c e y t.0 k o p.0 (access t.0 t.1) in
           let n = usable_parts N y (stays_usable O N quiet y u) in
-          made n.class (sym (find-library N cs fn.bare y k) ∙ n.is_there) (library_loads O N cs fo fn quiet allowed_o allowed_n y k u) (usable_accessible N y n x)
+          made n.class (sym (find-library N cs fn.bare y k) ∙ n.is_there) (library_loads O N cs fo fn quiet client_names y k u) (usable_accessible N y n x)
 
   -- the item that names a class
   pub class_step-kept : (x : Bytes) (c : ClassFacts) → class_named cs x ≡ Some c → (t : Bytes) → class_step VO x t ≡ None → class_step VN x t ≡ None
@@ -124,7 +124,7 @@ module _ (O N : World) (cs : List ClassFacts) (fo : Fits O cs) (fn : Fits N cs) 
     where
       go : (o : Option ClassFacts) → class_named cs y ≡ o → (d : ClassFacts) × (find_class VO y ≡ Some d) → IsHeld y
       go (Some d) k t = client d k
-      go None k t = library k (library_usable O N cs fo fn quiet allowed_o allowed_n x c e y t.0 k (find-library O cs fo.bare y k ∙ t.1) h (a t.0 t.1))
+      go None k t = library k (library_usable O N cs fo fn quiet client_names x c e y t.0 k (find-library O cs fo.bare y k ∙ t.1) h (a t.0 t.1))
 
   -- ---- assignments, where a is the seat of the client that makes them
 

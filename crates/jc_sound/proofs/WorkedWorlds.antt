@@ -1,6 +1,5 @@
 -- A worked example of scope: clients are as many as they are, and their class files of any version that is read.
-use Rattle.std.proofs.Common.{◌≡◌, ℕ, true, List, [], ◌∷◌, refl, codes, lit<, IsTrue}
-use Rattle.std.specs.Str.{is_utf8}
+use Rattle.std.proofs.Common.{ℕ, List, [], ◌∷◌, refl, codes, IsTrue}
 use Rattle.std.proofs.lemmas.List.Elements.{All-from_recursion}
 use Rattle.jc_facts.specs.declared.class_facts.ClassFacts.{ClassFacts}
 use Rattle.jc_facts.specs.declared.client.ClientClass.{ClientClass}
@@ -9,8 +8,8 @@ use Rattle.jc_facts.specs.world.World.{World, with_clients}
 use Rattle.jc_facts.specs.file.Valid.{IsValidClass}
 use Rattle.jc_promises.specs.client.Scope.{IsInScope, has_open_super}
 use Rattle.jc_facts.specs.client.Valid.{IsValidClient, facts_of}
-use Rattle.jc_facts.specs.client.Allowed.{is_allowed_name}
-use Rattle.jc_sound.proofs.Examples.{computes, plain, over, ascii}
+use Rattle.jc_promises.specs.client.Names.{is_client_name}
+use Rattle.jc_sound.proofs.Examples.{computes, plain, over}
 use Rattle.jc_sound.proofs.WorkedClients.{p_A}
 
 abbrev A : Bytes
@@ -61,21 +60,6 @@ valid_E : IsValidClass (of_version 65 E)
 unfolding computes
 valid_E = record { name = refl; flags = refl; superclass = refl; interfaces = refl; fields = refl; fields_differ = refl; methods = refl; methods_differ = refl; permits = refl; nest_host = refl; nest_members = refl; constants = refl; constants_differ = refl; signatures = refl; signatures_differ = refl; one_of_class = refl }
 
-utf8_A : is_utf8 A ≡ true
-utf8_A = ascii A (lit< tt, (lit< tt, (lit< tt, (lit< tt, tt))))
-
-utf8_B : is_utf8 B ≡ true
-utf8_B = ascii B (lit< tt, (lit< tt, (lit< tt, (lit< tt, tt))))
-
-utf8_C : is_utf8 C ≡ true
-utf8_C = ascii C (lit< tt, (lit< tt, (lit< tt, (lit< tt, tt))))
-
-utf8_D : is_utf8 D ≡ true
-utf8_D = ascii D (lit< tt, (lit< tt, (lit< tt, (lit< tt, tt))))
-
-utf8_E : is_utf8 E ≡ true
-utf8_E = ascii E (lit< tt, (lit< tt, (lit< tt, (lit< tt, tt))))
-
 abbrev same_side : World
 same_side = over (plain p_A ∷ [])
 
@@ -85,7 +69,6 @@ five_of_each_version_are_in_scope =
     record {
       valid = All-from_recursion IsValidClient five (record { facts = valid_A; items = refl }, (record { facts = valid_B; items = refl }, (record { facts = valid_C; items = refl }, (record { facts = valid_D; items = refl }, (record { facts = valid_E; items = refl }, tt)))));
       differ = refl;
-      allowed_old = All-from_recursion (λ c. IsTrue (is_allowed_name same_side c.facts.name)) five (simp utf8_A, (simp utf8_B, (simp utf8_C, (simp utf8_D, (simp utf8_E, tt)))));
-      allowed_new = All-from_recursion (λ c. IsTrue (is_allowed_name same_side c.facts.name)) five (simp utf8_A, (simp utf8_B, (simp utf8_C, (simp utf8_D, (simp utf8_E, tt)))));
+      names = All-from_recursion (λ c. IsTrue (is_client_name same_side same_side c.facts.name)) five (refl, (refl, (refl, (refl, (refl, tt)))));
       open_supers = All-from_recursion (λ c. IsTrue (has_open_super (with_clients same_side (facts_of five)) c.facts)) five (refl, (refl, (refl, (refl, (refl, tt)))));
     }
