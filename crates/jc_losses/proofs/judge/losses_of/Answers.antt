@@ -43,7 +43,7 @@ pub returns : goal.returns
 returns c =
     losses_found c.args.old.now c.args.new.now c.args.clients.items c.in_ok-was.was' c.in_ok-now.now c.in_ok-records.field-0.asked.items c.from_vec.result c.add_clients.new.errors.items _ _ _
     (c.in_ok-was.ensures ∙ ap (side c.args.old.now) (c.in_ok-copies.ensures ∙ c.as_slice.ensures.value
-        ∙ records_alone c.args.clients.items c.new.result.items c.in_ok-records.field-0.records.items c.new.ensures.items c.in_ok-records.ensures.records))
+    ∙ records_alone c.args.clients.items c.new.result.items c.in_ok-records.field-0.records.items c.new.ensures.items c.in_ok-records.ensures.records))
     (c.in_ok-now.ensures ∙ ap (side c.args.new.now) (records_alone c.args.clients.items c.new.result.items c.in_ok-records.field-0.records.items c.new.ensures.items c.in_ok-records.ensures.records))
     c.in_ok-records.ensures.asked
     (c.from_vec.ensures ∙ (rw c.new-lost.ensures.items at c.in_ok-add_clients.ensures.lost))
