@@ -23,12 +23,14 @@ trap 'rm -rf "$made"' EXIT
 cd "$made"
 
 # A platform with its root alone; a release with the class p/A; one where nothing is left of it; one whose class file is cut off; one with a class file
-# of a byte too many; one that is a module and exports nothing; and one whose module-info.class is empty. The class files are of Java 8, the module's of Java 9.
+# of a byte too many; one that is a module and exports nothing; one whose module-info.class is empty; and a client, q/A, whose superclass is p/A. The class files are of Java 8, the
+# module's of Java 9.
 object='\0001\0000\0020java/lang/Object'
 init='\0001\0000\0006<init>\0001\0000\0003()V'
-mkdir -p platform/java/lang old/p gone cut/p long/p named/p empty/p
+mkdir -p platform/java/lang old/p gone cut/p long/p named/p empty/p client/q
 printf %b '\0312\0376\0272\0276\0000\0000\0000\0064\0000\0005\0007\0000\0002'"$object$init"'\0000\0041\0000\0001\0000\0000\0000\0000\0000\0000\0000\0001\0000\0001\0000\0003\0000\0004\0000\0000\0000\0000' >platform/java/lang/Object.class
 printf %b '\0312\0376\0272\0276\0000\0000\0000\0064\0000\0007\0007\0000\0002\0001\0000\0003p/A\0007\0000\0004'"$object$init"'\0000\0041\0000\0001\0000\0003\0000\0000\0000\0000\0000\0001\0000\0001\0000\0005\0000\0006\0000\0000\0000\0000' >old/p/A.class
+printf %b '\0312\0376\0272\0276\0000\0000\0000\0064\0000\0007\0007\0000\0002\0001\0000\0003q/A\0007\0000\0004\0001\0000\0003p/A'"$init"'\0000\0041\0000\0001\0000\0003\0000\0000\0000\0000\0000\0001\0000\0001\0000\0005\0000\0006\0000\0000\0000\0000' >client/q/A.class
 head -c 10 old/p/A.class >cut/p/A.class
 truncate -s 4194305 long/p/A.class
 cp old/p/A.class named/p
@@ -137,5 +139,22 @@ check empty
 see 'an empty module-info.class that is not asked for' 0 "$compatible" '' "${asked[@]}"
 check empty --modular
 see 'an empty module-info.class' 3 '' $'jcompat: new: module-info.class: Short at 0\n' "${asked[@]}"
+
+# clients WORD..: the words of a question about clients of the releases old and gone
+clients() {
+    asked=(clients --platform platform --old old --new gone "$@")
+}
+
+clients client old
+see 'a client that breaks, and one that is refused' 1 $'client 1 class q/A NoClassDefFoundError\nclient 1 breaks: 1 classes, 1 outcomes, 0 errors before, 1 lost\nclient 2 jcompat: client: name p/A declared\nclients: 2 clients, 1 broken, 1 refused\n' '' "${asked[@]}"
+clients gone
+see 'a client without classes' 0 $'client 1 keeps: 0 classes, 0 outcomes, 0 errors before, 0 lost\nclients: 1 clients, 0 broken, 0 refused\n' '' "${asked[@]}"
+clients client nowhere
+see 'a second client that is not there' 4 '' $'jcompat: client 2: read fault\n' "${asked[@]}"
+clients
+see 'no client' 2 '' $'jcompat: usage: clients 0\n' "${asked[@]}"
+mapfile -t many < <(for _ in {1..1001}; do echo client; done)
+clients "${many[@]}"
+see 'a thousand and one clients' 2 '' $'jcompat: usage: clients 1001\n' "${asked[@]}"
 
 echo "statuses: $tries tries"

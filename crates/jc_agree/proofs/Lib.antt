@@ -6,4 +6,5 @@ mod Outcomes
 mod StaysOk
 mod Replayed
 mod SameSide
+mod Lost
 mod Steps

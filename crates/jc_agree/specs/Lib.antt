@@ -1,6 +1,7 @@
 pub mod Compatible
 pub mod NothingListed
 pub mod Replays
+pub mod Losses
 pub mod SameSide
 pub mod Steps
 pub mod Numbers

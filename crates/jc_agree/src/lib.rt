@@ -4,6 +4,7 @@
 #![tactic(auto)]
 
 ghost use Rattle.jc_agree.specs.Compatible.{SameRelease, EmptyRelease, CompatibleStaysOk};
+ghost use Rattle.jc_agree.specs.Losses.{CompatibleLosesLittle, LossesHaveFindings, WitnessesAreLost};
 ghost use Rattle.jc_agree.specs.NothingListed.{SameReleaseLists, EmptyReleaseLists};
 ghost use Rattle.jc_agree.specs.Numbers.{StatusesAre, RulesAre, LimitsAre, VersionsAre};
 ghost use Rattle.jc_agree.specs.Replays.{WitnessesReplay};
@@ -42,6 +43,20 @@ pub fn compatible_stays_ok()
 /// the error of the finding or collision.
 pub fn witnesses_replay()
     ensures { WitnessesReplay }
+{
+    names_are_allowed();
+}
+
+/// Where `check` has no finding, `clients` finds nothing lost of clients in scope that meet no collision but
+/// items that aren't in reach. So where all are in reach and something is lost, `check` has a finding.
+pub fn compatible_loses_little()
+    ensures little { CompatibleLosesLittle }
+    ensures findings { LossesHaveFindings }
+{}
+
+/// Of a witness `clients` finds lost the outcome at its one spot, with the error of the finding or collision.
+pub fn witnesses_are_lost()
+    ensures { WitnessesAreLost }
 {
     names_are_allowed();
 }

@@ -1,5 +1,5 @@
 -- Why a command has no report, and what it comes to.
-use Rattle.std.proofs.Common.{◌≡◌, ◌≤◌, inl, inr, List, [], ◌∷◌, map, Option, Some, None, refl, sym, ap, subst, ◌∙◌}
+use Rattle.std.proofs.Common.{◌≡◌, ◌≤◌, inl, inr, List, [], ◌∷◌, ◌++◌, map, Option, Some, None, refl, sym, ap, subst, ◌∙◌}
 use Rattle.jc_base.specs.Outside.{FileOf}
 use Rattle.jc_base.specs.States.{TreesState, Change}
 use Rattle.jc_facts.specs.declared.class_facts.ClassFacts.{ClassFacts}
@@ -7,6 +7,7 @@ use Rattle.jc_facts.specs.declared.client.ClientClass.{ClientClass}
 use Rattle.jc_facts.specs.declared.outcome.Outcome.{Outcome}
 use Rattle.jc_facts.specs.declared.verdict.Verdict.{Verdict}
 use Rattle.jc_facts.specs.declared.warning.Warning.{Warning}
+use Rattle.jc_facts.specs.Names.{Bytes}
 use Rattle.jc_facts.specs.Options.{or_else}
 use Rattle.jc_promises.specs.rule.Verdict.{IsVerdict}
 use Rattle.jc_facts.specs.Verdicts.{count_of}
@@ -29,12 +30,19 @@ use Rattle.jc_trees.specs.declared.trees_error.TreesError.TheVariants as trees_e
 use Rattle.jc_commands.specs.Causes.{StopsCommand}
 use Rattle.jc_commands.specs.Check.{CheckRecords, is_apart, over_findings, over_warnings, over_dropped, AreWarned, mismatch_of, puts_below}
 use Rattle.jc_trees.specs.ClassFiles.{Told}
-use Rattle.jc_releases.specs.Command.{trees_of}
-use Rattle.jc_words.specs.Command.{CommandOf, CheckOf, LinkOf, HistoryOf, CheckCommand, LinkCommand, HistoryCommand}
+use Rattle.jc_releases.specs.Command.{trees_of, client_trees}
+use Rattle.jc_words.specs.Command.{CommandOf, CheckOf, LinkOf, HistoryOf, ClientsOf, CheckCommand, LinkCommand, HistoryCommand, ClientsCommand}
 use Rattle.jc_commands.specs.History.{HistoryRecords}
 use Rattle.jc_commands.specs.steps.History.{IsJudged, StopsJudging}
 use Rattle.jc_commands.specs.Link.{LinkRecords, refusal_of, AreOutcomesOf}
-use Rattle.jc_releases.specs.Releases.{modules_in, read_of, side_of}
+use Rattle.jc_releases.specs.Releases.{modules_in, read_of, side_of, old_and_new}
+use Rattle.jc_commands.specs.Clients.{ClientsRecords, mismatch_of_two, AreAnswers}
+use Rattle.jc_commands.specs.steps.Clients.{StopsSiding}
+use Rattle.jc_answers.specs.Said.{AreSaid}
+use Rattle.jc_answers.specs.steps.Trees.{FailsAmong}
+use Rattle.jc_answers.specs.declared.answer.Answer.{Answer}
+use Rattle.jc_answers.proofs.OneAnswer.{all_apart, all_borne_out}
+use Rattle.jc_answers.proofs.TreesSaid.{failed_since}
 use Rattle.jc_commands.specs.Reports.{ToldTo, RecordsOf, Refuses}
 use Rattle.jc_releases.specs.declared.releases.Release.{Release}
 use Rattle.jc_trees.specs.Tree.{TreeOf}
@@ -47,7 +55,7 @@ use Rattle.jc_trees.specs.declared.tree_read.TreeRead.TheVariants as reads
 use Rattle.jc_commands.specs.ReportValue.{TellsOf, HasToShow, IsBare, puts_in, IsReportOf}
 use Rattle.jc_commands.proofs.Bodies.{bare_dir, bare_puts, bare_can}
 use Rattle.jc_commands.proofs.Compared.{some_broken, each_shown, show_dir, show_puts, can_show_any}
-use Rattle.jc_commands.proofs.Records.{IsOfRecords, unfit_says, refusal_says, unfit_row_says, warned_few}
+use Rattle.jc_commands.proofs.Records.{IsOfRecords, unfit_says, refusal_says, unfit_row_says, mismatch_says, warned_few}
 use Rattle.jc_commands.proofs.SomeVerdict.{some_verdict, some_warnings}
 use Rattle.jc_commands.proofs.SomeDropped.{some_dropped}
 use Rattle.jc_releases.specs.declared.limits.TheConstants.{MAX_FINDINGS}
@@ -137,7 +145,7 @@ module _ (command : CommandOf) (c : Change TreesState) where
     where
       by_error : (error : TreesError) → StopsAmong c (trees_of command) error → StopsCommand command c (stop_by_trees error)
       by_error (trees_errors.Unread name fault) h = told (λ files. IsFirstUnread files (trees_of command) name fault) h
-      by_error (trees_errors.Fault name) h = h
+      by_error (trees_errors.Fault name) h = inl h
       by_error trees_errors.Memory h = tt
 
   -- the records of the trees are refused
@@ -266,3 +274,56 @@ module _ (history : HistoryOf) (c : Change TreesState) (wanted : List TreeOf) (w
     is_report = λ files told. (rowed files told, is.verdicts, bare_puts report.body none);
     upholds = λ files told. record { records = rowed files told; verdicts = is.verdicts; keeps = is.keeps };
   }
+
+-- ---- clients of two releases
+
+module _ (clients : ClientsOf) (c : Change TreesState) (wanted : List TreeOf) (wanted_is : wanted ≡ trees_of (ClientsCommand clients))
+    (all : List TreeRead) (platform old new : List ClassFacts) (all_is : all ≡ reads.Library platform ∷ reads.Library old ∷ reads.Library new ∷ [])
+    (read : Told c.before.content (λ files. GiveAll files wanted all)) where
+  abbrev two_releases : (files : List FileOf) → c.before.content ≡ Some files → ClientsRecords files clients
+  two_releases files told = record {
+    platform = platform;
+    old = old;
+    new = new;
+    are = told_reads c.before.content wanted (trees_of (ClientsCommand clients)) all (reads.Library platform ∷ reads.Library old ∷ reads.Library new ∷ []) wanted_is all_is read files told;
+  }
+
+  pub cause_siding : (stop : Stop) → StopsSiding platform old new stop → StopsCommand (ClientsCommand clients) c stop
+  cause_siding stop (inl h) = cause_refused (ClientsCommand clients) c stop (mismatch_says platform (old_and_new old new) stop h) (λ files told. (two_releases files told, h))
+  cause_siding stop (inr h) = cause_memory (ClientsCommand clients) c stop h
+
+  pub answers_reported : mismatch_of_two platform old new ≡ None → (O N : List ClassFacts) → O ≡ platform ++ old → N ≡ platform ++ new
+      → (each : List TreeOf) → each ≡ client_trees 1 clients.clients → (said : List Answer) → Told c.before.content (λ files. AreSaid files (side O []) (side N []) each said)
+      → (report : Report) → IsBare report.body → TellsOf (ClientsCommand clients) said report → IsReportOf (ClientsCommand clients) c.before report
+  answers_reported fits O N o n each each_is said are report none tells = record {
+    of = said;
+    tells = tells;
+    dir_is = bare_dir report.body none;
+    can_show = bare_can report.body none;
+    is_report = λ files told. (two_releases files told, answered files told, bare_puts report.body none);
+    upholds = λ files told. let a = answered files told in record {
+      records = two_releases files told;
+      answers = a;
+      borne_out = all_borne_out files (side platform old) (side platform new) (client_trees 1 clients.clients) said a.exact;
+    };
+  }
+    where
+      moved : (files : List FileOf) → c.before.content ≡ Some files → AreSaid files (side (platform ++ old) []) (side (platform ++ new) []) (client_trees 1 clients.clients) said
+      moved files told =
+          subst (λ (ts : List TreeOf). AreSaid files (side (platform ++ old) []) (side (platform ++ new) []) ts said) each_is
+          (subst (λ (M : List ClassFacts). AreSaid files (side (platform ++ old) []) (side M []) each said) n
+          (subst (λ (M : List ClassFacts). AreSaid files (side M []) (side N []) each said) o (are files told)))
+
+      answered : (files : List FileOf) → c.before.content ≡ Some files → AreAnswers files clients platform old new said
+      answered files told = record { fits = fits; exact = all_apart files platform old new (client_trees 1 clients.clients) said (moved files told) }
+
+-- judging the clients stopped
+pub cause_failing : (clients : ClientsOf) (a b c : TreesState) → ((r : Bytes) → a.faults r ≤ b.faults r) → (each : List TreeOf) → each ≡ client_trees 1 clients.clients
+    → (stop : Stop) (error : TreesError) → stop ≡ stop_by_trees error → FailsAmong (record { before = b; after = c }) each error → StopsCommand (ClientsCommand clients) (record { before = a; after = c }) stop
+cause_failing clients a b c le each each_is stop error is h =
+    subst (λ (s : Stop). StopsCommand (ClientsCommand clients) (record { before = a; after = c }) s) (sym is) (by_error error (subst (λ (ts : List TreeOf). FailsAmong (record { before = b; after = c }) ts error) each_is h))
+  where
+    by_error : (error : TreesError) → FailsAmong (record { before = b; after = c }) (client_trees 1 clients.clients) error → StopsCommand (ClientsCommand clients) (record { before = a; after = c }) (stop_by_trees error)
+    by_error (trees_errors.Unread name fault) h = absurd h
+    by_error (trees_errors.Fault name) h = inr (failed_since a b c le (client_trees 1 clients.clients) name h)
+    by_error trees_errors.Memory h = tt

@@ -18,7 +18,7 @@ use Rattle.jc_promises.specs.rule.Verdict.{IsVerdict}
 use Rattle.jc_facts.specs.Verdicts.{count_of}
 use Rattle.jc_promises.specs.rule.Warnings.{AreWarnings}
 use Rattle.jc_promises.specs.Pairs.{IsPair}
-use Rattle.jc_facts.specs.world.World.{World, Modules, OneModule, Several, is_modular}
+use Rattle.jc_facts.specs.world.World.{World, Modules, OneModule, Several, is_modular, side}
 use Rattle.jc_lemmas.proofs.Listed.{EachOf}
 use Rattle.jc_promises.proofs.Pairs.{pair_in}
 use Rattle.jc_facts.proofs.ReadLists.{read_valid}
@@ -33,12 +33,14 @@ use Rattle.jc_trees.specs.FirstTree.{IsFirstUnread}
 use Rattle.jc_commands.specs.Check.{CheckRecords, old_side, new_side, is_apart, over_findings, over_warnings, over_dropped, AreWarned, mismatch_of, report_of}
 use Rattle.jc_trees.specs.ClassFiles.{FileRead, ClassRead, ModuleRead, IsFileIn, AreRecords, AreModular, without_items, without_code, records_in}
 use Rattle.jc_releases.specs.Command.{release_kind, release_tree, release_trees, trees_of, asked_of}
-use Rattle.jc_words.specs.Command.{CommandOf, CheckOf, LinkOf, HistoryOf, CheckCommand, LinkCommand, MakeCommand, HistoryCommand}
+use Rattle.jc_words.specs.Command.{CommandOf, CheckOf, LinkOf, HistoryOf, ClientsOf, CheckCommand, LinkCommand, MakeCommand, HistoryCommand, ClientsCommand}
 use Rattle.jc_commands.specs.History.{HistoryRecords, row_of, mismatch_of_row}
 use Rattle.jc_history.specs.Row.{steps_of, AreVerdicts}
 use Rattle.jc_history.proofs.RowVerdicts.{all_few}
 use Rattle.jc_commands.specs.Link.{LinkRecords, release_side, refusal_of}
 use Rattle.jc_releases.specs.Releases.{read_as}
+use Rattle.jc_commands.specs.Clients.{ClientsRecords, mismatch_of_two}
+use Rattle.jc_answers.proofs.OneAnswer.{some_answers}
 use Rattle.jc_commands.specs.Reports.{RecordsOf, ReportOf, Refuses, Accepts, IsReportOn}
 use Rattle.jc_trees.specs.Tree.{TreeOf, library_at, clients_at}
 use Rattle.jc_releases.specs.declared.limits.TheConstants.{MAX_FINDINGS, MAX_WARNINGS, MAX_DROPPED}
@@ -115,10 +117,18 @@ module _ (files : List FileOf) where
       let rs = release_records 1 history.releases p.rest p.others in
       record { platform = p.records; releases = rs.0; are = ((refl, p.are), rs.1) }
 
+  clients_records : (clients : ClientsOf) (all : List TreeRead) → GiveAll files (trees_of (ClientsCommand clients)) all → ClientsRecords files clients
+  clients_records clients all h =
+      let p = library names.Platform clients.platform (library_at names.Old clients.old ∷ library_at names.New clients.new ∷ []) all h in
+      let o = library names.Old clients.old (library_at names.New clients.new ∷ []) p.rest p.others in
+      let n = library names.New clients.new [] o.rest o.others in
+      record { platform = p.records; old = o.records; new = n.records; are = ((refl, p.are), ((refl, o.are), ((refl, n.are), tt))) }
+
 records_from : (files : List FileOf) (command : CommandOf) → IsSized command → (all : List TreeRead) → GiveAll files (trees_of command) all → RecordsOf files command
 records_from files (CheckCommand check) sized all h = check_records files check all h
 records_from files (LinkCommand link) sized all h = link_records files link all h
 records_from files (MakeCommand n) sized all h = sized
+records_from files (ClientsCommand clients) sized all h = clients_records files clients all h
 records_from files (HistoryCommand history) sized all h = history_records files history all h
 
 file_valid : (files : List FileOf) (tree : TreeOf) (c : ClientClass) → IsFileIn files tree (ClassRead c) → IsValidClass c.facts
@@ -234,6 +244,11 @@ decided files (CheckCommand check) r = by_records (mismatch_of (old_side r) (new
     by_records None e = let v = verdict_on files check r e in by_count e v.0 v.1 (nat_lt MAX_FINDINGS (count_of v.0)) refl
     by_records (Some stop) e = inr (stop, is_apart e)
 decided files (MakeCommand n) r = inl tt
+decided files (ClientsCommand c) r = by_records (mismatch_of_two r.platform r.old r.new) refl
+  where
+    by_records : (o : Option Stop) → mismatch_of_two r.platform r.old r.new ≡ o → Decided files (ClientsCommand c) r
+    by_records None e = inl e
+    by_records (Some stop) e = inr (stop, e)
 decided files (HistoryCommand c) r = by_records (mismatch_of_row r.platform r.releases) refl
   where
     by_records : (o : Option Stop) → mismatch_of_row r.platform r.releases ≡ o → Decided files (HistoryCommand c) r
@@ -255,6 +270,9 @@ accepted_report files (CheckCommand check) r a =
     let ds = dropped_on check.dropped (old_side r) (new_side r) a.few_dropped in
     (report_of v.0 o.0 ns.0 ds.0, record { verdict = record { fits = a.fits; exact = v.1; few = a.few v.0 v.1 }; warnings = o.1; signatures = ns.1; dropped = ds.1 })
 accepted_report files (LinkCommand link) r a = (outcomes (release_side r) r.clients, record { fits = a; exact = refl })
+accepted_report files (ClientsCommand c) r a =
+    let all = some_answers files (side r.platform r.old) (side r.platform r.new) 1 c.clients in
+    (all.0, record { fits = a; exact = all.1 })
 accepted_report files (MakeCommand n) r a = made_verdict n r
 accepted_report files (HistoryCommand c) r a =
     let vs = verdicts_on files c r a.fits in

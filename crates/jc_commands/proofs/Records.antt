@@ -20,8 +20,8 @@ use Rattle.jc_link.specs.Refusals.{refused_client}
 use Rattle.jc_index.specs.Root.{fault_of_root}
 use Rattle.jc_index.specs.Sides.{overlap_of}
 use Rattle.jc_commands.specs.Check.{CheckRecords, old_side, new_side, HasTooMany, HasTooManyWarnings, HasTooManyDropped, IsUnfit, is_apart, over_findings, over_warnings, over_dropped, AreWarned, mismatch_of, report_of}
-use Rattle.jc_releases.specs.Command.{trees_of}
-use Rattle.jc_words.specs.Command.{CommandOf, CheckOf, LinkOf, HistoryOf, CheckCommand, LinkCommand, MakeCommand, HistoryCommand}
+use Rattle.jc_releases.specs.Command.{trees_of, client_trees}
+use Rattle.jc_words.specs.Command.{CommandOf, CheckOf, LinkOf, HistoryOf, ClientsOf, CheckCommand, LinkCommand, MakeCommand, HistoryCommand, ClientsCommand}
 use Rattle.jc_commands.specs.History.{HistoryRecords, row_of, mismatch_of_row, IsUnfitRow}
 use Rattle.jc_releases.specs.Releases.{read_as, release_at, old_and_new, numbered, first_overlap, mismatch_among}
 use Rattle.jc_releases.specs.declared.releases.Release.{Release}
@@ -31,6 +31,9 @@ use Rattle.jc_commands.specs.Link.{LinkRecords, release_side, refusal_of, client
 use Rattle.jc_commands.specs.Make.{old_made, new_made}
 use Rattle.jc_commands.specs.DroppedPart.{AreAskedDropped}
 use Rattle.jc_commands.specs.Signatures.{AreNoted}
+use Rattle.jc_commands.specs.Clients.{ClientsRecords, mismatch_of_two}
+use Rattle.jc_answers.specs.Said.{AreSaid}
+use Rattle.jc_answers.proofs.OneAnswer.{all_said}
 use Rattle.jc_commands.specs.Reports.{RecordsOf, ReportOf, Refuses, Accepts, IsReportOn}
 use Rattle.jc_releases.specs.declared.limits.TheConstants.{MAX_FINDINGS, MAX_WARNINGS, MAX_DROPPED}
 use Rattle.jc_commands.proofs.SomeDropped.{dropped_few, dropped_one}
@@ -138,6 +141,12 @@ same_link files link P s t p =
 same_history : (files : List FileOf) (h : HistoryOf) (P : List ClassFacts → List (List ClassFacts) → Type 0) (s t : HistoryRecords files h) → P t.platform t.releases → P s.platform s.releases
 same_history files h P s t p = same_row P t.platform s.platform t.releases s.releases (one_read files (trees_of (HistoryCommand h)) _ _ t.are s.are) p
 
+same_records : (files : List FileOf) (c : ClientsOf) (P : List ClassFacts → List ClassFacts → List ClassFacts → Type 0) (s t : ClientsRecords files c) → P t.platform t.old t.new → P s.platform s.old s.new
+same_records files c P s t p =
+    let each = same_each _ _ _ _ _ _ (one_read files (trees_of (ClientsCommand c)) _ _ t.are s.are) in
+    subst (P s.platform s.old) (same_library t.new s.new each.2)
+    (subst (λ (o : List ClassFacts). P s.platform o t.new) (same_library t.old s.old each.1) (subst (λ (q : List ClassFacts). P q t.old t.new) (same_library t.platform s.platform each.0) p))
+
 -- ---- why records are refused
 
 -- it is of the records, and not of the words, a tree or a call
@@ -153,7 +162,7 @@ overlap_says platform [] stop h = absurd (let clash : None ≡ Some stop = h in 
 overlap_says platform (r ∷ rs) stop h =
     first_says IsOfRecords _ _ (mapped_says IsOfRecords (stops.Overlap r.name) (overlap_of platform r.records) (λ x. tt)) (λ s e. overlap_says platform rs s e) stop h
 
-mismatch_says : (platform : List ClassFacts) (releases : List Release) (stop : Stop) → mismatch_among platform releases ≡ Some stop → IsOfRecords stop
+pub mismatch_says : (platform : List ClassFacts) (releases : List Release) (stop : Stop) → mismatch_among platform releases ≡ Some stop → IsOfRecords stop
 mismatch_says platform releases stop h =
     first_says IsOfRecords _ _ (mapped_says IsOfRecords stops.BadRoot (fault_of_root platform) (λ part. tt)) (λ s e. overlap_says platform releases s e) stop h
 
@@ -176,6 +185,7 @@ pub refuses_says : (files : List FileOf) (command : CommandOf) (r : RecordsOf fi
 refuses_says files (CheckCommand check) r stop h = unfit_says check (old_side r) (new_side r) stop h
 refuses_says files (LinkCommand link) r stop h = refusal_says (release_side r) r.clients stop h
 refuses_says files (MakeCommand n) r stop h = absurd h
+refuses_says files (ClientsCommand c) r stop h = mismatch_says r.platform (old_and_new r.old r.new) stop h
 refuses_says files (HistoryCommand c) r stop h = unfit_row_says r.platform r.releases stop h
 
 -- too many findings are a cause before too many warnings
@@ -219,6 +229,7 @@ one_refused files (CheckCommand check) r s a b h k = one_unfit check (old_side r
 one_refused files (LinkCommand link) r s a b h k =
     same_some (refusal_of (release_side r) r.clients) a b h (same_link files link (λ W cs. refusal_of W cs ≡ Some b) r s k)
 one_refused files (MakeCommand n) r s a b h k = absurd h
+one_refused files (ClientsCommand c) r s a b h k = same_some (mismatch_of_two r.platform r.old r.new) a b h (same_records files c (λ p o n. mismatch_of_two p o n ≡ Some b) r s k)
 one_refused files (HistoryCommand c) r s a b h k = one_unfit_row r.platform r.releases a b h (same_history files c (λ p q. IsUnfitRow p q b) r s k)
 
 -- and not where they are accepted
@@ -233,6 +244,8 @@ accepted_or_refused files (CheckCommand check) r s stop a h = go (same_check fil
 accepted_or_refused files (LinkCommand link) r s stop a h =
     none_some (refusal_of (release_side r) r.clients) stop a (same_link files link (λ W cs. refusal_of W cs ≡ Some stop) r s h)
 accepted_or_refused files (MakeCommand n) r s stop a h = h
+accepted_or_refused files (ClientsCommand c) r s stop a h =
+    none_some (mismatch_of_two r.platform r.old r.new) stop a (same_records files c (λ p o n. mismatch_of_two p o n ≡ Some stop) r s h)
 accepted_or_refused files (HistoryCommand c) r s stop a h = go (same_history files c (λ p q. IsUnfitRow p q stop) r s h)
   where
     go : IsUnfitRow r.platform r.releases stop → ⊥
@@ -266,6 +279,7 @@ report_accepted files (CheckCommand check) r report h = record {
 }
 report_accepted files (LinkCommand link) r list h = h.fits
 report_accepted files (MakeCommand n) r v h = tt
+report_accepted files (ClientsCommand c) r all h = h.fits
 report_accepted files (HistoryCommand c) r vs h = record {
   fits = h.fits;
   few = λ s is_step w k.
@@ -285,6 +299,9 @@ one_report_of files (CheckCommand check) r s a b h k =
     ∙ ap (report_of b.verdict b.warnings b.signatures)
     (dropped_one check.dropped (old_side r) (new_side r) a.dropped b.dropped h.dropped (same_check files check (λ O N. AreAskedDropped check.dropped O N b.dropped) r s k.dropped))
 one_report_of files (LinkCommand link) r s a b h k = h.exact ∙ sym (same_link files link (λ W cs. b ≡ outcomes W cs) r s k.exact)
+one_report_of files (ClientsCommand c) r s a b h k =
+    all_said files (side r.platform r.old) (side r.platform r.new) (client_trees 1 c.clients) a b h.exact
+    (same_records files c (λ p o n. AreSaid files (side p o) (side p n) (client_trees 1 c.clients) b) r s k.exact)
 one_report_of files (MakeCommand n) r s a b h k = verdict_is_one (old_made n) (new_made n) a b h k
 one_report_of files (HistoryCommand c) r s a b h k =
     one_row (steps_of (row_of r.platform r.releases)) a b h.exact (same_history files c (λ p q. AreVerdicts (steps_of (row_of p q)) b) r s k.exact)

@@ -17,7 +17,8 @@ use Rattle.jc_complete.specs.Completeness.{IsBroken}
 use Rattle.jc_commands.specs.Check.{CheckRecords, CheckReport, IsCheckReport, IsShown, MeetsNone, old_side, new_side, report_of, check_bytes, puts_below}
 use Rattle.jc_trees.specs.ClassFiles.{Told}
 use Rattle.jc_releases.specs.Command.{witness_dir, asked_of}
-use Rattle.jc_words.specs.Command.{CommandOf, CheckOf, CheckCommand, LinkCommand, MakeCommand, HistoryCommand}
+use Rattle.jc_words.specs.Command.{CommandOf, CheckOf, CheckCommand, LinkCommand, MakeCommand, HistoryCommand, ClientsCommand}
+use Rattle.jc_commands.specs.Clients.{IsTold}
 use Rattle.jc_commands.specs.History.{IsKeptRow}
 use Rattle.jc_commands.specs.Make.{IsSize}
 use Rattle.jc_commands.specs.Reports.{ToldTo, RecordsOf, ReportOf, IsReportOn, passes, bytes_of, puts_of}
@@ -106,10 +107,12 @@ puts_in (bodies.Row verdicts) = []
 
 -- ---- the report
 
--- where it is for generated releases, they may have as many classes; where it is for a row of releases, it has from 2 to 20
+-- where it is for generated releases, they may have as many classes; where it is for a row of releases, it has from 2 to 20; where it is for clients of two
+-- releases, there are from 1 to 1,000
 abbrev pub IsSized : CommandOf → Type 0
 IsSized (MakeCommand n) = IsSize n
 IsSized (HistoryCommand h) = (2 ≤ length h.releases) × (length h.releases ≤ 20)
+IsSized (ClientsCommand c) = (1 ≤ length c.clients) × (length c.clients ≤ 1000)
 IsSized command = Unit {0}
 
 -- the bytes are those of a command's report, and by whatever gates, it passes where that does
@@ -136,6 +139,7 @@ Upholds content (CheckCommand check) report puts = Told content (λ files. IsChe
 Upholds content (LinkCommand link) list puts = Unit {0}
 Upholds content (MakeCommand n) v puts = Unit {0}
 Upholds content (HistoryCommand h) vs puts = Told content (λ files. IsKeptRow files h vs)
+Upholds content (ClientsCommand c) all puts = Told content (λ files. IsTold files c all)
 
 -- it tells of the command's report on the records of its trees
 pub record IsReportOf (command : CommandOf) (trees : TreesState) (report : Report) : Type 0 where

@@ -1,6 +1,7 @@
 //! What the words of the program ask for.
 use jc_base::text::Text;
 use jc_words::check::Check;
+use jc_words::clients::Clients;
 use jc_words::command::Command;
 use jc_words::history::History;
 use jc_words::link::Link;
@@ -135,6 +136,21 @@ fn reads_a_row_of_releases(rt: HostRuntime) {
     });
     assert!(rt; asks(&rt, alloc, "history A B --platform P A", &row));
     assert!(rt; is_refused(&rt, alloc, "history --platform P A", &Usage::Releases(1)));
+}
+
+#[test]
+fn reads_clients_of_two_releases(rt: HostRuntime) {
+    let alloc = rt.alloc();
+    let clients = Command::Clients(Clients {
+        platform: "P",
+        old: "O",
+        new: "N",
+        clients: vec![in alloc; "A", "B", "A"].expect(&rt, "memory"),
+    });
+    let line = "clients A --new N B --platform=P --old O A";
+    assert!(rt; asks(&rt, alloc, line, &clients));
+    let line = "clients --platform P --old O --new N";
+    assert!(rt; is_refused(&rt, alloc, line, &Usage::Clients(0)));
 }
 
 // Whether a check with this value of `--gate` names these gates.

@@ -83,6 +83,7 @@ usage_words usages.Words = codes "words"
 usage_words (usages.UnknownGate name) = codes "unknown gate " ++ printed name
 usage_words (usages.Number word) = codes "number " ++ printed word
 usage_words (usages.Releases n) = codes "releases " ++ decimal n
+usage_words (usages.Clients n) = codes "clients " ++ decimal n
 usage_words usages.VersionMissing = codes "version missing"
 usage_words (usages.Version version) = codes "version " ++ printed version
 usage_words (usages.Versions from to) = codes "versions " ++ printed from ++ codes " " ++ printed to

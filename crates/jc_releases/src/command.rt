@@ -1,12 +1,13 @@
 //! The trees of commands, and their gates.
 ghost use Rattle.std.specs.Prelude.{◌≡◌, ◌≤◌, ◌+◌, length, IfOk, OnOk, ◌++◌, map};
-ghost use Rattle.jc_words.specs.CommandView.{check_of, link_of, history_of, command_of};
-ghost use Rattle.jc_releases.specs.Command.{trees_of, release_kind as kind_by, release_trees, gates_named as named_by};
-ghost use Rattle.jc_words.specs.Command.{CheckCommand, LinkCommand, HistoryCommand};
+ghost use Rattle.jc_words.specs.CommandView.{check_of, link_of, history_of, clients_of, command_of};
+ghost use Rattle.jc_releases.specs.Command.{trees_of, client_trees, release_kind as kind_by, release_trees, gates_named as named_by};
+ghost use Rattle.jc_words.specs.Command.{CheckCommand, LinkCommand, HistoryCommand, ClientsCommand};
 ghost use Rattle.jc_trees.specs.TreeView.{tree_of};
 
 use jc_trees::tree::{Tree, TreeKind, TreeName};
 use jc_words::check::Check;
+use jc_words::clients::Clients;
 use jc_words::command::Command;
 use jc_words::history::History;
 use jc_words::link::Link;
@@ -103,6 +104,52 @@ pub fn trees_of_history<'a>(alloc: Global, asked: &History<'a>) -> Result<Vec<Tr
     Ok(wanted)
 }
 
+/// The trees that have to be read where clients of two releases are judged, in this order.
+pub fn trees_of_clients<'a>(asked: &Clients<'a>) -> [Tree<'a>; 3]
+    ensures { map tree_of result ≡ trees_of (ClientsCommand (clients_of asked.now)) }
+{
+    [
+        Tree {
+            name: TreeName::Platform,
+            root: asked.platform,
+            kind: TreeKind::Library,
+        },
+        Tree {
+            name: TreeName::Old,
+            root: asked.old,
+            kind: TreeKind::Library,
+        },
+        Tree {
+            name: TreeName::New,
+            root: asked.new,
+            kind: TreeKind::Library,
+        },
+    ]
+}
+
+/// The trees of the clients themselves, of which there are up to 1,000, numbered from 1 on.
+///
+/// # Errors
+///
+/// `AllocError` where memory runs out.
+pub fn trees_of_each_client<'a>(
+    alloc: Global,
+    roots: &[&'a str],
+) -> Result<Vec<Tree<'a>>, AllocError>
+    requires { length roots.now ≤ 1000 }
+    ensures { IfOk result (λ wanted. map tree_of wanted.items ≡ client_trees 1 (map (λ root. root.now) roots.now)) }
+{
+    let mut wanted = Vec::new(alloc);
+    for (i, root) in roots.iter().enumerate() {
+        wanted.push(Tree {
+            name: TreeName::NthClient(i as u32 + 1),
+            root: *root,
+            kind: TreeKind::Clients,
+        })?;
+    }
+    Ok(wanted)
+}
+
 /// The names of the gates that a command asks, from left to right.
 ///
 /// # Errors
@@ -113,6 +160,8 @@ pub fn gates_named<'a>(alloc: Global, command: &Command<'a>) -> Result<Vec<&'a s
 {
     match command {
         Command::Check(check) => check.gate_names(alloc),
-        Command::Link(_) | Command::Make(_) | Command::History(_) => Ok(Vec::new(alloc)),
+        Command::Link(_) | Command::Make(_) | Command::History(_) | Command::Clients(_) => {
+            Ok(Vec::new(alloc))
+        }
     }
 }

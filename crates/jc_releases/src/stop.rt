@@ -256,6 +256,10 @@ fn usage_line(alloc: Global, usage: &Usage) -> Result<Vec<u8>, AllocError>
             line.extend_from_slice(b"releases ")?;
             push_decimal(alloc, &mut line, *count)?;
         }
+        Usage::Clients(count) => {
+            line.extend_from_slice(b"clients ")?;
+            push_decimal(alloc, &mut line, *count)?;
+        }
         Usage::VersionMissing => line.extend_from_slice(b"version missing")?,
         Usage::Version(version) => {
             line.extend_from_slice(b"version ")?;

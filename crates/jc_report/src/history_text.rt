@@ -29,8 +29,12 @@ fn push_byte(out: &mut Vec<u8>, front: &[u8], begins: bool, byte: u8) -> Result<
     Ok(())
 }
 
-// Adds the lines, with the front before each.
-fn push_lines(out: &mut Vec<u8>, front: &[u8], lines: &[u8]) -> Result<(), AllocError>
+/// Adds the lines, with the front before each.
+///
+/// # Errors
+///
+/// `AllocError` where memory runs out.
+pub fn push_lines(out: &mut Vec<u8>, front: &[u8], lines: &[u8]) -> Result<(), AllocError>
     ensures { OnOk result (out.new.items ≡ out.old.items ++ with_front front.now true lines.now) }
 {
     let mut begins = true;

@@ -129,7 +129,12 @@ fn push_line(text: &mut Vec<u8>, outcome: &Outcome) -> Result<(), AllocError>
     Ok(())
 }
 
-fn lines(alloc: Global, outcomes: &[Outcome]) -> Result<Vec<u8>, AllocError>
+/// The lines of outcomes, without the last line.
+///
+/// # Errors
+///
+/// `AllocError` where memory runs out.
+pub fn lines(alloc: Global, outcomes: &[Outcome]) -> Result<Vec<u8>, AllocError>
     ensures { IfOk result (λ text. text.items ≡ lines_of_outcomes outcomes.now) }
 {
     let mut text = Vec::new(alloc);

@@ -39,13 +39,21 @@ pub record HistoryOf : Type 0 where
   pub platform : Text
   pub releases : List Text
 
--- what is asked for: a check of two releases, the linking of clients, the verdict on generated releases of so many classes, or the verdicts on a
--- row of releases
+-- clients of two releases: the roots of the platform, of both, and of the tree of each client, in their order
+pub record ClientsOf : Type 0 where
+  pub platform : Text
+  pub old : Text
+  pub new : Text
+  pub clients : List Text
+
+-- what is asked for: a check of two releases, the linking of clients, the verdict on generated releases of so many classes, the verdicts on a
+-- row of releases, or which clients of two releases the new one breaks
 pub data CommandOf : Type 0 where
   CheckCommand : CheckOf → CommandOf
   LinkCommand : LinkOf → CommandOf
   MakeCommand : ℕ → CommandOf
   HistoryCommand : HistoryOf → CommandOf
+  ClientsCommand : ClientsOf → CommandOf
 
 -- ---- check
 
@@ -149,6 +157,38 @@ history_by_matches (Some rows) = or_releases (history_in rows)
 abbrev pub history_by : List Text → Result CommandOf Usage
 history_by words = history_by_matches (taken history_arguments words)
 
+-- ---- clients
+
+abbrev pub clients_arguments : App
+clients_arguments = command_with (codes "clients")
+    (required_rule (codes "platform") ∷ required_rule (codes "old") ∷ required_rule (codes "new") ∷ words_rule (codes "clients") ∷ [])
+
+-- the clients of these matches
+abbrev pub clients_in : List Row → ClientsOf
+clients_in rows = record {
+  platform = value_of (codes "platform") rows;
+  old = value_of (codes "old") rows;
+  new = value_of (codes "new") rows;
+  clients = values_of (codes "clients") rows;
+}
+
+-- there are from one to a thousand clients
+abbrev pub are_clients : ℕ → Bool
+are_clients n = nat_le 1 n && nat_le n 1000
+
+-- another number of them is a fault
+abbrev pub or_clients : ClientsOf → Result CommandOf Usage
+or_clients c = if are_clients (length c.clients) then Ok (ClientsCommand c) else Err (usages.Clients (length c.clients))
+
+-- what the matches ask for, and words that aren't taken are a fault
+abbrev pub clients_by_matches : Option (List Row) → Result CommandOf Usage
+clients_by_matches None = Err usages.Words
+clients_by_matches (Some rows) = or_clients (clients_in rows)
+
+-- what the words after `clients` ask for
+abbrev pub clients_by : List Text → Result CommandOf Usage
+clients_by words = clients_by_matches (taken clients_arguments words)
+
 -- ---- all commands
 
 -- a command that doesn't take the words is a fault of them
@@ -163,6 +203,7 @@ command_by name words =
     else if bytes_eq name (codes "link") then or_words (option_map LinkCommand (link_by words))
     else if bytes_eq name (codes "make") then make_by words
     else if bytes_eq name (codes "history") then history_by words
+    else if bytes_eq name (codes "clients") then clients_by words
     else Err (usages.UnknownCommand name)
 
 -- what the words ask for, or the first fault of them: the first word names a command, and `clap` reads those after it

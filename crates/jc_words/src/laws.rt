@@ -2,9 +2,9 @@
 ghost use Rattle.std.specs.Prelude.{◌≡◌, ◌≤◌, ℕ, length, List, [], ◌∷◌, Ok, Err, Some, true, codes, IsSome};
 ghost use Rattle.clap.specs.Words.{Row, Text, first_of};
 ghost use Rattle.jc_words.specs.Arguments.{taken};
-ghost use Rattle.jc_words.specs.Command.{asked, HistoryOf, CheckCommand, LinkCommand, MakeCommand, HistoryCommand, check_arguments, link_arguments};
+ghost use Rattle.jc_words.specs.Command.{asked, HistoryOf, ClientsOf, CheckCommand, LinkCommand, MakeCommand, HistoryCommand, ClientsCommand, check_arguments, link_arguments};
 ghost use Rattle.jc_words.specs.declared.usage.Usage.TheVariants as usages;
-ghost use Rattle.jc_words.specs.Worked.{typed, plain_check, plain_link, plain_history};
+ghost use Rattle.jc_words.specs.Worked.{typed, plain_check, plain_link, plain_history, plain_clients};
 
 /// Options stand in any order, and a value follows its option or an equals sign, whatever it is.
 pub fn options_in_any_order()
@@ -111,6 +111,22 @@ pub fn rows_of_releases()
 /// Of a row that is asked for there are from 2 to 20 releases.
 pub fn rows_have_bounds()
     ensures { (words : List Text) (h : HistoryOf) → asked words ≡ Ok (HistoryCommand h) → (2 ≤ length h.releases) × (length h.releases ≤ 20) }
+{}
+
+/// `clients` takes the words that are no options, in their order, and wherever its options stand: the roots
+/// of from 1 to 1,000 clients.
+pub fn clients_of_two_releases()
+    ensures two { asked (typed (codes "clients --platform P --old O --new N A B")) ≡ Ok (ClientsCommand plain_clients) }
+    ensures options_last { asked (typed (codes "clients A B --new N --platform=P --old O")) ≡ Ok (ClientsCommand plain_clients) }
+    ensures one { asked (typed (codes "clients --platform P --old O --new N A")) ≡ Ok (ClientsCommand (record plain_clients { clients = codes "A" ∷ [] })) }
+    ensures none { asked (typed (codes "clients --platform P --old O --new N")) ≡ Err (usages.Clients 0) }
+    ensures no_new { asked (typed (codes "clients --platform P --old O A")) ≡ Err usages.Words }
+    ensures modular { asked (typed (codes "clients --platform P --old O --new N --modular A")) ≡ Err usages.Words }
+{}
+
+/// Whatever words ask for clients of two releases name from 1 to 1,000 of them.
+pub fn clients_have_bounds()
+    ensures { (words : List Text) (c : ClientsOf) → asked words ≡ Ok (ClientsCommand c) → (1 ≤ length c.clients) × (length c.clients ≤ 1000) }
 {}
 
 /// The first word is the command, whatever follows.

@@ -25,8 +25,11 @@ use Rattle.jc_commands.specs.Check.{CheckReport, IsAnswered, IsCompatible, IsInc
 use Rattle.jc_commands.proofs.SomeSignatures.{noted_list}
 use Rattle.jc_trees.specs.ClassFiles.{Told}
 use Rattle.jc_releases.specs.Command.{step_of_check, witness_dir}
-use Rattle.jc_words.specs.Command.{CommandOf, CheckOf, HistoryOf, CheckCommand, LinkCommand, MakeCommand, HistoryCommand, asked}
+use Rattle.jc_words.specs.Command.{CommandOf, CheckOf, HistoryOf, ClientsOf, CheckCommand, LinkCommand, MakeCommand, HistoryCommand, ClientsCommand, asked}
+use Rattle.jc_commands.specs.Clients.{IsTold}
 use Rattle.jc_commands.specs.History.{IsKeptRow}
+use Rattle.jc_answers.specs.ClientsText.{clients_text_of, are_all_kept}
+use Rattle.jc_answers.specs.declared.answer.Answer.{Answer}
 use Rattle.jc_commands.specs.Reports.{RecordsOf, IsReportOn, rules_of, puts_of}
 use Rattle.jc_promises.specs.rule.Verdict.{IsVerdict}
 use Rattle.jc_facts.specs.Verdicts.{is_incompatible}
@@ -85,6 +88,9 @@ no_link l d e = absurd (cc)
 no_history : {P : Type 0} (h : _) (d : CheckOf) → HistoryCommand h ≡ CheckCommand d → P
 no_history h d e = absurd (cc)
 
+no_clients : {P : Type 0} (k : _) (d : CheckOf) → ClientsCommand k ≡ CheckCommand d → P
+no_clients k d e = absurd (cc)
+
 no_make : {P : Type 0} (n : ℕ) (d : CheckOf) → MakeCommand n ≡ CheckCommand d → P
 no_make n d e = absurd (cc)
 
@@ -98,6 +104,7 @@ upheld trees report check (CheckCommand c) e is = record {
 upheld trees report check (LinkCommand l) e is = no_link l check e
 upheld trees report check (MakeCommand n) e is = no_make n check e
 upheld trees report check (HistoryCommand h) e is = no_history h check e
+upheld trees report check (ClientsCommand k) e is = no_clients k check e
 
 -- what the report of a row of releases upholds
 record UpheldRow (content : Option (List FileOf)) (history : HistoryOf) (report : Report) : Type 0 where
@@ -114,6 +121,9 @@ no_row_of_check c k e = absurd (cc)
 no_row_of_link : {P : Type 0} (l : _) (k : HistoryOf) → LinkCommand l ≡ HistoryCommand k → P
 no_row_of_link l k e = absurd (cc)
 
+no_row_of_clients : {P : Type 0} (c : _) (k : HistoryOf) → ClientsCommand c ≡ HistoryCommand k → P
+no_row_of_clients c k e = absurd (cc)
+
 no_row_of_make : {P : Type 0} (n : ℕ) (k : HistoryOf) → MakeCommand n ≡ HistoryCommand k → P
 no_row_of_make n k e = absurd (cc)
 
@@ -125,7 +135,43 @@ upheld_row trees report history (HistoryCommand h) e is = record {
 }
 upheld_row trees report history (CheckCommand c) e is = no_row_of_check c history e
 upheld_row trees report history (LinkCommand l) e is = no_row_of_link l history e
+upheld_row trees report history (ClientsCommand c) e is = no_row_of_clients c history e
 upheld_row trees report history (MakeCommand n) e is = no_row_of_make n history e
+
+-- what the report of clients of two releases upholds
+record UpheldClients (content : Option (List FileOf)) (clients : ClientsOf) (report : Report) : Type 0 where
+  of : List Answer
+  told : Told content (λ files. IsTold files clients of)
+  text : bytes_in report.body ≡ clients_text_of of
+  answer : (gates : List GateOf) → passes_by gates report.condition ≡ are_all_kept of
+
+same_clients : (c d : ClientsOf) → ClientsCommand c ≡ ClientsCommand d → c ≡ d
+same_clients c d e = cc
+
+no_clients_of_check : {P : Type 0} (c : _) (k : ClientsOf) → CheckCommand c ≡ ClientsCommand k → P
+no_clients_of_check c k e = absurd (cc)
+
+no_clients_of_link : {P : Type 0} (l : _) (k : ClientsOf) → LinkCommand l ≡ ClientsCommand k → P
+no_clients_of_link l k e = absurd (cc)
+
+no_clients_of_row : {P : Type 0} (h : _) (k : ClientsOf) → HistoryCommand h ≡ ClientsCommand k → P
+no_clients_of_row h k e = absurd (cc)
+
+no_clients_of_make : {P : Type 0} (n : ℕ) (k : ClientsOf) → MakeCommand n ≡ ClientsCommand k → P
+no_clients_of_make n k e = absurd (cc)
+
+upheld_clients : (trees : TreesState) (report : Report) (clients : ClientsOf) (command : CommandOf) → command ≡ ClientsCommand clients → IsReportOf command trees report
+    → UpheldClients trees.content clients report
+upheld_clients trees report clients (ClientsCommand c) e is = record {
+  of = is.of;
+  told = subst (λ (k : ClientsOf). Told trees.content (λ files. IsTold files k is.of)) (same_clients c clients e) is.upholds;
+  text = is.tells.text;
+  answer = is.tells.answer;
+}
+upheld_clients trees report clients (CheckCommand c) e is = no_clients_of_check c clients e
+upheld_clients trees report clients (LinkCommand l) e is = no_clients_of_link l clients e
+upheld_clients trees report clients (HistoryCommand h) e is = no_clients_of_row h clients e
+upheld_clients trees report clients (MakeCommand n) e is = no_clients_of_make n clients e
 
 module _ (r : Ran) (report : Report) (is : Reports r.gates r.words r.trees.before report)
     (put : IsPutAfter (puts_in report.body) r.folder (bytes_in report.body) (status_by (passes_by r.gates report.condition)) r.out r.status ⊎ IsCutBefore (dir_in report.body) (puts_in report.body) r.folder r.out r.status)
@@ -333,6 +379,21 @@ module _ (r : Ran) (report : Report) (is : Reports r.gates r.words r.trees.befor
     judged : IsWhole → (vs : List Verdict) × Puts r (history_text_of vs) × OfFiles r (λ files. IsKeptRow files history vs)
     judged p = (row.of, p.puts (history_text_of row.of) row.text, row.kept)
 
+  module _ (clients : ClientsOf) (e : asked r.words ≡ Ok (ClientsCommand clients)) where
+    abbrev up_clients : UpheldClients r.trees.before.content clients report
+    up_clients = upheld_clients r.trees.before report clients is.command (same_ok (asked r.words) is.command (ClientsCommand clients) words_ask e) is.is
+
+    all_kept : r.status ≡ PASSED → IsTrue (are_all_kept up_clients.of)
+    all_kept zero = sym (up_clients.answer r.gates) ∙ (is_passed zero the_case).0
+
+    passes_kept : IsTrue (are_all_kept up_clients.of) → (r.status ≡ PASSED) ⊎ (r.status ≡ NOT_PASSED) → r.status ≡ PASSED
+    passes_kept kept (inl zero) = zero
+    passes_kept kept (inr one) = absurd (both_ways passed_by (is_not_passed one the_case).0 (up_clients.answer r.gates ∙ kept))
+
+    lost : (r.status ≡ PASSED) ⊎ (r.status ≡ NOT_PASSED) → IsWhole
+        → (all : List Answer) × Puts r (clients_text_of all) × OfFiles r (λ files. IsTold files clients all) × ((r.status ≡ PASSED) ↔ IsTrue (are_all_kept all))
+    lost answered p = (up_clients.of, p.puts (clients_text_of up_clients.of) up_clients.text, up_clients.told, (all_kept, λ kept. passes_kept kept answered))
+
   has_whole : (r.status ≡ PASSED) ⊎ (r.status ≡ NOT_PASSED) → IsWhole
   has_whole (inl zero) = (is_passed zero the_case).1
   has_whole (inr one) = (is_not_passed one the_case).1
@@ -367,6 +428,7 @@ module _ (r : Ran) (report : Report) (is : Reports r.gates r.words r.trees.befor
     unbroken = λ answered check e asks gate. unbroken check e asks gate answered (has_whole answered);
     versioned = λ answered check e asks step said gate. versioned check e asks step said gate answered (has_whole answered);
     judged = λ answered history e. judged history e (has_whole answered);
+    lost = λ answered clients e. lost clients e answered (has_whole answered);
     unwitnessed = λ none. untouched (is.is.dir_is ∙ if_ok (asked r.words) is.command (λ command. witness_dir command ≡ None) words_ask none);
     usage = never 2 refl refl refl refl;
     bad_input = never 3 refl refl refl refl;
@@ -455,6 +517,7 @@ module _ (r : Ran) (stop : Stop) (cause : HasCause r.gates r.words r.trees stop)
     unbroken = no_answer;
     versioned = no_answer;
     judged = no_answer;
+    lost = no_answer;
     unwitnessed = λ none. untouched;
     usage = refuses 2 refl refl put.known;
     bad_input = refuses 3 refl refl put.known;

@@ -11,7 +11,10 @@ use Rattle.jc_commands.specs.Causes.{HasCause, IsRefused, IsAccepted, HasFailed}
 use Rattle.jc_commands.specs.Check.{CheckReport, IsAnswered, IsCompatible, IsIncompatible, IsBorneOut, IsNoted, KeepsInterfaces, HoldsClients, check_bytes}
 use Rattle.jc_trees.specs.ClassFiles.{Told}
 use Rattle.jc_releases.specs.Command.{witness_dir, step_of_check, asked_of}
-use Rattle.jc_words.specs.Command.{CommandOf, CheckOf, HistoryOf, CheckCommand, HistoryCommand, asked}
+use Rattle.jc_words.specs.Command.{CommandOf, CheckOf, HistoryOf, ClientsOf, CheckCommand, HistoryCommand, ClientsCommand, asked}
+use Rattle.jc_answers.specs.ClientsText.{clients_text_of, are_all_kept}
+use Rattle.jc_answers.specs.declared.answer.Answer.{Answer}
+use Rattle.jc_commands.specs.Clients.{IsTold}
 use Rattle.jc_commands.specs.History.{IsKeptRow}
 use Rattle.jc_commands.specs.Outputs.{IsQuiet, PutsAll, PutsFront, HasPutFault, IsUntouched, HasFolderFault}
 use Rattle.jc_commands.specs.ReportValue.{status_by}
@@ -165,6 +168,11 @@ pub record Answers (r : Ran) : Type 0 where
   -- row that meets none of its collisions keeps with the last release what held with the first
   pub judged : (r.status ≡ PASSED) ⊎ (r.status ≡ NOT_PASSED) → (history : HistoryOf) → asked r.words ≡ Ok (HistoryCommand history)
       → (vs : List Verdict) × Puts r (history_text_of vs) × OfFiles r (λ files. IsKeptRow files history vs)
+  -- of clients of two releases: what was put is the text of what is said of the clients of each tree, in their order: why they aren't linked, or what they lose,
+  -- which is exactly each outcome that `link` says to be Ok with the old release and to be an error with the new. It passes exactly where all are linked, and lose
+  -- nothing
+  pub lost : (r.status ≡ PASSED) ⊎ (r.status ≡ NOT_PASSED) → (clients : ClientsOf) → asked r.words ≡ Ok (ClientsCommand clients)
+      → (all : List Answer) × Puts r (clients_text_of all) × OfFiles r (λ files. IsTold files clients all) × ((r.status ≡ PASSED) ↔ IsTrue (are_all_kept all))
   -- where no witnesses are asked for, nothing was put into the folder
   pub unwitnessed : IfOk (asked r.words) (λ command. witness_dir command ≡ None) → IsUntouched r.folder
   -- the words ask for nothing

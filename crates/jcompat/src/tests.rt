@@ -1,5 +1,6 @@
 //! Runs over trees in memory and over folders, against what they are to say.
 mod assembler;
+mod clients;
 mod dropped;
 mod files;
 mod folders;

@@ -1,0 +1,98 @@
+-- Of the clients of a tree exactly one thing is said, and what `link` says bears it out.
+use Rattle.std.proofs.Common.{◌≡◌, ◌∙◌, inl, inr, ◌+◌, ◌++◌, ℕ, List, [], ◌∷◌, refl, sym, ap, subst, Option, Some, None}
+use Rattle.jc_base.specs.Outside.{FileOf}
+use Rattle.jc_facts.specs.declared.class_facts.ClassFacts.{ClassFacts}
+use Rattle.jc_facts.specs.declared.client.ClientClass.{ClientClass}
+use Rattle.jc_facts.specs.Names.{Bytes}
+use Rattle.jc_facts.specs.world.World.{World, side}
+use Rattle.jc_answers.specs.Answers.{answer_by, answer_of}
+use Rattle.jc_answers.specs.Said.{IsSaid, of_clients, of_fault, AreSaid, AreLosses, AreBorneOut}
+use Rattle.jc_answers.specs.declared.answer.Answer.{Answer}
+use Rattle.jc_answers.specs.declared.answer.Answer.TheVariants as answers
+use Rattle.jc_link.specs.declared.refusal.ClientPart.{ClientPart}
+use Rattle.jc_losses.specs.JudgedOf.{losses_of, refused_by_either, judged_by}
+use Rattle.jc_losses.proofs.Both.{losses_are_of_both}
+use Rattle.jc_losses.proofs.InOneList.{together_the_same}
+use Rattle.jc_releases.specs.Command.{client_trees}
+use Rattle.jc_releases.specs.declared.stop.Stop.TheVariants as stops
+use Rattle.jc_trees.specs.ReadTrees.{Gives}
+use Rattle.jc_trees.specs.Tree.{TreeOf, clients_at}
+use Rattle.jc_trees.specs.declared.tree.TreeKind.TheVariants as kinds
+use Rattle.jc_trees.specs.declared.tree.TreeName.TheVariants as names
+use Rattle.jc_trees.specs.declared.tree_read.TreeRead.{TreeRead}
+use Rattle.jc_trees.specs.declared.tree_read.TreeRead.TheVariants as reads
+use Rattle.jc_trees.proofs.OneFault.{one_tree_fault, clean_fault}
+use Rattle.jc_trees.proofs.OneRead.{one_given, clean_given}
+use Rattle.jc_trees.proofs.SomeTrees.{TreeIsRead, some_tree, gives}
+
+same_clients : (cs ds : List ClientClass) → reads.Clients cs ≡ reads.Clients ds → cs ≡ ds
+same_clients cs ds e = cc
+
+module _ (files : List FileOf) (O N : World) where
+  -- ---- no two
+
+  one_said : (tree : TreeOf) (a b : Answer) → IsSaid files O N tree a → IsSaid files O N tree b → a ≡ b
+  one_said tree a b (of_clients cs g e) (of_clients ds k f) =
+      e ∙ ap (answer_of O N) (same_clients cs ds (one_given files tree (reads.Clients cs) (reads.Clients ds) g k)) ∙ sym f
+  one_said tree a b (of_clients cs g e) (of_fault y k f) = absurd (clean_fault files tree y (clean_given files tree (reads.Clients cs) g) k)
+  one_said tree a b (of_fault x g e) (of_clients ds k f) = absurd (clean_fault files tree x (clean_given files tree (reads.Clients ds) k) g)
+  one_said tree a b (of_fault x g e) (of_fault y k f) = e ∙ ap (λ z. answers.Refused (stops.Unread names.Client z)) (one_tree_fault files tree x y g k) ∙ sym f
+
+  pub all_said : (trees : List TreeOf) (a b : List Answer) → AreSaid files O N trees a → AreSaid files O N trees b → a ≡ b
+  all_said [] [] [] h k = refl
+  all_said [] [] (s ∷ b) h k = absurd k
+  all_said [] (r ∷ a) b h k = absurd h
+  all_said (t ∷ trees) [] b h k = absurd h
+  all_said (t ∷ trees) (r ∷ a) [] h k = absurd k
+  all_said (t ∷ trees) (r ∷ a) (s ∷ b) h k = ap (λ (x : Answer). x ∷ a) (one_said t r s h.0 k.0) ∙ ap (λ (xs : List Answer). s ∷ xs) (all_said trees a b h.1 k.1)
+
+  -- ---- borne out
+
+  by_losses : (cs : List ClientClass) (o : Option (Bytes × ClientPart)) → AreLosses O N cs (answer_by (judged_by o (losses_of O N cs)))
+  by_losses cs None = losses_are_of_both O N cs
+  by_losses cs (Some r) = tt
+
+  said_is_borne_out : (tree : TreeOf) (a : Answer) → IsSaid files O N tree a → (ds : List ClientClass) → Gives files tree (reads.Clients ds) → AreLosses O N ds a
+  said_is_borne_out tree a (of_clients cs g e) ds k =
+      subst (AreLosses O N ds) (sym e) (subst (λ (es : List ClientClass). AreLosses O N es (answer_of O N cs)) (same_clients cs ds (one_given files tree (reads.Clients cs) (reads.Clients ds) g k)) (by_losses cs (refused_by_either O N cs)))
+  said_is_borne_out tree a (of_fault x g e) ds k = absurd (clean_fault files tree x (clean_given files tree (reads.Clients ds) k) g)
+
+  pub all_borne_out : (trees : List TreeOf) (all : List Answer) → AreSaid files O N trees all → AreBorneOut files O N trees all
+  all_borne_out [] [] h = tt
+  all_borne_out [] (a ∷ all) h = absurd h
+  all_borne_out (t ∷ trees) [] h = absurd h
+  all_borne_out (t ∷ trees) (a ∷ all) h = (said_is_borne_out t a h.0, all_borne_out trees all h.1)
+
+  -- ---- one
+
+  by_read : (tree : TreeOf) → tree.kind ≡ kinds.Clients → (read : TreeRead) → Gives files tree read → (a : Answer) × IsSaid files O N tree a
+  by_read tree is (reads.Clients cs) g = (answer_of O N cs, of_clients cs g refl)
+  by_read tree is (reads.Library rs) g = absurd (let clash : kinds.Library ≡ kinds.Clients = sym g.0 ∙ is in cc)
+  by_read tree is (reads.Modular m) g = absurd (let clash : kinds.Modular ≡ kinds.Clients = sym g.0 ∙ is in cc)
+
+  some_said : (tree : TreeOf) → tree.kind ≡ kinds.Clients → (a : Answer) × IsSaid files O N tree a
+  some_said tree is = go (some_tree files tree)
+    where
+      go : TreeIsRead files tree → (a : Answer) × IsSaid files O N tree a
+      go (inl h) = let g = gives files tree h.0 h.1 kinds.Clients is in by_read tree is g.0 g.1
+      go (inr h) = (answers.Refused (stops.Unread names.Client h.0), of_fault h.0 h.1 refl)
+
+  pub some_answers : (n : ℕ) (roots : List Bytes) → (all : List Answer) × AreSaid files O N (client_trees n roots) all
+  some_answers n [] = ([], tt)
+  some_answers n (root ∷ roots) =
+      let one = some_said (clients_at (names.NthClient n) root) refl in
+      let more = some_answers (n + 1) roots in
+      (one.0 ∷ more.0, (one.1, more.1))
+
+-- ---- a platform and a release, in one list or not
+
+module _ (files : List FileOf) (P O N : List ClassFacts) where
+  said_apart : (tree : TreeOf) (a : Answer) → IsSaid files (side (P ++ O) []) (side (P ++ N) []) tree a → IsSaid files (side P O) (side P N) tree a
+  said_apart tree a (of_clients cs g e) = of_clients cs g (e ∙ ap answer_by (together_the_same P O N cs))
+  said_apart tree a (of_fault x g e) = of_fault x g e
+
+  pub all_apart : (trees : List TreeOf) (all : List Answer) → AreSaid files (side (P ++ O) []) (side (P ++ N) []) trees all → AreSaid files (side P O) (side P N) trees all
+  all_apart [] [] h = tt
+  all_apart [] (a ∷ all) h = absurd h
+  all_apart (t ∷ trees) [] h = absurd h
+  all_apart (t ∷ trees) (a ∷ all) h = (said_apart t a h.0, all_apart trees all h.1)

@@ -1,0 +1,102 @@
+//! Judging the clients of several trees, one tree after the other.
+ghost use Rattle.std.specs.Prelude.{◌≡◌, ◌≤◌, ℕ, List, [], map, IfOk, IfErr};
+ghost use Rattle.std.specs.List.{All};
+ghost use Rattle.jc_base.specs.States.{change};
+ghost use Rattle.jc_facts.specs.world.World.{side};
+ghost use Rattle.jc_answers.specs.Said.{IsSaid, AreSaid};
+ghost use Rattle.jc_answers.specs.steps.Trees.{IsOneList, FailsIn, FailsAmong, error_said};
+ghost use Rattle.jc_trees.specs.ClassFiles.{Told};
+ghost use Rattle.jc_trees.specs.Tree.{TreeOf};
+ghost use Rattle.jc_trees.specs.TreeView.{tree_of};
+
+use crate::answer::{Answer, answer_of};
+use jc_base::file_buf::FileBuf;
+use jc_base::recent_names::RecentNames;
+use jc_base::trees::Trees;
+use jc_loading::platform::Platform;
+use jc_losses::judge::judge;
+use jc_releases::stop::Stop;
+use jc_trees::read_tree::read_tree;
+use jc_trees::tree::{Tree, TreeKind, TreeName};
+use jc_trees::trees_error::TreesError;
+use std::alloc::Global;
+
+// What is said of a tree that isn't read, as `link` says it, or why nothing is.
+fn said_of(error: TreesError) -> Result<Answer, TreesError>
+    ensures { result ≡ error_said error }
+{
+    match error {
+        TreesError::Unread(_, fault) => Ok(Answer::Refused(Stop::Unread(TreeName::Client, fault))),
+        TreesError::Fault(name) => Err(TreesError::Fault(name)),
+        TreesError::Memory => Err(TreesError::Memory),
+    }
+}
+
+// What is said of the clients of one tree. What was read of it is given back at the end.
+fn judge_tree<T: Trees>(
+    alloc: Global,
+    tree: &Tree<'_>,
+    old: &Platform,
+    new: &Platform,
+    trees: &mut T,
+    buffer: &mut FileBuf,
+    recent: &RecentNames,
+) -> Result<Answer, TreesError>
+    requires kind { tree.now.kind ≡ TreeKind.Clients }
+    requires old { IsOneList old.now }
+    requires new { IsOneList new.now }
+    ensures said { IfOk result (λ answer. Told (T.state trees.old).content (λ files. IsSaid files (side old.now []) (side new.now []) (tree_of tree.now) answer)) }
+    ensures stopped { IfErr result (FailsIn (change T.state trees.old trees.new) (tree_of tree.now)) }
+    ensures content { (T.state trees.new).content ≡ (T.state trees.old).content }
+    ensures never_falls { (r : List ℕ) → (T.state trees.old).faults r ≤ (T.state trees.new).faults r }
+{
+    let read = match read_tree(alloc, tree, trees, buffer, recent) {
+        Ok(read) => read,
+        Err(error) => return said_of(error),
+    };
+    let clients = read.into_clients();
+    match judge(alloc, old, new, clients) {
+        Ok(judged) => Ok(answer_of(judged)),
+        Err(_) => Err(TreesError::Memory),
+    }
+}
+
+/// What is said of the clients of each of the trees, over an old side and a new one, each of which stands
+/// in one list. A tree that isn't read stops no other: that is said of it. What is read of a tree is given
+/// back before the next is read.
+///
+/// # Errors
+///
+/// `TreesError::Fault` where a call on a tree failed, and `Memory` where memory runs out.
+pub fn judge_trees<T: Trees>(
+    alloc: Global,
+    wanted: &[Tree<'_>],
+    old: &Platform,
+    new: &Platform,
+    trees: &mut T,
+) -> Result<Vec<Answer>, TreesError>
+    requires kinds { All (λ tree. tree.kind ≡ TreeKind.Clients) wanted.now }
+    requires old { IsOneList old.now }
+    requires new { IsOneList new.now }
+    ensures said { IfOk result (λ answers. Told (T.state trees.old).content (λ files. AreSaid files (side old.now []) (side new.now []) (map tree_of wanted.now) answers.items)) }
+    ensures stopped { IfErr result (FailsAmong (change T.state trees.old trees.new) (map tree_of wanted.now)) }
+    ensures content { (T.state trees.new).content ≡ (T.state trees.old).content }
+{
+    let Ok(mut buffer) = FileBuf::new(alloc) else {
+        return Err(TreesError::Memory);
+    };
+    let Ok(recent) = RecentNames::new(alloc) else {
+        return Err(TreesError::Memory);
+    };
+    let mut answers = Vec::new(alloc);
+    for tree in wanted {
+        match judge_tree(alloc, tree, old, new, trees, &mut buffer, &recent) {
+            Ok(answer) => match answers.push(answer) {
+                Ok(()) => {}
+                Err(_) => return Err(TreesError::Memory),
+            },
+            Err(error) => return Err(error),
+        }
+    }
+    Ok(answers)
+}
