@@ -18,7 +18,7 @@ use Rattle.jc_commands.specs.Check.{CheckRecords, CheckReport, IsCheckReport, Is
 use Rattle.jc_trees.specs.ClassFiles.{Told}
 use Rattle.jc_releases.specs.Command.{witness_dir, asked_of}
 use Rattle.jc_words.specs.Command.{CommandOf, CheckOf, CheckCommand, LinkCommand, MakeCommand, HistoryCommand}
-use Rattle.jc_commands.specs.History.{IsKeptRow}
+use Rattle.jc_commands.specs.History.{IsKeptRow, IsBorneOutRow}
 use Rattle.jc_commands.specs.Make.{IsSize}
 use Rattle.jc_commands.specs.Reports.{ToldTo, RecordsOf, ReportOf, IsReportOn, passes, bytes_of, puts_of}
 use Rattle.jc_shown.specs.Witness.{PutFile, causes_of, witness_puts}
@@ -135,7 +135,7 @@ abbrev pub Upholds : Option (List FileOf) → (command : CommandOf) → ReportOf
 Upholds content (CheckCommand check) report puts = Told content (λ files. IsChecked files check report puts)
 Upholds content (LinkCommand link) list puts = Unit {0}
 Upholds content (MakeCommand n) v puts = Unit {0}
-Upholds content (HistoryCommand h) vs puts = Told content (λ files. IsKeptRow files h vs)
+Upholds content (HistoryCommand h) vs puts = Told content (λ files. IsKeptRow files h vs × IsBorneOutRow files h vs)
 
 -- it tells of the command's report on the records of its trees
 pub record IsReportOf (command : CommandOf) (trees : TreesState) (report : Report) : Type 0 where
