@@ -1,17 +1,13 @@
 -- A step of a row and the check of its two releases.
 use Rattle.std.proofs.Common.{◌≡◌, ℕ, zero, suc, ◌+◌, Bool, List, [], ◌∷◌, map, refl, ◌∙◌, ap, subst, Some, slice_get, arith}
-use Rattle.std.proofs.lemmas.List.Elements.{recursion_from_All}
 use Rattle.jc_base.specs.Outside.{FileOf}
 use Rattle.jc_facts.specs.declared.class_facts.ClassFacts.{ClassFacts}
 use Rattle.jc_facts.specs.declared.verdict.Verdict.{Verdict}
 use Rattle.jc_facts.specs.Names.{Bytes}
 use Rattle.jc_facts.specs.world.World.{World, Modules, OneModule, side, side_in}
 use Rattle.jc_promises.specs.rule.Verdict.{IsVerdict}
-use Rattle.jc_bodies.specs.Files.{CanWrite}
 use Rattle.jc_history.specs.Row.{Step, steps_from, steps_of, AreVerdicts}
-use Rattle.jc_lemmas.proofs.Listed.{EachOf}
 use Rattle.jc_sound.proofs.VerdictLaw.{verdict_is_one}
-use Rattle.jc_shown.specs.Witness.{causes_of}
 use Rattle.jc_trees.specs.ReadTrees.{Gives, GiveAll}
 use Rattle.jc_trees.specs.Tree.{library_at}
 use Rattle.jc_trees.specs.declared.tree.TreeName.{TreeName}
@@ -23,10 +19,8 @@ use Rattle.jc_releases.specs.Command.{release_tree, release_trees}
 use Rattle.jc_releases.specs.Releases.{read_as}
 use Rattle.jc_commands.specs.Check.{CheckRecords, old_side, new_side}
 use Rattle.jc_commands.specs.History.{HistoryRecords, row_of}
-use Rattle.jc_commands.proofs.Compared.{each_shown}
 use Rattle.jc_commands.proofs.Records.{same_library, same_side}
-use Rattle.jc_commands.proofs.ShownFrom.{each_has_clients}
-use Rattle.jc_agree.specs.Steps.{IsCheckOfStep, SaysAsChecked, StepsAreChecks, StepsAreBorneOut, RowIsShown, StepsAreShown}
+use Rattle.jc_agree.specs.Steps.{IsCheckOfStep, SaysAsChecked, StepsAreChecks, StepsAreBorneOut}
 use Rattle.jc_agree.proofs.SameSide.{gives_to}
 
 -- ---- numbered
@@ -115,12 +109,3 @@ steps_are_checks files h check n of row two = says files h check n of row two
 
 pub steps_are_borne_out : StepsAreBorneOut
 steps_are_borne_out files h check n of vs kept report out = (says files h check n of kept.records out.records).verdict vs report.verdict kept.verdicts out.parts.verdict
-
-shown_each : (steps : List Step) (vs : List Verdict) → EachOf (λ (s : Step). CanWrite s.old s.new) steps → AreVerdicts steps vs → RowIsShown steps vs
-shown_each [] [] can h = tt
-shown_each [] (v ∷ vs) can h = absurd h
-shown_each (s ∷ ss) [] can h = absurd h
-shown_each (s ∷ ss) (v ∷ vs) can h = (each_has_clients s.old s.new v h.0 (causes_of v) (each_shown s.old s.new v can.0 h.0), shown_each ss vs can.1 h.1)
-
-pub steps_are_shown : StepsAreShown
-steps_are_shown row vs can h = shown_each (steps_of row) vs (recursion_from_All (λ (s : Step). CanWrite s.old s.new) (steps_of row) can) h

@@ -1,18 +1,12 @@
 -- What `history` says of a step of a row, and what `check` says of the two releases of the step.
 --     IsCheckOfStep h check n      the check is of the releases n and n + 1 of the row, from 0, over the row's platform
 --     StepsAreChecks      the step is between the two sides of the check, and has its verdict
---     StepsAreShown      each finding and each collision on a step is shown by class files, as those of a check are
 use Rattle.std.specs.Prelude.{◌≡◌, ℕ, ◌+◌, List, Some, slice_get, IsFalse}
-use Rattle.std.specs.List.{All, AllZip}
 use Rattle.jc_base.specs.Outside.{FileOf}
 use Rattle.jc_facts.specs.declared.verdict.Verdict.{Verdict}
-use Rattle.jc_bodies.specs.Files.{CanWrite}
-use Rattle.jc_history.specs.Row.{Step, steps_of, AreVerdicts}
-use Rattle.jc_facts.specs.world.World.{World}
-use Rattle.jc_witness.specs.declared.witness.WitnessFile.{WitnessFile}
+use Rattle.jc_history.specs.Row.{steps_of}
 use Rattle.jc_words.specs.Command.{CheckOf, HistoryOf}
-use Rattle.jc_shown.specs.Witness.{causes_of}
-use Rattle.jc_commands.specs.Check.{CheckRecords, CheckReport, IsVerdictOn, IsBorneOut, Shows, old_side, new_side}
+use Rattle.jc_commands.specs.Check.{CheckRecords, CheckReport, IsVerdictOn, IsBorneOut, old_side, new_side}
 use Rattle.jc_commands.specs.History.{HistoryRecords, IsKeptRow, AreVerdictsOn, row_of}
 
 -- ---- a step and a check
@@ -37,17 +31,3 @@ StepsAreChecks = (files : List FileOf) (h : HistoryOf) (check : CheckOf) (n : �
 abbrev pub StepsAreBorneOut : Type 0
 StepsAreBorneOut = (files : List FileOf) (h : HistoryOf) (check : CheckOf) (n : ℕ) → IsCheckOfStep h check n → (vs : List Verdict) → IsKeptRow files h vs → (report : CheckReport) → IsBorneOut files check report
     → slice_get vs n ≡ Some report.verdict
-
--- ---- what shows a step
-
--- each finding and each collision of the verdict on two sides is shown by some class files
-abbrev pub AreShown : World → World → Verdict → Type 0
-AreShown O N v = All (λ e. (fs : List WitnessFile) × Shows O N v e fs) (causes_of v)
-
--- each step's are
-abbrev pub RowIsShown : List Step → List Verdict → Type 0
-RowIsShown steps vs = AllZip (λ s v. AreShown s.old s.new v) steps vs
-
--- So it is with a row over each step of which clients can be planned and written.
-abbrev pub StepsAreShown : Type 0
-StepsAreShown = (row : List World) (vs : List Verdict) → All (λ s. CanWrite s.old s.new) (steps_of row) → AreVerdicts (steps_of row) vs → RowIsShown (steps_of row) vs

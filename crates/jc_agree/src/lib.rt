@@ -9,7 +9,7 @@ ghost use Rattle.jc_agree.specs.NothingListed.{SameReleaseLists, EmptyReleaseLis
 ghost use Rattle.jc_agree.specs.Numbers.{StatusesAre, RulesAre, LimitsAre, VersionsAre};
 ghost use Rattle.jc_agree.specs.Replays.{WitnessesReplay};
 ghost use Rattle.jc_agree.specs.SameSide.{SeeTheSameSide};
-ghost use Rattle.jc_agree.specs.Steps.{StepsAreChecks, StepsAreBorneOut, StepsAreShown};
+ghost use Rattle.jc_agree.specs.Steps.{StepsAreChecks, StepsAreBorneOut};
 
 use jc_link::laws::names_are_allowed;
 
@@ -68,12 +68,10 @@ pub fn link_sees_what_check_sees()
 {}
 
 /// The verdict of `history` on a step is that of `check` on the two releases of the step, without `--modular`; and so what bears out the
-/// report of that check bears out each printed line of the step. Each line is shown by class files wherever clients can be planned and
-/// written.
+/// report of that check bears out each printed line of the step.
 pub fn steps_are_checks()
     ensures verdict { StepsAreChecks }
     ensures borne_out { StepsAreBorneOut }
-    ensures shown { StepsAreShown }
 {}
 
 /// Each status, limit and rule number in digits, and the versions of class files by which reading goes. No contract says what these

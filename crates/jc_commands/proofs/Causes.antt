@@ -272,7 +272,8 @@ module _ (history : HistoryOf) (c : Change TreesState) (wanted : List TreeOf) (w
     dir_is = bare_dir report.body none;
     can_show = bare_can report.body none;
     is_report = λ files told. (rowed files told, is.verdicts, bare_puts report.body none);
-    upholds = λ files told. record { records = rowed files told; verdicts = is.verdicts; keeps = is.keeps };
+    upholds = λ files told.
+        (record { records = rowed files told; verdicts = is.verdicts; keeps = is.keeps }, record { records = rowed files told; verdicts = is.verdicts; steps = is.steps });
   }
 
 -- ---- clients of two releases

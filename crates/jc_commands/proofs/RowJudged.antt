@@ -9,7 +9,7 @@ use Rattle.jc_facts.specs.declared.verdict.Verdict.{Verdict}
 use Rattle.jc_facts.specs.file.Valid.{IsValidClass}
 use Rattle.jc_promises.specs.Pairs.{AreOfOneRun}
 use Rattle.jc_facts.specs.world.World.{World, side}
-use Rattle.jc_lemmas.proofs.Listed.{EachOf, each_in}
+use Rattle.jc_lemmas.proofs.Listed.{EachOf, EachOf-map, each_in}
 use Rattle.jc_history.specs.History.{AreOfRun, AreVerdictsWithin}
 use Rattle.jc_history.specs.Row.{steps_of, KeepsRow}
 use Rattle.jc_index.specs.Root.{fault_of_root}
@@ -18,13 +18,15 @@ use Rattle.jc_trees.specs.ClassLists.{IsRecordList}
 use Rattle.jc_commands.specs.History.{row_of, mismatch_of_row}
 use Rattle.jc_releases.specs.Releases.{numbered, sides_of, mismatch_among}
 use Rattle.jc_releases.specs.declared.releases.Release.{Release}
-use Rattle.jc_commands.specs.steps.History.{IsJudged, StopsJudging}
+use Rattle.jc_commands.specs.steps.History.{IsCounted, IsJudged, StopsJudging}
 use Rattle.jc_releases.specs.steps.Releases.{IsReleaseList, StopsOver}
 use Rattle.jc_releases.specs.declared.limits.TheConstants.{MAX_FINDINGS}
 use Rattle.jc_releases.specs.declared.stop.Part.TheVariants as parts
 use Rattle.jc_releases.specs.declared.stop.Stop.{Stop}
 use Rattle.jc_releases.specs.declared.stop.Stop.TheVariants as stops
+use Rattle.jc_commands.proofs.Compared.{each_mapped}
 use Rattle.jc_commands.proofs.Records.{first_none, unmapped}
+use Rattle.jc_commands.proofs.RowShown.{row_borne_out}
 use Rattle.jc_commands.proofs.TwoReleases.{row_sides}
 use Rattle.jc_commands.proofs.RowVerdicts.{step_verdict}
 
@@ -37,11 +39,16 @@ pub are_of_run : (platform : List ClassFacts) (releases : List (List ClassFacts)
 are_of_run platform releases tables is =
     subst (AreOfRun (side platform [])) (sym is) (All-from_recursion (AreOfOneRun (side platform [])) (row_of platform releases) (each_of_run platform releases))
 
-pub row_judged : (platform : List ClassFacts) (releases : List (List ClassFacts)) (tables : List World) (vs : List Verdict) → tables ≡ row_of platform releases → mismatch_of_row platform releases ≡ None
-    → AreVerdictsWithin (steps_of tables) MAX_FINDINGS (Some vs) → KeepsRow tables vs → IsJudged platform releases vs
-row_judged platform releases tables vs is fits exact kept =
+pub row_judged : (platform : List ClassFacts) (releases : List (List ClassFacts)) (tables : List World) (vs : List Verdict) → IsRecordList platform → EachOf IsRecordList releases → All IsCounted tables
+    → tables ≡ row_of platform releases → mismatch_of_row platform releases ≡ None → AreVerdictsWithin (steps_of tables) MAX_FINDINGS (Some vs) → KeepsRow tables vs → IsJudged platform releases vs
+row_judged platform releases tables vs ps lists counted is fits exact kept =
     let within : AreVerdictsWithin (steps_of (row_of platform releases)) MAX_FINDINGS (Some vs) = subst (λ (Ws : List World). AreVerdictsWithin (steps_of Ws) MAX_FINDINGS (Some vs)) is exact in
-    record { verdicts = record { fits = fits; exact = within.0; few = within.1 }; keeps = subst (λ (Ws : List World). KeepsRow Ws vs) is kept }
+    let each : EachOf IsCounted (row_of platform releases) = subst (EachOf IsCounted) is (recursion_from_All IsCounted tables counted) in
+    record {
+      verdicts = record { fits = fits; exact = within.0; few = within.1 };
+      keeps = subst (λ (Ws : List World). KeepsRow Ws vs) is kept;
+      steps = row_borne_out platform releases vs ps lists each within.0;
+    }
 
 pub row_refused : (platform : List ClassFacts) (releases : List (List ClassFacts)) (tables : List World) → IsRecordList platform → EachOf (All IsValidClass) releases → tables ≡ row_of platform releases
     → mismatch_of_row platform releases ≡ None → AreVerdictsWithin (steps_of tables) MAX_FINDINGS None → StopsJudging platform releases (stops.TooMany parts.Findings)
@@ -53,12 +60,11 @@ row_refused platform row tables ps valid is fits many =
 
 -- ---- numbered releases
 
-valid_each : (releases : List Release) → EachOf IsReleaseList releases → EachOf (All IsValidClass) (map (λ (r : Release). r.records) releases)
-valid_each [] h = tt
-valid_each (r ∷ rs) h = (h.0.valid, valid_each rs h.1)
+pub listed_row : (releases : List Release) → All IsReleaseList releases → EachOf IsRecordList (map (λ (r : Release). r.records) releases)
+listed_row releases h = each_mapped IsRecordList (λ (r : Release). r.records) releases (recursion_from_All IsReleaseList releases h)
 
 pub valid_row : (releases : List Release) → All IsReleaseList releases → EachOf (All IsValidClass) (map (λ (r : Release). r.records) releases)
-valid_row releases h = valid_each releases (recursion_from_All IsReleaseList releases h)
+valid_row releases h = EachOf-map (λ (rs : List ClassFacts) (l : IsRecordList rs). l.valid) (map (λ (r : Release). r.records) releases) (listed_row releases h)
 
 -- their sides
 pub row_is : (platform : List ClassFacts) (releases : List Release) (tables : List World) → releases ≡ numbered 1 (map (λ (r : Release). r.records) releases) → tables ≡ sides_of platform releases

@@ -236,12 +236,15 @@ ShowEach dir O N v n [] puts = puts ≡ []
 ShowEach dir O N v n (e ∷ es) puts =
     (fs : List WitnessFile) × (rest : List PutFile) × (puts ≡ map (put_file dir n) fs ++ rest) × Shows O N v e fs × ShowEach dir O N v (n + 1) es rest
 
--- each part of the report is what it has to be on the records, and each finding and each collision is shown by some class files, whether they are put
--- anywhere or not
+-- each finding and each collision of the verdict is shown by some class files, whether they are put anywhere or not
+abbrev pub AreShown : World → World → Verdict → Type 0
+AreShown O N v = All (λ e. (fs : List WitnessFile) × Shows O N v e fs) (causes_of v)
+
+-- each part of the report is what it has to be on the records, and each finding and each collision is shown
 pub record IsBorneOut (files : List FileOf) (check : CheckOf) (report : CheckReport) : Type 0 where
   pub records : CheckRecords files check
   pub parts : IsCheckReport records report
-  pub shown : All (λ e. (fs : List WitnessFile) × Shows (old_side records) (new_side records) report.verdict e fs) (causes_of report.verdict)
+  pub shown : AreShown (old_side records) (new_side records) report.verdict
 
 -- the folder holds below the path files that show each finding and each collision of the verdict, and every other path is as before
 pub record HoldsClients (files : List FileOf) (check : CheckOf) (v : Verdict) (dir : Bytes) (folder : Change FolderState) : Type 0 where

@@ -19,7 +19,7 @@ use Rattle.jc_trees.specs.ClassFiles.{Told}
 use Rattle.jc_releases.specs.Command.{witness_dir, asked_of}
 use Rattle.jc_words.specs.Command.{CommandOf, CheckOf, CheckCommand, LinkCommand, MakeCommand, HistoryCommand, ClientsCommand}
 use Rattle.jc_commands.specs.Clients.{IsTold}
-use Rattle.jc_commands.specs.History.{IsKeptRow}
+use Rattle.jc_commands.specs.History.{IsKeptRow, IsBorneOutRow}
 use Rattle.jc_commands.specs.Make.{IsSize}
 use Rattle.jc_commands.specs.Reports.{ToldTo, RecordsOf, ReportOf, IsReportOn, passes, bytes_of, puts_of}
 use Rattle.jc_shown.specs.Witness.{PutFile, causes_of, witness_puts}
@@ -138,7 +138,7 @@ abbrev pub Upholds : Option (List FileOf) → (command : CommandOf) → ReportOf
 Upholds content (CheckCommand check) report puts = Told content (λ files. IsChecked files check report puts)
 Upholds content (LinkCommand link) list puts = Unit {0}
 Upholds content (MakeCommand n) v puts = Unit {0}
-Upholds content (HistoryCommand h) vs puts = Told content (λ files. IsKeptRow files h vs)
+Upholds content (HistoryCommand h) vs puts = Told content (λ files. IsKeptRow files h vs × IsBorneOutRow files h vs)
 Upholds content (ClientsCommand c) all puts = Told content (λ files. IsTold files c all)
 
 -- it tells of the command's report on the records of its trees

@@ -6,7 +6,7 @@ ghost use Rattle.jc_commands.specs.Causes.{StopsCommand};
 ghost use Rattle.jc_words.specs.Command.{HistoryCommand};
 ghost use Rattle.jc_releases.specs.Releases.{numbered};
 ghost use Rattle.jc_commands.specs.ReportValue.{IsReportOf, IsSized};
-ghost use Rattle.jc_commands.specs.steps.History.{IsJudged, StopsJudging};
+ghost use Rattle.jc_commands.specs.steps.History.{IsCounted, IsJudged, StopsJudging};
 ghost use Rattle.jc_releases.specs.steps.Releases.{IsReleaseList};
 ghost use Rattle.jc_trees.specs.ClassLists.{IsRecordList};
 ghost use Rattle.jc_words.specs.CommandView.{history_of};
@@ -22,10 +22,21 @@ use jc_releases::limits::MAX_FINDINGS;
 use jc_releases::releases::{Release, numbered_releases, tables_over};
 use jc_releases::stop::{Part, Stop};
 use jc_releases::unread::stop_of;
+use jc_table::table::Table;
 use jc_trees::read_trees::read_trees;
 use jc_trees::tree_read::take_records;
 use jc_words::history::History;
 use std::alloc::Global;
+
+// Counts say what always holds of each table.
+fn count_each(tables: &[Table])
+    ensures { All IsCounted tables.now }
+{
+    for table in tables {
+        let _size = table.count();
+        let _names = table.mention_count();
+    }
+}
 
 // The verdicts on the releases of a row with the platform, or why there are none.
 fn judged(
@@ -47,7 +58,9 @@ fn judged(
         Ok(tables) => tables,
         Err(stop) => return Err(stop),
     };
-    match history_within(alloc, tables.as_slice(), MAX_FINDINGS) {
+    let row = tables.as_slice();
+    count_each(row);
+    match history_within(alloc, row, MAX_FINDINGS) {
         Ok(Some(verdicts)) => Ok(verdicts),
         Ok(None) => Err(Stop::TooMany(Part::Findings)),
         Err(_) => Err(Stop::Memory),

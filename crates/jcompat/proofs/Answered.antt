@@ -27,7 +27,7 @@ use Rattle.jc_trees.specs.ClassFiles.{Told}
 use Rattle.jc_releases.specs.Command.{step_of_check, witness_dir}
 use Rattle.jc_words.specs.Command.{CommandOf, CheckOf, HistoryOf, ClientsOf, CheckCommand, LinkCommand, MakeCommand, HistoryCommand, ClientsCommand, asked}
 use Rattle.jc_commands.specs.Clients.{IsTold}
-use Rattle.jc_commands.specs.History.{IsKeptRow}
+use Rattle.jc_commands.specs.History.{IsKeptRow, IsBorneOutRow}
 use Rattle.jc_answers.specs.ClientsText.{clients_text_of, are_all_kept}
 use Rattle.jc_answers.specs.declared.answer.Answer.{Answer}
 use Rattle.jc_commands.specs.Reports.{RecordsOf, IsReportOn, rules_of, puts_of}
@@ -109,7 +109,7 @@ upheld trees report check (ClientsCommand k) e is = no_clients k check e
 -- what the report of a row of releases upholds
 record UpheldRow (content : Option (List FileOf)) (history : HistoryOf) (report : Report) : Type 0 where
   of : List Verdict
-  kept : Told content (λ files. IsKeptRow files history of)
+  judged : Told content (λ files. IsKeptRow files history of × IsBorneOutRow files history of)
   text : bytes_in report.body ≡ history_text_of of
 
 same_history : (h k : HistoryOf) → HistoryCommand h ≡ HistoryCommand k → h ≡ k
@@ -130,7 +130,7 @@ no_row_of_make n k e = absurd (cc)
 upheld_row : (trees : TreesState) (report : Report) (history : HistoryOf) (command : CommandOf) → command ≡ HistoryCommand history → IsReportOf command trees report → UpheldRow trees.content history report
 upheld_row trees report history (HistoryCommand h) e is = record {
   of = is.of;
-  kept = subst (λ (k : HistoryOf). Told trees.content (λ files. IsKeptRow files k is.of)) (same_history h history e) is.upholds;
+  judged = subst (λ (k : HistoryOf). Told trees.content (λ files. IsKeptRow files k is.of × IsBorneOutRow files k is.of)) (same_history h history e) is.upholds;
   text = is.tells.text;
 }
 upheld_row trees report history (CheckCommand c) e is = no_row_of_check c history e
@@ -376,8 +376,8 @@ module _ (r : Ran) (report : Report) (is : Reports r.gates r.words r.trees.befor
     abbrev row : UpheldRow r.trees.before.content history report
     row = upheld_row r.trees.before report history is.command (same_ok (asked r.words) is.command (HistoryCommand history) words_ask e) is.is
 
-    judged : IsWhole → (vs : List Verdict) × Puts r (history_text_of vs) × OfFiles r (λ files. IsKeptRow files history vs)
-    judged p = (row.of, p.puts (history_text_of row.of) row.text, row.kept)
+    judged : IsWhole → (vs : List Verdict) × Puts r (history_text_of vs) × OfFiles r (λ files. IsKeptRow files history vs) × OfFiles r (λ files. IsBorneOutRow files history vs)
+    judged p = (row.of, p.puts (history_text_of row.of) row.text, (λ files told. (row.judged files told).0, λ files told. (row.judged files told).1))
 
   module _ (clients : ClientsOf) (e : asked r.words ≡ Ok (ClientsCommand clients)) where
     abbrev up_clients : UpheldClients r.trees.before.content clients report

@@ -15,7 +15,7 @@ use Rattle.jc_words.specs.Command.{CommandOf, CheckOf, HistoryOf, ClientsOf, Che
 use Rattle.jc_answers.specs.ClientsText.{clients_text_of, are_all_kept}
 use Rattle.jc_answers.specs.declared.answer.Answer.{Answer}
 use Rattle.jc_commands.specs.Clients.{IsTold}
-use Rattle.jc_commands.specs.History.{IsKeptRow}
+use Rattle.jc_commands.specs.History.{IsKeptRow, IsBorneOutRow}
 use Rattle.jc_commands.specs.Outputs.{IsQuiet, PutsAll, PutsFront, HasPutFault, IsUntouched, HasFolderFault}
 use Rattle.jc_commands.specs.ReportValue.{status_by}
 use Rattle.jc_commands.specs.Reports.{ToldTo, RecordsOf, ReportOf, IsReportOn, rules_of, passes, bytes_of, puts_of}
@@ -164,10 +164,11 @@ pub record Answers (r : Ran) : Type 0 where
   pub versioned : (r.status ≡ PASSED) ⊎ (r.status ≡ NOT_PASSED) → (check : CheckOf) → asked r.words ≡ Ok (CheckCommand check) → check.gates ≡ codes "version" ∷ []
       → (step : ℕ) → step_of_check check ≡ Some step → HasVersionGate r.gates
       → (report : CheckReport) × Puts r (check_bytes check.json report) × ((r.status ≡ PASSED) ↔ (need_of (rules_of report.verdict) ≤ step))
-  -- of a row of releases: what was put is the text of the verdicts on each two neighbours. Where none has a finding, each client world in scope of the
-  -- row that meets none of its collisions keeps with the last release what held with the first
+  -- of a row of releases: what was put is the text of the verdicts on each two neighbours. Each step is borne out as a check's two releases are, by its
+  -- verdict. Where none has a finding, each client world in scope of the row that meets none of its collisions keeps with the last release what held
+  -- with the first
   pub judged : (r.status ≡ PASSED) ⊎ (r.status ≡ NOT_PASSED) → (history : HistoryOf) → asked r.words ≡ Ok (HistoryCommand history)
-      → (vs : List Verdict) × Puts r (history_text_of vs) × OfFiles r (λ files. IsKeptRow files history vs)
+      → (vs : List Verdict) × Puts r (history_text_of vs) × OfFiles r (λ files. IsKeptRow files history vs) × OfFiles r (λ files. IsBorneOutRow files history vs)
   -- of clients of two releases: what was put is the text of what is said of the clients of each tree, in their order: why they aren't linked, or what they lose,
   -- which is exactly each outcome that `link` says to be Ok with the old release and to be an error with the new. It passes exactly where all are linked, and lose
   -- nothing
