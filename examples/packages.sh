@@ -43,7 +43,10 @@ try() {
     report-page "$made/document" examples/old examples/new >"$made/page" || fail "$1: there is no page"
     grep -q '<li id=n12 ' "$made/page" || fail "$1: the page lacks a line"
     annotate <"$made/document" | grep -q '^### incompatible' || fail "$1: nothing is told to a review"
-    check-jars --version | grep -q '^jcompat 0\.' || fail "$1: there is no version"
+    for tool in check-jars report-page annotate; do
+        "$tool" --version | grep -q '^jcompat [0-9]*\.[0-9]' || fail "$1: $tool has no version"
+        "$tool" --help | grep -q "^usage: $tool" || fail "$1: $tool has no help"
+    done
     printf 'packages: %s: ok\n' "$1"
 }
 BEFORE=$PATH
