@@ -130,15 +130,20 @@ try 'the version of a release' 0 'jcompat 1.0.0' '' "$without" ./jcompat --versi
 
 try 'the first run, without a kit' 1 "$answer" 'jcompat: the program of release 1.0.0, made from these sources' "$without" ./jcompat check a b
 [ "$(wc -l <"$made/err")" -eq 1 ] || go 'more is said than one line'
-try 'the second run' 1 "$answer" '' "$without" ./jcompat check a b
+mv "$made/bin/sha256sum" "$made"
+try 'the second run, which reads no source' 1 "$answer" '' "$without" ./jcompat check a b
+mv "$made/sha256sum" "$made/bin"
 try 'the program that is run' 0 "$clone/crates/jcompat/out/release/jcompat" '' "$without" ./jcompat --program
 touch -d '+2 seconds' crates/low/src/lib.rt
 try 'a source with another time' 1 "$answer" '' "$without" ./jcompat check a b
+touch -d '1 hour ago' crates/low/src/lib.rt
 try 'building is asked for' 70 '' "$no_kit" "$without" sh -c 'JCOMPAT_BUILD=1 ./jcompat check a b'
 rm -r crates/jcompat/out
 : >crates/jcompat/out
 try 'a folder that cannot be written' 1 "$answer" 'the program of release 1.0.0' "$without" ./jcompat check a b
+mv "$made/bin/sha256sum" "$made"
 try 'the second run there' 1 "$answer" '' "$without" ./jcompat check a b
+mv "$made/sha256sum" "$made/bin"
 try 'a cache that cannot be written either' 1 "$answer" 'the program of release 1.0.0' "$without" sh -c 'XDG_CACHE_HOME=/dev/null ./jcompat check a b'
 [ -z "$(ls "$made/passing")" ] || go 'something is left'
 try 'nothing can be written' 70 '' 'can be written' "$without" sh -c 'XDG_CACHE_HOME=/dev/null TMPDIR=/dev/null ./jcompat check a b'
