@@ -48,6 +48,7 @@ echo "the answer to $*"
 exit 1
 END
 chmod 755 "$made/program"
+{ cat "$made/program" && echo '# more'; } >"$made/other.program" && chmod 755 "$made/other.program"
 
 # the kit: it builds that program, and with --anew another one where SPOILS is set; its clang only copies
 script "$made/kit/rt" 'case $1 in' \
@@ -112,9 +113,13 @@ try 'the version without a release' 0 "jcompat $version" '' "$without" ./jcompat
 try 'a version that is none' 1 '' '1.0 is no version' "$with" tools/release 1.0
 try 'a version without a heading' 1 '' 'CHANGELOG.md has no line' "$with" tools/release 1.0.1
 export SPOILS=1
-try 'two builds that differ' 1 "$(printf 'release: building in %s\nrelease: building in %s' 'X/one' 'X/and-another-one, from nothing: some 40 minutes on four processors')" 'two builds have other bytes' "$with" \
-    sh -c 'tools/release 1.0.0 >"$1"; status=$?; sed "s,in /.*/,in X/," "$1"; exit "$status"' sh "$made/said"
+twice=$(printf 'release: building in X/%s\n' one 'and-another-one, from nothing: some 40 minutes on four processors')
+release='tools/release 1.0.0 >"$1"; status=$?; sed "s,in /.*/,in X/," "$1"; exit "$status"'
+try 'two builds that differ' 1 "$twice" 'two builds have other bytes' "$with" sh -c "$release" sh "$made/said"
 unset SPOILS
+mkdir -p crates/jcompat/out && cp "$made/other.program" crates/jcompat/out/jcompat
+try 'a program of the gate that differs' 1 "$twice" 'crates/jcompat/out/jcompat has other bytes' "$with" sh -c "$release" sh "$made/said"
+rm -r crates/jcompat/out
 [ ! -e release ] && [ -z "$(git status --porcelain)" ] || go 'something was written'
 PATH=$with tools/release 1.0.0 >"$made/out" 2>"$made/err" || go 'no release is made'
 read -r sum _ <release/jcompat.sha256
