@@ -28,6 +28,7 @@ top=$PWD
 made=$(mktemp -d)
 trap 'rm -rf "$made"' EXIT
 export XDG_CACHE_HOME="$made/cache"
+version=$(tools/version)
 tools/package "$made/out" >"$made/said" || fail 'it is not packed'
 mkdir "$made/archive" "$made/root"
 tar -xzf "$made"/out/*.tar.gz -C "$made/archive" --strip-components 1
@@ -43,7 +44,10 @@ try() {
     report-page "$made/document" examples/old examples/new >"$made/page" || fail "$1: there is no page"
     grep -q '<li id=n12 ' "$made/page" || fail "$1: the page lacks a line"
     annotate <"$made/document" | grep -q '^### incompatible' || fail "$1: nothing is told to a review"
-    check-jars --version | grep -q '^jcompat 0\.' || fail "$1: there is no version"
+    for tool in check-jars report-page annotate; do
+        [ "$("$tool" --version)" = "jcompat $version" ] || fail "$1: $tool has another version than $version"
+        "$tool" --help | grep -q "^usage: $tool" || fail "$1: $tool has no help"
+    done
     printf 'packages: %s: ok\n' "$1"
 }
 BEFORE=$PATH
