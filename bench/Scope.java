@@ -23,7 +23,7 @@ import java.util.stream.Stream;
  * folders that bench/inputs.sh has made. Each jar in the folder jars of a pair is a world of clients.
  *
  * <p>A line on standard error for each class that misses a premise, with all that it misses, and at the end a table in Markdown: how many worlds, packages and
- * classes have each. <code>LOADS</code> and <code>CALLS</code> were asked of clients before, in the place of <code>OPEN</code>. Whether a class overrides a final method isn't
+ * classes have each. <code>NAME</code>, <code>LOADS</code> and <code>CALLS</code> were asked of clients before, in the place of <code>PERMITTED</code> and <code>OPEN</code>. Whether a class overrides a final method isn't
  * asked; that it calls a constructor of its superclass is taken from the names in its pool, and a private one counts as accessible in its package.
  */
 public final class Scope {
@@ -34,9 +34,11 @@ public final class Scope {
         NAME("its name is a UTF-8 text of at most 4,090 bytes"),
         LOADS("it is an interface, or loads with the old release"),
         CALLS("it is an interface, or calls a constructor of its superclass"),
+        PERMITTED("no class of the old release permits it, or its name is such a text"),
         OPEN("it is an interface, or doesn't load, or its superclass is open to clients");
 
-        private static final Set<Premise> BEFORE = EnumSet.of(LOADS, CALLS);
+        private static final Set<Premise> BEFORE = EnumSet.of(NAME, LOADS, CALLS);
+        private static final Set<Premise> NOW = EnumSet.of(PERMITTED, OPEN);
 
         private final String words;
 
@@ -105,6 +107,10 @@ public final class Scope {
             clients.forEach(client -> this.clients.put(client.name, client));
         }
 
+        boolean permits(String name) {
+            return sides.stream().flatMap(side -> side.types.values().stream()).anyMatch(type -> type.permitted != null && type.permitted.contains(name));
+        }
+
         Type find(String name) {
             for (Library side : sides) {
                 if (side.types.containsKey(name)) {
@@ -153,8 +159,8 @@ public final class Scope {
         System.out.printf("| each class | worlds | packages | classes |%n|---|---|---|---|%n");
         row("is a client", scope.all);
         scope.having.forEach((premise, counts) -> row(premise.words, counts));
-        row("has all of these but the last, as was asked before", scope.before);
-        row("has all of these but the two before the last, as is asked", scope.after);
+        row("has all of these but the last two, as was asked before", scope.before);
+        row("has all of these but the three before the last two, as is asked", scope.after);
     }
 
     private static void row(String words, int[] counts) {
@@ -195,7 +201,7 @@ public final class Scope {
         for (Premise premise : Premise.values()) {
             add(having.computeIfAbsent(premise, key -> new int[3]), missed, EnumSet.of(premise));
         }
-        add(before, missed, EnumSet.complementOf(EnumSet.of(Premise.OPEN)));
+        add(before, missed, EnumSet.complementOf(EnumSet.copyOf(Premise.NOW)));
         add(after, missed, EnumSet.complementOf(EnumSet.copyOf(Premise.BEFORE)));
     }
 
@@ -228,6 +234,9 @@ public final class Scope {
         }
         if (client.name.getBytes(StandardCharsets.UTF_8).length > 4090 || client.name.chars().anyMatch(unit -> unit == 0 || Character.isSurrogate((char) unit))) {
             missed.add(Premise.NAME);
+            if (world.permits(client.name)) {
+                missed.add(Premise.PERMITTED);
+            }
         }
         if (!client.isInterface() && !world.loads(client.name)) {
             missed.add(Premise.LOADS);

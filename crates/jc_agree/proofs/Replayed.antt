@@ -1,7 +1,8 @@
 -- A witness, as `link` sees it.
-use Rattle.std.proofs.Common.{◌≡◌, ◌⊎◌, inl, inr, ◌+◌, ℕ, suc, zero, List, [], ◌∷◌, ◌++◌, Option, Some, None, is_some, refl, sym, subst, ◌∙◌, arith, cond}
+use Rattle.std.proofs.Common.{◌≡◌, ◌⊎◌, inl, inr, true, ◌+◌, ℕ, suc, zero, List, [], ◌∷◌, ◌++◌, Option, Some, None, is_some, refl, sym, subst, ◌∙◌, arith, cond}
 use Rattle.std.specs.Prelude.{IsTrue, slice_get}
 use Rattle.std.specs.List.{Contains, count_by}
+use Rattle.std.proofs.lemmas.Bool.{and_parts}
 use Rattle.std.proofs.lemmas.List.Elements.{recursion_from_All, Contains-append_left, Contains-append_right}
 use Rattle.std.proofs.lemmas.List.Sums.{sum_by-cons}
 use Rattle.jc_facts.specs.declared.client.ClientClass.{ClientClass}
@@ -15,6 +16,7 @@ use Rattle.jc_facts.specs.Options.{or_else}
 use Rattle.jc_facts.specs.client.Valid.{facts_of}
 use Rattle.jc_facts.specs.client.Allowed.{is_allowed_name}
 use Rattle.jc_promises.specs.client.Reach.{is_in_reach}
+use Rattle.jc_promises.specs.rule.Bases.{allowed}
 use Rattle.jc_facts.specs.client.Linked.{outcomes, in_order, all_outcomes, client_outcomes, item_outcomes, loading, linking}
 use Rattle.jc_facts.specs.client.Outcome.{Links}
 use Rattle.jc_facts.specs.world.World.{World, with_clients}
@@ -151,8 +153,14 @@ module _ (O N : World) (error : LinkError) (fs : List WitnessFile) (cs : List Cl
 pub witnesses_replay : NamesAreAllowed → WitnessesReplay
 unfolding outcomes
 witnesses_replay law O N error fs cs is = record {
-  taken_old = taken O N error fs cs is law O (recursion_from_All (λ c. IsTrue (is_allowed_name O c.facts.name)) cs is.in_scope.allowed_old);
-  taken_new = taken O N error fs cs is law N (recursion_from_All (λ c. IsTrue (is_allowed_name N c.facts.name)) cs is.in_scope.allowed_new);
+  taken_old = taken O N error fs cs is law O (EachOf-map (λ c a. (both_allowed c a).0) cs each);
+  taken_new = taken O N error fs cs is law N (EachOf-map (λ c a. (both_allowed c a).1) cs each);
   links = clients_ok (with_clients O (facts_of cs)) (in_order cs) (old_links O N error fs cs is);
   breaks = new_fails O N error fs cs is;
 }
+  where
+    each : EachOf (λ c. IsTrue (allowed O N c.facts.name)) cs
+    each = recursion_from_All (λ c. IsTrue (allowed O N c.facts.name)) cs is.allowed_names
+
+    both_allowed : (c : ClientClass) → allowed O N c.facts.name ≡ true → (is_allowed_name O c.facts.name ≡ true) × (is_allowed_name N c.facts.name ≡ true)
+    both_allowed c = and_parts (is_allowed_name O c.facts.name) (is_allowed_name N c.facts.name)

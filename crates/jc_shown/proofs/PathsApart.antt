@@ -3,7 +3,7 @@ use Rattle.std.proofs.Common.{◌≡◌, ◌≢◌, ◌≤◌, ◌<◌, ◌+◌,
 use Rattle.std.specs.Str.{is_utf8}
 use Rattle.std.proofs.lemmas.List.{length-append, length-map}
 use Rattle.std.proofs.lemmas.List.Elements.{All-from_recursion, recursion_from_All}
-use Rattle.std.specs.Cmp.{second_so}
+use Rattle.std.specs.Cmp.{first_so, second_so}
 use Rattle.jc_lemmas.proofs.Listed.{EachOf, EachOf-append, EachOf-map}
 use Rattle.jc_base.specs.States.{FolderState, Change}
 use Rattle.jc_facts.specs.declared.client.ClientClass.{ClientClass}
@@ -12,6 +12,7 @@ use Rattle.jc_facts.specs.declared.verdict.Cause.TheVariants as cause
 use Rattle.jc_facts.specs.declared.verdict.Verdict.{Verdict}
 use Rattle.jc_facts.specs.client.Allowed.{is_allowed_name}
 use Rattle.jc_facts.specs.Names.{Bytes}
+use Rattle.jc_promises.specs.rule.Bases.{allowed}
 use Rattle.jc_promises.specs.plan.Planned.{planned}
 use Rattle.jc_facts.specs.world.World.{World}
 use Rattle.jc_facts.proofs.Apart.{ApartRec}
@@ -52,7 +53,7 @@ module _ (O N : World) (e : Cause) (fs : List WitnessFile) (w : IsWitnessOf O N 
 
   pub are_utf8 : All (λ f. IsTrue (is_utf8 (class_of f))) fs
   are_utf8 = All-from_recursion (λ f. is_utf8 (class_of f) ≡ true) fs (of_names (λ x. is_utf8 x ≡ true) fs (planned O N e) w.shows.read
-      (EachOf-map (λ c a. allowed_is_utf8 O (name_of c) a) (planned O N e) (recursion_from_All (λ c. is_allowed_name O (name_of c) ≡ true) (planned O N e) w.shows.in_scope.allowed_old)))
+      (EachOf-map (λ c a. allowed_is_utf8 O (name_of c) (first_so (is_allowed_name O (name_of c)) _ a)) (planned O N e) (recursion_from_All (λ c. allowed O N (name_of c) ≡ true) (planned O N e) w.shows.allowed_names)))
 
 -- ---- the paths of a verdict's files
 

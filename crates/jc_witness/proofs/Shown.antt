@@ -94,6 +94,7 @@ pub is_witness : (O N : World) (e : Cause) (error : LinkError) → FilesShow O N
 is_witness O N e error s = record {
   read = read_each (planned_for O N e) (planned_files O N e) (planned O N e) s.files;
   in_scope = s.show.1.in_scope;
+  allowed_names = s.show.1.allowed_names;
   links = s.show.1.links;
   one_spot = spots (planned_for O N e) (planned_files O N e) ∙ s.one_spot;
   fails = fail_each (with_clients N (facts_of (planned O N e))) error (planned_for O N e) (planned O N e) s.show.0 s.show.1.spot s.show.1.is_in s.show.1.name s.show.1.fails

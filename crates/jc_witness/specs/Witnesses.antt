@@ -3,7 +3,7 @@
 --     IsWitnessOf O N e fs      the files are these, they show the error of the cause, and of the collisions they meet what they should
 --     IsWitness O N error fs cs      the files are read as the clients, which link with the old side and fail with the new at the one spot
 --     MeetsOnly O e v cs      of the verdict's collisions the clients of a finding meet none, and those of a collision that one
-use Rattle.std.specs.Prelude.{◌≡◌, List, [], ◌∷◌, map, Option, Some, None, Ok, is_some}
+use Rattle.std.specs.Prelude.{◌≡◌, List, [], ◌∷◌, map, Option, Some, None, Ok, is_some, IsTrue}
 use Rattle.std.specs.List.{All, Contains, count_by}
 use Rattle.jc_facts.specs.declared.blueprint.Blueprint.{Blueprint}
 use Rattle.jc_facts.specs.declared.client.ClientClass.{ClientClass}
@@ -19,6 +19,7 @@ use Rattle.jc_facts.specs.code.ClientItems.{items as items_in}
 use Rattle.jc_facts.specs.file.ClassGrammar.{Reads}
 use Rattle.jc_promises.specs.plan.Planned.{Plan, planned, planned_for, spot_of}
 use Rattle.jc_promises.specs.plan.PlannedBodies.{planned_files}
+use Rattle.jc_promises.specs.rule.Bases.{allowed}
 use Rattle.jc_promises.specs.rule.Verdict.{IsVerdict}
 use Rattle.jc_facts.specs.world.World.{World, with_clients}
 use Rattle.jc_facts.specs.written.Written.{written}
@@ -79,11 +80,12 @@ FailAtSpots W error [] cs = Unit {0}
 FailAtSpots W error (f ∷ fs) [] = Unit {0}
 FailAtSpots W error (f ∷ fs) (c ∷ cs) = FailsAt W c f.spot error × FailAtSpots W error fs cs
 
--- the files are read as the clients, in order. These are in scope and link whole with the old side. Exactly one file has a spot, and
+-- the files are read as the clients, in order. These are in scope, by allowed names, and link whole with the old side. Exactly one file has a spot, and
 -- there its client has this error with the new side
 pub record IsWitness (O N : World) (error : LinkError) (fs : List WitnessFile) (cs : List ClientClass) : Type 0 where
   pub read : AreReadAs fs cs
   pub in_scope : IsInScope O N cs
+  pub allowed_names : All (λ c. IsTrue (allowed O N c.facts.name)) cs
   pub links : All (LinksWhole (with_clients O (facts_of cs))) cs
   pub one_spot : count_by (λ (f : WitnessFile). is_some f.spot) fs ≡ 1
   pub fails : FailAtSpots (with_clients N (facts_of cs)) error fs cs
