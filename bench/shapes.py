@@ -155,15 +155,26 @@ def dropped_interfaces(n):
         yield "N", f"p/A{i:05}", class_file(f"p/A{i:05}", interfaces=[f"p/I{i:05}"] if i % 2 else [])
 
 
+def dropped_of_many(n):
+    """n classes that each name the same 2n interfaces, of which each leaves each second one; with --dropped"""
+    face = PUBLIC | INTERFACE | ABSTRACT
+    above = [f"p/I{i:05}" for i in range(2 * n)]
+    for name in above:
+        yield "ON", name, class_file(name, methods=(), flags=face)
+    for i in range(n):
+        yield "O", f"p/A{i:05}", class_file(f"p/A{i:05}", interfaces=above)
+        yield "N", f"p/A{i:05}", class_file(f"p/A{i:05}", interfaces=above[i % 2::2])
+
+
 SIZES = [(hidden_pairs, (1000, 2000, 4000)), (hidden_members, (1000, 4000, 16000)), (hidden_seats, (1000, 4000, 16000)),
          (hidden_pairs_and_seats, (250, 500, 1000)), (fat_interfaces, (16000, 65535)), (fat_permits, (16000, 65535)),
          (fat_fields, (15000, 60000)), (fat_methods, (15000, 60000)), (fat_turns, (15000, 60000)),
-         (signed_methods, (7500, 15000, 30000)), (wide_base, (500, 1000, 2000)), (dropped_interfaces, (2000, 4000, 8000))]
+         (signed_methods, (7500, 15000, 30000)), (wide_base, (500, 1000, 2000)), (dropped_interfaces, (2000, 4000, 8000)), (dropped_of_many, (100, 200, 400))]
 SHAPES = {shape.__name__: shape for shape, _ in SIZES}
 # those that name long texts
 FAT = (fat_interfaces, fat_permits, fat_fields, fat_methods, fat_turns)
 # what a check of the shape is asked for besides
-ASKED = {signed_methods: ["--signatures"], wide_base: ["--warn"], dropped_interfaces: ["--dropped"]}
+ASKED = {signed_methods: ["--signatures"], wide_base: ["--warn"], dropped_interfaces: ["--dropped"], dropped_of_many: ["--dropped"]}
 
 
 def written(shape, sizes, folder):

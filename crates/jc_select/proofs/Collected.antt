@@ -234,8 +234,8 @@ false_last : (a b : Bool) → b ≡ false → false ≡ (a && b)
 false_last true b e = sym e
 false_last false b e = refl
 
-pub not_below : (W : World) (x y : Bytes) → id_of W y ≡ None → false ≡ is_below_other W x y
-not_below W x y e = false_last (not (same x y)) (is_superinterface W x y) (go (is_superinterface W x y) refl)
+pub not_above : (W : World) (x y : Bytes) → id_of W y ≡ None → is_superinterface W x y ≡ false
+not_above W x y e = go (is_superinterface W x y) refl
   where
     go : (b : Bool) → is_superinterface W x y ≡ b → b ≡ false
     go false q = refl
@@ -243,3 +243,6 @@ not_below W x y e = false_last (not (same x y)) (is_superinterface W x y) (go (i
         let p = any_passes (λ (c : ClassFacts). same c.name y) (superinterfaces W x) q in
         let f : find_class W p.one.name ≡ Some p.one = each_in (IsOf W) (superinterfaces W x) p.one (super_of W x) p.is_in in
         let clash : None ≡ Some p.one = sym (find-None W y e) ∙ ap (find_class W) (sym (same_is p.one.name y p.passes)) ∙ f in cc)
+
+pub not_below : (W : World) (x y : Bytes) → id_of W y ≡ None → false ≡ is_below_other W x y
+not_below W x y e = false_last (not (same x y)) (is_superinterface W x y) (not_above W x y e)

@@ -1,7 +1,7 @@
 -- What classes drop of the interfaces that they lose.
---     absent_loses, numbered_loses      whether the class of a name loses one
+--     set_absent, set_loses, set_supers      marks of what the class of a name loses, and those above a class
 --     left_out, listed      whether one that is lost is dropped
---     row_exact      what one class drops, in order
+--     row_exact, row_none      what one class drops, in order
 --     start, one_more, all_classes      what all of them drop
 use Rattle.std.proofs.Common.{◌≡◌, ◌<◌, ◌≤◌, ◌+◌, ◌==◌, ℕ, Bool, true, false, not, cond, ◌||◌, ◌&&◌, ◌⊎◌, inl, inr, List, [], ◌∷◌, ◌++◌, length, get_or, map, take, refl, sym, ◌∙◌, ap, subst, Option, Some, None, is_some, nat_lt}
 use Rattle.std.specs.BTreeSet as sorted
@@ -18,7 +18,7 @@ use Rattle.std.proofs.lemmas.List.Folds.{list_any_more}
 use Rattle.std.proofs.lemmas.Map.Lookups.{exact_unsigned}
 use Rattle.std.proofs.lemmas.Map.Views.{btree_set_contains_iff}
 use Rattle.jc_dropped.proofs.Held.{held_loads}
-use Rattle.jc_dropped.specs.Dropped.{is_held, has_lost, loses_interface, is_dropped, IsDropped, dropped_order}
+use Rattle.jc_dropped.specs.Dropped.{is_held, has_lost, loses_interface, loses_above, is_dropped, IsDropped, dropped_order}
 use Rattle.jc_facts.specs.declared.dropped.Dropped.{Dropped}
 use Rattle.jc_facts.specs.Exactly.{Before, NamesRise, HasExactly}
 use Rattle.jc_facts.specs.Names.{Bytes}
@@ -26,57 +26,78 @@ use Rattle.jc_facts.specs.declared.class_facts.ClassFacts.{ClassFacts}
 use Rattle.jc_facts.specs.declared.link_error.LinkError.TheVariants.{NoClassDefFoundError}
 use Rattle.jc_promises.specs.rule.Bases.{is_steady}
 use Rattle.jc_facts.specs.world.Hierarchy.{is_superinterface}
-use Rattle.jc_facts.specs.world.Search.{supers}
+use Rattle.jc_facts.specs.world.Search.{supers, supers_of}
 use Rattle.jc_facts.specs.world.World.{World, find_class, size}
 use Rattle.jc_facts.proofs.Exact.{Gives}
 use Rattle.jc_facts.proofs.Exactly.{OfNames, grown_start, grown_more, grown_all}
-use Rattle.jc_facts.proofs.InOrder.{exact_given}
+use Rattle.jc_facts.proofs.InOrder.{exact_given, exact_none}
 use Rattle.jc_facts.proofs.Options.{some_where-is}
-use Rattle.jc_facts.specs.Options.{some_where}
+use Rattle.jc_facts.specs.Options.{some_and, some_where}
 use Rattle.jc_worlds.proofs.Absent.{load_fault-absent}
 use Rattle.jc_index.proofs.Numbers.{find-None, id_of-Some, names-in, names-length, names-rise, number_of}
 use Rattle.jc_lemmas.proofs.Listed.{here, there, none, cases, each_from, any_passes}
 use Rattle.jc_sides.proofs.Rising.{numbers-rise}
-use Rattle.jc_select.specs.steps.Losing.{AreRowsOf, HasNumbers, dropped_at, loses, row_at}
+use Rattle.jc_select.proofs.SetMarks.{set_both, set_nothing, set_same}
+use Rattle.jc_select.specs.steps.Losing.{AreRowsOf, AreSet, HasNumbers, dropped_at, loses, row_at}
 use Rattle.jc_sides.proofs.BaseParts.{steady_parts}
 use Rattle.jc_sides.specs.Rules.{IsOf}
 use Rattle.jc_sides.specs.SidesOf.{SidesOf, AreSides}
 use Rattle.jc_index.specs.Ids.{name_at, names, id_of}
 use Rattle.jc_index.specs.Sides.{IsSide}
 
--- ---- whether the class of a name loses an interface
+-- ---- what the class of a name loses
 
-pub absent_loses : (s : SidesOf) (x t : Bytes) → None ≡ id_of s.old x → false ≡ loses_interface s.old s.new x t
+absent_loses : (s : SidesOf) (x t : Bytes) → None ≡ id_of s.old x → loses_interface s.old s.new x t ≡ false
 unfolding loses_interface
-absent_loses s x t e = sym (ap (λ b. b && has_lost s.old s.new x t) (go (is_held s.old s.new x) refl))
+absent_loses s x t e = ap (λ b. b && has_lost s.old s.new x t) (go (is_held s.old s.new x) refl)
   where
     go : (b : Bool) → is_held s.old s.new x ≡ b → b ≡ false
     go false k = refl
     go true k = absurd (let clash : None ≡ Some NoClassDefFoundError = sym (held_loads s.old s.new x k).0 ∙ load_fault-absent s.old x (find-None s.old x (sym e)) in cc)
 
-pub numbered_loses : (s : SidesOf) (rows : List (List ℕ)) → AreRowsOf s.old (loses s) rows → (x : Bytes) (n of : ℕ) (r : Bool) → Some n ≡ id_of s.old x → of < size s.old → r ≡ list_any (λ i. i == of) (row_at rows n)
-    → r ≡ loses_interface s.old s.new x (name_at s.old of)
-numbered_loses s rows h x n of r e l q =
-    let w = id_of-Some s.old x n (sym e) in
-    q ∙ (h.each n w.0).exact of l ∙ ap (λ (z : Bytes). loses s z (name_at s.old of)) w.1
+-- no mark is set for a class that isn't there
+pub set_absent : (s : SidesOf) (x : Bytes) (to : Bool) (marks : List Bool) → None ≡ id_of s.old x → AreSet (λ n. loses_interface s.old s.new x (name_at s.old n)) to marks marks
+set_absent s x to marks e = set_nothing (λ n. loses_interface s.old s.new x (name_at s.old n)) to marks (λ n. absent_loses s x (name_at s.old n) e)
+
+-- those of its row are what the class loses
+pub set_loses : (s : SidesOf) (rows : List (List ℕ)) → AreRowsOf s.old (loses s) rows → (x : Bytes) (k : ℕ) (to : Bool) (before after : List Bool) → Some k ≡ id_of s.old x → length before ≡ size s.old
+    → AreSet (λ n. list_any (λ i. i == n) (row_at rows k)) to before after → AreSet (λ n. loses_interface s.old s.new x (name_at s.old n)) to before after
+set_loses s rows h x k to before after e count set =
+    let w = id_of-Some s.old x k (sym e) in
+    set_same (λ n. list_any (λ i. i == n) (row_at rows k)) (λ n. loses_interface s.old s.new x (name_at s.old n)) to before after
+    (λ n l. (h.each k w.0).exact n (subst (λ m. n < m) count l) ∙ ap (λ (z : Bytes). loses s z (name_at s.old n)) w.1) set
+
+-- and those of the superclass and of the interfaces what the classes lose that it names
+pub set_supers : (s : SidesOf) (x : Bytes) (c : ClassFacts) (to : Bool) (before mid after : List Bool) → Some c ≡ find_class s.old x
+    → AreSet (λ n. some_and (λ y. loses_interface s.old s.new y (name_at s.old n)) c.superclass) to before mid → AreSet (λ n. list_any (λ y. loses_interface s.old s.new y (name_at s.old n)) c.interfaces) to mid after
+    → AreSet (λ n. loses_above s.old s.new x (name_at s.old n)) to before after
+set_supers s x c to before mid after f h k =
+    set_same (λ n. some_and (λ y. loses_interface s.old s.new y (name_at s.old n)) c.superclass || list_any (λ y. loses_interface s.old s.new y (name_at s.old n)) c.interfaces)
+    (λ n. loses_above s.old s.new x (name_at s.old n)) to before after
+    (λ n l. go n c.superclass ∙ ap (some_and (λ (d : ClassFacts). list_any (λ y. loses_interface s.old s.new y (name_at s.old n)) (supers d))) f)
+    (set_both (λ n. some_and (λ y. loses_interface s.old s.new y (name_at s.old n)) c.superclass) (λ n. list_any (λ y. loses_interface s.old s.new y (name_at s.old n)) c.interfaces) to before mid after h k)
+  where
+    go : (n : ℕ) (o : Option Bytes) → (some_and (λ y. loses_interface s.old s.new y (name_at s.old n)) o || list_any (λ y. loses_interface s.old s.new y (name_at s.old n)) c.interfaces)
+        ≡ list_any (λ y. loses_interface s.old s.new y (name_at s.old n)) (supers_of o c.interfaces)
+    go n None = refl
+    go n (Some y) = refl
 
 -- ---- whether one that is lost is dropped
 
 abbrev made : Bytes → Bytes → Dropped
 made x t = record { «class» = x; interface = t }
 
-dropped_is : (s : SidesOf) (x t : Bytes) (c : ClassFacts) (b : Bool) → loses s x t ≡ true → Some c ≡ find_class s.old x → b ≡ list_any (λ z. loses_interface s.old s.new z t) (supers c) → is_dropped s.old s.new x t ≡ not b
+dropped_is : (s : SidesOf) (x t : Bytes) (b : Bool) → loses s x t ≡ true → b ≡ loses_above s.old s.new x t → is_dropped s.old s.new x t ≡ not b
 unfolding is_dropped
-dropped_is s x t c b l f g = let k : find_class s.old x ≡ Some c = sym f in rw (l, k) (ap not (sym g))
+dropped_is s x t b l g = rw l (ap not (sym g))
 
-pub left_out : (s : SidesOf) (x t : Bytes) (c : ClassFacts) (b : Bool) → loses s x t ≡ true → Some c ≡ find_class s.old x → b ≡ list_any (λ z. loses_interface s.old s.new z t) (supers c) → b ≡ true → None ≡ dropped_at s x t
-left_out s x t c b l f g e = sym (ap (λ d. cond d (Some (made x t)) None) (dropped_is s x t c b l f g ∙ ap not e))
+pub left_out : (s : SidesOf) (x t : Bytes) (b : Bool) → loses s x t ≡ true → b ≡ loses_above s.old s.new x t → b ≡ true → None ≡ dropped_at s x t
+left_out s x t b l g e = sym (ap (λ d. cond d (Some (made x t)) None) (dropped_is s x t b l g ∙ ap not e))
 
-pub listed : (s : SidesOf) (x t y u : Bytes) (c : ClassFacts) (b : Bool) → loses s x t ≡ true → Some c ≡ find_class s.old x → b ≡ list_any (λ z. loses_interface s.old s.new z t) (supers c) → b ≡ false → y ≡ x → u ≡ t
-    → Some (made y u) ≡ dropped_at s x t
-listed s x t y u c b l f g e p q =
+pub listed : (s : SidesOf) (x t y u : Bytes) (b : Bool) → loses s x t ≡ true → b ≡ loses_above s.old s.new x t → b ≡ false → y ≡ x → u ≡ t → Some (made y u) ≡ dropped_at s x t
+listed s x t y u b l g e p q =
     ap (λ (z : Bytes). Some (made z u)) p ∙ ap (λ (z : Bytes). Some (made x z)) q
-    ∙ sym (ap (λ d. cond d (Some (made x t)) None) (dropped_is s x t c b l f g ∙ ap not e))
+    ∙ sym (ap (λ d. cond d (Some (made x t)) None) (dropped_is s x t b l g ∙ ap not e))
 
 -- what is dropped is lost
 pub dropped_loses : (s : SidesOf) (x t : Bytes) → is_dropped s.old s.new x t ≡ true → loses s x t ≡ true
@@ -180,6 +201,18 @@ module _ (s : SidesOf) (side : IsSide s.old) (rows : List (List ℕ)) (h : AreRo
             is_in = in_set d.interface (dropped_loses s x d.interface k);
             gives = ap (λ b. cond b (Some (made x d.interface)) None) k ∙ ap (λ (y : Bytes). Some (made y d.interface)) (sym p.0);
           }
+
+-- a class that loses nothing drops nothing
+pub row_none : (s : SidesOf) (rows : List (List ℕ)) → AreRowsOf s.old (loses s) rows → (n : ℕ) → n < size s.old → row_at rows n ≡ [] → (ds : List Dropped) → ds ≡ []
+    → HasExactly dropped_order (IsOf (λ (d : Dropped). d.«class») (IsDropped s.old s.new) (name_at s.old n)) ds
+row_none s rows h n l e ds z =
+    subst (HasExactly dropped_order (IsOf (λ (d : Dropped). d.«class») (IsDropped s.old s.new) (name_at s.old n))) (sym z)
+    (exact_none dropped_order (IsOf (λ (d : Dropped). d.«class») (IsDropped s.old s.new) (name_at s.old n)) (λ d p.
+    let lost : loses s (name_at s.old n) d.interface ≡ true = subst (λ (y : Bytes). loses s y d.interface ≡ true) p.0 (dropped_loses s d.«class» d.interface p.1) in
+    let k = number_of s.old d.interface (steady_parts s d.interface (lost_steady s (name_at s.old n) d.interface lost)).both.there in
+    let w = id_of-Some s.old d.interface k.0 k.1 in
+    let clash : true ≡ false = sym lost ∙ ap (loses s (name_at s.old n)) (sym w.1) ∙ sym ((h.each n l).exact k.0 w.0) ∙ ap (list_any (λ i. i == k.0)) e in
+    absurd (cc)))
 
 -- one more of its interfaces
 pub row_more : (h : Bytes → Option Dropped) (O : World) (front : List ℕ) (k : ℕ) (o : Option Dropped) (ds es : List Dropped) → ds ≡ filter_map h (map (name_at O) front) → o ≡ h (name_at O k) → es ≡ ds ++ cons_option o []

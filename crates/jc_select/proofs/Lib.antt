@@ -8,6 +8,7 @@ mod Compared
 mod DroppedLimits
 mod DroppedRows
 mod LostRows
+mod SetMarks
 mod StillAgree
 mod Unchanged
 pub mod KindsWarned

@@ -16,24 +16,22 @@ use Rattle.jc_dropped.specs.Dropped.{is_exposed_to_some, stays_exposed, is_held,
 use Rattle.jc_exposed.specs.declared.exposed.Exposed.{Exposed}
 use Rattle.jc_exposed.specs.Exposed.{AreWanted}
 use Rattle.jc_facts.specs.declared.link_error.LinkError.{LinkError}
-use Rattle.jc_facts.specs.Names.{Bytes, same}
+use Rattle.jc_facts.specs.Names.{Bytes}
+use Rattle.jc_facts.specs.Options.{some_and}
 use Rattle.jc_promises.specs.rule.Bases.{is_kept, is_steady}
-use Rattle.jc_promises.specs.rule.Warnings.{is_below_other}
 use Rattle.jc_facts.specs.world.Hierarchy.{superinterfaces, is_superinterface}
 use Rattle.jc_facts.specs.world.Loading.{load_fault, loads}
 use Rattle.jc_facts.specs.world.World.{World, size}
-use Rattle.jc_facts.proofs.Same.{same_is}
 use Rattle.jc_worlds.proofs.Absent.{load_fault-absent}
 use Rattle.jc_index.proofs.Numbers.{find-None, id_of-Some}
-use Rattle.jc_index.proofs.Strictly.{above_good, no_circle}
 use Rattle.jc_lemmas.proofs.Listed.{filter-each}
 use Rattle.jc_lemmas.proofs.Options.{none_where}
-use Rattle.jc_sides.specs.SidesOf.{SidesOf, AreSides}
+use Rattle.jc_sides.specs.SidesOf.{SidesOf}
 use Rattle.jc_index.specs.Ids.{name_at, id_of}
-use Rattle.jc_index.specs.Sides.{IsSide}
-use Rattle.jc_select.proofs.Collected.{filtered_number}
+use Rattle.jc_select.proofs.Collected.{filtered_number, not_above}
+use Rattle.jc_select.proofs.SetMarks.{told}
 use Rattle.jc_select.specs.declared.losing.Lost.{Lost}
-use Rattle.jc_select.specs.steps.Losing.{AreDone, AreLost, AreNumbersOf, has_left, hidden_of, is_asked, is_found, lost_at, loses, row_at}
+use Rattle.jc_select.specs.steps.Losing.{AreClear, AreDone, AreLost, AreNumbersOf, AreSet, has_left, hidden_of, is_asked, is_found, is_marked_now, lost_at, loses, mark_at, row_at}
 use Rattle.jc_select.specs.steps.Parts.{AreNamed}
 
 -- ---- a thing for one class after the other
@@ -63,63 +61,42 @@ module _ {A : Type 0} (default : A) (P : ℕ → A → Type 0) where
 
 -- ---- what one class has lost
 
--- a class that loads isn't above itself
-apart : (W : World) → IsSide W → (x t : Bytes) → load_fault W x ≡ None → is_superinterface W x t ≡ true → same x t ≡ false
-apart W side x t h e = go (same x t) refl
+turned : (st so sn : Bool) → ((not sn && st) && so) ≡ ((st && so) && not sn)
+turned true true sn = turned-true sn
   where
-    go : (b : Bool) → same x t ≡ b → b ≡ false
-    go false q = refl
-    go true q = absurd (
-        let i : is_superinterface W x x ≡ true = subst (λ z. is_superinterface W x z ≡ true) (sym (same_is x t q)) e in
-        no_circle W side x h (above_good W x x h i).1 i)
-
-turned : (st sn : Bool) → ((not sn && st) && true) ≡ ((st && true) && not sn)
-turned true true = refl
-turned true false = refl
-turned false true = refl
-turned false false = refl
-
-none_of : (a st sn : Bool) → ((not a && st) && false) ≡ ((st && false) && not sn)
-none_of true true sn = refl
-none_of true false sn = refl
-none_of false true sn = refl
-none_of false false sn = refl
+    turned-true : (b : Bool) → ((not b && true) && true) ≡ not b
+    turned-true true = refl
+    turned-true false = refl
+turned true false true = refl
+turned true false false = refl
+turned false so true = refl
+turned false so false = refl
 
 both_load : (s : SidesOf) (x t : Bytes) → load_fault s.old x ≡ None → load_fault s.new x ≡ None → has_lost s.old s.new x t ≡ lost_at s x t
 both_load s x t h n = sym (ap (λ o. is_none {T = LinkError} o && loads s.new x && has_lost s.old s.new x t) h ∙ ap (λ o. is_none {T = LinkError} o && has_lost s.old s.new x t) n)
 
-one_lost : (s : SidesOf) → AreSides s → (x t : Bytes) → load_fault s.old x ≡ None → load_fault s.new x ≡ None
-    → ((not (is_below_other s.new x t) && is_steady s.old s.new t) && is_superinterface s.old x t) ≡ lost_at s x t
+one_lost : (s : SidesOf) (x t : Bytes) → load_fault s.old x ≡ None → load_fault s.new x ≡ None
+    → ((not (is_superinterface s.new x t) && is_steady s.old s.new t) && is_superinterface s.old x t) ≡ lost_at s x t
 unfolding has_lost
-one_lost s are x t h n = go (is_superinterface s.old x t) refl ∙ both_load s x t h n
-  where
-    go : (b : Bool) → is_superinterface s.old x t ≡ b
-        → ((not (is_below_other s.new x t) && is_steady s.old s.new t) && is_superinterface s.old x t) ≡ (is_steady s.old s.new t && is_superinterface s.old x t && not (is_superinterface s.new x t))
-    go true e =
-        ap (λ q. (not (not q && is_superinterface s.new x t) && is_steady s.old s.new t) && is_superinterface s.old x t) (apart s.old are.old_side x t h e)
-        ∙ ap (λ b. (not (is_superinterface s.new x t) && is_steady s.old s.new t) && b) e
-        ∙ turned (is_steady s.old s.new t) (is_superinterface s.new x t)
-        ∙ sym (ap (λ b. is_steady s.old s.new t && b && not (is_superinterface s.new x t)) e)
-    go false e =
-        ap (λ b. (not (is_below_other s.new x t) && is_steady s.old s.new t) && b) e
-        ∙ none_of (is_below_other s.new x t) (is_steady s.old s.new t) (is_superinterface s.new x t)
-        ∙ sym (ap (λ b. is_steady s.old s.new t && b && not (is_superinterface s.new x t)) e)
+one_lost s x t h n = turned (is_steady s.old s.new t) (is_superinterface s.old x t) (is_superinterface s.new x t) ∙ both_load s x t h n
 
 pub unsteady : (O N : World) (t : Bytes) → is_kept O N t ≡ false → false ≡ is_steady O N t
 unfolding is_steady
 unsteady O N t h = rw h refl
 
--- those above the class that aren't above it now; j is its number on the new side
-pub filtered : (s : SidesOf) → AreSides s → (i j : ℕ) (all lost : List ℕ) → Some j ≡ id_of s.new (name_at s.old i) → loads s.old (name_at s.old i) ≡ true → loads s.new (name_at s.new j) ≡ true
-    → AreNamed s.old (superinterfaces s.old (name_at s.old i)) all → lost ≡ filter (has_left s j) all → AreNumbersOf s.old (lost_at s (name_at s.old i)) lost
-filtered s are i j all lost one h g up e = record {
-  within = subst (All (λ n. n < size s.old)) (sym e) (All-from_recursion (λ n. n < size s.old) (filter (has_left s j) all) (filter-each (λ n. n < size s.old) (has_left s j) all (recursion_from_All (λ n. n < size s.old) all up.within)));
+-- those above the class that aren't above it now, by marks of what is; j is its number on the new side
+pub filtered : (s : SidesOf) (i j : ℕ) (all after lost : List ℕ) (clear marks : List Bool) → Some j ≡ id_of s.new (name_at s.old i) → loads s.old (name_at s.old i) ≡ true → loads s.new (name_at s.new j) ≡ true
+    → AreNamed s.old (superinterfaces s.old (name_at s.old i)) all → AreNamed s.new (superinterfaces s.new (name_at s.new j)) after
+    → length clear ≡ size s.new → AreClear clear → AreSet (λ n. list_any (λ k. k == n) after) true clear marks
+    → lost ≡ filter (has_left s marks) all → AreNumbersOf s.old (lost_at s (name_at s.old i)) lost
+filtered s i j all after lost clear marks one h g up now count none set e = record {
+  within = subst (All (λ n. n < size s.old)) (sym e) (All-from_recursion (λ n. n < size s.old) (filter (has_left s marks) all) (filter-each (λ n. n < size s.old) (has_left s marks) all (recursion_from_All (λ n. n < size s.old) all up.within)));
   exact = λ n l.
       ap (list_any (λ k. k == n)) e
-      ∙ filtered_number (has_left s j) all n
-      ∙ ap (λ t. has_left s j n && t) (up.exact n l)
-      ∙ ap (λ (z : Bytes). (not (is_below_other s.new z (name_at s.old n)) && is_steady s.old s.new (name_at s.old n)) && is_superinterface s.old x (name_at s.old n)) same_name
-      ∙ one_lost s are x (name_at s.old n) (none_where (load_fault s.old x) h) (none_where (load_fault s.new x) (subst (λ (z : Bytes). loads s.new z ≡ true) same_name g));
+      ∙ filtered_number (has_left s marks) all n
+      ∙ ap (λ t. has_left s marks n && t) (up.exact n l)
+      ∙ ap (λ t. (not t && is_steady s.old s.new (name_at s.old n)) && is_superinterface s.old x (name_at s.old n)) (marked n)
+      ∙ one_lost s x (name_at s.old n) (none_where (load_fault s.old x) h) (none_where (load_fault s.new x) (subst (λ (z : Bytes). loads s.new z ≡ true) same_name g));
 }
   where
     x : Bytes
@@ -127,6 +104,18 @@ filtered s are i j all lost one h g up e = record {
 
     same_name : name_at s.new j ≡ x
     same_name = (id_of-Some s.new x j (sym one)).1
+
+    marked : (n : ℕ) → is_marked_now s marks n ≡ is_superinterface s.new x (name_at s.old n)
+    marked n = go (id_of s.new (name_at s.old n)) refl
+      where
+        go : (o : Option ℕ) → id_of s.new (name_at s.old n) ≡ o → some_and (mark_at marks) o ≡ is_superinterface s.new x (name_at s.old n)
+        go None q = sym (not_above s.new x (name_at s.old n) q)
+        go (Some k) q =
+            let w = id_of-Some s.new (name_at s.old n) k q in
+            told (λ m. list_any (λ i. i == m) after) clear marks none set k (subst (λ m. k < m) (sym count) w.0)
+            ∙ now.exact k w.0
+            ∙ ap (λ (z : Bytes). is_superinterface s.new z (name_at s.new k)) same_name
+            ∙ ap (is_superinterface s.new x) w.1
 
 -- nothing, of a class that doesn't load on the one side or the other
 numbers_none : (W : World) (test : Bytes → Bool) (ids : List ℕ) → ids ≡ [] → ((t : Bytes) → test t ≡ false) → AreNumbersOf W test ids

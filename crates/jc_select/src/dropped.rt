@@ -1,28 +1,26 @@
 //! The interfaces that classes no longer have above them, after an old release.
-ghost use Rattle.std.specs.Prelude.{◌≡◌, ◌<◌, IfOk, IfSome, IsTrue, option_map};
+ghost use Rattle.std.specs.Prelude.{◌≡◌, ◌<◌, IfOk, IfSome, IsTrue, OnOk, length, option_map};
 ghost use Rattle.std.specs.List.{list_any};
 ghost use Rattle.jc_acts.specs.Seats.{AreSeats};
 ghost use Rattle.jc_acts.specs.Touched.{flag_at};
-ghost use Rattle.jc_dropped.specs.Dropped.{AreDropped, IsDropped, dropped_order, loses_interface};
+ghost use Rattle.jc_dropped.specs.Dropped.{AreDropped, IsDropped, dropped_order, loses_above, loses_interface};
 ghost use Rattle.jc_exposed.specs.Exposed.{AreExposed, AreWanted};
 ghost use Rattle.jc_facts.specs.Exactly.{HasExactly};
 ghost use Rattle.jc_facts.specs.Options.{some_and};
 ghost use Rattle.jc_promises.specs.Pairs.{AreOfOneRun};
-ghost use Rattle.jc_facts.specs.world.Search.{supers};
 ghost use Rattle.jc_facts.specs.world.World.{size};
 ghost use Rattle.jc_select.specs.DroppedWithin.{AreDroppedWithin, InterfacesStill};
-ghost use Rattle.jc_select.specs.steps.Losing.{AreLost, AreRowsOf, HasNumbers, dropped_at, hidden_of, loses, row_at};
+ghost use Rattle.jc_select.specs.steps.Losing.{AreClear, AreLost, AreLostAbove, AreRowsOf, AreSet, HasNumbers, dropped_at, hidden_of, loses, row_at};
 ghost use Rattle.jc_sides.specs.Limit.{IsWithin};
 ghost use Rattle.jc_sides.specs.Rules.{IsOf};
 ghost use Rattle.jc_index.specs.Ids.{name_at};
 
 use crate::losing::{Lost, losing};
-use crate::parts::is_among;
+use crate::marks::set_marks;
 use jc_acts::seats::Seats;
 use jc_base::items::Items;
 use jc_base::name::Name;
 use jc_exposed::exposed::Exposed;
-use jc_facts::class_facts::ClassFacts;
 use jc_facts::dropped::Dropped;
 use jc_index::ids::ClassId;
 use jc_sides::classes::base_classes;
@@ -33,59 +31,77 @@ use jc_table::table::Table;
 use std::alloc::{AllocError, Global};
 use std::collections::BTreeSet;
 
-// ---- whether a class above loses it
+// ---- what the classes above lose
 
-// Whether the class of this name loses the interface.
-fn name_loses(sides: &Sides<'_>, rows: &[Items<ClassId>], name: &Name, of: ClassId) -> bool
-    requires rows { AreRowsOf sides.now.old (loses sides.now) rows.now }
-    requires of { of < size sides.now.old }
-    ensures { result ≡ loses_interface sides.now.old sides.now.new name.now (name_at sides.now.old of) }
-{
-    match sides.old.get(name.as_bytes()) {
-        None => false,
-        Some(id) => is_among(rows[id.number() as usize].as_slice(), of),
-    }
-}
-
-// Whether the superclass loses the interface.
-fn superclass_loses(
+// Sets the marks of what the class of this name loses.
+fn set_of_name(
     sides: &Sides<'_>,
     rows: &[Items<ClassId>],
-    superclass: &Option<Name>,
-    of: ClassId,
-) -> bool
+    marks: &mut [bool],
+    name: &Name,
+    to: bool,
+)
     requires rows { AreRowsOf sides.now.old (loses sides.now) rows.now }
-    requires of { of < size sides.now.old }
-    ensures { result ≡ some_and (λ s. loses_interface sides.now.old sides.now.new s (name_at sides.now.old of)) superclass.now }
+    requires marks { length marks.old ≡ size sides.now.old }
+    ensures { AreSet (λ n. loses_interface sides.now.old sides.now.new name.now (name_at sides.now.old n)) to marks.old marks.new }
+{
+    match sides.old.get(name.as_bytes()) {
+        None => {}
+        Some(id) => set_marks(marks, rows[id.number() as usize].as_slice(), to),
+    }
+}
+
+// Sets the marks of what the superclass loses.
+fn set_of_superclass(
+    sides: &Sides<'_>,
+    rows: &[Items<ClassId>],
+    marks: &mut [bool],
+    superclass: &Option<Name>,
+    to: bool,
+)
+    requires rows { AreRowsOf sides.now.old (loses sides.now) rows.now }
+    requires marks { length marks.old ≡ size sides.now.old }
+    ensures { AreSet (λ n. some_and (λ s. loses_interface sides.now.old sides.now.new s (name_at sides.now.old n)) superclass.now) to marks.old marks.new }
 {
     match superclass {
-        None => false,
-        Some(name) => name_loses(sides, rows, name, of),
+        None => {}
+        Some(name) => set_of_name(sides, rows, marks, name, to),
     }
 }
 
-// Whether one of these loses the interface.
-fn one_loses(sides: &Sides<'_>, rows: &[Items<ClassId>], names: &[Name], of: ClassId) -> bool
+// Sets the marks of what these lose.
+fn set_of_names(
+    sides: &Sides<'_>,
+    rows: &[Items<ClassId>],
+    marks: &mut [bool],
+    names: &[Name],
+    to: bool,
+)
     requires rows { AreRowsOf sides.now.old (loses sides.now) rows.now }
-    requires of { of < size sides.now.old }
-    ensures { result ≡ list_any (λ s. loses_interface sides.now.old sides.now.new s (name_at sides.now.old of)) names.now }
+    requires marks { length marks.old ≡ size sides.now.old }
+    ensures { AreSet (λ n. list_any (λ s. loses_interface sides.now.old sides.now.new s (name_at sides.now.old n)) names.now) to marks.old marks.new }
 {
     for name in names {
-        if name_loses(sides, rows, name, of) {
-            return true;
-        }
+        set_of_name(sides, rows, marks, name, to);
     }
-    false
 }
 
-// Whether one of the classes that this one names above itself loses the interface.
-fn above_loses(sides: &Sides<'_>, rows: &[Items<ClassId>], class: &ClassFacts, of: ClassId) -> bool
+// Sets the marks of what the classes lose that this one names above itself.
+fn set_above(
+    sides: &Sides<'_>,
+    rows: &[Items<ClassId>],
+    marks: &mut [bool],
+    class: ClassId,
+    to: bool,
+)
     requires rows { AreRowsOf sides.now.old (loses sides.now) rows.now }
-    requires of { of < size sides.now.old }
-    ensures { result ≡ list_any (λ s. loses_interface sides.now.old sides.now.new s (name_at sides.now.old of)) (supers «class».now) }
+    requires class { «class» < size sides.now.old }
+    requires marks { length marks.old ≡ size sides.now.old }
+    ensures { AreSet (λ n. loses_above sides.now.old sides.now.new (name_at sides.now.old «class») (name_at sides.now.old n)) to marks.old marks.new }
 {
-    superclass_loses(sides, rows, &class.superclass, of)
-        || one_loses(sides, rows, class.interfaces.as_slice(), of)
+    let facts = sides.old.facts(class);
+    set_of_superclass(sides, rows, marks, &facts.superclass, to);
+    set_of_names(sides, rows, marks, facts.interfaces.as_slice(), to);
 }
 
 // ---- of one class
@@ -94,22 +110,22 @@ fn above_loses(sides: &Sides<'_>, rows: &[Items<ClassId>], class: &ClassFacts, o
 fn of_interface(
     alloc: Global,
     sides: &Sides<'_>,
-    rows: &[Items<ClassId>],
+    above: &[bool],
     class: ClassId,
     of: ClassId,
 ) -> Result<Option<Dropped>, AllocError>
-    requires rows { AreRowsOf sides.now.old (loses sides.now) rows.now }
+    requires count { length above.now ≡ size sides.now.old }
+    requires above { AreLostAbove sides.now (name_at sides.now.old «class») above.now }
     requires class { «class» < size sides.now.old }
     requires of { of < size sides.now.old }
     requires loses { IsTrue (loses sides.now (name_at sides.now.old «class») (name_at sides.now.old of)) }
     ensures { IfOk result (λ dropped. dropped ≡ dropped_at sides.now (name_at sides.now.old «class») (name_at sides.now.old of)) }
 {
-    let facts = sides.old.facts(class);
-    if above_loses(sides, rows, facts, of) {
+    if above[of.number() as usize] {
         return Ok(None);
     }
     Ok(Some(Dropped {
-        class: facts.name.copy(alloc)?,
+        class: sides.old.facts(class).name.copy(alloc)?,
         interface: sides.old.facts(of).name.copy(alloc)?,
     }))
 }
@@ -130,10 +146,13 @@ fn of_row(
     alloc: Global,
     sides: &Sides<'_>,
     rows: &[Items<ClassId>],
+    above: &[bool],
     class: ClassId,
     row: &BTreeSet<ClassId>,
 ) -> Result<Vec<Dropped>, AllocError>
     requires rows { AreRowsOf sides.now.old (loses sides.now) rows.now }
+    requires count { length above.now ≡ size sides.now.old }
+    requires above { AreLostAbove sides.now (name_at sides.now.old «class») above.now }
     requires class { «class» < size sides.now.old }
     requires row { HasNumbers (row_at rows.now «class») row.now }
     ensures { IfOk result (λ made. HasExactly dropped_order (IsOf (λ d. d.«class») (IsDropped sides.now.old sides.now.new) (name_at sides.now.old «class»)) made.items) }
@@ -142,8 +161,32 @@ fn of_row(
     let _classes = sides.old.count();
     let mut dropped = Vec::new(alloc);
     for of in row {
-        push_some(&mut dropped, of_interface(alloc, sides, rows, class, *of)?)?;
+        push_some(&mut dropped, of_interface(alloc, sides, above, class, *of)?)?;
     }
+    Ok(dropped)
+}
+
+// What the class drops, in order, where it loses something. The marks serve for one class after the
+// other, and are clear again behind each.
+fn of_loser(
+    alloc: Global,
+    sides: &Sides<'_>,
+    rows: &[Items<ClassId>],
+    marks: &mut [bool],
+    class: ClassId,
+) -> Result<Vec<Dropped>, AllocError>
+    requires rows { AreRowsOf sides.now.old (loses sides.now) rows.now }
+    requires class { «class» < size sides.now.old }
+    requires marks { length marks.old ≡ size sides.now.old }
+    requires clear { AreClear marks.old }
+    ensures exact { IfOk result (λ made. HasExactly dropped_order (IsOf (λ d. d.«class») (IsDropped sides.now.old sides.now.new) (name_at sides.now.old «class»)) made.items) }
+    ensures count { length marks.new ≡ length marks.old }
+    ensures clear { OnOk result (AreClear marks.new) }
+{
+    let row = set_of(alloc, rows[class.number() as usize].as_slice())?;
+    set_above(sides, rows, marks, class, true);
+    let dropped = of_row(alloc, sides, rows, marks, class, &row)?;
+    set_above(sides, rows, marks, class, false);
     Ok(dropped)
 }
 
@@ -152,14 +195,21 @@ fn of_class(
     alloc: Global,
     sides: &Sides<'_>,
     rows: &[Items<ClassId>],
+    marks: &mut [bool],
     class: ClassId,
 ) -> Result<Vec<Dropped>, AllocError>
     requires rows { AreRowsOf sides.now.old (loses sides.now) rows.now }
     requires class { «class» < size sides.now.old }
-    ensures { IfOk result (λ made. HasExactly dropped_order (IsOf (λ d. d.«class») (IsDropped sides.now.old sides.now.new) (name_at sides.now.old «class»)) made.items) }
+    requires marks { length marks.old ≡ size sides.now.old }
+    requires clear { AreClear marks.old }
+    ensures exact { IfOk result (λ made. HasExactly dropped_order (IsOf (λ d. d.«class») (IsDropped sides.now.old sides.now.new) (name_at sides.now.old «class»)) made.items) }
+    ensures count { length marks.new ≡ length marks.old }
+    ensures clear { OnOk result (AreClear marks.new) }
 {
-    let row = set_of(alloc, rows[class.number() as usize].as_slice())?;
-    let dropped = of_row(alloc, sides, rows, class, &row)?;
+    if rows[class.number() as usize].as_slice().is_empty() {
+        return Ok(Vec::new(alloc));
+    }
+    let dropped = of_loser(alloc, sides, rows, marks, class)?;
     Ok(dropped)
 }
 
@@ -170,15 +220,18 @@ fn of_classes(
     alloc: Global,
     sides: &Sides<'_>,
     rows: &[Items<ClassId>],
+    marks: &mut [bool],
     most: Option<usize>,
 ) -> Result<Option<Vec<Dropped>>, AllocError>
     requires rows { AreRowsOf sides.now.old (loses sides.now) rows.now }
+    requires marks { length marks.old ≡ size sides.now.old }
+    requires clear { AreClear marks.old }
     ensures { IfOk result (λ made. IsWithin dropped_order (IsDropped sides.now.old sides.now.new) most (option_map (λ ds. ds.items) made)) }
 {
     let mut dropped = Vec::new(alloc);
     for n in 0..sides.old.count() {
         let id = sides.old.id(n).unwrap();
-        dropped.append(&mut of_class(alloc, sides, rows, id)?)?;
+        dropped.append(&mut of_class(alloc, sides, rows, marks, id)?)?;
         if is_over(dropped.len(), most) {
             return Ok(None);
         }
@@ -202,7 +255,8 @@ fn limited_over(
     ensures { IfOk result (λ made. IsWithin dropped_order (IsDropped sides.now.old sides.now.new) most (option_map (λ ds. ds.items) made)) }
 {
     let rows = losing(alloc, sides, seats, exposed, lost)?;
-    let made = of_classes(alloc, sides, rows.as_slice(), most)?;
+    let mut marks = vec![in alloc; false; sides.old.count() as usize]?;
+    let made = of_classes(alloc, sides, rows.as_slice(), &mut marks, most)?;
     Ok(made)
 }
 

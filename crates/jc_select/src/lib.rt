@@ -7,6 +7,7 @@ mod chain;
 mod changes;
 pub mod dropped;
 pub mod losing;
+mod marks;
 mod parts;
 mod walks;
 mod warned;

@@ -1,5 +1,5 @@
 //! Interfaces that classes of both sides have lost, where clients can hold values of these.
-ghost use Rattle.std.specs.Prelude.{◌≡◌, ◌<◌, ◌||◌, IfOk, IsTrue, Some};
+ghost use Rattle.std.specs.Prelude.{◌≡◌, ◌<◌, ◌||◌, IfOk, IsTrue, OnOk, Some, length};
 ghost use Rattle.std.specs.List.{All, filter};
 ghost use Rattle.jc_acts.specs.Seats.{AreSeats};
 ghost use Rattle.jc_acts.specs.Touched.{flag_at};
@@ -7,10 +7,11 @@ ghost use Rattle.jc_exposed.specs.Exposed.{AreExposed, AreWanted};
 ghost use Rattle.jc_promises.specs.rule.Bases.{is_kept, is_steady};
 ghost use Rattle.jc_facts.specs.world.Loading.{loads};
 ghost use Rattle.jc_facts.specs.world.World.{size};
-ghost use Rattle.jc_select.specs.steps.Losing.{AreLost, AreMarks, AreNumbersOf, AreRowsOf, has_left, hidden_of, is_asked, is_found, lost_at, loses};
+ghost use Rattle.jc_select.specs.steps.Losing.{AreClear, AreLost, AreMarks, AreNumbersOf, AreRowsOf, has_left, hidden_of, is_asked, is_found, is_marked_now, lost_at, loses};
 ghost use Rattle.jc_index.specs.Ids.{name_at, id_of};
 
-use crate::parts::{above, is_below_now};
+use crate::marks::set_marks;
+use crate::parts::above;
 use jc_acts::seats::Seats;
 use jc_base::items::Items;
 use jc_exposed::exposed::{Exposed, first_exposed};
@@ -74,58 +75,88 @@ fn is_steady_class(sides: &Sides<'_>, id: ClassId) -> bool
     }
 }
 
-// Whether the old side's interface is steady, and isn't above the new side's class.
-fn has_left(sides: &Sides<'_>, now: ClassId, of: ClassId) -> bool
-    requires now { now < size sides.now.new }
+// Whether the class of the new side is marked that has the name of this one of the old side.
+fn is_marked_now(sides: &Sides<'_>, marks: &[bool], of: ClassId) -> bool
+    requires marks { length marks.now ≡ size sides.now.new }
     requires of { of < size sides.now.old }
-    ensures { result ≡ has_left sides.now now of }
+    ensures { result ≡ is_marked_now sides.now marks.now of }
 {
-    !is_below_now(sides, now, of) && is_steady_class(sides, of)
+    match sides.new_id(of) {
+        None => false,
+        Some(now) => marks[now.number() as usize],
+    }
+}
+
+// Whether the old side's interface is steady, and isn't marked on the new side.
+fn has_left(sides: &Sides<'_>, above: &[bool], of: ClassId) -> bool
+    requires above { length above.now ≡ size sides.now.new }
+    requires of { of < size sides.now.old }
+    ensures { result ≡ has_left sides.now above.now of }
+{
+    !is_marked_now(sides, above, of) && is_steady_class(sides, of)
 }
 
 // Those of these interfaces that have left.
 fn those_left(
     alloc: Global,
     sides: &Sides<'_>,
-    now: ClassId,
+    above: &[bool],
     ids: &[ClassId],
 ) -> Result<Vec<ClassId>, AllocError>
-    requires now { now < size sides.now.new }
+    requires above { length above.now ≡ size sides.now.new }
     requires ids { All (λ id. id < size sides.now.old) ids.now }
-    ensures { IfOk result (λ left. left.items ≡ filter (has_left sides.now now) ids.now) }
+    ensures { IfOk result (λ left. left.items ≡ filter (has_left sides.now above.now) ids.now) }
 {
     let mut left = Vec::new(alloc);
     for id in ids {
-        if has_left(sides, now, *id) {
+        if has_left(sides, above, *id) {
             left.push(*id)?;
         }
     }
     Ok(left)
 }
 
-// What the class, which loads on both sides, has lost.
+// What the class, which loads on both sides, has lost. The marks serve for one class after the other,
+// and are clear again behind each.
 fn lost_between(
     alloc: Global,
     sides: &Sides<'_>,
+    marks: &mut [bool],
     before: ClassId,
     now: ClassId,
 ) -> Result<Vec<ClassId>, AllocError>
+    requires marks { length marks.old ≡ size sides.now.new }
+    requires clear { AreClear marks.old }
     requires before { before < size sides.now.old }
     requires now { now < size sides.now.new }
     requires one { Some now ≡ id_of sides.now.new (name_at sides.now.old before) }
     requires loads { IsTrue (loads sides.now.old (name_at sides.now.old before)) }
     requires loads_now { IsTrue (loads sides.now.new (name_at sides.now.new now)) }
-    ensures { IfOk result (λ lost. AreNumbersOf sides.now.old (lost_at sides.now (name_at sides.now.old before)) lost.items) }
+    ensures lost { IfOk result (λ lost. AreNumbersOf sides.now.old (lost_at sides.now (name_at sides.now.old before)) lost.items) }
+    ensures count { length marks.new ≡ length marks.old }
+    ensures clear { OnOk result (AreClear marks.new) }
 {
     let all = above(alloc, sides.old, before)?;
-    let lost = those_left(alloc, sides, now, all.as_slice())?;
+    let after = above(alloc, sides.new, now)?;
+    set_marks(marks, after.as_slice(), true);
+    let lost = those_left(alloc, sides, marks, all.as_slice())?;
+    set_marks(marks, after.as_slice(), false);
     Ok(lost)
 }
 
 // What the class has lost, if it loads on both sides.
-fn lost_of(alloc: Global, sides: &Sides<'_>, id: ClassId) -> Result<Vec<ClassId>, AllocError>
-    requires { id < size sides.now.old }
-    ensures { IfOk result (λ lost. AreNumbersOf sides.now.old (lost_at sides.now (name_at sides.now.old id)) lost.items) }
+fn lost_of(
+    alloc: Global,
+    sides: &Sides<'_>,
+    marks: &mut [bool],
+    id: ClassId,
+) -> Result<Vec<ClassId>, AllocError>
+    requires marks { length marks.old ≡ size sides.now.new }
+    requires clear { AreClear marks.old }
+    requires id { id < size sides.now.old }
+    ensures lost { IfOk result (λ lost. AreNumbersOf sides.now.old (lost_at sides.now (name_at sides.now.old id)) lost.items) }
+    ensures count { length marks.new ≡ length marks.old }
+    ensures clear { OnOk result (AreClear marks.new) }
 {
     if sides.old.fault_at(id).is_some() {
         return Ok(Vec::new(alloc));
@@ -136,20 +167,35 @@ fn lost_of(alloc: Global, sides: &Sides<'_>, id: ClassId) -> Result<Vec<ClassId>
     if sides.new.fault_at(now).is_some() {
         return Ok(Vec::new(alloc));
     }
-    let lost = lost_between(alloc, sides, id, now)?;
+    let lost = lost_between(alloc, sides, marks, id, now)?;
     Ok(lost)
 }
 
-// For each class of the old side, what it has lost, if it loads on both.
-fn lost_rows(alloc: Global, sides: &Sides<'_>) -> Result<Vec<Items<ClassId>>, AllocError>
+// For each class of the old side, what it has lost, if it loads on both. No mark is set before.
+fn marked_rows(
+    alloc: Global,
+    sides: &Sides<'_>,
+    marks: &mut [bool],
+) -> Result<Vec<Items<ClassId>>, AllocError>
+    requires marks { length marks.old ≡ size sides.now.new }
+    requires clear { AreClear marks.old }
     ensures { IfOk result (λ rows. AreRowsOf sides.now.old (lost_at sides.now) rows.items) }
 {
     let mut rows = Vec::with_capacity(alloc, sides.old.count() as usize)?;
     for n in 0..sides.old.count() {
         let id = sides.old.id(n).unwrap();
-        let lost = lost_of(alloc, sides, id)?;
+        let lost = lost_of(alloc, sides, marks, id)?;
         rows.push(Items::from_vec(lost))?;
     }
+    Ok(rows)
+}
+
+// The same.
+fn lost_rows(alloc: Global, sides: &Sides<'_>) -> Result<Vec<Items<ClassId>>, AllocError>
+    ensures { IfOk result (λ rows. AreRowsOf sides.now.old (lost_at sides.now) rows.items) }
+{
+    let mut marks = vec![in alloc; false; sides.new.count() as usize]?;
+    let rows = marked_rows(alloc, sides, &mut marks)?;
     Ok(rows)
 }
 

@@ -143,8 +143,8 @@ fn is_below_other(table: &Table, class: ClassId, of: ClassId) -> bool
     class != of && table.is_below(class, of)
 }
 
-/// Whether the class of the new side is another than this one of the old side, and below it.
-pub(crate) fn is_below_now(sides: &Sides<'_>, class: ClassId, of: ClassId) -> bool
+// Whether the class of the new side is another than this one of the old side, and below it.
+fn is_below_now(sides: &Sides<'_>, class: ClassId, of: ClassId) -> bool
     requires class { class < size sides.now.new }
     requires above { of < size sides.now.old }
     ensures { result ≡ is_below_other sides.now.new (name_at sides.now.new class) (name_at sides.now.old of) }
