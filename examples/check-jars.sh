@@ -117,11 +117,16 @@ try 'two releases' 1 '1 H1 shapes/Square' old.jar new.jar --report report
 same_check report
 folded "$made/report"
 too 'in shapes: 1 H1, 1 H2, 1 H3, 1 H4, 1 H5, 1 H6, 1 H7, 4 H8, 1 H9, 1 Constant, 1 Capture, 1 Final' 'incompatible: 12 findings, 3 collisions, 1 notes$'
-too '8 H8 shapes/Canvas draw(Lshapes/Shape;)V invokevirtual java/lang/Object NoSuchMethodError (and 1 warning)$' 'warning shapes/Painter paint()V defaults$' '2 warnings, 1 dropped interfaces$'
-says 'warning shapes/Canvas draw' && wrong 'a warning that a finding says'
+too '8 H8 shapes/Canvas draw(Lshapes/Shape;)V invokevirtual java/lang/Object NoSuchMethodError (and 1 warning)$' '[0-9]* H[89] shapes/Painter paint()V .* NoSuchMethodError (and 1 warning)$' \
+    '2 warnings, 1 dropped interfaces; 2 warnings only say again what a finding says$' '    method void Canvas.draw(Shape) is gone; there is boolean draw(Shape)$'
+says 'warning ' && wrong 'a warning that a finding says'
+[ "$(head -n 1 "$made/out")" = 'incompatible: 12 findings, 3 collisions, 1 notes' ] || wrong 'the verdict does not stand first'
+[ "$(grep -c '^    method' "$made/out")" -eq 2 ] || wrong 'more of H8 is explained than its first line'
+try 'without words' 1 '1 H1 shapes/Square' old.jar new.jar --no-explain
+says '    ' && wrong 'there are words'
 try 'options of jcompat' 1 '{' old.jar new.jar -- --json
 same_check out --json
-too 'check-jars: 2 warnings, 1 dropped interfaces$'
+too 'check-jars: 2 warnings, 1 dropped interfaces; 2 warnings only say again'
 try 'one release' 0 'compatible: 0 findings' old.jar old.jar
 try 'the version' 0 'jcompat [0-9]*\.[0-9]' --version
 try 'folders' 1 '15 Final shapes/Canvas' "$top/examples/old" "$top/examples/new" --report report
@@ -230,10 +235,33 @@ name='which version number is due'
 mkdir "$made/target"
 cp "$made/new.jar" "$made/target/shapes.jar"
 (cd "$made" && PATH=$top/tools:$PATH sh ./due) >"$made/out" 2>"$made/err"
-if [ "$(cat "$made/out")" = '2.0.0 is due, at least' ]; then printf 'check-jars: %s: ok\n' "$name"; else wrong 'it is not 2.0.0'; fi
+if [ "$(cat "$made/out")" = 2.0.0 ]; then printf 'check-jars: %s: ok\n' "$name"; else wrong 'it is not 2.0.0'; fi
+
+# what is due for additions: the gate asks for nothing there
+mkdir -p "$made/pen/lib" "$made/more/lib"
+printf 'package lib;\n\npublic class Pen {\n    public void draw() {\n    }\n}\n' >"$made/pen/lib/Pen.java"
+printf 'package lib;\n\npublic class Pen {\n    public void draw() {\n    }\n\n    public void lift() {\n    }\n}\n' >"$made/more/lib/Pen.java"
+library pen
+library more
+mv "$made/pen.jar" "$made/pen-1.0.0.jar"
+try 'a public method that was added' 0 'due: 1.1.0, a minor step from 1.0.0: 1 addition, as lib/Pen lift()V$' pen-1.0.0.jar more.jar --due --added
+too '    the gate version asks for 1.0.1: it is proved, and looks at findings and collisions alone; the rest is tested, not proved$' 'added in lib: 0 classes, 1 members, 0 deprecated$' \
+    'added lib/Pen lift()V$' '    method void Pen.lift() was added$'
+try 'too small a step for it' 0 '    1.0.1, the version of the new release, is too small$' pen-1.0.0.jar more.jar --due --to 1.0.1 --gate version
+try 'nothing that was added' 0 'due: 1.0.1, a patch step from 1.0.0: nothing that asks for more$' pen-1.0.0.jar pen-1.0.0.jar --due
+try 'the number for findings' 1 'due: 2.0.0, a major step from 1.4.2: 12 findings, as H1 shapes/Square' shapes-1.4.2.jar new.jar --due
+try 'a number from no number' 1 'due: a major step: 12 findings' old.jar new.jar --due
+try 'the number, as a document' 0 '.*"due":{"step":"minor","number":"1.1.0","gate_step":"patch","gate_number":"1.0.1",' pen-1.0.0.jar more.jar --due --json
+try 'a number of no version' 70 'check-jars: 1.5, the version of the old release, is none as 1.2.3$' old.jar new.jar --due --from 1.5
+
+# SARIF, with places in sources, and the same in the document
+try 'SARIF' 1 '.*"source":{"file":"pen/lib/Pen.java","line":3}' more.jar pen-1.0.0.jar --json --sarif log.sarif --sources pen
+grep -q '"ruleId":"H8","ruleIndex":0,"level":"error",.*"uri":"pen/lib/Pen.java"},"region":{"startLine":3}' "$made/log.sarif" || wrong 'the log has no result at its place'
+try 'sources that are not there' 70 'check-jars: there is no file gone' old.jar new.jar --sources gone
+try 'a log that cannot be written' 5 "check-jars: can't write to pen" old.jar new.jar --sarif pen
 
 # warnings, dropped interfaces and modules: releases of the examples of rules
-for rule in method_made_abstract interface_left package_not_exported; do
+for rule in method_made_abstract abstract_method_added interface_left package_not_exported; do
     for side in old new; do
         mkdir -p "$made/$rule-$side"
         cp -R "examples/rules/$rule/$side/." "$made/$rule-$side"
@@ -244,6 +272,8 @@ try 'a warning' 0 'warning shapes/Canvas clean()V lost$' method_made_abstract-ol
 too 'compatible: 0 findings, 0 collisions, 0 notes$' '1 warnings, 0 dropped interfaces$' '    class Canvas gives classes no method void clean() to run any more$'
 try 'a warning, as JSON' 72 '{"warnings":\[{"class":"shapes/Canvas","kind":"lost","member":"clean()V"}\]}$' method_made_abstract-old.jar method_made_abstract-new.jar --strict -- --json
 too 'check-jars: 1 warnings'
+try 'a method that an interface gains' 0 '    abstract method void clean() was added: classes that implement Painter without it fail when it is called$' abstract_method_added-old.jar abstract_method_added-new.jar
+too '    class Y implements Painter { }, without a method clean of its own, and the library calls clean() on it$'
 try 'a warning where none is meant' 72 "1 warnings" method_made_abstract-old.jar method_made_abstract-new.jar --strict
 try 'warnings that nobody asks for' 0 'compatible: 0 findings, 0 collisions, 0 notes$' method_made_abstract-old.jar method_made_abstract-new.jar --strict --no-warn
 says 'warning ' && wrong 'there is a warning'
@@ -356,10 +386,15 @@ H8 lib/Gone *
 H8 lib/Text put
 END
 try 'breaks that are meant' 1 'check-jars: line 4 of the accepted breaks accepts nothing: H8 lib/Gone \*$' one.jar two.jar --accepted accepted --report report
-too 'check-jars: line 5 of the accepted breaks accepts nothing: H8 lib/Text put$' 'check-jars: accepted: 1 to 6$' 'incompatible: ' 'check-jars: 7 findings and 9 collisions are left'
+too 'check-jars: line 5 of the accepted breaks accepts nothing: H8 lib/Text put; nearest is [0-9]* H8 lib/Text put(Ljava/util/Date;)V .*, which it accepts with a \* at its end$' 'check-jars: accepted: 1 to 6$' 'incompatible: ' 'check-jars: 7 findings and 9 collisions are left'
 says '[0-9]* H7' && wrong 'an accepted line was printed'
 sed -n 's/^[0-9]* //p' "$made/report" >"$made/accepted"
 try 'all breaks' 0 'check-jars: 0 findings and 0 collisions are left, and 0 warnings.*; what is promised' one.jar two.jar --accepted accepted
+too 'compatible but for [0-9]* accepted (incompatible: ' 'check-jars: compatible but for [0-9]* accepted (incompatible: '
+says 'incompatible' && wrong 'the verdict is the one of all lines'
+(cd "$made" && "$top/tools/check-jars" one.jar two.jar --no-explain 2>/dev/null | grep '^[0-9]* H' >pasted)
+try 'lines as they are printed' 0 'compatible but for [0-9]* accepted' one.jar two.jar --accepted pasted
+try 'gates that pass with findings' 0 'the gates that are asked pass: few$' more.jar pen-1.0.0.jar --gate few
 grep '^H' "$made/accepted" >"$made/findings"
 try 'breaks, and a gate' 1 'check-jars: 0 findings and 9 collisions are left' one.jar two.jar --accepted findings -- --gate=links,collisions
 try 'breaks, as a document' 0 '{"format":"jcompat check-jars","version":1,"status":0,' one.jar two.jar --accepted findings --json

@@ -84,7 +84,7 @@ has() {
 project
 job 1
 has summary '### incompatible: 12 findings, 3 collisions, 1 notes' '| package | H1 |' '| `shapes` | 1 |' '- 2 warnings'
-has log '::error file=src/main/java/shapes/Canvas.java,title=H8 shapes/Canvas::method void Canvas.draw(Shape) is gone' 'and 5 more lines'
+has log '::error file=src/main/java/shapes/Canvas.java,line=1,title=H8 shapes/Canvas::method void Canvas.draw(Shape) is gone' 'and 5 more lines'
 [ "$(grep -c '^::' "$made/log")" -eq 10 ] || fail 'there are not ten annotations'
 grep -q '<li id=n15 ' "$made/project/compat.html" || fail 'the page lacks a line'
 cp "$made/project/report.json" "$made"
@@ -93,6 +93,7 @@ printf 'job: a pull request that breaks clients: ok\n'
 project
 tr '{' '\n' <"$made/report.json" | sed -n 's/.*"kind":"finding".*"text":"\([^"]*\)".*/\1  # 2.0/p' >"$made/project/compat.accepted"
 job 0
+has summary '### compatible but for 12 accepted (incompatible: 12 findings, 3 collisions, 1 notes)'
 has summary '- accepted by this pull request: `H8 shapes/Canvas draw(Lshapes/Shape;)V invokevirtual java/lang/Object NoSuchMethodError  # 2.0`'
 printf 'job: one that accepts all of it: ok\n'
 

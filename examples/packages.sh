@@ -60,6 +60,29 @@ PATH=$BEFORE
 [ -x "$made/root/usr/bin/jcompat-check-jars" ] || fail 'the earlier name is gone'
 printf 'packages: the documents of the package call what is on the path: ok\n'
 
+# another processor than the program's, and a Java that is too old
+cp -R "$made/archive" "$made/elsewhere"
+printf '\267' | dd of="$made/elsewhere/jcompat" bs=1 seek=18 conv=notrunc 2>/dev/null
+status=0
+"$made/elsewhere/tools/check-jars" examples/old examples/new >"$made/said" 2>&1 || status=$?
+[ "$status" -eq 70 ] && grep -q "jcompat doesn't run here: it needs Linux on x86-64, with glibc 2.34 or later" "$made/said" || fail "a program for another processor: $(cat "$made/said")"
+mkdir -p "$made/java/bin"
+printf 'JAVA_VERSION="1.8.0_402"\n' >"$made/java/release"
+printf '#!/bin/sh\nexit 1\n' >"$made/java/bin/java"
+chmod +x "$made/java/bin/java"
+status=0
+JAVA_HOME="$made/java" "$made/archive/tools/check-jars" examples/old examples/new >"$made/said" 2>&1 || status=$?
+[ "$status" -eq 70 ] && grep -q 'is too old: version 11 or later is needed' "$made/said" || fail "a Java that is too old: $(cat "$made/said")"
+printf 'packages: where it does not run, it says so: ok\n'
+
+(cd "$made/out" && sha256sum --quiet -c SHA256SUMS) || fail 'a file has another checksum'
+for file in "$made"/out/*.tar.gz "$made"/out/*.deb "$made"/out/*.cdx.json "$made/out/Containerfile"; do
+    grep -q "  ${file##*/}\$" "$made/out/SHA256SUMS" || fail "$file has no checksum"
+done
+grep -q '"bomFormat": "CycloneDX"' "$made"/out/*.cdx.json && grep -q '"name": "serde_json"' "$made"/out/*.cdx.json || fail 'the bill of materials lacks something'
+[ "$(grep -c 'No licence is given yet' "$made/archive/copyright")" -eq 1 ] || fail 'the archive says nothing of a licence'
+printf 'packages: checksums, and what the program is made of: ok\n'
+
 if [ -d "$made/out/maven" ]; then
     for file in $(find "$made/out/maven" -name '*.jar' -o -name '*.pom'); do
         [ "$(sha256sum <"$file" | cut -d ' ' -f 1)" = "$(cat "$file.sha256")" ] || fail "$file has another checksum"

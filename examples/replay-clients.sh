@@ -3,7 +3,7 @@
 #
 # ReplayClients.java compiles each client against its old release, and runs it with both: with the old one it works, and with the new one it
 # ends with the error that the page of its rule shows (docs/FINDINGS.md). Where the program is built, its reports of the releases are compared
-# with those of the page, too. There is a line for each client, and a last one with the numbers. The status is 1 where something isn't so.
+# with those of the page, too, and the documents of check-jars are validated (examples/documents.sh). There is a line for each client, and a last one with the numbers. The status is 1 where something isn't so.
 # Without a JDK, of version 17 or later, nothing is run, which is said, and the status is 0, or 1 where JCOMPAT_ALL=1 asks for all.
 set -eu
 
@@ -29,3 +29,4 @@ trap 'rm -rf "$made"' EXIT
 program=./jcompat
 [ ! -d crates ] || [ -x crates/jcompat/out/jcompat ] || program=
 java examples/ReplayClients.java examples/rules examples/platform docs/FINDINGS.md "$made" ${program:+"$program"}
+examples/documents.sh "$made"

@@ -5,8 +5,10 @@ import java.nio.charset.StandardCharsets;
 import java.nio.file.Files;
 import java.nio.file.Path;
 import java.util.ArrayList;
+import java.util.LinkedHashMap;
 import java.util.LinkedHashSet;
 import java.util.List;
+import java.util.Map;
 import java.util.Set;
 import java.util.stream.Collectors;
 
@@ -15,6 +17,7 @@ final class Accepted {
     private final List<String> texts = new ArrayList<>();
     private final List<Integer> places = new ArrayList<>();
     private final Host host;
+    private final Map<String, Line> seen = new LinkedHashMap<>();
     private boolean[] used;
 
     Accepted(Path file, Host host) throws IOException {
@@ -22,8 +25,8 @@ final class Accepted {
         int number = 0;
         for (String line : new String(Files.readAllBytes(file), StandardCharsets.UTF_8).split("\r?\n")) {
             number++;
-            // a line of the report is taken with its number too
-            String text = line.replaceFirst("(^|\\s)\\s*#.*", "").trim().replaceFirst("^\\d+ ", "");
+            // a line of the report is taken as it is printed too, with its number, and with what is folded into it
+            String text = line.replaceFirst("(^|\\s)\\s*#.*", "").trim().replaceFirst("^\\d+ ", "").replaceFirst(" \\(and [^()]*\\)$", "");
             if (!text.isEmpty()) {
                 texts.add(text);
                 places.add(number);
@@ -36,6 +39,7 @@ final class Accepted {
     Set<Line> of(List<Line> lines, Folding folding) {
         Set<Line> taken = new LinkedHashSet<>();
         for (Line line : lines) {
+            seen.putIfAbsent(line.text, line);
             for (int i = 0; i < used.length; i++) {
                 if (accepts(texts.get(i), line.text)) {
                     used[i] = true;
@@ -47,11 +51,13 @@ final class Accepted {
         return taken;
     }
 
-    /** Says which entries accepted nothing. */
+    /** Says which entries accepted nothing, and which line is nearest to each. */
     void sayUnused() {
         for (int i = 0; i < used.length; i++) {
             if (!used[i]) {
-                host.say("line " + places.get(i) + " of the accepted breaks accepts nothing: " + texts.get(i));
+                Line nearest = Nearest.of(texts.get(i), seen.values());
+                host.say("line " + places.get(i) + " of the accepted breaks accepts nothing: " + texts.get(i) + (nearest == null ? ""
+                        : "; nearest is " + nearest + (nearest.text.startsWith(texts.get(i)) ? ", which it accepts with a * at its end" : "")));
             }
         }
     }
@@ -66,6 +72,9 @@ final class Accepted {
         }
         host.say(said.isEmpty() ? "nothing is accepted" : "accepted: " + String.join(", ", said));
         sayLeft(comparison.left, !taken.isEmpty(), comparison.options);
+        if (!taken.isEmpty()) {
+            host.say(Verdict.of(comparison));
+        }
     }
 
     private static boolean accepts(String entry, String text) {

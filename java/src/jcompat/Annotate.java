@@ -54,8 +54,9 @@ final class Annotate {
 
     private void add(Map<?, ?> comparison, boolean several) {
         Map<?, ?> counts = (Map<?, ?>) comparison.get("counts");
-        summary.append("### ").append(several ? comparison.get("clients") + ": " : "").append(comparison.get("verdict")).append(": ").append(counts.get("findings"))
-                .append(" findings, ").append(counts.get("collisions")).append(" collisions, ").append(counts.get("notes")).append(" notes\n\n");
+        String verdict = comparison.get("verdict") + ": " + counts.get("findings") + " findings, " + counts.get("collisions") + " collisions, " + counts.get("notes") + " notes";
+        boolean isLeft = DocumentText.maps(comparison, "lines").stream().anyMatch(line -> line.get("kind").equals("finding") && Boolean.FALSE.equals(line.get("accepted")));
+        summary.append("### ").append(several ? comparison.get("clients") + ": " : "").append(Verdict.of(verdict, (Long) counts.get("findings"), isLeft)).append("\n\n");
         List<Map<?, ?>> here = DocumentText.maps(comparison, "lines").stream().filter(Annotate::isCause).collect(Collectors.toList());
         Set<Object> told = causes.stream().map(line -> line.get("text")).collect(Collectors.toSet());
         here.stream().filter(line -> !told.contains(line.get("text"))).forEach(causes::add);
@@ -104,7 +105,9 @@ final class Annotate {
     private String annotation(Map<?, ?> line) {
         String type = DocumentText.text(line, "class");
         String source = source(type);
-        return "::" + (line.get("kind").equals("finding") ? "error" : "warning") + " " + (source == null ? "" : "file=" + property(source) + ",") + "title="
+        Map<?, ?> place = (Map<?, ?>) line.get("source");
+        String file = place != null ? "file=" + property(DocumentText.text(place, "file")) + ",line=" + place.get("line") + "," : source == null ? "" : "file=" + property(source) + ",";
+        return "::" + (line.get("kind").equals("finding") ? "error" : "warning") + " " + file + "title="
                 + property(line.get("rule") + " " + type) + "::" + value(DocumentText.text(line, "words"));
     }
 

@@ -74,7 +74,12 @@ final class Arguments {
             case "--signatures": request.options.add(option); break;
             case "--whole": request.whole = true; break;
             case "--strict": request.strict = true; break;
-            case "--explain": request.explain = true; break;
+            case "--explain": request.explain = Request.Explain.ALL; break;
+            case "--no-explain": request.explain = Request.Explain.NONE; break;
+            case "--due": request.due = true; break;
+            case "--added": request.added = true; break;
+            case "--sarif": request.sarif = Paths.get(value()); break;
+            case "--sources": request.sources.add(Paths.get(value())); break;
             default: throw new Stop("there is no option " + option + " (those of jcompat stand behind --)" + see());
         }
     }
@@ -95,9 +100,10 @@ final class Arguments {
             if (count < 2 || count > 20) {
                 throw new Stop("a row has from 2 to 20 releases, and not " + count + see());
             }
-            boolean isOfTwo = request.accepted != null || request.from != null || request.to != null || request.strict || request.json || request.java != 0 || request.page != null;
+            boolean isOfTwo = request.accepted != null || request.from != null || request.to != null || request.strict || request.json || request.java != 0 || request.page != null
+                    || request.due || request.added || request.sarif != null;
             if (!request.options.isEmpty() || isOfTwo || request.views == Request.Views.MODULES) {
-                throw new Stop("--accepted, --from, --to, --strict and options behind -- are for two releases, and not for a row; nor are --gate, --java, --json, --modular, --page and --witness" + see());
+                throw new Stop("--accepted, --from, --to, --strict and options behind -- are for two releases, and not for a row; nor are --added, --due, --gate, --java, --json, --modular, --page, --sarif and --witness" + see());
             }
         } else if (count < 2) {
             throw new Stop("two jars are needed, of the old and of the new release" + see());

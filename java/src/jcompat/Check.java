@@ -19,6 +19,7 @@ public final class Check {
     /** What was compared of two releases: clients on the class path, modules, or both in this order. */
     final List<Comparison> comparisons = new ArrayList<>();
     private Outcome outcome;
+    private Sources sources;
 
     public Check(Request request, Host host) {
         this.request = request;
@@ -48,7 +49,7 @@ public final class Check {
     }
 
     /** What two releases were found to be, in the form of docs/check-jars.schema.json; null before they are compared, and of a row. */
-    public String document() {
+    public String document() throws IOException {
         return outcome == null ? null : Json.write(new Document(outcome).map());
     }
 
@@ -56,12 +57,14 @@ public final class Check {
         if (!request.needed) {
             shared.lookEarly(host);
         }
+        sources = new Sources(request.sources);
         program = Program.find(request.program, shared.cache);
-        List<String> versions = request.row ? new ArrayList<>() : new Versions(program, request, host).options();
+        Versions known = new Versions(program, request, host);
+        List<String> versions = request.row ? new ArrayList<>() : known.options();
         world = new World(request, host, shared.cache.work("world."), shared.jdk.feature());
         world.unpack();
         world.put(shared);
-        int status = request.row ? row() : check(versions, shared.jdk);
+        int status = request.row ? row() : check(versions, known, shared.jdk);
         host.out.flush();
         if (host.out.checkError()) {
             throw new Stop(Stop.NOT_WRITTEN, "the output couldn't be written");
@@ -78,7 +81,7 @@ public final class Check {
         return new Classes(release.folder, release.paths, world.platform);
     }
 
-    private int check(List<String> versions, Jdk jdk) throws IOException, Stop {
+    private int check(List<String> versions, Versions known, Jdk jdk) throws IOException, Stop {
         boolean modules = request.views != Request.Views.CLASS_PATH && (world.hasModules() || request.has("--modular"));
         if (!modules || request.views == Request.Views.ALL && !request.has("--modular")) {
             compare(false, versions, modules);
@@ -91,7 +94,11 @@ public final class Check {
         comparisons.forEach(each -> each.judge(accepted, request));
         int status = comparisons.stream().map(each -> each.status).reduce(Status.GOOD, Status::greater);
         outcome = new Outcome(request, world, versions, jdk, comparisons, status);
+        outcome.sources = sources;
         outcome.judgeJava(host);
+        if (request.due) {
+            outcome.due = new Due(known.known(0), versions.isEmpty() ? null : known.known(1), comparisons, request.strict);
+        }
         tell(accepted);
         return outcome.status;
     }
@@ -111,6 +118,9 @@ public final class Check {
         add(options, "--modular", asModules);
         Comparison comparison = new Comparison(asModules, classes(0), classes(1), options);
         comparison.ask(program, world, host);
+        if (request.due || request.added) {
+            comparison.additions = new Additions(comparison.oldRelease, comparison.newRelease);
+        }
         if (request.report != null) {
             comparison.keep(request.report.resolveSibling(request.report.getFileName() + ending));
         }
@@ -123,7 +133,7 @@ public final class Check {
         }
     }
 
-    private void tell(Accepted accepted) throws IOException {
+    private void tell(Accepted accepted) throws IOException, Stop {
         if (accepted != null) {
             accepted.sayUnused();
         }
@@ -145,30 +155,62 @@ public final class Check {
             }
         }
         if (request.page != null) {
-            Files.write(request.page, new Page(PageInput.of(outcome), null, request.title).html().getBytes(StandardCharsets.UTF_8));
+            write(request.page, new Page(PageInput.of(outcome), null, request.title).html());
+        }
+        if (request.sarif != null) {
+            write(request.sarif, Json.write(new Sarif(outcome).map()) + "\n");
+        }
+    }
+
+    private static void write(Path file, String text) throws Stop {
+        try {
+            Files.write(file, text.getBytes(StandardCharsets.UTF_8));
+        } catch (IOException failure) {
+            throw new Stop(Stop.NOT_WRITTEN, "can't write to " + file);
         }
     }
 
     private void print(Comparison comparison) {
-        boolean isRaw = comparison.options.contains("--json");
-        String counts = Printed.counts(comparison.report.further, comparison.options);
-        if (isRaw) {
+        if (comparison.options.contains("--json")) {
             host.out.write(comparison.answer.out, 0, comparison.answer.out.length);
-            if (!counts.isEmpty()) {
-                host.say(counts);
-            }
+            head(comparison).stream().skip(1).forEach(host::say);
             return;
         }
         if (comparisons.size() > 1) {
             host.out.println((comparison == comparisons.get(0) ? "" : "\n") + comparison.name() + ":");
         }
-        Words words = request.explain ? new Words(comparison.oldRelease, comparison.newRelease) : null;
-        List<String> needs = comparison == comparisons.get(0) ? outcome.needs : List.of();
-        new Printed(comparison.report, comparison.folding, words, host.out).print(comparison.left, needs);
-        if (!counts.isEmpty()) {
-            host.out.println(counts);
+        Words words = new Words(comparison.oldRelease, comparison.newRelease);
+        new Printed(comparison.report, comparison.folding, words, request.explain, host.out).print(comparison.left, head(comparison));
+        if (request.added) {
+            comparison.additions.lines(request.explain).forEach(host.out::println);
         }
         host.out.flush();
+    }
+
+    /** What stands first: the verdict, how many warnings there are, what Java is needed, which number is due. */
+    private List<String> head(Comparison comparison) {
+        List<String> head = new ArrayList<>(List.of(Verdict.of(comparison)));
+        head.addAll(Verdict.beside(comparison));
+        String counts = counts(comparison);
+        if (!counts.isEmpty()) {
+            head.add(counts);
+        }
+        if (comparison == comparisons.get(0)) {
+            head.addAll(outcome.needs);
+            head.addAll(outcome.due == null ? List.of() : outcome.due.lines());
+        }
+        return head;
+    }
+
+    private static String counts(Comparison comparison) {
+        String counts = Printed.counts(comparison.report.further, comparison.options);
+        long repeated = comparison.folding.repeated(comparison.report.further);
+        return repeated == 0 ? counts : counts + "; " + repeated + (repeated == 1 ? " warning only says" : " warnings only say") + " again what a finding says";
+    }
+
+    /** The verdict of each comparison, and how many warnings there are, in one line; of two releases that were compared. */
+    public String summary() {
+        return comparisons.stream().map(each -> Verdict.of(each) + "; " + counts(each)).collect(Collectors.joining("; as modules: "));
     }
 
     private int row() throws IOException, Stop {

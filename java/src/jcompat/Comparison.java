@@ -24,6 +24,8 @@ final class Comparison {
     List<Line> left;
     /** Whether all of the old release was compared. */
     boolean isWhole;
+    /** What was added, where that is asked for; or null. */
+    Additions additions;
     /** The status of this comparison alone. */
     int status;
 
@@ -48,6 +50,9 @@ final class Comparison {
             throw new Stop(answer.status, new Refusal(world, answer).advice(answer.status));
         }
         report = new Report(answer.text());
+        if (report.verdict == null) {
+            throw new Stop("jcompat ended without a verdict: it needs Linux on x86-64, with glibc 2.34 or later");
+        }
         folding = new Folding(report.all(), oldRelease);
         isWhole = report.unloadable("old").isEmpty();
     }

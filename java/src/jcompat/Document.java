@@ -1,8 +1,11 @@
 package jcompat;
 
+import java.io.IOException;
+import java.nio.file.Path;
 import java.util.ArrayList;
 import java.util.LinkedHashMap;
 import java.util.List;
+import java.util.Locale;
 import java.util.Map;
 import java.util.TreeSet;
 import java.util.stream.Collectors;
@@ -19,23 +22,42 @@ final class Document {
         this.outcome = outcome;
     }
 
-    Map<String, Object> map() {
+    Map<String, Object> map() throws IOException {
         Map<String, Object> map = new LinkedHashMap<>();
         map.put("format", FORMAT);
         map.put("version", VERSION);
+        map.put("tool", System.getProperty("jcompat.version"));
         map.put("status", outcome.status);
         map.put("old", release(0, outcome.oldJavas));
         map.put("new", release(1, outcome.newJavas));
         map.put("with", outcome.request.with.stream().map(Object::toString).collect(Collectors.toList()));
+        map.put("libraries", libraries());
         map.put("jdk", outcome.jdk.version);
         map.put("needs", outcome.needs);
-        map.put("comparisons", outcome.comparisons.stream().map(Document::comparison).collect(Collectors.toList()));
+        map.put("due", outcome.due == null ? null : outcome.due.map());
+        List<Object> comparisons = new ArrayList<>();
+        for (Comparison each : outcome.comparisons) {
+            comparisons.add(comparison(each));
+        }
+        map.put("comparisons", comparisons);
         return map;
     }
 
-    private Map<String, Object> release(int index, Javas javas) {
+    private List<Object> libraries() throws IOException {
+        List<Object> libraries = new ArrayList<>();
+        for (Path each : outcome.request.with) {
+            Map<String, Object> map = new LinkedHashMap<>();
+            map.put("name", each.toString());
+            map.put("sha256", Digest.of(each));
+            libraries.add(map);
+        }
+        return libraries;
+    }
+
+    private Map<String, Object> release(int index, Javas javas) throws IOException {
         Map<String, Object> map = new LinkedHashMap<>();
         map.put("name", outcome.request.releases.get(index).toString());
+        map.put("sha256", Digest.of(outcome.request.releases.get(index)));
         map.put("version", outcome.version(index));
         map.put("classes", outcome.world.releases.get(index).paths.size());
         map.put("java", javas.newest);
@@ -44,7 +66,7 @@ final class Document {
         return map;
     }
 
-    private static Map<String, Object> comparison(Comparison comparison) {
+    private Map<String, Object> comparison(Comparison comparison) throws IOException {
         Map<String, Object> map = new LinkedHashMap<>();
         Report report = comparison.report;
         map.put("clients", comparison.name());
@@ -53,11 +75,27 @@ final class Document {
         map.put("whole", comparison.isWhole);
         map.put("counts", counts(comparison));
         Words words = new Words(comparison.oldRelease, comparison.newRelease);
-        map.put("lines", report.all().stream().map(line -> line(line, comparison, words)).collect(Collectors.toList()));
+        List<Object> lines = new ArrayList<>();
+        for (Line line : report.all()) {
+            lines.add(line(line, comparison, words));
+        }
+        map.put("lines", lines);
         map.put("notes", report.notes.stream().map(Document::note).collect(Collectors.toList()));
         map.put("missing", new ArrayList<>(report.notes.stream().filter(note -> !note.isConstant)
                 .flatMap(note -> (note.side.equals("old") ? comparison.oldRelease : comparison.newRelease).missingAbove(note.type).stream())
                 .collect(Collectors.toCollection(TreeSet::new))));
+        map.put("added", comparison.additions == null ? null : comparison.additions.all.stream().map(added -> added(added, comparison)).collect(Collectors.toList()));
+        return map;
+    }
+
+    private static Map<String, Object> added(Added added, Comparison comparison) {
+        Map<String, Object> map = new LinkedHashMap<>();
+        map.put("kind", added.kind.name().toLowerCase(Locale.ROOT));
+        map.put("class", added.type);
+        map.put("member", added.member);
+        map.put("text", added.text());
+        map.put("words", added.words(comparison.newRelease));
+        map.put("folded", added.folded);
         return map;
     }
 
@@ -70,6 +108,7 @@ final class Document {
         map.put("dropped", comparison.options.contains("--dropped") ? count(lines, "dropped") : null);
         map.put("notes", comparison.report.notes.size());
         map.put("accepted", comparison.accepted.size());
+        map.put("left", count(comparison.left, "finding"));
         return map;
     }
 
@@ -77,7 +116,7 @@ final class Document {
         return lines.stream().filter(line -> line.kind().equals(kind)).count();
     }
 
-    private static Map<String, Object> line(Line line, Comparison comparison, Words words) {
+    private Map<String, Object> line(Line line, Comparison comparison, Words words) throws IOException {
         Map<String, Object> map = new LinkedHashMap<>();
         boolean isNumbered = !line.isFurther();
         map.put("number", isNumbered ? line.number : null);
@@ -97,6 +136,8 @@ final class Document {
         map.put("into", top == line ? null : top.text);
         map.put("made", line.isMade());
         map.put("accepted", comparison.accepted.contains(line));
+        Sources.Place place = outcome.sources.of(line, comparison);
+        map.put("source", place == null ? null : place.map());
         return map;
     }
 

@@ -13,7 +13,7 @@ final class Meanings {
     private final Map<String, String> sections = new LinkedHashMap<>();
     private final List<String> rules = new ArrayList<>();
     private final Map<String, String> anchors = new HashMap<>();
-    private final Map<String, String> titles = new HashMap<>();
+    private final Map<String, String> headings = new HashMap<>();
 
     Meanings(String text) {
         String anchor = null;
@@ -33,7 +33,7 @@ final class Meanings {
                     rule = rule.equals("Warnings") ? Line.WARNING : rule.equals("Dropped") ? Line.DROPPED : rule;
                     rules.add(rule);
                     anchors.put(rule, anchor);
-                    titles.put(rule, Markdown.inline(line.substring(line.indexOf(':') + 2)));
+                    headings.put(rule, line.substring(line.indexOf(':') + 2));
                 }
             }
         }
@@ -52,8 +52,14 @@ final class Meanings {
         return anchors.get(rule);
     }
 
+    /** In HTML. */
     String title(String rule) {
-        return titles.getOrDefault(rule, "");
+        return Markdown.inline(heading(rule));
+    }
+
+    /** As the document has it. */
+    String heading(String rule) {
+        return headings.getOrDefault(rule, "");
     }
 
     /** A section, whose links to others that the page doesn't have are none. */

@@ -15,6 +15,9 @@ final class Outcome {
     /** What the new release asks of a Java that the old one didn't, in words. */
     final List<String> needs;
     int status;
+    Sources sources;
+    /** Which version number is due, where that is asked for; or null. */
+    Due due;
 
     Outcome(Request request, World world, List<String> versions, Jdk jdk, List<Comparison> comparisons, int status) {
         this.request = request;

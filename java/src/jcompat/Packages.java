@@ -40,6 +40,9 @@ final class Packages {
         if (request.accepted != null) {
             throw new Stop("--accepted is for two jars, and not for two packages");
         }
+        if (request.due || request.added || request.sarif != null) {
+            throw new Stop("--due, --added and --sarif are for two jars, and not for two packages");
+        }
         if (request.json || request.page != null || request.has("--json") || request.has("--witness")) {
             throw new Stop("--json, --page and --witness are for two jars, and not for two packages");
         }
@@ -139,7 +142,7 @@ final class Packages {
         table(jar, status, check);
         // of jars of which there is nothing to tell the row of the table is enough
         String text = said.toString(StandardCharsets.UTF_8.name());
-        if (!text.replaceFirst("compatible: 0 findings, 0 collisions, 0 notes\n", "").matches("(?:0 warnings)?(?:, )?(?:0 dropped interfaces)?\n?")) {
+        if (!text.matches("compatible: 0 findings, 0 collisions, 0 notes\n(?:0 warnings)?(?:, )?(?:0 dropped interfaces)?\n?")) {
             host.out.print(jar + ":\n" + text + "\n");
         }
     }

@@ -52,7 +52,7 @@ final class Page {
         return page(resource("report-page.css"), resource("report-page.js"));
     }
 
-    private static String resource(String name) throws IOException {
+    static String resource(String name) throws IOException {
         try (InputStream in = Page.class.getResourceAsStream("page/" + name)) {
             return new String(in.readAllBytes(), StandardCharsets.UTF_8);
         }
@@ -98,15 +98,21 @@ final class Page {
         return report.verdict.startsWith("compatible");
     }
 
+    /** Whether there are findings that aren't accepted. */
+    private boolean isLeft() {
+        return report.lines.stream().anyMatch(line -> line.isFinding() && !input.isAccepted(line));
+    }
+
     private String verdict() {
         long warnings = input.warnings();
-        return !isCompatible() ? "Incompatible" : warnings == 0 ? "Compatible"
+        long findings = report.lines.stream().filter(Line::isFinding).count();
+        return !isCompatible() ? isLeft() ? "Incompatible" : "Compatible but for " + String.format(Locale.ROOT, "%,d", findings) + " accepted" : warnings == 0 ? "Compatible"
                 : "Links; " + String.format(Locale.ROOT, "%,d", warnings) + (warnings == 1 ? " call may fail" : " calls may fail");
     }
 
     private void putVerdict() {
         boolean isGood = input.warnings() == 0 && (input.verdictOfModules == null || input.verdictOfModules.startsWith("compatible"));
-        String kind = !isCompatible() ? "bad" : isGood ? "good" : "may";
+        String kind = !isCompatible() ? isLeft() ? "bad" : "may" : isGood ? "good" : "may";
         put("<a class=skip href=#lines>Skip to the lines</a>\n<header><p class=title>" + Html.text(title) + "</p><h1 class=" + kind + ">"
                 + verdict() + "</h1>\n<p class=lead>");
         put(isCompatible() ? "Clients that were compiled against the old release still link with the new one"
@@ -181,7 +187,7 @@ final class Page {
         put("<li id=n" + line.number + " data-r=" + Html.text(line.rule) + "><details><summary><b>" + Html.text(line.rule) + "</b> " + Html.text(said.get(0))
                 + (line.isMade() || below.get(line).size() == 1 ? "" : " <em>" + Html.text(input.folding.folded(line, below.get(line)).trim()) + "</em>")
                 + (input.isAccepted(line) ? " <em>accepted</em>" : "")
-                + " <code>" + Html.text(said.get(1)) + "</code></summary></details>\n");
+                + (said.get(1).isEmpty() ? "" : " <code>" + Html.text(said.get(1)) + "</code>") + "</summary></details>\n");
     }
 
     // ---- notes and meanings

@@ -25,7 +25,18 @@ public final class Request {
     public int java;
     public boolean whole;
     public boolean strict;
-    public boolean explain;
+    /** Which lines are explained: none, the first of each kind, or all. */
+    public enum Explain { NONE, FIRST, ALL }
+
+    public Explain explain = Explain.FIRST;
+    /** Whether it is said which version number is due. */
+    public boolean due;
+    /** Whether what was added is listed. */
+    public boolean added;
+    /** A file of SARIF is written there, unless it is null. */
+    public Path sarif;
+    /** Folders or jars of the new release's sources. */
+    public final List<Path> sources = new ArrayList<>();
     /** The versions, or null where those in the names count. */
     public String from;
     public String to;
@@ -47,6 +58,16 @@ public final class Request {
     public Path program;
     /** Whether the program is given those classes of the JDK alone that the releases and libraries name, and what is above these. */
     public boolean needed;
+
+    /** The value of an option of the program, or null. */
+    String value(String option) {
+        String value = null;
+        for (int i = 0; i < options.size(); i++) {
+            String each = options.get(i);
+            value = each.startsWith(option + "=") ? each.substring(option.length() + 1) : each.equals(option) && i + 1 < options.size() ? options.get(i + 1) : value;
+        }
+        return value;
+    }
 
     /** Whether an option of the program is given, alone or with its value. */
     boolean has(String option) {

@@ -34,12 +34,13 @@ final class Row {
     }
 
     /** Whether all of each release but the last was compared. */
-    boolean tell(boolean explain, Host host, Uncompared uncompared) {
+    boolean tell(Request.Explain explain, Host host, Uncompared uncompared) {
         for (int i = 0; i < steps.size(); i++) {
             Report step = steps.get(i);
             if (!step.lines.isEmpty() || !step.notes.isEmpty()) {
                 host.out.println(names.get(i) + ":");
-                new Printed(step, new Folding(step.lines, releases.get(i)), explain ? new Words(releases.get(i), releases.get(i + 1)) : null, host.out).print(step.lines, List.of());
+                new Printed(step, new Folding(step.lines, releases.get(i)), new Words(releases.get(i), releases.get(i + 1)), explain, host.out)
+                        .print(step.lines, List.of(step.verdict));
                 host.out.println();
             }
         }

@@ -26,6 +26,9 @@ final class Versions {
             }
             return new ArrayList<>();
         }
+        if (request.due && request.from != null && request.to == null && inName(request.releases.get(1).toString()) == null) {
+            return new ArrayList<>();
+        }
         String oldName = request.releases.get(0).toString();
         String newName = request.releases.get(1).toString();
         String from = request.from == null ? inName(oldName) : request.from;
@@ -52,6 +55,13 @@ final class Versions {
             host.say("no versions are handed on, since " + why);
         }
         return new ArrayList<>();
+    }
+
+    /** The version of a release, by its index, where it is given or in the name; or null. */
+    String known(int index) throws IOException, Stop {
+        String given = index == 0 ? request.from : request.to;
+        given = given == null ? request.value(index == 0 ? "--from" : "--to") : given;
+        return given == null ? inName(request.releases.get(index).toString()) : given;
     }
 
     private static List<String> pair(String from, String to) {

@@ -19,6 +19,11 @@ final class Words {
         this.newRelease = newRelease;
     }
 
+    /** What the line is one of, of which the first is explained: its rule, of a warning what happened. */
+    String kind(Line line) {
+        return line.rule.equals(Line.WARNING) ? new WarningWords(line, oldRelease, newRelease).happened.name() : line.rule;
+    }
+
     /** Whether both releases have the class. */
     boolean has(String type) {
         return oldRelease.find(type) != null && newRelease.find(type) != null;
@@ -32,7 +37,7 @@ final class Words {
         return Arrays.asList(Html.dotted(line.type) + ": a client ends with " + line.error, line.text);
     }
 
-    /** What is so in the new release, and a client that breaks. */
+    /** What is so in the new release, and a client that breaks; the second is empty where none does. */
     List<String> say(Line line) {
         ClassFile now = newRelease.find(line.type);
         String type = Names.simple(line.type);
@@ -84,40 +89,14 @@ final class Words {
                 return Arrays.asList("class " + type + " has a new method " + declared(line) + ", which isn't a public instance method",
                         "class Y extends " + type + " implements J { }   y." + call(line) + ", which J has as a default method");
             case Line.WARNING:
-                return Arrays.asList(warning(line, type), "class Y " + (kind(line.type).equals("class") ? "extends " : "implements ") + type
-                        + " { }, without a method " + Names.member(line.member) + " of its own, and " + call(line) + " is called on it");
+                WarningWords warning = new WarningWords(line, oldRelease, newRelease);
+                return Arrays.asList(warning.said(declared(line)), warning.client(call(line)));
             case Line.DROPPED:
                 return Arrays.asList(kind(line.type) + " " + type + " no longer " + (kind(line.type).equals("class") ? "implements " : "extends ") + Names.simple(line.member),
                         throughInterface(line.member, variable));
             default:
                 return Arrays.asList("class " + type + " has a new final method " + declared(line), subclass(line, ""));
         }
-    }
-
-    /** What the new release does to the classes of clients below the type. */
-    private String warning(Line line, String type) {
-        String method = declared(line);
-        if (line.act.equals("lost")) {
-            return kind(line.type) + " " + type + " gives classes no method " + method + " to run any more";
-        }
-        if (line.act.equals("abstract")) {
-            return kind(line.type) + " " + type + " has an abstract method " + method + " now: classes without it fail when it is called";
-        }
-        Member before = member(line, oldRelease);
-        Member now = member(line);
-        boolean isAbstract = now != null && (now.flags & ClassFile.ABSTRACT) != 0;
-        if (before == null && now != null) {
-            return type + (isAbstract ? " has a new abstract method " + method + ": classes without it fail when it is called"
-                    : " has a new default method " + method + ": classes that get one from elsewhere too fail when it is called, or run another");
-        }
-        if (before != null && now == null) {
-            return type + " no longer gives classes " + method;
-        }
-        if (before != null && isAbstract != ((before.flags & ClassFile.ABSTRACT) != 0)) {
-            return type + (isAbstract ? ": the method " + method + " has no default any more: classes without it fail when it is called"
-                    : ": the method " + method + " has a default now: classes that get one from elsewhere too fail when it is called, or run another");
-        }
-        return kind(line.type) + " " + type + " gives classes " + method + " otherwise than before, from another interface";
     }
 
     /** A call through an interface, or a cast to one that has no method to call. */
@@ -176,38 +155,19 @@ final class Words {
                 : "is " + (access == ClassFile.PRIVATE ? "private" : access == ClassFile.PROTECTED ? "protected" : "package-private") + " now";
     }
 
-    private List<Member> members(Line line, ClassFile file) {
-        return line.member.contains("(") ? file.methods() : file.fields();
-    }
-
-    /** A member as lines have it. */
-    private static String text(Line line, Member member) {
-        return member.name + (line.member.contains("(") ? "" : ":") + member.type;
-    }
-
     private Member member(Line line) {
-        return member(line, newRelease);
-    }
-
-    private Member member(Line line, Classes release) {
-        for (ClassFile file : release.chain(line.type)) {
-            for (Member member : members(line, file)) {
-                if (text(line, member).equals(line.member)) {
-                    return member;
-                }
-            }
-        }
-        return null;
+        Declaration now = newRelease.declaration(line.type, line.member);
+        return now == null ? null : now.member;
     }
 
     /** What else of the name the new release has for clients, nearest first. */
     private List<String> others(Line line) {
         List<String> others = new ArrayList<>();
         for (ClassFile file : newRelease.chain(line.type)) {
-            for (Member member : members(line, file)) {
+            for (Member member : line.member.contains("(") ? file.methods() : file.fields()) {
                 boolean open = (member.flags & (ClassFile.PUBLIC | ClassFile.PROTECTED)) != 0 && (member.flags & ClassFile.SYNTHETIC) == 0;
                 boolean own = !member.name.equals("<init>") || file.name.equals(line.type);
-                String text = text(line, member);
+                String text = member.text();
                 if (open && own && member.name.equals(Names.member(line.member)) && !others.contains(text)) {
                     others.add(text);
                 }

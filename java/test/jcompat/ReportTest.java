@@ -53,13 +53,16 @@ public class ReportTest {
         Report report = new Report(TEXT);
         Folding folding = new Folding(report.all(), new Classes(release, Arrays.asList("p/A.class", "p/B.class"), release));
         assertEquals(report.lines.get(0), folding.top(report.lines.get(1)));
-        Path accepted = Files.write(made.getRoot().toPath().resolve("accepted"), "1 H7 p/A *  # counted once, and with its number\nH8 p/Gone *\n".getBytes(StandardCharsets.UTF_8));
+        Path accepted = Files.write(made.getRoot().toPath().resolve("accepted"), "1 H7 p/A size:I putfield java/lang/Object IllegalAccessError (and through 1 subclass)  # counted once, and as it is printed\nH8 p/Gone *\nH7 B size\nFinal p/A close\n".getBytes(StandardCharsets.UTF_8));
         Jars jars = new Jars();
         Accepted entries = new Accepted(accepted, jars.host);
         Set<Line> taken = entries.of(report.all(), folding);
         assertEquals(2, taken.size());
         entries.sayUnused();
-        assertEquals(Arrays.asList("line 2 of the accepted breaks accepts nothing: H8 p/Gone *"), jars.said);
+        assertEquals(Arrays.asList("line 2 of the accepted breaks accepts nothing: H8 p/Gone *",
+                "line 3 of the accepted breaks accepts nothing: H7 B size; nearest is 2 H7 p/B size:I putfield java/lang/Object IllegalAccessError",
+                "line 4 of the accepted breaks accepts nothing: Final p/A close; nearest is 3 Final p/A close()V override - IncompatibleClassChangeError, which it accepts with a * at its end"),
+                jars.said);
         List<Line> left = report.all().stream().filter(line -> !taken.contains(line)).collect(Collectors.toList());
         assertEquals(0, Gates.status(Collections.emptyList(), left));
         assertEquals(1, Gates.status(Arrays.asList("--gate", "links,collisions"), left));

@@ -27,8 +27,8 @@ public class WordsTest {
     private Classes release(String name, String source) throws Exception {
         Path folder = made.newFolder(name).toPath();
         List<String> words = new ArrayList<>(Arrays.asList("--release", "11", "-d", folder.toString()));
-        for (String type : source.split("(?=public (?:class|interface) )")) {
-            String simple = type.replaceFirst("(?s)public (?:abstract |final )?(?:class|interface) (\\w+).*", "$1");
+        for (String type : source.split("(?=public (?:class|interface|@interface) )")) {
+            String simple = type.replaceFirst("(?s)public (?:abstract |final )?(?:class|@?interface) (\\w+).*", "$1");
             Path file = made.newFolder(name + "-" + simple).toPath().resolve(simple + ".java");
             Files.write(file, ("package p; " + type).getBytes(StandardCharsets.UTF_8));
             words.add(file.toString());
@@ -39,7 +39,15 @@ public class WordsTest {
     }
 
     private static String say(Classes before, Classes now, String line) {
-        return new Words(before, now).say(new Report(line + "\ncompatible: 0 findings, 0 collisions, 0 notes").all().get(0)).get(0);
+        return both(before, now, line).get(0);
+    }
+
+    private static String client(Classes before, Classes now, String line) {
+        return both(before, now, line).get(1);
+    }
+
+    private static List<String> both(Classes before, Classes now, String line) {
+        return new Words(before, now).say(new Report(line + "\ncompatible: 0 findings, 0 collisions, 0 notes").all().get(0));
     }
 
     @Test
@@ -48,11 +56,38 @@ public class WordsTest {
         Classes opened = release("opened", "public interface I { void draw(); }");
         Classes given = release("given", "public interface I { default void draw() { } }");
         String line = "warning p/I draw()V defaults";
-        assertEquals("I has a new abstract method void draw(): classes without it fail when it is called", say(none, opened, line));
-        assertTrue(say(none, given, line).startsWith("I has a new default method void draw(): classes that get one from elsewhere"));
-        assertTrue(say(given, opened, line).startsWith("I: the method void draw() has no default any more"));
-        assertTrue(say(opened, given, line).startsWith("I: the method void draw() has a default now"));
+        assertEquals("abstract method void draw() was added: classes that implement I without it fail when it is called", say(none, opened, line));
+        assertTrue(say(none, given, line).startsWith("default method void draw() was added: classes that implement I and get one from elsewhere too"));
+        assertEquals("the default of void draw() was removed: classes that implement I without it fail when it is called", say(given, opened, line));
+        assertTrue(say(opened, given, line).startsWith("void draw() has a default now: classes that implement I and get one from elsewhere too"));
         assertEquals("I no longer gives classes void draw()", say(opened, none, line));
+    }
+
+    @Test
+    public void aWarningHasNoClientThatNobodyCouldHold() throws Exception {
+        Classes none = release("none", "public interface I { }");
+        Classes opened = release("opened", "public interface I { void draw(); }");
+        String line = "warning p/I draw()V defaults";
+        assertEquals("class Y implements I { }, without a method draw of its own, and the library calls draw() on it", client(none, opened, line));
+        assertEquals("class Y implements I { }, without a method draw of its own, and draw() is called on it", client(opened, none, line));
+        Classes own = release("own", "public interface J { } public interface I extends J { void draw(); }");
+        Classes above = release("above", "public interface J { void draw(); } public interface I extends J { }");
+        assertEquals("void draw() moved to the superinterface J: breaks nobody", say(own, above, line));
+        assertEquals("", client(own, above, line));
+        assertTrue(say(above, own, line).startsWith("I gives classes void draw() of I, and gave that of J"));
+        Classes given = release("given", "public interface J { default void draw() { } } public interface I extends J { }");
+        Classes moved = release("moved", "public interface J { } public interface I extends J { default void draw() { } }");
+        assertTrue(say(moved, given, line).startsWith("I gives classes void draw() of J, and gave that of I"));
+    }
+
+    @Test
+    public void anElementOfAnAnnotationIsNotImplemented() throws Exception {
+        Classes none = release("none", "public @interface I { }");
+        Classes plain = release("plain", "public @interface I { String text(); }");
+        Classes given = release("given", "public @interface I { String text() default \"\"; }");
+        String line = "warning p/I text()Ljava/lang/String; defaults";
+        assertEquals("element String text() was added to the annotation I, with a default: breaks only classes that implement the annotation themselves", say(none, given, line));
+        assertTrue(say(none, plain, line).contains("without a default"));
     }
 
     @Test
@@ -82,5 +117,16 @@ public class WordsTest {
         assertEquals(Arrays.asList(1, 5), folding.below(report.all()).keySet().stream().map(line -> line.number).collect(Collectors.toList()));
         assertEquals(" (and through 1 subclass, and 2 warnings)", folding.folded(first, folding.below(report.all()).get(first)));
         assertEquals(Collections.emptyList(), folding.below(report.all()).keySet().stream().filter(line -> line.rule.equals("H7")).collect(Collectors.toList()));
+        assertEquals(2, folding.repeated(report.all()));
+    }
+
+    @Test
+    public void aWarningOfAMethodThatIsGoneIsFoldedWhateverItsKind() throws Exception {
+        Classes one = release("gone", "public interface I { }");
+        Report report = new Report("1 H9 p/I draw()V inherit - NoSuchMethodError\n2 H8 p/I run()V invokeinterface java/lang/Object IncompatibleClassChangeError\n"
+                + "incompatible: 2 findings, 0 collisions, 0 notes\nwarning p/I draw()V defaults\nwarning p/I run()V defaults\n");
+        Folding folding = new Folding(report.all(), one);
+        assertEquals(report.lines.get(0), folding.top(report.further.get(0)));
+        assertEquals(report.further.get(1), folding.top(report.further.get(1)));
     }
 }

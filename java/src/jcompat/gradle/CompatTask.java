@@ -201,7 +201,7 @@ public class CompatTask extends DefaultTask {
         request.whole = whole;
         request.strict = strict;
         request.java = java;
-        request.explain = true;
+        request.explain = Request.Explain.ALL;
         request.program = program == null ? null : program.toPath();
         request.options.addAll(Arrays.asList("--gate", gate));
         ByteArrayOutputStream printed = new ByteArrayOutputStream();
@@ -215,18 +215,12 @@ public class CompatTask extends DefaultTask {
         Files.write(output.toPath().resolve("printed.txt"), printed.toByteArray());
         Files.write(output.toPath().resolve("report.json"), check.document().getBytes(StandardCharsets.UTF_8));
         if (status == 0) {
-            getLogger().lifecycle("jcompat: {}: {}", request.title, last(printed.toString(StandardCharsets.UTF_8.name())));
+            getLogger().lifecycle("jcompat: {}: {}", request.title, check.summary());
             return;
         }
         getLogger().error(printed.toString(StandardCharsets.UTF_8.name()));
         throw new GradleException("jcompat: " + request.title + ": " + (status == Status.NOT_WHOLE ? "not all classes were compared"
                 : status == Status.NEEDS_JAVA ? "it needs a newer Java than " + java : status == Status.NOT_STRICT ? "there are warnings or dropped interfaces" : "clients break, or what else the gate " + gate + " asks")
                 + "; " + request.page + " tells more");
-    }
-
-    /** The verdict, and how many warnings there are. */
-    private static String last(String printed) {
-        String[] lines = printed.split("\n");
-        return String.join("; ", Arrays.asList(lines).subList(Math.max(0, lines.length - 2), lines.length));
     }
 }
