@@ -170,7 +170,7 @@ public final class Check {
         }
     }
 
-    private void print(Comparison comparison) {
+    private void print(Comparison comparison) throws IOException {
         if (comparison.options.contains("--json")) {
             host.out.write(comparison.answer.out, 0, comparison.answer.out.length);
             head(comparison).stream().skip(1).forEach(host::say);

@@ -26,8 +26,8 @@ final class Document {
         Map<String, Object> map = new LinkedHashMap<>();
         map.put("format", FORMAT);
         map.put("version", VERSION);
-        map.put("tool", System.getProperty("jcompat.version"));
         map.put("status", outcome.status);
+        map.put("tool", System.getProperty("jcompat.version"));
         map.put("old", release(0, outcome.oldJavas));
         map.put("new", release(1, outcome.newJavas));
         map.put("with", outcome.request.with.stream().map(Object::toString).collect(Collectors.toList()));

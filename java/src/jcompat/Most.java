@@ -1,5 +1,6 @@
 package jcompat;
 
+import java.io.IOException;
 import java.util.ArrayList;
 import java.util.Comparator;
 import java.util.LinkedHashMap;
@@ -16,12 +17,13 @@ final class Most {
     }
 
     /** Of the lines that aren't folded. */
-    static List<String> of(Map<Line, List<Line>> below) {
+    static List<String> of(Map<Line, List<Line>> below) throws IOException {
+        Meanings meanings = new Meanings(Page.resource("FINDINGS.md"));
         List<String> said = new ArrayList<>();
         Map<String, List<Line>> rules = new LinkedHashMap<>();
         // H1 breaks every client that names the class; the rules come in the order of their numbers
         below.keySet().forEach(line -> rules.computeIfAbsent(line.rule, any -> new ArrayList<>()).add(line));
-        rules.forEach((rule, lines) -> said.add(String.format("%6d %s, as %s", lines.size(), rule, place(lines.get(0)))));
+        rules.forEach((rule, lines) -> said.add(String.format("%6d %s: %s, as %s", lines.size(), rule, meanings.heading(rule), place(lines.get(0)))));
         Map<String, List<Line>> classes = below.keySet().stream().filter(line -> !line.isFurther())
                 .collect(Collectors.groupingBy(line -> line.type, TreeMap::new, Collectors.toList()));
         List<String> names = new ArrayList<>(classes.keySet());

@@ -1,5 +1,6 @@
 package jcompat;
 
+import java.io.IOException;
 import java.io.PrintStream;
 import java.util.ArrayList;
 import java.util.Arrays;
@@ -34,7 +35,7 @@ final class Printed {
     }
 
     /** Prints the lines of the head, of which the first is the verdict, and the lines that aren't accepted. */
-    void print(List<Line> left, List<String> head) {
+    void print(List<Line> left, List<String> head) throws IOException {
         head.forEach(out::println);
         // the one that a line is folded into is left too: a line is accepted with it
         Map<Line, List<Line>> below = folding.below(left);

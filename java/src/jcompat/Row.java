@@ -1,5 +1,6 @@
 package jcompat;
 
+import java.io.IOException;
 import java.nio.file.Path;
 import java.util.ArrayList;
 import java.util.HashMap;
@@ -34,7 +35,7 @@ final class Row {
     }
 
     /** Whether all of each release but the last was compared. */
-    boolean tell(Request.Explain explain, Host host, Uncompared uncompared) {
+    boolean tell(Request.Explain explain, Host host, Uncompared uncompared) throws IOException {
         for (int i = 0; i < steps.size(); i++) {
             Report step = steps.get(i);
             if (!step.lines.isEmpty() || !step.notes.isEmpty()) {

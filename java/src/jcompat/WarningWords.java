@@ -84,7 +84,7 @@ final class WarningWords {
             case DEFAULT_ADDED: case DEFAULT_GIVEN: case ELSEWHERE: case REORDERED:
                 return below + (isClass ? " implements J" : ", J") + " { }, where J has a default method " + Names.member(line.member) + " too, and " + calls(call);
             case ELEMENT_ADDED:
-                return now.attributes().has("AnnotationDefault") ? below + " { }, and " + calls(call) : "annotation." + call + ", of an annotation of a class compiled before";
+                return now.attributes().has("AnnotationDefault") ? below + " { }, and " + calls(call) : "@" + type + " class Y { }, of which the library asks for " + call;
             default:
                 return below + " { }, without a method " + Names.member(line.member) + " of its own, and " + calls(call);
         }
