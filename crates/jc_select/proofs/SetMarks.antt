@@ -1,25 +1,15 @@
 -- Marks that are set, and cleared again.
---     set_one, set_nothing, set_same, set_both      which marks are set
---     set_start, set_more, set_all      those of a list, of one item after the other
+--     set_nothing, set_same, set_both      which marks are set
+--     set_start, set_more      those of a list, of one item after the other
 --     told, cleared      what marks tell, and how they are clear again
-use Rattle.std.proofs.Common.{◌≡◌, ◌<◌, ◌≤◌, ◌+◌, ◌==◌, ◌||◌, ℕ, Bool, true, false, cond, List, length, get_or, set, replicate, take, refl, sym, ◌∙◌, ap, subst, nat_lt, arith}
+use Rattle.std.proofs.Common.{◌≡◌, ◌<◌, ◌+◌, ◌||◌, ℕ, Bool, true, false, cond, List, length, get_or, take, refl, sym, ◌∙◌, ap, subst, nat_lt, arith}
 use Rattle.std.specs.List.{list_any}
-use Rattle.std.proofs.lemmas.Bool.{eqb-true, eqb-false, ltb-true, ltb-false}
-use Rattle.std.proofs.lemmas.List.{get_or-replicate, get_or-set_same, get_or-set_other, get_or_past, length-set, length-replicate, take_all}
+use Rattle.std.proofs.lemmas.Bool.{ltb-true, ltb-false}
+use Rattle.std.proofs.lemmas.List.{get_or_past}
 use Rattle.std.proofs.lemmas.List.Folds.{list_any_more}
 use Rattle.jc_select.specs.steps.Losing.{AreClear, AreSet, mark_at}
 
 -- ---- which are set
-
-pub set_one : (id : ℕ) (to : Bool) (before after : List Bool) → id < length before → after ≡ set before id to → AreSet (λ n. id == n) to before after
-set_one id to before after l e = record {
-  count = ap (λ (ms : List Bool). length ms) e ∙ length-set before id to;
-  each = λ n b. ap (λ (ms : List Bool). mark_at ms n) e ∙ go n (id == n) refl;
-}
-  where
-    go : (n : ℕ) (b : Bool) → (id == n) ≡ b → mark_at (set before id to) n ≡ cond b to (mark_at before n)
-    go n true q = ap (mark_at (set before id to)) (sym (eqb-true id n q)) ∙ get_or-set_same before id to false l
-    go n false q = get_or-set_other before id n to false (λ w. eqb-false id n q (sym w))
 
 pub set_nothing : (p : ℕ → Bool) (to : Bool) (marks : List Bool) → ((n : ℕ) → p n ≡ false) → AreSet p to marks marks
 set_nothing p to marks h = record { count = refl; each = λ n l. sym (ap (λ b. cond b to (mark_at marks n)) (h n)) }
@@ -53,9 +43,6 @@ module _ {A : Type 0} (p : A → ℕ → Bool) (xs : List A) where
       (λ n b. ap (λ y. list_any (λ z. p z n) (take i xs) || p y n) e ∙ sym (list_any_more (λ z. p z n) xs i d l))
       (set_both (λ n. list_any (λ y. p y n) (take i xs)) (p x) to before mid after h k)
 
-  pub set_all : (to : Bool) (before after : List Bool) (i : ℕ) → length xs ≤ i → AreSet (λ n. list_any (λ y. p y n) (take i xs)) to before after → AreSet (λ n. list_any (λ y. p y n) xs) to before after
-  set_all to before after i l h = subst (λ (ys : List A). AreSet (λ n. list_any (λ y. p y n) ys) to before after) (take_all i xs l) h
-
 -- ---- what they tell
 
 pub told : (p : ℕ → Bool) (clear marks : List Bool) → AreClear clear → AreSet p true clear marks → (n : ℕ) → n < length clear → mark_at marks n ≡ p n
@@ -77,11 +64,3 @@ cleared p clear marks after none h k n = go (nat_lt n (length clear)) refl
         let l : n < length clear = ltb-true n (length clear) q in
         k.each n (subst (λ m. n < m) (sym h.count) l) ∙ ap (λ (m : Bool). cond (p n) false m) (h.each n l) ∙ undone (p n) (mark_at clear n) (none n)
     go false q = get_or_past after n false (omega (arith, ltb-false n (length clear) q, h.count, k.count))
-
--- marks of which none was set yet
-pub all_clear : (count : ℕ) (marks : List Bool) → marks ≡ replicate count false → AreClear marks
-all_clear count marks e n = ap (λ (ms : List Bool). mark_at ms n) e ∙ go (nat_lt n count) refl
-  where
-    go : (b : Bool) → nat_lt n count ≡ b → mark_at (replicate count false) n ≡ false
-    go true q = get_or-replicate count n false false (ltb-true n count q)
-    go false q = get_or_past (replicate count false) n false (omega (arith, ltb-false n count q, length-replicate count false))
