@@ -1,0 +1,4 @@
+mod Kept
+mod Lost
+mod Openly
+pub mod WorkedReferences

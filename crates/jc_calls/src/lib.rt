@@ -1,0 +1,18 @@
+//! Calls and method references of clients that fail though all links: what that means, and the laws of it.
+//!
+//! Each law is the contract of a function that does nothing.
+#![tactic(auto)]
+
+ghost use Rattle.jc_calls.specs.CallsKept.{ReferencesStay};
+ghost use Rattle.jc_calls.specs.Lost.{EachReferenceIsLost};
+
+/// Where the verdict has no finding, no reference is lost, and no collision is met, each method reference of a client that names a class
+/// of a library, and was Ok, is Ok.
+pub fn references_stay()
+    ensures { ReferencesStay }
+{}
+
+/// Each reference that is lost is one that some client in scope loses, which meets no collision.
+pub fn each_reference_is_lost()
+    ensures { EachReferenceIsLost }
+{}
