@@ -20,7 +20,7 @@ use Rattle.jc_facts.specs.world.World.{World, find_class, class_named, with_clie
 use Rattle.jc_facts.specs.world.Access.{is_class_accessible, is_member_accessible, is_member_open}
 use Rattle.jc_facts.specs.world.Loading.{load_fault, fault_where}
 use Rattle.jc_facts.specs.client.Acts.{FieldForm, form_of, is_field_form, is_act_on_field}
-use Rattle.jc_facts.specs.client.Allowed.{is_allowed_name}
+use Rattle.jc_promises.specs.client.Names.{is_free_name, is_client_name}
 use Rattle.jc_facts.specs.client.Outcome.{outcome, class_fault, use_fault, may_find}
 use Rattle.jc_facts.specs.client.Valid.{facts_of}
 use Rattle.jc_facts.proofs.Options.{or_else-none}
@@ -36,7 +36,7 @@ use Rattle.jc_lemmas.proofs.Options.{none_where}
 use Rattle.jc_worlds.proofs.Above.{fault_where-none}
 use Rattle.jc_worlds.proofs.Alike.{class_step-named}
 use Rattle.jc_worlds.proofs.FieldActs.{member_seat}
-use Rattle.jc_worlds.proofs.Packages.{allowed_parts, package_apart}
+use Rattle.jc_worlds.proofs.Packages.{package_apart}
 use Rattle.jc_sound.proofs.ClientItems.{IsHeld, client, library, held}
 use Rattle.jc_sound.proofs.Context.{IsAccess, access-parts}
 use Rattle.jc_sound.proofs.FindingLaws.{empty_means_none}
@@ -49,6 +49,7 @@ use Rattle.jc_sound.proofs.Sound.{ground, loads_kept, named_client, valid_item}
 use Rattle.jc_sound.proofs.SoundnessLaws.{final_is, keeps}
 use Rattle.jc_sound.proofs.Standing.{IsUsable, all_quiet, stays_steady, stays_usable, usable_parts}
 use Rattle.jc_sound.proofs.Uses.{open-from, seat_use}
+use Rattle.jc_sound.proofs.ClientNames.{free_old, free_new, free_parts}
 use Rattle.jc_calls.specs.CallsKept.{ReferencesStay}
 use Rattle.jc_calls.specs.Handles.{handle_item, handle_ok}
 use Rattle.jc_calls.specs.References.{is_of_open, is_open_to_some, is_handle_lost, is_told, are_of_open, reference_lost}
@@ -96,7 +97,7 @@ module _ (O N : World) (c : Bytes) (k : Key) (mk : is_key_of_method k ≡ true) 
 -- ---- of a client
 
 module _ (O N : World) (ccs : List ClientClass) (g : Ground O N (facts_of ccs)) (X : ClientClass) (kx : class_named (facts_of ccs) X.facts.name ≡ Some X.facts) (lx : load_fault (with_clients O (facts_of ccs)) X.facts.name ≡ None)
-    (allowed : is_allowed_name O X.facts.name ≡ true) (what : Act) (t : Bytes) (k : Key) (is_method : form_of what ≡ FieldForm → ⊥) (kt : class_named (facts_of ccs) t ≡ None)
+    (free : is_free_name O X.facts.name ≡ true) (what : Act) (t : Bytes) (k : Key) (is_method : form_of what ≡ FieldForm → ⊥) (kt : class_named (facts_of ccs) t ≡ None)
     (links : outcome (with_clients O (facts_of ccs)) X.facts.name (handle_item what t k) ≡ None) where
   abbrev cs : List ClassFacts
   cs = facts_of ccs
@@ -119,12 +120,12 @@ module _ (O N : World) (ccs : List ClientClass) (g : Ground O N (facts_of ccs)) 
 
   pub usable : is_class_usable O t ≡ true
   unfolding and_then
-  usable = go (held O N cs g.fo g.fn g.quiet g.allowed_o g.allowed_n g.clients_load x X.facts kx t both.0 access)
+  usable = go (held O N cs g.fo g.fn g.quiet g.client_names g.clients_load x X.facts kx t both.0 access)
     where
       access : (d : ClassFacts) → find_class VO t ≡ Some d → is_class_accessible VO x d ≡ true
       access d e = let z : fault_where (not (is_class_accessible VO x d)) IllegalAccessError ≡ None = rw e at both.1 in not-false (is_class_accessible VO x d) (fault_where-none (not (is_class_accessible VO x d)) IllegalAccessError z)
 
-      go : IsHeld O N cs g.fo g.fn g.quiet g.allowed_o g.allowed_n g.clients_load t → is_class_usable O t ≡ true
+      go : IsHeld O N cs g.fo g.fn g.quiet g.client_names g.clients_load t → is_class_usable O t ≡ true
       go (client d e) = absurd (let z : None ≡ Some d = sym kt ∙ e in cc)
       go (library e u) = u
 
@@ -145,7 +146,7 @@ module _ (O N : World) (ccs : List ClientClass) (g : Ground O N (facts_of ccs)) 
       let used = use-parts VO x what t None Other m f.fine in
       let ko : class_named cs m.owner ≡ None = declared_library O cs g.fo m.owner d.class d.is_there in
       let same_access : is_member_accessible VO x t m ≡ is_member_open O a t m =
-      member_seat VO O x a t m (λ q. package_apart O x m.owner d.class (allowed_parts O x allowed).apart d.is_there (q ∙ ap package_name (sym (find-name O m.owner d.class d.is_there))))
+      member_seat VO O x a t m (λ q. package_apart O x m.owner d.class (free_parts O x free).apart d.is_there (q ∙ ap package_name (sym (find-name O m.owner d.class d.is_there))))
       (st.old_chain m.owner ko) (st.old_chain t kt) (no_client O cs g.fo t x X.facts kt both.0 kx) in
       look_up-from O (form_of what) t k (seat_use O a t what) (record {
         found = m;
@@ -199,20 +200,20 @@ references_stay O N v pair verdict empty none cs scope met X what t k h l w nf n
     let kx = named_client O N cs pair q scope X h in
     let kt = no_client_named O F t nc in
     let n = not_field what nf in
-    let ao : is_allowed_name O X.facts.name ≡ true = All-contains (λ (c : ClientClass). is_allowed_name O c.facts.name ≡ true) cs X scope.allowed_old h in
-    let an : is_allowed_name N X.facts.name ≡ true = All-contains (λ (c : ClientClass). is_allowed_name N c.facts.name ≡ true) cs X scope.allowed_new h in
+    let name : is_client_name O N X.facts.name ≡ true = All-contains (λ (c : ClientClass). is_client_name O N c.facts.name ≡ true) cs X scope.names h in
+    let free = free_old O N X.facts.name name in
     let root = root_library O N F g in
     let fine = valid_item O N cs pair q scope X (handle_item what t k) h w in
     let links : outcome W X.facts.name (handle_item what t k) ≡ None = none_where (outcome W X.facts.name (handle_item what t k)) (handle_links W X.facts.name what t k ok) in
     let lx : load_fault W X.facts.name ≡ None = l in
-    let us = usable O N cs g X kx lx ao what t k n kt links in
+    let us = usable O N cs g X kx lx free what t k n kt links in
     let now = stays_usable O N q t us in
     let uo = usable_parts O t us in
     let un = usable_parts N t now in
-    let was : (is_none (outcome W X.facts.name (handle_item what t k)) && are_of_open O what t k) ≡ true = sym (handle_is O F g.fo X.facts.name X.facts kx ao what t k n kt root uo.loaded) ∙ ok in
+    let was : (is_none (outcome W X.facts.name (handle_item what t k)) && are_of_open O what t k) ≡ true = sym (handle_is O F g.fo X.facts.name X.facts kx free what t k n kt root uo.loaded) ∙ ok in
     let opened : are_of_open O (what_of what) t k ≡ true = by_form O what t k n ∙ (and_parts (is_none (outcome W X.facts.name (handle_item what t k))) (are_of_open O what t k) was).1 in
     let mk : is_key_of_method k ≡ true = subst (λ b. (b || is_key_of_method k) ≡ true) nf fine in
     let untold : is_told O N t k ≡ false = ap (λ o. is_some {T = Finding} o) (nothing (record { rule = METHOD_CLOSED; «class» = t; key = Some k; target = None })) in
-    let still : are_of_open N what t k ≡ true = sym (by_form N what t k n) ∙ stays_open O N t k mk (stays_steady O N q t us) untold (none t k) what (open_to_some O N cs g X kx lx ao what t k n kt links) opened in
+    let still : are_of_open N what t k ≡ true = sym (by_form N what t k n) ∙ stays_open O N t k mk (stays_steady O N q t us) untold (none t k) what (open_to_some O N cs g X kx lx free what t k n kt links) opened in
     let goes : outcome (with_clients N F) X.facts.name (handle_item what t k) ≡ None = (keeps O N v cs pair verdict empty scope met).uses X (handle_item what t k) h l w refl links in
-    handle_is N F g.fn X.facts.name X.facts kx an what t k n kt root un.loaded ∙ and_from (is_none (outcome (with_clients N F) X.facts.name (handle_item what t k))) (are_of_open N what t k) (ap (λ o. is_none {T = LinkError} o) goes) still
+    handle_is N F g.fn X.facts.name X.facts kx (free_new O N X.facts.name name) what t k n kt root un.loaded ∙ and_from (is_none (outcome (with_clients N F) X.facts.name (handle_item what t k))) (are_of_open N what t k) (ap (λ o. is_none {T = LinkError} o) goes) still

@@ -33,6 +33,7 @@ use Rattle.jc_lemmas.proofs.Listed.{any_passes, each_in}
 use Rattle.jc_lemmas.proofs.Options.{none_where, none_from}
 use Rattle.jc_worlds.proofs.Clients.{Fits}
 use Rattle.jc_worlds.proofs.ValidFacts.{no_array}
+use Rattle.jc_sound.proofs.ClientNames.{free_name}
 use Rattle.jc_sound.proofs.Context.{access-parts, access-from}
 use Rattle.jc_sound.proofs.Looked.{look_up-takes, look_up-from, use-parts, use-from}
 use Rattle.jc_sound.proofs.OpenActs.{IsSeat, first_seat-passes, least-passes, first_act-none, where_open-none, at_key}
@@ -45,7 +46,7 @@ use Rattle.jc_complete.proofs.PlanBelow.{AreMethods}
 use Rattle.jc_complete.proofs.PlanBelow as below
 use Rattle.jc_complete.proofs.PlanCalls.{plain_flags, now_loads}
 use Rattle.jc_complete.proofs.PlanGround.{Ready, letter}
-use Rattle.jc_complete.proofs.PlanItems.{links_whole}
+use Rattle.jc_complete.proofs.PlanItems.{links_whole, ScopeOfPlan}
 use Rattle.jc_complete.proofs.PlanMeets.{declares_no_final, final_parts}
 use Rattle.jc_complete.proofs.PlanOpenActs.{IsMethodAct, IsOpen, IsBelow, of_methods, open_links, open_on_method}
 use Rattle.jc_complete.proofs.PlanReady.{ready_of}
@@ -151,10 +152,14 @@ module _ (O N : World) (w : Bytes) (r : Ready O N w) (a : Bytes) (b : IsBase O N
   links_n : outcome VN y i ≡ None
   links_n = any_receiver VN y what c k _ (open_links N r.root r.new.there a (Yf ∷ []) y below_n c plain k what pn)
 
+  planned : ScopeOfPlan O N (Y ∷ [])
+  planned = below.scope O N w r a b.was b.class_o b.not_final_o y own.old 0x0021 plain_flags (constructor O a) ctor (use_method takes_nothing ∷ []) methods (i ∷ []) fine over_o
+
   pub loses_handle : SomeClientLosesHandle O N c k
   loses_handle = record {
     clients = Y ∷ [];
-    in_scope = below.scope O N w r a b.was b.class_o b.not_final_o y own.old 0x0021 plain_flags (constructor O a) ctor (use_method takes_nothing ∷ []) methods (i ∷ []) fine over_o;
+    in_scope = planned.0;
+    allowed_names = planned.1;
     links = All-from_recursion (LinksWhole VO) (Y ∷ []) (links_whole VO Y loads_o ((refl, below.init_o O N w r a b.was b.class_o b.not_final_o y own.old 0x0021 plain_flags (constructor O a) ctor (use_method takes_nothing ∷ []) methods (i ∷ []) fine over_o), ((refl, links_o), tt)), tt);
     meets_nothing = below.below_meets_nothing O N w r a b.was b.class_o b.not_final_o y own.old 0x0021 plain_flags (constructor O a) ctor (use_method takes_nothing ∷ []) methods (i ∷ []) fine over_o (λ l n s f j. declares_no_final takes_nothing l n (final_parts O N a l s).key f j);
     client = Y;
@@ -163,9 +168,9 @@ module _ (O N : World) (w : Bytes) (r : Ready O N w) (a : Bytes) (b : IsBase O N
     has = Contains-push (item.Init a (constructor O a) ∷ []) i;
     loads_new = loads_n;
     goes_on = links_n;
-    was = handle_is O (Yf ∷ []) fo y Yf named own.old.allowed_o what c k is_method (declared_library O (Yf ∷ []) fo c po.class.class po.class.is_there) (declared_library O (Yf ∷ []) fo object_name r.root r.old.there) po.class.loaded
+    was = handle_is O (Yf ∷ []) fo y Yf named (free_name O y own.old.allowed_o) what c k is_method (declared_library O (Yf ∷ []) fo c po.class.class po.class.is_there) (declared_library O (Yf ∷ []) fo object_name r.root r.old.there) po.class.loaded
         ∙ and_from (is_none (outcome VO y i)) (are_of_open O what c k) (ap (λ o. is_none {T = LinkError} o) links_o) was;
-    lost = handle_is N (Yf ∷ []) fn y Yf named own.old.allowed_n what c k is_method (declared_library N (Yf ∷ []) fn c pn.class.class pn.class.is_there) (declared_library N (Yf ∷ []) fn object_name r.root r.new.there) pn.class.loaded
+    lost = handle_is N (Yf ∷ []) fn y Yf named (free_name N y own.old.allowed_n) what c k is_method (declared_library N (Yf ∷ []) fn c pn.class.class pn.class.is_there) (declared_library N (Yf ∷ []) fn object_name r.root r.new.there) pn.class.loaded
         ∙ last_false (is_none (outcome VN y i)) (are_of_open N what c k) now;
   }
     where

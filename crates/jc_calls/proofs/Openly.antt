@@ -16,18 +16,19 @@ use Rattle.jc_facts.specs.world.Modules.{is_visible, is_visible_from}
 use Rattle.jc_facts.specs.world.Access.{is_class_accessible}
 use Rattle.jc_facts.specs.world.Loading.{load_fault}
 use Rattle.jc_facts.specs.client.Acts.{Form, FieldForm, MethodForm, InterfaceForm, form_of}
-use Rattle.jc_facts.specs.client.Allowed.{is_allowed_name}
+use Rattle.jc_promises.specs.client.Names.{is_free_name}
 use Rattle.jc_facts.specs.client.Outcome.{outcome, may_find}
 use Rattle.jc_lemmas.proofs.Listed.{EachOf}
 use Rattle.jc_worlds.proofs.Clients.{Fits, client_module}
 use Rattle.jc_worlds.proofs.Declared.{IsDeclared, method_choices-declared}
-use Rattle.jc_worlds.proofs.Packages.{allowed_parts, same_package_apart}
+use Rattle.jc_worlds.proofs.Packages.{same_package_apart}
 use Rattle.jc_worlds.proofs.Sides.{method_choices-side, interface_choices-side}
 use Rattle.jc_worlds.proofs.VisibleFrom.{visible_from-client}
 use Rattle.jc_sound.proofs.MethodLooked.{interface_choices-declared}
 use Rattle.jc_complete.proofs.PlanLoads.{lib_find}
 use Rattle.jc_calls.specs.Handles.{handle_item, handle_ok, declares_openly}
 use Rattle.jc_calls.specs.References.{is_of_open, are_of_open}
+use Rattle.jc_sound.proofs.ClientNames.{free_parts}
 
 -- what an act on a method may find is declared by classes that are there
 pub found_declared : (W : World) (f : Form) (t : Bytes) (k : Key) → (f ≡ FieldForm → ⊥) → load_fault W t ≡ None → EachOf (IsDeclared W k) (may_find W f t k)
@@ -42,10 +43,10 @@ module _ (W : World) (cs : List ClassFacts) (fits : Fits W cs) where
   found_side MethodForm t k n l r h = method_choices-side W cs fits.bare fits.unused t k l h
   found_side InterfaceForm t k n l r h = interface_choices-side W cs fits.bare fits.unused t k l r h
 
-  module _ (x : Bytes) (c : ClassFacts) (named : class_named cs x ≡ Some c) (allowed : is_allowed_name W x ≡ true) where
+  module _ (x : Bytes) (c : ClassFacts) (named : class_named cs x ≡ Some c) (free : is_free_name W x ≡ true) where
     pub accessible_is : (y : Bytes) (d : ClassFacts) → find_class W y ≡ Some d → is_class_accessible (with_clients W cs) x d ≡ (is_visible W d.name && public_flag d.flags)
     accessible_is y d f =
-        ap (λ b. (is_visible_from W x d.name && public_flag d.flags) || b) (same_package_apart W x y d (allowed_parts W x allowed).apart f)
+        ap (λ b. (is_visible_from W x d.name && public_flag d.flags) || b) (same_package_apart W x y d (free_parts W x free).apart f)
         ∙ or-false (is_visible_from W x d.name && public_flag d.flags)
         ∙ ap (λ b. b && public_flag d.flags) (visible_from-client W x d.name (client_module W cs fits x c named))
 

@@ -11,15 +11,17 @@ use Rattle.jc_facts.specs.world.Loading.{load_fault}
 use Rattle.jc_facts.specs.client.Outcome.{Links}
 use Rattle.jc_facts.specs.client.Valid.{facts_of}
 use Rattle.jc_promises.specs.client.Scope.{IsInScope}
+use Rattle.jc_promises.specs.rule.Bases.{allowed}
 use Rattle.jc_complete.specs.Completeness.{CanPlan, LinksWhole, MeetsNothing}
 use Rattle.jc_calls.specs.Handles.{handle_item, handle_ok}
 use Rattle.jc_calls.specs.References.{reference_lost}
 
--- clients in scope that link whole with the old release and meet no collision. One of them loads with the new one too, has an act on the key of
--- the class c, which stays Ok, and its handle was Ok and isn't
+-- clients in scope, by allowed names, that link whole with the old release and meet no collision. One of them loads with the new one too, has an act
+-- on the key of the class c, which stays Ok, and its handle was Ok and isn't
 pub record SomeClientLosesHandle (O N : World) (c : Bytes) (k : Key) : Type 0 where
   pub clients : List ClientClass
   pub in_scope : IsInScope O N clients
+  pub allowed_names : All (λ c. IsTrue (allowed O N c.facts.name)) clients
   pub links : All (LinksWhole (with_clients O (facts_of clients))) clients
   pub meets_nothing : MeetsNothing O N clients
   pub client : ClientClass
