@@ -377,7 +377,7 @@ module _ (r : Ran) (report : Report) (is : Reports r.gates r.words r.trees.befor
     row = upheld_row r.trees.before report history is.command (same_ok (asked r.words) is.command (HistoryCommand history) words_ask e) is.is
 
     judged : IsWhole → (vs : List Verdict) × Puts r (history_text_of vs) × OfFiles r (λ files. IsKeptRow files history vs) × OfFiles r (λ files. IsBorneOutRow files history vs)
-    judged p = (row.of, p.puts (history_text_of row.of) row.text, (λ files told. (row.judged files told).0, λ files told. (row.judged files told).1))
+    judged p = (row.of, p.puts (history_text_of row.of) row.text, (λ files told. (row.judged files told).0), (λ files told. (row.judged files told).1))
 
   module _ (clients : ClientsOf) (e : asked r.words ≡ Ok (ClientsCommand clients)) where
     abbrev up_clients : UpheldClients r.trees.before.content clients report
