@@ -1,0 +1,4 @@
+mod Alike
+mod Parts
+mod EnoughLaws
+pub mod WorkedEnough
