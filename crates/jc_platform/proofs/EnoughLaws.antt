@@ -16,7 +16,7 @@ use Rattle.jc_facts.specs.world.Modules.{Module, module_by, module_of, same_modu
 use Rattle.jc_facts.specs.world.Loading.{load_fault}
 use Rattle.jc_facts.specs.world.Types.{is_array_text}
 use Rattle.jc_facts.specs.client.Allowed.{has_package, is_allowed_name}
-use Rattle.jc_facts.specs.client.Linked.{loading, item_outcomes, where_loaded, client_outcomes, all_outcomes, outcomes, in_order}
+use Rattle.jc_facts.specs.client.Linked.{item_outcomes, where_loaded, client_outcomes, all_outcomes, outcomes, in_order}
 use Rattle.jc_facts.specs.client.Outcome.{outcome}
 use Rattle.jc_facts.specs.client.Valid.{facts_of}
 use Rattle.jc_facts.proofs.World.{find-name}
@@ -128,11 +128,11 @@ module _ (P Q : List ClassFacts) (modules : Modules) (release : List ClassFacts)
   clients : EachOf IsClient cs
   clients =
       EachOf-both {P = λ c. (S c.facts.name ≡ true) × (is_array_text c.facts.name ≡ false)} {Q = λ c. (list_all (item_among S) c.items ≡ true) × (is_allowed_name whole c.facts.name ≡ true)}
-          (λ c n r. record { named = n.0; is_name = n.1; items = list_all-each (item_among S) c.items r.0; allowed = r.1 }) cs
-          (recursion_from_All (λ c. (S c.facts.name ≡ true) × (is_array_text c.facts.name ≡ false)) cs enough.clients)
-          (EachOf-both {P = λ c. list_all (item_among S) c.items ≡ true} {Q = λ c. is_allowed_name whole c.facts.name ≡ true} (λ c i a. (i, a)) cs
-              (recursion_from_All (λ c. list_all (item_among S) c.items ≡ true) cs enough.items)
-              (recursion_from_All (λ c. is_allowed_name whole c.facts.name ≡ true) cs enough.allowed))
+      (λ c n r. record { named = n.0; is_name = n.1; items = list_all-each (item_among S) c.items r.0; allowed = r.1 }) cs
+      (recursion_from_All (λ c. (S c.facts.name ≡ true) × (is_array_text c.facts.name ≡ false)) cs enough.clients)
+      (EachOf-both {P = λ c. list_all (item_among S) c.items ≡ true} {Q = λ c. is_allowed_name whole c.facts.name ≡ true} (λ c i a. (i, a)) cs
+      (recursion_from_All (λ c. list_all (item_among S) c.items ≡ true) cs enough.items)
+      (recursion_from_All (λ c. is_allowed_name whole c.facts.name ≡ true) cs enough.allowed))
 
   loads : (c : ClientClass) → IsClient c → load_fault W c.facts.name ≡ load_fault V c.facts.name
   loads c k = same_fault W V S agree see_alike enough.root c.facts.name k.named

@@ -43,8 +43,8 @@ Within ds cs = EachOf (Contains ds) cs
 pub within_behind : (ds cs es : List ClassFacts) → Within ds cs → Within (ds ++ es) (cs ++ es)
 within_behind ds cs es w =
     EachOf-append (Contains (ds ++ es)) cs es
-        (EachOf-map (λ c k. Contains-append_left ds es c k) cs w)
-        (each_from (Contains (ds ++ es)) es (λ c k. Contains-append_right ds es c k))
+    (EachOf-map (λ c k. Contains-append_left ds es c k) cs w)
+    (each_from (Contains (ds ++ es)) es (λ c k. Contains-append_right ds es c k))
 
 -- what none of the larger list passes, none of the part does
 pub within_not : (p : ClassFacts → Bool) (ds cs : List ClassFacts) → Within ds cs → list_any p ds ≡ false → list_any p cs ≡ false
