@@ -2,3 +2,4 @@ mod Alike
 mod Parts
 mod EnoughLaws
 pub mod WorkedEnough
+pub mod WorkedCheck
