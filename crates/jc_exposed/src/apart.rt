@@ -1,7 +1,7 @@
 //! Two seats, to one of which the one hidden class is exposed and to the other the other: of which two
 //! clients can hand values of the first class on, each below one of the seats and under a name of its
 //! own.
-ghost use Rattle.std.specs.Prelude.{◌≡◌, ◌<◌, ◌&&◌, ◌||◌, IsTrue, is_some, map, not, option_map};
+ghost use Rattle.std.specs.Prelude.{◌≡◌, ◌<◌, ◌&&◌, ◌||◌, IfOk, IsTrue, is_some, map, not, option_map};
 ghost use Rattle.std.specs.List.{All, list_any, find as first_where};
 ghost use Rattle.std.specs.Option.{option_copied};
 ghost use Rattle.jc_acts.specs.Seats.{AreSeats};
@@ -17,13 +17,17 @@ ghost use Rattle.jc_promises.specs.rule.OpenActs.{first_seat};
 ghost use Rattle.jc_sides.specs.SharedOf.{IsShared, name_of};
 
 use crate::exposed::{Exposed, is_exposed_to, seats_from};
+use crate::first_act::flag_of;
 use jc_acts::seats::Seats;
 use jc_base::items::Items;
 use jc_base::name::Name;
 use jc_index::ids::ClassId;
+use jc_sides::classes::base_classes;
 use jc_sides::clients::is_allowed_on_both;
+use jc_sides::kept::is_hidden_class;
 use jc_sides::shared::Shared;
 use jc_sides::sides::Sides;
+use std::alloc::{AllocError, Global};
 
 // ---- names for two clients
 
@@ -166,6 +170,32 @@ pub fn first_apart<'a>(
 {
     let others = seats_from(sides, seats, exposed, class);
     first_other(sides, exposed, seat, class, others)
+}
+
+/// The same of any class, by the sides alone: none where the class isn't hidden. It makes the seats
+/// anew, and takes one pass over the members of all classes.
+///
+/// # Errors
+///
+/// `AllocError` where memory runs out.
+pub fn other_seat<'a>(
+    alloc: Global,
+    sides: &Sides<'a>,
+    seat: ClassId,
+    class: ClassId,
+) -> Result<Option<&'a Name>, AllocError>
+    requires seat { seat < size sides.now.old }
+    requires id { «class» < size sides.now.old }
+    ensures { IfOk result (λ other. option_copied other ≡ other_seat sides.now.old sides.now.new (name_at sides.now.old seat) (name_at sides.now.old «class»)) }
+{
+    if !is_hidden_class(sides.old, class) {
+        return Ok(None);
+    }
+    let seats = Seats::new(alloc, sides, base_classes(alloc, sides)?)?;
+    let wanted = flag_of(alloc, sides.old, class)?;
+    let exposed = Exposed::new(alloc, sides, &seats, wanted)?;
+    let other = first_apart(sides, &seats, &exposed, seat, class);
+    Ok(other)
 }
 
 // ---- the seat of the client that hands on
