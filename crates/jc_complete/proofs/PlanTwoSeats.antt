@@ -5,6 +5,8 @@ use Rattle.std.proofs.lemmas.Bool.{and_parts, and_from}
 use Rattle.std.proofs.lemmas.List.Elements.{All-from_recursion, Contains-push, Contains-append_left, Contains-append_right}
 use Rattle.jc_desc.specs.Names.{spells_class_name}
 use Rattle.jc_desc.specs.Utf8.{is_modified_utf8}
+use Rattle.jc_desc.specs.Types.{type_text}
+use Rattle.jc_desc.proofs.Again.{field_again}
 use Rattle.jc_facts.specs.declared.member_act.MemberAct.{MemberAct}
 use Rattle.jc_facts.specs.declared.act.Act.TheVariants.{GetStatic}
 use Rattle.jc_facts.specs.declared.class_facts.ClassFacts.{ClassFacts}
@@ -30,7 +32,7 @@ use Rattle.jc_promises.specs.client.Reach.{type_in_reach}
 use Rattle.jc_promises.specs.rule.Apart.{are_apart}
 use Rattle.jc_promises.specs.rule.Exposed.{is_exposed}
 use Rattle.jc_promises.specs.plan.PlannedNames.{first_name, second_name, constructor}
-use Rattle.jc_promises.specs.plan.Planned.{Plan, class_behind, acts_exposing, all_exposed, receivers_exposed, items_exposed, inits_exposed, more_inits, use_method, turns_behind, a_class, is_init_super, takes_no_receiver, receiver_exposed, field_of_hidden, static_field, reads_hidden, item_exposed, hands_on}
+use Rattle.jc_promises.specs.plan.Planned.{Plan, class_type, class_behind, acts_exposing, all_exposed, receivers_exposed, items_exposed, inits_exposed, more_inits, use_method, turns_behind, a_class, is_init_super, takes_no_receiver, receiver_exposed, field_of_hidden, static_field, reads_hidden, item_exposed, hands_on}
 use Rattle.jc_facts.proofs.Same.{same_itself}
 use Rattle.jc_worlds.proofs.Clients.{Fits, find-client, client_accessible}
 use Rattle.jc_worlds.proofs.Choices.{is_member_accessible-public}
@@ -43,6 +45,7 @@ use Rattle.jc_complete.proofs.PlanGround.{Ready, letter}
 use Rattle.jc_complete.proofs.PlanLoads.{lib_assigns}
 use Rattle.jc_complete.proofs.PlanItems.{ScopeOfPlan, scope_from}
 use Rattle.jc_complete.proofs.PlanMeets.{quiet_meet}
+use Rattle.jc_complete.proofs.PlanValid.{a_type, type_is_text}
 use Rattle.jc_complete.proofs.PlanSeats.{side_name, side_plain, assign_is, assign_in_reach}
 use Rattle.jc_complete.proofs.PlanActs.{access_says}
 use Rattle.jc_complete.proofs.PlanUses.{ShowsAlone}
@@ -94,7 +97,9 @@ hidden_field : (s : Bytes) → is_valid_name s ≡ true → AreFields (static_fi
 hidden_field s n = record { valid = λ c e. rw (field_valid c (ap interface_flag e)) refl; differ = refl }
   where
     field_valid : (c : ClassFacts) → interface_flag c.flags ≡ false → field_is_valid c (static_field (field_of_hidden s)) ≡ true
-    field_valid c i = ?
+    field_valid c i =
+        let p = and_parts (spells_class_name s) (is_modified_utf8 s) n in
+        rw (field_again (type_text (class_type s)) (class_type s) (a_type s p.0, refl), type_is_text s p.1, i) refl
 
 module _ (O N : World) (w : Bytes) (r : Ready O N w) (a b : Bytes) (ba : IsBase O N a) (bb : IsBase O N b) (apart : are_apart O N a b ≡ true)
     (s t : Bytes) (ps : IsPart O a s) (pt : IsPart O b t) (was : is_class_assignable O s t ≡ true) (now : is_class_assignable N s t ≡ false) where
