@@ -56,8 +56,8 @@ module _ (O N : World) (cs : List ClassFacts) (fo : Fits O cs) (client_names : E
       refused : (d : ClassFacts) → find_class VO a ≡ Some d → error_of_superclass VO c d ≡ None
       refused d f =
           let q : and_then (fault_of_superclass VO c) c.superclass ≡ None = (or_else-none (and_then (fault_of_superclass VO c) c.superclass) _ parts.1).0 in
-          let r : fault_of_superclass VO c a ≡ None = rw p.above at q in
-          rw f at r
+          let r : fault_of_superclass VO c a ≡ None = sym (ap (and_then (fault_of_superclass VO c)) p.above) ∙ q in
+          sym (ap (and_then (error_of_superclass VO c)) f) ∙ r
 
       by : (d : ClassFacts) → find_class VO a ≡ Some d → (is_name_among xs p.client.name ≡ true) × (allowed O N p.client.name ≡ true)
       by d f =
