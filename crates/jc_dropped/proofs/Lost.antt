@@ -60,7 +60,8 @@ use Rattle.jc_sound.proofs.Standing.{IsUsable, class_is-there, Quiet, all_quiet,
 use Rattle.jc_complete.specs.Completeness.{CanPlan, LinksWhole}
 use Rattle.jc_complete.proofs.PlanActs.{seat_base}
 use Rattle.jc_complete.proofs.PlanConstructorClosed.{class_says}
-use Rattle.jc_complete.proofs.PlanExposed.{part_usable, part_exposed, Stands, assigns_stand}
+use Rattle.jc_complete.proofs.PlanParts.{part_usable, part_exposed}
+use Rattle.jc_complete.proofs.PlanExposed.{Stands, assigns_stand}
 use Rattle.jc_complete.proofs.PlanGround.{Ready}
 use Rattle.jc_complete.proofs.PlanItems.{class_links}
 use Rattle.jc_complete.proofs.PlanLoads.{lib_find, lib_fault, lib_interfaces}
