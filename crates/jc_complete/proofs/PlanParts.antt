@@ -1,68 +1,28 @@
 -- Who takes part in an assignment: classes that clients may name, and hidden ones, with the acts that expose them.
-use Rattle.std.proofs.Common.{◌≡◌, ◌≤◌, ◌+◌, Bool, true, false, cond, List, [], ◌∷◌, ◌++◌, length, map, refl, sym, ◌∙◌, ap, subst, Some, None, not, ◌&&◌, ◌||◌, ◌⊎◌, inl, inr, Contains, slice_get, is_none, codes, arith}
-use Rattle.std.specs.List.{list_any, list_all, cons_option, flat_map}
-use Rattle.std.proofs.lemmas.Bool.{and_parts, and_from, or_cases, or_left, or_right}
-use Rattle.std.proofs.lemmas.List.{length-append}
+use Rattle.std.proofs.Common.{◌≡◌, ◌≤◌, Bool, true, false, cond, List, [], ◌∷◌, ◌++◌, length, refl, sym, ◌∙◌, ap, subst, Some, None, not, ◌&&◌, ◌⊎◌, inl, inr, Contains, arith}
+use Rattle.std.specs.List.{list_any, cons_option}
+use Rattle.std.proofs.lemmas.Bool.{and_parts, or_cases}
 use Rattle.std.proofs.lemmas.List.Elements.{Contains-append_left, Contains-append_right, Contains-push}
-use Rattle.std.proofs.lemmas.List.Folds.{list_all-append}
-use Rattle.jc_lemmas.proofs.Lists.{get_pushed}
-use Rattle.jc_desc.specs.Names.{spells_class_name}
-use Rattle.jc_desc.specs.Utf8.{is_modified_utf8}
 use Rattle.jc_desc.specs.Classes.{descriptor_names}
 use Rattle.jc_facts.specs.declared.member_act.MemberAct.{MemberAct}
 use Rattle.jc_facts.specs.declared.class_facts.ClassFacts.{ClassFacts}
-use Rattle.jc_facts.specs.declared.class_facts.Member.{Member}
-use Rattle.jc_facts.specs.declared.client.ClientClass.{ClientClass}
-use Rattle.jc_facts.specs.declared.client.Item.{Item}
-use Rattle.jc_facts.specs.declared.client.Item.TheVariants as item
-use Rattle.jc_facts.specs.declared.link_error.LinkError.TheVariants.{VerifyError}
 use Rattle.jc_facts.specs.declared.act.Act.{Act}
 use Rattle.jc_facts.specs.declared.act.Act.TheVariants as acts_of
-use Rattle.jc_facts.specs.Names.{Bytes, same}
-use Rattle.jc_facts.specs.Flags.{public_flag}
-use Rattle.jc_facts.specs.Options.{some_and}
-use Rattle.jc_facts.specs.world.Types.{is_array_text}
-use Rattle.jc_facts.specs.world.World.{World, find_class, class_named, is_client, with_clients}
-use Rattle.jc_facts.specs.world.Hierarchy.{chain}
-use Rattle.jc_facts.specs.world.Overriding.{overrides_some_final}
-use Rattle.jc_facts.specs.world.Assignment.{is_class_assignable}
-use Rattle.jc_facts.specs.world.Loading.{load_fault, loads, fault_where}
-use Rattle.jc_facts.specs.client.Acts.{form_of}
-use Rattle.jc_facts.specs.client.Outcome.{outcome, may_find}
-use Rattle.jc_promises.specs.client.Reach.{opens_members, is_opening, opens, type_in_reach, is_in_reach}
-use Rattle.jc_facts.specs.client.Valid.{is_item_of}
-use Rattle.jc_facts.specs.file.Valid.{is_valid_name}
+use Rattle.jc_facts.specs.Names.{Bytes}
+use Rattle.jc_facts.specs.world.World.{World, find_class}
+use Rattle.jc_facts.specs.world.Loading.{load_fault, loads}
 use Rattle.jc_promises.specs.rule.Bases.{is_class_usable, is_kept, is_key_of_method}
 use Rattle.jc_promises.specs.rule.Findings.{takes_part}
-use Rattle.jc_facts.specs.world.Inheritance.{public_or_protected}
-use Rattle.jc_promises.specs.rule.OpenActs.{field_acts, method_acts, had_init, makes_objects, calls_init}
+use Rattle.jc_promises.specs.rule.OpenActs.{field_acts, method_acts, makes_objects, calls_init}
 use Rattle.jc_promises.specs.rule.Exposed.{acts_on, is_hidden, exposes, references, is_exposed, exposing_act}
-use Rattle.jc_promises.specs.plan.PlannedNames.{own_name, constructor}
-use Rattle.jc_promises.specs.plan.Planned.{a_class, init_method, use_method, turns_behind, found_by, acts_exposing, is_new_object, is_init_super, takes_no_receiver, receiver_exposed, receivers_exposed, item_exposed, items_exposed, inits_exposed, more_inits, all_exposed, assigns_behind, assigns_exposed}
+use Rattle.jc_promises.specs.plan.Planned.{acts_exposing, is_new_object, is_init_super}
 use Rattle.jc_promises.proofs.Exposed.{IsOpenAct, on_member, by_new, by_init, IsExposing, exposed-act}
-use Rattle.jc_facts.proofs.Mapped.{in_flat, in_map}
-use Rattle.jc_facts.proofs.Same.{same_is, same_itself}
-use Rattle.jc_lemmas.proofs.Listed.{here, there, cases, each_in, none, EachOf, EachOf-append}
+use Rattle.jc_lemmas.proofs.Listed.{each_in, none, EachOf}
 use Rattle.jc_lemmas.proofs.Options.{none_where}
-use Rattle.jc_worlds.proofs.Clients.{Fits}
 use Rattle.jc_worlds.proofs.Loaded.{loads-found}
-use Rattle.jc_worlds.proofs.ValidFacts.{no_array}
-use Rattle.jc_sound.proofs.Reach.{declared_library}
-use Rattle.jc_sound.proofs.Standing.{IsUsable, usable_parts, usable_from, usable_accessible}
-use Rattle.jc_complete.proofs.PlanGround.{Ready, letter}
-use Rattle.jc_complete.proofs.PlanValid.{IsUse, use_turns_behind}
-use Rattle.jc_complete.proofs.PlanInits.{AllValid, methods_behind, behind_overrides, behind_no_final, class_named_links, new_links, init_links}
-use Rattle.jc_complete.proofs.PlanLoads.{lib_find, lib_fault, lib_assigns}
-use Rattle.jc_complete.specs.Completeness.{LinksWhole, MeetsNothing}
-use Rattle.jc_complete.proofs.PlanItems.{ItemLinks, links_whole, ScopeOfPlan}
-use Rattle.jc_complete.proofs.PlanMeets.{final_parts}
-use Rattle.jc_complete.proofs.PlanSeats.{side_name, side_plain, assign_is, in_reach_if, in_reach_exposed, assign_in_reach}
-use Rattle.jc_complete.proofs.PlanUses.{ShowsAlone}
-use Rattle.jc_complete.proofs.PlanBase.{IsBase, OwnName, own_is, IsConstructor, constructor_is}
-use Rattle.jc_complete.proofs.PlanBelow.{AreMethods}
-use Rattle.jc_complete.proofs.PlanBelow as below
-use Rattle.jc_complete.proofs.PlanCalls.{plain_flags, now_loads}
-use Rattle.jc_complete.proofs.PlanOpenActs.{IsOpen, open_on, IsBelow, open_links, open_reach}
+use Rattle.jc_sound.proofs.Standing.{IsUsable, usable_parts, usable_from}
+use Rattle.jc_complete.proofs.PlanInits.{AllValid}
+use Rattle.jc_complete.proofs.PlanOpenActs.{IsOpen, open_on}
 use Rattle.std.proofs.lemmas.List.Elements.{Contains-append_cases}
 
 -- an act that exposes classes to the seat, on a class that was usable

@@ -1,5 +1,5 @@
 -- What a finding that stands says, rule by rule.
-use Rattle.std.proofs.Common.{◌≡◌, ℕ, Bool, true, false, cond, List, [], ◌∷◌, refl, sym, ◌∙◌, ap, subst, Option, Some, None, not, ◌&&◌, ◌||◌, ◌==◌, ◌⊎◌, inl, inr, is_some, is_none, Contains}
+use Rattle.std.proofs.Common.{◌≡◌, ℕ, Bool, true, false, cond, List, [], ◌∷◌, refl, sym, ◌∙◌, ap, subst, Option, Some, None, not, ◌&&◌, ◌==◌, ◌⊎◌, inl, inr, is_some, is_none, Contains}
 use Rattle.std.proofs.lemmas.Bool.{and_parts, and_from, and_right, or_cases, or_right}
 use Rattle.std.specs.List.{list_all, list_any}
 use Rattle.std.proofs.lemmas.Map.Views.{exact_unsigned_eq}
@@ -251,7 +251,7 @@ module _ (O N : World) (f : Finding) where
     pub is : made 4 x None (Some target) act.Assignment seat VerifyError ≡ f
 
   pub by_superclass_lost : f.rule ≡ 4 → Stands O N f → SuperclassLost
-  unfolding superclass_lost
+  unfolding superclass_lost or_else
   by_superclass_lost e h = go f.key f.target (of_rule O N 4 f e h)
     where
       lost : (t : Bytes) → (not (same x t) && in_chain O x t && not (in_chain N x t) && not (is_interface_of N t)) ≡ true → (o : Option Finding) → assign_finding O N (on 4 x None (Some t)) (x ∷ t ∷ []) ≡ o → or_else o (handed_finding O N (on 4 x None (Some t)) t) ≡ Some f → SuperclassLost

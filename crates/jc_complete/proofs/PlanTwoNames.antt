@@ -1,12 +1,12 @@
 -- The names of two planned clients, one below each of two seats that are apart.
 use Rattle.std.proofs.Common.{◌≡◌, Bool, true, false, List, [], ◌∷◌, refl, sym, ◌∙◌, ap, subst, Option, Some, None, not, ◌&&◌, ◌||◌}
+use mathlib.Core.Path.{fun_ext}
 use Rattle.std.proofs.Math.Bool.{and-true}
 use Rattle.std.proofs.lemmas.Bool.{and_parts, both_ways, not-true}
 use Rattle.std.specs.List.{list_any}
-use Rattle.jc_facts.specs.declared.class_facts.ClassFacts.{ClassFacts}
 use Rattle.jc_facts.specs.Names.{Bytes, same, is_name_among}
 use Rattle.jc_facts.specs.Options.{and_then}
-use Rattle.jc_facts.specs.world.World.{World, find_class}
+use Rattle.jc_facts.specs.world.World.{World}
 use Rattle.jc_facts.specs.world.Modules.{OfClients}
 use Rattle.jc_facts.specs.world.Loading.{excludes}
 use Rattle.jc_facts.specs.world.Mentioned.{permitted}

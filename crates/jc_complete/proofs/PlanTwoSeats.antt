@@ -1,7 +1,7 @@
 -- Rule 4 with two seats: the clients Z and Y, one below each, show the finding.
-use Rattle.std.proofs.Common.{◌≡◌, ◌≤◌, ◌+◌, Bool, true, false, cond, List, [], ◌∷◌, ◌++◌, length, map, refl, sym, ◌∙◌, ap, subst, Some, None, not, ◌&&◌, ◌||◌, codes, Contains, append_assoc, slice_get, arith}
-use Rattle.std.specs.List.{list_all, flat_map}
-use Rattle.std.proofs.lemmas.Bool.{and_parts, and_from}
+use Rattle.std.proofs.Common.{◌≡◌, ◌≤◌, ◌+◌, true, false, cond, List, [], ◌∷◌, ◌++◌, length, map, refl, sym, ◌∙◌, ap, subst, Some, None, not, codes, Contains, append_assoc, slice_get, arith}
+use Rattle.std.specs.List.{flat_map}
+use Rattle.std.proofs.lemmas.Bool.{and_parts}
 use Rattle.std.proofs.lemmas.List.Elements.{All-from_recursion, Contains-push, Contains-append_left, Contains-append_right}
 use Rattle.jc_desc.specs.Names.{spells_class_name}
 use Rattle.jc_desc.specs.Utf8.{is_modified_utf8}
@@ -18,7 +18,7 @@ use Rattle.jc_facts.specs.declared.client.Place.TheVariants.{Other}
 use Rattle.jc_facts.specs.declared.key.Key.{Key}
 use Rattle.jc_facts.specs.declared.verdict.Spot.TheVariants as spot
 use Rattle.jc_facts.specs.declared.link_error.LinkError.TheVariants.{VerifyError, NoSuchFieldError}
-use Rattle.jc_facts.specs.Names.{Bytes, same}
+use Rattle.jc_facts.specs.Names.{Bytes}
 use Rattle.jc_facts.specs.Flags.{interface_flag}
 use Rattle.jc_facts.specs.Options.{or_else}
 use Rattle.jc_facts.specs.file.Valid.{is_valid_name, field_is_valid}
@@ -28,11 +28,9 @@ use Rattle.jc_facts.specs.world.World.{World, DeclaredMember, find_class, class_
 use Rattle.jc_facts.specs.world.Assignment.{is_class_assignable}
 use Rattle.jc_facts.specs.world.Loading.{load_fault, fault_where}
 use Rattle.jc_facts.specs.world.Lookup.{field_found, field_step}
-use Rattle.jc_promises.specs.client.Reach.{type_in_reach}
 use Rattle.jc_promises.specs.rule.Apart.{are_apart}
-use Rattle.jc_promises.specs.rule.Exposed.{is_exposed}
 use Rattle.jc_promises.specs.plan.PlannedNames.{first_name, second_name, constructor}
-use Rattle.jc_promises.specs.plan.Planned.{Plan, class_type, class_behind, acts_exposing, all_exposed, receivers_exposed, items_exposed, inits_exposed, more_inits, use_method, turns_behind, a_class, is_init_super, takes_no_receiver, receiver_exposed, field_of_hidden, static_field, reads_hidden, item_exposed, hands_on}
+use Rattle.jc_promises.specs.plan.Planned.{Plan, class_type, class_behind, acts_exposing, all_exposed, receivers_exposed, items_exposed, inits_exposed, more_inits, use_method, turns_behind, a_class, is_init_super, takes_no_receiver, receiver_exposed, field_of_hidden, static_field, reads_hidden, hands_on}
 use Rattle.jc_facts.proofs.Same.{same_itself}
 use Rattle.jc_worlds.proofs.Clients.{Fits, find-client, client_accessible}
 use Rattle.jc_worlds.proofs.Choices.{is_member_accessible-public}
@@ -40,7 +38,7 @@ use Rattle.jc_worlds.proofs.Loaded.{unroll}
 use Rattle.jc_worlds.proofs.Locality.{field_step-local}
 use Rattle.jc_sound.proofs.Scope.{fits}
 use Rattle.jc_sound.proofs.Reach.{declared_library}
-use Rattle.jc_complete.specs.Completeness.{LinksWhole, MeetsNothing}
+use Rattle.jc_complete.specs.Completeness.{LinksWhole}
 use Rattle.jc_complete.proofs.PlanGround.{Ready, letter}
 use Rattle.jc_complete.proofs.PlanLoads.{lib_assigns}
 use Rattle.jc_complete.proofs.PlanItems.{ScopeOfPlan, scope_from}
@@ -288,7 +286,7 @@ module _ (O N : World) (w : Bytes) (r : Ready O N w) (a b : Bytes) (ba : IsBase 
         (
           item.Assign s t,
           ap (λ (is : List Item). slice_get (item.Init b (constructor O b) ∷ is) (length (all_exposed O b y (acts_exposing O b t) ++ reading ∷ []) + 1)) (sym (append_assoc (all_exposed O b y (acts_exposing O b t)) (reading ∷ []) (item.Assign s t ∷ [])))
-          ∙ spot_at (item.Init b (constructor O b)) (all_exposed O b y (acts_exposing O b t) ++ reading ∷ []) (item.Assign s t),
+              ∙ spot_at (item.Init b (constructor O b)) (all_exposed O b y (acts_exposing O b t) ++ reading ∷ []) (item.Assign s t),
           new,
         ),
       );
