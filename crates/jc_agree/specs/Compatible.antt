@@ -34,7 +34,7 @@ EmptyRelease = (O N : World) (v : Verdict) → IsPair O N → O.release ≡ [] �
 
 -- every item of the clients is in reach with the side
 abbrev pub AreInReach : World → List ClientClass → Type 0
-AreInReach O cs = All (λ c. All (λ i. IsTrue (is_in_reach (with_clients O (facts_of cs)) c.facts.name c.items i)) c.items) cs
+AreInReach O cs = All (λ c. All (λ i. IsTrue (is_in_reach (with_clients O (facts_of cs)) c.facts.name cs i)) c.items) cs
 
 -- Where the verdict has no finding: of clients in scope that meet none of its collisions and whose items are in reach, if all outcomes are Ok with
 -- the old release, the new one gives the same, so that they are all Ok with it too.

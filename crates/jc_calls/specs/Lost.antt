@@ -22,7 +22,7 @@ pub record SomeClientLosesHandle (O N : World) (c : Bytes) (k : Key) : Type 0 wh
   pub clients : List ClientClass
   pub in_scope : IsInScope O N clients
   pub allowed_names : All (λ c. IsTrue (allowed O N c.facts.name)) clients
-  pub links : All (LinksWhole (with_clients O (facts_of clients))) clients
+  pub links : All (LinksWhole (with_clients O (facts_of clients)) clients) clients
   pub meets_nothing : MeetsNothing O N clients
   pub client : ClientClass
   pub is_in : Contains clients client

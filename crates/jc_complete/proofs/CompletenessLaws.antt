@@ -15,15 +15,17 @@ use Rattle.jc_promises.specs.rule.Bases.{is_class_usable, is_kept, is_key_of_met
 use Rattle.jc_facts.specs.world.Inheritance.{is_final_in_chain, inherits}
 use Rattle.jc_promises.specs.rule.Findings.{takes_part, finds_overridable}
 use Rattle.jc_promises.specs.plan.PlannedNames.{fresh_package}
-use Rattle.jc_promises.specs.plan.Planned.{assigns_from, plan}
+use Rattle.jc_promises.specs.plan.Planned.{assigns_from, loses_from, plan}
 use Rattle.jc_complete.specs.Completeness.{FindingsShown, CollisionsShown, Shows}
 use Rattle.jc_lemmas.proofs.Options.{none_where}
 use Rattle.jc_complete.proofs.PlanGround.{Ready}
 use Rattle.jc_complete.proofs.PlanReady.{ready_of}
-use Rattle.jc_complete.proofs.PlanRules.{TakePart, ConstructorClosed, by_new, by_init, by_class_gone, by_class_closed, by_interface_became_class, by_superclass_lost, by_constructor_closed, by_method_made_final, by_field_closed, by_method_closed, by_interface_method_lost}
+use Rattle.jc_complete.proofs.PlanRules.{TakePart, AreHanded, LostTo, not_out, ConstructorClosed, by_new, by_init, by_class_gone, by_class_closed, by_interface_became_class, by_superclass_lost, by_constructor_closed, by_method_made_final, by_field_closed, by_method_closed, by_interface_method_lost}
 use Rattle.jc_complete.proofs.PlanUses.{ShowsAlone, root_usable, class_gone_is_shown, became_parts, became_assigns, interface_became_class_is_shown, IsCut, cut_parts, cut_assigns, superclass_lost_is_shown}
 use Rattle.jc_complete.proofs.PlanActs.{seat_base}
-use Rattle.jc_complete.proofs.PlanExposed.{part_usable, part_of, assigns_are_exposed}
+use Rattle.jc_complete.proofs.PlanParts.{part_usable, part_exposed, part_of}
+use Rattle.jc_complete.proofs.PlanExposed.{assigns_are_exposed}
+use Rattle.jc_complete.proofs.PlanTwoSeats.{hands_on_shows}
 use Rattle.jc_complete.proofs.PlanConstructorClosed.{new_is_shown}
 use Rattle.jc_complete.proofs.PlanCalls.{call_is_shown}
 use Rattle.jc_complete.proofs.PlanClassClosed.{class_closed_is_shown}
@@ -71,14 +73,27 @@ superclass_lost_shown O N c f e s =
     let g = by_superclass_lost O N f e s in
     subst (ShowsIt O N w) g.is (go O N w r f.«class» g.target (cut_parts O N f.«class» g.target g.stands) g.seat g.parts)
   where
-    go : (O N : World) (w : Bytes) (r : Ready O N w) (x t : Bytes) → IsCut O N x t → (a : Option Bytes) → TakePart O N (x ∷ t ∷ []) a → ShowsAlone O N (assigns_from O N w x t a) VerifyError
+    -- by one seat
+    by_one : (O N : World) (w : Bytes) (r : Ready O N w) (x t : Bytes) → IsCut O N x t → (a : Bytes) → TakePart O N (x ∷ t ∷ []) (Some a) → ShowsAlone O N (loses_from O N w x t (Some a)) VerifyError
+    by_one O N w r x t h a k =
+        let p = and_parts (takes_part O N a x) (takes_part O N a t && true) k.1 in
+        let q = (and_parts (takes_part O N a t) true p.1).0 in
+        let c = cut_assigns O N w r x t h in
+        rw (not_out O N a t q) (assigns_are_exposed O N w r a (seat_base O N w r a k.0) x t (part_of O N r.old.valid a x p.0) (part_of O N r.old.valid a t q) c.0 c.1)
+
+    -- by two
+    by_two : (O N : World) (w : Bytes) (r : Ready O N w) (x t : Bytes) → IsCut O N x t → (a : Bytes) → AreHanded O N x t a → ShowsAlone O N (loses_from O N w x t (Some a)) VerifyError
+    by_two O N w r x t h a k =
+        let c = cut_assigns O N w r x t h in
+        rw (k.out, k.is_other)
+        (hands_on_shows O N w r a k.other (seat_base O N w r a k.first) (seat_base O N w r k.other k.second) k.apart x t (part_exposed O r.old.valid a x k.shown) (part_exposed O r.old.valid k.other t k.exposed) c.0 c.1)
+
+    go : (O N : World) (w : Bytes) (r : Ready O N w) (x t : Bytes) → IsCut O N x t → (a : Option Bytes) → LostTo O N x t a → ShowsAlone O N (loses_from O N w x t a) VerifyError
     go O N w r x t h None k =
         let p = and_parts (is_kept O N x) (is_kept O N t && true) k in
         superclass_lost_is_shown O N w r x t h p.0 (and_parts (is_kept O N t) true p.1).0
-    go O N w r x t h (Some a) k =
-        let p = and_parts (takes_part O N a x) (takes_part O N a t && true) k.1 in
-        let c = cut_assigns O N w r x t h in
-        assigns_are_exposed O N w r a (seat_base O N w r a k.0) x t (part_of O N r.old.valid a x p.0) (part_of O N r.old.valid a t (and_parts (takes_part O N a t) true p.1).0) c.0 c.1
+    go O N w r x t h (Some a) (inl k) = by_one O N w r x t h a k
+    go O N w r x t h (Some a) (inr k) = by_two O N w r x t h a k
 
 pub constructor_closed_shown : FindingsShown (λ f. f.rule ≡ 5)
 unfolding plan

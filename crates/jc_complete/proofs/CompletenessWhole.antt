@@ -90,14 +90,14 @@ contained is n i h = go (slice_get_cases is n).1
 not_kept : (O N : World) (p : Plan) (e : LinkError) → Shows O N p e → Keeps O N p.clients → ⊥
 not_kept O N p e s k = go p.spot s.fails
   where
-    whole : LinksWhole (with_clients O (facts_of p.clients)) s.spot
-    whole = All-contains (LinksWhole (with_clients O (facts_of p.clients))) p.clients s.spot s.links s.is_in
+    whole : LinksWhole (with_clients O (facts_of p.clients)) p.clients s.spot
+    whole = All-contains (LinksWhole (with_clients O (facts_of p.clients)) p.clients) p.clients s.spot s.links s.is_in
 
     go : (n : Spot) → FailsBy (with_clients N (facts_of p.clients)) s.spot n e → ⊥
     go spot.Load f = let z : None ≡ Some e = sym (k.loading s.spot s.is_in whole.0) ∙ f in cc
     go (spot.Item n) f =
         let i = contained s.spot.items n f.1.0 f.1.1 in
-        let l = All-contains (λ i. (is_in_reach (with_clients O (facts_of p.clients)) s.spot.facts.name s.spot.items i ≡ true) × (outcome (with_clients O (facts_of p.clients)) s.spot.facts.name i ≡ None)) s.spot.items f.1.0 whole.1 i in
+        let l = All-contains (λ i. (is_in_reach (with_clients O (facts_of p.clients)) s.spot.facts.name p.clients i ≡ true) × (outcome (with_clients O (facts_of p.clients)) s.spot.facts.name i ≡ None)) s.spot.items f.1.0 whole.1 i in
         let z : None ≡ Some e = sym (k.uses s.spot f.1.0 s.is_in whole.0 i l.0 l.1) ∙ f.1.2 in cc
 
 pub verdict_is_exact : VerdictIsExact

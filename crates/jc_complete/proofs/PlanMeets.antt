@@ -23,7 +23,7 @@ use Rattle.jc_promises.specs.rule.Bases.{is_base_class, is_key_of_method}
 use Rattle.jc_promises.specs.rule.Findings.{finds_overridable}
 use Rattle.jc_promises.specs.rule.Collisions.{collision_at, constant_added, capture_added, final_added, captures, leaves_room}
 use Rattle.jc_promises.specs.plan.Planned.{init_method, use_method}
-use Rattle.jc_lemmas.proofs.Listed.{none, cases, EachOf, EachOf-map, EachOf-append, any_none}
+use Rattle.jc_lemmas.proofs.Listed.{none, cases, each_in, EachOf, EachOf-map, EachOf-append, any_none}
 use Rattle.jc_complete.specs.Completeness.{MeetsNothing}
 use Rattle.jc_facts.proofs.World.{find-name, class_named-name}
 use Rattle.jc_facts.proofs.Same.{same_is}
@@ -63,6 +63,32 @@ pub meets_nothing_by : (O N : World) (cs : List ClientClass)
 meets_nothing_by O N cs f g h c stands (inl m) = f c.«class» c.key (constant_of O N c.rule c.«class» c.key c m.0 stands) m.1
 meets_nothing_by O N cs f g h c stands (inr (inl m)) = g c.«class» c.key (capture_of O N c.rule c.«class» c.key c m.0 stands) m.1
 meets_nothing_by O N cs f g h c stands (inr (inr m)) = h c.«class» c.key (final_of O N c.rule c.«class» c.key c m.0 stands) m.1
+
+-- a client of a seat that meets no collision
+pub record IsQuiet (O N V : World) (c : ClientClass) : Type 0 where
+  pub below : Bytes
+  pub seat_is : seat V c.facts.name ≡ Some below
+  pub names : (i : Bytes) → may_name V c.facts.name i ≡ false
+  pub captures : (k : Key) (m : DeclaredMember) → capture_added O N below k ≡ true → MethodFound V c.facts.name k m → is_superinterface V c.facts.name m.owner ≡ true → ⊥
+  pub finals : (k : Key) (m : Member) → final_added O N below k ≡ true → own_method_of c.facts k ≡ Some m → no_static_flag m.flags ≡ true → ⊥
+
+pub quiet_meet : (O N : World) (cs : List ClientClass) → EachOf (IsQuiet O N (with_clients O (facts_of cs))) cs → MeetsNothing O N cs
+quiet_meet O N cs h = meets_nothing_by O N cs constant capture final
+  where
+    at : (c : ClientClass) → Contains cs c → IsQuiet O N (with_clients O (facts_of cs)) c
+    at c i = each_in (IsQuiet O N (with_clients O (facts_of cs))) cs c h i
+
+    of_seat : (c : ClientClass) (q : IsQuiet O N (with_clients O (facts_of cs)) c) (a : Bytes) → seat (with_clients O (facts_of cs)) c.facts.name ≡ Some a → a ≡ q.below
+    of_seat c q a e = let z : Some a ≡ Some q.below = sym e ∙ q.seat_is in cc
+
+    constant : (i : Bytes) (k : Key) → constant_added O N i k ≡ true → MeetsConstant (with_clients O (facts_of cs)) cs i k → ⊥
+    constant i k s m = both_ways (may_name (with_clients O (facts_of cs)) m.0.facts.name i) ((at m.0 m.1).names i) m.3
+
+    capture : (a : Bytes) (k : Key) → capture_added O N a k ≡ true → MeetsCapture (with_clients O (facts_of cs)) cs a k → ⊥
+    capture a k s m = let q = at m.0 m.1 in let f = m.5 in q.captures k f.0 (subst (λ z. capture_added O N z k ≡ true) (of_seat m.0 q a m.4) s) f.1 f.2
+
+    final : (a : Bytes) (k : Key) → final_added O N a k ≡ true → MeetsFinal (with_clients O (facts_of cs)) cs a k → ⊥
+    final a k s m = let q = at m.0 m.1 in let f = m.5 in q.finals k f.0 (subst (λ z. final_added O N z k ≡ true) (of_seat m.0 q a m.4) s) f.1 f.2
 
 -- ---- what stands
 

@@ -4,7 +4,7 @@ use Rattle.std.proofs.lemmas.Bool.{and_parts, and_from, not-true, or_left, or_ri
 use Rattle.std.proofs.lemmas.List.Elements.{Contains-append_cases}
 use Rattle.jc_desc.specs.Names.{is_init_name, is_clinit_name}
 use Rattle.jc_facts.specs.declared.class_facts.ClassFacts.{ClassFacts}
-use Rattle.jc_facts.specs.declared.client.Item.{Item}
+use Rattle.jc_facts.specs.declared.client.ClientClass.{ClientClass}
 use Rattle.jc_facts.specs.declared.client.Place.TheVariants.{Other}
 use Rattle.jc_facts.specs.declared.key.Key.{Key}
 use Rattle.jc_facts.specs.declared.act.Act.{Act}
@@ -219,14 +219,14 @@ module _ (O : World) (root : ClassFacts) (has_root : find_class O object_name �
       ∙ look_up-side O cs b.fits (declared_library O cs b.fits object_name root has_root) (form_of what) c k no_client p.class.loaded (use_fault V y what c rec Other)
       ∙ look_up-from O (form_of what) c k (use_fault V y what c rec Other) (record { found = taken.found; taken = taken.taken; fine = use-allowed V O y a c what rec taken.found same_access assigned taken.fine })
 
-  reach_of : (items : List Item) (z : Bytes) (d : ClassFacts) → is_array_text z ≡ false → find_class V z ≡ Some d → load_fault V z ≡ None → is_class_accessible O y d ≡ true → type_in_reach V y items z ≡ true
-  reach_of items z d f g l q = in_reach_if V y items z d f g l q
+  reach_of : (all : List ClientClass) (z : Bytes) (d : ClassFacts) → is_array_text z ≡ false → find_class V z ≡ Some d → load_fault V z ≡ None → is_class_accessible O y d ≡ true → type_in_reach V y all z ≡ true
+  reach_of all z d f g l q = in_reach_if V y all z d f g l q
 
   -- its receiver is accessible
-  pub open_reach : (items : List Item) → is_in_reach V y items (act_item what c k rec) ≡ true
-  open_reach items = act_in_reach V y items what c k rec (go (is_act_on_static what) (some_and (λ m. public_flag m.member.flags) (found_by O (form_of what) c k)))
+  pub open_reach : (all : List ClientClass) → is_in_reach V y all (act_item what c k rec) ≡ true
+  open_reach all = act_in_reach V y all what c k rec (go (is_act_on_static what) (some_and (λ m. public_flag m.member.flags) (found_by O (form_of what) c k)))
     where
-      go : (s t : Bool) → receiver_in_reach V y items (cond s None (Some (cond t c y))) ≡ true
+      go : (s t : Bool) → receiver_in_reach V y all (cond s None (Some (cond t c y))) ≡ true
       go true t = refl
-      go false true = reach_of items c p.class.class plain find_c up_c (usable_accessible O c p.class y)
-      go false false = reach_of items y b.client b.plain (find-client O cs b.fits y b.client b.named) b.loaded (client_accessible O cs b.fits y b.client b.named b.public y)
+      go false true = reach_of all c p.class.class plain find_c up_c (usable_accessible O c p.class y)
+      go false false = reach_of all y b.client b.plain (find-client O cs b.fits y b.client b.named) b.loaded (client_accessible O cs b.fits y b.client b.named b.public y)

@@ -1,7 +1,7 @@
 -- What a finding that stands says, rule by rule.
-use Rattle.std.proofs.Common.{◌≡◌, ℕ, Bool, true, false, cond, List, [], ◌∷◌, refl, sym, subst, Option, Some, None, not, ◌&&◌, ◌==◌, ◌⊎◌, inl, inr, is_some, is_none, Contains}
-use Rattle.std.proofs.lemmas.Bool.{and_parts}
-use Rattle.std.specs.List.{list_all}
+use Rattle.std.proofs.Common.{◌≡◌, ℕ, Bool, true, false, cond, List, [], ◌∷◌, refl, sym, ◌∙◌, ap, subst, Option, Some, None, not, ◌&&◌, ◌==◌, ◌⊎◌, inl, inr, is_some, is_none, Contains}
+use Rattle.std.proofs.lemmas.Bool.{and_parts, and_from, and_right, or_cases, or_right}
+use Rattle.std.specs.List.{list_all, list_any}
 use Rattle.std.proofs.lemmas.Map.Views.{exact_unsigned_eq}
 use Rattle.std.proofs.lemmas.List.Elements.{Contains-push, Contains-append_left, Contains-append_right}
 use Rattle.jc_facts.specs.declared.act.Act.{Act}
@@ -11,7 +11,7 @@ use Rattle.jc_facts.specs.declared.key.Key.{Key}
 use Rattle.jc_facts.specs.declared.link_error.LinkError.{LinkError}
 use Rattle.jc_facts.specs.declared.link_error.LinkError.TheVariants.{IncompatibleClassChangeError, VerifyError, NoSuchMethodError}
 use Rattle.jc_facts.specs.Names.{Bytes, same, object_name}
-use Rattle.jc_facts.specs.Options.{and_then}
+use Rattle.jc_facts.specs.Options.{or_else, and_then}
 use Rattle.jc_facts.specs.world.World.{World, classes}
 use Rattle.jc_facts.specs.world.Hierarchy.{in_chain}
 use Rattle.jc_facts.specs.world.Lookup.{public_method_of_object}
@@ -20,9 +20,16 @@ use Rattle.jc_promises.specs.rule.Bases.{is_class_usable, is_kept, is_steady, is
 use Rattle.jc_facts.specs.world.Inheritance.{is_final_in_chain, inherits}
 use Rattle.jc_promises.specs.rule.OpenActs.{field_acts, method_acts, closed_act, first_seat}
 use Rattle.jc_facts.specs.ByName.{least}
-use Rattle.jc_promises.specs.rule.Findings.{Subject, report, report_where, takes_part, assign_finding, gone_error, new_broken, init_broken, act_finding, first_act, finds_overridable, class_gone, class_closed, interface_became_class, superclass_lost, constructor_closed, method_made_final, field_closed, method_closed, interface_method_lost, finding_by, finding_at, Stands, subject_of}
+use Rattle.jc_promises.specs.rule.Findings.{Subject, report, report_where, takes_part, assign_finding, handed_finding, gone_error, new_broken, init_broken, act_finding, first_act, finds_overridable, class_gone, class_closed, interface_became_class, superclass_lost, constructor_closed, method_made_final, field_closed, method_closed, interface_method_lost, finding_by, finding_at, Stands, subject_of}
 use Rattle.jc_facts.proofs.Options.{or_else-cases}
-use Rattle.jc_sound.proofs.OpenActs.{least-passes}
+use Rattle.jc_facts.specs.world.Loading.{loads}
+use Rattle.jc_promises.specs.rule.Apart.{are_apart, other_seat}
+use Rattle.jc_promises.specs.rule.Exposed.{is_hidden, exposes, references, is_exposed}
+use Rattle.jc_promises.specs.plan.Planned.{is_out_of}
+use Rattle.jc_lemmas.proofs.Bools.{neither_last, and_false}
+use Rattle.jc_sound.proofs.OpenActs.{least-passes, first_seat-none}
+use Rattle.jc_sound.proofs.OpenActs.{IsSeat as IsSeatThere}
+use Rattle.jc_complete.proofs.PlanBase.{base_parts}
 
 -- a finding of these parts
 abbrev pub made : ℕ → Bytes → Option Key → Option Bytes → Act → Option Bytes → LinkError → Finding
@@ -51,6 +58,77 @@ IsSeat O N s = (s ≡ object_name) ⊎ (is_base_class O N s ≡ true)
 abbrev pub TakePart : World → World → List Bytes → Option Bytes → Type 0
 TakePart O N xs None = list_all (is_kept O N) xs ≡ true
 TakePart O N xs (Some a) = IsSeat O N a × (list_all (takes_part O N a) xs ≡ true)
+
+-- ---- two seats
+
+-- the class s is exposed to the seat a, and t not to it, but to another one that is apart
+pub record AreHanded (O N : World) (s t a : Bytes) : Type 0 where
+  pub first : IsSeat O N a
+  pub shown : is_exposed O a s ≡ true
+  pub out : is_out_of O a t ≡ true
+  pub other : Bytes
+  pub is_other : other_seat O N a t ≡ Some other
+  pub second : IsSeat O N other
+  pub exposed : is_exposed O other t ≡ true
+  pub apart : are_apart O N a other ≡ true
+
+-- of a superclass t of s that is lost: both take part, without a seat or by one, or there are two seats
+abbrev pub LostTo : World → World → Bytes → Bytes → Option Bytes → Type 0
+LostTo O N s t None = TakePart O N (s ∷ t ∷ []) None
+LostTo O N s t (Some a) = TakePart O N (s ∷ t ∷ []) (Some a) ⊎ AreHanded O N s t a
+
+to_one : (O N : World) (s t : Bytes) (o : Option Bytes) → TakePart O N (s ∷ t ∷ []) o → LostTo O N s t o
+to_one O N s t None h = h
+to_one O N s t (Some a) h = inl h
+
+-- the first seat that passes is one, and passes
+pub first_seat-is : (O N : World) (test : Bytes → Bool) (s : Bytes) → first_seat O N test ≡ Some s → IsSeat O N s × (test s ≡ true)
+first_seat-is O N test s e = go (test object_name) refl e
+  where
+    go : (b : Bool) → test object_name ≡ b → cond b (Some object_name) (least (λ a. is_base_class O N a && test a) (classes O)) ≡ Some s → IsSeat O N s × (test s ≡ true)
+    go true p q = let k : object_name ≡ s = cc in (inl (sym k), subst (λ z. test z ≡ true) k p)
+    go false p q = let w = and_parts (is_base_class O N s) (test s) (least-passes (λ a. is_base_class O N a && test a) (classes O) s q) in (inr w.0, w.1)
+
+-- a seat is there
+seat_there : (O N : World) (a : Bytes) → IsSeat O N a → IsSeatThere O N a
+seat_there O N a (inl e) = inl e
+seat_there O N a (inr h) = let b = base_parts O N a h in inr (h, (b.was.class, b.was.is_there))
+
+-- what takes part by a seat isn't out of it
+pub not_out : (O N : World) (a t : Bytes) → takes_part O N a t ≡ true → is_out_of O a t ≡ false
+unfolding is_hidden is_kept
+not_out O N a t h = go (or_cases (is_class_usable O t && is_class_usable N t) (is_exposed O a t) h)
+  where
+    go : ((is_class_usable O t && is_class_usable N t) ≡ true) ⊎ (is_exposed O a t ≡ true) → (loads O t && not (is_class_usable O t) && not (is_exposed O a t)) ≡ false
+    go (inl k) = rw ((and_parts (is_class_usable O t) (is_class_usable N t) k).0, and_right (loads O t) false refl) refl
+    go (inr k) = rw k (and_right (loads O t && not (is_class_usable O t)) false refl)
+
+-- where s is exposed to the seat, and both don't take part by it, t is out of it
+are_handed : (O N : World) (s t a : Bytes) → IsSeat O N a → is_exposed O a s ≡ true → (b : Bytes) → other_seat O N a t ≡ Some b → list_all (takes_part O N a) (s ∷ t ∷ []) ≡ false → AreHanded O N s t a
+unfolding other_seat is_exposed
+are_handed O N s t a i shown b e h = record {
+  first = i;
+  shown = shown;
+  out = and_from (is_hidden O t) (not (is_exposed O a t)) (and_parts (is_hidden O t) (list_any (exposes O b t) (references O)) q.0).0 (ap not not_exposed);
+  other = b;
+  is_other = e;
+  second = p.0;
+  exposed = q.0;
+  apart = q.1;
+}
+  where
+    p : IsSeat O N b × ((is_exposed O b t && are_apart O N a b) ≡ true)
+    p = first_seat-is O N (λ b. is_exposed O b t && are_apart O N a b) b e
+
+    q : (is_exposed O b t ≡ true) × (are_apart O N a b ≡ true)
+    q = and_parts (is_exposed O b t) (are_apart O N a b) p.1
+
+    not_exposed : is_exposed O a t ≡ false
+    not_exposed = neither_last (is_kept O N t) (is_exposed O a t) (first_false (takes_part O N a t) (and_false (takes_part O N a s) (takes_part O N a t && true) h (or_right (is_kept O N s) (is_exposed O a s) shown)))
+      where
+        first_false : (b : Bool) → (b && true) ≡ false → b ≡ false
+        first_false true z = absurd (cc)
+        first_false false z = refl
 
 module _ (O N : World) (f : Finding) where
   abbrev x : Bytes
@@ -90,14 +168,6 @@ module _ (O N : World) (f : Finding) where
       go (Some k) None q = absurd (let z : None ≡ Some f = q in cc)
       go (Some k) (Some t) q = absurd (let z : None ≡ Some f = q in cc)
 
-  -- the first seat that passes is one, and passes
-  first_seat-is : (test : Bytes → Bool) (s : Bytes) → first_seat O N test ≡ Some s → IsSeat O N s × (test s ≡ true)
-  first_seat-is test s e = go (test object_name) refl e
-    where
-      go : (b : Bool) → test object_name ≡ b → cond b (Some object_name) (least (λ a. is_base_class O N a && test a) (classes O)) ≡ Some s → IsSeat O N s × (test s ≡ true)
-      go true p q = let k : object_name ≡ s = cc in (inl (sym k), subst (λ z. test z ≡ true) k p)
-      go false p q = let w = and_parts (is_base_class O N s) (test s) (least-passes (λ a. is_base_class O N a && test a) (classes O) s q) in (inr w.0, w.1)
-
   -- a finding on an assignment
   assigned : (n : ℕ) (t : Option Bytes) (xs : List Bytes) → assign_finding O N (on n x None t) xs ≡ Some f → (s : Option Bytes) × TakePart O N xs s × (made n x None t act.Assignment s VerifyError ≡ f)
   unfolding assign_finding and_then
@@ -106,7 +176,7 @@ module _ (O N : World) (f : Finding) where
       with_seat : (o : Option Bytes) → first_seat O N (λ a. list_all (takes_part O N a) xs) ≡ o → and_then (λ a. report (on n x None t) act.Assignment (Some a) VerifyError) o ≡ Some f
           → (s : Option Bytes) × TakePart O N xs s × (made n x None t act.Assignment s VerifyError ≡ f)
       with_seat None e q = absurd (let z : None ≡ Some f = q in cc)
-      with_seat (Some a) e q = (Some a, first_seat-is (λ a. list_all (takes_part O N a) xs) a e, let w : made n x None t act.Assignment (Some a) VerifyError ≡ f = cc in w)
+      with_seat (Some a) e q = (Some a, first_seat-is O N (λ a. list_all (takes_part O N a) xs) a e, let w : made n x None t act.Assignment (Some a) VerifyError ≡ f = cc in w)
 
       go : (b : Bool) → list_all (is_kept O N) xs ≡ b
           → cond b (report (on n x None t) act.Assignment None VerifyError) (and_then (λ a. report (on n x None t) act.Assignment (Some a) VerifyError) (first_seat O N (λ a. list_all (takes_part O N a) xs))) ≡ Some f
@@ -138,23 +208,61 @@ module _ (O N : World) (f : Finding) where
       go (Some k) None q = absurd (let z : None ≡ Some f = q in cc)
       go (Some k) (Some t) q = absurd (let z : None ≡ Some f = q in cc)
 
+  -- where both take part by no one seat
+  handed : (t : Bytes) → assign_finding O N (on 4 x None (Some t)) (x ∷ t ∷ []) ≡ None → handed_finding O N (on 4 x None (Some t)) t ≡ Some f
+      → (a : Bytes) × AreHanded O N x t a × (made 4 x None (Some t) act.Assignment (Some a) VerifyError ≡ f)
+  unfolding assign_finding handed_finding and_then
+  handed t none h = go (first_seat O N serves) refl h
+    where
+      serves : Bytes → Bool
+      serves a = is_exposed O a x && is_some (other_seat O N a t)
+
+      both : Bytes → Bool
+      both a = list_all (takes_part O N a) (x ∷ t ∷ [])
+
+      -- no one seat serves
+      no_one : first_seat O N both ≡ None
+      no_one = by (list_all (is_kept O N) (x ∷ t ∷ [])) none
+        where
+          no_seat : (o : Option Bytes) → and_then (λ a. report (on 4 x None (Some t)) act.Assignment (Some a) VerifyError) o ≡ None → o ≡ None
+          no_seat None q = refl
+          no_seat (Some a) q = absurd (cc)
+
+          by : (b : Bool) → cond b (report (on 4 x None (Some t)) act.Assignment None VerifyError) (and_then (λ a. report (on 4 x None (Some t)) act.Assignment (Some a) VerifyError) (first_seat O N both)) ≡ None → first_seat O N both ≡ None
+          by true q = absurd (cc)
+          by false q = no_seat (first_seat O N both) q
+
+      apart_from : (a : Bytes) → IsSeat O N a → is_exposed O a x ≡ true → (o : Option Bytes) → other_seat O N a t ≡ o → is_some o ≡ true → AreHanded O N x t a
+      apart_from a i shown None e k = absurd (cc)
+      apart_from a i shown (Some b) e k = are_handed O N x t a i shown b e (first_seat-none O N both no_one a (seat_there O N a i))
+
+      go : (o : Option Bytes) → first_seat O N serves ≡ o → and_then (λ a. report (on 4 x None (Some t)) act.Assignment (Some a) VerifyError) o ≡ Some f → (a : Bytes) × AreHanded O N x t a × (made 4 x None (Some t) act.Assignment (Some a) VerifyError ≡ f)
+      go None e q = absurd (let z : None ≡ Some f = q in cc)
+      go (Some a) e q =
+          let s = first_seat-is O N serves a e in
+          let k = and_parts (is_exposed O a x) (is_some (other_seat O N a t)) s.1 in
+          (a, apart_from a s.0 k.0 (other_seat O N a t) refl k.1, let w : made 4 x None (Some t) act.Assignment (Some a) VerifyError ≡ f = cc in w)
+
   pub record SuperclassLost : Type 0 where
     pub target : Bytes
     pub stands : (not (same x target) && in_chain O x target && not (in_chain N x target) && not (is_interface_of N target)) ≡ true
     pub seat : Option Bytes
-    pub parts : TakePart O N (x ∷ target ∷ []) seat
+    pub parts : LostTo O N x target seat
     pub is : made 4 x None (Some target) act.Assignment seat VerifyError ≡ f
 
   pub by_superclass_lost : f.rule ≡ 4 → Stands O N f → SuperclassLost
-  unfolding superclass_lost
+  unfolding superclass_lost or_else
   by_superclass_lost e h = go f.key f.target (of_rule O N 4 f e h)
     where
+      lost : (t : Bytes) → (not (same x t) && in_chain O x t && not (in_chain N x t) && not (is_interface_of N t)) ≡ true → (o : Option Finding) → assign_finding O N (on 4 x None (Some t)) (x ∷ t ∷ []) ≡ o → or_else o (handed_finding O N (on 4 x None (Some t)) t) ≡ Some f → SuperclassLost
+      lost t w None n q = let p = handed t n q in record { target = t; stands = w; seat = Some p.0; parts = inr p.1; is = p.2 }
+      lost t w (Some g) n q = let p = assigned 4 (Some t) (x ∷ t ∷ []) (n ∙ q) in record { target = t; stands = w; seat = p.0; parts = to_one O N x t p.0 p.1; is = p.2 }
+
       go : (k : Option Key) (t : Option Bytes) → By 4 k t → SuperclassLost
       go None None q = absurd (let z : None ≡ Some f = q in cc)
       go None (Some t) q =
-          let w = found_where (not (same x t) && in_chain O x t && not (in_chain N x t) && not (is_interface_of N t)) (assign_finding O N (on 4 x None (Some t)) (x ∷ t ∷ [])) q in
-          let p = assigned 4 (Some t) (x ∷ t ∷ []) w.1 in
-          record { target = t; stands = w.0; seat = p.0; parts = p.1; is = p.2 }
+          let w = found_where (not (same x t) && in_chain O x t && not (in_chain N x t) && not (is_interface_of N t)) (or_else (assign_finding O N (on 4 x None (Some t)) (x ∷ t ∷ [])) (handed_finding O N (on 4 x None (Some t)) t)) q in
+          lost t w.0 (assign_finding O N (on 4 x None (Some t)) (x ∷ t ∷ [])) refl w.1
       go (Some k) None q = absurd (let z : None ≡ Some f = q in cc)
       go (Some k) (Some t) q = absurd (let z : None ≡ Some f = q in cc)
 
@@ -214,7 +322,7 @@ module _ (O N : World) (f : Finding) where
       go : (o : Option Bytes) → first_seat O N (λ seat. is_some (closed_act O N x k a seat)) ≡ o → and_then (λ seat. and_then (report (on n x (Some k) None) a (Some seat)) (closed_act O N x k a seat)) o ≡ Some f → ClosedAct n k (a ∷ [])
       go None e q = absurd (cc)
       go (Some s) e q = let w = told n (Some k) a (Some s) (closed_act O N x k a s) q in
-          record { act = a; listed = Contains-push [] a; seat = s; is_seat = (first_seat-is (λ seat. is_some (closed_act O N x k a seat)) s e).0; error = w.0; closed = w.1; is = w.2 }
+          record { act = a; listed = Contains-push [] a; seat = s; is_seat = (first_seat-is O N (λ seat. is_some (closed_act O N x k a seat)) s e).0; error = w.0; closed = w.1; is = w.2 }
 
   first_told : (n : ℕ) (k : Key) (acts : List Act) → first_act O N (on n x (Some k) None) k acts ≡ Some f → ClosedAct n k acts
   unfolding first_act

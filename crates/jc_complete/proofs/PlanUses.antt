@@ -111,11 +111,11 @@ module _ (O N : World) (w : Bytes) (r : Ready O N w) where
       pt : is_array_text t ≡ false
       pt = side_plain r.root w O r.old t ut.class ut.is_there
 
-      reach_of : (y : Bytes) → is_array_text y ≡ false → (u : IsUsable O y) → type_in_reach (with_clients O cs) (letter w 85) (user.U O N w r d fit items refl).items y ≡ true
-      reach_of y p u = in_reach_if (with_clients O cs) (letter w 85) (user.U O N w r d fit items refl).items y u.class p (lib_find O cs fo y u.class u.is_there) (lib_fault O cs fo y u.class u.is_there ∙ u.loaded) (usable_accessible O y u (letter w 85))
+      reach_of : (y : Bytes) → is_array_text y ≡ false → (u : IsUsable O y) → type_in_reach (with_clients O cs) (letter w 85) ((user.U O N w r d fit items refl) ∷ []) y ≡ true
+      reach_of y p u = in_reach_if (with_clients O cs) (letter w 85) ((user.U O N w r d fit items refl) ∷ []) y u.class p (lib_find O cs fo y u.class u.is_there) (lib_fault O cs fo y u.class u.is_there ∙ u.loaded) (usable_accessible O y u (letter w 85))
 
-      reach : is_in_reach (with_clients O cs) (letter w 85) (user.U O N w r d fit items refl).items (item.Assign s t) ≡ true
-      reach = assign_in_reach (with_clients O cs) (letter w 85) (user.U O N w r d fit items refl).items s t (reach_of s ps us) (reach_of t pt ut)
+      reach : is_in_reach (with_clients O cs) (letter w 85) ((user.U O N w r d fit items refl) ∷ []) (item.Assign s t) ≡ true
+      reach = assign_in_reach (with_clients O cs) (letter w 85) ((user.U O N w r d fit items refl) ∷ []) s t (reach_of s ps us) (reach_of t pt ut)
 
       old : fault_where (not (is_assignable (with_clients O cs) s t)) VerifyError ≡ None
       old = rw (assign_is (with_clients O cs) s t ps pt ∙ assign_side O cs fo s t us ut ∙ was) refl

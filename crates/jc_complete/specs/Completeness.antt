@@ -48,9 +48,9 @@ pub record CanPlan (O N : World) : Type 0 where
 
 -- ---- what a plan shows
 
--- the client loads, and all its items are in reach and Ok
-abbrev pub LinksWhole : World → ClientClass → Type 0
-LinksWhole W c = (load_fault W c.facts.name ≡ None) × All (λ i. IsTrue (is_in_reach W c.facts.name c.items i) × Links W c.facts.name i) c.items
+-- the client c of these loads, and all its items are in reach and Ok
+abbrev pub LinksWhole : World → List ClientClass → ClientClass → Type 0
+LinksWhole W cs c = (load_fault W c.facts.name ≡ None) × All (λ i. IsTrue (is_in_reach W c.facts.name cs i) × Links W c.facts.name i) c.items
 
 -- the load of the client has this error, or the client loads and its item of the number has it
 abbrev pub FailsBy : World → ClientClass → Spot → LinkError → Type 0
@@ -61,7 +61,7 @@ FailsBy W c (spot.Item n) e = (load_fault W c.facts.name ≡ None) × ((i : Item
 pub record Shows (O N : World) (p : Plan) (e : LinkError) : Type 0 where
   pub in_scope : IsInScope O N p.clients
   pub allowed_names : All (λ c. IsTrue (allowed O N c.facts.name)) p.clients
-  pub links : All (LinksWhole (with_clients O (facts_of p.clients))) p.clients
+  pub links : All (LinksWhole (with_clients O (facts_of p.clients)) p.clients) p.clients
   pub spot : ClientClass
   pub is_in : Contains p.clients spot
   pub name : spot.facts.name ≡ p.name

@@ -25,14 +25,14 @@ use Rattle.jc_promises.specs.rule.Verdict.{IsVerdict}
 use Rattle.jc_complete.specs.Completeness.{CanPlan, LinksWhole, MeetsNothing}
 use Rattle.jc_dropped.specs.Dropped.{is_dropped, AreDropped}
 
--- the client loads with both releases. With the old one it holds values of the class x: the class loads, and the client may name it, or one of its
--- items opens it; and x loads with the new one too. It may name t, an interface, with both. With the old release t is a superinterface of x,
+-- the client loads with both releases. With the old one it holds values of the class x: the class loads, and the client may name it, or a
+-- client opens it; and x loads with the new one too. It may name t, an interface, with both. With the old release t is a superinterface of x,
 -- and with the new one it isn't
 pub record Loses (O N : World) (cs : List ClientClass) (c : ClientClass) (x t : Bytes) : Type 0 where
   pub is_in : Contains cs c
   pub loads_old : load_fault (with_clients O (facts_of cs)) c.facts.name ≡ None
   pub loads_new : load_fault (with_clients N (facts_of cs)) c.facts.name ≡ None
-  pub holds : IsTrue (class_in_reach (with_clients O (facts_of cs)) c.facts.name c.items x)
+  pub holds : IsTrue (class_in_reach (with_clients O (facts_of cs)) c.facts.name cs x)
   pub stays : load_fault (with_clients N (facts_of cs)) x ≡ None
   pub names_old : Links (with_clients O (facts_of cs)) c.facts.name (item.Class t)
   pub names_new : Links (with_clients N (facts_of cs)) c.facts.name (item.Class t)
@@ -46,7 +46,7 @@ pub record SomeClientLoses (O N : World) (x t : Bytes) : Type 0 where
   pub clients : List ClientClass
   pub in_scope : IsInScope O N clients
   pub allowed_names : All (λ c. IsTrue (allowed O N c.facts.name)) clients
-  pub links : All (LinksWhole (with_clients O (facts_of clients))) clients
+  pub links : All (LinksWhole (with_clients O (facts_of clients)) clients) clients
   pub meets_nothing : MeetsNothing O N clients
   pub client : ClientClass
   pub loses : Loses O N clients client x t

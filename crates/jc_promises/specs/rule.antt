@@ -1,4 +1,5 @@
 pub mod Exposed
+pub mod Apart
 pub mod Findings
 pub mod Collisions
 pub mod Notes

@@ -78,7 +78,7 @@ pub record SomeClientStops (O N : World) (b : Bytes) (k : Key) : Type 0 where
   pub clients : List ClientClass
   pub in_scope : IsInScope O N clients
   pub allowed_names : All (λ c. IsTrue (allowed O N c.facts.name)) clients
-  pub links : All (LinksWhole (with_clients O (facts_of clients))) clients
+  pub links : All (LinksWhole (with_clients O (facts_of clients)) clients) clients
   pub client : ClientClass
   pub below : IsTrue (some_and (same b) client.facts.superclass || is_name_among client.facts.interfaces b)
   pub declares_none : own_method_of client.facts k ≡ None

@@ -116,7 +116,7 @@ fields_kept O N cs pair find_nothing scope none met c act t k r place is_in load
     let q = quiet_of (λ r. nat_le r 4 || r == 7) (λ n h. or_left (nat_le n 4) (n == 7) (up_to_4 n h)) O N find_nothing in
     let loads = loads_of O N cs pair q scope (declare_none cs none) in
     field_kept O N cs pair q scope loads refl (no_constant O N cs met) c act t k r place form is_in loaded there
-    (reached_part O N cs pair q scope loads c is_in loaded (item.Access act t k r place) reach) ok
+    (reached_part O N cs pair q scope loads c is_in (item.Access act t k r place) reach) ok
 
 pub kept_without_methods : KeptWithoutMethods
 kept_without_methods O N cs pair find_nothing scope none constant capture =

@@ -57,8 +57,12 @@ class_opens_what_it_takes : (outcome through_a_class U (calls takes) ≡ None) �
 unfolding computes
 class_opens_what_it_takes = (refl, refl, refl)
 
+-- w0/U with these items
+abbrev user : List Item → ClientClass
+user is = record { facts = extending U p_A [] []; items = is }
+
 -- without the call the class isn't in reach
-in_reach_by_the_call : (class_in_reach through_a_class U (calls gives ∷ []) p_T ≡ true) × (class_in_reach through_a_class U [] p_T ≡ false)
+in_reach_by_the_call : (class_in_reach through_a_class U (user (calls gives ∷ []) ∷ []) p_T ≡ true) × (class_in_reach through_a_class U (user [] ∷ []) p_T ≡ false)
 unfolding computes
 in_reach_by_the_call = (refl, refl)
 

@@ -1,8 +1,8 @@
 -- Sight, which is wider than reach, and what is kept of it.
 --     is_in_sight O cs x i      over the old side O with the clients cs, the classes that the item asks of its types load, and x may name each, or it
---                               is a client or exposed to the seat of x
+--                               is a client or exposed to the seat of a client that loads
 use Rattle.std.specs.Prelude.{Bool, true, List, Option, None, Some, ◌||◌, ◌&&◌, ◌≡◌, IsTrue}
-use Rattle.std.specs.List.{Contains}
+use Rattle.std.specs.List.{list_any, Contains}
 use Rattle.jc_facts.specs.declared.class_facts.ClassFacts.{ClassFacts}
 use Rattle.jc_facts.specs.declared.client.ClientClass.{ClientClass}
 use Rattle.jc_facts.specs.declared.client.Item.{Item}
@@ -25,10 +25,14 @@ use Rattle.jc_promises.specs.rule.Findings.{Subject, finding_at}
 use Rattle.jc_promises.specs.rule.Collisions.{CollisionStands}
 use Rattle.jc_promises.specs.rule.Exposed.{is_exposed}
 
--- the class loads, and is accessible from the client x, or is a client, or is hidden and a member exposes it to the seat of x
+-- the client y loads, and the class c is hidden and a member exposes it to the seat of y
+abbrev pub is_shown_to : World → World → Bytes → ClassFacts → Bool
+is_shown_to O W c y = loads W y.name && some_and (λ a. is_exposed O a c) (seat W y.name)
+
+-- the class loads, and is accessible from the client x, or is a client, or is hidden and exposed to the seat of a client that loads
 abbrev pub class_in_sight : World → List ClassFacts → Bytes → Bytes → Bool
 class_in_sight O cs x c = let W = with_clients O cs in
-    loads W c && (some_and (is_class_accessible W x) (find_class W c) || (is_client W c || some_and (λ a. is_exposed O a c) (seat W x)))
+    loads W c && (some_and (is_class_accessible W x) (find_class W c) || (is_client W c || list_any (is_shown_to O W c) cs))
 
 -- the same of an element type: a primitive one always is
 abbrev pub element_in_sight : World → List ClassFacts → Bytes → Element → Bool
@@ -59,7 +63,7 @@ is_in_sight O cs x i = true
 abbrev pub ReachIsInSight : Type 0
 ReachIsInSight = (O N : World) (cs : List ClientClass) → IsPair O N → IsInScope O N cs
     → (c : ClientClass) (i : Item) → Contains cs c → load_fault (with_clients O (facts_of cs)) c.facts.name ≡ None
-    → IsTrue (is_in_reach (with_clients O (facts_of cs)) c.facts.name c.items i) → IsTrue (is_in_sight O (facts_of cs) c.facts.name i)
+    → IsTrue (is_in_reach (with_clients O (facts_of cs)) c.facts.name cs i) → IsTrue (is_in_sight O (facts_of cs) c.facts.name i)
 
 -- Where no rule stands anywhere and no collision that stands is met, each item in sight that is Ok with the old release is Ok with the new.
 abbrev pub SoundnessInSight : Type 0

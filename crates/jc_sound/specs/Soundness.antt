@@ -59,7 +59,7 @@ FieldsKept = (O N : World) (cs : List ClientClass) → IsPair O N → FindNothin
     → let before = with_clients O (facts_of cs) in
     let after = with_clients N (facts_of cs) in
     (c : ClientClass) (act : Act) (t : Bytes) (k : Key) (r : Option Bytes) (place : Place) → let use_it = item.Access act t k r place in
-    Contains cs c → load_fault before c.facts.name ≡ None → form_of act ≡ FieldForm → Contains c.items use_it → IsTrue (is_in_reach before c.facts.name c.items use_it)
+    Contains cs c → load_fault before c.facts.name ≡ None → form_of act ≡ FieldForm → Contains c.items use_it → IsTrue (is_in_reach before c.facts.name cs use_it)
     → outcome before c.facts.name use_it ≡ None → outcome after c.facts.name use_it ≡ None
 
 -- All rules but rule 6 keep all loads and items of such clients, where no Constant and no Capture collision is met.

@@ -86,7 +86,7 @@ pub record IsWitness (O N : World) (error : LinkError) (fs : List WitnessFile) (
   pub read : AreReadAs fs cs
   pub in_scope : IsInScope O N cs
   pub allowed_names : All (λ c. IsTrue (allowed O N c.facts.name)) cs
-  pub links : All (LinksWhole (with_clients O (facts_of cs))) cs
+  pub links : All (LinksWhole (with_clients O (facts_of cs)) cs) cs
   pub one_spot : count_by (λ (f : WitnessFile). is_some f.spot) fs ≡ 1
   pub fails : FailAtSpots (with_clients N (facts_of cs)) error fs cs
 

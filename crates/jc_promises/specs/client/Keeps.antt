@@ -16,5 +16,5 @@ pub record Keeps (old new : World) (cs : List ClientClass) : Type 0 where
   pub loading : (c : ClientClass) → Contains cs c → load_fault (with_clients old (facts_of cs)) c.facts.name ≡ None
       → load_fault (with_clients new (facts_of cs)) c.facts.name ≡ None
   pub uses : (c : ClientClass) (i : Item) → Contains cs c → load_fault (with_clients old (facts_of cs)) c.facts.name ≡ None
-      → Contains c.items i → IsTrue (is_in_reach (with_clients old (facts_of cs)) c.facts.name c.items i)
+      → Contains c.items i → IsTrue (is_in_reach (with_clients old (facts_of cs)) c.facts.name cs i)
       → Links (with_clients old (facts_of cs)) c.facts.name i → Links (with_clients new (facts_of cs)) c.facts.name i

@@ -2,12 +2,13 @@
 --     fresh_package O N      the package of the clients: no name of the two sides begins with it
 --     own_name O N x a      the name of a client that extends or implements a: x, or where a has permitted names, one of those
 --     closed_name O N x a      the same where a is closed to some clients: where it can be, a name that is no longer permitted
+--     first_name O N x a b, second_name O N y x b      the names of two clients, of which the one extends a and the other b
 --     constructor O a      the descriptor of the initializer of a that a client below a calls
 use Rattle.std.specs.Prelude.{ℕ, zero, suc, Bool, true, not, cond, List, [], ◌∷◌, ◌++◌, length, Option, None, Some, ◌+◌, ◌&&◌, codes, nat_eq}
 use Rattle.std.specs.List.{list_any, starts_with}
 use Rattle.std.specs.Fmt.{decimal}
 use Rattle.jc_facts.specs.declared.class_facts.Member.{Member}
-use Rattle.jc_facts.specs.Names.{Bytes, is_name_among}
+use Rattle.jc_facts.specs.Names.{Bytes, same, is_name_among}
 use Rattle.jc_desc.specs.Names.{is_init_name}
 use Rattle.jc_facts.specs.file.Rules.{is_object_name}
 use Rattle.jc_facts.specs.Options.{and_then}
@@ -17,6 +18,7 @@ use Rattle.jc_facts.specs.world.Modules.{OfClients}
 use Rattle.jc_facts.specs.world.Loading.{excludes}
 use Rattle.jc_facts.specs.world.Mentioned.{permitted, mentioned}
 use Rattle.jc_promises.specs.rule.Bases.{allowed}
+use Rattle.jc_promises.specs.rule.Apart.{permits_of, has_other}
 use Rattle.jc_facts.specs.world.Inheritance.{public_or_protected}
 use Rattle.jc_facts.specs.ByName.{lower}
 
@@ -74,6 +76,29 @@ missing_name O N a = and_then (λ c. and_then (λ d. cond (excludes N d OfClient
 -- the name of a client that extends or implements a, which is closed to some clients now (H2): the first name that is missing now, where there is one
 abbrev pub closed_name : World → World → Bytes → Bytes → Bytes
 closed_name O N x a = value_or (own_name O N x a) (missing_name O N a)
+
+-- ---- names of two clients
+
+-- names that a class permits, if it has permitted names, let a client be called other than x
+abbrev pub leaves_another : World → World → Bytes → Option (List Bytes) → Bool
+leaves_another O N x None = true
+leaves_another O N x (Some names) = has_other O N x names
+
+-- the first in byte order of the allowed names that the class a permits on the old side and beside which b leaves a client another one, where a permits any
+abbrev pub permitted_beside : World → World → Bytes → Bytes → Option Bytes
+permitted_beside O N a b = and_then (λ c. least_name (λ x. allowed O N x && leaves_another O N x (permits_of O b)) (permitted c.permits)) (find_class O a)
+
+-- the first in byte order of the allowed names other than x that the class b permits on the old side, where it permits any
+abbrev pub permitted_other : World → World → Bytes → Bytes → Option Bytes
+permitted_other O N x b = and_then (λ c. least_name (λ y. allowed O N y && not (same x y)) (permitted c.permits)) (find_class O b)
+
+-- the name of a client that extends a, where another one extends b: x, or a permitted one
+abbrev pub first_name : World → World → Bytes → Bytes → Bytes → Bytes
+first_name O N x a b = value_or x (permitted_beside O N a b)
+
+-- the name of the client that extends b, where the other one is called x: y, or a permitted one
+abbrev pub second_name : World → World → Bytes → Bytes → Bytes → Bytes
+second_name O N y x b = value_or y (permitted_other O N x b)
 
 -- ---- constructors
 

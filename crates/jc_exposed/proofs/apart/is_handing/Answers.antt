@@ -1,0 +1,1 @@
+use Rattle.jc_exposed.proofs.apart.is_handing.Goals as goal
