@@ -160,7 +160,7 @@ module _ (O N : World) (w : Bytes) (r : Ready O N w) (a : Bytes) (b : IsBase O N
     clients = Y ∷ [];
     in_scope = planned.0;
     allowed_names = planned.1;
-    links = All-from_recursion (LinksWhole VO) (Y ∷ []) (links_whole VO Y loads_o ((refl, below.init_o O N w r a b.was b.class_o b.not_final_o y own.old 0x0021 plain_flags (constructor O a) ctor (use_method takes_nothing ∷ []) methods (i ∷ []) fine over_o), ((refl, links_o), tt)), tt);
+    links = All-from_recursion (LinksWhole VO (Y ∷ [])) (Y ∷ []) (links_whole VO (Y ∷ []) Y loads_o ((refl, below.init_o O N w r a b.was b.class_o b.not_final_o y own.old 0x0021 plain_flags (constructor O a) ctor (use_method takes_nothing ∷ []) methods (i ∷ []) fine over_o), ((refl, links_o), tt)), tt);
     meets_nothing = below.below_meets_nothing O N w r a b.was b.class_o b.not_final_o y own.old 0x0021 plain_flags (constructor O a) ctor (use_method takes_nothing ∷ []) methods (i ∷ []) fine over_o (λ l n s f j. declares_no_final takes_nothing l n (final_parts O N a l s).key f j);
     client = Y;
     is_in = Contains-push [] Y;

@@ -46,12 +46,11 @@ use Rattle.jc_worlds.proofs.AgreementLaw.{each_name}
 use Rattle.jc_worlds.proofs.Alike.{class_step-named}
 use Rattle.jc_worlds.proofs.Loaded.{loads-found}
 use Rattle.jc_worlds.proofs.ValidFacts.{fit_of}
-use Rattle.jc_sound.proofs.ClientItems.{IsHeld, client, library, held, TakesPart, of_client, of_library, PartText, PartType}
+use Rattle.jc_sound.proofs.ClientItems.{IsHeld, client, library, held, LibraryPart, of_kept, of_exposed, TakesPart, of_client, of_library, PartText, PartType}
 use Rattle.jc_sound.proofs.Context.{named_class}
 use Rattle.jc_sound.proofs.FindingLaws.{empty_means_none}
 use Rattle.jc_sound.proofs.Ground.{Ground}
 use Rattle.jc_sound.proofs.OpenActs.{IsSeat, least-passes, first_seat-passes, first_seat-none}
-use Rattle.jc_sound.proofs.Reach.{seat_x}
 use Rattle.jc_sound.proofs.ReachInSight.{reach_is_in_sight}
 use Rattle.jc_sound.proofs.Sight.{item_part}
 use Rattle.jc_sound.proofs.Sound.{KeepsLoads, loads_kept, ground, named_client}
@@ -84,9 +83,9 @@ above_is_interface W x t l h =
     named y c f k i = ap (some_and (λ (d : ClassFacts). interface_flag d.flags)) (ap (find_class W) (find-name W y c f) ∙ f) ∙ i
 
 -- a class of that name that is in reach
-reached_class : (V : World) (y x : Bytes) (items : List Item) → is_array_text x ≡ false → type_in_reach V y items x ≡ class_in_reach V y items x
+reached_class : (V : World) (y x : Bytes) (cs : List ClientClass) → is_array_text x ≡ false → type_in_reach V y cs x ≡ class_in_reach V y cs x
 unfolding type_in_reach
-reached_class V y x items p = rw (named_class x p) refl
+reached_class V y x cs p = rw (named_class x p) refl
 
 -- ---- each that is dropped is lost
 
@@ -130,14 +129,14 @@ module _ (O N : World) (can : CanPlan O N) (x t : Bytes) where
     clients = st.client ∷ [];
     in_scope = st.scope.0;
     allowed_names = st.scope.1;
-    links = All-from_recursion (LinksWhole VO) (st.client ∷ []) (st.links, tt);
+    links = All-from_recursion (LinksWhole VO (st.client ∷ [])) (st.client ∷ []) (st.links, tt);
     meets_nothing = st.alone;
     client = st.client;
     loses = record {
       is_in = Contains-push [] st.client;
       loads_old = st.links.0;
       loads_new = st.loads_new;
-      holds = sym (reached_class VO y x st.client.items (side_plain r.root w O r.old x co.0 co.1)) ∙ st.reach;
+      holds = sym (reached_class VO y x (st.client ∷ []) (side_plain r.root w O r.old x co.0 co.1)) ∙ st.reach;
       stays = lib_fault N F st.fits_new x cn.0 cn.1 ∙ l.1;
       names_old = class_says VO y t ∙ class_links VO y t ut.class plain (lib_find O F st.fits_old t ut.class ut.is_there) (lib_fault O F st.fits_old t ut.class ut.is_there ∙ ut.loaded) (usable_accessible O t ut y);
       names_new = class_says VN y t ∙ class_links VN y t un.class plain (lib_find N F st.fits_new t un.class un.is_there) (lib_fault N F st.fits_new t un.class un.is_there ∙ un.loaded) (usable_accessible N t un y);
@@ -232,15 +231,8 @@ module _ (O N : World) (cs : List ClientClass) (pair : IsPair O N) (q : Quiet O 
   plain : (y : Bytes) → (d : ClassFacts) → find_class VO y ≡ Some d → is_array_text y ≡ false
   plain y d e = subst (λ z. is_array_text z ≡ false) (find-name VO y d e) (fit_of d (g.valid_o y d e)).name
 
-  -- its seat
-  abbrev a : Bytes
-  a = (seat_x O N F g c.facts.name c.facts kc l.loads_old).seat
-
-  abbrev in_place : IsSeat O N a
-  in_place = (seat_x O N F g c.facts.name c.facts kc l.loads_old).is_seat
-
   abbrev Takes : Bytes → Type 0
-  Takes y = TakesPart O N F g.fo g.fn g.quiet g.client_names g.clients_load a in_place y
+  Takes y = TakesPart O N F g.fo g.fn g.quiet g.client_names g.clients_load y
 
   -- a client, or one of which clients hold values
   held_x : (is_some (class_named F x) || is_held O N x) ≡ true
@@ -260,11 +252,11 @@ module _ (O N : World) (cs : List ClientClass) (pair : IsPair O N) (q : Quiet O 
       reads = item.Access GetField x key (Some x) Other
 
       part : (load_fault VO x ≡ None) × Takes x
-      part = by (item_part O N cs pair q scope stay c l.is_in l.loads_old reads (reach_is_in_sight O N cs pair scope c reads l.is_in l.loads_old
-          (or_left (type_in_reach VO c.facts.name c.items x) (is_invoke_interface GetField) (reached_class VO c.facts.name x c.items at ∙ l.holds))) x refl)
+      part = by (item_part O N cs pair q scope stay c l.is_in reads (reach_is_in_sight O N cs pair scope c reads l.is_in l.loads_old
+          (or_left (type_in_reach VO c.facts.name cs x) (is_invoke_interface GetField) (reached_class VO c.facts.name x cs at ∙ l.holds))) x refl)
         where
-          by : PartType O N F g.fo g.fn g.quiet g.client_names g.clients_load a in_place x ⊎ (is_invoke_interface GetField ≡ true) → (load_fault VO x ≡ None) × Takes x
-          by (inl p) = subst (λ o. PartText O N F g.fo g.fn g.quiet g.client_names g.clients_load a in_place o) (named_class x at) p
+          by : PartType O N F g.fo g.fn g.quiet g.client_names g.clients_load x ⊎ (is_invoke_interface GetField ≡ true) → (load_fault VO x ≡ None) × Takes x
+          by (inl p) = subst (λ o. PartText O N F g.fo g.fn g.quiet g.client_names g.clients_load o) (named_class x at) p
           by (inr e) = absurd (cc)
 
       n_loads : class_named F x ≡ None → loads N x ≡ true
@@ -279,11 +271,11 @@ module _ (O N : World) (cs : List ClientClass) (pair : IsPair O N) (q : Quiet O 
 
       go : Takes x → (is_some (class_named F x) || (is_kept O N x || (is_exposed_to_some O N x && loads N x))) ≡ true
       go (of_client e k) = or_left (is_some (class_named F x)) (is_kept O N x || (is_exposed_to_some O N x && loads N x)) (ap is_some k)
-      go (of_library k p) = or_right (is_some (class_named F x)) (is_kept O N x || (is_exposed_to_some O N x && loads N x)) (by (or_cases (is_kept O N x) (is_exposed O a x) p))
+      go (of_library k p) = or_right (is_some (class_named F x)) (is_kept O N x || (is_exposed_to_some O N x && loads N x)) (by p)
         where
-          by : (is_kept O N x ≡ true) ⊎ (is_exposed O a x ≡ true) → (is_kept O N x || (is_exposed_to_some O N x && loads N x)) ≡ true
-          by (inl h) = or_left (is_kept O N x) (is_exposed_to_some O N x && loads N x) h
-          by (inr h) = or_right (is_kept O N x) (is_exposed_to_some O N x && loads N x) (and_from (is_exposed_to_some O N x) (loads N x) (to_some a in_place h) (n_loads k))
+          by : LibraryPart O N F g.fo g.fn g.quiet g.client_names g.clients_load x → (is_kept O N x || (is_exposed_to_some O N x && loads N x)) ≡ true
+          by (of_kept h) = or_left (is_kept O N x) (is_exposed_to_some O N x && loads N x) h
+          by (of_exposed a i d h) = or_right (is_kept O N x) (is_exposed_to_some O N x && loads N x) (and_from (is_exposed_to_some O N x) (loads N x) (to_some a i h) (n_loads k))
 
   -- a client, or an interface that clients can name
   asked : (is_some (class_named F t) || is_steady O N t) ≡ true

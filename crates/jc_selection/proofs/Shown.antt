@@ -420,7 +420,7 @@ module _ (O N : World) (w : Bytes) (r : Ready O N w) (s : Bytes) (b : IsBase O N
       clients = J ∷ Y t ∷ [];
       in_scope = scope.0;
       allowed_names = scope.1;
-      links = All-from_recursion (LinksWhole VO) (J ∷ Y t ∷ []) (links_whole VO J (loads_j O r.old b.was mo t) tt, (links_whole VO (Y t) y_o ((refl, init_y), tt), tt));
+      links = All-from_recursion (LinksWhole VO (J ∷ Y t ∷ [])) (J ∷ Y t ∷ []) (links_whole VO (J ∷ Y t ∷ []) J (loads_j O r.old b.was mo t) tt, (links_whole VO (J ∷ Y t ∷ []) (Y t) y_o ((refl, init_y), tt), tt));
       client = Y t;
       below = below;
       declares_none = not_own t;

@@ -1,5 +1,5 @@
 -- Two clients that load, directly below two library classes: where the clients differ, the classes are apart, and else they are one class.
-use Rattle.std.proofs.Common.{◌≡◌, Bool, true, false, List, refl, sym, ◌∙◌, ap, subst, Option, Some, None, not, ◌||◌, ◌&&◌}
+use Rattle.std.proofs.Common.{◌≡◌, true, false, List, refl, sym, ◌∙◌, ap, subst, Option, Some, None, not, ◌&&◌}
 use Rattle.std.proofs.lemmas.Bool.{and_from, not-false}
 use Rattle.jc_facts.specs.declared.class_facts.ClassFacts.{ClassFacts}
 use Rattle.jc_facts.specs.Names.{Bytes, same, is_name_among, in_same_package}

@@ -8,7 +8,7 @@ use Rattle.jc_facts.specs.declared.client.Item.TheVariants as item
 use Rattle.jc_facts.specs.Names.{Bytes, same}
 use Rattle.jc_facts.specs.Options.{some_and}
 use Rattle.jc_facts.specs.world.Access.{is_class_accessible}
-use Rattle.jc_facts.specs.world.Loading.{load_fault, loads}
+use Rattle.jc_facts.specs.world.Loading.{loads}
 use Rattle.jc_facts.specs.world.Types.{Element, Primitive, Class, TypeText, type_read}
 use Rattle.jc_facts.specs.world.World.{World, find_class}
 use Rattle.jc_promises.specs.client.Reach.{opens, is_opened_by, class_in_reach, element_in_reach, text_in_reach, type_in_reach, receiver_in_reach, is_invoke_interface, is_interface_type, is_in_reach}

@@ -1,6 +1,7 @@
 -- The worked examples of two seats: a hidden class that is exposed to the clients below p/A, its hidden superclass to those below p/B, and a client
 -- that hands a value from one to the other. With the new release the superclass has left the chain.
-use Rattle.std.proofs.Common.{◌≡◌, true, false, List, [], ◌∷◌, refl, Option, Some, None, codes}
+use Rattle.std.proofs.Common.{◌≡◌, true, false, List, [], ◌∷◌, refl, Option, Some, None, codes, lit<}
+use Rattle.std.specs.Str.{is_utf8}
 use Rattle.jc_facts.specs.declared.class_facts.ClassFacts.{ClassFacts}
 use Rattle.jc_facts.specs.declared.class_facts.Member.{Member}
 use Rattle.jc_facts.specs.declared.client.ClientClass.{ClientClass}
@@ -14,12 +15,13 @@ use Rattle.jc_facts.specs.Names.{Bytes, object_name, key_of}
 use Rattle.jc_facts.specs.client.Outcome.{outcome}
 use Rattle.jc_facts.specs.client.Seats.{seat}
 use Rattle.jc_facts.specs.client.Valid.{facts_of}
+use Rattle.jc_facts.specs.world.Loading.{loads}
 use Rattle.jc_facts.specs.world.World.{World, with_clients}
 use Rattle.jc_promises.specs.client.Reach.{opens, class_in_reach, is_in_reach}
 use Rattle.jc_promises.specs.rule.Apart.{are_apart}
 use Rattle.jc_promises.specs.rule.Exposed.{is_exposed}
 use Rattle.jc_promises.specs.rule.Findings.{finding_at}
-use Rattle.jc_sound.proofs.Examples.{computes, init, member, a_class, extending, over, on_target, exposed_finding}
+use Rattle.jc_sound.proofs.Examples.{computes, init, member, a_class, extending, over, on_target, exposed_finding, ascii}
 use Rattle.jc_sound.proofs.WorkedClients.{p_A}
 
 abbrev p_B : Bytes
@@ -95,15 +97,25 @@ accessor_is_refused : (outcome (with_clients old (facts_of by_accessor)) In pass
 unfolding computes
 accessor_is_refused = (refl, refl)
 
--- what only app/M opens isn't in reach where app/M doesn't load, or isn't there
+-- without app/M the class isn't in reach
 abbrev alone : List ClientClass
 alone = client In p_B [] (item.Access InvokeStatic In (key_of take) None Other ∷ passes ∷ []) ∷ []
 
-opener_is_asked_to_load : let V = with_clients old (facts_of (client M (codes "p/Gone") [] (item.Access InvokeStatic p_A (key_of conf) None Other ∷ []) ∷ alone)) in
-    (class_in_reach V In (client M (codes "p/Gone") [] (item.Access InvokeStatic p_A (key_of conf) None Other ∷ []) ∷ alone) Conf ≡ false)
-    × (is_in_reach (with_clients old (facts_of alone)) In alone passes ≡ false)
+nobody_opens_it : is_in_reach (with_clients old (facts_of alone)) In alone passes ≡ false
 unfolding computes
-opener_is_asked_to_load = (refl, refl)
+nobody_opens_it = refl
+
+-- nor where app/M doesn't load, since an interface that it names isn't there
+abbrev call : Item
+call = item.Access InvokeStatic p_A (key_of conf) None Other
+
+abbrev unloadable : ClientClass
+unloadable = record { facts = a_class M 0x21 (Some p_A) (codes "q/Gone" ∷ []) [] (init 1 ∷ []); items = call ∷ [] }
+
+opener_has_to_load : let V = with_clients old (facts_of (unloadable ∷ alone)) in
+    (loads V M ≡ false) × (opens V M Conf call ≡ true) × (class_in_reach V In (unloadable ∷ alone) Conf ≡ false)
+unfolding computes
+opener_has_to_load = (refl, refl, refl)
 
 -- app/M$In has the value in a field of its own, as a class that captures it has
 abbrev captured : Member
@@ -161,11 +173,20 @@ by_names of_A of_B above = over (hidden_base ∷ hidden_conf above ∷ sealed p_
 abbrev lost : List Bytes → List Bytes → Option Finding
 lost of_A of_B = finding_at (by_names of_A of_B Base) (by_names of_A of_B object_name) (on_target 4 Conf Base)
 
+utf8_M : is_utf8 M ≡ true
+utf8_M = ascii M (lit< tt, (lit< tt, (lit< tt, (lit< tt, (lit< tt, tt)))))
+
+abbrev L : Bytes
+L = codes "app/L"
+
+utf8_L : is_utf8 L ≡ true
+utf8_L = ascii L (lit< tt, (lit< tt, (lit< tt, (lit< tt, (lit< tt, tt)))))
+
 -- one name for both leaves one client, which has one superclass
 one_name_is_no_two_clients : (are_apart (by_names (M ∷ []) (M ∷ []) Base) (by_names (M ∷ []) (M ∷ []) object_name) p_A p_B ≡ false) × (lost (M ∷ []) (M ∷ []) ≡ None)
 unfolding computes
-one_name_is_no_two_clients = (refl, refl)
+one_name_is_no_two_clients = (simp (utf8_M), simp (utf8_M))
 
-two_names_are_two_clients : lost (M ∷ []) (M ∷ In ∷ []) ≡ Some (exposed_finding 4 Conf (Some Base) p_A VerifyError)
+two_names_are_two_clients : lost (M ∷ []) (M ∷ L ∷ []) ≡ Some (exposed_finding 4 Conf (Some Base) p_A VerifyError)
 unfolding computes
-two_names_are_two_clients = refl
+two_names_are_two_clients = simp (utf8_M, utf8_L)
