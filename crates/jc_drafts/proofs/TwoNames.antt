@@ -1,9 +1,10 @@
 -- Names of two clients, as they are looked for.
 use mathlib.Core.Path.{fun_ext}
-use Rattle.std.proofs.Common.{◌≡◌, Bool, true, false, not, ◌&&◌, ◌||◌, List, [], ◌∷◌, refl, sym, ◌∙◌, ap, subst, Option, Some, None, is_some, ◌⊎◌, inl, inr}
+use Rattle.std.proofs.Common.{◌≡◌, Bool, true, false, not, ◌&&◌, ◌||◌, List, [], ◌∷◌, refl, sym, ◌∙◌, ap, subst, Option, Some, None, is_some, ◌⊎◌, inl, inr, Bor}
 use Rattle.std.proofs.lemmas.Bool.{and_parts, and_from, both_ways, or_cases, or_left, or_right}
 use Rattle.std.proofs.Math.Bool.{and-true, and-false, or-false}
 use Rattle.std.specs.List.{list_any}
+use Rattle.std.specs.Option.{option_copied}
 use Rattle.std.specs.List.Sorted.{IsPermutation}
 use Rattle.jc_facts.specs.declared.class_facts.ClassFacts.{ClassFacts}
 use Rattle.jc_facts.specs.Names.{Bytes, same, is_name_among}
@@ -20,6 +21,11 @@ use Rattle.jc_complete.proofs.PlanInterfaceMethodLost.{same_back}
 use Rattle.jc_lemmas.proofs.Bools.{neither_first, neither_last}
 use Rattle.jc_drafts.proofs.LowestOfNames.{tests_alike}
 use Rattle.jc_drafts.proofs.PermittedNames.{by_set}
+
+-- the value behind a reference is there where that is
+pub copied_some : {T : Type 0} (o : Option (Bor T)) → is_some (option_copied o) ≡ is_some o
+copied_some None = refl
+copied_some (Some x) = refl
 
 -- ---- tests of names
 
@@ -128,7 +134,10 @@ module _ (s : SidesOf) (W : World) (old : W ≡ s.old) (a : Bytes) where
   -- the other one isn't there
   pub no_beside : (b : Bytes) → None ≡ find_class W b → (result : Option Bytes) → result ≡ permitted_name s.old s.new a → result ≡ permitted_beside s.old s.new a b
   unfolding and_then
-  no_beside b e result q = rw (← old) at q in rw (← old) (rw (← e) (q ∙ ap (λ (test : Bytes → Bool). and_then (λ (c : ClassFacts). least_name test (permitted c.permits)) (find_class W a)) (fun_ext (λ x. sym (and-true (allowed W s.new x))))))
+  no_beside b e result q =
+      let absent : find_class s.old b ≡ None = ap (λ V. find_class V b) (sym old) ∙ sym e in
+      q ∙ ap (λ (test : Bytes → Bool). and_then (λ (c : ClassFacts). least_name test (permitted c.permits)) (find_class s.old a)) (fun_ext (λ x. sym (and-true (allowed s.old s.new x))))
+      ∙ ap (λ (o : Option ClassFacts). and_then (λ (c : ClassFacts). least_name (λ x. allowed s.old s.new x && leaves_another s.old s.new x (and_then (λ (z : ClassFacts). z.permits) o)) (permitted c.permits)) (find_class s.old a)) (sym absent)
 
   pub no_class_beside : (b : Bytes) → None ≡ find_class W a → None ≡ permitted_beside s.old s.new a b
   unfolding and_then
