@@ -23,7 +23,7 @@ pub const ABSTRACT_CLASS: u16 = 0x0421;
 const INTERFACE: u16 = 0x0601;
 /// The flags of a public member.
 pub const PUBLIC: u16 = 0x0001;
-/// The flags of a public static method.
+/// The flags of a public static member.
 pub const PUBLIC_STATIC: u16 = 0x0009;
 /// The flags of a public abstract method.
 pub const PUBLIC_ABSTRACT: u16 = 0x0401;

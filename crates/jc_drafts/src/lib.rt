@@ -10,3 +10,4 @@ mod lowest;
 pub mod package;
 pub mod permitted;
 pub mod texts;
+pub mod two_names;

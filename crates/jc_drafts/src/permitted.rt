@@ -17,7 +17,11 @@ use std::alloc::{AllocError, Global};
 
 // The first in byte order of the names that clients of both sides may have and that are none of the
 // others.
-fn first_allowed<'a>(sides: &Sides<'_>, names: &'a [Name], others: &NameSet) -> Option<&'a Name>
+pub(crate) fn first_allowed<'a>(
+    sides: &Sides<'_>,
+    names: &'a [Name],
+    others: &NameSet,
+) -> Option<&'a Name>
     ensures { option_copied result ≡ least_name (λ x. allowed sides.now.old sides.now.new x && not (is_name_among others.now x)) names.now }
 {
     let mut lowest = None;
@@ -28,7 +32,7 @@ fn first_allowed<'a>(sides: &Sides<'_>, names: &'a [Name], others: &NameSet) -> 
 }
 
 // The names that the class permits, none where it has no such list.
-fn names_of<'a>(class: &'a ClassFacts) -> &'a [Name]
+pub(crate) fn names_of<'a>(class: &'a ClassFacts) -> &'a [Name]
     ensures { result.now ≡ permitted «class».now.permits }
 {
     match &class.permits {

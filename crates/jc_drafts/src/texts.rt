@@ -26,6 +26,19 @@ fn push_class(bytes: &mut Vec<u8>, class: &Name) -> Result<(), AllocError>
     Ok(bytes.push(b';')?)
 }
 
+/// The descriptor of a field of the class.
+///
+/// # Errors
+///
+/// `AllocError` where memory runs out.
+pub fn of_class(alloc: Global, class: &Name) -> Result<Name, AllocError>
+    ensures { IfOk result (λ descriptor. descriptor ≡ type_text (class_type class.now)) }
+{
+    let mut bytes = Vec::new(alloc);
+    push_class(&mut bytes, class)?;
+    Name::from_bytes(alloc, bytes.as_slice())
+}
+
 /// The descriptor of a method that takes and returns nothing.
 ///
 /// # Errors

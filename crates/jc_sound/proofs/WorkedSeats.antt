@@ -15,6 +15,7 @@ use Rattle.jc_facts.specs.Names.{Bytes, object_name, key_of}
 use Rattle.jc_facts.specs.client.Outcome.{outcome}
 use Rattle.jc_facts.specs.client.Seats.{seat}
 use Rattle.jc_facts.specs.client.Valid.{facts_of}
+use Rattle.jc_facts.specs.world.Loading.{loads}
 use Rattle.jc_facts.specs.world.World.{World, with_clients}
 use Rattle.jc_promises.specs.client.Reach.{opens, class_in_reach, is_in_reach}
 use Rattle.jc_promises.specs.rule.Apart.{are_apart}
@@ -96,15 +97,25 @@ accessor_is_refused : (outcome (with_clients old (facts_of by_accessor)) In pass
 unfolding computes
 accessor_is_refused = (refl, refl)
 
--- what only app/M opens isn't in reach where app/M doesn't load, or isn't there
+-- without app/M the class isn't in reach
 abbrev alone : List ClientClass
 alone = client In p_B [] (item.Access InvokeStatic In (key_of take) None Other ∷ passes ∷ []) ∷ []
 
-opener_is_asked_to_load : let V = with_clients old (facts_of (client M (codes "p/Gone") [] (item.Access InvokeStatic p_A (key_of conf) None Other ∷ []) ∷ alone)) in
-    (class_in_reach V In (client M (codes "p/Gone") [] (item.Access InvokeStatic p_A (key_of conf) None Other ∷ []) ∷ alone) Conf ≡ false)
-    × (is_in_reach (with_clients old (facts_of alone)) In alone passes ≡ false)
+nobody_opens_it : is_in_reach (with_clients old (facts_of alone)) In alone passes ≡ false
 unfolding computes
-opener_is_asked_to_load = (refl, refl)
+nobody_opens_it = refl
+
+-- nor where app/M doesn't load, since an interface that it names isn't there
+abbrev call : Item
+call = item.Access InvokeStatic p_A (key_of conf) None Other
+
+abbrev unloadable : ClientClass
+unloadable = record { facts = a_class M 0x21 (Some p_A) (codes "q/Gone" ∷ []) [] (init 1 ∷ []); items = call ∷ [] }
+
+opener_has_to_load : let V = with_clients old (facts_of (unloadable ∷ alone)) in
+    (loads V M ≡ false) × (opens V M Conf call ≡ true) × (class_in_reach V In (unloadable ∷ alone) Conf ≡ false)
+unfolding computes
+opener_has_to_load = (refl, refl, refl)
 
 -- app/M$In has the value in a field of its own, as a class that captures it has
 abbrev captured : Member

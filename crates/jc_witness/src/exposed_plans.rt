@@ -1,12 +1,11 @@
 //! Planned clients for assignments of hidden classes, which members expose to them.
 ghost use Rattle.std.specs.Prelude.{◌≡◌, ◌≤◌, ◌++◌, ◌∷◌, [], None, length, IfOk};
-ghost use Rattle.std.specs.List.{All};
-ghost use Rattle.jc_facts.specs.declared.member_act.MemberAct.{MemberAct};
+ghost use Rattle.std.specs.List.{All, cons_option};
 ghost use Rattle.jc_facts.specs.world.Loading.{load_fault};
-ghost use Rattle.jc_promises.specs.plan.Planned.{acts_exposing, assigns_behind, assigns_from, receivers_exposed};
-ghost use Rattle.jc_promises.specs.plan.PlannedBodies.{assigns_bodies, behind_bodies};
-ghost use Rattle.jc_witness.specs.Ground.{CanRefer};
-ghost use Rattle.jc_witness.specs.Exposing.{CanExpose};
+ghost use Rattle.jc_promises.specs.plan.Planned.{a_class, acts_exposing, assigns_behind, assigns_exposed, assigns_from, class_behind, receivers_exposed};
+ghost use Rattle.jc_promises.specs.plan.PlannedBodies.{assigns_bodies, behind_bodies, blueprint, exposed_bodies, init_body};
+ghost use Rattle.jc_promises.specs.plan.PlannedNames.{constructor};
+ghost use Rattle.jc_witness.specs.Exposing.{CanExpose, CanReceive, CanTake};
 ghost use Rattle.jc_witness.specs.steps.MoreInits.{items_of_act, items_of_acts};
 ghost use Rattle.jc_witness.specs.steps.PlanFiles.{package_of, files_of_plan};
 
@@ -19,6 +18,8 @@ use jc_drafts::bodies::{expose_and_return, takes_receiver};
 use jc_drafts::draft::{Draft, PUBLIC_CLASS, body};
 use jc_drafts::texts::from_behind;
 use jc_facts::act::Act;
+use jc_facts::blueprint::Blueprint;
+use jc_facts::class_facts::Member;
 use jc_facts::member_act::MemberAct;
 use jc_facts::verdict::Spot;
 use jc_sides::found::push_some;
@@ -31,7 +32,7 @@ fn receivers(
     acts: &[MemberAct],
     own: &Name,
 ) -> Result<Vec<Name>, AllocError>
-    requires { All (λ (s : MemberAct). CanRefer planner.now.old s.act s.«class» s.key) acts.now }
+    requires { All (CanReceive planner.now.old) acts.now }
     ensures { IfOk result (λ names. names.items ≡ receivers_exposed planner.now.old own.now acts.now) }
 {
     let mut names = Vec::new(alloc);
@@ -72,8 +73,8 @@ fn item_count(act: Act) -> u32
     }
 }
 
-// How many items these acts have.
-fn count_items(acts: &[MemberAct]) -> u32
+/// How many items these acts have.
+pub(crate) fn count_items(acts: &[MemberAct]) -> u32
     requires { length acts.now ≤ 2 }
     ensures value { result ≡ items_of_acts acts.now }
     ensures few { result ≤ 4 }
@@ -83,6 +84,50 @@ fn count_items(acts: &[MemberAct]) -> u32
         count += item_count(exposed.act);
     }
     count
+}
+
+// A class of this name extends the seat and has this field, if any.
+fn below_seat(
+    alloc: Global,
+    planner: &Planner<'_>,
+    name: Name,
+    seat: &Name,
+    field: Option<Member>,
+) -> Result<Draft, AllocError>
+    ensures { IfOk result (λ draft. draft ≡ blueprint (a_class name 0x0021 seat.now (constructor planner.now.old seat.now) [] (cons_option field []) [] []) (init_body seat.now (constructor planner.now.old seat.now) ∷ [])) }
+{
+    let above = seat.copy(alloc)?;
+    let constructor = planner.constructor(seat);
+    let draft = Draft::class(alloc, name, PUBLIC_CLASS, above, constructor)?;
+    match field {
+        Some(field) => draft.field(field),
+        None => Ok(draft),
+    }
+}
+
+/// A class of this name extends the seat and has this field, if any; it takes these acts, and returns
+/// an object of one class as one of another.
+pub(crate) fn client_behind(
+    alloc: Global,
+    planner: &Planner<'_>,
+    name: &Name,
+    seat: &Name,
+    field: Option<Member>,
+    acts: &[MemberAct],
+    from: &Name,
+    to: &Name,
+) -> Result<Blueprint, AllocError>
+    requires few { length acts.now ≤ 2 }
+    requires receive { All (CanReceive planner.now.old) acts.now }
+    ensures { IfOk result (λ file. file ≡ blueprint (class_behind planner.now.old name.now seat.now (cons_option field []) acts.now from.now to.now []) (behind_bodies planner.now.old acts.now seat.now)) }
+{
+    let before = receivers(alloc, planner, acts, name)?;
+    let descriptor = from_behind(alloc, before.as_slice(), from, to)?;
+    let draft = below_seat(alloc, planner, name.copy(alloc)?, seat, field)?;
+    let draft = with_calls(alloc, draft, seat, acts)?;
+    let steps = expose_and_return(alloc, acts)?;
+    let draft = draft.method(static_use(alloc, descriptor)?, body(steps))?;
+    Ok(draft.finish(alloc))
 }
 
 // A class extends the seat, takes these acts, and returns an object of one class as one of another.
@@ -95,27 +140,32 @@ fn assigning_behind(
     seat: &Name,
 ) -> Result<PlannedFiles, AllocError>
     requires few { length acts.now ≤ 2 }
-    requires refers { All (λ (s : MemberAct). CanRefer planner.now.old s.act s.«class» s.key) acts.now }
+    requires receive { All (CanReceive planner.now.old) acts.now }
     ensures { IfOk result (λ files. files ≡ files_of_plan (assigns_behind planner.now.old planner.now.new (package_of planner.now) acts.now from.now to.now seat.now) (behind_bodies planner.now.old acts.now seat.now ∷ [])) }
 {
     let name = planner.own_name(alloc, b"Y", seat)?;
-    let before = receivers(alloc, planner, acts, &name)?;
-    let descriptor = from_behind(alloc, before.as_slice(), from, to)?;
-    let above = seat.copy(alloc)?;
-    let constructor = planner.constructor(seat);
-    let draft = Draft::class(alloc, name, PUBLIC_CLASS, above, constructor)?;
-    let draft = with_calls(alloc, draft, seat, acts)?;
-    let steps = expose_and_return(alloc, acts)?;
-    let draft = draft.method(static_use(alloc, descriptor)?, body(steps))?;
-    PlannedFiles::one(
-        alloc,
-        draft.finish(alloc),
-        Spot::Item(count_items(acts) + 1),
-    )
+    let file = client_behind(alloc, planner, &name, seat, None, acts, from, to)?;
+    PlannedFiles::one(alloc, file, Spot::Item(count_items(acts) + 1))
+}
+
+/// The class returns an object of one class as one of another, below the seat to whose clients members
+/// expose those that are hidden.
+pub(crate) fn assigning_exposed(
+    alloc: Global,
+    planner: &Planner<'_>,
+    from: &Name,
+    to: &Name,
+    seat: &Name,
+) -> Result<PlannedFiles, AllocError>
+    requires { CanTake planner.now.old seat.now (acts_exposing planner.now.old seat.now from.now ++ acts_exposing planner.now.old seat.now to.now) }
+    ensures { IfOk result (λ files. files ≡ files_of_plan (assigns_exposed planner.now.old planner.now.new (package_of planner.now) from.now to.now seat.now) (exposed_bodies planner.now.old from.now to.now seat.now ∷ [])) }
+{
+    let acts = exposing_both(alloc, planner, seat, from, to)?;
+    assigning_behind(alloc, planner, acts.as_slice(), from, to, seat)
 }
 
 /// A class returns an object of one class as one of another: one without a seat where it may name
-/// both, and else one below the seat to whose clients members expose those that are hidden.
+/// both, and else one below the seat.
 pub(crate) fn assigning_from(
     alloc: Global,
     planner: &Planner<'_>,
@@ -128,9 +178,6 @@ pub(crate) fn assigning_from(
 {
     match seat {
         None => assigning(alloc, planner, from, to),
-        Some(seat) => {
-            let acts = exposing_both(alloc, planner, seat, from, to)?;
-            assigning_behind(alloc, planner, acts.as_slice(), from, to, seat)
-        }
+        Some(seat) => assigning_exposed(alloc, planner, from, to, seat),
     }
 }

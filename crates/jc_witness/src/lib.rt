@@ -5,6 +5,7 @@ mod class_plans;
 mod collision_plans;
 mod exposed_plans;
 mod exposing;
+mod handed_plans;
 mod initializers;
 mod member_plans;
 mod planned_files;

@@ -12,6 +12,7 @@ ghost use Rattle.jc_witness.specs.steps.PlanFiles.{package_of, files_of_plan, Ar
 use crate::class_plans::{extending, naming};
 use crate::collision_plans::{capturing, reading};
 use crate::exposed_plans::assigning_from;
+use crate::handed_plans::losing_from;
 use crate::member_plans::{acting, constructing, inheriting, making, overriding};
 use crate::planned_files::PlannedFiles;
 use crate::planner::Planner;
@@ -95,13 +96,9 @@ fn plan_by_parts(
 {
     match (&finding.key, &finding.target) {
         (None, None) => class_plan(alloc, planner, finding),
-        (None, Some(target)) => assigning_from(
-            alloc,
-            planner,
-            &finding.class,
-            target,
-            &finding.seat,
-        ),
+        (None, Some(target)) => {
+            losing_from(alloc, planner, &finding.class, target, &finding.seat)
+        }
         (Some(key), None) => member_plan(alloc, planner, finding, key),
         (Some(_), Some(_)) => PlannedFiles::none(alloc),
     }

@@ -1,9 +1,12 @@
-use Rattle.std.proofs.Common.{◌≡◌, ◌+◌, [], refl, ◌∙◌, subst, codes, IfOk}
+use Rattle.std.proofs.Common.{◌≡◌, ◌+◌, ◌∷◌, [], refl, ◌∙◌, subst, codes, IfOk}
 use Rattle.jc_facts.specs.declared.verdict.Spot.TheVariants as spot
+use Rattle.jc_promises.specs.plan.Planned.{class_behind}
+use Rattle.jc_promises.specs.plan.PlannedBodies.{blueprint, behind_bodies}
+use Rattle.jc_promises.specs.plan.PlannedNames.{in_package, own_name}
 use Rattle.jc_witness.specs.declared.planned_files.PlannedFiles.{PlannedFiles}
-use Rattle.jc_witness.specs.steps.MoreInits.{with_inits, items_of_acts}
+use Rattle.jc_witness.specs.steps.MoreInits.{items_of_acts}
 use Rattle.jc_witness.specs.steps.PlanFiles.{ending_with, package_of}
-use Rattle.jc_witness.proofs.InitParts.{begun, used, behind_file}
+use Rattle.jc_witness.proofs.InitParts.{behind_file}
 use Rattle.jc_witness.proofs.exposed_plans.assigning_behind.Goals as goal
 
 pub returns : goal.returns
@@ -15,21 +18,6 @@ returns c =
     let s = c.args.from.now in
     let t = c.args.to.now in
     let a = c.args.seat.now in
-    let made : ending_with [] c.finish.result (spot.Item (c.count_items.result + 1)) ≡ ending_with [] (used O N w acts s t a (with_inits (begun O N w acts s t a) a (codes "I") acts)) (spot.Item (items_of_acts acts + 1)) =
-    rw (
-      c.finish.ensures,
-      c.in_ok-draft-3.ensures,
-      c.in_ok-static_use.ensures,
-      c.in_ok-descriptor.ensures,
-      c.body.ensures,
-      c.in_ok-steps.ensures,
-      c.in_ok-draft-2.ensures,
-      c.in_ok-draft.ensures,
-      c.as_slice.ensures.value,
-      c.in_ok-before.ensures,
-      c.in_ok-name.ensures,
-      c.in_ok-above.ensures,
-      c.constructor-constructor.ensures,
-      c.count_items.ensures.value,
-    ) refl in
+    let made : ending_with [] c.in_ok-file.file (spot.Item (c.count_items.result + 1)) ≡ ending_with [] (blueprint (class_behind O (own_name O N (in_package w (codes "Y")) a) a [] acts s t []) (behind_bodies O acts a)) (spot.Item (items_of_acts acts + 1)) =
+    rw (c.in_ok-file.ensures, c.in_ok-name.ensures, c.count_items.ensures.value) refl in
     subst (λ x. IfOk c.one.result (λ (files : PlannedFiles). files ≡ x)) (made ∙ behind_file O N w acts s t a) c.one.ensures
