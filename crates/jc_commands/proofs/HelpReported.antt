@@ -1,5 +1,5 @@
 -- The report of help.
-use Rattle.std.proofs.Common.{◌≡◌, List}
+use Rattle.std.proofs.Common.{◌≡◌}
 use Rattle.jc_base.specs.States.{TreesState}
 use Rattle.jc_facts.specs.Names.{Bytes}
 use Rattle.jc_words.specs.Command.{HelpCommand}
