@@ -1,6 +1,6 @@
 #!/bin/sh
-# Validates the documents of check-jars of all examples by docs/check-jars.schema.json: examples/documents.sh CLASSES, from any folder. CLASSES is what
-# examples/replay-clients.sh has compiled, which calls this at its end.
+# Validates the documents of check-jars and of affected of all examples by docs/check-jars.schema.json and docs/affected.schema.json: examples/documents.sh CLASSES, from any
+# folder. CLASSES is what examples/replay-clients.sh has compiled, which calls this at its end.
 #
 # Of the logs of SARIF it is seen that each result names its rule, has a level, and a line where it has a file; the schema of SARIF itself isn't here. Without a Python
 # that has jsonschema (Debian's package python3-jsonschema), or without the built program, nothing is validated, which is said, and the status is 0, or 1 where
@@ -28,21 +28,34 @@ made=$(mktemp -d)
 trap 'rm -rf "$made"' EXIT
 tools/build-java "$made/jcompat.jar"
 java -XX:TieredStopAtLevel=1 -cp "$made/jcompat.jar" examples/Documents.java "$program" examples/rules "$classes" "$made/out"
-"$python" - docs/check-jars.schema.json "$made/out" <<'END'
+"$python" - docs/check-jars.schema.json docs/affected.schema.json "$made/out" <<'END'
 import glob, json, os, sys
 from jsonschema import Draft202012Validator
 
-schema = json.load(open(sys.argv[1]))
-Draft202012Validator.check_schema(schema)
-validator = Draft202012Validator(schema)
-documents = sorted(glob.glob(os.path.join(sys.argv[2], "*.json")))
+validators = []
+for name in sys.argv[1:3]:
+    schema = json.load(open(name))
+    Draft202012Validator.check_schema(schema)
+    validators.append(Draft202012Validator(schema))
+validator, of_affected = validators
+documents = sorted(glob.glob(os.path.join(sys.argv[3], "*.json")))
+affected = sorted(glob.glob(os.path.join(sys.argv[3], "*.affected")))
 wrong = 0
-for name in documents:
-    for error in validator.iter_errors(json.load(open(name))):
+for name, by in [(name, validator) for name in documents] + [(name, of_affected) for name in affected]:
+    for error in by.iter_errors(json.load(open(name))):
         wrong += 1
         print("documents:", os.path.basename(name), list(error.absolute_path), error.message)
+# the client of an example whose report has a finding or a collision breaks, but for what is only seen as a module
+broken = 0
+for name in affected:
+    document = json.load(open(name))
+    broken += document["status"] == 1
+    compared = json.load(open(name.replace(".affected", ".json")))["comparisons"][0]
+    if compared["clients"] == "on the class path" and compared["counts"]["findings"] and document["status"] != 1:
+        wrong += 1
+        print("documents:", os.path.basename(name), "the client keeps all, and the releases have a finding")
 results = placed = 0
-for name in sorted(glob.glob(os.path.join(sys.argv[2], "*.sarif"))):
+for name in sorted(glob.glob(os.path.join(sys.argv[3], "*.sarif"))):
     log = json.load(open(name))
     run = log["runs"][0]
     rules = [rule["id"] for rule in run["tool"]["driver"]["rules"]]
@@ -64,6 +77,13 @@ for edit in (lambda d: d.pop("status"), lambda d: d.update(version=2), lambda d:
     if validator.is_valid(document):
         wrong += 1
         print("documents: the schema takes what it may not")
-print("documents: %d documents by the schema, %d results of SARIF, %d of them at a place: %s" % (len(documents), results, placed, "ok" if wrong == 0 else "wrong"))
-sys.exit(1 if wrong or len(documents) < 50 or placed < 10 else 0)
+for edit in (lambda d: d.pop("counts"), lambda d: d.update(status=2), lambda d: d["clients"][0].update(says="not asked")):
+    document = json.load(open(next(name for name in affected if json.load(open(name))["status"] == 1)))
+    edit(document)
+    if of_affected.is_valid(document):
+        wrong += 1
+        print("documents: the schema of affected takes what it may not")
+print("documents: %d and %d documents by their schemas, %d clients that break, %d results of SARIF, %d of them at a place: %s"
+      % (len(documents), len(affected), broken, results, placed, "ok" if wrong == 0 else "wrong"))
+sys.exit(1 if wrong or len(documents) < 50 or len(affected) < 50 or broken < 20 or placed < 10 else 0)
 END

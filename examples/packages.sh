@@ -43,8 +43,11 @@ try() {
     [ "$status" -eq 1 ] || fail "$1: check-jars ends with the status $status"
     report-page "$made/document" examples/old examples/new >"$made/page" || fail "$1: there is no page"
     grep -q '<li id=n12 ' "$made/page" || fail "$1: the page lacks a line"
+    status=0
+    affected examples/old examples/new examples/client --needed >"$made/said" || status=$?
+    [ "$status" -eq 1 ] && grep -q '^affected: 1 clients, 1 broken, ' "$made/said" || fail "$1: affected ends with the status $status"
     annotate <"$made/document" | grep -q '^### incompatible' || fail "$1: nothing is told to a review"
-    for tool in check-jars report-page annotate; do
+    for tool in check-jars affected report-page annotate; do
         [ "$("$tool" --version)" = "jcompat $version" ] || fail "$1: $tool has another version than $version"
         "$tool" --help | grep -q "^usage: $tool" || fail "$1: $tool has no help"
     done
@@ -56,7 +59,7 @@ try 'the archive' "$made/archive" "$made/archive/tools"
 try 'the Debian package' "$made/root/usr/share/doc/jcompat" "$made/root/usr/bin"
 PATH=$BEFORE
 
-! grep -rnE 'tools/(check-jars|report-page|annotate)|\./jcompat ' "$made/root/usr/share/doc/jcompat" --include='*.md' || fail 'a document of the package calls what is not on the path'
+! grep -rnE 'tools/(check-jars|affected|report-page|annotate)|\./jcompat ' "$made/root/usr/share/doc/jcompat" --include='*.md' || fail 'a document of the package calls what is not on the path'
 [ -x "$made/root/usr/bin/jcompat-check-jars" ] || fail 'the earlier name is gone'
 printf 'packages: the documents of the package call what is on the path: ok\n'
 
