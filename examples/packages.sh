@@ -83,6 +83,24 @@ for file in "$made"/out/*.tar.gz "$made"/out/*.deb "$made"/out/*.cdx.json "$made
     grep -q "  ${file##*/}\$" "$made/out/SHA256SUMS" || fail "$file has no checksum"
 done
 grep -q '"bomFormat": "CycloneDX"' "$made"/out/*.cdx.json && grep -q '"name": "serde_json"' "$made"/out/*.cdx.json || fail 'the bill of materials lacks something'
+python=
+for each in /usr/bin/python3 python3; do
+    [ -n "$python" ] || ! "$each" -c 'from jsonschema import Draft202012Validator' 2>/dev/null || python=$each
+done
+if [ -n "$python" ]; then
+    # each component once, and what depends on what is among them
+    "$python" - examples/cyclonedx.schema.json "$made"/out/*.cdx.json <<'END' || fail 'the bill of materials is not as CycloneDX has it'
+import json, sys
+from jsonschema import Draft202012Validator
+bill = json.load(open(sys.argv[2]))
+Draft202012Validator(json.load(open(sys.argv[1]))).validate(bill)
+known = [each["bom-ref"] for each in [bill["metadata"]["component"]] + bill["components"]]
+named = [ref for each in bill["dependencies"] for ref in [each["ref"]] + each["dependsOn"]]
+sys.exit(len(known) != len(set(known)) or not set(named) <= set(known))
+END
+else
+    lacks 'the form of the bill of materials, since no Python has jsonschema: install the package python3-jsonschema'
+fi
 [ "$(grep -c 'No licence is given yet' "$made/archive/copyright")" -eq 1 ] || fail 'the archive says nothing of a licence'
 printf 'packages: checksums, and what the program is made of: ok\n'
 
