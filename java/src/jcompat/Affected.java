@@ -41,9 +41,16 @@ public final class Affected {
             World world = world(here, above.isEmpty() ? null : libraries, shared);
             report = new AffectedReport(request, world, shared.jdk, here.clients);
             ask(world, new ClientFolder(world, above, jdk, shared.jdk.feature(), shelf), jdk, shared);
+            LossWords words = new LossWords(classes(world, 0), classes(world, 1));
+            report.broken().forEach(client -> client.lost().forEach(loss -> loss.words = words.of(loss)));
         }
         tell();
         return report.status();
+    }
+
+    private static Classes classes(World world, int index) throws IOException {
+        Taken release = world.releases.get(index);
+        return new Classes(release.folder, release.paths, world.platform);
     }
 
     /** What was found, in the form of docs/affected.schema.json; null before that. */

@@ -83,7 +83,7 @@ final class AffectedPage {
 
     private void putClient(Client client) {
         put("<section aria-labelledby=c" + report.all.indexOf(client) + "><h3 id=c" + report.all.indexOf(client) + ">" + Html.text(client.name) + " <small>" + client.lost().size() + "</small></h3><ul class=plain>");
-        client.lost().forEach(loss -> put("<li><details><summary><code>" + Html.text(loss.text()) + "</code></summary><p>In " + loss.in.stream().map(Html::dotted).map(Html::text)
+        client.lost().forEach(loss -> put("<li><details><summary><code>" + Html.text(loss.text()) + "</code>" + (loss.words == null ? "" : " " + Html.text(loss.words)) + "</summary><p>In " + loss.in.stream().map(Html::dotted).map(Html::text)
                 .map(name -> "<code>" + name + "</code>").collect(Collectors.joining(", ")) + "</p></details>\n"));
         put("</ul></section>\n");
     }

@@ -49,8 +49,15 @@ final class AffectedPrinted {
     private void printClient(Client client) {
         List<Loss> lost = client.lost();
         out.println(client.name + ":");
-        lost.stream().limit(MOST_OF_ONE).forEach(loss -> out.println("    " + loss.textWithPlace()));
+        lost.stream().limit(MOST_OF_ONE).forEach(this::printLoss);
         printRest(lost.size(), MOST_OF_ONE, "    ");
+    }
+
+    private void printLoss(Loss loss) {
+        out.println("    " + loss.textWithPlace());
+        if (loss.words != null) {
+            out.println("        " + loss.words);
+        }
     }
 
     private void printRest(int all, int most, String before) {

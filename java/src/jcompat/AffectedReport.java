@@ -149,6 +149,7 @@ final class AffectedReport {
     }
 
     private static Map<String, Object> loss(Loss loss) {
-        return Json.object("text", loss.text(), "act", loss.act, "class", loss.type, "member", loss.member, "receiver", loss.receiver, "error", loss.error, "in", new ArrayList<>(loss.in));
+        return Json.object("text", loss.text(), "act", loss.act, "class", loss.type, "member", loss.member, "receiver", loss.receiver, "error", loss.error, "in", new ArrayList<>(loss.in),
+                "words", loss.words);
     }
 }

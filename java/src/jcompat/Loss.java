@@ -13,6 +13,8 @@ final class Loss {
     final String member;
     final String receiver;
     final String error;
+    /** Why, in words; null where there are none. */
+    String words;
     /** The classes of the client in which it is. */
     final Set<String> in = new TreeSet<>();
 

@@ -112,6 +112,7 @@ public class AffectedTest {
         List<Map<?, ?>> lost = DocumentText.maps(client, "lost");
         assertEquals(1, lost.size());
         assertEquals("invokevirtual p/A draw()V p/A NoSuchMethodError", lost.get(0).get("text"));
+        assertEquals("method void A.draw() is gone", lost.get(0).get("words"));
         assertEquals(List.of("s/Main"), lost.get(0).get("in"));
         assertEquals(List.of("item q/B invokevirtual p/A draw()V q/B NoSuchMethodError"), client.get("lost_by_libraries"));
         // what the client names of the library stands beside it, and what it names of the JDK is the platform
@@ -121,7 +122,7 @@ public class AffectedTest {
         assertFalse(listed.contains("1 ./p/A.class"));
         String text = printed.toString("UTF-8");
         assertTrue(text, text.startsWith("affected: 1 clients, 1 broken, 0 not asked; 0 of 1 name nothing of the old release\n"));
-        assertTrue(text, text.contains("    invokevirtual p/A draw()V p/A NoSuchMethodError, in s/Main\n"));
+        assertTrue(text, text.contains("    invokevirtual p/A draw()V p/A NoSuchMethodError, in s/Main\n        method void A.draw() is gone\n"));
         assertTrue(text, text.contains("\n   breaks        1      3      1         0        0  "));
         String page = Files.readString(request.page);
         assertTrue(page.contains("<h1 class=bad>1 client breaks of 1</h1>") && page.contains("invokevirtual p/A draw()V p/A NoSuchMethodError"));
