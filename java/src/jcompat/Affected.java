@@ -99,6 +99,7 @@ public final class Affected {
         Request of = new Request();
         of.releases.addAll(here.releases);
         of.needed = request.needed;
+        of.without.addAll(request.without);
         if (libraries != null) {
             of.with.add(libraries);
         }

@@ -13,6 +13,8 @@ public final class AffectedRequest {
     public final List<Path> clients = new ArrayList<>();
     /** Where clients and releases find what else they need: the same kinds of files. */
     public final List<Path> with = new ArrayList<>();
+    /** Patterns of paths of class files that are left out of both releases. */
+    public final List<String> without = new ArrayList<>();
     /** Files of what <code>mvn dependency:tree</code> printed of clients. */
     public final List<Path> trees = new ArrayList<>();
     /** The repository that has what the trees name; null for that of the user. */

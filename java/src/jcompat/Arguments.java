@@ -138,6 +138,7 @@ final class Arguments {
     private void take(String option, AffectedRequest request) throws Stop {
         switch (option) {
             case "--with": request.with.add(Paths.get(value())); break;
+            case "--without": request.without.add(value()); break;
             case "--tree": request.trees.add(Paths.get(value())); break;
             case "--repository": request.repository = Paths.get(value()); break;
             case "--json": request.json = true; break;
