@@ -9,6 +9,7 @@ use Rattle.jc_facts.specs.Names.{Bytes}
 use Rattle.jc_facts.specs.Options.{and_then}
 use Rattle.jc_facts.specs.world.World.{classes, differ_by_name, find_class}
 use Rattle.jc_lemmas.proofs.Listed.{any_none, each_of}
+use Rattle.jc_lemmas.proofs.Numbers.{suc_zero}
 use Rattle.jc_promises.specs.rule.Apart.{are_apart, other_seat, permit_two, permits_of}
 use Rattle.jc_promises.specs.rule.Exposed.{is_exposed, is_hidden}
 use Rattle.jc_promises.specs.rule.OpenActs.{first_seat}
@@ -76,4 +77,4 @@ none_for s differ a t h =
 -- nothing is in a list that is empty
 pub no_names : (ys : List SharedOf) (b : Bool) → b ≡ true → b ≡ (length ys == 0) → map name_of ys ≡ []
 no_names [] b t e = refl
-no_names (y ∷ ys) b t e = absurd (let z : true ≡ false = sym t ∙ e in cc)
+no_names (y ∷ ys) b t e = absurd (let z : true ≡ false = sym t ∙ e ∙ suc_zero (length ys) in cc)
