@@ -77,11 +77,7 @@ fn name_two(sides: &Sides<'_>, names: &[Name], others: &[Name]) -> bool
 }
 
 // The same, where a class without such a list permits each name.
-fn permit_two(
-    sides: &Sides<'_>,
-    names: &Option<Items<Name>>,
-    others: &Option<Items<Name>>,
-) -> bool
+fn permit_two(sides: &Sides<'_>, names: &Option<Items<Name>>, others: &Option<Items<Name>>) -> bool
     ensures { result ≡ permit_two sides.now.old sides.now.new names.now others.now }
 {
     match (names, others) {

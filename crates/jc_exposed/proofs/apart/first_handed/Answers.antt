@@ -1,11 +1,13 @@
-use Rattle.std.proofs.Common.{◌≡◌, [], map, sym, ◌∙◌, ap}
-use Rattle.std.specs.List.{find as first_where}
-use Rattle.jc_acts.proofs.Firsts.{seat_is}
+use Rattle.std.proofs.Common.{map, ◌∙◌}
 use Rattle.jc_sides.specs.SharedOf.{name_of}
 use Rattle.jc_exposed.specs.Apart.{hands_on}
-use Rattle.jc_exposed.proofs.ApartSeats.{handing_is, none_hands, only_handing}
-use Rattle.jc_exposed.proofs.SeatStarts.{none_first}
+use Rattle.jc_exposed.proofs.ApartSeats.{handing_is, no_names, no_others, only_handing}
 use Rattle.jc_exposed.proofs.apart.first_handed.Goals as goal
+
+pub returns-then-is_empty : goal.returns-then-is_empty
+returns-then-is_empty c =
+    no_others c.args.sides.now c.args.from c.args.to (map name_of c.seats_from-others.result.now) c.seats_from-others.ensures.first c.requires.seats.sides.old_side.differ
+    (no_names c.seats_from-others.result.now c.is_empty.result c.if-is_empty.true c.is_empty.ensures)
 
 pub returns : goal.returns
 returns c =
