@@ -120,6 +120,8 @@ fi
 
 try 'no client' 70 'affected: the old release, the new one and clients are needed: see affected --help' old.jar new.jar
 try 'a file that is not there' 70 'affected: there is no file gone.jar' old.jar new.jar gone.jar
+mkdir "$made/empty"
+try 'nothing at hand' 70 'affected: what was named as clients has no class file' old.jar new.jar empty old.jar
 try 'an option that is not there' 70 'affected: there is no option --row' old.jar new.jar client.jar --row
 try 'a release that is none' 3 'jcompat: new: ' old.jar bad client.jar --needed
 try 'help' 0 'usage: affected OLD NEW CLIENT..' --help

@@ -57,6 +57,9 @@ final class AtHand {
         }
         List<Place> named = places(request.clients);
         List<Place> libraries = places(request.with);
+        if (named.isEmpty()) {
+            throw new Stop("what was named as clients has no class file, no jar and no package but the releases");
+        }
         libraries.forEach(each -> pool.add(each.file));
         named.forEach(each -> pool.add(each.file));
         List<Path> withoutPackages = libraries.stream().filter(each -> each.of == null).map(each -> each.file).collect(Collectors.toList());
