@@ -14,7 +14,7 @@ use Rattle.jc_facts.specs.world.Mentioned.{permitted}
 use Rattle.jc_promises.specs.rule.Apart.{has_other, permits_of}
 use Rattle.jc_promises.specs.rule.Bases.{allowed}
 use Rattle.jc_promises.specs.plan.PlannedNames.{least_name, leaves_another, permitted_name, permitted_beside, permitted_other}
-use Rattle.jc_facts.proofs.Same.{same_is, same_itself}
+use Rattle.jc_facts.proofs.Same.{same_is}
 use Rattle.jc_sides.specs.SidesOf.{SidesOf}
 use Rattle.jc_complete.proofs.PlanBase.{least_name-is, least_name-some}
 use Rattle.jc_complete.proofs.PlanInterfaceMethodLost.{same_back}
