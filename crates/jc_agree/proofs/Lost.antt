@@ -38,9 +38,9 @@ module _ (O N : World) (cs : List ClientClass) (kept : Keeps O N cs) where
 
       by : (c : ClientClass) → Contains cs c → o.class ≡ c.facts.name → load_fault W c.facts.name ≡ None → (i : Option Item) → o.item ≡ i → WasAt W V c i → IsOutOfReach O cs o
       by c m n d None e at = some_none (load_fault V c.facts.name) (kept.loading c m d) at
-      by c m n d (Some i) e at = go (is_in_reach W c.facts.name c.items i) refl
+      by c m n d (Some i) e at = go (is_in_reach W c.facts.name cs i) refl
         where
-          go : (b : Bool) → is_in_reach W c.facts.name c.items i ≡ b → IsOutOfReach O cs o
+          go : (b : Bool) → is_in_reach W c.facts.name cs i ≡ b → IsOutOfReach O cs o
           go true r = some_none (outcome V c.facts.name i) (kept.uses c i m d at.0 r at.1) at.2
           go false r = record { client = c; is_client = m; named = n; item = i; is_item = e; has_item = at.0; out = r }
 
@@ -53,8 +53,8 @@ loses_little O N v cs j is = all_out O N cs (keeps O N v cs j.pair j.exact is j.
 -- nothing is lost where all is in reach
 reach_none : (O : World) (cs : List ClientClass) → AreInReach O cs → (o : Outcome) → IsOutOfReach O cs o → ⊥
 reach_none O cs reach o h =
-    let each = All-contains (λ (d : ClientClass). All (λ i. IsTrue (is_in_reach (with_clients O (facts_of cs)) d.facts.name d.items i)) d.items) cs h.client reach h.is_client in
-    let t : is_in_reach (with_clients O (facts_of cs)) h.client.facts.name h.client.items h.item ≡ true = All-contains (λ i. IsTrue (is_in_reach (with_clients O (facts_of cs)) h.client.facts.name h.client.items i)) h.client.items h.item each h.has_item in
+    let each = All-contains (λ (d : ClientClass). All (λ i. IsTrue (is_in_reach (with_clients O (facts_of cs)) d.facts.name cs i)) d.items) cs h.client reach h.is_client in
+    let t : is_in_reach (with_clients O (facts_of cs)) h.client.facts.name cs h.item ≡ true = All-contains (λ i. IsTrue (is_in_reach (with_clients O (facts_of cs)) h.client.facts.name cs i)) h.client.items h.item each h.has_item in
     let clash : true ≡ false = sym t ∙ h.out in absurd (cc)
 
 none_left : (O : World) (cs : List ClientClass) → AreInReach O cs → (os : List Outcome) → All (IsOutOfReach O cs) os → os ≡ []

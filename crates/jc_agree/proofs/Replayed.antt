@@ -41,11 +41,11 @@ none_refused law W (c ∷ cs) h =
 -- ---- with the old side
 
 -- who links whole, links
-links_each : (W : World) (cs : List ClientClass) → EachOf (LinksWhole W) cs → EachOf (LinksEach W) cs
+links_each : (W : World) (cs : List ClientClass) → EachOf (LinksWhole W cs) cs → EachOf (LinksEach W) cs
 links_each W cs h = EachOf-map each cs h
   where
-    each : (c : ClientClass) → LinksWhole W c → LinksEach W c
-    each c k = (k.0, EachOf-map (λ i l. l.1) c.items (recursion_from_All (λ i. IsTrue (is_in_reach W c.facts.name c.items i) × Links W c.facts.name i) c.items k.1))
+    each : (c : ClientClass) → LinksWhole W cs c → LinksEach W c
+    each c k = (k.0, EachOf-map (λ i l. l.1) c.items (recursion_from_All (λ i. IsTrue (is_in_reach W c.facts.name cs i) × Links W c.facts.name i) c.items k.1))
 
 -- ---- with the new side
 
@@ -127,7 +127,7 @@ all_say W error (d ∷ ds) c s k h = go (cases d ds c k) (λ m. all_say W error 
 
 module _ (O N : World) (error : LinkError) (fs : List WitnessFile) (cs : List ClientClass) (is : IsWitness O N error fs cs) where
   old_links : EachOf (LinksEach (with_clients O (facts_of cs))) (in_order cs)
-  old_links = ordered_all (LinksEach (with_clients O (facts_of cs))) cs (links_each (with_clients O (facts_of cs)) cs (recursion_from_All (LinksWhole (with_clients O (facts_of cs))) cs is.links))
+  old_links = ordered_all (LinksEach (with_clients O (facts_of cs))) cs (links_each (with_clients O (facts_of cs)) cs (recursion_from_All (LinksWhole (with_clients O (facts_of cs)) cs) cs is.links))
 
   new_fails : FailsAtTheSpot fs error (outcomes N cs)
   unfolding outcomes

@@ -25,11 +25,11 @@ module _ (O N : World) (cs : List ClientClass) (kept : Keeps O N cs) (reach : Ar
   still_links : (c : ClientClass) → Contains cs c → LinksEach W c → LinksEach V c
   still_links c k h = (
     kept.loading c k h.0,
-    each_from (Links V c.facts.name) c.items (λ i m. kept.uses c i k h.0 m (each_in (λ i. IsTrue (is_in_reach W c.facts.name c.items i)) c.items i (in_reach c k) m) (each_in (Links W c.facts.name) c.items i h.1 m)),
+    each_from (Links V c.facts.name) c.items (λ i m. kept.uses c i k h.0 m (each_in (λ i. IsTrue (is_in_reach W c.facts.name cs i)) c.items i (in_reach c k) m) (each_in (Links W c.facts.name) c.items i h.1 m)),
   )
     where
-      in_reach : (c : ClientClass) → Contains cs c → EachOf (λ i. IsTrue (is_in_reach W c.facts.name c.items i)) c.items
-      in_reach c k = recursion_from_All (λ i. IsTrue (is_in_reach W c.facts.name c.items i)) c.items (All-contains (λ (d : ClientClass). All (λ i. IsTrue (is_in_reach W d.facts.name d.items i)) d.items) cs c reach k)
+      in_reach : (c : ClientClass) → Contains cs c → EachOf (λ i. IsTrue (is_in_reach W c.facts.name cs i)) c.items
+      in_reach c k = recursion_from_All (λ i. IsTrue (is_in_reach W c.facts.name cs i)) c.items (All-contains (λ (d : ClientClass). All (λ i. IsTrue (is_in_reach W d.facts.name cs i)) d.items) cs c reach k)
 
   links_old : are_all_ok (outcomes O cs) ≡ true → EachOf (LinksEach W) (in_order cs)
   unfolding outcomes

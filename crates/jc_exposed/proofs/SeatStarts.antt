@@ -128,3 +128,13 @@ module _ (s : SidesOf) (e : Exposed) (h : AreExposed s e) (ids : List ℕ) (insi
 -- no place is behind all seats
 pub none_behind : (test : Bytes → Bool) (ys : List SharedOf) (n : ℕ) → length ys ≤ n → list_any test (take n (map name_of ys)) ≡ false → first_where test (map name_of ys) ≡ None
 none_behind test ys n l e = none_first test (map name_of ys) (subst (λ zs. list_any test zs ≡ false) (take-map name_of n ys ∙ ap (map name_of) (take_all n ys l)) e)
+
+-- before the place where the seats of one class begin, no test passes that holds of none but those to which it is exposed
+pub start_for : (s : SidesOf) (id start : ℕ) (test : Bytes → Bool) → ((a : Bytes) → test a ≡ true → is_exposed s.old a (name_at s.old id) ≡ true) → list_any (are_all_exposed s.old (id ∷ [])) (take start (all_seats s)) ≡ false
+    → list_any test (take start (all_seats s)) ≡ false
+start_for s id start test h e = go (list_any test (take start (all_seats s))) refl
+  where
+    go : (b : Bool) → list_any test (take start (all_seats s)) ≡ b → list_any test (take start (all_seats s)) ≡ false
+    go false f = f
+    go true f = absurd (contradicts (list_any (are_all_exposed s.old (id ∷ [])) (take start (all_seats s)))
+        (any_weaker test (are_all_exposed s.old (id ∷ [])) (λ a t. ap (λ b. b && true) (h a t)) (take start (all_seats s)) f) e)

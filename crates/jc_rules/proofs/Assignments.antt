@@ -9,8 +9,9 @@ use Rattle.jc_facts.specs.declared.act.Act.TheVariants.{Assignment}
 use Rattle.jc_facts.specs.declared.link_error.LinkError.TheVariants.{VerifyError}
 use Rattle.jc_facts.specs.Names.{Bytes, object_name}
 use Rattle.jc_facts.specs.Options.{and_then}
+use Rattle.jc_promises.specs.rule.Apart.{are_apart, other_seat}
 use Rattle.jc_promises.specs.rule.Bases.{is_kept, is_base_class}
-use Rattle.jc_promises.specs.rule.Findings.{Subject, assign_finding, takes_part, report}
+use Rattle.jc_promises.specs.rule.Findings.{Subject, assign_finding, handed_finding, takes_part, report}
 use Rattle.jc_facts.specs.ByName.{least}
 use Rattle.jc_promises.specs.rule.OpenActs.{first_seat}
 use Rattle.jc_promises.specs.rule.Exposed.{is_hidden, is_exposed}
@@ -81,6 +82,35 @@ module _ (O N : World) (on : Subject) where
   unfolding and_then
   no_seat_of ids e = ap seated e
 
+  -- where no one seat serves both
+  module _ (m n : ℕ) (is : on.«class» ≡ name_at O m) where
+    abbrev serves : Bytes → Bytes → Bool
+    serves x a = is_exposed O a x && is_some (other_seat O N a (name_at O n))
+
+    handed_of : handed_finding O N on (name_at O n) ≡ seated (first_seat O N (serves (name_at O m)))
+    unfolding handed_finding
+    handed_of = ap (λ x. seated (first_seat O N (serves x))) is
+
+    none_serves : ((a : Bytes) → serves (name_at O m) a ≡ false) → None ≡ handed_finding O N on (name_at O n)
+    unfolding and_then
+    none_serves h = sym (handed_of ∙ ap seated (never_seat O N (serves (name_at O m)) h))
+
+    pub first_unhidden : is_hidden O (name_at O m) ≡ false → None ≡ handed_finding O N on (name_at O n)
+    unfolding is_exposed
+    first_unhidden h = none_serves (λ a. rw h refl)
+
+    pub second_unhidden : is_hidden O (name_at O n) ≡ false → None ≡ handed_finding O N on (name_at O n)
+    unfolding is_exposed other_seat
+    second_unhidden h = none_serves (λ a. and_right (is_exposed O a (name_at O m)) _ (ap is_some (never_seat O N (λ b. is_exposed O b (name_at O n) && are_apart O N a b) (λ b. rw h refl))))
+
+    pub seat_serves : (seat : Bytes) → Some seat ≡ first_seat O N (serves (name_at O m)) → report on Assignment (Some seat) VerifyError ≡ handed_finding O N on (name_at O n)
+    unfolding and_then
+    seat_serves seat e = ap seated e ∙ sym handed_of
+
+    pub no_seat_serves : None ≡ first_seat O N (serves (name_at O m)) → None ≡ handed_finding O N on (name_at O n)
+    unfolding and_then
+    no_seat_serves e = ap seated e ∙ sym handed_of
+
   -- of two classes, by which of them are kept
   module _ (m n : ℕ) where
     finding_of : (b : Bool) → (is_kept O N (name_at O m) && (is_kept O N (name_at O n) && true)) ≡ b
@@ -116,3 +146,9 @@ aside s on x t h =
     let n : is_hidden s.old x ≡ false = neither_last (is_kept s.old s.new x) (is_hidden s.old x) h in
     ap (λ w. cond (w && (is_kept s.old s.new t && true)) (report on Assignment None VerifyError) (and_then (λ a. report on Assignment (Some a) VerifyError) (first_seat s.old s.new (λ a. list_all (takes_part s.old s.new a) (x ∷ t ∷ []))))) k
     ∙ ap (and_then (λ a. report on Assignment (Some a) VerifyError)) (never_seat s.old s.new (λ a. list_all (takes_part s.old s.new a) (x ∷ t ∷ [])) (λ a. rw (k, n) refl))
+
+pub not_handed : (s : SidesOf) (on : Subject) (t : Bytes) → may_take_part s on.«class» ≡ false → handed_finding s.old s.new on t ≡ None
+unfolding handed_finding is_exposed and_then
+not_handed s on t h =
+    let n : is_hidden s.old on.«class» ≡ false = neither_last (is_kept s.old s.new on.«class») (is_hidden s.old on.«class») h in
+    ap (and_then (λ a. report on Assignment (Some a) VerifyError)) (never_seat s.old s.new (λ a. is_exposed s.old a on.«class» && is_some (other_seat s.old s.new a t)) (λ a. rw n refl))

@@ -11,12 +11,12 @@ use Rattle.jc_facts.specs.Flags.{interface_flag}
 use Rattle.jc_facts.specs.world.World.{World, find_class, size}
 use Rattle.jc_facts.specs.world.Hierarchy.{in_chain}
 use Rattle.jc_facts.specs.world.Assignment.{is_interface_of}
-use Rattle.jc_promises.specs.rule.Findings.{finding_at, superclass_lost, assign_finding}
+use Rattle.jc_promises.specs.rule.Findings.{finding_at, superclass_lost}
 use Rattle.jc_worlds.proofs.Chains.{absent_above, none_above}
 use Rattle.jc_index.specs.Ids.{name_at}
 use Rattle.jc_sides.specs.BrokenOf.{BrokenOf, found}
 use Rattle.jc_sides.specs.SidesOf.{SidesOf}
-use Rattle.jc_rules.specs.steps.Chains.{HasChain, on_target, target_finding, has_left_chain}
+use Rattle.jc_rules.specs.steps.Chains.{HasChain, on_target, lost_finding, target_finding, has_left_chain}
 
 -- the set has the class where the chain has
 pub set_has : (N : World) (x t : Bytes) (chain : sorted.BTreeSet ℕ) (k : ℕ) → HasChain N x chain → k < size N → name_at N k ≡ t → sorted.contains nat_cmp chain k ≡ in_chain N x t
@@ -36,22 +36,22 @@ pub left_not : (s : SidesOf) (x t : Bytes) (r : Bool) → r ≡ in_chain s.new x
 left_not s x t r e f = ap not f ∙ sym (ap (λ b. not b && not (is_interface_of s.new t)) (sym e ∙ f))
 
 module _ (s : SidesOf) (x t : Bytes) where
-  pub target_is : target_finding s x t ≡ cond (not (same x t) && in_chain s.old x t && not (in_chain s.new x t) && not (is_interface_of s.new t)) (assign_finding s.old s.new (on_target x t) (x ∷ t ∷ [])) None
+  pub target_is : target_finding s x t ≡ cond (not (same x t) && in_chain s.old x t && not (in_chain s.new x t) && not (is_interface_of s.new t)) (lost_finding s x t) None
   unfolding target_finding finding_at superclass_lost
   target_is = refl
 
   pub of_same : same x t ≡ true → None ≡ target_finding s x t
-  of_same h = sym (target_is ∙ ap (λ b. cond (not b && in_chain s.old x t && not (in_chain s.new x t) && not (is_interface_of s.new t)) (assign_finding s.old s.new (on_target x t) (x ∷ t ∷ [])) None) h)
+  of_same h = sym (target_is ∙ ap (λ b. cond (not b && in_chain s.old x t && not (in_chain s.new x t) && not (is_interface_of s.new t)) (lost_finding s x t) None) h)
 
   pub of_stay : (b : Bool) → b ≡ false → b ≡ has_left_chain s x t → None ≡ target_finding s x t
-  of_stay b f e = sym (target_is ∙ ap (λ w. cond w (assign_finding s.old s.new (on_target x t) (x ∷ t ∷ [])) None) (two (not (same x t) && in_chain s.old x t) (not (in_chain s.new x t)) (not (is_interface_of s.new t)) (sym e ∙ f)))
+  of_stay b f e = sym (target_is ∙ ap (λ w. cond w (lost_finding s x t) None) (two (not (same x t) && in_chain s.old x t) (not (in_chain s.new x t)) (not (is_interface_of s.new t)) (sym e ∙ f)))
     where
       two : (p q r : Bool) → (q && r) ≡ false → (p && q && r) ≡ false
       two true q r h = h
       two false q r h = refl
 
-  pub of_left : (b : Bool) → b ≡ true → b ≡ has_left_chain s x t → same x t ≡ false → in_chain s.old x t ≡ true → (o : Option Finding) (said : Option BrokenOf) → o ≡ found (on_target x t) said → found (on_target x t) said ≡ assign_finding s.old s.new (on_target x t) (x ∷ t ∷ []) → o ≡ target_finding s x t
-  of_left b f e d w o said q a = q ∙ a ∙ sym (target_is ∙ ap (λ z. cond z (assign_finding s.old s.new (on_target x t) (x ∷ t ∷ [])) None) (all (not (same x t)) (in_chain s.old x t) (not (in_chain s.new x t)) (not (is_interface_of s.new t)) (ap not d) w (sym e ∙ f)))
+  pub of_left : (b : Bool) → b ≡ true → b ≡ has_left_chain s x t → same x t ≡ false → in_chain s.old x t ≡ true → (o : Option Finding) (said : Option BrokenOf) → o ≡ found (on_target x t) said → found (on_target x t) said ≡ lost_finding s x t → o ≡ target_finding s x t
+  of_left b f e d w o said q a = q ∙ a ∙ sym (target_is ∙ ap (λ z. cond z (lost_finding s x t) None) (all (not (same x t)) (in_chain s.old x t) (not (in_chain s.new x t)) (not (is_interface_of s.new t)) (ap not d) w (sym e ∙ f)))
     where
       all : (p q r v : Bool) → p ≡ true → q ≡ true → (r && v) ≡ true → (p && q && r && v) ≡ true
       all true true r v g h k = k

@@ -15,7 +15,7 @@ use Rattle.jc_facts.specs.Names.{Bytes, same}
 use Rattle.jc_facts.specs.world.World.{World, size}
 use Rattle.jc_facts.specs.world.Hierarchy.{in_chain}
 use Rattle.jc_facts.specs.world.Assignment.{is_interface_of}
-use Rattle.jc_promises.specs.rule.Findings.{Subject, finding_at, finding_by, subject_of, assign_finding}
+use Rattle.jc_promises.specs.rule.Findings.{Subject, finding_at, finding_by, subject_of}
 use Rattle.jc_facts.specs.Orders.{finding_order}
 use Rattle.jc_facts.specs.Exactly.{HasExactly}
 use Rattle.jc_facts.specs.Exactly.{Before, NamesRise}
@@ -29,9 +29,9 @@ use Rattle.jc_index.specs.Sides.{IsSide}
 use Rattle.jc_facts.specs.declared.key.Key.{Key}
 use Rattle.jc_facts.specs.Options.{some_where}
 use Rattle.jc_sound.proofs.FindingLaws.{finding_is_on_its_subject}
-use Rattle.jc_rules.specs.steps.Chains.{HasChain, on_target, target_finding, OfChain}
+use Rattle.jc_rules.specs.steps.Chains.{HasChain, on_target, lost_finding, target_finding, OfChain}
 use Rattle.jc_rules.specs.steps.Losses.{loses, may_take_part}
-use Rattle.jc_rules.proofs.Assignments.{aside}
+use Rattle.jc_rules.proofs.Assignments.{aside, not_handed}
 use Rattle.jc_rules.proofs.ChainLost.{set_has, target_is}
 use Rattle.jc_sides.specs.Rules.{IsFinding}
 use Rattle.jc_sides.specs.SidesOf.{SidesOf, AreSides}
@@ -41,7 +41,7 @@ use Rattle.jc_acts.specs.Seats.{loses_class}
 use Rattle.jc_worlds.proofs.Chains.{chain_there}
 use Rattle.jc_acts.proofs.SeatChains.{keeps}
 use Rattle.jc_lemmas.proofs.Options.{passed}
-use Rattle.jc_facts.proofs.Options.{some_where-is}
+use Rattle.jc_facts.proofs.Options.{or_else-both, some_where-is}
 
 -- ---- the form of the finding
 
@@ -79,11 +79,11 @@ taken_where false o f h = absurd (cc)
 pub record SaysLost (s : SidesOf) (x t : Bytes) (f : Finding) : Type 0 where
   pub was : in_chain s.old x t ≡ true
   pub left : not (in_chain s.new x t) ≡ true
-  pub found : assign_finding s.old s.new (on_target x t) (x ∷ t ∷ []) ≡ Some f
+  pub found : lost_finding s x t ≡ Some f
 
 pub target_says : (s : SidesOf) (x t : Bytes) (f : Finding) → target_finding s x t ≡ Some f → SaysLost s x t f
 target_says s x t f h =
-    let w = taken_where (not (same x t) && in_chain s.old x t && not (in_chain s.new x t) && not (is_interface_of s.new t)) (assign_finding s.old s.new (on_target x t) (x ∷ t ∷ [])) f (sym (target_is s x t) ∙ h) in
+    let w = taken_where (not (same x t) && in_chain s.old x t && not (in_chain s.new x t) && not (is_interface_of s.new t)) (lost_finding s x t) f (sym (target_is s x t) ∙ h) in
     let a = and_parts (not (same x t) && in_chain s.old x t && not (in_chain s.new x t)) (not (is_interface_of s.new t)) w.0 in
     let b = and_parts (not (same x t) && in_chain s.old x t) (not (in_chain s.new x t)) a.0 in
     record { was = (and_parts (not (same x t)) (in_chain s.old x t) b.0).1; left = b.1; found = w.1 }
@@ -95,7 +95,7 @@ aside_chain s x h = exact_none finding_order (OfChain s x) none_found
     none_found : (f : Finding) → OfChain s x f → ⊥
     none_found f p =
         let w = of_chain s x f p in
-        let z : None ≡ Some f = sym (aside s (on_target x w.0) x w.0 h) ∙ (target_says s x w.0 f w.1).found in
+        let z : None ≡ Some f = sym (or_else-both _ _ (aside s (on_target x w.0) x w.0 h) (not_handed s (on_target x w.0) w.0 h)) ∙ (target_says s x w.0 f w.1).found in
         cc
 
 -- nothing is found of a chain that nothing has left

@@ -12,7 +12,7 @@ ghost use Rattle.jc_sides.specs.Limit.{IsWithin};
 ghost use Rattle.jc_sides.specs.Rules.{IsFinding};
 ghost use Rattle.jc_index.specs.Ids.{name_at};
 
-use crate::assigned::assigned;
+use crate::assigned::broken_assignment;
 use crate::losses::Losses;
 use jc_acts::seats::Seats;
 use jc_facts::finding::Finding;
@@ -96,7 +96,7 @@ fn on_target(
     if !has_left(sides, target, chain) {
         return Ok(None);
     }
-    let broken = assigned(sides, seats, &losses.exposed, class, target);
+    let broken = broken_assignment(sides, seats, &losses.exposed, class, target);
     let name = &sides.old.facts(class).name;
     let above = &sides.old.facts(target).name;
     let found = finding(alloc, SUPERCLASS_LOST, name, None, Some(above), broken)?;
@@ -156,11 +156,11 @@ fn on_class(
 }
 
 /// Superclasses that left the chain of a class and are no interfaces (JVMS 4.10.1.2), where each of
-/// the two is kept, or hidden and exposed by members, in byte order of the names of the class and of
-/// the superclass. A class that lost some of its chain takes time in proportion to the lengths of its
-/// two chains, but for the logarithm of a look-up and for the seats that are asked of hidden ones; any
-/// other takes hardly any. None where there are more than the limit allows; no more are made then than
-/// what one class adds past it.
+/// the two is kept, or hidden and exposed by members, to one seat or to two of which clients can stand
+/// beside each other, in byte order of the names of the class and of the superclass. A class that lost
+/// some of its chain takes time in proportion to the lengths of its two chains, but for the logarithm of
+/// a look-up and for the seats that are asked of hidden ones; any other takes hardly any. None where
+/// there are more than the limit allows; no more are made then than what one class adds past it.
 ///
 /// # Errors
 ///

@@ -1,10 +1,11 @@
 -- Chains, as sets of numbers, and superclasses that left them.
-use Rattle.std.specs.Prelude.{ℕ, Bool, not, Option, None, Some, ◌≡◌, ◌&&◌, nat_lt}
+use Rattle.std.specs.Prelude.{ℕ, Bool, not, [], ◌∷◌, Option, None, Some, ◌≡◌, ◌&&◌, nat_lt}
 use Rattle.std.specs.BTreeSet as sorted
 use Rattle.std.specs.Ordering.{nat_cmp}
 use Rattle.jc_facts.specs.declared.finding.Finding.{Finding}
+use Rattle.jc_facts.specs.Options.{or_else}
 use Rattle.jc_facts.specs.world.Assignment.{is_interface_of}
-use Rattle.jc_promises.specs.rule.Findings.{Subject, finding_at}
+use Rattle.jc_promises.specs.rule.Findings.{Subject, assign_finding, finding_at, handed_finding}
 use Rattle.jc_facts.specs.world.Hierarchy.{in_chain}
 use Rattle.jc_facts.specs.Names.{Bytes}
 use Rattle.jc_facts.specs.world.World.{World, size}
@@ -20,6 +21,10 @@ pub record HasChain (W : World) (x : Bytes) (chain : sorted.BTreeSet ℕ) : Type
 -- the rule on a class and a superclass of it
 abbrev pub on_target : Bytes → Bytes → Subject
 on_target x t = record { rule = 4; «class» = x; key = None; target = Some t }
+
+-- what is found of the assignment of a value of x to t, by one seat or by two
+abbrev pub lost_finding : SidesOf → Bytes → Bytes → Option Finding
+lost_finding s x t = or_else (assign_finding s.old s.new (on_target x t) (x ∷ t ∷ [])) (handed_finding s.old s.new (on_target x t) t)
 
 -- what the rule finds of the class and the superclass
 unfoldable pub target_finding : SidesOf → Bytes → Bytes → Option Finding

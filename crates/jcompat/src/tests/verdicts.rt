@@ -67,6 +67,24 @@ const INITIALIZERS: &str = r"$ check --platform P --old O --new N
 * d/000002/w0/Y.class | item w0/Y assign p/S p/B - | VerifyError
 ";
 
+const SEATS: &str = r"$ check --platform P --old O --new N
+: P java/lang/Object init | O,N p/T flags=20 init
+: O p/S flags=20 extends=p/T init | N p/S flags=20 init
+#1 a hidden class that lost a superclass, each exposed to a seat of its own : O,N p/A init method=c:s:()Lp/S; | O,N p/B init method=c:t:(Lp/T;)V
+> 1 H4 p/S p/T assign p/A VerifyError | incompatible: 1 findings, 0 collisions, 0 notes
+* d/000001/w0/Y.class d/000001/w0/Z.class | item w0/Y assign p/S p/T - | VerifyError
+#1 the same, with a third seat to which both are exposed : O,N p/A init method=c:s:()Lp/S; | O,N p/B init method=c:t:(Lp/T;)V
+: O,N p/C init method=4:s:()Lp/S; method=4:t:(Lp/T;)V
+> 1 H4 p/S p/T assign p/C VerifyError | incompatible: 1 findings, 0 collisions, 0 notes
+* d/000001/w0/Y.class | item w0/Y assign p/S p/T - | VerifyError
+#1 the same, where the one seat permits a name and the other another one too : O,N p/A sealed init permits=q/C method=c:s:()Lp/S;
+: O,N p/B sealed init permits=q/C permits=r/D method=c:t:(Lp/T;)V
+> 1 H4 p/S p/T assign p/A VerifyError | incompatible: 1 findings, 0 collisions, 0 notes
+* d/000001/q/C.class d/000001/r/D.class | item r/D assign p/S p/T - | VerifyError
+#0 two seats that permit the same name alone : O,N p/A sealed init permits=q/C method=c:s:()Lp/S; | O,N p/B sealed init permits=q/C method=c:t:(Lp/T;)V
+> compatible: 0 findings, 0 collisions, 0 notes
+";
+
 const MEMBERS: &str = r"$ check --platform P --old O --new N
 : P java/lang/Object init
 #0 a method that moved to the superclass : O p/B init | O p/A extends=p/B init method=1:m:()V | N p/B init method=1:m:()V | N p/A extends=p/B init
@@ -136,7 +154,7 @@ const LIBRARY: &str = r"$ check --platform P --old O --new N
 
 #[test]
 fn checks_have_their_verdicts_and_witnesses(rt: HostRuntime) {
-    for table in [CLASSES, INITIALIZERS, MEMBERS, FINALS, LIBRARY] {
+    for table in [CLASSES, INITIALIZERS, SEATS, MEMBERS, FINALS, LIBRARY] {
         see_table(&rt, table);
     }
 }

@@ -1,0 +1,7 @@
+package shapes;
+
+public class Maker {
+    protected static Square unit() {
+        return new Square();
+    }
+}

@@ -1,0 +1,6 @@
+package shapes;
+
+public class Painter {
+    protected static void draw(Figure figure) {
+    }
+}
