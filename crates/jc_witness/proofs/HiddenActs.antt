@@ -43,16 +43,19 @@ none_listed : {A : Type 0} (test : A → Bool) (xs : List A) → list_any test x
 none_listed test [] h = refl
 none_listed test (x ∷ xs) h = rw (neither_first (test x) (list_any test xs) h) (none_listed test xs (neither_last (test x) (list_any test xs) h))
 
+out_is : (W : World) (a x : Bytes) → is_hidden W x ≡ true → (b : Bool) → is_exposed W a x ≡ b → not b ≡ is_out_of W a x
+out_is W a x h b e = ap not (sym e) ∙ ap (λ t. t && not (is_exposed W a x)) (sym h)
+
 -- a hidden class is out of the seat where no act exposes it
 pub hidden_out : (W : World) (a x : Bytes) → is_hidden W x ≡ true → is_none (exposing_act W a x) ≡ is_out_of W a x
 unfolding is_exposed exposing_act
 hidden_out W a x h = go (is_exposed W a x) refl
   where
-    go : (b : Bool) → is_exposed W a x ≡ b → is_none (exposing_act W a x) ≡ (is_hidden W x && not (is_exposed W a x))
-    go true e = ap is_none (exposed-act W a x e).1 ∙ sym (rw (h, e) refl)
+    go : (b : Bool) → is_exposed W a x ≡ b → is_none (exposing_act W a x) ≡ is_out_of W a x
+    go true e = ap is_none (exposed-act W a x e).1 ∙ out_is W a x h true e
     go false e =
         let n : list_any (exposes W a x) (references W) ≡ false = and_false (is_hidden W x) (list_any (exposes W a x) (references W)) e h in
-        ap (λ rs. is_none (and_then (act_of W a) (first_by reference_order rs))) (none_listed (exposes W a x) (references W) n) ∙ sym (rw (h, e) refl)
+        ap (λ rs. is_none (and_then (act_of W a) (first_by reference_order rs))) (none_listed (exposes W a x) (references W) n) ∙ out_is W a x h false e
 
 -- another one isn't
 pub other_out : (W : World) (a x : Bytes) → is_hidden W x ≡ false → false ≡ is_out_of W a x

@@ -1,4 +1,4 @@
-use Rattle.std.proofs.Common.{◌≡◌, refl, ◌∙◌, codes}
+use Rattle.std.proofs.Common.{◌≡◌, [], refl, ◌∙◌, codes}
 use Rattle.std.specs.List.{cons_option}
 use Rattle.jc_witness.specs.steps.MoreInits.{with_inits}
 use Rattle.jc_witness.proofs.InitParts.{begun, used, behind_client}
