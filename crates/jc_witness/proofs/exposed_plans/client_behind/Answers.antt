@@ -23,6 +23,7 @@ returns c =
       c.in_ok-steps.ensures,
       c.in_ok-draft-2.ensures,
       c.in_ok-draft.ensures,
+      c.in_ok-copy.ensures,
       c.as_slice.ensures.value,
       c.in_ok-before.ensures,
     ) refl in

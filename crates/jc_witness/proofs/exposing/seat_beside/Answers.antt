@@ -1,12 +1,12 @@
 use Rattle.std.proofs.Common.{◌≡◌, None, true, is_some, sym, ap, subst, ◌∙◌}
 use Rattle.std.proofs.lemmas.Result.{IfOk-weaker}
 use Rattle.jc_facts.specs.world.Loading.{load_fault}
-use Rattle.jc_promises.specs.rule.Apart.{other_seat}
+use Rattle.std.specs.Option.{option_copied}
 use Rattle.jc_promises.specs.rule.Exposed.{is_hidden}
 use Rattle.jc_index.specs.Ids.{id_of, name_at}
 use Rattle.jc_sides.specs.SidesOf.{SidesOf}
 use Rattle.jc_drafts.proofs.ClassesByName.{loaded_number, number_name}
-use Rattle.jc_witness.proofs.HiddenActs.{hidden_loads}
+use Rattle.jc_witness.proofs.HiddenActs.{hidden_loads, seat_as_named}
 use Rattle.jc_witness.proofs.exposing.seat_beside.Goals as goal
 
 pub unwrap-seat-requires : goal.unwrap-seat-requires
@@ -29,4 +29,4 @@ returns c =
     let old : W ≡ O = ap (λ (s : SidesOf). s.old) c.sides.view_is in
     let a : name_at O c.unwrap-seat.result ≡ c.args.seat.now = subst (λ V. name_at V c.unwrap-seat.result ≡ c.args.seat.now) old (number_name W c.args.seat.now c.unwrap-seat.result (sym (c.get.ensures.value ∙ ap (id_of W) c.as_bytes.ensures) ∙ c.unwrap-seat.ensures)) in
     let x : name_at O c.unwrap-class.result ≡ c.args.class.now = subst (λ V. name_at V c.unwrap-class.result ≡ c.args.class.now) old (number_name W c.args.class.now c.unwrap-class.result (sym (c.get-2.ensures.value ∙ ap (id_of W) c.as_bytes-2.ensures) ∙ c.unwrap-class.ensures)) in
-    IfOk-weaker _ _ _ (λ o e. e ∙ ap (λ z. other_seat O N z (name_at O c.unwrap-class.result)) a ∙ ap (other_seat O N c.args.seat.now) x) c.other_seat.ensures
+    IfOk-weaker _ _ _ (λ other e. seat_as_named O N (name_at O c.unwrap-seat.result) c.args.seat.now (name_at O c.unwrap-class.result) c.args.class.now (option_copied other) a x e) c.other_seat.ensures
