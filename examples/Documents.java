@@ -7,15 +7,17 @@ import java.util.List;
 import java.util.stream.Collectors;
 import java.util.stream.Stream;
 
+import jcompat.Affected;
+import jcompat.AffectedRequest;
 import jcompat.Check;
 import jcompat.Host;
 import jcompat.Request;
 
 /**
- * Writes the documents of check-jars, and its logs of SARIF, of all examples: java -cp jcompat.jar examples/Documents.java PROGRAM RULES CLASSES OUT.
+ * Writes the documents of check-jars and of affected, and logs of SARIF, of all examples: java -cp jcompat.jar examples/Documents.java PROGRAM RULES CLASSES OUT.
  *
- * <p>Each folder of RULES has a folder of the same name in CLASSES, with the classes of an old and of a new release. Each pair is compared with all that can be asked for:
- * accepted breaks, sources, what was added, which number is due.
+ * <p>Each folder of RULES has a folder of the same name in CLASSES, with the classes of an old and of a new release and of a client. Each pair is compared with all that can be
+ * asked for: accepted breaks, sources, what was added, which number is due.
  */
 public final class Documents {
     private Documents() {
@@ -48,7 +50,22 @@ public final class Documents {
                 Check check = new Check(request, new Host(new PrintStream(new ByteArrayOutputStream(), false, "UTF-8"), said::add));
                 check.run();
                 Files.writeString(out.resolve(name + ".json"), check.document());
+                Files.writeString(out.resolve(name + ".affected"), affected(request, classes.resolve(name).resolve("client")));
             }
         }
+    }
+
+    /** What the client of an example loses. */
+    private static String affected(Request of, Path client) throws Exception {
+        AffectedRequest request = new AffectedRequest();
+        request.program = of.program;
+        request.cache = of.cache;
+        request.needed = true;
+        request.oldRelease = of.releases.get(0);
+        request.newRelease = of.releases.get(1);
+        request.clients.add(client);
+        Affected affected = new Affected(request, new Host(new PrintStream(new ByteArrayOutputStream(), false, "UTF-8"), any -> { }));
+        affected.run();
+        return affected.document();
     }
 }

@@ -66,6 +66,7 @@ wrong() {
 try 'a first release' 0 'jcompat: the repositories have no release below shapes 1.0.0, so nothing is compared' 1.0.0 -q check
 put shapes 1.0.0 build/libs/shapes-1.0.0.jar
 try 'nothing changed' 0 'jcompat: shapes-1.0.0.jar to shapes 1.1.0-SNAPSHOT: compatible: 0 findings' 1.1.0-SNAPSHOT check
+grep -q 'jcompat: shapes-1.0.0.jar to shapes 1.1.0-SNAPSHOT: due: 1.0.1, a patch step from 1.0.0' "$made/log" || wrong 'it is not said which number is due'
 try 'nothing changed, again' 0 'jcompatCheck UP-TO-DATE' 1.1.0-SNAPSHOT check
 sed -i 's/Number width/Object width/' src/main/java/shapes/Canvas.java
 try 'a break' 1 '1 H8 shapes/Canvas draw(Ljava/lang/Number;)V invokevirtual java/lang/Object NoSuchMethodError' 1.1.0-SNAPSHOT check

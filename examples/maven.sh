@@ -78,10 +78,14 @@ try 'nothing changed' 0 'jcompat: shapes 1.0.0 to 1.1.0-SNAPSHOT' verify
 sed -i 's/Number width/Object width/' shapes/src/main/java/shapes/Canvas.java
 try 'a break' 1 'ERROR. 1 H8 shapes/Canvas draw(Ljava/lang/Number;)V invokevirtual java/lang/Object NoSuchMethodError' verify
 grep -q 'what is meant goes to' "$made/log" || wrong 'it is not said what to do'
+grep -q 'due: 2.0.0, a major step from 1.0.0: 1 finding' "$made/log" && grep -q '1.1.0, the version of the new release, is too small' "$made/log" || wrong 'it is not said which number is due'
 for file in report.txt report.json page.html printed.txt; do [ -s "shapes/target/jcompat/$file" ] || wrong "there is no $file"; done
+grep -q 'Due by Semantic Versioning: <strong>2.0.0</strong>, a major step' shapes/target/jcompat/page.html || wrong 'the page does not say which number is due'
 sed -n 's/^[0-9]* H8/H8/p' shapes/target/jcompat/report.txt >shapes/compat.accepted
 try 'a break that is meant' 0 'BUILD SUCCESS' verify
 rm shapes/compat.accepted
+try 'one that is not asked for a number' 1 'ERROR. 1 H8' verify -Djcompat.due=false
+! grep -q 'due: ' "$made/log" || wrong 'a number is due all the same'
 try 'a check that is skipped' 0 'jcompat: skipped' verify -Djcompat.skip
 export MAVEN_OPTS=-Dos.arch=aarch64
 try 'a system that there is no program for' 0 'jcompat: there is no jcompat for linux-aarch64, so nothing is compared here' -q verify

@@ -43,8 +43,11 @@ try() {
     [ "$status" -eq 1 ] || fail "$1: check-jars ends with the status $status"
     report-page "$made/document" examples/old examples/new >"$made/page" || fail "$1: there is no page"
     grep -q '<li id=n12 ' "$made/page" || fail "$1: the page lacks a line"
+    status=0
+    affected examples/old examples/new examples/client --needed >"$made/said" || status=$?
+    [ "$status" -eq 1 ] && grep -q '^affected: 1 clients, 1 broken, ' "$made/said" || fail "$1: affected ends with the status $status"
     annotate <"$made/document" | grep -q '^### incompatible' || fail "$1: nothing is told to a review"
-    for tool in check-jars report-page annotate; do
+    for tool in check-jars affected report-page annotate; do
         [ "$("$tool" --version)" = "jcompat $version" ] || fail "$1: $tool has another version than $version"
         "$tool" --help | grep -q "^usage: $tool" || fail "$1: $tool has no help"
     done
@@ -56,7 +59,7 @@ try 'the archive' "$made/archive" "$made/archive/tools"
 try 'the Debian package' "$made/root/usr/share/doc/jcompat" "$made/root/usr/bin"
 PATH=$BEFORE
 
-! grep -rnE 'tools/(check-jars|report-page|annotate)|\./jcompat ' "$made/root/usr/share/doc/jcompat" --include='*.md' || fail 'a document of the package calls what is not on the path'
+! grep -rnE 'tools/(check-jars|affected|report-page|annotate)|\./jcompat ' "$made/root/usr/share/doc/jcompat" --include='*.md' || fail 'a document of the package calls what is not on the path'
 [ -x "$made/root/usr/bin/jcompat-check-jars" ] || fail 'the earlier name is gone'
 printf 'packages: the documents of the package call what is on the path: ok\n'
 
@@ -80,6 +83,24 @@ for file in "$made"/out/*.tar.gz "$made"/out/*.deb "$made"/out/*.cdx.json "$made
     grep -q "  ${file##*/}\$" "$made/out/SHA256SUMS" || fail "$file has no checksum"
 done
 grep -q '"bomFormat": "CycloneDX"' "$made"/out/*.cdx.json && grep -q '"name": "serde_json"' "$made"/out/*.cdx.json || fail 'the bill of materials lacks something'
+python=
+for each in /usr/bin/python3 python3; do
+    [ -n "$python" ] || ! "$each" -c 'from jsonschema import Draft202012Validator' 2>/dev/null || python=$each
+done
+if [ -n "$python" ]; then
+    # each component once, and what depends on what is among them
+    "$python" - examples/cyclonedx.schema.json "$made"/out/*.cdx.json <<'END' || fail 'the bill of materials is not as CycloneDX has it'
+import json, sys
+from jsonschema import Draft202012Validator
+bill = json.load(open(sys.argv[2]))
+Draft202012Validator(json.load(open(sys.argv[1]))).validate(bill)
+known = [each["bom-ref"] for each in [bill["metadata"]["component"]] + bill["components"]]
+named = [ref for each in bill["dependencies"] for ref in [each["ref"]] + each["dependsOn"]]
+sys.exit(len(known) != len(set(known)) or not set(named) <= set(known))
+END
+else
+    lacks 'the form of the bill of materials, since no Python has jsonschema: install the package python3-jsonschema'
+fi
 [ "$(grep -c 'No licence is given yet' "$made/archive/copyright")" -eq 1 ] || fail 'the archive says nothing of a licence'
 printf 'packages: checksums, and what the program is made of: ok\n'
 

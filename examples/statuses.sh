@@ -2,8 +2,8 @@
 # Tries what no clause can say of the program, since only a process shows it: examples/statuses.sh, from any folder.
 #
 # Each exit status from 0 to 7 is brought about, and with it come just the bytes that are due on standard output and standard error. The words are
-# those that the process is given: empty ones count, and those that aren't UTF-8 are refused. A module-info.class in a real folder is read where
-# that is asked for, and only there. No JDK is needed: the class files are written below. There is a line for each try, and a last one with their
+# those that the process is given: empty ones count, and those that aren't UTF-8 are refused. Real folders are listed and read, with links, FIFOs,
+# devices and what is at a limit, and take witness files; a module-info.class is read where that is asked for, and only there. No JDK is needed: the class files are written below. There is a line for each try, and a last one with their
 # number. The status is 1 where one fails. Where the program isn't built, nothing is tried, which is said, and the status is 0, or 1 where
 # JCOMPAT_ALL=1 asks for all.
 set -eu
@@ -65,6 +65,12 @@ judge() {
     tries=$((tries + 1))
 }
 
+# see_failure NAME WHY: the try of this name has failed
+see_failure() {
+    printf 'statuses: %s: FAILED, since %s\n' "$1" "$2"
+    exit 1
+}
+
 compatible=$'compatible: 0 findings, 0 collisions, 0 notes\n'
 class_gone=$'1 H1 p/A - class - NoClassDefFoundError\nincompatible: 1 findings, 0 collisions, 0 notes\n'
 class_shut=$'1 H1 p/A - class - IllegalAccessError\nincompatible: 1 findings, 0 collisions, 0 notes\n'
@@ -90,6 +96,8 @@ check old ''
 see 'an empty word behind the last one' 2 '' "$words" "${asked[@]}"
 check old --gate ''
 see 'an empty word as a value' 2 '' $'jcompat: usage: unknown gate \n' "${asked[@]}"
+long=$(printf 'w%.0s' {1..100000})
+see 'a command of 100,000 bytes' 2 '' $'jcompat: usage: unknown command '"$long"$'\n' "$long"
 see 'a command that is not UTF-8' 2 '' "$words" $'\xff'
 check $'old\xff'
 see 'a value that is not UTF-8' 2 '' "$words" "${asked[@]}"
@@ -114,10 +122,7 @@ check gone --witness old/p/A.class/below
 see 'a witness that cannot be written' 5 '' '' "${asked[@]}"
 check gone --witness written
 see 'a witness' 1 "$class_gone" '' "${asked[@]}"
-[ -s written/000001/w0/U.class ] || {
-    echo 'statuses: a witness: FAILED, since nothing was written'
-    exit 1
-}
+[ -s written/000001/w0/U.class ] || see_failure 'a witness' 'nothing was written'
 
 name='no memory' wanted=6 status=0
 : >due
@@ -156,5 +161,92 @@ see 'no client' 2 '' $'jcompat: usage: clients 0\n' "${asked[@]}"
 mapfile -t many < <(for _ in {1..1001}; do echo client; done)
 clients "${many[@]}"
 see 'a thousand and one clients' 2 '' $'jcompat: usage: clients 1001\n' "${asked[@]}"
+
+# The page of help: which page it is, is proved.
+name='the page of help' wanted=0 status=0
+: >due_line
+"$program" help >out 2>line || status=$?
+grep -qx 'jcompat check --platform FOLDER --old FOLDER --new FOLDER' out && tail -n 1 out | grep -qx '  7  a limit is passed' || see_failure "$name" "it isn't whole"
+cp out due
+judge
+see 'a word behind help' 2 '' "$words" help check
+see 'dashes behind help' 2 '' "$words" help --
+see 'help as an option' 2 '' $'jcompat: usage: unknown command --help\n' --help
+name='help, and an output that is full' wanted=5 status=0
+: >due
+: >due_line
+: >out
+"$program" help >/dev/full 2>line || status=$?
+judge
+
+# What stands in a folder. The class p/A is a link to its file; a link to a folder is passed over, else r/A.class would be at another place than its name's; a
+# file that is no class file is passed over too; and the root may be a link itself.
+mkdir -p linked/p
+ln -s ../../old/p/A.class linked/p
+ln -s p linked/r
+echo notes >linked/notes.txt
+ln -s linked by_link
+check linked
+see 'links to a file and to a folder' 0 "$compatible" '' "${asked[@]}"
+check by_link
+see 'a link as the root' 0 "$compatible" '' "${asked[@]}"
+check old/p/A.class
+see 'a file as the root' 4 '' $'jcompat: new: read fault\n' "${asked[@]}"
+cp -R old deep
+mkdir -p deep/p/q/r
+cp old/p/A.class deep/p/q/r
+check deep
+see 'a class file deep below the root, at another place than its name' 3 '' $'jcompat: new: p/q/r/A.class: misplaced p/A\n' "${asked[@]}"
+mkdir -p several/p/A
+: >several/p/A/B.class
+: >several/p/A.class
+: >'several/p/A$B.class'
+check several
+see 'several empty files, of which the first in byte order of paths is named' 3 '' $'jcompat: new: p/A$B.class: Short at 0\n' "${asked[@]}"
+
+# A class file's path that leads to no regular file. A FIFO isn't waited for.
+for kind in nothing device fifo; do
+    cp -R old "$kind"
+    case $kind in
+    nothing) ln -s nowhere nothing/p/B.class ;;
+    device) ln -s /dev/null device/p/B.class ;;
+    fifo) mkfifo fifo/p/B.class ;;
+    esac
+    check "$kind"
+    see "a class file's path that leads to a $kind" 4 '' $'jcompat: new: read fault\n' "${asked[@]}"
+done
+
+# What is at a limit.
+mkdir -p most/p
+truncate -s 4194304 most/p/A.class
+check most
+see 'a class file of as many bytes as it may have' 3 '' $'jcompat: new: p/A.class: BadMagic at 0\n' "${asked[@]}"
+mkdir -p many/p
+for ((i = 0; i < 40000; i++)); do
+    : >"many/p/A$i.class"
+done
+check many
+see 'as many class files as there may be' 3 '' $'jcompat: new: p/A0.class: Short at 0\n' "${asked[@]}"
+: >many/p/B.class
+see 'a class file more' 7 '' $'jcompat: new: limit files\n' "${asked[@]}"
+see 'a class file more of a release that is linked' 7 '' $'jcompat: release: limit files\n' link --platform platform --release many --client client
+
+# What a folder takes. A longer file at the path of a witness, or a link, is replaced, and what the link leads to stays as it was.
+witness=000001/w0/U.class
+mkdir -p again/000001/w0 apart/000001/w0 shut/$witness
+head -c 10000 /dev/zero >again/$witness
+echo apart >kept
+ln -s ../../../kept apart/$witness
+for folder in again apart; do
+    check gone --witness "$folder"
+    see "a witness in the place of what stands in the folder $folder" 1 "$class_gone" '' "${asked[@]}"
+    [ ! -L "$folder/$witness" ] && cmp -s "written/$witness" "$folder/$witness" || see_failure "$folder" 'the witness is another one'
+done
+[ "$(cat kept)" = apart ] || see_failure apart 'what the link led to has changed'
+check gone --witness shut
+see 'a folder at the path of a witness' 5 '' '' "${asked[@]}"
+check gone --witness "${long:0:300}"
+see 'a witness below a name of 300 bytes' 5 '' '' "${asked[@]}"
+[ "$(wc -c <old/p/A.class)" -eq 78 ] || see_failure 'a witness that cannot be written' 'a file was changed'
 
 echo "statuses: $tries tries"

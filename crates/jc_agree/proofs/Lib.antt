@@ -7,4 +7,5 @@ mod StaysOk
 mod Replayed
 mod SameSide
 mod Lost
+mod OverAPart
 mod Steps

@@ -31,7 +31,7 @@ use Rattle.jc_agree.proofs.Outcomes.{LinksEach, ordered_all, ordered_has, client
 
 -- ---- nobody is refused
 
-none_refused : NamesAreAllowed → (W : World) (cs : List ClientClass) → EachOf (λ c. IsTrue (is_allowed_name W c.facts.name)) cs → first_refused W cs ≡ None
+pub none_refused : NamesAreAllowed → (W : World) (cs : List ClientClass) → EachOf (λ c. IsTrue (is_allowed_name W c.facts.name)) cs → first_refused W cs ≡ None
 unfolding or_else
 none_refused law W [] h = refl
 none_refused law W (c ∷ cs) h =

@@ -7,11 +7,13 @@ ghost use Rattle.jc_agree.specs.Compatible.{SameRelease, EmptyRelease, Compatibl
 ghost use Rattle.jc_agree.specs.Losses.{CompatibleLosesLittle, LossesHaveFindings, WitnessesAreLost};
 ghost use Rattle.jc_agree.specs.NothingListed.{SameReleaseLists, EmptyReleaseLists};
 ghost use Rattle.jc_agree.specs.Numbers.{StatusesAre, RulesAre, LimitsAre, VersionsAre};
+ghost use Rattle.jc_agree.specs.OverAPart.{LinkedOverAPart, JudgedOverAPart};
 ghost use Rattle.jc_agree.specs.Replays.{WitnessesReplay};
 ghost use Rattle.jc_agree.specs.SameSide.{SeeTheSameSide};
 ghost use Rattle.jc_agree.specs.Steps.{StepsAreChecks, StepsAreBorneOut};
 
 use jc_link::laws::names_are_allowed;
+use jc_platform::{enough_allows, enough_links_alike};
 
 /// A release against itself has no finding and no collision.
 pub fn same_release_is_compatible()
@@ -58,6 +60,17 @@ pub fn compatible_loses_little()
 pub fn witnesses_are_lost()
     ensures { WitnessesAreLost }
 {
+    names_are_allowed();
+}
+
+/// Over a part of a platform that is enough for clients `link` says of them what it says over the whole, and refuses nothing that it doesn't
+/// refuse there; and where the part is enough with both releases, `clients` says the same.
+pub fn part_says_the_same()
+    ensures linked { LinkedOverAPart }
+    ensures judged { JudgedOverAPart }
+{
+    enough_links_alike();
+    enough_allows();
     names_are_allowed();
 }
 

@@ -33,7 +33,8 @@ use Rattle.jc_trees.specs.FirstTree.{IsFirstUnread}
 use Rattle.jc_commands.specs.Check.{CheckRecords, old_side, new_side, is_apart, over_findings, over_warnings, over_dropped, AreWarned, mismatch_of, report_of}
 use Rattle.jc_trees.specs.ClassFiles.{FileRead, ClassRead, ModuleRead, IsFileIn, AreRecords, AreModular, without_items, without_code, records_in}
 use Rattle.jc_releases.specs.Command.{release_kind, release_tree, release_trees, trees_of, asked_of}
-use Rattle.jc_words.specs.Command.{CommandOf, CheckOf, LinkOf, HistoryOf, ClientsOf, CheckCommand, LinkCommand, MakeCommand, HistoryCommand, ClientsCommand}
+use Rattle.jc_words.specs.Command.{CommandOf, CheckOf, LinkOf, HistoryOf, ClientsOf, CheckCommand, LinkCommand, MakeCommand, HistoryCommand, ClientsCommand, HelpCommand}
+use Rattle.jc_words.specs.Help.{help_page}
 use Rattle.jc_commands.specs.History.{HistoryRecords, row_of, mismatch_of_row}
 use Rattle.jc_history.specs.Row.{steps_of, AreVerdicts}
 use Rattle.jc_history.proofs.RowVerdicts.{all_few}
@@ -130,6 +131,7 @@ records_from files (LinkCommand link) sized all h = link_records files link all 
 records_from files (MakeCommand n) sized all h = sized
 records_from files (ClientsCommand clients) sized all h = clients_records files clients all h
 records_from files (HistoryCommand history) sized all h = history_records files history all h
+records_from files HelpCommand sized all h = tt
 
 file_valid : (files : List FileOf) (tree : TreeOf) (c : ClientClass) → IsFileIn files tree (ClassRead c) → IsValidClass c.facts
 file_valid files tree c i = read_valid i.bytes c.facts i.is_read.facts.reads
@@ -244,6 +246,7 @@ decided files (CheckCommand check) r = by_records (mismatch_of (old_side r) (new
     by_records None e = let v = verdict_on files check r e in by_count e v.0 v.1 (nat_lt MAX_FINDINGS (count_of v.0)) refl
     by_records (Some stop) e = inr (stop, is_apart e)
 decided files (MakeCommand n) r = inl tt
+decided files HelpCommand r = inl tt
 decided files (ClientsCommand c) r = by_records (mismatch_of_two r.platform r.old r.new) refl
   where
     by_records : (o : Option Stop) → mismatch_of_two r.platform r.old r.new ≡ o → Decided files (ClientsCommand c) r
@@ -274,6 +277,7 @@ accepted_report files (ClientsCommand c) r a =
     let all = some_answers files (side r.platform r.old) (side r.platform r.new) 1 c.clients in
     (all.0, record { fits = a; exact = all.1 })
 accepted_report files (MakeCommand n) r a = made_verdict n r
+accepted_report files HelpCommand r a = (help_page, refl)
 accepted_report files (HistoryCommand c) r a =
     let vs = verdicts_on files c r a.fits in
     (vs.0, record { fits = a.fits; exact = vs.1; few = all_few MAX_FINDINGS (steps_of (row_of r.platform r.releases)) vs.0 vs.1 a.few })

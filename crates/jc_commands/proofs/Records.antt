@@ -21,7 +21,7 @@ use Rattle.jc_index.specs.Root.{fault_of_root}
 use Rattle.jc_index.specs.Sides.{overlap_of}
 use Rattle.jc_commands.specs.Check.{CheckRecords, old_side, new_side, HasTooMany, HasTooManyWarnings, HasTooManyDropped, IsUnfit, is_apart, over_findings, over_warnings, over_dropped, AreWarned, mismatch_of, report_of}
 use Rattle.jc_releases.specs.Command.{trees_of, client_trees}
-use Rattle.jc_words.specs.Command.{CommandOf, CheckOf, LinkOf, HistoryOf, ClientsOf, CheckCommand, LinkCommand, MakeCommand, HistoryCommand, ClientsCommand}
+use Rattle.jc_words.specs.Command.{CommandOf, CheckOf, LinkOf, HistoryOf, ClientsOf, CheckCommand, LinkCommand, MakeCommand, HistoryCommand, ClientsCommand, HelpCommand}
 use Rattle.jc_commands.specs.History.{HistoryRecords, row_of, mismatch_of_row, IsUnfitRow}
 use Rattle.jc_releases.specs.Releases.{read_as, release_at, old_and_new, numbered, first_overlap, mismatch_among}
 use Rattle.jc_releases.specs.declared.releases.Release.{Release}
@@ -185,6 +185,7 @@ pub refuses_says : (files : List FileOf) (command : CommandOf) (r : RecordsOf fi
 refuses_says files (CheckCommand check) r stop h = unfit_says check (old_side r) (new_side r) stop h
 refuses_says files (LinkCommand link) r stop h = refusal_says (release_side r) r.clients stop h
 refuses_says files (MakeCommand n) r stop h = absurd h
+refuses_says files HelpCommand r stop h = absurd h
 refuses_says files (ClientsCommand c) r stop h = mismatch_says r.platform (old_and_new r.old r.new) stop h
 refuses_says files (HistoryCommand c) r stop h = unfit_row_says r.platform r.releases stop h
 
@@ -229,6 +230,7 @@ one_refused files (CheckCommand check) r s a b h k = one_unfit check (old_side r
 one_refused files (LinkCommand link) r s a b h k =
     same_some (refusal_of (release_side r) r.clients) a b h (same_link files link (λ W cs. refusal_of W cs ≡ Some b) r s k)
 one_refused files (MakeCommand n) r s a b h k = absurd h
+one_refused files HelpCommand r s a b h k = absurd h
 one_refused files (ClientsCommand c) r s a b h k = same_some (mismatch_of_two r.platform r.old r.new) a b h (same_records files c (λ p o n. mismatch_of_two p o n ≡ Some b) r s k)
 one_refused files (HistoryCommand c) r s a b h k = one_unfit_row r.platform r.releases a b h (same_history files c (λ p q. IsUnfitRow p q b) r s k)
 
@@ -244,6 +246,7 @@ accepted_or_refused files (CheckCommand check) r s stop a h = go (same_check fil
 accepted_or_refused files (LinkCommand link) r s stop a h =
     none_some (refusal_of (release_side r) r.clients) stop a (same_link files link (λ W cs. refusal_of W cs ≡ Some stop) r s h)
 accepted_or_refused files (MakeCommand n) r s stop a h = h
+accepted_or_refused files HelpCommand r s stop a h = h
 accepted_or_refused files (ClientsCommand c) r s stop a h =
     none_some (mismatch_of_two r.platform r.old r.new) stop a (same_records files c (λ p o n. mismatch_of_two p o n ≡ Some stop) r s h)
 accepted_or_refused files (HistoryCommand c) r s stop a h = go (same_history files c (λ p q. IsUnfitRow p q stop) r s h)
@@ -279,6 +282,7 @@ report_accepted files (CheckCommand check) r report h = record {
 }
 report_accepted files (LinkCommand link) r list h = h.fits
 report_accepted files (MakeCommand n) r v h = tt
+report_accepted files HelpCommand r page h = tt
 report_accepted files (ClientsCommand c) r all h = h.fits
 report_accepted files (HistoryCommand c) r vs h = record {
   fits = h.fits;
@@ -303,5 +307,6 @@ one_report_of files (ClientsCommand c) r s a b h k =
     all_said files (side r.platform r.old) (side r.platform r.new) (client_trees 1 c.clients) a b h.exact
     (same_records files c (λ p o n. AreSaid files (side p o) (side p n) (client_trees 1 c.clients) b) r s k.exact)
 one_report_of files (MakeCommand n) r s a b h k = verdict_is_one (old_made n) (new_made n) a b h k
+one_report_of files HelpCommand r s a b h k = h ∙ sym k
 one_report_of files (HistoryCommand c) r s a b h k =
     one_row (steps_of (row_of r.platform r.releases)) a b h.exact (same_history files c (λ p q. AreVerdicts (steps_of (row_of p q)) b) r s k.exact)

@@ -17,7 +17,7 @@ use Rattle.jc_complete.specs.Completeness.{IsBroken}
 use Rattle.jc_commands.specs.Check.{CheckRecords, CheckReport, IsCheckReport, IsShown, MeetsNone, old_side, new_side, report_of, check_bytes, puts_below}
 use Rattle.jc_trees.specs.ClassFiles.{Told}
 use Rattle.jc_releases.specs.Command.{witness_dir, asked_of}
-use Rattle.jc_words.specs.Command.{CommandOf, CheckOf, CheckCommand, LinkCommand, MakeCommand, HistoryCommand, ClientsCommand}
+use Rattle.jc_words.specs.Command.{CommandOf, CheckOf, CheckCommand, LinkCommand, MakeCommand, HistoryCommand, ClientsCommand, HelpCommand}
 use Rattle.jc_commands.specs.Clients.{IsTold}
 use Rattle.jc_commands.specs.History.{IsKeptRow, IsBorneOutRow}
 use Rattle.jc_commands.specs.Make.{IsSize}
@@ -140,6 +140,7 @@ Upholds content (LinkCommand link) list puts = Unit {0}
 Upholds content (MakeCommand n) v puts = Unit {0}
 Upholds content (HistoryCommand h) vs puts = Told content (λ files. IsKeptRow files h vs × IsBorneOutRow files h vs)
 Upholds content (ClientsCommand c) all puts = Told content (λ files. IsTold files c all)
+Upholds content HelpCommand page puts = Unit {0}
 
 -- it tells of the command's report on the records of its trees
 pub record IsReportOf (command : CommandOf) (trees : TreesState) (report : Report) : Type 0 where

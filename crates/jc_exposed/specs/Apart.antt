@@ -1,5 +1,5 @@
 -- Seats of these that are apart from a seat, and to which hidden classes are exposed.
-use Rattle.std.specs.Prelude.{ℕ, Bool, List, Option, is_some, ◌&&◌}
+use Rattle.std.specs.Prelude.{ℕ, Bool, List, is_some, ◌&&◌}
 use Rattle.std.specs.List.{find as first_where}
 use Rattle.jc_facts.specs.Names.{Bytes}
 use Rattle.jc_promises.specs.rule.Apart.{are_apart}

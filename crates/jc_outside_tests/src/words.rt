@@ -61,6 +61,7 @@ const WORDS_NOT_TAKEN: &[&str] = &[
     "history --platform P A B --modular",
     "make",
     "make 8 8",
+    "help check",
 ];
 
 fn words(rt: &impl Abort, alloc: Global, line: &str) -> Vec<Text> {
@@ -125,6 +126,7 @@ fn reads_what_is_asked(rt: HostRuntime) {
     );
     let make = Command::Make(Make { classes: 64 });
     assert!(rt; asks(&rt, alloc, "make 64", &make));
+    assert!(rt; asks(&rt, alloc, "help", &Command::Help));
 }
 
 #[test]

@@ -160,8 +160,10 @@ pub fn gates_named<'a>(alloc: Global, command: &Command<'a>) -> Result<Vec<&'a s
 {
     match command {
         Command::Check(check) => check.gate_names(alloc),
-        Command::Link(_) | Command::Make(_) | Command::History(_) | Command::Clients(_) => {
-            Ok(Vec::new(alloc))
-        }
+        Command::Link(_)
+        | Command::Make(_)
+        | Command::History(_)
+        | Command::Clients(_)
+        | Command::Help => Ok(Vec::new(alloc)),
     }
 }

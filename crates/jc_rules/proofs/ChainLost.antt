@@ -1,5 +1,5 @@
 -- What has left a chain, and what is found of a class and one of its old chain.
-use Rattle.std.proofs.Common.{◌≡◌, ℕ, ◌<◌, Bool, true, false, cond, not, ◌&&◌, [], ◌∷◌, refl, sym, ◌∙◌, ap, Option, None, nat_lt}
+use Rattle.std.proofs.Common.{◌≡◌, ℕ, ◌<◌, Bool, true, false, cond, not, ◌&&◌, refl, sym, ◌∙◌, ap, Option, None, nat_lt}
 use Rattle.std.specs.BTreeSet as sorted
 use Rattle.std.specs.Ordering.{nat_cmp}
 use Rattle.std.proofs.lemmas.Bool.{lt-ltb}

@@ -47,13 +47,14 @@ pub record ClientsOf : Type 0 where
   pub clients : List Text
 
 -- what is asked for: a check of two releases, the linking of clients, the verdict on generated releases of so many classes, the verdicts on a
--- row of releases, or which clients of two releases the new one breaks
+-- row of releases, which clients of two releases the new one breaks, or the page of help
 pub data CommandOf : Type 0 where
   CheckCommand : CheckOf → CommandOf
   LinkCommand : LinkOf → CommandOf
   MakeCommand : ℕ → CommandOf
   HistoryCommand : HistoryOf → CommandOf
   ClientsCommand : ClientsOf → CommandOf
+  HelpCommand : CommandOf
 
 -- ---- check
 
@@ -189,6 +190,13 @@ clients_by_matches (Some rows) = or_clients (clients_in rows)
 abbrev pub clients_by : List Text → Result CommandOf Usage
 clients_by words = clients_by_matches (taken clients_arguments words)
 
+-- ---- help
+
+-- the words after `help`: there are none
+abbrev pub help_by : List Text → Result CommandOf Usage
+help_by [] = Ok HelpCommand
+help_by (word ∷ words) = Err usages.Words
+
 -- ---- all commands
 
 -- a command that doesn't take the words is a fault of them
@@ -204,6 +212,7 @@ command_by name words =
     else if bytes_eq name (codes "make") then make_by words
     else if bytes_eq name (codes "history") then history_by words
     else if bytes_eq name (codes "clients") then clients_by words
+    else if bytes_eq name (codes "help") then help_by words
     else Err (usages.UnknownCommand name)
 
 -- what the words ask for, or the first fault of them: the first word names a command, and `clap` reads those after it

@@ -1,8 +1,9 @@
 //! Laws of what is asked: what some words ask for, and that what has to be there is.
-ghost use Rattle.std.specs.Prelude.{◌≡◌, ◌≤◌, ℕ, length, List, [], ◌∷◌, Ok, Err, Some, true, codes, IsSome};
+ghost use Rattle.std.specs.Prelude.{◌≡◌, ◌≤◌, ℕ, length, List, [], ◌∷◌, ◌++◌, Ok, Err, Some, true, codes, IsSome};
 ghost use Rattle.clap.specs.Words.{Row, Text, first_of};
 ghost use Rattle.jc_words.specs.Arguments.{taken};
-ghost use Rattle.jc_words.specs.Command.{asked, HistoryOf, ClientsOf, CheckCommand, LinkCommand, MakeCommand, HistoryCommand, ClientsCommand, check_arguments, link_arguments};
+ghost use Rattle.jc_words.specs.Command.{asked, HistoryOf, ClientsOf, CheckCommand, LinkCommand, MakeCommand, HistoryCommand, ClientsCommand, HelpCommand, check_arguments, history_arguments, clients_arguments, link_arguments, make_arguments};
+ghost use Rattle.jc_words.specs.Help.{help_page, words_of, named_in, names_of};
 ghost use Rattle.jc_words.specs.declared.usage.Usage.TheVariants as usages;
 ghost use Rattle.jc_words.specs.Worked.{typed, plain_check, plain_link, plain_history, plain_clients};
 
@@ -127,6 +128,18 @@ pub fn clients_of_two_releases()
 /// Whatever words ask for clients of two releases name from 1 to 1,000 of them.
 pub fn clients_have_bounds()
     ensures { (words : List Text) (c : ClientsOf) → asked words ≡ Ok (ClientsCommand c) → (1 ≤ length c.clients) × (length c.clients ≤ 1000) }
+{}
+
+/// `help` takes no word.
+pub fn help_alone()
+    ensures alone { asked (typed (codes "help")) ≡ Ok HelpCommand }
+    ensures further { (word : Text) (words : List Text) → asked (codes "help" ∷ word ∷ words) ≡ Err usages.Words }
+{}
+
+/// The page of help names each command and, behind it, its options in the order of its arguments, and no
+/// other.
+pub fn page_has_each_option()
+    ensures { named_in (words_of help_page) ≡ names_of check_arguments ++ names_of history_arguments ++ names_of clients_arguments ++ names_of link_arguments ++ names_of make_arguments ++ codes "help" ∷ [] }
 {}
 
 /// The first word is the command, whatever follows.

@@ -25,12 +25,13 @@ use Rattle.jc_commands.specs.Check.{CheckReport, IsAnswered, IsCompatible, IsInc
 use Rattle.jc_commands.proofs.SomeSignatures.{noted_list}
 use Rattle.jc_trees.specs.ClassFiles.{Told}
 use Rattle.jc_releases.specs.Command.{step_of_check, witness_dir}
-use Rattle.jc_words.specs.Command.{CommandOf, CheckOf, HistoryOf, ClientsOf, CheckCommand, LinkCommand, MakeCommand, HistoryCommand, ClientsCommand, asked}
+use Rattle.jc_words.specs.Command.{CommandOf, CheckOf, HistoryOf, ClientsOf, CheckCommand, LinkCommand, MakeCommand, HistoryCommand, ClientsCommand, HelpCommand, asked}
+use Rattle.jc_words.specs.Help.{help_page}
 use Rattle.jc_commands.specs.Clients.{IsTold}
 use Rattle.jc_commands.specs.History.{IsKeptRow, IsBorneOutRow}
 use Rattle.jc_answers.specs.ClientsText.{clients_text_of, are_all_kept}
 use Rattle.jc_answers.specs.declared.answer.Answer.{Answer}
-use Rattle.jc_commands.specs.Reports.{RecordsOf, IsReportOn, rules_of, puts_of}
+use Rattle.jc_commands.specs.Reports.{ToldTo, RecordsOf, ReportOf, IsReportOn, rules_of, passes, bytes_of, puts_of}
 use Rattle.jc_promises.specs.rule.Verdict.{IsVerdict}
 use Rattle.jc_facts.specs.Verdicts.{is_incompatible}
 use Rattle.jc_facts.specs.world.World.{World}
@@ -94,6 +95,9 @@ no_clients k d e = absurd (cc)
 no_make : {P : Type 0} (n : ℕ) (d : CheckOf) → MakeCommand n ≡ CheckCommand d → P
 no_make n d e = absurd (cc)
 
+no_help : {P : Type 0} (d : CheckOf) → HelpCommand ≡ CheckCommand d → P
+no_help d e = absurd (cc)
+
 upheld : (trees : TreesState) (report : Report) (check : CheckOf) (command : CommandOf) → command ≡ CheckCommand check → IsReportOf command trees report → Upheld trees.content check report
 upheld trees report check (CheckCommand c) e is = record {
   of = is.of;
@@ -105,6 +109,7 @@ upheld trees report check (LinkCommand l) e is = no_link l check e
 upheld trees report check (MakeCommand n) e is = no_make n check e
 upheld trees report check (HistoryCommand h) e is = no_history h check e
 upheld trees report check (ClientsCommand k) e is = no_clients k check e
+upheld trees report check HelpCommand e is = no_help check e
 
 -- what the report of a row of releases upholds
 record UpheldRow (content : Option (List FileOf)) (history : HistoryOf) (report : Report) : Type 0 where
@@ -127,6 +132,9 @@ no_row_of_clients c k e = absurd (cc)
 no_row_of_make : {P : Type 0} (n : ℕ) (k : HistoryOf) → MakeCommand n ≡ HistoryCommand k → P
 no_row_of_make n k e = absurd (cc)
 
+no_row_of_help : {P : Type 0} (k : HistoryOf) → HelpCommand ≡ HistoryCommand k → P
+no_row_of_help k e = absurd (cc)
+
 upheld_row : (trees : TreesState) (report : Report) (history : HistoryOf) (command : CommandOf) → command ≡ HistoryCommand history → IsReportOf command trees report → UpheldRow trees.content history report
 upheld_row trees report history (HistoryCommand h) e is = record {
   of = is.of;
@@ -137,6 +145,7 @@ upheld_row trees report history (CheckCommand c) e is = no_row_of_check c histor
 upheld_row trees report history (LinkCommand l) e is = no_row_of_link l history e
 upheld_row trees report history (ClientsCommand c) e is = no_row_of_clients c history e
 upheld_row trees report history (MakeCommand n) e is = no_row_of_make n history e
+upheld_row trees report history HelpCommand e is = no_row_of_help history e
 
 -- what the report of clients of two releases upholds
 record UpheldClients (content : Option (List FileOf)) (clients : ClientsOf) (report : Report) : Type 0 where
@@ -160,6 +169,9 @@ no_clients_of_row h k e = absurd (cc)
 no_clients_of_make : {P : Type 0} (n : ℕ) (k : ClientsOf) → MakeCommand n ≡ ClientsCommand k → P
 no_clients_of_make n k e = absurd (cc)
 
+no_clients_of_help : {P : Type 0} (k : ClientsOf) → HelpCommand ≡ ClientsCommand k → P
+no_clients_of_help k e = absurd (cc)
+
 upheld_clients : (trees : TreesState) (report : Report) (clients : ClientsOf) (command : CommandOf) → command ≡ ClientsCommand clients → IsReportOf command trees report
     → UpheldClients trees.content clients report
 upheld_clients trees report clients (ClientsCommand c) e is = record {
@@ -172,6 +184,27 @@ upheld_clients trees report clients (CheckCommand c) e is = no_clients_of_check 
 upheld_clients trees report clients (LinkCommand l) e is = no_clients_of_link l clients e
 upheld_clients trees report clients (HistoryCommand h) e is = no_clients_of_row h clients e
 upheld_clients trees report clients (MakeCommand n) e is = no_clients_of_make n clients e
+upheld_clients trees report clients HelpCommand e is = no_clients_of_help clients e
+
+-- what the report of help upholds
+record UpheldPage (report : Report) : Type 0 where
+  text : bytes_in report.body ≡ help_page
+  answer : (gates : List GateOf) → passes_by gates report.condition ≡ true
+
+-- whatever the files are, the page is the one
+the_page : (content : Option (List FileOf)) (command : CommandOf) → command ≡ HelpCommand → (page : ReportOf command)
+    → ToldTo command content (λ files. (records : RecordsOf files command) × IsReportOn files command records page) → (bytes_of command page ≡ help_page) × ((gates : List GateOf) → passes gates command page ≡ true)
+the_page content HelpCommand e page h = ((h []).1, λ gates. refl)
+the_page content (CheckCommand c) e report h = absurd (cc)
+the_page content (LinkCommand l) e report h = absurd (cc)
+the_page content (MakeCommand n) e report h = absurd (cc)
+the_page content (HistoryCommand k) e report h = absurd (cc)
+the_page content (ClientsCommand k) e report h = absurd (cc)
+
+upheld_page : (trees : TreesState) (report : Report) (command : CommandOf) → command ≡ HelpCommand → IsReportOf command trees report → UpheldPage report
+upheld_page trees report command e is =
+    let page = the_page trees.content command e is.of (told_weaker command trees.content _ _ (λ files h. (h.0, h.1)) is.is_report) in
+    record { text = is.tells.text ∙ page.0; answer = λ gates. is.tells.answer gates ∙ page.1 gates }
 
 module _ (r : Ran) (report : Report) (is : Reports r.gates r.words r.trees.before report)
     (put : IsPutAfter (puts_in report.body) r.folder (bytes_in report.body) (status_by (passes_by r.gates report.condition)) r.out r.status ⊎ IsCutBefore (dir_in report.body) (puts_in report.body) r.folder r.out r.status)
@@ -394,6 +427,14 @@ module _ (r : Ran) (report : Report) (is : Reports r.gates r.words r.trees.befor
         → (all : List Answer) × Puts r (clients_text_of all) × OfFiles r (λ files. IsTold files clients all) × ((r.status ≡ PASSED) ↔ IsTrue (are_all_kept all))
     lost answered p = (up_clients.of, p.puts (clients_text_of up_clients.of) up_clients.text, up_clients.told, (all_kept, λ kept. passes_kept kept answered))
 
+  module _ (e : asked r.words ≡ Ok HelpCommand) where
+    up_page : UpheldPage report
+    up_page = upheld_page r.trees.before report is.command (same_ok (asked r.words) is.command HelpCommand words_ask e) is.is
+
+    helped : (r.status ≡ PASSED) ⊎ (r.status ≡ NOT_PASSED) → IsWhole → (r.status ≡ PASSED) × Puts r help_page
+    helped (inl zero) p = (zero, p.puts help_page up_page.text)
+    helped (inr one) p = absurd (both_ways passed_by (is_not_passed one the_case).0 (up_page.answer r.gates))
+
   has_whole : (r.status ≡ PASSED) ⊎ (r.status ≡ NOT_PASSED) → IsWhole
   has_whole (inl zero) = (is_passed zero the_case).1
   has_whole (inr one) = (is_not_passed one the_case).1
@@ -429,6 +470,7 @@ module _ (r : Ran) (report : Report) (is : Reports r.gates r.words r.trees.befor
     versioned = λ answered check e asks step said gate. versioned check e asks step said gate answered (has_whole answered);
     judged = λ answered history e. judged history e (has_whole answered);
     lost = λ answered clients e. lost clients e answered (has_whole answered);
+    helped = λ answered e. helped e answered (has_whole answered);
     unwitnessed = λ none. untouched (is.is.dir_is ∙ if_ok (asked r.words) is.command (λ command. witness_dir command ≡ None) words_ask none);
     usage = never 2 refl refl refl refl;
     bad_input = never 3 refl refl refl refl;
@@ -518,6 +560,7 @@ module _ (r : Ran) (stop : Stop) (cause : HasCause r.gates r.words r.trees stop)
     versioned = no_answer;
     judged = no_answer;
     lost = no_answer;
+    helped = no_answer;
     unwitnessed = λ none. untouched;
     usage = refuses 2 refl refl put.known;
     bad_input = refuses 3 refl refl put.known;

@@ -11,7 +11,8 @@ use Rattle.jc_commands.specs.Causes.{HasCause, IsRefused, IsAccepted, HasFailed}
 use Rattle.jc_commands.specs.Check.{CheckReport, IsAnswered, IsCompatible, IsIncompatible, IsBorneOut, IsNoted, KeepsInterfaces, HoldsClients, check_bytes}
 use Rattle.jc_trees.specs.ClassFiles.{Told}
 use Rattle.jc_releases.specs.Command.{witness_dir, step_of_check, asked_of}
-use Rattle.jc_words.specs.Command.{CommandOf, CheckOf, HistoryOf, ClientsOf, CheckCommand, HistoryCommand, ClientsCommand, asked}
+use Rattle.jc_words.specs.Command.{CommandOf, CheckOf, HistoryOf, ClientsOf, CheckCommand, HistoryCommand, ClientsCommand, HelpCommand, asked}
+use Rattle.jc_words.specs.Help.{help_page}
 use Rattle.jc_answers.specs.ClientsText.{clients_text_of, are_all_kept}
 use Rattle.jc_answers.specs.declared.answer.Answer.{Answer}
 use Rattle.jc_commands.specs.Clients.{IsTold}
@@ -174,6 +175,8 @@ pub record Answers (r : Ran) : Type 0 where
   -- nothing
   pub lost : (r.status ≡ PASSED) ⊎ (r.status ≡ NOT_PASSED) → (clients : ClientsOf) → asked r.words ≡ Ok (ClientsCommand clients)
       → (all : List Answer) × Puts r (clients_text_of all) × OfFiles r (λ files. IsTold files clients all) × ((r.status ≡ PASSED) ↔ IsTrue (are_all_kept all))
+  -- of help: what was put is its page, and it passes
+  pub helped : (r.status ≡ PASSED) ⊎ (r.status ≡ NOT_PASSED) → asked r.words ≡ Ok HelpCommand → (r.status ≡ PASSED) × Puts r help_page
   -- where no witnesses are asked for, nothing was put into the folder
   pub unwitnessed : IfOk (asked r.words) (λ command. witness_dir command ≡ None) → IsUntouched r.folder
   -- the words ask for nothing

@@ -191,7 +191,7 @@ fn files_below<R: Files + AllocGlobal + Clone + Drop>(rt: &R, root: &str) -> io:
 }
 
 // Whether each text is below the next.
-pub(crate) fn is_ascending(texts: &[Text]) -> bool
+fn is_ascending(texts: &[Text]) -> bool
     ensures { result ≡ ascends texts.now }
 {
     for i in 1..texts.len() {

@@ -13,7 +13,8 @@ ghost use Rattle.jc_commands.specs.Causes.{IsRefused, IsAccepted};
 ghost use Rattle.jcompat.specs.Alike.{OneAnswer};
 ghost use Rattle.jcompat.specs.Answers.{Answers, Ran, ran, Puts};
 ghost use Rattle.jcompat.specs.declared.disk_trees.TheConstants.{MAX_ENTRIES};
-ghost use Rattle.jc_words.specs.Command.{CommandOf, MakeCommand, asked};
+ghost use Rattle.jc_words.specs.Command.{CommandOf, MakeCommand, HelpCommand, asked};
+ghost use Rattle.jc_words.specs.Help.{help_page};
 ghost use Rattle.jc_commands.specs.Make.{IsVerdictOnMade};
 ghost use Rattle.jc_commands.specs.Reports.{RecordsOf, ReportOf, Accepts, IsReportOn};
 ghost use Rattle.jc_releases.specs.declared.status.TheConstants.{PASSED, READ_FAULT, WRITE_FAULT, NO_MEMORY};
@@ -59,6 +60,11 @@ pub fn one_report()
 pub fn generated_releases()
     ensures { (r : Ran) (n : ℕ) → Answers r → asked r.words ≡ Ok (MakeCommand n)
         → ((r.status ≡ PASSED) × ((v : Verdict) × IsVerdictOnMade n v × Puts r (made_text_of n v))) ⊎ (r.status ≡ WRITE_FAULT) ⊎ (r.status ≡ NO_MEMORY) }
+{}
+
+/// A run for help puts its page and passes, unless a put fails or there is no memory.
+pub fn help_is_put()
+    ensures { (r : Ran) → Answers r → asked r.words ≡ Ok HelpCommand → ((r.status ≡ PASSED) × Puts r help_page) ⊎ (r.status ≡ WRITE_FAULT) ⊎ (r.status ≡ NO_MEMORY) }
 {}
 
 /// Two runs with the same words, gates and told files, both of which answer, put the same bytes and have

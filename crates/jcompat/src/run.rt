@@ -16,7 +16,7 @@ use std::alloc::Global;
 /// Does what the words ask for, writes what there is to say, and answers the exit status:
 ///
 /// - 0: what was asked is so: of a check each gate of a name that it asks for passes, of a link each
-///   outcome is Ok, of a row of releases no step has a finding, of generated releases always; 1: it isn't
+///   outcome is Ok, of a row of releases no step has a finding, of generated releases and of help always; 1: it isn't
 ///   so. The verdict, the verdicts or the outcomes were put to `out`, and before them, where a check asks
 ///   for it, the witness files of each finding and collision to `witnesses`. Then each such gate was told
 ///   the step between the versions, where the check says them, saw the rules of all findings and collisions

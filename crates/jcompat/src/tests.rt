@@ -1,9 +1,8 @@
-//! Runs over trees in memory and over folders, against what they are to say.
+//! Runs over trees in memory, against what they are to say. Those over real folders and streams are in `examples/statuses.sh`.
 mod assembler;
 mod clients;
 mod dropped;
 mod files;
-mod folders;
 mod gates;
 mod generated;
 mod history;
@@ -36,7 +35,6 @@ use jc_base::sure_folder::SureFolder;
 use jc_base::sure_sink::SureSink;
 use jc_base::sure_trees::SureTrees;
 use jc_base::text::Text;
-use jc_base::trees::Trees;
 use jc_gate::at_most::AtMost;
 use jc_gate::collisions::Collisions;
 use jc_gate::gate::Gate;
@@ -77,12 +75,21 @@ struct Ended {
     folder: MemFolder,
 }
 
-// A run of these words over these trees, where calls on the folder and on both streams fail.
-fn run_over<T: Trees>(rt: &impl Host, words: &[Text], trees: &mut T, calls: &str) -> Ended {
+// A run of the words of this line over these files, where calls fail.
+fn run_on(rt: &impl Host, line: &str, files: Vec<MemFile>, calls: &str) -> Ended {
+    let words = words_of(rt.alloc(), line).expect(rt, "memory");
+    let mut trees = trees(rt, files, calls);
     let mut folder = folder(rt, calls);
     let mut out = sink(rt, calls, "out");
     let mut err = sink(rt, calls, "err");
-    let run = run_with_gates(rt.alloc(), words, trees, &mut out, &mut err, &mut folder);
+    let run = run_with_gates(
+        rt.alloc(),
+        words.as_slice(),
+        &mut trees,
+        &mut out,
+        &mut err,
+        &mut folder,
+    );
     let status = run.expect(rt, "memory");
     Ended {
         status,
@@ -90,12 +97,6 @@ fn run_over<T: Trees>(rt: &impl Host, words: &[Text], trees: &mut T, calls: &str
         err,
         folder,
     }
-}
-
-// A run of the words of this line over these files, where calls fail.
-fn run_on(rt: &impl Host, line: &str, files: Vec<MemFile>, calls: &str) -> Ended {
-    let words = words_of(rt.alloc(), line).expect(rt, "memory");
-    run_over(rt, words.as_slice(), &mut trees(rt, files, calls), calls)
 }
 
 // The files of the row.

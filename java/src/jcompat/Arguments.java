@@ -112,6 +112,45 @@ final class Arguments {
         }
     }
 
+    /** OLD NEW CLIENT.. [--with PLACE].. and so on */
+    AffectedRequest affected() throws Stop {
+        AffectedRequest request = new AffectedRequest();
+        request.program = path(System.getProperty("jcompat.program"));
+        request.jdk = path(System.getenv("JAVA_HOME"));
+        for (; at < words.size(); at++) {
+            String word = words.get(at);
+            if (word.startsWith("-")) {
+                take(word, request);
+            } else if (request.oldRelease == null) {
+                request.oldRelease = Paths.get(word);
+            } else if (request.newRelease == null) {
+                request.newRelease = Paths.get(word);
+            } else {
+                request.clients.add(Paths.get(word));
+            }
+        }
+        if (request.clients.isEmpty()) {
+            throw new Stop("the old release, the new one and clients are needed" + see());
+        }
+        return request;
+    }
+
+    private void take(String option, AffectedRequest request) throws Stop {
+        switch (option) {
+            case "--with": request.with.add(Paths.get(value())); break;
+            case "--without": request.without.add(value()); break;
+            case "--tree": request.trees.add(Paths.get(value())); break;
+            case "--repository": request.repository = Paths.get(value()); break;
+            case "--json": request.json = true; break;
+            case "--page": request.page = Paths.get(value()); break;
+            case "--whole": request.whole = true; break;
+            case "--needed": request.needed = true; break;
+            case "--jdk": request.jdk = Paths.get(value()); break;
+            case "--cache": request.cache = Paths.get(value()); break;
+            default: throw new Stop("there is no option " + option + see());
+        }
+    }
+
     /** REPORT OLD NEW [--witness FOLDER] [--title TEXT] */
     void page(PageCommand page) throws Stop {
         for (; at < words.size(); at++) {

@@ -197,7 +197,7 @@ public final class Check {
         }
         if (comparison == comparisons.get(0)) {
             head.addAll(outcome.needs);
-            head.addAll(outcome.due == null ? List.of() : outcome.due.lines());
+            head.addAll(due());
         }
         return head;
     }
@@ -206,6 +206,11 @@ public final class Check {
         String counts = Printed.counts(comparison.report.further, comparison.options);
         long repeated = comparison.folding.repeated(comparison.report.further);
         return repeated == 0 ? counts : counts + "; " + repeated + (repeated == 1 ? " warning only says" : " warnings only say") + " again what a finding says";
+    }
+
+    /** Which version number is due, in lines of which the first says it; none where it isn't asked for, nor before two releases are compared. */
+    public List<String> due() {
+        return outcome == null || outcome.due == null ? List.of() : outcome.due.lines();
     }
 
     /** The verdict of each comparison, and how many warnings there are, in one line; of two releases that were compared. */

@@ -86,6 +86,11 @@ final class DocumentText {
         return needs;
     }
 
+    /** Which version number is due; null where that wasn't asked. */
+    Map<?, ?> due() {
+        return (Map<?, ?>) map.get("due");
+    }
+
     String jdk() {
         return text(map, "jdk");
     }

@@ -144,6 +144,15 @@ final class Json {
         return "\"\\/\b\f\n\r\t".charAt(place);
     }
 
+    /** The object of keys, each with its value behind it. */
+    static Map<String, Object> object(Object... pairs) {
+        Map<String, Object> map = new LinkedHashMap<>();
+        for (int i = 0; i < pairs.length; i += 2) {
+            map.put((String) pairs[i], pairs[i + 1]);
+        }
+        return map;
+    }
+
     /** A value in one line. */
     static String write(Object value) {
         StringBuilder to = new StringBuilder();

@@ -63,6 +63,8 @@ public final class Main {
                     return new Packages(request, name, host).run();
                 }
                 return new Check(request, host).run();
+            case "affected":
+                return new Affected(new Arguments(words).affected(), host).run();
             case "page":
                 PageCommand page = new PageCommand();
                 new Arguments(words).page(page);

@@ -33,7 +33,7 @@ final class Packages {
     }
 
     static boolean are(Request request) {
-        return !request.row && request.releases.stream().allMatch(release -> release.toString().endsWith(".deb"));
+        return !request.row && request.releases.stream().allMatch(DebianPackage::is);
     }
 
     int run() throws IOException, Stop {
@@ -79,27 +79,14 @@ final class Packages {
 
     /** To each name of a jar, without a version, the jar. */
     private static Map<String, Path> jarsOf(Path deb, Path to) throws IOException, Stop {
-        try {
-            Process process = new ProcessBuilder("dpkg-deb", "-x", deb.toString(), to.toString()).inheritIO().start();
-            if (process.waitFor() != 0) {
-                throw new Stop(deb + " isn't a Debian package");
-            }
-        } catch (IOException none) {
-            throw new Stop("dpkg-deb, which unpacks packages, isn't on the path");
-        } catch (InterruptedException interrupted) {
-            throw new Stop("interrupted");
-        }
         Map<String, Path> jars = new TreeMap<>();
-        try (Stream<Path> all = Files.walk(to)) {
-            for (Path jar : all.filter(file -> file.toString().endsWith(".jar") && Files.isRegularFile(file, java.nio.file.LinkOption.NOFOLLOW_LINKS)).sorted()
-                    .collect(Collectors.toList())) {
-                String base = jar.getFileName().toString().replaceFirst("\\.jar$", "").replaceFirst("-[0-9][^-]*(?=(-[^0-9-][^-]*)*$)", "");
-                String key = base;
-                for (int i = 2; jars.containsKey(key); i++) {
-                    key = base + "(" + i + ")";
-                }
-                jars.put(key, jar);
+        for (Path jar : new DebianPackage(deb, to).jars) {
+            String base = jar.getFileName().toString().replaceFirst("\\.jar$", "").replaceFirst("-[0-9][^-]*(?=(-[^0-9-][^-]*)*$)", "");
+            String key = base;
+            for (int i = 2; jars.containsKey(key); i++) {
+                key = base + "(" + i + ")";
             }
+            jars.put(key, jar);
         }
         return jars;
     }

@@ -137,12 +137,31 @@ final class Page {
                 + " folded into others, mostly the same member through a subclass.") + "</p></header>\n");
     }
 
+    /** Which version number is due; what else is asked for where that isn't the same. */
+    private void putDue() {
+        Map<?, ?> due = input.due;
+        String number = DocumentText.text(due, due.get("number") == null ? "step" : "number");
+        boolean isNumber = due.get("number") != null;
+        put("<p class=sum>Due by Semantic Versioning: <strong>" + Html.text(isNumber ? number : "a " + number + " step") + "</strong>" + (isNumber ? ", a " + due.get("step") + " step" : "")
+                + (Boolean.FALSE.equals(due.get("whole")) ? ", at least, since not all was compared" : ""));
+        List<?> reasons = (List<?>) due.get("reasons");
+        put(": " + (reasons.isEmpty() ? "nothing asks for more" : reasons.stream().map(each -> Html.text(each.toString())).collect(Collectors.joining("; "))) + ".");
+        if (!due.get("gate_step").equals(due.get("step"))) {
+            put(" The gate <code>version</code> asks for " + Html.text(isNumber ? DocumentText.text(due, "gate_number") : "a " + due.get("gate_step") + " step")
+                    + ": it is proved, and looks at findings and collisions alone; the rest is tested, not proved.");
+        }
+        put("</p>\n");
+    }
+
     /** What Java is needed, what it is as modules, and of what the page is. */
     private void putFacts() {
         input.needs.forEach(need -> put("<p class=warn role=note>The new release " + Html.text(need) + ".</p>\n"));
         if (input.verdictOfModules != null) {
             put("<p class=warn role=note>This is for clients that have both releases on the class path. As modules the new release is <strong>"
                     + Html.text(input.verdictOfModules) + "</strong>" + (input.ofModules.isEmpty() ? "" : ": <a href=#modules>what is more there</a>") + ".</p>\n");
+        }
+        if (input.due != null) {
+            putDue();
         }
         put("<p class=sum>" + input.facts.stream().map(fact -> Html.text(fact[0]) + " <code>" + Html.text(fact[1]) + "</code>").collect(Collectors.joining("; "))
                 + "</p>\n");

@@ -39,6 +39,7 @@ final class PageCommand {
         if (document != null) {
             input.accept(document.accepted(0));
             input.needs.addAll(document.needs());
+            input.due = document.due();
             input.facts.add(new String[] {"JDK", document.jdk()});
             if (reports.size() > 1) {
                 input.addModules(reports.get(1), old, release(newRelease), document.accepted(1));

@@ -23,6 +23,8 @@ final class PageInput {
     String verdictOfModules;
     /** What Java the new release needs, and the like. */
     final List<String> needs = new ArrayList<>();
+    /** Which version number is due, as a document has it; or null. */
+    Map<?, ?> due;
     /** To each thing that is said of the releases what it is, in order. */
     final List<String[]> facts = new ArrayList<>();
     private final Set<String> accepted = new HashSet<>();
@@ -44,6 +46,7 @@ final class PageInput {
             input.addModules(other.report, other.oldRelease, other.newRelease, other.accepted.stream().map(line -> line.text).collect(Collectors.toSet()));
         }
         input.needs.addAll(outcome.needs);
+        input.due = outcome.due == null ? null : outcome.due.map();
         for (int i = 0; i < 2; i++) {
             String version = outcome.version(i);
             input.addRelease(i, outcome.request.releases.get(i).getFileName() + (version == null ? "" : ", version " + version));

@@ -34,24 +34,16 @@ final class Sarif {
             addResults(each, told);
         }
         List<Object> described = new ArrayList<>();
-        rules.forEach(rule -> described.add(pairs("id", rule, "shortDescription", pairs("text", rule.equals(CONSTANT) ? "a constant has changed" : meanings.heading(rule)))));
-        Map<String, Object> driver = pairs("name", "jcompat", "rules", described);
+        rules.forEach(rule -> described.add(Json.object("id", rule, "shortDescription", Json.object("text", rule.equals(CONSTANT) ? "a constant has changed" : meanings.heading(rule)))));
+        Map<String, Object> driver = Json.object("name", "jcompat", "rules", described);
         String version = System.getProperty("jcompat.version");
         if (version != null) {
             driver.put("version", version);
         }
-        Map<String, Object> invocation = pairs("executionSuccessful", true, "exitCode", outcome.status, "toolExecutionNotifications", notifications);
-        Map<String, Object> run = pairs("tool", pairs("driver", driver), "columnKind", "utf16CodeUnits", "invocations", List.of(invocation), "artifacts", artifacts(), "results", results,
-                "properties", pairs("verdict", outcome.comparisons.get(0).report.verdict, "jdk", outcome.jdk.version));
-        return pairs("$schema", "https://json.schemastore.org/sarif-2.1.0.json", "version", "2.1.0", "runs", List.of(run));
-    }
-
-    private static Map<String, Object> pairs(Object... pairs) {
-        Map<String, Object> map = new LinkedHashMap<>();
-        for (int i = 0; i < pairs.length; i += 2) {
-            map.put((String) pairs[i], pairs[i + 1]);
-        }
-        return map;
+        Map<String, Object> invocation = Json.object("executionSuccessful", true, "exitCode", outcome.status, "toolExecutionNotifications", notifications);
+        Map<String, Object> run = Json.object("tool", Json.object("driver", driver), "columnKind", "utf16CodeUnits", "invocations", List.of(invocation), "artifacts", artifacts(), "results", results,
+                "properties", Json.object("verdict", outcome.comparisons.get(0).report.verdict, "jdk", outcome.jdk.version));
+        return Json.object("$schema", "https://json.schemastore.org/sarif-2.1.0.json", "version", "2.1.0", "runs", List.of(run));
     }
 
     /** Both releases, with their sums. */
@@ -59,7 +51,7 @@ final class Sarif {
         List<Object> artifacts = new ArrayList<>();
         for (Path release : outcome.request.releases) {
             URI address = release.toAbsolutePath().normalize().toUri();
-            artifacts.add(pairs("location", pairs("uri", address.toString()), "roles", List.of("analysisTarget"), "hashes", pairs("sha-256", Digest.of(release))));
+            artifacts.add(Json.object("location", Json.object("uri", address.toString()), "roles", List.of("analysisTarget"), "hashes", Json.object("sha-256", Digest.of(release))));
         }
         return artifacts;
     }
@@ -75,9 +67,9 @@ final class Sarif {
                 Map<String, Object> result = result(line.rule, line.isFinding() ? "error" : "warning", said.get(0) + folded + (said.get(1).isEmpty() ? "" : ". A client that breaks: " + said.get(1)),
                         line.text, outcome.sources.of(line, comparison), line.type, line.member);
                 if (comparison.accepted.contains(line)) {
-                    result.put("suppressions", List.of(pairs("kind", "external", "status", "accepted")));
+                    result.put("suppressions", List.of(Json.object("kind", "external", "status", "accepted")));
                 }
-                result.put("properties", pairs("line", line.toString(), "clients", comparison.name()));
+                result.put("properties", Json.object("line", line.toString(), "clients", comparison.name()));
                 results.add(result);
             }
         }
@@ -90,7 +82,7 @@ final class Sarif {
         }
         long lost = comparison.report.unloadable("old").size();
         if (lost > 0) {
-            notifications.add(pairs("level", "warning", "message", pairs("text", lost + " classes of the old release weren't compared " + comparison.name() + ", since they don't load here")));
+            notifications.add(Json.object("level", "warning", "message", Json.object("text", lost + " classes of the old release weren't compared " + comparison.name() + ", since they don't load here")));
         }
     }
 
@@ -101,11 +93,11 @@ final class Sarif {
         boolean isMember = member.contains("(") || member.contains(":");
         Map<String, Object> location = new LinkedHashMap<>();
         if (place != null) {
-            location.put("physicalLocation", pairs("artifactLocation", pairs("uri", place.address), "region", pairs("startLine", place.line)));
+            location.put("physicalLocation", Json.object("artifactLocation", Json.object("uri", place.address), "region", Json.object("startLine", place.line)));
         }
-        location.put("logicalLocations", List.of(pairs("fullyQualifiedName", Html.dotted(type) + (isMember ? "." + member : ""), "kind",
+        location.put("logicalLocations", List.of(Json.object("fullyQualifiedName", Html.dotted(type) + (isMember ? "." + member : ""), "kind",
                 !isMember ? "type" : member.contains("(") ? "function" : "member")));
-        return pairs("ruleId", rule, "ruleIndex", rules.indexOf(rule), "level", level, "message", pairs("text", message), "locations", List.of(location),
-                "partialFingerprints", pairs("jcompatLine/v1", text));
+        return Json.object("ruleId", rule, "ruleIndex", rules.indexOf(rule), "level", level, "message", Json.object("text", message), "locations", List.of(location),
+                "partialFingerprints", Json.object("jcompatLine/v1", text));
     }
 }

@@ -1,6 +1,7 @@
 package jcompat;
 
 import static org.junit.Assert.assertEquals;
+import static org.junit.Assert.assertFalse;
 import static org.junit.Assert.assertNull;
 import static org.junit.Assert.assertTrue;
 import static org.junit.Assert.fail;
@@ -8,6 +9,7 @@ import static org.junit.Assert.fail;
 import java.nio.file.Path;
 import java.util.Arrays;
 import java.util.List;
+import java.util.Map;
 import java.util.stream.Collectors;
 
 import org.junit.Rule;
@@ -89,6 +91,25 @@ public class DueTest {
         Comparison lacking = Compiled.comparison(one, one, NONE);
         lacking.isWhole = false;
         assertTrue(due("1.4.2", null, false, lacking).get(0).contains(" at least, since not all was compared"));
+    }
+
+    private static String page(Map<?, ?> due, Classes release) throws Exception {
+        PageInput input = new PageInput(new Report(NONE), release, release);
+        input.due = due;
+        return new Page(input, null, "p").html();
+    }
+
+    @Test
+    public void thePageSaysWhatIsDue() throws Exception {
+        Classes one = release("one", "A:public class A { }");
+        Classes more = release("more", "A:public class A { public void fill() { } }");
+        Due due = new Due("1.4.2", null, List.of(Compiled.comparison(one, more, NONE)), false);
+        String said = "Due by Semantic Versioning: <strong>1.5.0</strong>, a minor step: 1 addition, as p/A fill()V. The gate <code>version</code> asks for 1.4.3: ";
+        assertTrue(page(due.map(), one).contains(said));
+        // as a document has it
+        assertTrue(page((Map<?, ?>) Json.read(Json.write(due.map())), one).contains(said));
+        assertTrue(page(new Due(null, null, List.of(Compiled.comparison(one, one, NONE)), false).map(), one).contains("Due by Semantic Versioning: <strong>a patch step</strong>: nothing asks for more.</p>"));
+        assertFalse(page(null, one).contains("Due by"));
     }
 
     @Test

@@ -261,7 +261,7 @@ fn bytes_of(alloc: Global, words: &str) -> Result<Vec<u8>, AllocError> {
 }
 
 /// The file under a root of a text: `NAME WORDS..` of a class at its place, `at PATH NAME WORDS..` of one
-/// at another, `bytes PATH HEX..`, or `zeros PATH COUNT`. It is empty where a word says nothing of a class.
+/// at another, or `bytes PATH HEX..`. It is empty where a word says nothing of a class.
 ///
 /// # Errors
 ///
@@ -271,12 +271,6 @@ pub(super) fn file_of(alloc: Global, root: &str, text: &str) -> Result<MemFile, 
     let (path, content) = cut(words, " ");
     match name {
         "bytes" => file(alloc, root, path, bytes_of(alloc, content)?),
-        "zeros" => file(
-            alloc,
-            root,
-            path,
-            vec![in alloc; 0u8; content.parse().unwrap_or(0)]?,
-        ),
         "at" => file(alloc, root, path, class_bytes(alloc, content)?),
         _ => {
             let own_path = format!(in alloc; "{name}.class")?;

@@ -1,12 +1,32 @@
 //! Files that differ much in size, or change, or fail, read one after the other.
-use super::outside::{Disk, new_folder, put_file, remove};
 use super::{Host, see_table};
 use crate::disk_trees::{DiskTrees, fill};
 use jc_base::file_buf::FileBuf;
 use jc_base::trees::Trees;
-use std::io;
 use std::io::{ErrorKind, Read};
 use std::test::Fail;
+use std::{env, fs, io, process};
+
+/// Trees of real folders.
+type Disk = DiskTrees<HostRuntime>;
+
+// A new folder of a test's own.
+fn new_folder(rt: &HostRuntime, name: &str) -> Result<String, Fail> {
+    let id = process::id(rt.process());
+    let place = env::temp_dir(rt)?;
+    let folder = format!(in rt.alloc(); "{}/jcompat_{name}_{id}", place.as_str())?;
+    if fs::exists(rt, folder.as_str())? {
+        fs::remove_dir_all(rt, folder.as_str())?;
+    }
+    fs::create_dir(rt, folder.as_str())?;
+    Ok(folder)
+}
+
+// Writes the one file of a folder.
+fn put_file(rt: &impl Host, root: &str, bytes: &[u8]) {
+    let place = format!(in rt.alloc(); "{root}/A.class").expect(rt, "memory");
+    fs::write(rt, place.as_str(), bytes).expect(rt, "written");
+}
 
 /// The bytes of a file, and those that are read where nine are wanted, and one more shows that there are more.
 const CONTENTS: &[(&str, &str)] = &[
@@ -19,7 +39,7 @@ const CONTENTS: &[(&str, &str)] = &[
 fn see_contents(rt: &impl Host, trees: &mut Disk, root: &str) {
     let mut buffer = FileBuf::new(rt.alloc()).expect(rt, "memory");
     for (content, wanted) in CONTENTS {
-        put_file(rt, root, "A.class", content.as_bytes());
+        put_file(rt, root, content.as_bytes());
         let read = trees.read_into(rt.alloc(), root, "A.class", 9, &mut buffer);
         let is_read = read.is_ok() && buffer.as_bytes() == wanted.as_bytes();
         assert!(rt; is_read, "{wanted}");
@@ -34,11 +54,11 @@ fn see_listed(rt: &impl Host, trees: &mut Disk, root: &str) {
 #[test]
 fn a_real_file_is_read_as_it_stands(rt: HostRuntime) -> Result<(), Fail> {
     let root = new_folder(&rt, "changes")?;
-    put_file(&rt, root.as_str(), "A.class", b"as it was listed");
+    put_file(&rt, root.as_str(), b"as it was listed");
     let mut trees = DiskTrees::new(rt.clone().expect(&rt, "memory"));
     see_listed(&rt, &mut trees, root.as_str());
     see_contents(&rt, &mut trees, root.as_str());
-    remove(&rt, root.as_str());
+    fs::remove_dir_all(&rt, root.as_str())?;
     Ok(())
 }
 

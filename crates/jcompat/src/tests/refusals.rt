@@ -1,10 +1,5 @@
 //! Trees and calls that are refused.
-use super::assembler::cut;
-use super::outside::{Disk, below, new_folder, put_file, remove};
-use super::rows::{Row, in_lines, words_of};
-use super::{Host, files_of, run_over, see_ended, see_table};
-use crate::disk_trees::DiskTrees;
-use std::test::Fail;
+use super::see_table;
 
 const OVER_ROOT: &str = "$ check --platform P --old O --new N
 : P java/lang/Object init
@@ -36,50 +31,4 @@ fn trees_are_refused(rt: HostRuntime) {
     for table in [OVER_ROOT, OTHER_ROOTS] {
         see_table(&rt, table);
     }
-}
-
-const ON_DISK: &str = ": P java/lang/Object init | N bytes notes.txt
-#3 a file that is cut off : O bytes p/A.class ca fe ba be 0 0 0 34 0 4 7 0
-! jcompat: old: p/A.class: Short at 12
-#3 an empty file : O bytes p/A.class
-! jcompat: old: p/A.class: Short at 0
-#3 a file at another place : O at p/A.class p/B init
-! jcompat: old: p/A.class: misplaced p/B
-#7 a byte more than a file may have : O zeros p/A.class 4194305
-! jcompat: old: p/A.class: limit bytes
-#3 as many bytes as a file may have : O zeros p/A.class 4194304
-! jcompat: old: p/A.class: BadMagic at 0
-";
-
-// Writes the files of the row to the folders of their roots.
-fn put_row(rt: &impl Host, folder: &str, row: &Row<'_>) {
-    for file in files_of(rt, row).as_slice() {
-        let root = below(rt, folder, file.root.as_str());
-        put_file(rt, root.as_str(), file.path.as_str(), file.bytes.as_slice());
-    }
-}
-
-// Sees that a check of these folders says what the row says.
-fn see_folders(rt: &impl Host, trees: &mut Disk, folder: &str, row: &Row<'_>) {
-    let line = format!(in rt.alloc();
-        "check --platform {folder}/P --old {folder}/O --new {folder}/N"
-    );
-    let words = words_of(rt.alloc(), line.expect(rt, "memory").as_str()).expect(rt, "memory");
-    see_ended(rt, row, &run_over(rt, words.as_slice(), trees, ""));
-}
-
-#[test]
-fn real_folders_are_refused(rt: HostRuntime) -> Result<(), Fail> {
-    let folder = new_folder(&rt, "check")?;
-    let folder = folder.as_str();
-    let mut trees = DiskTrees::new(rt.clone().expect(&rt, "memory"));
-    let lines = in_lines(rt.alloc(), ON_DISK).expect(&rt, "memory");
-    let (common, rows) = cut(lines.as_str(), "#");
-    for own in rows.split('#') {
-        let row = Row { common, own };
-        put_row(&rt, folder, &row);
-        see_folders(&rt, &mut trees, folder, &row);
-    }
-    remove(&rt, folder);
-    Ok(())
 }

@@ -40,14 +40,3 @@ fn words_are_taken_or_refused(rt: HostRuntime) {
         see_table(&rt, table);
     }
 }
-
-#[test]
-fn a_long_word_is_refused(rt: HostRuntime) {
-    let long = "w".repeat(rt.alloc(), 100_000).expect(&rt, "memory");
-    let table = format!(in rt.alloc();
-        ": P java/lang/Object init | O p/A init | N p/A init method=2:run:()V
-#2 {long}
-! jcompat: usage: unknown command {long}"
-    );
-    see_table(&rt, table.expect(&rt, "memory").as_str());
-}

@@ -42,6 +42,7 @@ public class CompatTask extends DefaultTask {
     private String own;
     private boolean whole;
     private boolean strict;
+    private boolean due;
     private boolean required;
     private int java;
 
@@ -147,6 +148,15 @@ public class CompatTask extends DefaultTask {
     }
 
     @Input
+    public boolean isDue() {
+        return due;
+    }
+
+    public void setDue(boolean due) {
+        this.due = due;
+    }
+
+    @Input
     public boolean isRequired() {
         return required;
     }
@@ -200,6 +210,7 @@ public class CompatTask extends DefaultTask {
         request.title = before.get(0).getName() + " to " + own;
         request.whole = whole;
         request.strict = strict;
+        request.due = due;
         request.java = java;
         request.explain = Request.Explain.ALL;
         request.program = program == null ? null : program.toPath();
@@ -216,6 +227,7 @@ public class CompatTask extends DefaultTask {
         Files.write(output.toPath().resolve("report.json"), check.document().getBytes(StandardCharsets.UTF_8));
         if (status == 0) {
             getLogger().lifecycle("jcompat: {}: {}", request.title, check.summary());
+            check.due().forEach(line -> getLogger().lifecycle("jcompat: {}: {}", request.title, line.trim()));
             return;
         }
         getLogger().error(printed.toString(StandardCharsets.UTF_8.name()));

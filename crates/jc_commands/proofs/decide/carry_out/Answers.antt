@@ -8,3 +8,6 @@ returns-in-Err-link_clients-clause-stopped g c = rw c.in-Link.is c.in-Err-link_c
 
 pub returns-in-Err-make_releases-clause-stopped : goal.returns-in-Err-make_releases-clause-stopped
 returns-in-Err-make_releases-clause-stopped g c = rw (c.in-Make.is, c.in-Err-make_releases.ensures.stopped) tt
+
+pub returns-in-Err-help-clause-stopped : goal.returns-in-Err-help-clause-stopped
+returns-in-Err-help-clause-stopped g c = rw (c.in-Help.is, c.in-Err-help.ensures.stopped) tt

@@ -1,0 +1,5 @@
+mod Alike
+mod Parts
+mod EnoughLaws
+pub mod WorkedEnough
+pub mod WorkedCheck
