@@ -65,7 +65,7 @@ grep -o '{"text":"[^"]*","act":[^]]*\]' "$made/client.json" | sed "s/{\"text\":\
 cmp "$made/lost" "$made/told" || wrong 'other things are told than the program says'
 printf 'affected: what is lost is what the program says: ok\n'
 grep -q '<h1 class=bad>1 client breaks of 1</h1>' "$made/page.html" && ! grep -qE '(src|href)="?[a-z]*:?//' "$made/page.html" || wrong 'the page says something else, or asks a network'
-try 'over a whole JDK' 1 'affected: 1 clients, 1 broken, 0 not asked; 0 of 1 name nothing of the old release' old.jar new.jar client.jar --json
+try 'over a whole JDK' 1 '{"format":"jcompat affected"' old.jar new.jar client.jar --json
 cmp "$made/client.json" "$made/out" || wrong 'over a whole JDK it is another document'
 cp "$made/old.jar" "$made/same.jar"
 mkdir -p "$made/bad/p"

@@ -50,9 +50,13 @@ final class AffectedPage {
 
     private void putHead() {
         boolean isBad = !report.broken().isEmpty();
-        put("<header><p class=title>" + Html.text(title()) + "</p><h1 class=" + (isBad ? "bad" : report.refused().isEmpty() ? "good" : "may") + ">" + headline() + "</h1>\n<p class=lead>"
+        boolean isAll = report.refused().isEmpty() && report.partlyAsked() == 0;
+        put("<header><p class=title>" + Html.text(title()) + "</p><h1 class=" + (isBad ? "bad" : isAll ? "good" : "may") + ">" + headline() + "</h1>\n<p class=lead>"
                 + "What a client loses linked with the old release, and doesn’t with the new one; what failed before isn’t counted.</p>\n<p class=sum>");
         put(Html.text(report.counts().replaceFirst("affected: ", "")) + ". JDK <code>" + Html.text(report.jdk.version) + "</code></p>\n");
+        if (report.partlyAsked() > 0) {
+            put("<p class=warn role=note>Of " + Html.count(report.partlyAsked(), "client") + " <strong>not all was asked</strong>: classes are left out, or miss others. <a href=#clients>How many</a></p>\n");
+        }
         if (!report.packages().isEmpty()) {
             put("<p class=warn role=note>Packages that need a change: " + report.packages().stream().map(name -> "<code>" + Html.text(name) + "</code>").collect(Collectors.joining(", ")) + "</p>\n");
         }

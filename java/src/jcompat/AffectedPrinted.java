@@ -21,6 +21,10 @@ final class AffectedPrinted {
 
     void print() {
         out.println(report.counts());
+        long partly = report.partlyAsked();
+        if (partly > 0) {
+            out.println("of " + partly + (partly == 1 ? " client" : " clients") + " not all is asked: classes are left out or missing, as the table says");
+        }
         printSpots();
         report.broken().forEach(this::printClient);
         if (!report.clients().isEmpty()) {

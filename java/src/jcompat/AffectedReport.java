@@ -50,8 +50,13 @@ final class AffectedReport {
         return clients().stream().filter(client -> !client.isAsked()).collect(Collectors.toList());
     }
 
+    /** How many of those that are asked have classes that are left out, or name some that are missing. */
+    long partlyAsked() {
+        return clients().stream().filter(client -> client.isAsked() && !client.isWhole()).count();
+    }
+
     int status() {
-        boolean isWhole = refused().isEmpty() && (!request.whole || clients().stream().allMatch(Client::isWhole));
+        boolean isWhole = refused().isEmpty() && (!request.whole || partlyAsked() == 0);
         return !broken().isEmpty() ? Status.BREAKS : isWhole ? Status.GOOD : Status.NOT_WHOLE;
     }
 
@@ -116,6 +121,7 @@ final class AffectedReport {
         counts.put("clients", clients().size());
         counts.put("broken", broken().size());
         counts.put("not_asked", refused().size());
+        counts.put("partly_asked", partlyAsked());
         map.put("counts", counts);
         map.put("packages", new ArrayList<>(packages()));
         List<Object> spots = new ArrayList<>();

@@ -134,9 +134,11 @@ public class AffectedTest {
         assertEquals("keeps", first(run(Status.GOOD)).get("says"));
         request.with.clear();
         request.whole = true;
-        Map<?, ?> client = first(run(Status.NOT_WHOLE));
-        assertEquals(List.of("q/B"), client.get("missing"));
+        Map<?, ?> document = run(Status.NOT_WHOLE);
+        assertEquals(List.of("q/B"), first(document).get("missing"));
         assertTrue(jars.said.contains("       1  q/B"));
+        assertTrue(printed.toString("UTF-8").contains("of 1 client not all is asked: classes are left out or missing, as the table says\n"));
+        assertEquals(1L, ((Map<?, ?>) document.get("counts")).get("partly_asked"));
     }
 
     @Test
