@@ -10,7 +10,7 @@ ghost use Rattle.jc_witness.specs.steps.PlanFiles.{package_of, files_of_plan};
 
 use crate::class_plans::assigning;
 use crate::exposed_plans::{assigning_exposed, client_behind, count_items};
-use crate::planned_files::PlannedFiles;
+use crate::planned_files::{PlannedFiles, single};
 use crate::planner::Planner;
 use jc_base::name::Name;
 use jc_drafts::draft::PUBLIC_STATIC;
@@ -133,10 +133,9 @@ fn handing(
         from,
         to,
     )?;
-    let mut before = Vec::new(alloc);
-    before.push(holding(alloc, planner, &first, from, seat)?)?;
+    let holder = holding(alloc, planner, &first, from, seat)?;
     let spot = Spot::Item(count_items(acts.as_slice()) + 1);
-    PlannedFiles::ending_with(alloc, before, taker, spot)
+    PlannedFiles::ending_with(alloc, single(alloc, holder)?, taker, spot)
 }
 
 // The same to the clients of the first other seat that exposes the class and is apart from this one.

@@ -89,6 +89,15 @@ impl PlannedFiles {
     }
 }
 
+/// One class file.
+pub(crate) fn single(alloc: Global, file: Blueprint) -> Result<Vec<Blueprint>, AllocError>
+    ensures { IfOk result (λ files. files.items ≡ file ∷ []) }
+{
+    let mut files = Vec::new(alloc);
+    files.push(file)?;
+    Ok(files)
+}
+
 /// Two class files.
 pub(crate) fn both(
     alloc: Global,

@@ -44,6 +44,8 @@ const SECOND: Option<Spot> = Some(Spot::Item(1));
 
 const THIRD: Option<Spot> = Some(Spot::Item(2));
 
+const FOURTH: Option<Spot> = Some(Spot::Item(3));
+
 /// `p/A` with a public constructor without parameters.
 const A: Row = Row {
     name: b"p/A",
@@ -57,7 +59,43 @@ const I: Row = Row {
     ..PLAIN
 };
 
-// A table that a function names is a part of the function, which grows with it: so there are three.
+/// A hidden class.
+const HIDDEN: Row = Row {
+    flags: 0x0020,
+    ..PLAIN
+};
+
+/// Its subclasses get an object of the hidden class `p/S`.
+const GIVES: Row = Row {
+    methods: &[(b"<init>", b"()V", 0x0001), (b"s", b"()Lp/S;", 0x000c)],
+    ..A
+};
+
+/// Its subclasses pass an object of the hidden class `p/T`.
+const TAKES: Row = Row {
+    name: b"p/B",
+    methods: &[(b"<init>", b"()V", 0x0001), (b"t", b"(Lp/T;)V", 0x000c)],
+    ..PLAIN
+};
+
+/// The hidden class `p/S` below `p/T`, and no longer below it.
+const BELOW: Row = Row {
+    name: b"p/S",
+    superclass: b"p/T",
+    ..HIDDEN
+};
+
+const ALONE: Row = Row {
+    name: b"p/S",
+    ..HIDDEN
+};
+
+const ABOVE: Row = Row {
+    name: b"p/T",
+    ..HIDDEN
+};
+
+// A table that a function names is a part of the function, which grows with it: so there are four.
 
 const ON_CLASSES: &[Change] = &[
     // Nothing changes.
@@ -312,6 +350,74 @@ const COLLISIONS: &[Change] = &[
     },
 ];
 
+const TWO_SEATS: &[Change] = &[
+    // A hidden superclass left the chain of a hidden class; the one is exposed to the subclasses of p/B alone, and the other to those of p/A.
+    Change {
+        old: &[GIVES, TAKES, BELOW, ABOVE],
+        new: &[GIVES, TAKES, ALONE, ABOVE],
+        findings: &[(4, &[(b"w0/Y", FOURTH), (b"w0/Z", None)])],
+        collisions: &[],
+    },
+    // Both are sealed: the client of p/A leaves that of p/B the one name that it permits.
+    Change {
+        old: &[
+            Row {
+                permits: Some(&[b"q/C", b"q/D"]),
+                ..GIVES
+            },
+            Row {
+                permits: Some(&[b"q/C"]),
+                ..TAKES
+            },
+            BELOW,
+            ABOVE,
+        ],
+        new: &[
+            Row {
+                permits: Some(&[b"q/C", b"q/D"]),
+                ..GIVES
+            },
+            Row {
+                permits: Some(&[b"q/C"]),
+                ..TAKES
+            },
+            ALONE,
+            ABOVE,
+        ],
+        findings: &[(4, &[(b"q/C", FOURTH), (b"q/D", None)])],
+        collisions: &[],
+    },
+    // Both permit one and the same name alone, which no two clients have.
+    Change {
+        old: &[
+            Row {
+                permits: Some(&[b"q/C"]),
+                ..GIVES
+            },
+            Row {
+                permits: Some(&[b"q/C"]),
+                ..TAKES
+            },
+            BELOW,
+            ABOVE,
+        ],
+        new: &[
+            Row {
+                permits: Some(&[b"q/C"]),
+                ..GIVES
+            },
+            Row {
+                permits: Some(&[b"q/C"]),
+                ..TAKES
+            },
+            ALONE,
+            ABOVE,
+        ],
+        findings: &[],
+        collisions: &[],
+    },
+];
+
 /// A platform with a final class and a sealed interface, which are the same for both releases.
 const CLOSED_PLATFORM: &[Row] = &[
     ROOT,
@@ -449,6 +555,11 @@ fn files_and_spots_of_findings_on_classes(rt: HostRuntime) {
 #[test]
 fn files_and_spots_of_findings_on_members(rt: HostRuntime) {
     see_changes(&rt, rt.alloc(), ON_MEMBERS);
+}
+
+#[test]
+fn files_and_spots_of_findings_between_two_seats(rt: HostRuntime) {
+    see_changes(&rt, rt.alloc(), TWO_SEATS);
 }
 
 #[test]

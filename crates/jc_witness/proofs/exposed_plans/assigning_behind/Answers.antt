@@ -1,4 +1,4 @@
-use Rattle.std.proofs.Common.{◌≡◌, ◌+◌, ◌∷◌, [], refl, ◌∙◌, subst, codes, IfOk}
+use Rattle.std.proofs.Common.{◌≡◌, ◌+◌, [], refl, ◌∙◌, subst, codes, IfOk}
 use Rattle.jc_facts.specs.declared.verdict.Spot.TheVariants as spot
 use Rattle.jc_promises.specs.plan.Planned.{class_behind}
 use Rattle.jc_promises.specs.plan.PlannedBodies.{blueprint, behind_bodies}

@@ -1,4 +1,4 @@
-use Rattle.std.proofs.Common.{◌≡◌, refl, ◌∙◌, codes}
+use Rattle.std.proofs.Common.{◌≡◌, [], refl, ◌∙◌, codes}
 use Rattle.std.specs.List.{cons_option}
 use Rattle.jc_witness.specs.steps.MoreInits.{with_inits}
 use Rattle.jc_witness.proofs.InitParts.{begun, used, behind_client}
@@ -23,6 +23,7 @@ returns c =
       c.in_ok-steps.ensures,
       c.in_ok-draft-2.ensures,
       c.in_ok-draft.ensures,
+      c.in_ok-copy.ensures,
       c.as_slice.ensures.value,
       c.in_ok-before.ensures,
     ) refl in
