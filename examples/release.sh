@@ -62,8 +62,9 @@ script "$made/kit/toolchain/bin/clang" '[ "$1 $2" = "--strip-all -o" ] && cp "$4
 
 # a clone with two crates that the program needs, and one that it doesn't
 clone=$made/clone
-mkdir -p "$clone/tools" "$clone/crates/low/src" "$clone/crates/low/specs" "$clone/crates/above/src" "$clone/crates/jcompat/src/tests" "$clone/crates/jcompat/proofs"
+mkdir -p "$clone/tools" "$clone/crates/low/src" "$clone/crates/low/specs" "$clone/crates/above/src" "$clone/crates/jcompat/src/tests" "$clone/crates/jcompat/proofs" "$clone/crates/jc_words/src"
 cp jcompat "$clone"
+cp crates/jc_words/src/help.rt "$clone/crates/jc_words/src"
 cp tools/release tools/released tools/sources tools/version "$clone/tools"
 printf '/crates/*/out/\n' >"$clone/.gitignore"
 printf 'Handles allowed: none.\n' >"$clone/HANDLES"
