@@ -46,15 +46,18 @@ for name, by in [(name, validator) for name in documents] + [(name, of_affected)
     for error in by.iter_errors(json.load(open(name))):
         wrong += 1
         print("documents:", os.path.basename(name), list(error.absolute_path), error.message)
-# the client of an example whose report has a finding breaks, but for what is only seen as a module
+# the client of an example whose report has a finding breaks, but for what is only seen as a module, and for the two of which docs/LINKING.md says that a
+# machine refuses what `link` calls ok
+unseen = {"class_in_descriptor_gone", "superclass_made_abstract"}
 broken = 0
 for name in affected:
     document = json.load(open(name))
     broken += document["status"] == 1
     compared = json.load(open(name.replace(".affected", ".json")))["comparisons"][0]
-    if compared["clients"] == "on the class path" and compared["counts"]["findings"] and document["status"] != 1:
+    keeps = os.path.basename(name).removesuffix(".affected") in unseen
+    if compared["clients"] == "on the class path" and compared["counts"]["findings"] and document["status"] != (0 if keeps else 1):
         wrong += 1
-        print("documents:", os.path.basename(name), "the client keeps all, and the releases have a finding")
+        print("documents:", os.path.basename(name), "the client breaks, which wasn't seen before" if keeps else "the client keeps all, and the releases have a finding")
 results = placed = 0
 for name in sorted(glob.glob(os.path.join(sys.argv[4], "*.sarif"))):
     log = json.load(open(name))
