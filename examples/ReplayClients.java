@@ -28,8 +28,9 @@ import javax.tools.ToolProvider;
  * names; where the file <code>prints</code> stands in the place of <code>message</code>, it ends well with both and prints that; where the file
  * <code>recompiled</code> stands too, compiling it against the new release ends with that error. Where PROGRAM
  * is given, its report of the two releases is the file <code>report</code>, followed with <code>--warn</code> by the file
- * <code>warnings</code>, with <code>--signatures</code> by the file <code>signatures</code>, and with <code>--dropped</code> by the file
- * <code>dropped</code>, where these stand. Sources in <code>needs</code> are there when the new release is
+ * <code>warnings</code>, with <code>--signatures</code> by the file <code>signatures</code>, with <code>--dropped</code> by the file
+ * <code>dropped</code>, and with <code>--calls</code> by the file <code>calls</code>, where these stand. Sources in <code>platform</code>, of classes of java.base that the
+ * releases name above themselves, are compiled to go beside the class files of PLATFORM. Sources in <code>needs</code> are there when the new release is
  * compiled, file by file, and not when the client is run. Other files of a release than sources stand beside its classes.
  *
  * <p>A release with a <code>module-info.java</code> stands on the module path, and the client on the class path; the report is that with
@@ -211,11 +212,16 @@ public final class ReplayClients {
 
         /** Puts the files of a release that are no sources into the folder of its classes. */
         private void addResources(String release) throws IOException {
-            for (Path file : files(sources.resolve(release), "")) {
+            copy(sources.resolve(release), classes.resolve(release));
+        }
+
+        /** Copies the files of a folder that are no sources. */
+        private static void copy(Path from, Path to) throws IOException {
+            for (Path file : files(from, "")) {
                 if (!file.toString().endsWith(".java")) {
-                    Path to = classes.resolve(sources.relativize(file));
-                    Files.createDirectories(to.getParent());
-                    Files.copy(file, to);
+                    Path place = to.resolve(from.relativize(file).toString());
+                    Files.createDirectories(place.getParent());
+                    Files.copy(file, place);
                 }
             }
         }
@@ -244,9 +250,13 @@ public final class ReplayClients {
         }
 
         private boolean isCompiled(Writer said, String to, List<Path> from, String beside) throws IOException {
+            return isCompiled(said, to, from, List.of("--release", "17", "-cp", classes.resolve(beside).toString()));
+        }
+
+        private boolean isCompiled(Writer said, String to, List<Path> from, List<String> more) throws IOException {
             JavaCompiler compiler = ToolProvider.getSystemJavaCompiler();
-            Path into = Files.createDirectories(classes.resolve(to));
-            List<String> options = List.of("--release", "17", "-proc:none", "-d", into.toString(), "-cp", classes.resolve(beside).toString());
+            List<String> options = new ArrayList<>(List.of("-proc:none", "-d", Files.createDirectories(classes.resolve(to)).toString()));
+            options.addAll(more);
             try (StandardJavaFileManager manager = compiler.getStandardFileManager(null, null, null)) {
                 return compiler.getTask(said, manager, null, options, null, manager.getJavaFileObjectsFromPaths(from)).call();
             }
@@ -317,12 +327,29 @@ public final class ReplayClients {
             return run(all);
         }
 
-        void compareReport(Path platform, List<String> program) throws IOException, Fault {
+        /** The folder of class files over which the releases are compared: that of all examples, or one with classes of this one's own beside. */
+        private Path platform(Path ofAll) throws IOException, Fault {
+            Path own = sources.resolve("platform");
+            if (!Files.exists(own)) {
+                return ofAll;
+            }
+            // the only way to compile a class of java.base: that module with our source in place of its own
+            List<String> patched = List.of("-source", "17", "-target", "17", "-Xlint:-options", "--patch-module", "java.base=" + own);
+            if (!isCompiled(null, "platform", files(own, ".java"), patched)) {
+                throw new Fault("the sources of platform don't compile");
+            }
+            copy(ofAll, classes.resolve("platform"));
+            return classes.resolve("platform");
+        }
+
+        void compareReport(Path ofAll, List<String> program) throws IOException, Fault {
+            Path platform = platform(ofAll);
             List<String> words = new ArrayList<>(program);
             words.addAll(List.of("check", "--platform", platform.toString()));
             words.addAll(List.of("--old", classes.resolve("old").toString(), "--new", classes.resolve("new").toString()));
             String wanted = Files.readString(sources.resolve("report"));
-            wanted += asked("warnings", "--warn", words) + asked("signatures", "--signatures", words) + asked("dropped", "--dropped", words);
+            wanted += asked("warnings", "--warn", words) + asked("signatures", "--signatures", words) + asked("dropped", "--dropped", words)
+                    + asked("calls", "--calls", words);
             Path witnesses = classes.resolve("witnesses");
             if (isModular()) {
                 words.addAll(List.of("--modular", "--witness", witnesses.toString()));

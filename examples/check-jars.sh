@@ -73,16 +73,16 @@ same() {
 same_check() {
     file=$1
     shift
-    same "$file" check --old examples/old --new examples/new --warn --dropped "$@"
+    same "$file" check --old examples/old --new examples/new --warn --dropped --calls "$@"
 }
 
 # folded REPORT: each line that was printed stands in the report, and those of it that weren't are as many as the printed ones say
 folded() {
     awk '
-        function counts(string) { return string ~ /^([0-9]+|warning|dropped) / }
+        function counts(string) { return string ~ /^([0-9]+|warning|dropped|call) / }
         FNR == NR { line[$0]; all += counts($0); next }
         /^[0-9]+ collisions on members/ { hidden += $1; next }
-        /^[0-9]+ (warnings|dropped interfaces)/ { next }
+        /^[0-9]+ (warnings|dropped interfaces|lines on calls)/ { next }
         /^note unloadable (old|new): / || /^in / || /^ / { next }
         { text = $0; if (sub(/ \(and .*\)$/, "", text)) { n = split(substr($0, length(text)), word, " "); for (i = 1; i <= n; i++) hidden += word[i] + 0 } }
         !(text in line) { print "not in the report: " text; wrong = 1 }
@@ -118,7 +118,7 @@ same_check report
 folded "$made/report"
 too 'in shapes: 1 H1, 1 H2, 1 H3, 1 H4, 1 H5, 1 H6, 1 H7, 4 H8, 1 H9, 1 Constant, 1 Capture, 1 Final' 'incompatible: 12 findings, 3 collisions, 1 notes$'
 too '8 H8 shapes/Canvas draw(Lshapes/Shape;)V invokevirtual java/lang/Object NoSuchMethodError (and 1 warning)$' '[0-9]* H[89] shapes/Painter paint()V .* NoSuchMethodError (and 1 warning)$' \
-    '2 warnings, 1 dropped interfaces; 2 warnings only say again what a finding says$' '    method void Canvas.draw(Shape) is gone; there is boolean draw(Shape)$'
+    '2 warnings, 1 dropped interfaces, 0 lines on calls; 2 warnings only say again what a finding says$' '    method void Canvas.draw(Shape) is gone; there is boolean draw(Shape)$'
 says 'warning ' && wrong 'a warning that a finding says'
 [ "$(head -n 1 "$made/out")" = 'incompatible: 12 findings, 3 collisions, 1 notes' ] || wrong 'the verdict does not stand first'
 [ "$(grep -c '^    method' "$made/out")" -eq 2 ] || wrong 'more of H8 is explained than its first line'
@@ -126,7 +126,7 @@ try 'without words' 1 '1 H1 shapes/Square' old.jar new.jar --no-explain
 says '    ' && wrong 'there are words'
 try 'options of jcompat' 1 '{' old.jar new.jar -- --json
 same_check out --json
-too 'check-jars: 2 warnings, 1 dropped interfaces; 2 warnings only say again'
+too 'check-jars: 2 warnings, 1 dropped interfaces, 0 lines on calls; 2 warnings only say again'
 try 'one release' 0 'compatible: 0 findings' old.jar old.jar
 try 'the version' 0 'jcompat [0-9]*\.[0-9]' --version
 try 'folders' 1 '15 Final shapes/Canvas' "$top/examples/old" "$top/examples/new" --report report
@@ -260,8 +260,8 @@ grep -q '"ruleId":"H8","ruleIndex":0,"level":"error",.*"uri":"pen/lib/Pen.java"}
 try 'sources that are not there' 70 'check-jars: there is no file gone' old.jar new.jar --sources gone
 try 'a log that cannot be written' 5 "check-jars: can't write to pen" old.jar new.jar --sarif pen
 
-# warnings, dropped interfaces and modules: releases of the examples of rules
-for rule in method_made_abstract abstract_method_added interface_left package_not_exported; do
+# warnings, dropped interfaces, lines on calls and modules: releases of the examples of rules
+for rule in method_made_abstract abstract_method_added interface_left package_not_exported method_moved_to_hidden enum_constant_added; do
     for side in old new; do
         mkdir -p "$made/$rule-$side"
         cp -R "examples/rules/$rule/$side/." "$made/$rule-$side"
@@ -269,7 +269,7 @@ for rule in method_made_abstract abstract_method_added interface_left package_no
     done
 done
 try 'a warning' 0 'warning shapes/Canvas clean()V lost$' method_made_abstract-old.jar method_made_abstract-new.jar --explain
-too 'compatible: 0 findings, 0 collisions, 0 notes$' '1 warnings, 0 dropped interfaces$' '    class Canvas gives classes no method void clean() to run any more$'
+too 'compatible: 0 findings, 0 collisions, 0 notes$' '1 warnings, 0 dropped interfaces, 0 lines on calls$' '    class Canvas gives classes no method void clean() to run any more$'
 try 'a warning, as JSON' 72 '{"warnings":\[{"class":"shapes/Canvas","kind":"lost","member":"clean()V"}\]}$' method_made_abstract-old.jar method_made_abstract-new.jar --strict -- --json
 too 'check-jars: 1 warnings'
 try 'a method that an interface gains' 0 '    abstract method void clean() was added: classes that implement Painter without it fail when it is called$' abstract_method_added-old.jar abstract_method_added-new.jar
@@ -281,10 +281,20 @@ echo 'warning shapes/Canvas clean()V lost   # nobody extends it' >"$made/accepte
 try 'a warning that is meant' 0 'check-jars: accepted: warning shapes/Canvas clean()V lost$' method_made_abstract-old.jar method_made_abstract-new.jar --strict --accepted accepted
 try 'findings and warnings' 1 "2 warnings" old.jar new.jar --strict
 try 'a dropped interface' 0 'dropped shapes/Canvas shapes/Painter$' interface_left-old.jar interface_left-new.jar --explain
-too 'compatible: 0 findings, 0 collisions, 0 notes$' '0 warnings, 1 dropped interfaces$' '    class Canvas no longer implements Painter$' '    Painter i = canvas;   i.paint();$'
+too 'compatible: 0 findings, 0 collisions, 0 notes$' '0 warnings, 1 dropped interfaces, 0 lines on calls$' '    class Canvas no longer implements Painter$' '    Painter i = canvas;   i.paint();$'
 try 'a dropped interface, as JSON' 72 '{"dropped":\[{"class":"shapes/Canvas","interface":"shapes/Painter"}\]}$' interface_left-old.jar interface_left-new.jar --strict -- --json
-try 'a dropped interface where none is meant' 72 '0 warnings, 1 dropped interfaces$' interface_left-old.jar interface_left-new.jar --strict
-try 'dropped interfaces that nobody asks for' 0 '0 warnings$' interface_left-old.jar interface_left-new.jar --strict --no-dropped
+try 'a dropped interface where none is meant' 72 '0 warnings, 1 dropped interfaces, 0 lines on calls$' interface_left-old.jar interface_left-new.jar --strict
+try 'dropped interfaces that nobody asks for' 0 '0 warnings, 0 lines on calls$' interface_left-old.jar interface_left-new.jar --strict --no-dropped
+try 'a method reference' 0 'call shapes/Canvas title()Ljava/lang/String; reference$' method_moved_to_hidden-old.jar method_moved_to_hidden-new.jar --explain
+too 'compatible: 0 findings, 0 collisions, 0 notes$' '0 warnings, 0 dropped interfaces, 1 lines on calls$' \
+    "    method String Canvas.title() moved to Surface, which clients can't name: leave a method title in Canvas that calls it\$" '    takes(Canvas::title);$'
+try 'a method reference, as JSON' 72 '{"calls":\[{"class":"shapes/Canvas","kind":"reference","member":"title()Ljava/lang/String;"}\]}$' method_moved_to_hidden-old.jar method_moved_to_hidden-new.jar --strict -- --json
+try 'a constant of an enum' 72 '    enum Shade has the constant GREY now: a switch over all that were there fails when it meets another' enum_constant_added-old.jar enum_constant_added-new.jar --strict
+try 'lines on calls that nobody asks for' 0 '0 warnings, 0 dropped interfaces$' enum_constant_added-old.jar enum_constant_added-new.jar --strict --no-calls
+try 'the gate of all that ends otherwise' 1 'call shapes/Shade - constants$' enum_constant_added-old.jar enum_constant_added-new.jar --gate calls
+echo 'call shapes/Shade - constants   # new in a method of its own' >"$made/accepted"
+try 'the gate, where the line is meant' 0 'check-jars: accepted: call shapes/Shade - constants$' enum_constant_added-old.jar enum_constant_added-new.jar --gate calls --accepted accepted
+try 'the gate, of which a part is not asked for' 1 'compatible: 0 findings, 0 collisions, 0 notes$' enum_constant_added-old.jar enum_constant_added-new.jar --gate calls --no-calls
 
 # modules: one that no longer exports a package, a release that became one, and a module's file that is for newer versions of Java alone
 cp -R "$made/package_not_exported-old-classes" "$made/plain"
@@ -414,9 +424,9 @@ package() {
 if command -v dpkg-deb >/dev/null; then
     package 1.0 old
     package 1.1 new
-    try 'two packages' 1 'status  findings collisions warnings dropped  not compared  jar' shapes-1.0.deb shapes-1.1.deb --whole --report reports
-    too '     0         0          0        0       0             0  gallery$' \
-        '     1        12          3        2       1             0  shapes$' '     -  .*texts: has no class file$' '1 H1 shapes/Square'
+    try 'two packages' 1 'status  findings collisions warnings dropped  calls  not compared  jar' shapes-1.0.deb shapes-1.1.deb --whole --report reports
+    too '     0         0          0        0       0      0             0  gallery$' \
+        '     1        12          3        2       1      0             0  shapes$' '     -  .*texts: has no class file$' '1 H1 shapes/Square'
     says 'gallery:' && wrong 'a jar of which there is nothing to tell'
     same_check reports/shapes
     rm "$made/package1.1/usr/share/java/shapes.jar"

@@ -145,6 +145,27 @@ see 'an empty module-info.class that is not asked for' 0 "$compatible" '' "${ask
 check empty --modular
 see 'an empty module-info.class' 3 '' $'jcompat: new: module-info.class: Short at 0\n' "${asked[@]}"
 
+# Lines on calls: the sealed class p/A permits p/B, and then p/C besides, which a client's switch misses. The class files are of Java 17.
+sealed='\0007\0000\0002\0001\0000\0003p/A\0007\0000\0004'"$object$init"'\0001\0000\0023PermittedSubclasses\0007\0000\0011\0001\0000\0003p/B'
+body='\0000\0041\0000\0001\0000\0003\0000\0000\0000\0000\0000\0001\0000\0001\0000\0005\0000\0006\0000\0000\0000\0001\0000\0007\0000\0000\0000'
+mkdir -p one/p two/p
+printf %b '\0312\0376\0272\0276\0000\0000\0000\0075\0000\0012'"$sealed$body"'\0004\0000\0001\0000\0010' >one/p/A.class
+printf %b '\0312\0376\0272\0276\0000\0000\0000\0075\0000\0014'"$sealed"'\0007\0000\0013\0001\0000\0003p/C'"$body"'\0006\0000\0002\0000\0010\0000\0012' >two/p/A.class
+permits=(check --platform platform --old one --new two)
+missed=$'compatible: 0 findings, 0 collisions, 0 notes\ncall p/A - constants\n'
+see 'a call that nobody asks for' 0 "$compatible" '' "${permits[@]}"
+see 'a call' 0 "$missed" '' "${permits[@]}" --calls
+see 'a call, as JSON' 0 $'{"collisions":[],"findings":[],"notes":[],"verdict":"compatible"}\n{"calls":[{"class":"p/A","kind":"constants","member":null}]}\n' '' "${permits[@]}" --calls --json
+see 'a call, last of the parts' 0 "$missed" '' "${permits[@]}" --calls --dropped --warn --signatures
+see 'the gate of calls, with all of its parts' 1 "$missed" '' "${permits[@]}" --warn --dropped --calls --gate calls
+check old --gate calls
+see 'the gate of calls, with none of its parts' 1 "$compatible" '' "${asked[@]}"
+see 'the gate of calls, with one of its parts' 1 "$compatible" '' "${asked[@]}" --calls
+see 'the gate of calls, with two of its parts' 1 "$compatible" '' "${asked[@]}" --warn --calls
+see 'the gate of calls, where there is none' 0 "$compatible" '' "${asked[@]}" --warn --dropped --calls
+see 'no call, as JSON' 0 $'{"collisions":[],"findings":[],"notes":[],"verdict":"compatible"}\n{"warnings":[]}\n{"dropped":[]}\n{"calls":[]}\n' '' "${asked[@]}" --warn --dropped --calls --json
+see 'calls asked for twice' 2 '' "$words" "${asked[@]}" --calls --calls
+
 # clients WORD..: the words of a question about clients of the releases old and gone
 clients() {
     asked=(clients --platform platform --old old --new gone "$@")
@@ -152,6 +173,11 @@ clients() {
 
 clients client old
 see 'a client that breaks, and one that is refused' 1 $'client 1 class q/A NoClassDefFoundError\nclient 1 breaks: 1 classes, 1 outcomes, 0 errors before, 1 lost\nclient 2 jcompat: client: name p/A declared\nclients: 2 clients, 1 broken, 1 refused\n' '' "${asked[@]}"
+clients --json client old cut
+see 'the same as JSON, and one that is not read' 1 '{"clients":[{"classes":1,"errors":0,"lost":[{"class":"q/A","error":"NoClassDefFoundError","member":null,"name":null,"operation":null,"receiver":null}],"number":1,"outcomes":1,"refusal":null},{"classes":null,"errors":null,"lost":null,"number":2,"outcomes":null,"refusal":{"class":"p/A","path":null,"reason":"declared"}},{"classes":null,"errors":null,"lost":null,"number":3,"outcomes":null,"refusal":{"class":null,"path":"p/A.class","reason":"Short at 10"}}],"total":{"broken":1,"clients":3,"refused":2}}'$'\n' '' "${asked[@]}"
+# its package is no longer exported, which counts in a run with modules alone
+see 'a client of a release that becomes a module' 0 $'client 1 keeps: 1 classes, 1 outcomes, 0 errors before, 0 lost\nclients: 1 clients, 0 broken, 0 refused\n' '' clients --platform platform --old old --new named client
+see 'the same with modules' 1 $'client 1 class q/A IllegalAccessError\nclient 1 breaks: 1 classes, 1 outcomes, 0 errors before, 1 lost\nclients: 1 clients, 1 broken, 0 refused\n' '' clients --platform platform --old old --new named --modular client
 clients gone
 see 'a client without classes' 0 $'client 1 keeps: 0 classes, 0 outcomes, 0 errors before, 0 lost\nclients: 1 clients, 0 broken, 0 refused\n' '' "${asked[@]}"
 clients client nowhere

@@ -1,29 +1,48 @@
 -- Releases between which nothing is listed: what the old side loads, the new one has alike.
-use Rattle.std.proofs.Common.{◌≡◌, Bool, true, false, not, cond, refl, sym, ◌∙◌, ap, subst, Option, Some, None, is_some, ◌&&◌}
+use Rattle.std.proofs.Common.{◌≡◌, Bool, true, false, not, cond, List, [], ◌∷◌, refl, sym, ◌∙◌, ap, subst, Option, Some, None, is_some, ◌&&◌, ◌||◌}
+use Rattle.std.specs.Cmp.{first_so, second_so}
+use Rattle.std.specs.List.{list_any, list_all}
 use Rattle.std.specs.Option.{option_eq}
-use Rattle.std.proofs.lemmas.Bool.{and_parts}
+use Rattle.std.proofs.lemmas.Bool.{and_parts, and_from}
 use Rattle.std.proofs.lemmas.List.Elements.{All-from_recursion}
+use Rattle.jc_facts.specs.declared.act.Act.{Act}
+use Rattle.jc_facts.specs.declared.act.Act.TheVariants as act
+use Rattle.jc_facts.specs.declared.call_line.CallKind.{CallKind}
+use Rattle.jc_facts.specs.declared.call_line.CallKind.TheVariants.{Reference, Access, Constants}
+use Rattle.jc_facts.specs.declared.call_line.CallLine.{CallLine}
 use Rattle.jc_facts.specs.declared.class_facts.ClassFacts.{ClassFacts}
+use Rattle.jc_facts.specs.declared.class_facts.Member.{Member}
 use Rattle.jc_facts.specs.declared.key.Key.{Key}
 use Rattle.jc_facts.specs.declared.sig_note.SigChange.{SigChange}
 use Rattle.jc_facts.specs.declared.sig_note.SigNote.{SigNote}
-use Rattle.jc_facts.specs.Flags.{interface_flag}
-use Rattle.jc_facts.specs.Names.{Bytes, same, is_descriptor_of_method}
+use Rattle.jc_facts.specs.Flags.{interface_flag, enum_flag, abstract_flag}
+use Rattle.jc_facts.specs.Names.{Bytes, same, is_name_among, is_descriptor_of_method}
 use Rattle.jc_facts.specs.Options.{some_and}
-use Rattle.jc_facts.specs.world.World.{World, find_class, class_named}
+use Rattle.jc_facts.specs.world.World.{World, DeclaredMember, find_class, class_named, class_is}
 use Rattle.jc_facts.specs.world.Hierarchy.{chain, with_interfaces, superinterfaces, is_superinterface, names_in}
+use Rattle.jc_facts.specs.world.Inheritance.{offers, is_final_in_chain}
 use Rattle.jc_facts.specs.world.Loading.{load_fault}
+use Rattle.jc_facts.specs.world.Lookup.{interface_choices, method_choices}
 use Rattle.jc_facts.specs.world.Assignment.{is_interface_of}
-use Rattle.jc_promises.specs.rule.Bases.{is_key_of_method, is_steady}
+use Rattle.jc_promises.specs.rule.Bases.{became_class, is_base_class, is_class_closed, is_class_usable, is_extendable, is_kept, is_key_of_method, is_steady}
+use Rattle.jc_promises.specs.rule.OpenActs.{method_acts}
 use Rattle.jc_promises.specs.rule.Selection.{chain_kind}
 use Rattle.jc_promises.specs.rule.Warnings.{is_base, interfaces_from, part, parts_agree, warn_kind, warning_at, WarningStands}
 use Rattle.jc_facts.proofs.Same.{same_itself}
 use Rattle.jc_facts.proofs.World.{find-platform}
 use Rattle.jc_lemmas.proofs.Bools.{contradicts}
-use Rattle.jc_lemmas.proofs.Listed.{EachOf-map}
+use Rattle.jc_lemmas.proofs.Listed.{EachOf, EachOf-map, any_has, any_none, each_from}
 use Rattle.jc_worlds.proofs.Agree.{Agree}
-use Rattle.jc_worlds.proofs.Agreement.{chain-agree, with_interfaces-agree, superinterfaces-agree}
+use Rattle.jc_worlds.proofs.Agreement.{chain-agree, with_interfaces-agree, superinterfaces-agree, method_choices-agree, interface_choices-agree}
+use Rattle.jc_worlds.proofs.Allowed.{among_each}
+use Rattle.jc_worlds.proofs.Declared.{IsDeclared, method_choices-declared}
 use Rattle.jc_worlds.proofs.Loaded.{loads-parts}
+use Rattle.jc_sound.proofs.MethodLooked.{interface_choices-declared}
+use Rattle.jc_sound.proofs.Standing.{usable_parts}
+use Rattle.jc_calls.specs.Access.{access_added, allows_less_access, is_called_above, is_public_in_chain}
+use Rattle.jc_calls.specs.Constants.{constants_added, gets_constant, gets_objects, has_constant, permits_more}
+use Rattle.jc_calls.specs.Lines.{is_due, LineStands}
+use Rattle.jc_calls.specs.References.{are_of_open, is_handle_lost, is_of_open, is_open_to_some, is_told, reference_lost}
 use Rattle.jc_dropped.specs.Dropped.{is_held, has_lost, loses_interface, loses_above, is_dropped, IsDropped}
 use Rattle.jc_dropped.proofs.Held.{held_loads}
 use Rattle.jc_sig.specs.Notes.{signature_at, MemberChanges, ChangeAt, SigNoteStands}
@@ -31,15 +50,19 @@ use Rattle.jc_agree.specs.NothingListed.{ListsNothing, SameReleaseLists, EmptyRe
 use Rattle.jc_agree.proofs.Nothing.{none_listed}
 use Rattle.jc_selection.specs.Shown.{IsSameAbove}
 use Rattle.jc_selection.proofs.Unchanged.{base_loads, part_loads, unchanged}
-use Rattle.jc_agree.proofs.EmptyRelease.{find_old, find_alike, still_loads}
+use Rattle.jc_agree.proofs.EmptyRelease.{follows-not, find_old, find_alike, openly_alike, root_alike, still_loads}
 
--- what the old side has, the new one has alike: of each class that loads with the old side what stands above it, and of each name the class
+-- what the old side has, the new one has alike: of each class that loads with the old side what stands above it and what a reference to it finds, of each name the
+-- class, and of each member whether clients can name its class
 pub record IsAlike (O N : World) : Type 0 where
   pub find : (x : Bytes) → load_fault O x ≡ None → find_class O x ≡ find_class N x
   pub chain : (x : Bytes) → load_fault O x ≡ None → chain O x ≡ chain N x
   pub with_interfaces : (x : Bytes) → load_fault O x ≡ None → with_interfaces O x ≡ with_interfaces N x
   pub superinterfaces : (x : Bytes) → load_fault O x ≡ None → superinterfaces O x ≡ superinterfaces N x
   pub records : (x : Bytes) (c d : ClassFacts) → find_class O x ≡ Some c → find_class N x ≡ Some d → c ≡ d
+  pub methods : (x : Bytes) (k : Key) → load_fault O x ≡ None → method_choices O x k ≡ method_choices N x k
+  pub interface_methods : (x : Bytes) (k : Key) → load_fault O x ≡ None → interface_choices O x k ≡ interface_choices N x k
+  pub openly : (m : DeclaredMember) (c : ClassFacts) → find_class O m.owner ≡ Some c → is_of_open O m ≡ is_of_open N m
 
 -- ---- signatures
 
@@ -102,6 +125,106 @@ warns_none O N alike b k = go (is_key_of_method k && is_base O N b) refl
           above = All-from_recursion (λ (c : ClassFacts). superinterfaces O c.name ≡ superinterfaces N c.name) (interfaces_from O b) (EachOf-map (λ (c : ClassFacts) h. alike.superinterfaces c.name h) (interfaces_from O b) (part_loads O b l));
         }
 
+-- ---- lines on calls
+
+third_never : (a b c d : Bool) → (b ≡ true → c ≡ false) → (a && b && c && d) ≡ false
+third_never true true c d h = ap (λ z. z && d) (h refl)
+third_never true false c d h = refl
+third_never false b c d h = refl
+
+fourth_never : (a b c d e : Bool) → (b ≡ true → d ≡ true → c ≡ false) → (a && b && c && d && e) ≡ false
+fourth_never true true true true e h = absurd (let clash : true ≡ false = h refl refl in cc)
+fourth_never true true true false e h = refl
+fourth_never true true false d e h = refl
+fourth_never true false c d e h = refl
+fourth_never false b c d e h = refl
+
+second_never : (a b : Bool) → (a ≡ true → b ≡ false) → (a && b) ≡ false
+second_never true b h = h refl
+second_never false b h = refl
+
+steady_loads : (O N : World) (x : Bytes) → is_steady O N x ≡ true → load_fault O x ≡ None
+unfolding is_steady is_kept
+steady_loads O N x h = (usable_parts O x (first_so (is_class_usable O x) (is_class_usable N x) (first_so (is_kept O N x) (not (became_class O N x)) h))).loaded
+
+base_class_loads : (O N : World) (x : Bytes) → is_base_class O N x ≡ true → load_fault O x ≡ None
+unfolding is_base_class
+base_class_loads O N x h = steady_loads O N x (second_so (is_extendable O N x) (is_steady O N x) (first_so (is_extendable O N x && is_steady O N x) (not (is_class_closed O N x)) h))
+
+less_never : (a b c : Bool) → a ≡ true → not (a || b || c) ≡ false
+less_never true b c e = refl
+less_never false b c e = absurd (cc)
+
+abstract_never : (a b : Bool) → (a && b && not b) ≡ false
+abstract_never true true = refl
+abstract_never true false = refl
+abstract_never false b = refl
+
+-- a class has its own constants, and permits what it permits
+own_constants : (c : ClassFacts) → gets_constant c c ≡ false
+own_constants c = second_never (enum_flag c.flags) (list_any (λ m. enum_flag m.flags && not (has_constant c m.name)) c.fields) (λ e.
+    any_none (λ (m : Member). enum_flag m.flags && not (has_constant c m.name)) c.fields
+    (each_from (λ (m : Member). (enum_flag m.flags && not (has_constant c m.name)) ≡ false) c.fields (λ m i. follows-not (enum_flag m.flags) (has_constant c m.name) (λ is.
+    any_has (λ (n : Member). enum_flag n.flags && same n.name m.name) c.fields m i (and_from (enum_flag m.flags) (same m.name m.name) is (same_itself m.name))))))
+
+own_permits : (o : Option (List Bytes)) → permits_more o o ≡ false
+own_permits None = refl
+own_permits (Some names) = any_none (λ x. not (is_name_among names x)) names (EachOf-map (λ x h. ap not h) names (among_each names))
+
+module _ (O N : World) (alike : IsAlike O N) where
+  all_openly : (k : Key) (ms : List DeclaredMember) → EachOf (IsDeclared O k) ms → list_all (is_of_open O) ms ≡ list_all (is_of_open N) ms
+  all_openly k [] h = refl
+  all_openly k (m ∷ ms) h = ap (λ b. b && list_all (is_of_open O) ms) (alike.openly m h.0.class h.0.is_there) ∙ ap (λ b. is_of_open N m && b) (all_openly k ms h.1)
+
+  by_method : (x : Bytes) (k : Key) → load_fault O x ≡ None → list_all (is_of_open O) (method_choices O x k) ≡ list_all (is_of_open N) (method_choices N x k)
+  by_method x k l = all_openly k (method_choices O x k) (method_choices-declared O x k l) ∙ ap (list_all (is_of_open N)) (alike.methods x k l)
+
+  by_interface : (x : Bytes) (k : Key) → load_fault O x ≡ None → list_all (is_of_open O) (interface_choices O x k) ≡ list_all (is_of_open N) (interface_choices N x k)
+  by_interface x k l = all_openly k (interface_choices O x k) (interface_choices-declared O x k l) ∙ ap (list_all (is_of_open N)) (alike.interface_methods x k l)
+
+  no_reference : (x : Bytes) (k : Key) → reference_lost O N x k ≡ false
+  unfolding reference_lost
+  no_reference x k = third_never (is_key_of_method k) (is_steady O N x) (list_any (is_handle_lost O N x k) method_acts) (not (is_told O N x k)) (λ steady.
+      let l = steady_loads O N x steady in
+      any_none (is_handle_lost O N x k) method_acts (
+        lost act.InvokeVirtual (by_method x k l),
+        (lost act.InvokeStatic (by_method x k l), (lost act.InvokeInterface (by_interface x k l), (lost act.InvokeStaticInterface (by_interface x k l), tt))),
+      ))
+    where
+      lost : (what : Act) → are_of_open O what x k ≡ are_of_open N what x k → is_handle_lost O N x k what ≡ false
+      lost what e = apart (is_open_to_some O N x k what) (are_of_open O what x k) (are_of_open N what x k) e
+
+  no_access : (x : Bytes) (k : Key) → access_added O N x k ≡ false
+  unfolding access_added
+  no_access x k = fourth_never (is_key_of_method k) (is_base_class O N x) (allows_less_access O x k) (is_called_above N x k) (not (is_final_in_chain N x k)) (λ base called.
+      less_never (is_called_above O x k) (is_public_in_chain O x k) (is_final_in_chain O x k)
+      (subst (λ cs. list_any (offers k) cs ≡ true) (sym (alike.superinterfaces x (base_class_loads O N x base))) called))
+
+  no_constants : (x : Bytes) → constants_added O N x ≡ false
+  unfolding constants_added
+  no_constants x = second_never (is_steady O N x) (class_is O (λ c. class_is N (λ d. gets_constant c d || permits_more c.permits d.permits || gets_objects c d) x) x) (λ steady. go (find_class O x) refl (alike.find x (steady_loads O N x steady)))
+    where
+      gets : Option ClassFacts → Option ClassFacts → Bool
+      gets o p = some_and (λ (c : ClassFacts). some_and (λ (d : ClassFacts). gets_constant c d || permits_more c.permits d.permits || gets_objects c d) p) o
+
+      go : (o : Option ClassFacts) → find_class O x ≡ o → find_class O x ≡ find_class N x → gets (find_class O x) (find_class N x) ≡ false
+      go None e f = ap (λ (o : Option ClassFacts). gets o (find_class N x)) e
+      go (Some c) e f =
+          ap (gets (find_class O x)) (sym f) ∙ ap (λ (o : Option ClassFacts). gets o o) e
+          ∙ ap (λ b. b || permits_more c.permits c.permits || gets_objects c c) (own_constants c) ∙ ap (λ b. b || gets_objects c c) (own_permits c.permits)
+          ∙ abstract_never (is_some c.permits) (abstract_flag c.flags)
+
+  no_line : (l : CallLine) → LineStands O N l → ⊥
+  no_line l h = go l.kind l.«class» l.key h
+    where
+      go : (kind : CallKind) (x : Bytes) (k : Option Key) → is_due O N kind x k ≡ true → ⊥
+      go Reference x (Some k) d = contradicts (reference_lost O N x k) d (no_reference x k)
+      go Access x (Some k) d = contradicts (access_added O N x k) d (no_access x k)
+      go Constants x None d = contradicts (constants_added O N x) d (no_constants x)
+      go Reference x None d = let clash : false ≡ true = d in cc
+      go Access x None d = let clash : false ≡ true = d in cc
+      go Constants x (Some k) d = let clash : false ≡ true = d in cc
+
 -- ---- the lists
 
 lists_nothing : (O N : World) → IsAlike O N → ListsNothing O N
@@ -109,6 +232,7 @@ lists_nothing O N alike = record {
   no_warning = λ ws h. none_listed (WarningStands O N) (λ w s. (let z : None ≡ Some w.kind = sym (warns_none O N alike w.«class» w.key) ∙ s in cc)) ws h.sound;
   none_dropped = λ ds h. none_listed (IsDropped O N) (λ d s. contradicts (is_dropped O N d.«class» d.interface) s (none_dropped O N alike d.«class» d.interface)) ds h.sound;
   no_signature_note = λ ns h. none_listed (SigNoteStands O N) (no_note O N alike) ns h.sound;
+  no_call = λ ls h. none_listed (LineStands O N) (no_line O N alike) ls h.sound;
 }
 
 pub same_release : SameReleaseLists
@@ -118,6 +242,9 @@ same_release O pair = lists_nothing O O (record {
   with_interfaces = λ x l. refl;
   superinterfaces = λ x l. refl;
   records = λ x c d f g. (let z : Some c ≡ Some d = sym f ∙ g in cc);
+  methods = λ x k l. refl;
+  interface_methods = λ x k l. refl;
+  openly = λ m c f. refl;
 })
 
 pub empty_release : EmptyReleaseLists
@@ -130,6 +257,9 @@ empty_release O N pair empty = lists_nothing O N (record {
       (let p : class_named O.platform x ≡ Some c = sym (find_old O N pair empty x) ∙ f in
       let q : class_named N.platform x ≡ Some c = ap (λ cs. class_named cs x) (sym pair.run.platform) ∙ p in
       let z : Some c ≡ Some d = sym q ∙ sym (find-platform N x (ap is_some q)) ∙ g in cc);
+  methods = λ x k l. method_choices-agree O N Loaded agree keeps x k l l;
+  interface_methods = λ x k l. interface_choices-agree O N Loaded agree keeps x k l (root_alike O N pair empty) l;
+  openly = openly_alike O N pair empty;
 })
   where
     Loaded : Bytes → Type 0

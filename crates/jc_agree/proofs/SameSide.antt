@@ -14,13 +14,14 @@ use Rattle.jc_trees.specs.declared.tree.TreeName.TheVariants as names
 use Rattle.jc_trees.specs.declared.tree_read.TreeRead.{TreeRead}
 use Rattle.jc_trees.specs.declared.tree_read.TreeRead.TheVariants as reads
 use Rattle.jc_trees.proofs.OneRead.{one_given}
-use Rattle.jc_commands.specs.Check.{CheckRecords}
+use Rattle.jc_commands.specs.Check.{CheckRecords, old_side, new_side}
 use Rattle.jc_releases.specs.Command.{release_tree}
-use Rattle.jc_words.specs.Command.{CheckOf, LinkOf}
+use Rattle.jc_words.specs.Command.{CheckOf, LinkOf, ClientsOf}
+use Rattle.jc_commands.specs.Clients.{ClientsRecords, side_before, side_after}
 use Rattle.jc_commands.specs.Link.{LinkRecords, release_side}
 use Rattle.jc_releases.specs.Releases.{read_as}
 use Rattle.jc_commands.proofs.Records.{same_library, same_side}
-use Rattle.jc_agree.specs.SameSide.{SeeTheSameSide}
+use Rattle.jc_agree.specs.SameSide.{SeeTheSameSide, SeeTheSameSides}
 
 -- ---- a tree of another name
 
@@ -89,3 +90,32 @@ same_sides files check link r s platform modular = (
   one_side files check link r s platform modular names.Old check.old r.old_modules r.old r.are.1.0,
   one_side files check link r s platform modular names.New check.new r.new_modules r.new r.are.1.1.0,
 )
+
+-- ---- the two releases of a check
+
+module _ (files : List FileOf) (check : CheckOf) (clients : ClientsOf) (r : CheckRecords files check) (s : ClientsRecords files clients)
+    (platform : clients.platform ≡ check.platform) (modular : clients.modular ≡ check.modular) where
+  shared_platform : s.platform ≡ r.platform
+  shared_platform = same_library s.platform r.platform
+      (one_given files (library_at names.Platform check.platform) (reads.Library s.platform) (reads.Library r.platform)
+      (subst (λ (root : Bytes). Gives files (library_at names.Platform root) (reads.Library s.platform)) platform s.are.0) r.are.0)
+
+  moved : (name : TreeName) (root at : Bytes) (m : Modules) (records : List ClassFacts) → root ≡ at → Gives files (release_tree clients.modular name root) (read_as m records)
+      → Gives files (release_tree check.modular name at) (read_as m records)
+  moved name root at m records is h =
+      subst (λ (b : Bool). Gives files (release_tree b name at) (read_as m records)) modular (subst (λ (x : Bytes). Gives files (release_tree clients.modular name x) (read_as m records)) is h)
+
+  before : clients.old ≡ check.old → side_before s ≡ old_side r
+  before is =
+      same_side s.old_modules r.old_modules s.platform r.platform s.old r.old shared_platform
+      (one_given files (release_tree check.modular names.Old check.old) (read_as s.old_modules s.old) (read_as r.old_modules r.old)
+      (moved names.Old clients.old check.old s.old_modules s.old is s.are.1.0) r.are.1.0)
+
+  after : clients.new ≡ check.new → side_after s ≡ new_side r
+  after is =
+      same_side s.new_modules r.new_modules s.platform r.platform s.new r.new shared_platform
+      (one_given files (release_tree check.modular names.New check.new) (read_as s.new_modules s.new) (read_as r.new_modules r.new)
+      (moved names.New clients.new check.new s.new_modules s.new is s.are.1.1.0) r.are.1.1.0)
+
+pub both_sides : SeeTheSameSides
+both_sides files check clients r s platform old new modular = (before files check clients r s platform modular old, after files check clients r s platform modular new)

@@ -8,7 +8,7 @@ use Rattle.jc_trees.specs.declared.limits.TheConstants.{MAX_FILES, MAX_PATH}
 use Rattle.jc_desc.specs.declared.limits.TheConstants.{MAX_CLASS_BYTES, MAX_TEXT, MAX_CODE}
 use Rattle.jc_words.specs.Command.{is_row}
 use Rattle.jc_words.specs.Number.{number_of}
-use Rattle.jc_releases.specs.declared.limits.TheConstants.{MAX_FINDINGS, MAX_WARNINGS, MAX_DROPPED}
+use Rattle.jc_releases.specs.declared.limits.TheConstants.{MAX_FINDINGS, MAX_WARNINGS, MAX_DROPPED, MAX_CALLS}
 use Rattle.jc_releases.specs.declared.status.TheConstants.{PASSED, NOT_PASSED, USAGE, BAD_INPUT, READ_FAULT, WRITE_FAULT, NO_MEMORY, LIMIT}
 
 -- the exit statuses
@@ -38,7 +38,7 @@ pub record RulesAre : Type 0 where
   pub final_added : FINAL_ADDED ≡ 12
 
 -- the limits on what is read and on what is reported: class files of a tree, bytes of a path and of a class file, classes of a side, bytes of a class's name, of a text and of code, findings and
--- collisions of a verdict, warnings, dropped interfaces. A word asks for 1 to 4,096 generated classes, and a row has 2 to 20 releases
+-- collisions of a verdict, warnings, dropped interfaces, lines on calls. A word asks for 1 to 4,096 generated classes, and a row has 2 to 20 releases
 pub record LimitsAre : Type 0 where
   pub files : MAX_FILES ≡ 40000
   pub path : MAX_PATH ≡ 4096
@@ -51,6 +51,7 @@ pub record LimitsAre : Type 0 where
   pub findings : MAX_FINDINGS ≡ 999999
   pub warnings : MAX_WARNINGS ≡ 999999
   pub dropped : MAX_DROPPED ≡ 999999
+  pub calls : MAX_CALLS ≡ 999999
   pub fewest_made : (number_of (codes "0") ≡ None) × (number_of (codes "1") ≡ Some 1)
   pub most_made : (number_of (codes "4096") ≡ Some 4096) × (number_of (codes "4097") ≡ None)
   pub fewest_releases : (is_row 1 ≡ false) × (is_row 2 ≡ true)

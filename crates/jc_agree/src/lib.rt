@@ -9,7 +9,7 @@ ghost use Rattle.jc_agree.specs.NothingListed.{SameReleaseLists, EmptyReleaseLis
 ghost use Rattle.jc_agree.specs.Numbers.{StatusesAre, RulesAre, LimitsAre, VersionsAre};
 ghost use Rattle.jc_agree.specs.OverAPart.{LinkedOverAPart, JudgedOverAPart};
 ghost use Rattle.jc_agree.specs.Replays.{WitnessesReplay};
-ghost use Rattle.jc_agree.specs.SameSide.{SeeTheSameSide};
+ghost use Rattle.jc_agree.specs.SameSide.{SeeTheSameSide, SeeTheSameSides};
 ghost use Rattle.jc_agree.specs.Steps.{StepsAreChecks, StepsAreBorneOut};
 
 use jc_link::laws::names_are_allowed;
@@ -25,7 +25,7 @@ pub fn empty_release_is_compatible()
     ensures { EmptyRelease }
 {}
 
-/// Between a release and itself there is no warning, no interface is dropped, and there is no note on a signature.
+/// Between a release and itself there is no warning, no interface is dropped, and there is no note on a signature and no line on calls.
 pub fn same_release_lists_nothing()
     ensures { SameReleaseLists }
 {}
@@ -78,6 +78,12 @@ pub fn part_says_the_same()
 /// above, which speak of two sides, say what `link` says with either release of a check.
 pub fn link_sees_what_check_sees()
     ensures { SeeTheSameSide }
+{}
+
+/// Over one platform and the same two releases, both sides of a comparison of `clients` are those of `check`, where both are asked with
+/// `--modular` or both without.
+pub fn clients_sees_what_check_sees()
+    ensures { SeeTheSameSides }
 {}
 
 /// The verdict of `history` on a step is that of `check` on the two releases of the step, without `--modular`; and so what bears out the

@@ -1,10 +1,9 @@
 -- Of the clients of a tree exactly one thing is said, and what `link` says bears it out.
-use Rattle.std.proofs.Common.{◌≡◌, ◌∙◌, inl, inr, ◌+◌, ◌++◌, ℕ, List, [], ◌∷◌, refl, sym, ap, subst, Option, Some, None}
+use Rattle.std.proofs.Common.{◌≡◌, ◌∙◌, inl, inr, ◌+◌, ℕ, List, [], ◌∷◌, refl, sym, ap, subst, Option, Some, None}
 use Rattle.jc_base.specs.Outside.{FileOf}
-use Rattle.jc_facts.specs.declared.class_facts.ClassFacts.{ClassFacts}
 use Rattle.jc_facts.specs.declared.client.ClientClass.{ClientClass}
 use Rattle.jc_facts.specs.Names.{Bytes}
-use Rattle.jc_facts.specs.world.World.{World, side}
+use Rattle.jc_facts.specs.world.World.{World}
 use Rattle.jc_answers.specs.Answers.{answer_by, answer_of}
 use Rattle.jc_answers.specs.Said.{IsSaid, of_clients, of_fault, AreSaid, AreLosses, AreBorneOut}
 use Rattle.jc_answers.specs.declared.answer.Answer.{Answer}
@@ -12,7 +11,8 @@ use Rattle.jc_answers.specs.declared.answer.Answer.TheVariants as answers
 use Rattle.jc_link.specs.declared.refusal.ClientPart.{ClientPart}
 use Rattle.jc_losses.specs.JudgedOf.{losses_of, refused_by_either, judged_by}
 use Rattle.jc_losses.proofs.Both.{losses_are_of_both}
-use Rattle.jc_losses.proofs.InOneList.{together_the_same}
+use Rattle.jc_losses.specs.Ground.{JudgeAlike}
+use Rattle.jc_losses.proofs.InOneList.{judged_alike}
 use Rattle.jc_releases.specs.Command.{client_trees}
 use Rattle.jc_releases.specs.declared.stop.Stop.TheVariants as stops
 use Rattle.jc_trees.specs.ReadTrees.{Gives}
@@ -84,15 +84,15 @@ module _ (files : List FileOf) (O N : World) where
       let more = some_answers (n + 1) roots in
       (one.0 ∷ more.0, (one.1, more.1))
 
--- ---- a platform and a release, in one list or not
+-- ---- sides over which clients are judged alike
 
-module _ (files : List FileOf) (P O N : List ClassFacts) where
-  said_apart : (tree : TreeOf) (a : Answer) → IsSaid files (side (P ++ O) []) (side (P ++ N) []) tree a → IsSaid files (side P O) (side P N) tree a
-  said_apart tree a (of_clients cs g e) = of_clients cs g (e ∙ ap answer_by (together_the_same P O N cs))
-  said_apart tree a (of_fault x g e) = of_fault x g e
+module _ (files : List FileOf) (O P N Q : World) (a : JudgeAlike O P) (b : JudgeAlike N Q) where
+  said_alike : (tree : TreeOf) (answer : Answer) → IsSaid files O N tree answer → IsSaid files P Q tree answer
+  said_alike tree answer (of_clients cs g e) = of_clients cs g (e ∙ ap answer_by (judged_alike O P N Q a b cs))
+  said_alike tree answer (of_fault x g e) = of_fault x g e
 
-  pub all_apart : (trees : List TreeOf) (all : List Answer) → AreSaid files (side (P ++ O) []) (side (P ++ N) []) trees all → AreSaid files (side P O) (side P N) trees all
-  all_apart [] [] h = tt
-  all_apart [] (a ∷ all) h = absurd h
-  all_apart (t ∷ trees) [] h = absurd h
-  all_apart (t ∷ trees) (a ∷ all) h = (said_apart t a h.0, all_apart trees all h.1)
+  pub all_alike : (trees : List TreeOf) (all : List Answer) → AreSaid files O N trees all → AreSaid files P Q trees all
+  all_alike [] [] h = tt
+  all_alike [] (answer ∷ all) h = absurd h
+  all_alike (t ∷ trees) [] h = absurd h
+  all_alike (t ∷ trees) (answer ∷ all) h = (said_alike t answer h.0, all_alike trees all h.1)

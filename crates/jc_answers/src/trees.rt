@@ -1,10 +1,10 @@
 //! Judging the clients of several trees, one tree after the other.
-ghost use Rattle.std.specs.Prelude.{◌≡◌, ◌≤◌, ℕ, List, [], map, IfOk, IfErr};
+ghost use Rattle.std.specs.Prelude.{◌≡◌, ◌≤◌, ℕ, List, map, IfOk, IfErr};
 ghost use Rattle.std.specs.List.{All};
 ghost use Rattle.jc_base.specs.States.{change};
-ghost use Rattle.jc_facts.specs.world.World.{side};
 ghost use Rattle.jc_answers.specs.Said.{IsSaid, AreSaid};
-ghost use Rattle.jc_answers.specs.steps.Trees.{IsOneList, FailsIn, FailsAmong, error_said};
+ghost use Rattle.jc_answers.specs.steps.Trees.{IsOfTwoTrees, FailsIn, FailsAmong, error_said};
+ghost use Rattle.jc_losses.specs.Ground.{side_of_ground};
 ghost use Rattle.jc_trees.specs.ClassFiles.{Told};
 ghost use Rattle.jc_trees.specs.Tree.{TreeOf};
 ghost use Rattle.jc_trees.specs.TreeView.{tree_of};
@@ -13,7 +13,7 @@ use crate::answer::{Answer, answer_of};
 use jc_base::file_buf::FileBuf;
 use jc_base::recent_names::RecentNames;
 use jc_base::trees::Trees;
-use jc_loading::platform::Platform;
+use jc_losses::grounds::Ground;
 use jc_losses::judge::judge;
 use jc_releases::stop::Stop;
 use jc_trees::read_tree::read_tree;
@@ -36,16 +36,16 @@ fn said_of(error: TreesError) -> Result<Answer, TreesError>
 fn judge_tree<T: Trees>(
     alloc: Global,
     tree: &Tree<'_>,
-    old: &Platform,
-    new: &Platform,
+    old: &Ground,
+    new: &Ground,
     trees: &mut T,
     buffer: &mut FileBuf,
     recent: &RecentNames,
 ) -> Result<Answer, TreesError>
     requires kind { tree.now.kind ≡ TreeKind.Clients }
-    requires old { IsOneList old.now }
-    requires new { IsOneList new.now }
-    ensures said { IfOk result (λ answer. Told (T.state trees.old).content (λ files. IsSaid files (side old.now []) (side new.now []) (tree_of tree.now) answer)) }
+    requires old { IsOfTwoTrees old.now }
+    requires new { IsOfTwoTrees new.now }
+    ensures said { IfOk result (λ answer. Told (T.state trees.old).content (λ files. IsSaid files (side_of_ground old.now) (side_of_ground new.now) (tree_of tree.now) answer)) }
     ensures stopped { IfErr result (FailsIn (change T.state trees.old trees.new) (tree_of tree.now)) }
     ensures content { (T.state trees.new).content ≡ (T.state trees.old).content }
     ensures never_falls { (r : List ℕ) → (T.state trees.old).faults r ≤ (T.state trees.new).faults r }
@@ -61,9 +61,9 @@ fn judge_tree<T: Trees>(
     }
 }
 
-/// What is said of the clients of each of the trees, over an old side and a new one, each of which stands
-/// in one list. A tree that isn't read stops no other: that is said of it. What is read of a tree is given
-/// back before the next is read.
+/// What is said of the clients of each of the trees, over an old side and a new one. A tree that
+/// isn't read stops no other: that is said of it. What is read of a tree is given back before the next is
+/// read.
 ///
 /// # Errors
 ///
@@ -71,14 +71,14 @@ fn judge_tree<T: Trees>(
 pub fn judge_trees<T: Trees>(
     alloc: Global,
     wanted: &[Tree<'_>],
-    old: &Platform,
-    new: &Platform,
+    old: &Ground,
+    new: &Ground,
     trees: &mut T,
 ) -> Result<Vec<Answer>, TreesError>
     requires kinds { All (λ tree. tree.kind ≡ TreeKind.Clients) wanted.now }
-    requires old { IsOneList old.now }
-    requires new { IsOneList new.now }
-    ensures said { IfOk result (λ answers. Told (T.state trees.old).content (λ files. AreSaid files (side old.now []) (side new.now []) (map tree_of wanted.now) answers.items)) }
+    requires old { IsOfTwoTrees old.now }
+    requires new { IsOfTwoTrees new.now }
+    ensures said { IfOk result (λ answers. Told (T.state trees.old).content (λ files. AreSaid files (side_of_ground old.now) (side_of_ground new.now) (map tree_of wanted.now) answers.items)) }
     ensures stopped { IfErr result (FailsAmong (change T.state trees.old trees.new) (map tree_of wanted.now)) }
     ensures content { (T.state trees.new).content ≡ (T.state trees.old).content }
 {

@@ -1,4 +1,8 @@
+mod AccessKept
 mod Kept
 mod Lost
+mod LostAccess
 mod Openly
+pub mod WorkedAccess
+pub mod WorkedConstants
 pub mod WorkedReferences

@@ -7,14 +7,13 @@ use Rattle.jc_facts.specs.declared.key.Key.{Key}
 use Rattle.jc_facts.specs.Names.{Bytes, object_name}
 use Rattle.jc_facts.specs.world.World.{World, modular_side, with_clients}
 use Rattle.jc_facts.specs.client.Outcome.{outcome}
-use Rattle.jc_sound.proofs.Examples.{computes, init, key, member, a_class, plain, public_class, object, over, extending}
-use Rattle.jc_calls.specs.Access.{access_added}
+use Rattle.jc_sound.proofs.Examples.{computes, init, key, member, a_class, plain, object, over, extending}
 use Rattle.jc_calls.specs.Handles.{handle_item, handle_ok}
 use Rattle.jc_calls.specs.References.{reference_lost}
 
 -- what these compute with
 unfoldable refers : ℕ
-unfolding computes handle_ok reference_lost access_added
+unfolding computes handle_ok reference_lost
 refers = 0
 
 abbrev p_A : Bytes
@@ -145,34 +144,3 @@ exporting release = modular_side (Some (codes "p" ∷ [])) (object ∷ []) relea
 handle_unexported : reference_lost (exporting (having p_A 0x21 q_B (m 9 ∷ []) ∷ having q_B 0x21 object_name [] ∷ [])) (exporting (having p_A 0x21 q_B [] ∷ having q_B 0x21 object_name (m 9 ∷ []) ∷ [])) p_A m_key ≡ true
 unfolding refers
 handle_unexported = refl
-
--- ---- methods with less access
-
--- a class implements an interface now, whose method a client below it declares with less access
-weaker_override : access_added (over (plain p_A ∷ face p_I 0x601 [] (m 0x401 ∷ []) ∷ [])) (over (a_class p_A 0x21 (Some object_name) (p_I ∷ []) [] (init 1 ∷ m 1 ∷ []) ∷ face p_I 0x601 [] (m 0x401 ∷ []) ∷ [])) p_A m_key ≡ true
-unfolding refers
-weaker_override = refl
-
--- so it is with an interface of the platform
-abbrev comparable : Bytes
-comparable = codes "java/lang/Comparable"
-
-abbrev compare : Member
-compare = member (codes "compareTo") (codes "(Ljava/lang/Object;)I") 0x401
-
-abbrev with_comparable : List ClassFacts → World
-with_comparable release = record (over release) { platform = object ∷ face comparable 0x601 [] (compare ∷ []) ∷ [] }
-
-weaker_platform : access_added (with_comparable (plain p_A ∷ [])) (with_comparable (a_class p_A 0x21 (Some object_name) (comparable ∷ []) [] (init 1 ∷ record compare { flags = 0x1041 } ∷ []) ∷ [])) p_A (key (codes "compareTo") (codes "(Ljava/lang/Object;)I")) ≡ true
-unfolding refers
-weaker_platform = refl
-
--- a key that was found before brings nothing new
-was_found : access_added (over (public_class p_A [] (m 1 ∷ []) ∷ face p_I 0x601 [] (m 0x401 ∷ []) ∷ [])) (over (a_class p_A 0x21 (Some object_name) (p_I ∷ []) [] (init 1 ∷ m 1 ∷ []) ∷ face p_I 0x601 [] (m 0x401 ∷ []) ∷ [])) p_A m_key ≡ false
-unfolding refers
-was_found = refl
-
--- a final one is a collision of its own
-made_final : access_added (over (plain p_A ∷ face p_I 0x601 [] (m 0x401 ∷ []) ∷ [])) (over (a_class p_A 0x21 (Some object_name) (p_I ∷ []) [] (init 1 ∷ m 0x11 ∷ []) ∷ face p_I 0x601 [] (m 0x401 ∷ []) ∷ [])) p_A m_key ≡ false
-unfolding refers
-made_final = refl

@@ -1,5 +1,10 @@
 pub mod Access
+pub mod AccessKept
 pub mod CallsKept
+pub mod Constants
 pub mod Handles
+pub mod Lines
 pub mod Lost
+pub mod LostAccess
 pub mod References
+pub mod Selected

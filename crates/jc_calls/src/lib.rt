@@ -3,8 +3,10 @@
 //! Each law is the contract of a function that does nothing.
 #![tactic(auto)]
 
+ghost use Rattle.jc_calls.specs.AccessKept.{AccessStays};
 ghost use Rattle.jc_calls.specs.CallsKept.{ReferencesStay};
 ghost use Rattle.jc_calls.specs.Lost.{EachReferenceIsLost};
+ghost use Rattle.jc_calls.specs.LostAccess.{EachAccessIsLost};
 
 /// Where the verdict has no finding, no reference is lost, and no collision is met, each method reference of a client that names a class
 /// of a library, and was Ok, is Ok.
@@ -15,4 +17,15 @@ pub fn references_stay()
 /// Each reference that is lost is one that some client in scope loses, which meets no collision.
 pub fn each_reference_is_lost()
     ensures { EachReferenceIsLost }
+{}
+
+/// Each access that is added refuses calls of some client in scope, which meets no collision (JVMS 6.5, `invokeinterface`).
+pub fn each_access_is_lost()
+    ensures { EachAccessIsLost }
+{}
+
+/// Where the verdict has no finding, no access is added, and no collision is met, a call by an interface above a client's seat that the
+/// client's method refuses was refused before, or the seat's chain had the key as public.
+pub fn access_stays()
+    ensures { AccessStays }
 {}

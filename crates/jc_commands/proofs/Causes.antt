@@ -1,11 +1,12 @@
 -- Why a command has no report, and what it comes to.
-use Rattle.std.proofs.Common.{◌≡◌, ◌≤◌, inl, inr, List, [], ◌∷◌, ◌++◌, map, Option, Some, None, refl, sym, ap, subst, ◌∙◌}
+use Rattle.std.proofs.Common.{◌≡◌, ◌≤◌, inl, inr, List, [], ◌∷◌, map, Option, Some, None, refl, sym, ap, subst, ◌∙◌}
 use Rattle.jc_base.specs.Outside.{FileOf}
 use Rattle.jc_base.specs.States.{TreesState, Change}
 use Rattle.jc_facts.specs.declared.class_facts.ClassFacts.{ClassFacts}
 use Rattle.jc_facts.specs.declared.client.ClientClass.{ClientClass}
 use Rattle.jc_facts.specs.declared.outcome.Outcome.{Outcome}
 use Rattle.jc_facts.specs.declared.verdict.Verdict.{Verdict}
+use Rattle.jc_facts.specs.declared.dropped.Dropped.{Dropped}
 use Rattle.jc_facts.specs.declared.warning.Warning.{Warning}
 use Rattle.jc_facts.specs.Names.{Bytes}
 use Rattle.jc_facts.specs.Options.{or_else}
@@ -28,7 +29,7 @@ use Rattle.jc_trees.specs.FirstTree.{IsFirstUnread}
 use Rattle.jc_trees.specs.declared.trees_error.TreesError.{TreesError}
 use Rattle.jc_trees.specs.declared.trees_error.TreesError.TheVariants as trees_errors
 use Rattle.jc_commands.specs.Causes.{StopsCommand}
-use Rattle.jc_commands.specs.Check.{CheckRecords, is_apart, over_findings, over_warnings, over_dropped, AreWarned, mismatch_of, puts_below}
+use Rattle.jc_commands.specs.Check.{CheckRecords, is_apart, over_findings, over_warnings, over_dropped, over_calls, AreWarned, mismatch_of, puts_below}
 use Rattle.jc_trees.specs.ClassFiles.{Told}
 use Rattle.jc_releases.specs.Command.{trees_of, client_trees}
 use Rattle.jc_words.specs.Command.{CommandOf, CheckOf, LinkOf, HistoryOf, ClientsOf, CheckCommand, LinkCommand, HistoryCommand, ClientsCommand}
@@ -36,17 +37,19 @@ use Rattle.jc_commands.specs.History.{HistoryRecords}
 use Rattle.jc_commands.specs.steps.History.{IsJudged, StopsJudging}
 use Rattle.jc_commands.specs.Link.{LinkRecords, refusal_of, AreOutcomesOf}
 use Rattle.jc_releases.specs.Releases.{modules_in, read_of, side_of, old_and_new}
-use Rattle.jc_commands.specs.Clients.{ClientsRecords, mismatch_of_two, AreAnswers}
-use Rattle.jc_commands.specs.steps.Clients.{StopsSiding}
+use Rattle.jc_commands.specs.Clients.{ClientsRecords, AreAnswers}
+use Rattle.jc_commands.specs.steps.Clients.{GroundsFor}
+use Rattle.jc_commands.specs.declared.clients.TwoSides.{TwoSides}
+use Rattle.jc_losses.specs.Ground.{side_of_ground}
 use Rattle.jc_answers.specs.Said.{AreSaid}
 use Rattle.jc_answers.specs.steps.Trees.{FailsAmong}
 use Rattle.jc_answers.specs.declared.answer.Answer.{Answer}
-use Rattle.jc_answers.proofs.OneAnswer.{all_apart, all_borne_out}
+use Rattle.jc_answers.proofs.OneAnswer.{all_alike, all_borne_out}
 use Rattle.jc_answers.proofs.TreesSaid.{failed_since}
 use Rattle.jc_commands.specs.Reports.{ToldTo, RecordsOf, Refuses}
 use Rattle.jc_releases.specs.declared.releases.Release.{Release}
 use Rattle.jc_trees.specs.Tree.{TreeOf}
-use Rattle.jc_commands.specs.steps.Check.{IsComparison, StopsComparing, StopsCounting, StopsMatching, StopsWarning, StopsDropping, report_made}
+use Rattle.jc_commands.specs.steps.Check.{IsComparison, StopsComparing, StopsCounting, StopsMatching, StopsWarning, StopsDropping, StopsCalling, report_made}
 use Rattle.jc_releases.specs.steps.Trees.{stop_by_trees}
 use Rattle.jc_commands.specs.steps.Link.{StopsLinking, stop_by_refusal}
 use Rattle.jc_trees.specs.ReadTrees.{GiveAll, StopsAmong}
@@ -57,7 +60,9 @@ use Rattle.jc_commands.proofs.Bodies.{bare_dir, bare_puts, bare_can}
 use Rattle.jc_commands.proofs.Compared.{some_broken, each_shown, show_dir, show_puts, can_show_any}
 use Rattle.jc_commands.proofs.Records.{IsOfRecords, unfit_says, refusal_says, unfit_row_says, mismatch_says, warned_few}
 use Rattle.jc_commands.proofs.SomeVerdict.{some_verdict, some_warnings}
-use Rattle.jc_commands.proofs.SomeDropped.{some_dropped}
+use Rattle.jc_commands.specs.DroppedPart.{AreAskedDropped}
+use Rattle.jc_commands.proofs.SomeCalls.{some_calls}
+use Rattle.jc_commands.proofs.SomeDropped.{some_dropped, dropped_few}
 use Rattle.jc_releases.specs.declared.limits.TheConstants.{MAX_FINDINGS}
 
 -- ---- why comparing stopped
@@ -108,6 +113,23 @@ unfit_dropping O N stop fits v is few check ws warned (inl (asked, named, many))
       many = many ds.0 ds.1;
     }))
 unfit_dropping O N stop fits v is few check ws warned (inr h) = inr h
+
+-- there are too many lines on calls, and not too many findings, nor warnings or dropped interfaces where they are asked for
+pub unfit_calling : (O N : World) (stop : Stop) → IsPair O N → mismatch_of O N ≡ None → (v : Verdict) → IsVerdict O N v → count_of v ≤ MAX_FINDINGS
+    → (check : CheckOf) (ws : Option (List Warning)) (ds : Option (List Dropped)) → AreWarned check.warn O N ws → AreAskedDropped check.dropped O N ds → StopsCalling check.calls O N stop
+    → StopsComparing check O N stop
+unfit_calling O N stop pair fits v is few check ws ds warned dropped (inl (asked, named, many)) =
+    let ls = some_calls O N pair in
+    inl (over_calls asked named (record {
+      fits = fits;
+      few = λ w k. subst (λ (x : Verdict). count_of x ≤ MAX_FINDINGS) (verdict_is_one O N v w is k) few;
+      few_warnings = warned_few check.warn O N ws warned;
+      few_dropped = dropped_few check.dropped O N ds dropped;
+      lines = ls.0;
+      exact = ls.1;
+      many = many ls.0 ls.1;
+    }))
+unfit_calling O N stop pair fits v is few check ws ds warned dropped (inr h) = inr h
 
 -- ---- why linking stopped
 
@@ -199,15 +221,16 @@ module _ (check : CheckOf) (c : Change TreesState) (wanted : List TreeOf) (wante
     tells = tells;
     dir_is = show_dir check.witness made.old made.new made.verdict report.body shown;
     can_show = can_show_any check O N made is check.witness report.body shown;
-    is_report = λ files told. (checked files told, record { verdict = is.verdict; warnings = is.warned; signatures = is.noted; dropped = is.dropped }, puts_are);
+    is_report = λ files told. (checked files told, record { verdict = is.verdict; warnings = is.warned; signatures = is.noted; dropped = is.dropped; calls = is.calls }, puts_are);
     upholds = λ files told. record {
       records = checked files told;
-      parts = record { verdict = is.verdict; warnings = is.warned; signatures = is.noted; dropped = is.dropped };
+      parts = record { verdict = is.verdict; warnings = is.warned; signatures = is.noted; dropped = is.dropped; calls = is.calls };
       kept = is.kept;
       broken = some_broken O N made.verdict is.can is.verdict.exact;
       breaks = is.breaks;
       answered = is.answered;
       interfaces = is.interfaces;
+      references = is.references;
       shown = each_shown O N made.verdict is.can is.verdict.exact;
       puts_are = puts_are;
     };
@@ -279,24 +302,28 @@ module _ (history : HistoryOf) (c : Change TreesState) (wanted : List TreeOf) (w
 -- ---- clients of two releases
 
 module _ (clients : ClientsOf) (c : Change TreesState) (wanted : List TreeOf) (wanted_is : wanted ≡ trees_of (ClientsCommand clients))
-    (all : List TreeRead) (platform old new : List ClassFacts) (all_is : all ≡ reads.Library platform ∷ reads.Library old ∷ reads.Library new ∷ [])
+    (all : List TreeRead) (platform : List ClassFacts) (old new : Release) (all_is : all ≡ reads.Library platform ∷ read_of old ∷ read_of new ∷ [])
     (read : Told c.before.content (λ files. GiveAll files wanted all)) where
   abbrev two_releases : (files : List FileOf) → c.before.content ≡ Some files → ClientsRecords files clients
   two_releases files told = record {
     platform = platform;
-    old = old;
-    new = new;
-    are = told_reads c.before.content wanted (trees_of (ClientsCommand clients)) all (reads.Library platform ∷ reads.Library old ∷ reads.Library new ∷ []) wanted_is all_is read files told;
+    old = old.records;
+    old_modules = modules_in old.modules;
+    new = new.records;
+    new_modules = modules_in new.modules;
+    are = told_reads c.before.content wanted (trees_of (ClientsCommand clients)) all (reads.Library platform ∷ read_of old ∷ read_of new ∷ []) wanted_is all_is read files told;
   }
 
-  pub cause_siding : (stop : Stop) → StopsSiding platform old new stop → StopsCommand (ClientsCommand clients) c stop
-  cause_siding stop (inl h) = cause_refused (ClientsCommand clients) c stop (mismatch_says platform (old_and_new old new) stop h) (λ files told. (two_releases files told, h))
+  pub cause_siding : (stop : Stop) → StopsMatching (side_of platform old) (side_of platform new) stop → StopsCommand (ClientsCommand clients) c stop
+  cause_siding stop (inl h) =
+      cause_refused (ClientsCommand clients) c stop (mismatch_says platform (old_and_new old.records new.records) stop h) (λ files told. (two_releases files told, h))
   cause_siding stop (inr h) = cause_memory (ClientsCommand clients) c stop h
 
-  pub answers_reported : mismatch_of_two platform old new ≡ None → (O N : List ClassFacts) → O ≡ platform ++ old → N ≡ platform ++ new
-      → (each : List TreeOf) → each ≡ client_trees 1 clients.clients → (said : List Answer) → Told c.before.content (λ files. AreSaid files (side O []) (side N []) each said)
+  pub answers_reported : (sides : TwoSides) → GroundsFor (side_of platform old) (side_of platform new) sides
+      → (each : List TreeOf) → each ≡ client_trees 1 clients.clients
+      → (said : List Answer) → Told c.before.content (λ files. AreSaid files (side_of_ground sides.old) (side_of_ground sides.new) each said)
       → (report : Report) → IsBare report.body → TellsOf (ClientsCommand clients) said report → IsReportOf (ClientsCommand clients) c.before report
-  answers_reported fits O N o n each each_is said are report none tells = record {
+  answers_reported sides over each each_is said are report none tells = record {
     of = said;
     tells = tells;
     dir_is = bare_dir report.body none;
@@ -305,18 +332,16 @@ module _ (clients : ClientsOf) (c : Change TreesState) (wanted : List TreeOf) (w
     upholds = λ files told. let a = answered files told in record {
       records = two_releases files told;
       answers = a;
-      borne_out = all_borne_out files (side platform old) (side platform new) (client_trees 1 clients.clients) said a.exact;
+      borne_out = all_borne_out files (side_of platform old) (side_of platform new) (client_trees 1 clients.clients) said a.exact;
     };
   }
     where
-      moved : (files : List FileOf) → c.before.content ≡ Some files → AreSaid files (side (platform ++ old) []) (side (platform ++ new) []) (client_trees 1 clients.clients) said
-      moved files told =
-          subst (λ (ts : List TreeOf). AreSaid files (side (platform ++ old) []) (side (platform ++ new) []) ts said) each_is
-          (subst (λ (M : List ClassFacts). AreSaid files (side (platform ++ old) []) (side M []) each said) n
-          (subst (λ (M : List ClassFacts). AreSaid files (side M []) (side N []) each said) o (are files told)))
-
-      answered : (files : List FileOf) → c.before.content ≡ Some files → AreAnswers files clients platform old new said
-      answered files told = record { fits = fits; exact = all_apart files platform old new (client_trees 1 clients.clients) said (moved files told) }
+      answered : (files : List FileOf) → c.before.content ≡ Some files → AreAnswers files clients (side_of platform old) (side_of platform new) said
+      answered files told = record {
+        fits = over.fits;
+        exact = all_alike files _ _ _ _ over.old.alike over.new.alike (client_trees 1 clients.clients) said
+            (subst (λ (ts : List TreeOf). AreSaid files (side_of_ground sides.old) (side_of_ground sides.new) ts said) each_is (are files told));
+      }
 
 -- judging the clients stopped
 pub cause_failing : (clients : ClientsOf) (a b c : TreesState) → ((r : Bytes) → a.faults r ≤ b.faults r) → (each : List TreeOf) → each ≡ client_trees 1 clients.clients

@@ -5,6 +5,8 @@ use Rattle.std.specs.List.{All}
 use Rattle.std.proofs.lemmas.Bool.{ltb-true, ltb-false}
 use Rattle.std.proofs.lemmas.List.Elements.{All-from_recursion, recursion_from_All}
 use Rattle.jc_base.specs.Outside.{FileOf}
+use Rattle.jc_facts.specs.declared.call_line.CallLine.{CallLine}
+use Rattle.jc_calls.specs.Lines.{AreLines}
 use Rattle.jc_facts.specs.declared.dropped.Dropped.{Dropped}
 use Rattle.jc_dropped.specs.Dropped.{AreDropped}
 use Rattle.jc_facts.specs.declared.class_facts.ClassFacts.{ClassFacts}
@@ -18,7 +20,7 @@ use Rattle.jc_promises.specs.rule.Verdict.{IsVerdict}
 use Rattle.jc_facts.specs.Verdicts.{count_of}
 use Rattle.jc_promises.specs.rule.Warnings.{AreWarnings}
 use Rattle.jc_promises.specs.Pairs.{IsPair}
-use Rattle.jc_facts.specs.world.World.{World, Modules, OneModule, Several, is_modular, side}
+use Rattle.jc_facts.specs.world.World.{World, Modules, OneModule, Several, is_modular}
 use Rattle.jc_lemmas.proofs.Listed.{EachOf}
 use Rattle.jc_promises.proofs.Pairs.{pair_in}
 use Rattle.jc_facts.proofs.ReadLists.{read_valid}
@@ -30,7 +32,7 @@ use Rattle.jc_gate.specs.Gates.{GateOf}
 use Rattle.jc_words.specs.declared.usage.Usage.{Usage}
 use Rattle.jc_commands.specs.Causes.{IsRefused, IsAccepted}
 use Rattle.jc_trees.specs.FirstTree.{IsFirstUnread}
-use Rattle.jc_commands.specs.Check.{CheckRecords, old_side, new_side, is_apart, over_findings, over_warnings, over_dropped, AreWarned, mismatch_of, report_of}
+use Rattle.jc_commands.specs.Check.{CheckRecords, old_side, new_side, is_apart, over_findings, over_warnings, over_dropped, over_calls, AreWarned, mismatch_of, report_of}
 use Rattle.jc_trees.specs.ClassFiles.{FileRead, ClassRead, ModuleRead, IsFileIn, AreRecords, AreModular, without_items, without_code, records_in}
 use Rattle.jc_releases.specs.Command.{release_kind, release_tree, release_trees, trees_of, asked_of}
 use Rattle.jc_words.specs.Command.{CommandOf, CheckOf, LinkOf, HistoryOf, ClientsOf, CheckCommand, LinkCommand, MakeCommand, HistoryCommand, ClientsCommand, HelpCommand}
@@ -40,11 +42,11 @@ use Rattle.jc_history.specs.Row.{steps_of, AreVerdicts}
 use Rattle.jc_history.proofs.RowVerdicts.{all_few}
 use Rattle.jc_commands.specs.Link.{LinkRecords, release_side, refusal_of}
 use Rattle.jc_releases.specs.Releases.{read_as}
-use Rattle.jc_commands.specs.Clients.{ClientsRecords, mismatch_of_two}
+use Rattle.jc_commands.specs.Clients.{ClientsRecords, side_before, side_after}
 use Rattle.jc_answers.proofs.OneAnswer.{some_answers}
 use Rattle.jc_commands.specs.Reports.{RecordsOf, ReportOf, Refuses, Accepts, IsReportOn}
 use Rattle.jc_trees.specs.Tree.{TreeOf, library_at, clients_at}
-use Rattle.jc_releases.specs.declared.limits.TheConstants.{MAX_FINDINGS, MAX_WARNINGS, MAX_DROPPED}
+use Rattle.jc_releases.specs.declared.limits.TheConstants.{MAX_FINDINGS, MAX_WARNINGS, MAX_DROPPED, MAX_CALLS}
 use Rattle.jc_releases.specs.declared.stop.Part.TheVariants as parts
 use Rattle.jc_releases.specs.declared.stop.Stop.{Stop}
 use Rattle.jc_releases.specs.declared.stop.Stop.TheVariants as stops
@@ -63,6 +65,7 @@ use Rattle.jc_commands.proofs.RowVerdicts.{some_row, few_or_many}
 use Rattle.jc_commands.proofs.MadeReleases.{made_verdict}
 use Rattle.jc_commands.proofs.SomeVerdict.{some_verdict, some_warnings}
 use Rattle.jc_commands.proofs.SomeSignatures.{noted_on}
+use Rattle.jc_commands.proofs.SomeCalls.{some_calls, calls_are_one, calls_on}
 use Rattle.jc_commands.proofs.SomeDropped.{some_dropped, dropped_are_one, dropped_on}
 use Rattle.jc_trees.proofs.SomeTrees.{TreesAreRead, some_trees}
 
@@ -120,10 +123,10 @@ module _ (files : List FileOf) where
 
   clients_records : (clients : ClientsOf) (all : List TreeRead) → GiveAll files (trees_of (ClientsCommand clients)) all → ClientsRecords files clients
   clients_records clients all h =
-      let p = library names.Platform clients.platform (library_at names.Old clients.old ∷ library_at names.New clients.new ∷ []) all h in
-      let o = library names.Old clients.old (library_at names.New clients.new ∷ []) p.rest p.others in
-      let n = library names.New clients.new [] o.rest o.others in
-      record { platform = p.records; old = o.records; new = n.records; are = ((refl, p.are), ((refl, o.are), ((refl, n.are), tt))) }
+      let p = library names.Platform clients.platform (release_tree clients.modular names.Old clients.old ∷ release_tree clients.modular names.New clients.new ∷ []) all h in
+      let o = first_release clients.modular names.Old clients.old (release_tree clients.modular names.New clients.new ∷ []) p.rest p.others in
+      let n = first_release clients.modular names.New clients.new [] o.rest o.others in
+      record { platform = p.records; old = o.records; old_modules = o.modules; new = n.records; new_modules = n.modules; are = ((refl, p.are), (o.are, (n.are, tt))) }
 
 records_from : (files : List FileOf) (command : CommandOf) → IsSized command → (all : List TreeRead) → GiveAll files (trees_of command) all → RecordsOf files command
 records_from files (CheckCommand check) sized all h = check_records files check all h
@@ -183,6 +186,10 @@ verdict_on files check s fits = some_verdict (old_side s) (new_side s) (pair_on 
 warnings_on : (files : List FileOf) (check : CheckOf) (s : CheckRecords files check) → mismatch_of (old_side s) (new_side s) ≡ None → (ws : List Warning) × AreWarnings (old_side s) (new_side s) ws
 warnings_on files check s fits = some_warnings (old_side s) (new_side s) (pair_on files check s fits)
 
+-- and there are lines on calls
+calls_between : (files : List FileOf) (check : CheckOf) (s : CheckRecords files check) → mismatch_of (old_side s) (new_side s) ≡ None → (ls : List CallLine) × AreLines (old_side s) (new_side s) ls
+calls_between files check s fits = some_calls (old_side s) (new_side s) (pair_on files check s fits)
+
 -- those that are reported
 warned_on : (warn : Bool) (O N : World) (ws : List Warning) → AreWarnings O N ws → (IsTrue warn → (vs : List Warning) → AreWarnings O N vs → length vs ≤ MAX_WARNINGS) → (o : Option (List Warning)) × AreWarned warn O N o
 warned_on false O N ws is few = (None, tt)
@@ -202,30 +209,65 @@ verdicts_on files h s fits =
 abbrev Decided : (files : List FileOf) (command : CommandOf) → RecordsOf files command → Type 0
 Decided files command r = Accepts files command r ⊎ ((stop : Stop) × Refuses files command r stop)
 
+-- none of what a check asks for is too much
+abbrev FewFindings : World → World → Type 0
+FewFindings O N = (w : Verdict) → IsVerdict O N w → count_of w ≤ MAX_FINDINGS
+
+abbrev FewWarnings : Bool → World → World → Type 0
+FewWarnings warn O N = IsTrue warn → (ws : List Warning) → AreWarnings O N ws → length ws ≤ MAX_WARNINGS
+
+abbrev FewDropped : Bool → World → World → Type 0
+FewDropped dropped O N = IsTrue dropped → (ds : List Dropped) → AreDropped O N ds → length ds ≤ MAX_DROPPED
+
 decided : (files : List FileOf) (command : CommandOf) (r : RecordsOf files command) → Decided files command r
 decided files (CheckCommand check) r = by_records (mismatch_of (old_side r) (new_side r)) refl
   where
-    by_dropped : mismatch_of (old_side r) (new_side r) ≡ None → ((w : Verdict) → IsVerdict (old_side r) (new_side r) w → count_of w ≤ MAX_FINDINGS)
-        → (IsTrue check.warn → (ws : List Warning) → AreWarnings (old_side r) (new_side r) ws → length ws ≤ MAX_WARNINGS) → (b : Bool) → check.dropped ≡ b
+    by_calls : mismatch_of (old_side r) (new_side r) ≡ None → FewFindings (old_side r) (new_side r) → FewWarnings check.warn (old_side r) (new_side r) → FewDropped check.dropped (old_side r) (new_side r)
+        → (b : Bool) → check.calls ≡ b → (ls : List CallLine) × AreLines (old_side r) (new_side r) ls → Decided files (CheckCommand check) r
+    by_calls fits few warned dropped false e ls =
+        inl (record { fits = fits; few = few; few_warnings = warned; few_dropped = dropped; few_calls = λ w. absurd (let clash : false ≡ true = sym e ∙ w in cc) })
+    by_calls fits few warned dropped true e (ls, is) = by_length (nat_lt MAX_CALLS (length ls)) refl
+      where
+        by_length : (b : Bool) → nat_lt MAX_CALLS (length ls) ≡ b → Decided files (CheckCommand check) r
+        by_length true q = inr (
+          stops.TooMany parts.Calls,
+          over_calls e refl (record {
+            fits = fits;
+            few = few;
+            few_warnings = warned;
+            few_dropped = dropped;
+            lines = ls;
+            exact = is;
+            many = ltb-true MAX_CALLS (length ls) q;
+          }),
+        )
+        by_length false q = inl (record {
+          fits = fits;
+          few = few;
+          few_warnings = warned;
+          few_dropped = dropped;
+          few_calls = λ w ms k. subst (λ (xs : List CallLine). length xs ≤ MAX_CALLS) (calls_are_one (old_side r) (new_side r) ls ms is k) (ltb-false MAX_CALLS (length ls) q);
+        })
+
+    at_calls : mismatch_of (old_side r) (new_side r) ≡ None → FewFindings (old_side r) (new_side r) → FewWarnings check.warn (old_side r) (new_side r) → FewDropped check.dropped (old_side r) (new_side r)
+        → Decided files (CheckCommand check) r
+    at_calls fits few warned dropped = by_calls fits few warned dropped check.calls refl (calls_between files check r fits)
+
+    by_dropped : mismatch_of (old_side r) (new_side r) ≡ None → FewFindings (old_side r) (new_side r) → FewWarnings check.warn (old_side r) (new_side r) → (b : Bool) → check.dropped ≡ b
         → (ds : List Dropped) × AreDropped (old_side r) (new_side r) ds → Decided files (CheckCommand check) r
-    by_dropped fits few warned false e ds = inl (record { fits = fits; few = few; few_warnings = warned; few_dropped = λ w. absurd (let clash : false ≡ true = sym e ∙ w in cc) })
+    by_dropped fits few warned false e ds = at_calls fits few warned (λ w. absurd (let clash : false ≡ true = sym e ∙ w in cc))
     by_dropped fits few warned true e (ds, is) = by_length (nat_lt MAX_DROPPED (length ds)) refl
       where
         by_length : (b : Bool) → nat_lt MAX_DROPPED (length ds) ≡ b → Decided files (CheckCommand check) r
         by_length true q =
             inr (stops.TooMany parts.Dropped, over_dropped e refl (record { fits = fits; few = few; few_warnings = warned; dropped = ds; exact = is; many = ltb-true MAX_DROPPED (length ds) q }))
-        by_length false q = inl (record {
-          fits = fits;
-          few = few;
-          few_warnings = warned;
-          few_dropped = λ w es k. subst (λ (xs : List Dropped). length xs ≤ MAX_DROPPED) (dropped_are_one (old_side r) (new_side r) ds es is k) (ltb-false MAX_DROPPED (length ds) q);
-        })
+        by_length false q =
+            at_calls fits few warned (λ w es k. subst (λ (xs : List Dropped). length xs ≤ MAX_DROPPED) (dropped_are_one (old_side r) (new_side r) ds es is k) (ltb-false MAX_DROPPED (length ds) q))
 
-    at_dropped : mismatch_of (old_side r) (new_side r) ≡ None → ((w : Verdict) → IsVerdict (old_side r) (new_side r) w → count_of w ≤ MAX_FINDINGS)
-        → (IsTrue check.warn → (ws : List Warning) → AreWarnings (old_side r) (new_side r) ws → length ws ≤ MAX_WARNINGS) → Decided files (CheckCommand check) r
+    at_dropped : mismatch_of (old_side r) (new_side r) ≡ None → FewFindings (old_side r) (new_side r) → FewWarnings check.warn (old_side r) (new_side r) → Decided files (CheckCommand check) r
     at_dropped fits few warned = by_dropped fits few warned check.dropped refl (some_dropped (old_side r) (new_side r))
 
-    by_warnings : mismatch_of (old_side r) (new_side r) ≡ None → ((w : Verdict) → IsVerdict (old_side r) (new_side r) w → count_of w ≤ MAX_FINDINGS) → (b : Bool) → check.warn ≡ b
+    by_warnings : mismatch_of (old_side r) (new_side r) ≡ None → FewFindings (old_side r) (new_side r) → (b : Bool) → check.warn ≡ b
         → (ws : List Warning) × AreWarnings (old_side r) (new_side r) ws → Decided files (CheckCommand check) r
     by_warnings fits few false e ws = at_dropped fits few (λ w. absurd (let clash : false ≡ true = sym e ∙ w in cc))
     by_warnings fits few true e (ws, is) = by_length (nat_lt MAX_WARNINGS (length ws)) refl
@@ -239,7 +281,7 @@ decided files (CheckCommand check) r = by_records (mismatch_of (old_side r) (new
     by_count fits v is true e = inr (stops.TooMany parts.Findings, over_findings refl (record { fits = fits; verdict = v; exact = is; many = ltb-true MAX_FINDINGS (count_of v) e }))
     by_count fits v is false e = by_warnings fits few check.warn refl (warnings_on files check r fits)
       where
-        few : (w : Verdict) → IsVerdict (old_side r) (new_side r) w → count_of w ≤ MAX_FINDINGS
+        few : FewFindings (old_side r) (new_side r)
         few w k = subst (λ (x : Verdict). count_of x ≤ MAX_FINDINGS) (verdict_is_one (old_side r) (new_side r) v w is k) (ltb-false MAX_FINDINGS (count_of v) e)
 
     by_records : (o : Option Stop) → mismatch_of (old_side r) (new_side r) ≡ o → Decided files (CheckCommand check) r
@@ -247,9 +289,9 @@ decided files (CheckCommand check) r = by_records (mismatch_of (old_side r) (new
     by_records (Some stop) e = inr (stop, is_apart e)
 decided files (MakeCommand n) r = inl tt
 decided files HelpCommand r = inl tt
-decided files (ClientsCommand c) r = by_records (mismatch_of_two r.platform r.old r.new) refl
+decided files (ClientsCommand c) r = by_records (mismatch_of (side_before r) (side_after r)) refl
   where
-    by_records : (o : Option Stop) → mismatch_of_two r.platform r.old r.new ≡ o → Decided files (ClientsCommand c) r
+    by_records : (o : Option Stop) → mismatch_of (side_before r) (side_after r) ≡ o → Decided files (ClientsCommand c) r
     by_records None e = inl e
     by_records (Some stop) e = inr (stop, e)
 decided files (HistoryCommand c) r = by_records (mismatch_of_row r.platform r.releases) refl
@@ -271,10 +313,11 @@ accepted_report files (CheckCommand check) r a =
     let o = warned_on check.warn (old_side r) (new_side r) ws.0 ws.1 a.few_warnings in
     let ns = noted_on check.signatures (old_side r) (new_side r) in
     let ds = dropped_on check.dropped (old_side r) (new_side r) a.few_dropped in
-    (report_of v.0 o.0 ns.0 ds.0, record { verdict = record { fits = a.fits; exact = v.1; few = a.few v.0 v.1 }; warnings = o.1; signatures = ns.1; dropped = ds.1 })
+    let ls = calls_on check.calls (old_side r) (new_side r) (pair_on files check r a.fits) a.few_calls in
+    (report_of v.0 o.0 ns.0 ds.0 ls.0, record { verdict = record { fits = a.fits; exact = v.1; few = a.few v.0 v.1 }; warnings = o.1; signatures = ns.1; dropped = ds.1; calls = ls.1 })
 accepted_report files (LinkCommand link) r a = (outcomes (release_side r) r.clients, record { fits = a; exact = refl })
 accepted_report files (ClientsCommand c) r a =
-    let all = some_answers files (side r.platform r.old) (side r.platform r.new) 1 c.clients in
+    let all = some_answers files (side_before r) (side_after r) 1 c.clients in
     (all.0, record { fits = a; exact = all.1 })
 accepted_report files (MakeCommand n) r a = made_verdict n r
 accepted_report files HelpCommand r a = (help_page, refl)

@@ -6,6 +6,7 @@ use Rattle.jc_base.specs.Outside.{FileOf}
 use Rattle.jc_facts.specs.declared.class_facts.ClassFacts.{ClassFacts}
 use Rattle.jc_facts.specs.declared.client.ClientClass.{ClientClass}
 use Rattle.jc_facts.specs.declared.verdict.Verdict.{Verdict}
+use Rattle.jc_facts.specs.declared.dropped.Dropped.{Dropped}
 use Rattle.jc_facts.specs.declared.warning.Warning.{Warning}
 use Rattle.jc_facts.specs.declared.sig_note.SigNote.{SigNote}
 use Rattle.jc_facts.specs.Options.{or_else}
@@ -19,7 +20,7 @@ use Rattle.jc_select.proofs.Limited.{warnings_are_one}
 use Rattle.jc_link.specs.Refusals.{refused_client}
 use Rattle.jc_index.specs.Root.{fault_of_root}
 use Rattle.jc_index.specs.Sides.{overlap_of}
-use Rattle.jc_commands.specs.Check.{CheckRecords, old_side, new_side, HasTooMany, HasTooManyWarnings, HasTooManyDropped, IsUnfit, is_apart, over_findings, over_warnings, over_dropped, AreWarned, mismatch_of, report_of}
+use Rattle.jc_commands.specs.Check.{CheckRecords, old_side, new_side, HasTooMany, HasTooManyWarnings, HasTooManyDropped, HasTooManyCalls, IsUnfit, is_apart, over_findings, over_warnings, over_dropped, over_calls, AreWarned, mismatch_of, report_of}
 use Rattle.jc_releases.specs.Command.{trees_of, client_trees}
 use Rattle.jc_words.specs.Command.{CommandOf, CheckOf, LinkOf, HistoryOf, ClientsOf, CheckCommand, LinkCommand, MakeCommand, HistoryCommand, ClientsCommand, HelpCommand}
 use Rattle.jc_commands.specs.History.{HistoryRecords, row_of, mismatch_of_row, IsUnfitRow}
@@ -29,13 +30,15 @@ use Rattle.jc_history.specs.Row.{steps_of, AreVerdicts}
 use Rattle.jc_history.proofs.RowVerdicts.{one_row, verdict_at}
 use Rattle.jc_commands.specs.Link.{LinkRecords, release_side, refusal_of, client_name}
 use Rattle.jc_commands.specs.Make.{old_made, new_made}
+use Rattle.jc_commands.specs.CallsPart.{AreAskedCalls}
 use Rattle.jc_commands.specs.DroppedPart.{AreAskedDropped}
 use Rattle.jc_commands.specs.Signatures.{AreNoted}
-use Rattle.jc_commands.specs.Clients.{ClientsRecords, mismatch_of_two}
+use Rattle.jc_commands.specs.Clients.{ClientsRecords, side_before, side_after}
 use Rattle.jc_answers.specs.Said.{AreSaid}
 use Rattle.jc_answers.proofs.OneAnswer.{all_said}
 use Rattle.jc_commands.specs.Reports.{RecordsOf, ReportOf, Refuses, Accepts, IsReportOn}
-use Rattle.jc_releases.specs.declared.limits.TheConstants.{MAX_FINDINGS, MAX_WARNINGS, MAX_DROPPED}
+use Rattle.jc_releases.specs.declared.limits.TheConstants.{MAX_FINDINGS, MAX_WARNINGS, MAX_DROPPED, MAX_CALLS}
+use Rattle.jc_commands.proofs.SomeCalls.{calls_few, calls_one}
 use Rattle.jc_commands.proofs.SomeDropped.{dropped_few, dropped_one}
 use Rattle.jc_commands.proofs.SomeSignatures.{noted_one}
 use Rattle.jc_releases.specs.declared.stop.Stop.{Stop}
@@ -141,11 +144,9 @@ same_link files link P s t p =
 same_history : (files : List FileOf) (h : HistoryOf) (P : List ClassFacts → List (List ClassFacts) → Type 0) (s t : HistoryRecords files h) → P t.platform t.releases → P s.platform s.releases
 same_history files h P s t p = same_row P t.platform s.platform t.releases s.releases (one_read files (trees_of (HistoryCommand h)) _ _ t.are s.are) p
 
-same_records : (files : List FileOf) (c : ClientsOf) (P : List ClassFacts → List ClassFacts → List ClassFacts → Type 0) (s t : ClientsRecords files c) → P t.platform t.old t.new → P s.platform s.old s.new
-same_records files c P s t p =
-    let each = same_each _ _ _ _ _ _ (one_read files (trees_of (ClientsCommand c)) _ _ t.are s.are) in
-    subst (P s.platform s.old) (same_library t.new s.new each.2)
-    (subst (λ (o : List ClassFacts). P s.platform o t.new) (same_library t.old s.old each.1) (subst (λ (q : List ClassFacts). P q t.old t.new) (same_library t.platform s.platform each.0) p))
+same_clients_of : (files : List FileOf) (c : ClientsOf) (P : World → World → Type 0) (s t : ClientsRecords files c) → P (side_before t) (side_after t) → P (side_before s) (side_after s)
+same_clients_of files c P s t p =
+    same_two P t.old_modules t.new_modules s.old_modules s.new_modules t.platform t.old t.new s.platform s.old s.new (one_read files (trees_of (ClientsCommand c)) _ _ t.are s.are) p
 
 -- ---- why records are refused
 
@@ -171,6 +172,7 @@ unfit_says check O N stop (is_apart h) = mismatch_says O.platform (old_and_new O
 unfit_says check O N stop (over_findings is h) = subst IsOfRecords (sym is) tt
 unfit_says check O N stop (over_warnings w is h) = subst IsOfRecords (sym is) tt
 unfit_says check O N stop (over_dropped d is h) = subst IsOfRecords (sym is) tt
+unfit_says check O N stop (over_calls c is h) = subst IsOfRecords (sym is) tt
 
 pub refusal_says : (W : World) (clients : List ClientClass) (stop : Stop) → refusal_of W clients ≡ Some stop → IsOfRecords stop
 refusal_says W clients stop h =
@@ -200,6 +202,16 @@ findings_before check O N h k = apart_numbers (count_of h.verdict) MAX_FINDINGS 
 warnings_before : (check : CheckOf) (O N : World) → IsTrue check.warn → HasTooManyWarnings O N → HasTooManyDropped check O N → ⊥
 warnings_before check O N w h k = apart_numbers (length h.warnings) MAX_WARNINGS (k.few_warnings w h.warnings h.exact) h.many
 
+-- and all three before too many lines on calls
+findings_above : (check : CheckOf) (O N : World) → HasTooMany O N → HasTooManyCalls check O N → ⊥
+findings_above check O N h k = apart_numbers (count_of h.verdict) MAX_FINDINGS (k.few h.verdict h.exact) h.many
+
+warnings_above : (check : CheckOf) (O N : World) → IsTrue check.warn → HasTooManyWarnings O N → HasTooManyCalls check O N → ⊥
+warnings_above check O N w h k = apart_numbers (length h.warnings) MAX_WARNINGS (k.few_warnings w h.warnings h.exact) h.many
+
+dropped_above : (check : CheckOf) (O N : World) → IsTrue check.dropped → HasTooManyDropped check O N → HasTooManyCalls check O N → ⊥
+dropped_above check O N d h k = apart_numbers (length h.dropped) MAX_DROPPED (k.few_dropped d h.dropped h.exact) h.many
+
 one_unfit : (check : CheckOf) (O N : World) (a b : Stop) → IsUnfit check O N a → IsUnfit check O N b → a ≡ b
 one_unfit check O N a b (is_apart h) (is_apart k) = same_some (mismatch_of O N) a b h k
 one_unfit check O N a b (is_apart h) (over_findings j k) = absurd (none_some (mismatch_of O N) a k.fits h)
@@ -217,6 +229,15 @@ one_unfit check O N a b (over_dropped d i h) (is_apart k) = absurd (none_some (m
 one_unfit check O N a b (over_dropped d i h) (over_findings j k) = absurd (findings_before check O N k h)
 one_unfit check O N a b (over_dropped d i h) (over_warnings w j k) = absurd (warnings_before check O N w k h)
 one_unfit check O N a b (over_dropped d i h) (over_dropped e j k) = i ∙ sym j
+one_unfit check O N a b (is_apart h) (over_calls c j k) = absurd (none_some (mismatch_of O N) a k.fits h)
+one_unfit check O N a b (over_findings i h) (over_calls c j k) = absurd (findings_above check O N h k)
+one_unfit check O N a b (over_warnings w i h) (over_calls c j k) = absurd (warnings_above check O N w h k)
+one_unfit check O N a b (over_dropped d i h) (over_calls c j k) = absurd (dropped_above check O N d h k)
+one_unfit check O N a b (over_calls c i h) (is_apart k) = absurd (none_some (mismatch_of O N) b h.fits k)
+one_unfit check O N a b (over_calls c i h) (over_findings j k) = absurd (findings_above check O N k h)
+one_unfit check O N a b (over_calls c i h) (over_warnings w j k) = absurd (warnings_above check O N w k h)
+one_unfit check O N a b (over_calls c i h) (over_dropped d j k) = absurd (dropped_above check O N d k h)
+one_unfit check O N a b (over_calls c i h) (over_calls d j k) = i ∙ sym j
 
 one_unfit_row : (platform : List ClassFacts) (releases : List (List ClassFacts)) (a b : Stop) → IsUnfitRow platform releases a → IsUnfitRow platform releases b → a ≡ b
 one_unfit_row platform releases a b (inl h) (inl k) = same_some (mismatch_of_row platform releases) a b h k
@@ -231,7 +252,7 @@ one_refused files (LinkCommand link) r s a b h k =
     same_some (refusal_of (release_side r) r.clients) a b h (same_link files link (λ W cs. refusal_of W cs ≡ Some b) r s k)
 one_refused files (MakeCommand n) r s a b h k = absurd h
 one_refused files HelpCommand r s a b h k = absurd h
-one_refused files (ClientsCommand c) r s a b h k = same_some (mismatch_of_two r.platform r.old r.new) a b h (same_records files c (λ p o n. mismatch_of_two p o n ≡ Some b) r s k)
+one_refused files (ClientsCommand c) r s a b h k = same_some (mismatch_of (side_before r) (side_after r)) a b h (same_clients_of files c (λ O N. mismatch_of O N ≡ Some b) r s k)
 one_refused files (HistoryCommand c) r s a b h k = one_unfit_row r.platform r.releases a b h (same_history files c (λ p q. IsUnfitRow p q b) r s k)
 
 -- and not where they are accepted
@@ -243,12 +264,13 @@ accepted_or_refused files (CheckCommand check) r s stop a h = go (same_check fil
     go (over_findings i k) = apart_numbers (count_of k.verdict) MAX_FINDINGS (a.few k.verdict k.exact) k.many
     go (over_warnings w i k) = apart_numbers (length k.warnings) MAX_WARNINGS (a.few_warnings w k.warnings k.exact) k.many
     go (over_dropped d i k) = apart_numbers (length k.dropped) MAX_DROPPED (a.few_dropped d k.dropped k.exact) k.many
+    go (over_calls c i k) = apart_numbers (length k.lines) MAX_CALLS (a.few_calls c k.lines k.exact) k.many
 accepted_or_refused files (LinkCommand link) r s stop a h =
     none_some (refusal_of (release_side r) r.clients) stop a (same_link files link (λ W cs. refusal_of W cs ≡ Some stop) r s h)
 accepted_or_refused files (MakeCommand n) r s stop a h = h
 accepted_or_refused files HelpCommand r s stop a h = h
 accepted_or_refused files (ClientsCommand c) r s stop a h =
-    none_some (mismatch_of_two r.platform r.old r.new) stop a (same_records files c (λ p o n. mismatch_of_two p o n ≡ Some stop) r s h)
+    none_some (mismatch_of (side_before r) (side_after r)) stop a (same_clients_of files c (λ O N. mismatch_of O N ≡ Some stop) r s h)
 accepted_or_refused files (HistoryCommand c) r s stop a h = go (same_history files c (λ p q. IsUnfitRow p q stop) r s h)
   where
     go : IsUnfitRow r.platform r.releases stop → ⊥
@@ -279,6 +301,7 @@ report_accepted files (CheckCommand check) r report h = record {
   few = λ w k. subst (λ (x : Verdict). count_of x ≤ MAX_FINDINGS) (verdict_is_one (old_side r) (new_side r) report.verdict w h.verdict.exact k) h.verdict.few;
   few_warnings = warned_few check.warn (old_side r) (new_side r) report.warnings h.warnings;
   few_dropped = dropped_few check.dropped (old_side r) (new_side r) report.dropped h.dropped;
+  few_calls = calls_few check.calls (old_side r) (new_side r) report.calls h.calls;
 }
 report_accepted files (LinkCommand link) r list h = h.fits
 report_accepted files (MakeCommand n) r v h = tt
@@ -294,18 +317,19 @@ report_accepted files (HistoryCommand c) r vs h = record {
 -- and has one
 pub one_report_of : (files : List FileOf) (command : CommandOf) (r s : RecordsOf files command) (a b : ReportOf command) → IsReportOn files command r a → IsReportOn files command s b → a ≡ b
 one_report_of files (CheckCommand check) r s a b h k =
-    ap (λ (v : Verdict). report_of v a.warnings a.signatures a.dropped)
+    ap (λ (v : Verdict). report_of v a.warnings a.signatures a.dropped a.calls)
     (verdict_is_one (old_side r) (new_side r) a.verdict b.verdict h.verdict.exact (same_check files check (λ O N. IsVerdict O N b.verdict) r s k.verdict.exact))
-    ∙ ap (λ (ws : Option (List Warning)). report_of b.verdict ws a.signatures a.dropped)
+    ∙ ap (λ (ws : Option (List Warning)). report_of b.verdict ws a.signatures a.dropped a.calls)
     (warned_one check.warn (old_side r) (new_side r) a.warnings b.warnings h.warnings (same_check files check (λ O N. AreWarned check.warn O N b.warnings) r s k.warnings))
-    ∙ ap (λ (ns : Option (List SigNote)). report_of b.verdict b.warnings ns a.dropped)
+    ∙ ap (λ (ns : Option (List SigNote)). report_of b.verdict b.warnings ns a.dropped a.calls)
     (noted_one check.signatures (old_side r) (new_side r) a.signatures b.signatures h.signatures (same_check files check (λ O N. AreNoted check.signatures O N b.signatures) r s k.signatures))
-    ∙ ap (report_of b.verdict b.warnings b.signatures)
+    ∙ ap (λ (ds : Option (List Dropped)). report_of b.verdict b.warnings b.signatures ds a.calls)
     (dropped_one check.dropped (old_side r) (new_side r) a.dropped b.dropped h.dropped (same_check files check (λ O N. AreAskedDropped check.dropped O N b.dropped) r s k.dropped))
+    ∙ ap (report_of b.verdict b.warnings b.signatures b.dropped)
+    (calls_one check.calls (old_side r) (new_side r) a.calls b.calls h.calls (same_check files check (λ O N. AreAskedCalls check.calls O N b.calls) r s k.calls))
 one_report_of files (LinkCommand link) r s a b h k = h.exact ∙ sym (same_link files link (λ W cs. b ≡ outcomes W cs) r s k.exact)
 one_report_of files (ClientsCommand c) r s a b h k =
-    all_said files (side r.platform r.old) (side r.platform r.new) (client_trees 1 c.clients) a b h.exact
-    (same_records files c (λ p o n. AreSaid files (side p o) (side p n) (client_trees 1 c.clients) b) r s k.exact)
+    all_said files (side_before r) (side_after r) (client_trees 1 c.clients) a b h.exact (same_clients_of files c (λ O N. AreSaid files O N (client_trees 1 c.clients) b) r s k.exact)
 one_report_of files (MakeCommand n) r s a b h k = verdict_is_one (old_made n) (new_made n) a b h k
 one_report_of files HelpCommand r s a b h k = h ∙ sym k
 one_report_of files (HistoryCommand c) r s a b h k =

@@ -1,13 +1,9 @@
 -- The rules of a verdict tell whether it has a finding.
 --     rules_tell      a rule of a finding is among them exactly where it has one
---     links_alone      so where the gate `links` is asked alone, it passes exactly where there is none
-use Rattle.std.proofs.Common.{◌≡◌, ◌==◌, ◌||◌, ◌&&◌, Bool, true, false, not, cond, ℕ, List, [], ◌∷◌, ◌++◌, map, Option, Some, None, refl, sym, ap, subst, ◌∙◌}
-use Rattle.std.specs.Prelude.{codes}
-use Rattle.std.specs.List.{AllByRecursion, list_any, list_all, filter}
-use Rattle.std.specs.Str.{bytes_eq}
+use Rattle.std.proofs.Common.{◌≡◌, ◌==◌, ◌||◌, Bool, true, false, not, cond, ℕ, List, [], ◌∷◌, ◌++◌, map, Option, Some, None, refl, sym, ap, subst, ◌∙◌}
+use Rattle.std.specs.List.{AllByRecursion, list_any}
 use Rattle.std.proofs.lemmas.Bool.{eqb-true}
 use Rattle.std.proofs.lemmas.List.Elements.{recursion_from_All}
-use Rattle.std.proofs.Math.Bool.{and-true}
 use Rattle.jc_facts.specs.declared.finding.Finding.{Finding}
 use Rattle.jc_facts.specs.declared.verdict.Collision.{Collision}
 use Rattle.jc_facts.specs.declared.verdict.Verdict.{Verdict}
@@ -18,8 +14,7 @@ use Rattle.jc_promises.specs.rule.Findings.{Subject, Stands, finding_at, finding
 use Rattle.jc_promises.specs.rule.Collisions.{CollisionStands, collision_at}
 use Rattle.jc_promises.specs.rule.Verdict.{IsVerdict}
 use Rattle.jc_facts.specs.Verdicts.{is_incompatible, holds_some}
-use Rattle.jc_gate.specs.Gates.{GateOf, all_pass}
-use Rattle.jc_gate.specs.Meanings.{IsGateBy, has_no_finding}
+use Rattle.jc_gate.specs.Meanings.{has_no_finding}
 use Rattle.jc_gate.specs.Rules.{is_of_finding}
 use Rattle.jc_commands.specs.Reports.{rules_of}
 
@@ -84,20 +79,3 @@ none_found v e = go v.findings e
 
 pub found_none : (v : Verdict) → v.findings ≡ [] → not (is_incompatible v) ≡ true
 found_none v e = ap (λ fs. not (holds_some fs)) e
-
--- ---- where `links` is asked alone
-
-selected_pass : (name : Bytes) (gates : List GateOf) (step : Option ℕ) (rules : List ℕ) → all_pass gates (name ∷ []) step rules ≡ list_all (λ (g : GateOf). g.passes step rules) (filter (λ (h : GateOf). bytes_eq h.label name) gates)
-selected_pass name [] step rules = refl
-selected_pass name (g ∷ gs) step rules = by (bytes_eq g.label name) (selected_pass name gs step rules)
-  where
-    by : (b : Bool) → all_pass gs (name ∷ []) step rules ≡ list_all (λ (h : GateOf). h.passes step rules) (filter (λ (h : GateOf). bytes_eq h.label name) gs)
-        → ((not (b || false) || g.passes step rules) && all_pass gs (name ∷ []) step rules)
-        ≡ list_all (λ (h : GateOf). h.passes step rules) (cond b (g ∷ filter (λ (h : GateOf). bytes_eq h.label name) gs) (filter (λ (h : GateOf). bytes_eq h.label name) gs))
-    by true r = ap (λ b. g.passes step rules && b) r
-    by false r = r
-
-pub links_alone : (gates : List GateOf) (g : GateOf) → filter (λ (h : GateOf). bytes_eq h.label (codes "links")) gates ≡ g ∷ [] → IsGateBy (codes "links") has_no_finding g → (step : Option ℕ) (rules : List ℕ)
-    → all_pass gates (codes "links" ∷ []) step rules ≡ has_no_finding rules
-links_alone gates g only is step rules =
-    selected_pass (codes "links") gates step rules ∙ ap (list_all (λ (h : GateOf). h.passes step rules)) only ∙ and-true (g.passes step rules) ∙ is.passes step rules

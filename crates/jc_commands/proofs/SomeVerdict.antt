@@ -78,7 +78,7 @@ finding_rule O N s (Some k) None =
     (rule_needs s.rule 8 _ _ (is_rule 8 refl) (rule_needs s.rule 9 _ None (is_rule 9 refl) (none_needs Finding (Contains rules s.rule))))))
 finding_rule O N s (Some k) (Some t) = none_needs Finding (Contains rules s.rule)
 
-of_kept : (O N : World) (x : Bytes) → is_kept O N x ≡ true → is_class_usable O x ≡ true
+pub of_kept : (O N : World) (x : Bytes) → is_kept O N x ≡ true → is_class_usable O x ≡ true
 unfolding is_kept
 of_kept O N x h = first_so (is_class_usable O x) (is_class_usable N x) h
 
@@ -295,7 +295,7 @@ module _ (O N : World) (pair : IsPair O N) where
   found_name : (x : Bytes) (c : ClassFacts) → find_class O x ≡ Some c → Contains (names O N) x
   found_name x c e = name_of O N x c (of_old c (found_in_world O x c e)) (find-name O x c e)
 
-  usable_name : (x : Bytes) → is_class_usable O x ≡ true → Contains (names O N) x
+  pub usable_name : (x : Bytes) → is_class_usable O x ≡ true → Contains (names O N) x
   usable_name x h = let u = usable_parts O x h in found_name x u.class u.is_there
 
   loaded_name : (x : Bytes) → load_fault O x ≡ None → Contains (names O N) x

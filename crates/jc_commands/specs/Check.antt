@@ -1,9 +1,14 @@
--- A check of two releases: what it reads, why that is refused, its verdict, and its warnings, its notes on signatures and its dropped interfaces where they are asked for.
-use Rattle.std.specs.Prelude.{◌≡◌, ◌≢◌, ◌≤◌, ◌<◌, ℕ, ◌+◌, List, [], ◌∷◌, ◌++◌, map, length, Bool, true, false, IsTrue, Option, Some, None, if◌then◌else◌}
+-- A check of two releases: what it reads, why that is refused, its verdict, and its warnings, its notes on signatures, its dropped interfaces and its lines on
+-- calls where they are asked for.
+use Rattle.std.specs.Prelude.{◌≡◌, ◌≢◌, ◌≤◌, ◌<◌, ℕ, ◌+◌, List, [], ◌∷◌, ◌++◌, map, length, Bool, true, false, IsTrue, IsSomeAnd, Option, Some, None, if◌then◌else◌}
 use Rattle.std.specs.List.{All}
 use Rattle.jc_base.specs.Outside.{FileOf}
 use Rattle.jc_base.specs.States.{FolderState, Change}
 use Rattle.jc_facts.specs.declared.rule_numbers.TheConstants.{CLASS_GONE}
+use Rattle.jc_facts.specs.declared.call_line.CallKind.TheVariants.{Reference}
+use Rattle.jc_facts.specs.declared.call_line.CallLine.{CallLine}
+use Rattle.jc_calls.specs.CallsKept.{ReferencesKept}
+use Rattle.jc_calls.specs.Lines.{AreLines}
 use Rattle.jc_facts.specs.declared.dropped.Dropped.{Dropped}
 use Rattle.jc_dropped.specs.Dropped.{AreDropped}
 use Rattle.jc_dropped.specs.InterfacesKept.{InterfacesKept}
@@ -24,6 +29,7 @@ use Rattle.jc_promises.specs.client.Meets.{Meets}
 use Rattle.jc_promises.specs.rule.Verdict.{IsVerdict}
 use Rattle.jc_facts.specs.Verdicts.{count_of}
 use Rattle.jc_promises.specs.rule.Warnings.{AreWarnings}
+use Rattle.jc_report.specs.CallForms.{calls_bytes}
 use Rattle.jc_report.specs.DroppedForms.{dropped_bytes}
 use Rattle.jc_report.specs.Json.{json_of}
 use Rattle.jc_report.specs.SigForms.{sig_bytes}
@@ -38,10 +44,11 @@ use Rattle.jc_trees.specs.declared.tree_read.TreeRead.TheVariants as reads
 use Rattle.jc_releases.specs.Command.{trees_of}
 use Rattle.jc_words.specs.Command.{CheckOf, CheckCommand}
 use Rattle.jc_releases.specs.Releases.{read_as, old_and_new, mismatch_among}
+use Rattle.jc_commands.specs.CallsPart.{AreAskedCalls}
 use Rattle.jc_commands.specs.DroppedPart.{AreAskedDropped}
 use Rattle.jc_commands.specs.Signatures.{AreSigNotes, AreNoted}
 use Rattle.jc_shown.specs.Witness.{PutFile, PutsFiles, put_file, causes_of, witness_puts}
-use Rattle.jc_releases.specs.declared.limits.TheConstants.{MAX_FINDINGS, MAX_WARNINGS, MAX_DROPPED}
+use Rattle.jc_releases.specs.declared.limits.TheConstants.{MAX_FINDINGS, MAX_WARNINGS, MAX_DROPPED, MAX_CALLS}
 use Rattle.jc_releases.specs.declared.stop.Part.TheVariants as parts
 use Rattle.jc_releases.specs.declared.stop.Stop.{Stop}
 use Rattle.jc_releases.specs.declared.stop.Stop.TheVariants as stops
@@ -92,12 +99,23 @@ pub record HasTooManyDropped (check : CheckOf) (O N : World) : Type 0 where
   pub exact : AreDropped O N dropped
   pub many : MAX_DROPPED < length dropped
 
--- the records are refused, and this is the first cause; warnings and dropped interfaces count where they are asked for alone
+-- the releases go with the platform, none of what is asked for before is too much, and there are too many lines on calls
+pub record HasTooManyCalls (check : CheckOf) (O N : World) : Type 0 where
+  pub fits : mismatch_of O N ≡ None
+  pub few : (v : Verdict) → IsVerdict O N v → count_of v ≤ MAX_FINDINGS
+  pub few_warnings : IsTrue check.warn → (ws : List Warning) → AreWarnings O N ws → length ws ≤ MAX_WARNINGS
+  pub few_dropped : IsTrue check.dropped → (ds : List Dropped) → AreDropped O N ds → length ds ≤ MAX_DROPPED
+  pub lines : List CallLine
+  pub exact : AreLines O N lines
+  pub many : MAX_CALLS < length lines
+
+-- the records are refused, and this is the first cause; warnings, dropped interfaces and lines on calls count where they are asked for alone
 pub data IsUnfit (check : CheckOf) (O N : World) (stop : Stop) : Type 0 where
   is_apart : mismatch_of O N ≡ Some stop → IsUnfit check O N stop
   over_findings : stop ≡ stops.TooMany parts.Findings → HasTooMany O N → IsUnfit check O N stop
   over_warnings : IsTrue check.warn → stop ≡ stops.TooMany parts.Warnings → HasTooManyWarnings O N → IsUnfit check O N stop
   over_dropped : IsTrue check.dropped → stop ≡ stops.TooMany parts.Dropped → HasTooManyDropped check O N → IsUnfit check O N stop
+  over_calls : IsTrue check.calls → stop ≡ stops.TooMany parts.Calls → HasTooManyCalls check O N → IsUnfit check O N stop
 
 -- no cause to refuse them stands
 pub record IsFit (check : CheckOf) (O N : World) : Type 0 where
@@ -105,6 +123,7 @@ pub record IsFit (check : CheckOf) (O N : World) : Type 0 where
   pub few : (v : Verdict) → IsVerdict O N v → count_of v ≤ MAX_FINDINGS
   pub few_warnings : IsTrue check.warn → (ws : List Warning) → AreWarnings O N ws → length ws ≤ MAX_WARNINGS
   pub few_dropped : IsTrue check.dropped → (ds : List Dropped) → AreDropped O N ds → length ds ≤ MAX_DROPPED
+  pub few_calls : IsTrue check.calls → (ls : List CallLine) → AreLines O N ls → length ls ≤ MAX_CALLS
 
 -- ---- the verdict
 
@@ -130,10 +149,11 @@ pub record CheckReport : Type 0 where
   pub warnings : Option (List Warning)
   pub signatures : Option (List SigNote)
   pub dropped : Option (List Dropped)
+  pub calls : Option (List CallLine)
 
 -- the report with these parts
-abbrev pub report_of : Verdict → Option (List Warning) → Option (List SigNote) → Option (List Dropped) → CheckReport
-report_of v ws ns ds = record { verdict = v; warnings = ws; signatures = ns; dropped = ds }
+abbrev pub report_of : Verdict → Option (List Warning) → Option (List SigNote) → Option (List Dropped) → Option (List CallLine) → CheckReport
+report_of v ws ns ds ls = record { verdict = v; warnings = ws; signatures = ns; dropped = ds; calls = ls }
 
 -- what each part of it is on these records, where nothing refuses them
 pub record IsCheckReport {files : List FileOf} {check : CheckOf} (records : CheckRecords files check) (report : CheckReport) : Type 0 where
@@ -141,14 +161,19 @@ pub record IsCheckReport {files : List FileOf} {check : CheckOf} (records : Chec
   pub warnings : AreWarned check.warn (old_side records) (new_side records) report.warnings
   pub signatures : AreNoted check.signatures (old_side records) (new_side records) report.signatures
   pub dropped : AreAskedDropped check.dropped (old_side records) (new_side records) report.dropped
+  pub calls : AreAskedCalls check.calls (old_side records) (new_side records) report.calls
 
 -- the bytes of a verdict: its JSON where that is asked for, and else its text
 abbrev pub verdict_bytes : Bool → Verdict → Bytes
 verdict_bytes json v = if json then json_of v else text_of v
 
+-- the bytes of what stands behind the notes on signatures, in this order
+abbrev pub last_bytes : Bool → CheckReport → Bytes
+last_bytes json report = dropped_bytes json report.dropped ++ calls_bytes json report.calls
+
 -- the bytes of what stands behind the warnings, in this order
 abbrev pub behind_bytes : Bool → CheckReport → Bytes
-behind_bytes json report = sig_bytes json report.signatures ++ dropped_bytes json report.dropped
+behind_bytes json report = sig_bytes json report.signatures ++ last_bytes json report
 
 -- the bytes of what is asked for beside the verdict, in this order
 abbrev pub besides_bytes : Bool → CheckReport → Bytes
@@ -199,6 +224,20 @@ pub record KeepsInterfaces (files : List FileOf) (check : CheckOf) (report : Che
   pub nothing : report.dropped ≡ Some []
   pub kept : (cs : List ClientClass) → IsInScope (old_side records) (new_side records) cs → MeetsNone (old_side records) cs report.verdict.collisions
       → InterfacesKept (old_side records) (new_side records) cs
+
+-- none of the lines says that method references no longer link
+abbrev pub TellNoReference : List CallLine → Type 0
+TellNoReference ls = All (λ l. l.kind ≢ Reference) ls
+
+-- the verdict has no finding, the lines on calls are there, and none says that method references no longer link; and each client world in scope that
+-- meets none of its collisions keeps each method reference that was Ok with the old release and names a class of a library
+pub record KeepsReferences (files : List FileOf) (check : CheckOf) (report : CheckReport) : Type 0 where
+  pub records : CheckRecords files check
+  pub parts : IsCheckReport records report
+  pub none : report.verdict.findings ≡ []
+  pub nothing : IsSomeAnd report.calls TellNoReference
+  pub kept : (cs : List ClientClass) → IsInScope (old_side records) (new_side records) cs → MeetsNone (old_side records) cs report.verdict.collisions
+      → ReferencesKept (old_side records) (new_side records) cs
 
 -- the verdict has a finding, and there is a client world in scope that meets none of its collisions and isn't kept. Whatever client world in
 -- scope there is, each client's naming of a class that is gone, by H1, is Ok with the old release, and has the finding's error with the new

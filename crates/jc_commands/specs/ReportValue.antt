@@ -23,6 +23,7 @@ use Rattle.jc_commands.specs.History.{IsKeptRow, IsBorneOutRow}
 use Rattle.jc_commands.specs.Make.{IsSize}
 use Rattle.jc_commands.specs.Reports.{ToldTo, RecordsOf, ReportOf, IsReportOn, passes, bytes_of, puts_of}
 use Rattle.jc_shown.specs.Witness.{PutFile, causes_of, witness_puts}
+use Rattle.jc_call_lines.specs.LinesWithin.{ReferencesStill}
 use Rattle.jc_select.specs.DroppedWithin.{InterfacesStill}
 use Rattle.jc_select.specs.Within.{AnswersStill}
 use Rattle.jc_commands.specs.declared.report.Report.{Report}
@@ -43,13 +44,15 @@ status_by passes = if passes then PASSED else NOT_PASSED
 -- whether it passes by these gates
 abbrev pub passes_by : List GateOf → Condition → Bool
 passes_by gates (conditions.Known passes) = passes
-passes_by gates (conditions.ByGates names step rules) = all_pass gates (map (λ name. name.now) names.items) (option_map number_of step) rules.items
+passes_by gates (conditions.ByGates names step clear rules) = all_pass gates (map (λ name. name.now) names.items) (record { step = option_map number_of step; clear = clear }) rules.items
 
 -- ---- what is put
 
 -- the report of a check, part by part
 abbrev pub report_in : CheckBody → CheckReport
-report_in check = report_of check.verdict (option_map (λ ws. ws.items) check.warnings) (option_map (λ ns. ns.items) check.signatures) (option_map (λ ds. ds.items) check.dropped)
+report_in check =
+    report_of check.verdict (option_map (λ ws. ws.items) check.warnings) (option_map (λ ns. ns.items) check.signatures) (option_map (λ ds. ds.items) check.dropped)
+    (option_map (λ ls. ls.items) check.calls)
 
 -- the bytes that are put
 abbrev pub bytes_in : ReportBody → Bytes
@@ -130,6 +133,7 @@ pub record IsChecked (files : List FileOf) (check : CheckOf) (report : CheckRepo
   pub breaks : All (λ f. f.rule ≡ CLASS_GONE → BreaksClass (old_side records) (new_side records) f.class f.error) report.verdict.findings
   pub answered : IfSome report.warnings (AnswersStill (old_side records) (new_side records))
   pub interfaces : IfSome report.dropped (InterfacesStill (old_side records) (new_side records))
+  pub references : IfSome report.calls (ReferencesStill (old_side records) (new_side records))
   pub shown : All (IsShown (old_side records) (new_side records)) (causes_of report.verdict)
   pub puts_are : puts ≡ puts_below check.witness (old_side records) (new_side records) report.verdict
 

@@ -1,4 +1,5 @@
 //! What is put of a command.
+use jc_facts::call_line::CallLine;
 use jc_facts::dropped::Dropped;
 use jc_facts::sig_note::SigNote;
 use jc_facts::verdict::Verdict;
@@ -26,5 +27,6 @@ pub struct CheckBody<'a> {
     pub warnings: Option<Vec<Warning>>,
     pub signatures: Option<Vec<SigNote>>,
     pub dropped: Option<Vec<Dropped>>,
+    pub calls: Option<Vec<CallLine>>,
     pub shown: Option<Shown<'a>>,
 }

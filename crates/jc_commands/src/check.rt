@@ -24,8 +24,8 @@ use std::alloc::Global;
 /// # Errors
 ///
 /// `Stop::Unread` or `ReadFault` where a tree isn't read, `BadRoot` or `Overlap` where the trees don't make
-/// two sides, `TooMany` where the verdict, the warnings or the dropped interfaces are over their limit, and `Memory`
-/// where memory runs out.
+/// two sides, `TooMany` where the verdict, the warnings, the dropped interfaces or the lines on calls are over their
+/// limit, and `Memory` where memory runs out.
 pub fn check<'a, T: Trees>(
     alloc: Global,
     check: &Check<'a>,

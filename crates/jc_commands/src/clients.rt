@@ -1,9 +1,16 @@
 //! Judging clients of two releases.
-ghost use Rattle.std.specs.Prelude.{◌≡◌, ◌∷◌, [], IfOk, IfErr};
+ghost use Rattle.std.specs.Prelude.{◌≡◌, None, IfOk, IfErr};
 ghost use Rattle.jc_base.specs.States.{change};
 ghost use Rattle.jc_commands.specs.Causes.{StopsCommand};
 ghost use Rattle.jc_commands.specs.ReportValue.{IsReportOf, IsSized};
-ghost use Rattle.jc_commands.specs.steps.Clients.{AreTwoSides, StopsSiding};
+ghost use Rattle.jc_commands.specs.steps.Check.{StopsMatching};
+ghost use Rattle.jc_commands.specs.steps.Clients.{IsGroundFor, GroundsFor};
+ghost use Rattle.jc_facts.specs.world.World.{side_in};
+ghost use Rattle.jc_index.specs.Root.{fault_of_root};
+ghost use Rattle.jc_index.specs.Sides.{overlap_of};
+ghost use Rattle.jc_releases.specs.Releases.{modules_in, side_of};
+ghost use Rattle.jc_releases.specs.steps.Releases.{AreOldAndNew, IsReleaseList, StopsRelease};
+ghost use Rattle.jc_table.specs.Tables.{HasCause as HasTableCause};
 ghost use Rattle.jc_trees.specs.ClassLists.{IsRecordList};
 ghost use Rattle.jc_words.specs.Command.{ClientsCommand};
 ghost use Rattle.jc_words.specs.CommandView.{clients_of};
@@ -13,47 +20,93 @@ use jc_answers::trees::judge_trees;
 use jc_base::trees::Trees;
 use jc_facts::class_facts::ClassFacts;
 use jc_loading::platform::Platform;
-use jc_losses::together::together;
+use jc_losses::grounds::Ground;
 use jc_releases::command::{trees_of_clients, trees_of_each_client};
-use jc_releases::releases::unfit;
+use jc_releases::releases::{Release, ReleaseModules, take_release, unfit};
 use jc_releases::stop::Stop;
 use jc_releases::unread::stop_of;
+use jc_table::table::TableError;
 use jc_trees::read_trees::read_trees;
 use jc_trees::tree::TreeName;
 use jc_trees::tree_read::take_records;
 use jc_words::clients::Clients;
 use std::alloc::Global;
 
-// The sides of two releases, each in one list.
+// What the clients of two releases are judged over.
 #[derive(Drop)]
 struct TwoSides {
-    old: Platform,
-    new: Platform,
+    old: Ground,
+    new: Ground,
 }
 
-// The sides of the two releases with the platform, or why there are none.
+// What clients of the platform with the records of a release in these modules are judged over.
+fn ground_in(
+    alloc: Global,
+    platform: &Platform,
+    records: Vec<ClassFacts>,
+    modules: ReleaseModules,
+) -> Result<Ground, TableError>
+    requires platform { IsRecordList platform.now }
+    requires records { IsRecordList records.items }
+    ensures made { IfOk result (IsGroundFor (side_in (modules_in modules) platform.now records.items)) }
+    ensures sound { IfOk result (λ _. (fault_of_root platform.now ≡ None) × (overlap_of platform.now records.items ≡ None)) }
+    ensures refused { IfErr result (HasTableCause platform.now records.items) }
+{
+    match modules {
+        ReleaseModules::One => match Ground::together(alloc, platform, records) {
+            Ok(made) => Ok(made),
+            Err(error) => Err(error),
+        },
+        ReleaseModules::Several(exports) => {
+            match Ground::apart(alloc, platform, records, exports) {
+                Ok(made) => Ok(made),
+                Err(error) => Err(error),
+            }
+        }
+    }
+}
+
+// What clients of the platform with the release are judged over, or why there is nothing.
+fn ground_of(alloc: Global, platform: &Platform, release: Release) -> Result<Ground, Stop>
+    requires platform { IsRecordList platform.now }
+    requires release { IsReleaseList release }
+    ensures made { IfOk result (IsGroundFor (side_of platform.now release)) }
+    ensures sound { IfOk result (λ _. (fault_of_root platform.now ≡ None) × (overlap_of platform.now release.records ≡ None)) }
+    ensures stopped { IfErr result (StopsRelease platform.now release) }
+{
+    let Release {
+        name,
+        records,
+        modules,
+    } = release;
+    match ground_in(alloc, platform, records.into_vec(), modules) {
+        Ok(made) => Ok(made),
+        Err(error) => Err(unfit(name, error)),
+    }
+}
+
+// What clients of the two releases with the platform are judged over, or why there is nothing.
 fn two_sides(
     alloc: Global,
     platform: Vec<ClassFacts>,
-    old: Vec<ClassFacts>,
-    new: Vec<ClassFacts>,
+    old: Release,
+    new: Release,
 ) -> Result<TwoSides, Stop>
     requires platform { IsRecordList platform.items }
-    requires old { IsRecordList old.items }
-    requires new { IsRecordList new.items }
-    ensures sides { IfOk result (AreTwoSides platform.items old.items new.items) }
-    ensures stopped { IfErr result (StopsSiding platform.items old.items new.items) }
+    requires releases { AreOldAndNew old new }
+    ensures sides { IfOk result (GroundsFor (side_of platform.items old) (side_of platform.items new)) }
+    ensures stopped { IfErr result (StopsMatching (side_of platform.items old) (side_of platform.items new)) }
 {
     let Ok(shared) = Platform::new(alloc, platform) else {
         return Err(Stop::Memory);
     };
-    let was = match together(alloc, &shared, old) {
+    let was = match ground_of(alloc, &shared, old) {
         Ok(was) => was,
-        Err(error) => return Err(unfit(TreeName::Old, error)),
+        Err(stop) => return Err(stop),
     };
-    match together(alloc, &shared, new) {
+    match ground_of(alloc, &shared, new) {
         Ok(now) => Ok(TwoSides { old: was, new: now }),
-        Err(error) => Err(unfit(TreeName::New, error)),
+        Err(stop) => Err(stop),
     }
 }
 
@@ -81,8 +134,8 @@ pub fn judge_clients<'a, T: Trees>(
         Err(error) => return Err(stop_of(error)),
     };
     let platform = take_records(&mut all);
-    let old = take_records(&mut all);
-    let new = take_records(&mut all);
+    let old = take_release(&mut all, TreeName::Old, asked.modular);
+    let new = take_release(&mut all, TreeName::New, asked.modular);
     let sides = match two_sides(alloc, platform, old, new) {
         Ok(sides) => sides,
         Err(stop) => return Err(stop),
@@ -94,7 +147,7 @@ pub fn judge_clients<'a, T: Trees>(
         Ok(answers) => answers,
         Err(error) => return Err(stop_of(error)),
     };
-    match Report::of_answers(alloc, answers.as_slice()) {
+    match Report::of_answers(alloc, asked.json, answers.as_slice()) {
         Ok(report) => Ok(report),
         Err(_) => Err(Stop::Memory),
     }

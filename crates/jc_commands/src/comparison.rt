@@ -1,17 +1,9 @@
 //! The comparison of two releases with a platform.
-ghost use Rattle.std.specs.Prelude.{◌≡◌, ◌≤◌, List, [], ◌∷◌, None, length, IfOk, IfErr, IfSome, option_map, false, true};
-ghost use Rattle.std.specs.List.{All};
-ghost use Rattle.jc_facts.specs.declared.rule_numbers.TheConstants.{CLASS_GONE};
-ghost use Rattle.jc_facts.specs.declared.client.ClientClass.{ClientClass};
+ghost use Rattle.std.specs.Prelude.{◌≡◌, [], ◌∷◌, None, length, IfOk, IfErr, IfSome, option_map};
 ghost use Rattle.jc_promises.specs.Pairs.{AreOfOneRun};
-ghost use Rattle.jc_promises.specs.client.Scope.{IsInScope};
-ghost use Rattle.jc_promises.specs.client.Keeps.{Keeps};
-ghost use Rattle.jc_promises.specs.client.Kept.{BreaksClass};
-ghost use Rattle.jc_promises.specs.rule.Verdict.{IsVerdict};
-ghost use Rattle.jc_facts.specs.Verdicts.{count_of};
 ghost use Rattle.jc_bodies.specs.Files.{CanWrite};
 ghost use Rattle.jc_witness.specs.Ground.{HasShortSide};
-ghost use Rattle.jc_commands.specs.Check.{mismatch_of, AreWarned, MeetsNone};
+ghost use Rattle.jc_commands.specs.Check.{mismatch_of, AreWarned};
 ghost use Rattle.jc_releases.specs.Releases.{side_of};
 ghost use Rattle.jc_commands.specs.Signatures.{AreNoted};
 ghost use Rattle.jc_commands.specs.steps.Check.{AreFound, IsComparison, StopsComparing, StopsCounting, StopsMatching, StopsWarning};
@@ -20,17 +12,17 @@ ghost use Rattle.jc_select.specs.Within.{AnswersStill};
 ghost use Rattle.jc_trees.specs.ClassLists.{IsRecordList};
 ghost use Rattle.jc_words.specs.CommandView.{check_of};
 
-use crate::found::{Found, verdict_and_dropped};
+use crate::found::{Found, Judged, verdict_with_parts};
+use jc_facts::call_line::CallLine;
 use jc_facts::class_facts::ClassFacts;
 use jc_facts::dropped::Dropped;
 use jc_facts::sig_note::SigNote;
 use jc_facts::verdict::Verdict;
 use jc_facts::warning::Warning;
 use jc_loading::platform::Platform;
-use jc_releases::limits::{MAX_FINDINGS, MAX_WARNINGS};
+use jc_releases::limits::MAX_WARNINGS;
 use jc_releases::releases::{Release, tables_over, two_releases};
 use jc_releases::stop::{Part, Stop};
-use jc_rules::compare::compare_within;
 use jc_select::warnings::warnings_within;
 use jc_sig::notes::signature_notes;
 use jc_table::table::Table;
@@ -38,7 +30,7 @@ use jc_words::check::Check;
 use std::alloc::{AllocError, Global};
 
 /// The platform with the old release and with the new one, the verdict on them, and the warnings, the
-/// notes on signatures and the dropped interfaces where they are asked for.
+/// notes on signatures, the dropped interfaces and the lines on calls where they are asked for.
 #[derive(Drop)]
 pub struct Comparison {
     pub old: Table,
@@ -47,6 +39,7 @@ pub struct Comparison {
     pub warnings: Option<Vec<Warning>>,
     pub signatures: Option<Vec<SigNote>>,
     pub dropped: Option<Vec<Dropped>>,
+    pub calls: Option<Vec<CallLine>>,
 }
 
 /// The platform with the old release, and with the new one.
@@ -143,61 +136,23 @@ pub fn both_sides(
     }
 }
 
-// The verdict on two sides, unless there are too many findings.
-fn counted(alloc: Global, old: &Table, new: &Table) -> Result<Verdict, Stop>
+// The verdict on two sides, unless there are too many findings, and the interfaces that classes drop
+// between them and the lines on calls, where they are asked for, or why these aren't reported.
+fn found_between(
+    alloc: Global,
+    old: &Table,
+    new: &Table,
+    dropped: bool,
+    calls: bool,
+) -> Result<Found, Stop>
     requires { AreOfOneRun old.now new.now }
-    ensures exact { IfOk result (IsVerdict old.now new.now) }
-    ensures few { IfOk result (λ v. count_of v ≤ MAX_FINDINGS) }
-    ensures kept { IfOk result (λ v. v.findings ≡ [] → (cs : List ClientClass) → IsInScope old.now new.now cs → MeetsNone old.now cs v.collisions → Keeps old.now new.now cs) }
-    ensures broken { IfOk result (λ v. All (λ f. f.rule ≡ CLASS_GONE → BreaksClass old.now new.now f.class f.error) v.findings) }
+    ensures found { IfOk result (AreFound dropped calls old.now new.now) }
     ensures stopped { IfErr result (StopsCounting old.now new.now) }
 {
-    match compare_within(alloc, old, new, MAX_FINDINGS) {
-        Ok(Some(verdict)) => Ok(verdict),
-        Ok(None) => Err(Stop::TooMany(Part::Findings)),
-        Err(_) => Err(Stop::Memory),
-    }
-}
-
-// The verdict, where dropped interfaces aren't asked for.
-fn found_alone(alloc: Global, old: &Table, new: &Table) -> Result<Found, Stop>
-    requires { AreOfOneRun old.now new.now }
-    ensures found { IfOk result (AreFound false old.now new.now) }
-    ensures stopped { IfErr result (StopsCounting old.now new.now) }
-{
-    match counted(alloc, old, new) {
-        Ok(verdict) => Ok(Found {
-            verdict,
-            dropped: Ok(None),
-        }),
-        Err(stop) => Err(stop),
-    }
-}
-
-// The verdict, and the interfaces that classes drop.
-fn found_together(alloc: Global, old: &Table, new: &Table) -> Result<Found, Stop>
-    requires { AreOfOneRun old.now new.now }
-    ensures found { IfOk result (AreFound true old.now new.now) }
-    ensures stopped { IfErr result (StopsCounting old.now new.now) }
-{
-    match verdict_and_dropped(alloc, old, new) {
+    match verdict_with_parts(alloc, old, new, dropped, calls) {
         Ok(Some(found)) => Ok(found),
         Ok(None) => Err(Stop::TooMany(Part::Findings)),
         Err(_) => Err(Stop::Memory),
-    }
-}
-
-// The verdict on two sides, unless there are too many findings, and the interfaces that classes drop
-// between them, where they are asked for, or why these aren't reported.
-fn found_between(alloc: Global, old: &Table, new: &Table, dropped: bool) -> Result<Found, Stop>
-    requires { AreOfOneRun old.now new.now }
-    ensures found { IfOk result (AreFound dropped old.now new.now) }
-    ensures stopped { IfErr result (StopsCounting old.now new.now) }
-{
-    if dropped {
-        found_together(alloc, old, new)
-    } else {
-        found_alone(alloc, old, new)
     }
 }
 
@@ -241,7 +196,7 @@ impl Comparison {
     /// # Errors
     ///
     /// Those of `both_sides`; and `Stop::TooMany` where the verdict is over its limit, or else the
-    /// warnings are, or else the dropped interfaces.
+    /// warnings are, or else the dropped interfaces, or else the lines on calls.
     pub fn of_records(
         alloc: Global,
         platform: Vec<ClassFacts>,
@@ -258,11 +213,12 @@ impl Comparison {
             Ok(sides) => sides,
             Err(stop) => return Err(stop),
         };
-        let found = match found_between(alloc, &old, &new, check.dropped) {
+        let found = match found_between(alloc, &old, &new, check.dropped, check.calls) {
             Ok(found) => found,
             Err(stop) => return Err(stop),
         };
-        let Found { verdict, dropped } = found;
+        let Found { judged, calls } = found;
+        let Judged { verdict, dropped } = judged;
         let warnings = match warned(alloc, &old, &new, check.warn) {
             Ok(warnings) => warnings,
             Err(stop) => return Err(stop),
@@ -270,14 +226,19 @@ impl Comparison {
         let Ok(signatures) = noted(alloc, &old, &new, check.signatures) else {
             return Err(Stop::Memory);
         };
-        match dropped {
-            Ok(dropped) => Ok(Comparison {
+        let dropped = match dropped {
+            Ok(dropped) => dropped,
+            Err(stop) => return Err(stop),
+        };
+        match calls {
+            Ok(calls) => Ok(Comparison {
                 old,
                 new,
                 verdict,
                 warnings,
                 signatures,
                 dropped,
+                calls,
             }),
             Err(stop) => Err(stop),
         }

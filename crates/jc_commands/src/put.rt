@@ -2,7 +2,7 @@
 ghost use Rattle.std.specs.Prelude.{◌≡◌, ◌≢◌, ◌≤◌, ◌⊎◌, List, ℕ, None, Some, option_map, OnOk, OnErr, IsErrOf, map};
 ghost use Rattle.jc_base.specs.States.{change};
 ghost use Rattle.jc_gate.specs.Gates.{gate_of};
-ghost use Rattle.jc_commands.specs.Check.{verdict_bytes, behind_bytes, besides_bytes, check_bytes};
+ghost use Rattle.jc_commands.specs.Check.{verdict_bytes, last_bytes, behind_bytes, besides_bytes, check_bytes};
 ghost use Rattle.jc_commands.specs.Outputs.{PutsAll, PutsFront, HasPutFault, HasFolderFault, IsUntouched};
 ghost use Rattle.jc_releases.specs.Stop.{line_of, status_of};
 ghost use Rattle.jc_shown.specs.Witness.{PutsFiles, PutsSome};
@@ -74,6 +74,23 @@ fn put_part<O: Sink, E: Entry>(
     }
 }
 
+// Puts what stands behind the notes on signatures, in its order.
+fn put_last<O: Sink>(alloc: Global, body: &CheckBody<'_>, out: &mut O) -> Result<(), SinkError>
+    ensures ok { OnOk result (PutsAll (change O.state out.old out.new) (last_bytes body.now.json (report_in body.now))) }
+    ensures err { OnErr result (PutsFront (change O.state out.old out.new) (last_bytes body.now.json (report_in body.now))) }
+    ensures never_falls { (O.state out.old).faults ≤ (O.state out.new).faults }
+    ensures cause { IsErrOf result SinkError.Fault → HasPutFault (change O.state out.old out.new) }
+{
+    match put_part(alloc, body.json, "dropped", &body.dropped, out) {
+        Ok(()) => {}
+        Err(error) => return Err(error),
+    }
+    match put_part(alloc, body.json, "calls", &body.calls, out) {
+        Ok(()) => Ok(()),
+        Err(error) => Err(error),
+    }
+}
+
 // Puts what stands behind the warnings, in its order.
 fn put_behind<O: Sink>(alloc: Global, body: &CheckBody<'_>, out: &mut O) -> Result<(), SinkError>
     ensures ok { OnOk result (PutsAll (change O.state out.old out.new) (behind_bytes body.now.json (report_in body.now))) }
@@ -85,7 +102,7 @@ fn put_behind<O: Sink>(alloc: Global, body: &CheckBody<'_>, out: &mut O) -> Resu
         Ok(()) => {}
         Err(error) => return Err(error),
     }
-    match put_part(alloc, body.json, "dropped", &body.dropped, out) {
+    match put_last(alloc, body, out) {
         Ok(()) => Ok(()),
         Err(error) => Err(error),
     }

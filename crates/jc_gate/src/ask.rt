@@ -2,10 +2,14 @@
 ghost use Rattle.std.specs.Prelude.{◌≡◌, ◌≤◌, map};
 ghost use Rattle.std.specs.Option.{option_map, IfSome};
 ghost use Rattle.std.specs.Str.{bytes_eq};
-ghost use Rattle.jc_gate.specs.Gates.{IsStep, gate_of, is_known as has_gate, first_unknown as first_unknown_of, is_selected as selected, all_pass as pass_all};
+ghost use Rattle.jc_gate.specs.Gates.{IsStep, gate_of, told_to as told_of, is_known as has_gate, first_unknown as first_unknown_of, is_selected as selected, all_pass as pass_all};
 ghost use Rattle.jc_gate.specs.Seen.{informed_by};
 
 use crate::gate::Gate;
+use crate::told::Told;
+
+// The number that says to the gate `calls` that nothing ends otherwise.
+const CLEAR: u8 = 1;
 
 fn has_name(gate: &Box<dyn Gate>, name: &str) -> bool
     ensures { result ≡ bytes_eq (label gate.now) name.now }
@@ -86,7 +90,19 @@ fn is_asked(gate: &Box<dyn Gate>, names: &[&str]) -> bool
     false
 }
 
-// Whether the gate passes once it is told the step, where there is one, and has seen the rules in their
+// What the gate is told before it sees a rule.
+fn told_to(gate: &Box<dyn Gate>, told: Told) -> Option<u8>
+    requires { IfSome told.step IsStep }
+    ensures value { result ≡ told_of told (label gate.now) }
+    ensures step { IfSome result IsStep }
+{
+    if !has_name(gate, "calls") {
+        return told.step;
+    }
+    if told.clear { Some(CLEAR) } else { None }
+}
+
+// Whether the gate passes once it is told the number, where there is one, and has seen the rules in their
 // order.
 fn ask(gate: Box<dyn Gate>, step: Option<u8>, rules: &[u8]) -> bool
     requires { IfSome step IsStep }
@@ -100,16 +116,18 @@ fn ask(gate: Box<dyn Gate>, step: Option<u8>, rules: &[u8]) -> bool
     is_passed(&gate)
 }
 
-/// Whether each gate that is asked for by one of the names passes, once it is told the step, where there
-/// is one, and has seen the rules in their order. All gates are dropped.
-pub fn all_pass(gates: Vec<Box<dyn Gate>>, names: &[&str], step: Option<u8>, rules: &[u8]) -> bool
-    requires { IfSome step IsStep }
-    ensures { result ≡ pass_all (map (λ gate. gate_of (⟦<dyn Gate as Gate>⟧ gate.vtable) gate.value) gates.items) (map (λ name. name.now) names.now) step rules.now }
+/// Whether each gate that is asked for by one of the names passes, once it is told what it has to be, and
+/// has seen the rules in their order: the gate `calls` is told 1 where nothing ends otherwise, and every
+/// other one the step, where there is one. All gates are dropped.
+pub fn all_pass(gates: Vec<Box<dyn Gate>>, names: &[&str], told: Told, rules: &[u8]) -> bool
+    requires { IfSome told.step IsStep }
+    ensures { result ≡ pass_all (map (λ gate. gate_of (⟦<dyn Gate as Gate>⟧ gate.vtable) gate.value) gates.items) (map (λ name. name.now) names.now) told rules.now }
 {
     let mut left = gates;
     let mut all = true;
     while !left.is_empty() {
         let gate = left.remove(0);
+        let step = told_to(&gate, told);
         if is_asked(&gate, names) && !ask(gate, step, rules) {
             all = false;
         }

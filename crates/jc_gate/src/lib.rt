@@ -3,6 +3,8 @@
 
 pub mod ask;
 pub mod at_most;
+pub mod calls;
 pub mod collisions;
 pub mod gate;
 pub mod links;
+pub mod told;

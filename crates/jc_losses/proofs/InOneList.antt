@@ -14,7 +14,7 @@ use Rattle.jc_facts.specs.client.Linked.{in_order, outcomes}
 use Rattle.jc_facts.specs.client.Valid.{facts_of}
 use Rattle.jc_facts.specs.file.Valid.{IsValidClass}
 use Rattle.jc_facts.specs.world.Search.{supers}
-use Rattle.jc_facts.specs.world.World.{World, side, with_clients, classes, class_named, find_class, differ_by_name}
+use Rattle.jc_facts.specs.world.World.{World, side, modular_side, with_clients, classes, class_named, find_class, differ_by_name}
 use Rattle.jc_index.specs.Root.{fault_of_root}
 use Rattle.jc_index.specs.Sides.{overlap_of}
 use Rattle.jc_index.proofs.Roots.{is_side}
@@ -24,8 +24,9 @@ use Rattle.jc_link.specs.declared.refusal.ClientPart.{ClientPart}
 use Rattle.jc_link.specs.declared.refusal.ClientPart.TheVariants as parts
 use Rattle.jc_link.proofs.Client.{all_alike}
 use Rattle.jc_losses.specs.Losses.{losses}
-use Rattle.jc_losses.specs.JudgedOf.{refused_by_either, losses_of}
+use Rattle.jc_losses.specs.JudgedOf.{refused_by_either, losses_of, judged_of}
 use Rattle.jc_losses.specs.Laws.{TogetherTheSame}
+use Rattle.jc_losses.specs.Ground.{JudgeAlike}
 use Rattle.jc_worlds.specs.Alike.{LinkAlike, FindAlike}
 use Rattle.jc_worlds.proofs.Alike.{worlds_link_alike}
 use Rattle.jc_losses.proofs.Alike.{losses_alike}
@@ -67,25 +68,43 @@ by_classes W x = refl
 same_fault : (P R : List ClassFacts) (x : Bytes) → name_fault (side (P ++ R) []) x ≡ name_fault (side P R) x
 same_fault P R x = by_classes (side (P ++ R) []) x ∙ ap (fault_in x) (same_classes P R []) ∙ sym (by_classes (side P R) x)
 
-pub same_refused : (P R : List ClassFacts) (cs : List ClientClass) → first_refused (side (P ++ R) []) cs ≡ first_refused (side P R) cs
+same_refused : (P R : List ClassFacts) (cs : List ClientClass) → first_refused (side (P ++ R) []) cs ≡ first_refused (side P R) cs
 same_refused P R [] = refl
 same_refused P R (c ∷ cs) = rw (same_fault P R c.facts.name, same_refused P R cs) refl
 
+-- the modules don't matter to the names of clients
+same_fault_in : (exports : Option (List Bytes)) (P R : List ClassFacts) (x : Bytes) → name_fault (modular_side exports P R) x ≡ name_fault (side P R) x
+same_fault_in exports P R x = by_classes (modular_side exports P R) x ∙ sym (by_classes (side P R) x)
+
+pub same_in_modules : (exports : Option (List Bytes)) (P R : List ClassFacts) (cs : List ClientClass) → first_refused (modular_side exports P R) cs ≡ first_refused (side P R) cs
+same_in_modules exports P R [] = refl
+same_in_modules exports P R (c ∷ cs) = rw (same_fault_in exports P R c.facts.name, same_in_modules exports P R cs) refl
+
 -- ---- what is said
 
-same_outcomes : (P R : List ClassFacts) (cs : List ClientClass) → outcomes (side (P ++ R) []) cs ≡ outcomes (side P R) cs
-unfolding outcomes
-same_outcomes P R cs = all_alike _ _ (alike P R (facts_of cs)) (in_order cs)
+pub in_one_list : (P R : List ClassFacts) → JudgeAlike (side (P ++ R) []) (side P R)
+in_one_list P R = record { refused = same_refused P R; linked = alike P R }
 
-same_losses : (P O N : List ClassFacts) (cs : List ClientClass) → losses (side (P ++ O) []) (side (P ++ N) []) cs ≡ losses (side P O) (side P N) cs
-unfolding losses
-same_losses P O N cs = losses_alike _ _ _ _ (alike P O (facts_of cs)) (alike P N (facts_of cs)) (in_order cs)
+pub judged_itself : (W : World) → JudgeAlike W W
+judged_itself W = record { refused = λ cs. refl; linked = λ C. record { loading = λ x. refl; items = λ x i. refl } }
 
-same_either : (P O N : List ClassFacts) (cs : List ClientClass) → refused_by_either (side (P ++ O) []) (side (P ++ N) []) cs ≡ refused_by_either (side P O) (side P N) cs
-same_either P O N cs = rw (same_refused P O (in_order cs), same_refused P N (in_order cs)) refl
+module _ (O P N Q : World) (a : JudgeAlike O P) (b : JudgeAlike N Q) (cs : List ClientClass) where
+  same_outcomes : outcomes O cs ≡ outcomes P cs
+  unfolding outcomes
+  same_outcomes = all_alike _ _ (a.linked (facts_of cs)) (in_order cs)
 
-same_said : (P O N : List ClassFacts) (cs : List ClientClass) → losses_of (side (P ++ O) []) (side (P ++ N) []) cs ≡ losses_of (side P O) (side P N) cs
-same_said P O N cs = rw (same_outcomes P O cs, same_losses P O N cs) refl
+  same_losses : losses O N cs ≡ losses P Q cs
+  unfolding losses
+  same_losses = losses_alike _ _ _ _ (a.linked (facts_of cs)) (b.linked (facts_of cs)) (in_order cs)
+
+  same_either : refused_by_either O N cs ≡ refused_by_either P Q cs
+  same_either = rw (a.refused (in_order cs), b.refused (in_order cs)) refl
+
+  same_said : losses_of O N cs ≡ losses_of P Q cs
+  same_said = rw (same_outcomes, same_losses) refl
+
+  pub judged_alike : judged_of O N cs ≡ judged_of P Q cs
+  judged_alike = rw (same_either, same_said) refl
 
 pub together_the_same : TogetherTheSame
-together_the_same P O N cs = rw (same_either P O N cs, same_said P O N cs) refl
+together_the_same P O N cs = judged_alike _ _ _ _ (in_one_list P O) (in_one_list P N) cs

@@ -22,6 +22,7 @@ const CHECK: Check<'static> = Check {
     warn: false,
     signatures: false,
     dropped: false,
+    calls: false,
     modular: false,
 };
 
@@ -37,6 +38,7 @@ const CHECK_WITH_ALL: Check<'static> = Check {
     warn: true,
     signatures: true,
     dropped: true,
+    calls: true,
     modular: true,
 };
 
@@ -101,7 +103,7 @@ fn reads_what_is_asked(rt: HostRuntime) {
     assert!(rt; asks(&rt, alloc, "check --platform P --old O --new N", &check));
     let with_all = Command::Check(CHECK_WITH_ALL);
     let line =
-        "check --warn --gate links,few --witness D --new=N --json --to 1.5.0 --from=1.4.0 --platform=P --signatures --dropped --modular --old O";
+        "check --warn --gate links,few --witness D --new=N --json --to 1.5.0 --from=1.4.0 --platform=P --signatures --dropped --calls --modular --old O";
     assert!(rt; asks(&rt, alloc, line, &with_all));
     let link = Command::Link(LINK);
     assert!(rt;
@@ -147,9 +149,11 @@ fn reads_clients_of_two_releases(rt: HostRuntime) {
         platform: "P",
         old: "O",
         new: "N",
+        json: true,
+        modular: false,
         clients: vec![in alloc; "A", "B", "A"].expect(&rt, "memory"),
     });
-    let line = "clients A --new N B --platform=P --old O A";
+    let line = "clients A --new N B --platform=P --json --old O A";
     assert!(rt; asks(&rt, alloc, line, &clients));
     let line = "clients --platform P --old O --new N";
     assert!(rt; is_refused(&rt, alloc, line, &Usage::Clients(0)));

@@ -93,6 +93,7 @@ abbrev pub report_part_name : Part → Bytes
 report_part_name report_parts.Findings = codes "findings"
 report_part_name report_parts.Warnings = codes "warnings"
 report_part_name report_parts.Dropped = codes "dropped"
+report_part_name report_parts.Calls = codes "calls"
 
 abbrev pub line_of : Stop → Bytes
 line_of (stops.Usage usage) = codes "jcompat: usage: " ++ usage_words usage ++ codes "\n"

@@ -117,12 +117,12 @@ pub fn trees_of_clients<'a>(asked: &Clients<'a>) -> [Tree<'a>; 3]
         Tree {
             name: TreeName::Old,
             root: asked.old,
-            kind: TreeKind::Library,
+            kind: release_kind(asked.modular),
         },
         Tree {
             name: TreeName::New,
             root: asked.new,
-            kind: TreeKind::Library,
+            kind: release_kind(asked.modular),
         },
     ]
 }

@@ -8,3 +8,6 @@ pub const MAX_WARNINGS: usize = 999_999;
 
 /// The most dropped interfaces that are printed.
 pub const MAX_DROPPED: usize = 999_999;
+
+/// The most lines on calls that are printed.
+pub const MAX_CALLS: usize = 999_999;

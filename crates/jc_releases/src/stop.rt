@@ -1,12 +1,13 @@
 //! Why there is no report.
-ghost use Rattle.std.specs.Prelude.{◌≡◌, ◌++◌, codes, IfOk, OnOk};
+ghost use Rattle.std.specs.Prelude.{◌≡◌, ◌++◌, codes, string_bytes, IfOk, OnOk};
+ghost use Rattle.std.specs.Fmt.{decimal};
 ghost use Rattle.jc_report.specs.Text.{printed};
 ghost use Rattle.jc_trees.specs.Tree.{tree_words};
 ghost use Rattle.jc_releases.specs.Stop.{reason_name as name_of, code_reason_name as name_of_code_reason, part_name as part_name_of, client_part_name as name_of_client_part, report_part_name as name_of_part, file_words, unread_words, usage_words, line_of, file_status as file_status_of, tree_status as tree_status_of, status_of};
 
 use crate::status::{BAD_INPUT, LIMIT, NO_MEMORY, READ_FAULT, USAGE};
 use jc_base::name::Name;
-use jc_desc::fault::Reason;
+use jc_desc::fault::{Malformed, Reason};
 use jc_facts::code_fault::CodeReason;
 use jc_index::root::RootPart;
 use jc_link::refusal::ClientPart;
@@ -25,6 +26,8 @@ pub enum Part {
     Warnings,
     /// Its dropped interfaces.
     Dropped,
+    /// Its lines on calls.
+    Calls,
 }
 
 /// Why there is no report.
@@ -110,7 +113,8 @@ fn part_name(part: RootPart) -> &'static str
     }
 }
 
-fn client_part_name(part: ClientPart) -> &'static str
+/// The word of why a client may not have its name.
+pub fn client_part_name(part: ClientPart) -> &'static str
     ensures { result.now ≡ name_of_client_part part }
 {
     match part {
@@ -129,31 +133,45 @@ fn report_part_name(part: Part) -> &'static str
         Part::Findings => "findings",
         Part::Warnings => "warnings",
         Part::Dropped => "dropped",
+        Part::Calls => "calls",
     }
 }
 
-fn push_file_words(alloc: Global, line: &mut Vec<u8>, fault: &FileFault) -> Result<(), AllocError>
-    ensures { OnOk result (line.new.items ≡ line.old.items ++ file_words fault.now) }
+// What is said of a class file that is no class file, from this offset on.
+fn malformed_text(alloc: Global, malformed: &Malformed) -> Result<String, AllocError>
+    ensures { IfOk result (λ text. string_bytes text ≡ name_of malformed.now.reason ++ codes " at " ++ decimal malformed.now.offset) }
+{
+    let reason = reason_name(malformed.reason);
+    let offset = malformed.offset;
+    format!(in alloc; "{reason} at {offset}")
+}
+
+// What is said of a class file whose code is refused, first at this offset.
+fn bad_code_text(alloc: Global, offset: u32, reason: CodeReason) -> Result<String, AllocError>
+    ensures { IfOk result (λ text. string_bytes text ≡ codes "code " ++ name_of_code_reason reason ++ codes " at " ++ decimal offset) }
+{
+    let reason = code_reason_name(reason);
+    format!(in alloc; "code {reason} at {offset}")
+}
+
+/// What is said of a class file that isn't read.
+///
+/// # Errors
+///
+/// `AllocError` where memory runs out.
+pub fn file_text(alloc: Global, fault: &FileFault) -> Result<String, AllocError>
+    ensures { IfOk result (λ text. string_bytes text ≡ file_words fault.now) }
 {
     match fault {
-        FileFault::TooLong => line.extend_from_slice(b"limit bytes")?,
-        FileFault::Malformed(malformed) => {
-            line.extend_from_slice(reason_name(malformed.reason).as_bytes())?;
-            line.extend_from_slice(b" at ")?;
-            push_decimal(alloc, line, malformed.offset as usize)?;
-        }
+        FileFault::TooLong => String::from_str(alloc, "limit bytes"),
+        FileFault::Malformed(malformed) => malformed_text(alloc, malformed),
         FileFault::Misplaced(name) => {
-            line.extend_from_slice(b"misplaced ")?;
-            push_printed(line, name.as_bytes())?;
+            let mut text = String::from_str(alloc, "misplaced ")?;
+            push_printed(&mut text, name.as_bytes())?;
+            Ok(text)
         }
-        FileFault::BadCode { offset, reason } => {
-            line.extend_from_slice(b"code ")?;
-            line.extend_from_slice(code_reason_name(*reason).as_bytes())?;
-            line.extend_from_slice(b" at ")?;
-            push_decimal(alloc, line, *offset as usize)?;
-        }
+        FileFault::BadCode { offset, reason } => bad_code_text(alloc, *offset, *reason),
     }
-    Ok(())
 }
 
 fn push_unread_words(alloc: Global, line: &mut Vec<u8>, fault: &TreeFault) -> Result<(), AllocError>
@@ -165,7 +183,7 @@ fn push_unread_words(alloc: Global, line: &mut Vec<u8>, fault: &TreeFault) -> Re
         TreeFault::File(path, fault) => {
             push_printed(line, path.as_str().as_bytes())?;
             line.extend_from_slice(b": ")?;
-            push_file_words(alloc, line, fault)?;
+            line.extend_from_slice(file_text(alloc, fault)?.as_str().as_bytes())?;
         }
     }
     Ok(())

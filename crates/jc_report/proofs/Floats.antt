@@ -14,7 +14,7 @@ use Rattle.jc_facts.specs.Names.{Bytes}
 use Rattle.jc_report.specs.Json.{name_or_null, member_or_null, finding_json, collision_json, note_json, verdict_json}
 use Rattle.jc_report.specs.Listing.{values_from}
 
-name_plain : (x : Option Bytes) → has_float (name_or_null x) ≡ false
+pub name_plain : (x : Option Bytes) → has_float (name_or_null x) ≡ false
 name_plain None = refl
 name_plain (Some x) = refl
 

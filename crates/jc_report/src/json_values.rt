@@ -1,5 +1,5 @@
 //! The JSON of findings, collisions, notes and warnings.
-ghost use Rattle.std.specs.Prelude.{◌≡◌, IfOk};
+ghost use Rattle.std.specs.Prelude.{◌≡◌, None, IfOk};
 ghost use Rattle.serde_json.specs.Data.{string};
 ghost use Rattle.serde_json.specs.View.{view};
 ghost use Rattle.jc_report.specs.Text.{printed, printed_key};
@@ -16,15 +16,26 @@ use jc_facts::warning::Warning;
 use serde_json::{Value, json};
 use std::alloc::{AllocError, Global};
 
-pub(crate) fn name_value(alloc: Global, name: &Name) -> Result<Value, AllocError>
-    ensures { IfOk result (λ v. view v ≡ string (printed name.now)) }
+/// The printed form of bytes, as a string.
+///
+/// # Errors
+///
+/// `AllocError` where memory runs out.
+pub fn printed_value(alloc: Global, bytes: &[u8]) -> Result<Value, AllocError>
+    ensures { IfOk result (λ v. view v ≡ string (printed bytes.now)) }
 {
     let mut text = String::new(alloc);
-    push_printed(&mut text, name.as_bytes())?;
+    push_printed(&mut text, bytes)?;
     Ok(Value::String(text))
 }
 
-fn name_or_null_value(alloc: Global, name: &Option<Name>) -> Result<Value, AllocError>
+pub(crate) fn name_value(alloc: Global, name: &Name) -> Result<Value, AllocError>
+    ensures { IfOk result (λ v. view v ≡ string (printed name.now)) }
+{
+    printed_value(alloc, name.as_bytes())
+}
+
+pub(crate) fn name_or_null_value(alloc: Global, name: &Option<Name>) -> Result<Value, AllocError>
     ensures { IfOk result (λ v. view v ≡ name_or_null name.now) }
 {
     match name {
@@ -39,6 +50,16 @@ pub(crate) fn key_value(alloc: Global, key: &Key) -> Result<Value, AllocError>
     let mut text = String::new(alloc);
     push_key(&mut text, key)?;
     Ok(Value::String(text))
+}
+
+// The key of a member, or null where there is none.
+pub(crate) fn key_or_null_value(alloc: Global, key: &Option<Key>) -> Result<Value, AllocError>
+    ensures { IfOk result (λ v. view v ≡ member_or_null key.now None) }
+{
+    match key {
+        Some(key) => key_value(alloc, key),
+        None => Ok(Value::Null),
+    }
 }
 
 fn member_value(alloc: Global, finding: &Finding) -> Result<Value, AllocError>

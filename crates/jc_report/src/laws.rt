@@ -1,11 +1,14 @@
-//! The printed forms of some verdicts, warnings, notes on signatures and dropped interfaces.
+//! The printed forms of some verdicts, warnings, notes on signatures, dropped interfaces, lines on calls and outcomes.
 ghost use Rattle.std.specs.Prelude.{◌≡◌, ◌++◌, [], ◌∷◌, Some, None, true, false, codes, ℕ};
 ghost use Rattle.jc_facts.specs.declared.verdict.Verdict.{Verdict};
 ghost use Rattle.jc_report.specs.Json.{json_of};
 ghost use Rattle.jc_report.specs.WarnForms.{warn_bytes};
 ghost use Rattle.jc_report.specs.SigForms.{sig_bytes};
 ghost use Rattle.jc_report.specs.DroppedForms.{dropped_bytes};
-ghost use Rattle.jc_report.specs.Worked.{capture, empty, mixed, body_lost, default_added, parameters_changed, result_changed, unread, no_longer_there, no_longer_named};
+ghost use Rattle.jc_report.specs.CallForms.{calls_bytes};
+ghost use Rattle.jc_report.specs.Listing.{json_line};
+ghost use Rattle.jc_report.specs.OutcomeJson.{outcome_json};
+ghost use Rattle.jc_report.specs.Worked.{capture, empty, mixed, body_lost, default_added, parameters_changed, result_changed, unread, no_longer_there, no_longer_named, reference_lost, access_added, constants_added, class_unloaded, call_unlinked, call_of_initializer, value_assigned};
 
 /// Keys stand in byte order, what isn't there is null, and a backslash of a printed form is escaped.
 pub fn worked_json()
@@ -35,4 +38,21 @@ pub fn worked_dropped()
     ensures text { dropped_bytes false (Some (no_longer_there ∷ no_longer_named ∷ [])) ≡ codes "dropped p/A p/I\ndropped p/\\\\\\xe9 p/M\n" }
     ensures json { dropped_bytes true (Some (no_longer_there ∷ no_longer_named ∷ [])) ≡ codes "{\"dropped\":[{\"class\":\"p/A\",\"interface\":\"p/I\"},{\"class\":\"p/\\\\\\\\\\\\xe9\",\"interface\":\"p/M\"}]}\n" }
     ensures none { dropped_bytes true (Some []) ≡ codes "{\"dropped\":[]}\n" }
+{}
+
+/// The member of a line of a class is `-`, or null in JSON; a kind is one word in lower case.
+pub fn worked_calls()
+    ensures text { calls_bytes false (Some (reference_lost ∷ access_added ∷ constants_added ∷ [])) ≡ codes "call p/A run()V reference\ncall p/\\\\\\xe9 run()V access\ncall p/E - constants\n" }
+    ensures json { calls_bytes true (Some (access_added ∷ constants_added ∷ [])) ≡ codes "{\"calls\":[{\"class\":\"p/\\\\\\\\\\\\xe9\",\"kind\":\"access\",\"member\":\"run()V\"},{\"class\":\"p/E\",\"kind\":\"constants\",\"member\":null}]}\n" }
+    ensures none { calls_bytes true (Some []) ≡ codes "{\"calls\":[]}\n" }
+    ensures unasked { calls_bytes true None ≡ [] }
+{}
+
+/// Of a class that doesn't load all but its name and the error is null, and the error is where an outcome
+/// is Ok. An assignment has the type of the value as name and the type it is used as as member.
+pub fn worked_outcomes()
+    ensures class { json_line (outcome_json class_unloaded) ≡ codes "{\"class\":\"c/C\",\"error\":\"IncompatibleClassChangeError\",\"member\":null,\"name\":null,\"operation\":null,\"receiver\":null}\n" }
+    ensures call { json_line (outcome_json call_unlinked) ≡ codes "{\"class\":\"c/C\",\"error\":\"NoSuchMethodError\",\"member\":\"run()V\",\"name\":\"p/A\",\"operation\":\"invokevirtual\",\"receiver\":\"p/B\"}\n" }
+    ensures initializer { json_line (outcome_json call_of_initializer) ≡ codes "{\"class\":\"c/C\",\"error\":null,\"member\":\"<init>(I)V\",\"name\":\"p/A\",\"operation\":\"new\",\"receiver\":null}\n" }
+    ensures assignment { json_line (outcome_json value_assigned) ≡ codes "{\"class\":\"c/C\",\"error\":\"VerifyError\",\"member\":\"p/A\",\"name\":\"p/B\",\"operation\":\"assign\",\"receiver\":null}\n" }
 {}

@@ -1,17 +1,19 @@
 //! The printed forms of verdicts and of outcomes.
 #![tactic(auto)]
 
+mod calls;
 mod dropped;
 pub mod entries;
 pub mod entry;
 pub mod history_text;
 pub mod json;
-mod json_line;
-mod json_values;
+pub mod json_line;
+pub mod json_values;
 pub mod laws;
 mod lines;
 pub mod link_text;
 pub mod made_text;
+mod outcome_json;
 pub mod printed;
 mod printed_words;
 pub mod put_history;

@@ -129,6 +129,19 @@ fn push_line(text: &mut Vec<u8>, outcome: &Outcome) -> Result<(), AllocError>
     Ok(())
 }
 
+/// The line of an outcome, its line end with it.
+///
+/// # Errors
+///
+/// `AllocError` where memory runs out.
+pub(crate) fn outcome_line(alloc: Global, outcome: &Outcome) -> Result<Vec<u8>, AllocError>
+    ensures { IfOk result (λ line. line.items ≡ line_of_outcome outcome.now) }
+{
+    let mut line = Vec::new(alloc);
+    push_line(&mut line, outcome)?;
+    Ok(line)
+}
+
 /// The lines of outcomes, without the last line.
 ///
 /// # Errors

@@ -1,7 +1,7 @@
 //! Printed names, keys and numbers.
-ghost use Rattle.std.specs.Prelude.{◌≡◌, ◌++◌, ◌∷◌, [], ◌+◌, ◌<◌, ◌≤◌, ◌^◌, OnOk};
+ghost use Rattle.std.specs.Prelude.{◌≡◌, ◌++◌, ◌∷◌, [], ◌+◌, ◌<◌, ◌≤◌, ◌^◌, None, OnOk};
 ghost use Rattle.std.specs.Fmt.{decimal};
-ghost use Rattle.jc_report.specs.Text.{hex_digit_of, printed_byte, printed, printed_key, printed_name};
+ghost use Rattle.jc_report.specs.Text.{hex_digit_of, printed_byte, printed, printed_key, printed_member, printed_name};
 ghost use Rattle.jc_facts.specs.Names.{is_descriptor_of_method};
 
 use jc_base::name::Name;
@@ -127,6 +127,17 @@ pub(crate) fn push_name(text: &mut Vec<u8>, name: &Option<Name>) -> Result<(), A
 {
     match name {
         Some(name) => push_printed(text, name.as_bytes()),
+        None => Ok(text.push(b'-')?),
+    }
+}
+
+/// Prints a key at the end of the text, or `-` where there is none. After an error the text may hold a
+/// part.
+pub(crate) fn push_key_or_dash(text: &mut Vec<u8>, key: &Option<Key>) -> Result<(), AllocError>
+    ensures { OnOk result (text.new.items ≡ text.old.items ++ printed_member key.now None) }
+{
+    match key {
+        Some(key) => push_key(text, key),
         None => Ok(text.push(b'-')?),
     }
 }

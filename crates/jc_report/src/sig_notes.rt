@@ -1,16 +1,13 @@
 //! Notes on generic signatures, as text and as JSON.
-ghost use Rattle.std.specs.Prelude.{◌≡◌, ◌++◌, true, false, Some, None, IfOk, OnOk};
+ghost use Rattle.std.specs.Prelude.{◌≡◌, true, false, Some, IfOk};
 ghost use Rattle.serde_json.specs.View.{view};
-ghost use Rattle.jc_report.specs.Json.{member_or_null};
 ghost use Rattle.jc_report.specs.SigForms.{word_of_change, line_of_sig_note, sig_note_json, sig_bytes};
-ghost use Rattle.jc_report.specs.Text.{printed_member};
 
 use crate::entries::lines;
 use crate::entry::Entry;
-use crate::json_values::{key_value, name_value};
-use crate::printed::{push_key, push_printed};
+use crate::json_values::{key_or_null_value, name_value};
+use crate::printed::{push_key_or_dash, push_printed};
 use crate::put_listing::listing;
-use jc_facts::key::Key;
 use jc_facts::sig_note::{SigChange, SigNote};
 use serde_json::{Value, json};
 use std::alloc::{AllocError, Global};
@@ -33,16 +30,6 @@ pub fn change_word(change: SigChange) -> &'static str
     }
 }
 
-// The key of a member, or `-` for the class itself.
-fn push_signed(text: &mut Vec<u8>, key: &Option<Key>) -> Result<(), AllocError>
-    ensures { OnOk result (text.new.items ≡ text.old.items ++ printed_member key.now None) }
-{
-    match key {
-        Some(key) => push_key(text, key),
-        None => Ok(text.push(b'-')?),
-    }
-}
-
 // The line of a note, its line end with it.
 #[tactic(auto, unfolding(crate::specs::SigForms::line_of_sig_note))]
 fn sig_line(alloc: Global, note: &SigNote) -> Result<Vec<u8>, AllocError>
@@ -51,21 +38,11 @@ fn sig_line(alloc: Global, note: &SigNote) -> Result<Vec<u8>, AllocError>
     let mut line = Vec::from_slice(alloc, b"note signature ")?;
     push_printed(&mut line, note.class.as_bytes())?;
     line.extend_from_slice(b" ")?;
-    push_signed(&mut line, &note.key)?;
+    push_key_or_dash(&mut line, &note.key)?;
     line.extend_from_slice(b" ")?;
     line.extend_from_slice(change_word(note.change).as_bytes())?;
     line.extend_from_slice(b"\n")?;
     Ok(line)
-}
-
-// The key of a member, or null for the class itself.
-fn signed_value(alloc: Global, key: &Option<Key>) -> Result<Value, AllocError>
-    ensures { IfOk result (λ v. view v ≡ member_or_null key.now None) }
-{
-    match key {
-        Some(key) => key_value(alloc, key),
-        None => Ok(Value::Null),
-    }
 }
 
 // The object of a note.
@@ -75,7 +52,7 @@ fn sig_value(alloc: Global, note: &SigNote) -> Result<Value, AllocError>
     json!(in alloc; {
         "change": change_word(note.change),
         "class": name_value(alloc, &note.class)?,
-        "member": signed_value(alloc, &note.key)?
+        "member": key_or_null_value(alloc, &note.key)?
     })
 }
 

@@ -1,12 +1,13 @@
 -- What the gate of the versions answers.
 --     state_parts      the need and the step of a state
 --     version_gate      the gate before it is told a step
-use Rattle.std.proofs.Common.{◌≡◌, ◌≤◌, ◌<◌, ◌||◌, ◌&&◌, not, cond, ℕ, Bool, true, false, List, [], ◌∷◌, Option, Some, None, nat_le, arith, rules, refl, sym, ap, ◌∙◌}
+use Rattle.std.proofs.Common.{◌≡◌, ◌≤◌, ◌<◌, ◌||◌, ℕ, Bool, true, false, List, [], ◌∷◌, Option, Some, None, nat_le, arith, rules, refl, sym, ap, ◌∙◌}
 use Rattle.std.specs.Prelude.{codes, max, if◌then◌else◌}
-use Rattle.std.specs.List.{list_any, list_all, filter}
+use Rattle.std.specs.List.{list_any, filter}
 use Rattle.std.specs.Str.{bytes_eq}
-use Rattle.std.proofs.Math.Bool.{and-true}
-use Rattle.jc_gate.specs.Gates.{GateOf, all_pass}
+use Rattle.jc_gate.proofs.Alone.{passes_alone}
+use Rattle.jc_gate.specs.declared.told.Told.{Told}
+use Rattle.jc_gate.specs.Gates.{GateOf, told_to, all_pass}
 use Rattle.jc_gate.specs.Rules.{is_of_finding, is_of_collision}
 use Rattle.jc_gate.specs.Seen.{seen, informed_by}
 use Rattle.jc_version.specs.Needs.{need_of_rule, need_of, state_by, need_in, step_in, informed_version, after_version, passes_version, IsVersionGate}
@@ -107,17 +108,7 @@ version_gate g named meanings = record {
 
 -- ---- where it is asked alone
 
-selected_pass : (gates : List GateOf) (informed : Option ℕ) (rules : List ℕ) → all_pass gates (codes "version" ∷ []) informed rules ≡ list_all (λ (g : GateOf). g.passes informed rules) (filter (λ (h : GateOf). bytes_eq h.label (codes "version")) gates)
-selected_pass [] informed rules = refl
-selected_pass (g ∷ gs) informed rules = by (bytes_eq g.label (codes "version")) (selected_pass gs informed rules)
-  where
-    by : (b : Bool) → all_pass gs (codes "version" ∷ []) informed rules ≡ list_all (λ (h : GateOf). h.passes informed rules) (filter (λ (h : GateOf). bytes_eq h.label (codes "version")) gs)
-        → ((not (b || false) || g.passes informed rules) && all_pass gs (codes "version" ∷ []) informed rules)
-        ≡ list_all (λ (h : GateOf). h.passes informed rules) (cond b (g ∷ filter (λ (h : GateOf). bytes_eq h.label (codes "version")) gs) (filter (λ (h : GateOf). bytes_eq h.label (codes "version")) gs))
-    by true r = rw r refl
-    by false r = r
-
-pub version_alone : (gates : List GateOf) (g : GateOf) → filter (λ (h : GateOf). bytes_eq h.label (codes "version")) gates ≡ g ∷ [] → IsVersionGate g → (step : ℕ) (rules : List ℕ) → 1 ≤ step → step ≤ 3
-    → all_pass gates (codes "version" ∷ []) (Some step) rules ≡ nat_le (need_of rules) step
-version_alone gates g only is step rules least most =
-    selected_pass gates (Some step) rules ∙ ap (list_all (λ (h : GateOf). h.passes (Some step) rules)) only ∙ and-true (g.passes (Some step) rules) ∙ is.informed step rules least most
+pub version_alone : (gates : List GateOf) (g : GateOf) → filter (λ (h : GateOf). bytes_eq h.label (codes "version")) gates ≡ g ∷ [] → IsVersionGate g
+    → (told : Told) (step : ℕ) (rules : List ℕ) → told.step ≡ Some step → 1 ≤ step → step ≤ 3 → all_pass gates (codes "version" ∷ []) told rules ≡ nat_le (need_of rules) step
+version_alone gates g only is told step rules said least most =
+    passes_alone (codes "version") gates g only told rules ∙ ap (λ n. g.passes n rules) (ap (told_to told) is.named ∙ said) ∙ is.informed step rules least most

@@ -317,7 +317,7 @@ link_rules = (built link_arguments).top.rules
 
 check_long : IsLong check_rules
 check_long = is_long_of check_rules
-    (uses_option (codes "platform") true, (uses_option (codes "old") true, (uses_option (codes "new") true, (uses_option (codes "witness") false, (uses_flag (codes "json"), (uses_option (codes "gate") false, (uses_option (codes "from") false, (uses_option (codes "to") false, (uses_flag (codes "warn"), (uses_flag (codes "signatures"), (uses_flag (codes "dropped"), (uses_flag (codes "modular"), tt))))))))))))
+    (uses_option (codes "platform") true, (uses_option (codes "old") true, (uses_option (codes "new") true, (uses_option (codes "witness") false, (uses_flag (codes "json"), (uses_option (codes "gate") false, (uses_option (codes "from") false, (uses_option (codes "to") false, (uses_flag (codes "warn"), (uses_flag (codes "signatures"), (uses_flag (codes "dropped"), (uses_flag (codes "calls"), (uses_flag (codes "modular"), tt)))))))))))))
     (λ x. refl) (λ i. refl)
 
 link_long : IsLong link_rules

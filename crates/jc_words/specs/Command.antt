@@ -12,7 +12,7 @@ use Rattle.jc_words.specs.declared.usage.Usage.TheVariants as usages
 
 -- a check of two releases: the roots of the platform and of both, the folder for the witnesses where they are wanted, whether the report is JSON,
 -- the names of the gates that are asked, the versions of the old and of the new release, where they are said, whether warnings, notes
--- on generic signatures and dropped interfaces are reported, and whether the releases may be named modules
+-- on generic signatures, dropped interfaces and lines on calls are reported, and whether the releases may be named modules
 pub record CheckOf : Type 0 where
   pub platform : Text
   pub old : Text
@@ -25,6 +25,7 @@ pub record CheckOf : Type 0 where
   pub warn : Bool
   pub signatures : Bool
   pub dropped : Bool
+  pub calls : Bool
   pub modular : Bool
 
 -- the linking of clients: the roots of the platform, of the release and of the clients, and whether the release may be a named module
@@ -39,11 +40,14 @@ pub record HistoryOf : Type 0 where
   pub platform : Text
   pub releases : List Text
 
--- clients of two releases: the roots of the platform, of both, and of the tree of each client, in their order
+-- clients of two releases: the roots of the platform and of both, whether the answer is JSON, whether the releases may be named modules, and the
+-- root of the tree of each client, in their order
 pub record ClientsOf : Type 0 where
   pub platform : Text
   pub old : Text
   pub new : Text
+  pub json : Bool
+  pub modular : Bool
   pub clients : List Text
 
 -- what is asked for: a check of two releases, the linking of clients, the verdict on generated releases of so many classes, the verdicts on a
@@ -62,7 +66,7 @@ abbrev pub check_arguments : App
 check_arguments = command_with (codes "check")
     (required_rule (codes "platform") ∷ required_rule (codes "old") ∷ required_rule (codes "new")
     ∷ option_rule (codes "witness") ∷ flag_rule (codes "json") ∷ option_rule (codes "gate") ∷ option_rule (codes "from") ∷ option_rule (codes "to") ∷ flag_rule (codes "warn")
-    ∷ flag_rule (codes "signatures") ∷ flag_rule (codes "dropped") ∷ flag_rule (codes "modular") ∷ [])
+    ∷ flag_rule (codes "signatures") ∷ flag_rule (codes "dropped") ∷ flag_rule (codes "calls") ∷ flag_rule (codes "modular") ∷ [])
 
 -- the gates that a value of `--gate` names, which is cut at each comma, or the one gate without it
 abbrev pub gate_names : Option Text → List Text
@@ -83,6 +87,7 @@ check_in rows = record {
   warn = is_on (codes "warn") rows;
   signatures = is_on (codes "signatures") rows;
   dropped = is_on (codes "dropped") rows;
+  calls = is_on (codes "calls") rows;
   modular = is_on (codes "modular") rows;
 }
 
@@ -162,7 +167,7 @@ history_by words = history_by_matches (taken history_arguments words)
 
 abbrev pub clients_arguments : App
 clients_arguments = command_with (codes "clients")
-    (required_rule (codes "platform") ∷ required_rule (codes "old") ∷ required_rule (codes "new") ∷ words_rule (codes "clients") ∷ [])
+    (required_rule (codes "platform") ∷ required_rule (codes "old") ∷ required_rule (codes "new") ∷ flag_rule (codes "json") ∷ flag_rule (codes "modular") ∷ words_rule (codes "clients") ∷ [])
 
 -- the clients of these matches
 abbrev pub clients_in : List Row → ClientsOf
@@ -170,6 +175,8 @@ clients_in rows = record {
   platform = value_of (codes "platform") rows;
   old = value_of (codes "old") rows;
   new = value_of (codes "new") rows;
+  json = is_on (codes "json") rows;
+  modular = is_on (codes "modular") rows;
   clients = values_of (codes "clients") rows;
 }
 

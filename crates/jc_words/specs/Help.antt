@@ -15,7 +15,7 @@ help_lines =
     ∷ []
     ∷ codes "jcompat check --platform FOLDER --old FOLDER --new FOLDER"
     ∷ codes "  compares two releases over the platform that both need"
-    ∷ codes "  --witness FOLDER  writes there, for each line that breaks one, such a client"
+    ∷ codes "  --witness FOLDER  writes there, for each break, a client that has it"
     ∷ codes "  --json            prints JSON"
     ∷ codes "  --gate NAME,..    which gates decide the status: links (as without this),"
     ∷ codes "                    collisions, few, version"
@@ -24,6 +24,8 @@ help_lines =
     ∷ codes "  --warn            prints too which calls may find no method to run"
     ∷ codes "  --signatures      prints too which generic signatures have changed"
     ∷ codes "  --dropped         prints too which interfaces classes no longer implement"
+    ∷ codes "  --calls           prints too which calls and method references no longer"
+    ∷ codes "                    run though all links"
     ∷ codes "  --modular         a release with a module-info.class is a named module"
     ∷ []
     ∷ codes "jcompat history --platform FOLDER RELEASE RELEASE.."
@@ -31,6 +33,8 @@ help_lines =
     ∷ []
     ∷ codes "jcompat clients --platform FOLDER --old FOLDER --new FOLDER CLIENT.."
     ∷ codes "  what each of 1 to 1,000 clients loses from the old release to the new one"
+    ∷ codes "  --json            prints JSON"
+    ∷ codes "  --modular         a release with a module-info.class is a named module"
     ∷ []
     ∷ codes "jcompat link --platform FOLDER --release FOLDER --client FOLDER"
     ∷ codes "  what becomes of each class of a client, and each use, over one release"

@@ -33,6 +33,8 @@ pub struct Check<'a> {
     pub signatures: bool,
     /// Whether the report has the interfaces that classes drop.
     pub dropped: bool,
+    /// Whether the report has the calls and method references that no longer run, though all links.
+    pub calls: bool,
     /// Whether a file `module-info.class` at the root of a release makes it a named module.
     pub modular: bool,
 }
@@ -67,6 +69,7 @@ impl<'a> Check<'a> {
             warn: is_on(matches, "warn"),
             signatures: is_on(matches, "signatures"),
             dropped: is_on(matches, "dropped"),
+            calls: is_on(matches, "calls"),
             modular: is_on(matches, "modular"),
         }
     }
@@ -125,5 +128,6 @@ fn arguments<'a>(alloc: Global) -> Result<Command<'a>, AllocError>
         .arg(flag(alloc, "warn"))?
         .arg(flag(alloc, "signatures"))?
         .arg(flag(alloc, "dropped"))?
+        .arg(flag(alloc, "calls"))?
         .arg(flag(alloc, "modular"))
 }

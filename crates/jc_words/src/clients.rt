@@ -5,7 +5,7 @@ ghost use Rattle.clap.specs.Words.{app_of, rows_of, found_of};
 ghost use Rattle.jc_words.specs.Command.{ClientsCommand, clients_arguments, clients_in, clients_by, or_clients};
 ghost use Rattle.jc_words.specs.CommandView.{clients_of};
 
-use crate::arguments::{bare, required, taken, value_of, values_of, words};
+use crate::arguments::{bare, flag, is_on, required, taken, value_of, values_of, words};
 use crate::usage::Usage;
 use clap::{ArgMatches, Command};
 use jc_base::text::Text;
@@ -23,6 +23,10 @@ pub struct Clients<'a> {
     pub platform: &'a str,
     pub old: &'a str,
     pub new: &'a str,
+    /// Whether the answer is JSON.
+    pub json: bool,
+    /// Whether a file `module-info.class` at the root of a release makes it a named module.
+    pub modular: bool,
     /// In their order, from 1 to 1,000.
     pub clients: Vec<&'a str>,
 }
@@ -54,6 +58,8 @@ impl<'a> Clients<'a> {
             platform: value_of(matches, "platform"),
             old: value_of(matches, "old"),
             new: value_of(matches, "new"),
+            json: is_on(matches, "json"),
+            modular: is_on(matches, "modular"),
             clients,
         })
     }
@@ -79,5 +85,7 @@ fn arguments<'a>(alloc: Global) -> Result<Command<'a>, AllocError>
         .arg(required(alloc, "platform"))?
         .arg(required(alloc, "old"))?
         .arg(required(alloc, "new"))?
+        .arg(flag(alloc, "json"))?
+        .arg(flag(alloc, "modular"))?
         .arg(words(alloc, "clients"))
 }

@@ -10,7 +10,7 @@ what may be.
 
 jcompat check --platform FOLDER --old FOLDER --new FOLDER
   compares two releases over the platform that both need
-  --witness FOLDER  writes there, for each line that breaks one, such a client
+  --witness FOLDER  writes there, for each break, a client that has it
   --json            prints JSON
   --gate NAME,..    which gates decide the status: links (as without this),
                     collisions, few, version
@@ -19,6 +19,8 @@ jcompat check --platform FOLDER --old FOLDER --new FOLDER
   --warn            prints too which calls may find no method to run
   --signatures      prints too which generic signatures have changed
   --dropped         prints too which interfaces classes no longer implement
+  --calls           prints too which calls and method references no longer
+                    run though all links
   --modular         a release with a module-info.class is a named module
 
 jcompat history --platform FOLDER RELEASE RELEASE..
@@ -26,6 +28,8 @@ jcompat history --platform FOLDER RELEASE RELEASE..
 
 jcompat clients --platform FOLDER --old FOLDER --new FOLDER CLIENT..
   what each of 1 to 1,000 clients loses from the old release to the new one
+  --json            prints JSON
+  --modular         a release with a module-info.class is a named module
 
 jcompat link --platform FOLDER --release FOLDER --client FOLDER
   what becomes of each class of a client, and each use, over one release

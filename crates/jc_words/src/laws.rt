@@ -17,6 +17,7 @@ pub fn options_in_any_order()
     ensures warnings { asked (typed (codes "check --warn --platform P --old O --new N")) ≡ Ok (CheckCommand (record plain_check { warn = true })) }
     ensures signatures { asked (typed (codes "check --platform P --old O --signatures --new N")) ≡ Ok (CheckCommand (record plain_check { signatures = true })) }
     ensures dropped { asked (typed (codes "check --dropped --platform P --old O --new N --warn")) ≡ Ok (CheckCommand (record plain_check { warn = true; dropped = true })) }
+    ensures calls { asked (typed (codes "check --platform P --dropped --old O --new N --calls")) ≡ Ok (CheckCommand (record plain_check { dropped = true; calls = true })) }
     ensures modular { asked (typed (codes "check --platform P --old O --modular --new N")) ≡ Ok (CheckCommand (record plain_check { modular = true })) }
     ensures versions { asked (typed (codes "check --platform P --to 2 --old O --new N --from=1")) ≡ Ok (CheckCommand (record plain_check { from = Some (codes "1"); to = Some (codes "2") })) }
     ensures link { asked (typed (codes "link --platform P --release R --client C")) ≡ Ok (LinkCommand plain_link) }
@@ -48,6 +49,8 @@ pub fn words_not_taken()
     ensures value_of_flag { asked (typed (codes "check --platform P --old O --new N --json=x")) ≡ Err usages.Words }
     ensures true_of_flag { asked (typed (codes "check --platform P --old O --new N --json=true")) ≡ Err usages.Words }
     ensures value_of_signatures { asked (typed (codes "check --platform P --old O --new N --signatures=no")) ≡ Err usages.Words }
+    ensures value_of_calls { asked (typed (codes "check --platform P --old O --new N --calls=yes")) ≡ Err usages.Words }
+    ensures calls_of_link { asked (typed (codes "link --platform P --release R --client C --calls")) ≡ Err usages.Words }
     ensures value_of_modular { asked (typed (codes "link --platform P --release R --client C --modular=no")) ≡ Err usages.Words }
     ensures modular_twice { asked (typed (codes "link --modular --platform P --release R --client C --modular")) ≡ Err usages.Words }
     ensures word_of_no_option { asked (typed (codes "check --platform P --old O --new N more")) ≡ Err usages.Words }
@@ -122,7 +125,9 @@ pub fn clients_of_two_releases()
     ensures one { asked (typed (codes "clients --platform P --old O --new N A")) ≡ Ok (ClientsCommand (record plain_clients { clients = codes "A" ∷ [] })) }
     ensures none { asked (typed (codes "clients --platform P --old O --new N")) ≡ Err (usages.Clients 0) }
     ensures no_new { asked (typed (codes "clients --platform P --old O A")) ≡ Err usages.Words }
-    ensures modular { asked (typed (codes "clients --platform P --old O --new N --modular A")) ≡ Err usages.Words }
+    ensures modular { asked (typed (codes "clients --platform P --old O --new N --modular A B")) ≡ Ok (ClientsCommand (record plain_clients { modular = true })) }
+    ensures flags_between { asked (typed (codes "clients --json A --platform P --old O --new N --modular B")) ≡ Ok (ClientsCommand (record plain_clients { json = true; modular = true })) }
+    ensures option_of_check { asked (typed (codes "clients --platform P --old O --new N --warn A")) ≡ Err usages.Words }
 {}
 
 /// Whatever words ask for clients of two releases name from 1 to 1,000 of them.

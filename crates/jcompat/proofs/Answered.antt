@@ -1,6 +1,6 @@
 -- The answers of a run that puts a report, and of one that puts why there is none.
 use Rattle.std.proofs.Common.{◌≡◌, ◌≢◌, ◌≤◌, ◌⊎◌, ◌==◌, inl, inr, Bool, true, false, not, nat_le, ℕ, List, [], ◌∷◌, Option, Some, None, refl, sym, ap, subst, ◌∙◌, arith}
-use Rattle.std.specs.Prelude.{Result, Ok, IfOk, IfSome, IsTrue, ◌↔◌, codes}
+use Rattle.std.specs.Prelude.{Result, Ok, IfOk, IfSome, IsSomeAnd, IsTrue, ◌↔◌, codes}
 use Rattle.std.proofs.lemmas.Bool.{both_ways, le-leb, leb-true}
 use Rattle.jc_base.specs.Outside.{FileOf}
 use Rattle.jc_base.specs.States.{TreesState}
@@ -8,6 +8,7 @@ use Rattle.jc_facts.specs.declared.sig_note.SigNote.{SigNote}
 use Rattle.jc_facts.specs.declared.verdict.Verdict.{Verdict}
 use Rattle.jc_facts.specs.declared.warning.Warning.{Warning}
 use Rattle.jc_facts.specs.declared.dropped.Dropped.{Dropped}
+use Rattle.jc_call_lines.specs.LinesWithin.{ReferencesStill}
 use Rattle.jc_select.specs.DroppedWithin.{InterfacesStill}
 use Rattle.jc_select.specs.Within.{AnswersStill}
 use Rattle.jc_facts.specs.Names.{Bytes}
@@ -21,7 +22,7 @@ use Rattle.jc_releases.specs.declared.stop.Stop.TheVariants as stops
 use Rattle.jc_commands.specs.Causes.{HasCause, HasFailed}
 use Rattle.jc_commands.specs.Outputs.{IsQuiet, IsUntouched, PutsAll, PutsFront}
 use Rattle.jcompat.specs.Answers.{Ran, Answers, Due, due_bytes, Puts, IsStopped, CutsWitnesses, CutsReport, CutsRefusal, Planned, IsPut, Leaves, OfFiles}
-use Rattle.jc_commands.specs.Check.{CheckReport, IsAnswered, IsCompatible, IsIncompatible, IsBorneOut, IsNoted, KeepsInterfaces, HoldsClients, check_bytes, old_side, new_side, puts_below}
+use Rattle.jc_commands.specs.Check.{CheckReport, IsAnswered, IsCompatible, IsIncompatible, IsBorneOut, IsNoted, KeepsInterfaces, KeepsReferences, TellNoReference, HoldsClients, check_bytes, old_side, new_side, puts_below}
 use Rattle.jc_commands.proofs.SomeSignatures.{noted_list}
 use Rattle.jc_trees.specs.ClassFiles.{Told}
 use Rattle.jc_releases.specs.Command.{step_of_check, witness_dir}
@@ -29,18 +30,20 @@ use Rattle.jc_words.specs.Command.{CommandOf, CheckOf, HistoryOf, ClientsOf, Che
 use Rattle.jc_words.specs.Help.{help_page}
 use Rattle.jc_commands.specs.Clients.{IsTold}
 use Rattle.jc_commands.specs.History.{IsKeptRow, IsBorneOutRow}
-use Rattle.jc_answers.specs.ClientsText.{clients_text_of, are_all_kept}
+use Rattle.jc_answers.specs.ClientsJson.{clients_bytes}
+use Rattle.jc_answers.specs.ClientsText.{are_all_kept}
 use Rattle.jc_answers.specs.declared.answer.Answer.{Answer}
-use Rattle.jc_commands.specs.Reports.{ToldTo, RecordsOf, ReportOf, IsReportOn, rules_of, passes, bytes_of, puts_of}
+use Rattle.jc_commands.specs.Reports.{ToldTo, RecordsOf, ReportOf, IsReportOn, rules_of, is_clear, told_of, passes, bytes_of, puts_of}
 use Rattle.jc_promises.specs.rule.Verdict.{IsVerdict}
 use Rattle.jc_facts.specs.Verdicts.{is_incompatible}
 use Rattle.jc_facts.specs.world.World.{World}
 use Rattle.jc_gate.specs.Gates.{GateOf, all_pass}
-use Rattle.jc_gate.specs.Meanings.{HasLinksGate}
+use Rattle.jc_gate.specs.Meanings.{HasLinksGate, HasCallsGate, has_no_finding}
 use Rattle.jc_report.specs.HistoryText.{history_text_of}
 use Rattle.jc_version.specs.Needs.{need_of, HasVersionGate}
 use Rattle.jc_version.proofs.Gate.{version_alone}
-use Rattle.jc_commands.proofs.RulesTell.{rules_tell, links_alone, none_found, found_none}
+use Rattle.jc_commands.proofs.RulesTell.{rules_tell, none_found, found_none}
+use Rattle.jc_gate.proofs.Alone.{gate_alone, calls_alone}
 use Rattle.jc_commands.proofs.StepSaid.{said_least, said_most}
 use Rattle.jc_releases.specs.Stop.{line_of, file_status, status_of}
 use Rattle.jc_shown.specs.Witness.{PutsFiles, PutsSome, causes_of, witness_puts}
@@ -71,6 +74,11 @@ cut_clash s n (inr six) is e f = clash s 6 n six is f
 if_ok : {A E : Type 0} (r : Result A E) (x : A) (P : A → Type 0) → r ≡ Ok x → IfOk r P → P x
 if_ok {A} {E} r x P e h = subst (λ (s : Result A E). IfOk s P) e h
 
+-- what follows of two facts on what is there follows where it is there
+where_there : {T R : Type 0} (o : Option T) (P Q : T → Type 0) → ((x : T) → P x → Q x → R) → IfSome o P → IsSomeAnd o Q → R
+where_there None P Q f p q = absurd q
+where_there (Some x) P Q f p q = f x p q
+
 -- ---- a report was put
 
 -- what a check's report upholds
@@ -78,7 +86,7 @@ record Upheld (content : Option (List FileOf)) (check : CheckOf) (report : Repor
   of : CheckReport
   checked : Told content (λ files. IsChecked files check of (puts_in report.body))
   text : bytes_in report.body ≡ check_bytes check.json of
-  answer : (gates : List GateOf) → passes_by gates report.condition ≡ all_pass gates check.gates (step_of_check check) (rules_of of.verdict)
+  answer : (gates : List GateOf) → passes_by gates report.condition ≡ all_pass gates check.gates (told_of check of) (rules_of of.verdict)
 
 same_check : (c d : CheckOf) → CheckCommand c ≡ CheckCommand d → c ≡ d
 same_check c d e = cc
@@ -103,7 +111,7 @@ upheld trees report check (CheckCommand c) e is = record {
   of = is.of;
   checked = subst (λ (d : CheckOf). Told trees.content (λ files. IsChecked files d is.of (puts_in report.body))) (same_check c check e) is.upholds;
   text = subst (λ (d : CheckOf). bytes_in report.body ≡ check_bytes d.json is.of) (same_check c check e) is.tells.text;
-  answer = λ gates. subst (λ (d : CheckOf). passes_by gates report.condition ≡ all_pass gates d.gates (step_of_check d) (rules_of is.of.verdict)) (same_check c check e) (is.tells.answer gates);
+  answer = λ gates. subst (λ (d : CheckOf). passes_by gates report.condition ≡ all_pass gates d.gates (told_of d is.of) (rules_of is.of.verdict)) (same_check c check e) (is.tells.answer gates);
 }
 upheld trees report check (LinkCommand l) e is = no_link l check e
 upheld trees report check (MakeCommand n) e is = no_make n check e
@@ -151,7 +159,7 @@ upheld_row trees report history HelpCommand e is = no_row_of_help history e
 record UpheldClients (content : Option (List FileOf)) (clients : ClientsOf) (report : Report) : Type 0 where
   of : List Answer
   told : Told content (λ files. IsTold files clients of)
-  text : bytes_in report.body ≡ clients_text_of of
+  bytes : bytes_in report.body ≡ clients_bytes clients.json of
   answer : (gates : List GateOf) → passes_by gates report.condition ≡ are_all_kept of
 
 same_clients : (c d : ClientsOf) → ClientsCommand c ≡ ClientsCommand d → c ≡ d
@@ -177,7 +185,7 @@ upheld_clients : (trees : TreesState) (report : Report) (clients : ClientsOf) (c
 upheld_clients trees report clients (ClientsCommand c) e is = record {
   of = is.of;
   told = subst (λ (k : ClientsOf). Told trees.content (λ files. IsTold files k is.of)) (same_clients c clients e) is.upholds;
-  text = is.tells.text;
+  bytes = subst (λ (k : ClientsOf). bytes_in report.body ≡ clients_bytes k.json is.of) (same_clients c clients e) is.tells.text;
   answer = is.tells.answer;
 }
 upheld_clients trees report clients (CheckCommand c) e is = no_clients_of_check c clients e
@@ -350,6 +358,25 @@ module _ (r : Ran) (report : Report) (is : Reports r.gates r.words r.trees.befor
           (borne_out files c, λ none nothing. record { records = c.records; parts = c.parts; none = none; nothing = nothing; kept = still nothing up.of.verdict c.parts.verdict.exact none refl }),
     )
 
+    called : IsWhole → (report : CheckReport) × Puts r (check_bytes check.json report)
+        × OfFiles r (λ files. IsBorneOut files check report × (report.verdict.findings ≡ [] → IsSomeAnd report.calls TellNoReference → KeepsReferences files check report))
+    called p = (
+      up.of,
+      p.puts (check_bytes check.json up.of) up.text,
+      λ files told.
+          let c = up.checked files told in (
+            borne_out files c,
+            λ none nothing. record {
+              records = c.records;
+              parts = c.parts;
+              none = none;
+              nothing = nothing;
+              kept = where_there up.of.calls (ReferencesStill (old_side c.records) (new_side c.records)) TellNoReference
+                  (λ ls still lost. still up.of.verdict c.parts.verdict.exact none lost) c.references nothing;
+            },
+          ),
+    )
+
     unbroken : check.gates ≡ codes "links" ∷ [] → HasLinksGate r.gates → (r.status ≡ PASSED) ⊎ (r.status ≡ NOT_PASSED) → IsWhole
         → (report : CheckReport) × Puts r (check_bytes check.json report) × OfFiles r (λ files. IsBorneOut files check report × ((r.status ≡ PASSED) ↔ (report.verdict.findings ≡ [])))
     unbroken asks gate answered p =
@@ -358,8 +385,8 @@ module _ (r : Ran) (report : Report) (is : Reports r.gates r.words r.trees.befor
         decided : (O N : World) → IsVerdict O N up.of.verdict → passed_by ≡ not (is_incompatible up.of.verdict)
         decided O N exact =
             up.answer r.gates
-            ∙ ap (λ names. all_pass r.gates names (step_of_check check) (rules_of up.of.verdict)) asks
-            ∙ links_alone r.gates gate.0 gate.1 gate.2 (step_of_check check) (rules_of up.of.verdict) ∙ rules_tell O N up.of.verdict exact
+            ∙ ap (λ names. all_pass r.gates names (told_of check up.of) (rules_of up.of.verdict)) asks
+            ∙ gate_alone (codes "links") has_no_finding r.gates gate.0 gate.1 gate.2 (told_of check up.of) (rules_of up.of.verdict) ∙ rules_tell O N up.of.verdict exact
 
         passes_so : passed_by ≡ not (is_incompatible up.of.verdict) → up.of.verdict.findings ≡ [] → (r.status ≡ PASSED) ⊎ (r.status ≡ NOT_PASSED) → r.status ≡ PASSED
         passes_so d none (inl zero) = zero
@@ -376,9 +403,8 @@ module _ (r : Ran) (report : Report) (is : Reports r.gates r.words r.trees.befor
         decided : passed_by ≡ nat_le (need_of (rules_of up.of.verdict)) step
         decided =
             up.answer r.gates
-            ∙ ap (λ names. all_pass r.gates names (step_of_check check) (rules_of up.of.verdict)) asks
-            ∙ ap (λ informed. all_pass r.gates (codes "version" ∷ []) informed (rules_of up.of.verdict)) said
-            ∙ version_alone r.gates gate.0 gate.1 gate.2 step (rules_of up.of.verdict) (said_least check step said) (said_most check step said)
+            ∙ ap (λ names. all_pass r.gates names (told_of check up.of) (rules_of up.of.verdict)) asks
+            ∙ version_alone r.gates gate.0 gate.1 gate.2 (told_of check up.of) step (rules_of up.of.verdict) said (said_least check step said) (said_most check step said)
 
         enough : r.status ≡ PASSED → need_of (rules_of up.of.verdict) ≤ step
         enough zero = leb-true (need_of (rules_of up.of.verdict)) step (sym decided ∙ (is_passed zero the_case).0)
@@ -389,6 +415,20 @@ module _ (r : Ran) (report : Report) (is : Reports r.gates r.words r.trees.befor
 
         both : (r.status ≡ PASSED) ↔ (need_of (rules_of up.of.verdict) ≤ step)
         both = (enough, λ le. passes_so le answered)
+
+    cleared : check.gates ≡ codes "calls" ∷ [] → HasCallsGate r.gates → (r.status ≡ PASSED) ⊎ (r.status ≡ NOT_PASSED) → IsWhole
+        → (report : CheckReport) × Puts r (check_bytes check.json report) × ((r.status ≡ PASSED) ↔ IsTrue (is_clear report))
+    cleared asks gate answered p = (up.of, p.puts (check_bytes check.json up.of) up.text, (λ zero. sym decided ∙ (is_passed zero the_case).0, λ clear. passes_so clear answered))
+      where
+        decided : passed_by ≡ is_clear up.of
+        decided =
+            up.answer r.gates
+            ∙ ap (λ names. all_pass r.gates names (told_of check up.of) (rules_of up.of.verdict)) asks
+            ∙ calls_alone r.gates gate.0 gate.1 gate.2 (told_of check up.of) (rules_of up.of.verdict)
+
+        passes_so : is_clear up.of ≡ true → (r.status ≡ PASSED) ⊎ (r.status ≡ NOT_PASSED) → r.status ≡ PASSED
+        passes_so clear (inl zero) = zero
+        passes_so clear (inr one) = absurd (both_ways passed_by (is_not_passed one the_case).0 (decided ∙ clear))
 
     witnessed : (dir : Bytes) → check.witness ≡ Some dir → IsWhole
         → (report : CheckReport) × OfFiles r (λ files. HoldsClients files check report.verdict dir r.folder) × Puts r (check_bytes check.json report)
@@ -424,8 +464,8 @@ module _ (r : Ran) (report : Report) (is : Reports r.gates r.words r.trees.befor
     passes_kept kept (inr one) = absurd (both_ways passed_by (is_not_passed one the_case).0 (up_clients.answer r.gates ∙ kept))
 
     lost : (r.status ≡ PASSED) ⊎ (r.status ≡ NOT_PASSED) → IsWhole
-        → (all : List Answer) × Puts r (clients_text_of all) × OfFiles r (λ files. IsTold files clients all) × ((r.status ≡ PASSED) ↔ IsTrue (are_all_kept all))
-    lost answered p = (up_clients.of, p.puts (clients_text_of up_clients.of) up_clients.text, up_clients.told, (all_kept, λ kept. passes_kept kept answered))
+        → (all : List Answer) × Puts r (clients_bytes clients.json all) × OfFiles r (λ files. IsTold files clients all) × ((r.status ≡ PASSED) ↔ IsTrue (are_all_kept all))
+    lost answered p = (up_clients.of, p.puts (clients_bytes clients.json up_clients.of) up_clients.bytes, up_clients.told, (all_kept, λ kept. passes_kept kept answered))
 
   module _ (e : asked r.words ≡ Ok HelpCommand) where
     up_page : UpheldPage report
@@ -466,8 +506,10 @@ module _ (r : Ran) (report : Report) (is : Reports r.gates r.words r.trees.befor
     answered = λ put check e. answered check e (has_whole put);
     noted = λ put check e wanted. noted check e wanted (has_whole put);
     interfaces = λ put check e. interfaces check e (has_whole put);
+    called = λ put check e. called check e (has_whole put);
     unbroken = λ answered check e asks gate. unbroken check e asks gate answered (has_whole answered);
     versioned = λ answered check e asks step said gate. versioned check e asks step said gate answered (has_whole answered);
+    cleared = λ answered check e asks gate. cleared check e asks gate answered (has_whole answered);
     judged = λ answered history e. judged history e (has_whole answered);
     lost = λ answered clients e. lost clients e answered (has_whole answered);
     helped = λ answered e. helped e answered (has_whole answered);
@@ -556,8 +598,10 @@ module _ (r : Ran) (stop : Stop) (cause : HasCause r.gates r.words r.trees stop)
     answered = no_answer;
     noted = no_answer;
     interfaces = no_answer;
+    called = no_answer;
     unbroken = no_answer;
     versioned = no_answer;
+    cleared = no_answer;
     judged = no_answer;
     lost = no_answer;
     helped = no_answer;

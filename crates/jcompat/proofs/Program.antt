@@ -1,12 +1,12 @@
 -- The program's own gates: each is the only one of its name. What is answered before they are made.
 use Rattle.std.proofs.Common.{◌≡◌, inl, Bool, false, nat_le, ℕ, List, [], ◌∷◌, Option, Some, None, refl, sym, ap, ◌∙◌, arith}
-use Rattle.std.specs.Prelude.{codes}
+use Rattle.std.specs.Prelude.{codes, is_some}
 use Rattle.std.proofs.lemmas.List.{append-nil}
 use Rattle.jc_base.specs.Outside.{TakesFront}
 use Rattle.jc_base.specs.States.{TreesState, SinkState, FolderState, Change}
 use Rattle.jc_facts.specs.Names.{Bytes}
 use Rattle.jc_gate.specs.Gates.{GateOf}
-use Rattle.jc_gate.specs.Meanings.{HasLinksGate, has_no_finding, has_no_collision, has_at_most}
+use Rattle.jc_gate.specs.Meanings.{HasLinksGate, HasCallsGate, has_no_finding, has_no_collision, has_at_most}
 use Rattle.jc_releases.specs.declared.status.TheConstants.{NO_MEMORY}
 use Rattle.jc_releases.specs.declared.stop.Stop.TheVariants as stops
 use Rattle.jc_version.specs.Needs.{HasVersionGate, need_of}
@@ -15,20 +15,31 @@ use Rattle.jcompat.specs.Answers.{Ran, Answers, ran}
 use Rattle.jcompat.specs.Program.{AreProgramGates, OwnAnswers, IsIdle}
 
 links_of : (gates : List GateOf) → AreProgramGates gates → HasLinksGate gates
-links_of (links ∷ collisions ∷ few ∷ version ∷ []) h = (links, rw (h.0.named, h.1.named, h.2.named, h.3.named) refl, h.0)
+links_of (links ∷ collisions ∷ few ∷ version ∷ calls ∷ []) h = (links, rw (h.0.named, h.1.named, h.2.named, h.3.named, h.4.named) refl, h.0)
 links_of [] h = absurd h
 links_of (a ∷ []) h = absurd h
 links_of (a ∷ b ∷ []) h = absurd h
 links_of (a ∷ b ∷ c ∷ []) h = absurd h
-links_of (a ∷ b ∷ c ∷ d ∷ e ∷ more) h = absurd h
+links_of (a ∷ b ∷ c ∷ d ∷ []) h = absurd h
+links_of (a ∷ b ∷ c ∷ d ∷ e ∷ f ∷ more) h = absurd h
 
 version_of : (gates : List GateOf) → AreProgramGates gates → HasVersionGate gates
-version_of (links ∷ collisions ∷ few ∷ version ∷ []) h = (version, rw (h.0.named, h.1.named, h.2.named, h.3.named) refl, h.3)
+version_of (links ∷ collisions ∷ few ∷ version ∷ calls ∷ []) h = (version, rw (h.0.named, h.1.named, h.2.named, h.3.named, h.4.named) refl, h.3)
 version_of [] h = absurd h
 version_of (a ∷ []) h = absurd h
 version_of (a ∷ b ∷ []) h = absurd h
 version_of (a ∷ b ∷ c ∷ []) h = absurd h
-version_of (a ∷ b ∷ c ∷ d ∷ e ∷ more) h = absurd h
+version_of (a ∷ b ∷ c ∷ d ∷ []) h = absurd h
+version_of (a ∷ b ∷ c ∷ d ∷ e ∷ f ∷ more) h = absurd h
+
+calls_of : (gates : List GateOf) → AreProgramGates gates → HasCallsGate gates
+calls_of (links ∷ collisions ∷ few ∷ version ∷ calls ∷ []) h = (calls, rw (h.0.named, h.1.named, h.2.named, h.3.named, h.4.named) refl, h.4)
+calls_of [] h = absurd h
+calls_of (a ∷ []) h = absurd h
+calls_of (a ∷ b ∷ []) h = absurd h
+calls_of (a ∷ b ∷ c ∷ []) h = absurd h
+calls_of (a ∷ b ∷ c ∷ d ∷ []) h = absurd h
+calls_of (a ∷ b ∷ c ∷ d ∷ e ∷ f ∷ more) h = absurd h
 
 pub own_answers : (r : Ran) → AreProgramGates r.gates → Answers r → OwnAnswers r
 own_answers r gates answers = record {
@@ -36,6 +47,7 @@ own_answers r gates answers = record {
   answers = answers;
   unbroken = λ known check asked_for named. answers.unbroken known check asked_for named (links_of r.gates gates);
   versioned = λ known check asked_for named step said. answers.versioned known check asked_for named step said (version_of r.gates gates);
+  cleared = λ known check asked_for named. answers.cleared known check asked_for named (calls_of r.gates gates);
 }
 
 -- ---- there was no memory for the gates
@@ -51,6 +63,7 @@ planned_gates =
     ∷ record { label = codes "collisions"; passes = λ step rules. has_no_collision rules }
     ∷ record { label = codes "few"; passes = λ step rules. has_at_most 10 rules }
     ∷ record { label = codes "version"; passes = is_enough }
+    ∷ record { label = codes "calls"; passes = λ told rules. is_some told }
     ∷ []
 
 are_planned : AreProgramGates planned_gates
@@ -59,6 +72,7 @@ are_planned = (
   record { named = refl; passes = λ step rules. refl },
   record { named = refl; passes = λ step rules. refl },
   record { named = refl; uninformed = λ rules. refl; informed = λ step rules least most. refl },
+  record { named = refl; passes = λ told rules. refl },
 )
 
 not_five : {P : Type 0} (six : ℕ) → six ≡ 6 → six ≡ 5 → P

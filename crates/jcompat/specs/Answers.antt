@@ -1,25 +1,26 @@
 -- The answers of the top call.
-use Rattle.std.specs.Prelude.{◌≡◌, ◌≢◌, ◌≤◌, ◌⊎◌, ◌↔◌, ℕ, List, [], ◌∷◌, Some, None, Ok, IfOk, IsTrue, Bool, true, false, codes}
+use Rattle.std.specs.Prelude.{◌≡◌, ◌≢◌, ◌≤◌, ◌⊎◌, ◌↔◌, ℕ, List, [], ◌∷◌, Some, None, Ok, IfOk, IsTrue, IsSomeAnd, Bool, true, false, codes}
 use Rattle.jc_base.specs.Outside.{FileOf}
 use Rattle.jc_base.specs.States.{TreesState, SinkState, FolderState, Change}
 use Rattle.jc_facts.specs.declared.sig_note.SigNote.{SigNote}
 use Rattle.jc_facts.specs.declared.verdict.Verdict.{Verdict}
 use Rattle.jc_facts.specs.Names.{Bytes}
 use Rattle.jc_gate.specs.Gates.{GateOf}
-use Rattle.jc_gate.specs.Meanings.{HasLinksGate}
+use Rattle.jc_gate.specs.Meanings.{HasLinksGate, HasCallsGate}
 use Rattle.jc_commands.specs.Causes.{HasCause, IsRefused, IsAccepted, HasFailed}
-use Rattle.jc_commands.specs.Check.{CheckReport, IsAnswered, IsCompatible, IsIncompatible, IsBorneOut, IsNoted, KeepsInterfaces, HoldsClients, check_bytes}
+use Rattle.jc_commands.specs.Check.{CheckReport, IsAnswered, IsCompatible, IsIncompatible, IsBorneOut, IsNoted, KeepsInterfaces, KeepsReferences, TellNoReference, HoldsClients, check_bytes}
 use Rattle.jc_trees.specs.ClassFiles.{Told}
 use Rattle.jc_releases.specs.Command.{witness_dir, step_of_check, asked_of}
 use Rattle.jc_words.specs.Command.{CommandOf, CheckOf, HistoryOf, ClientsOf, CheckCommand, HistoryCommand, ClientsCommand, HelpCommand, asked}
 use Rattle.jc_words.specs.Help.{help_page}
-use Rattle.jc_answers.specs.ClientsText.{clients_text_of, are_all_kept}
+use Rattle.jc_answers.specs.ClientsJson.{clients_bytes}
+use Rattle.jc_answers.specs.ClientsText.{are_all_kept}
 use Rattle.jc_answers.specs.declared.answer.Answer.{Answer}
 use Rattle.jc_commands.specs.Clients.{IsTold}
 use Rattle.jc_commands.specs.History.{IsKeptRow, IsBorneOutRow}
 use Rattle.jc_commands.specs.Outputs.{IsQuiet, PutsAll, PutsFront, HasPutFault, IsUntouched, HasFolderFault}
 use Rattle.jc_commands.specs.ReportValue.{status_by}
-use Rattle.jc_commands.specs.Reports.{ToldTo, RecordsOf, ReportOf, IsReportOn, rules_of, passes, bytes_of, puts_of}
+use Rattle.jc_commands.specs.Reports.{ToldTo, RecordsOf, ReportOf, IsReportOn, rules_of, is_clear, passes, bytes_of, puts_of}
 use Rattle.jc_releases.specs.Stop.{line_of, status_of}
 use Rattle.jc_shown.specs.Witness.{PutFile, PutsFiles, PutsSome}
 use Rattle.jc_report.specs.HistoryText.{history_text_of}
@@ -153,6 +154,12 @@ pub record Answers (r : Ran) : Type 0 where
   pub interfaces : (r.status ≡ PASSED) ⊎ (r.status ≡ NOT_PASSED) → (check : CheckOf) → asked r.words ≡ Ok (CheckCommand check)
       → (report : CheckReport) × Puts r (check_bytes check.json report)
       × OfFiles r (λ files. IsBorneOut files check report × (report.verdict.findings ≡ [] → report.dropped ≡ Some [] → KeepsInterfaces files check report))
+  -- of a check, by its report, which was put: it has exactly the lines on calls of the two releases where they are asked for. Where it has no finding, and those lines
+  -- without one of a method reference, each client world in scope that meets none of its collisions keeps each method reference that was Ok with the old release and names a
+  -- class of a library
+  pub called : (r.status ≡ PASSED) ⊎ (r.status ≡ NOT_PASSED) → (check : CheckOf) → asked r.words ≡ Ok (CheckCommand check)
+      → (report : CheckReport) × Puts r (check_bytes check.json report)
+      × OfFiles r (λ files. IsBorneOut files check report × (report.verdict.findings ≡ [] → IsSomeAnd report.calls TellNoReference → KeepsReferences files check report))
   -- of a check that asks for witnesses: below the path such class files stand for each finding and each collision, by its number, and every other path
   -- is as before
   pub witnessed : (r.status ≡ PASSED) ⊎ (r.status ≡ NOT_PASSED) → (check : CheckOf) → asked r.words ≡ Ok (CheckCommand check) → (dir : Bytes) → check.witness ≡ Some dir
@@ -165,16 +172,19 @@ pub record Answers (r : Ran) : Type 0 where
   pub versioned : (r.status ≡ PASSED) ⊎ (r.status ≡ NOT_PASSED) → (check : CheckOf) → asked r.words ≡ Ok (CheckCommand check) → check.gates ≡ codes "version" ∷ []
       → (step : ℕ) → step_of_check check ≡ Some step → HasVersionGate r.gates
       → (report : CheckReport) × Puts r (check_bytes check.json report) × ((r.status ≡ PASSED) ↔ (need_of (rules_of report.verdict) ≤ step))
+  -- of a check that asks the gate `calls` alone: it passes exactly where warnings, dropped interfaces and lines on calls are in what was put, and there is none
+  pub cleared : (r.status ≡ PASSED) ⊎ (r.status ≡ NOT_PASSED) → (check : CheckOf) → asked r.words ≡ Ok (CheckCommand check) → check.gates ≡ codes "calls" ∷ [] → HasCallsGate r.gates
+      → (report : CheckReport) × Puts r (check_bytes check.json report) × ((r.status ≡ PASSED) ↔ IsTrue (is_clear report))
   -- of a row of releases: what was put is the text of the verdicts on each two neighbours. Each step is borne out as a check's two releases are, by its
   -- verdict. Where none has a finding, each client world in scope of the row that meets none of its collisions keeps with the last release what held
   -- with the first
   pub judged : (r.status ≡ PASSED) ⊎ (r.status ≡ NOT_PASSED) → (history : HistoryOf) → asked r.words ≡ Ok (HistoryCommand history)
       → (vs : List Verdict) × Puts r (history_text_of vs) × OfFiles r (λ files. IsKeptRow files history vs) × OfFiles r (λ files. IsBorneOutRow files history vs)
-  -- of clients of two releases: what was put is the text of what is said of the clients of each tree, in their order: why they aren't linked, or what they lose,
+  -- of clients of two releases: what was put is what is said of the clients of each tree, in their order, as text or as JSON: why they aren't linked, or what they lose,
   -- which is exactly each outcome that `link` says to be Ok with the old release and to be an error with the new. It passes exactly where all are linked, and lose
   -- nothing
   pub lost : (r.status ≡ PASSED) ⊎ (r.status ≡ NOT_PASSED) → (clients : ClientsOf) → asked r.words ≡ Ok (ClientsCommand clients)
-      → (all : List Answer) × Puts r (clients_text_of all) × OfFiles r (λ files. IsTold files clients all) × ((r.status ≡ PASSED) ↔ IsTrue (are_all_kept all))
+      → (all : List Answer) × Puts r (clients_bytes clients.json all) × OfFiles r (λ files. IsTold files clients all) × ((r.status ≡ PASSED) ↔ IsTrue (are_all_kept all))
   -- of help: what was put is its page, and it passes
   pub helped : (r.status ≡ PASSED) ⊎ (r.status ≡ NOT_PASSED) → asked r.words ≡ Ok HelpCommand → (r.status ≡ PASSED) × Puts r help_page
   -- where no witnesses are asked for, nothing was put into the folder

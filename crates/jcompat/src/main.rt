@@ -24,6 +24,7 @@ use jc_base::text::Text;
 use jc_base::trees::Trees;
 use jc_commands::put::put_stop;
 use jc_gate::at_most::AtMost;
+use jc_gate::calls::Calls;
 use jc_gate::collisions::Collisions;
 use jc_gate::gate::Gate;
 use jc_gate::links::Links;
@@ -64,7 +65,7 @@ fn words_after_name(rt: &(impl Env + AllocGlobal)) -> Result<Option<Vec<Text>>, 
 }
 
 // Runs with these words and the gates of the program: `links`, `collisions`, `few`, which lets ten rules
-// pass, and `version`.
+// pass, `version` and `calls`.
 fn run_with_gates<T: Trees, O: Sink, E: Sink, F: Folder>(
     alloc: Global,
     words: &[Text],
@@ -81,6 +82,7 @@ fn run_with_gates<T: Trees, O: Sink, E: Sink, F: Folder>(
     gates.push(Box::new(alloc, Collisions::new())?)?;
     gates.push(Box::new(alloc, AtMost::new(10))?)?;
     gates.push(Box::new(alloc, VersionGate::new())?)?;
+    gates.push(Box::new(alloc, Calls::new())?)?;
     Ok(run(alloc, words, trees, out, err, witnesses, gates))
 }
 

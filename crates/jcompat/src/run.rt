@@ -26,8 +26,8 @@ use std::alloc::Global;
 ///   `java/lang/Object` isn't as it has to be, a release declares a name that the platform declares, or
 ///   a client has a name that they don't allow. 4: a call on a tree failed. 7: a tree has more than
 ///   40,000 class files, a class file's path more than 4,096 bytes, a class file more than 4,194,304
-///   bytes, or a report more than 999,999 findings and collisions, warnings or dropped interfaces. A
-///   line was put to `err`.
+///   bytes, or a report more than 999,999 findings and collisions, warnings, dropped interfaces or lines
+///   on calls. A line was put to `err`.
 /// - 5: a put failed. 6: there was no memory. Nothing was put after the failure.
 ///
 /// No gate is asked but with 0 and 1, and all are dropped.

@@ -1,5 +1,6 @@
 //! Runs over trees in memory, against what they are to say. Those over real folders and streams are in `examples/statuses.sh`.
 mod assembler;
+mod calls;
 mod clients;
 mod dropped;
 mod files;

@@ -70,6 +70,7 @@ final class Annotate {
         }
         addCount(counts, "warnings", "warnings");
         addCount(counts, "dropped", "dropped interfaces");
+        addCount(counts, "calls", "lines on calls");
         addCount(counts, "accepted", "lines are accepted");
         summary.append(summary.length() > before ? "\n" : "");
     }

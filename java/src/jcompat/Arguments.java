@@ -65,6 +65,7 @@ final class Arguments {
             case "--row": request.row = true; break;
             case "--no-warn": request.warn = false; break;
             case "--no-dropped": request.dropped = false; break;
+            case "--no-calls": request.calls = false; break;
             case "--no-modular": request.views = Request.Views.CLASS_PATH; break;
             case "--modular": request.views = Request.Views.MODULES; break;
             case "--json": request.json = true; break;

@@ -1,6 +1,8 @@
 package jcompat;
 
+import java.util.ArrayList;
 import java.util.HashMap;
+import java.util.List;
 import java.util.Map;
 
 /** The attributes that stand at a place of a class file: of the class, a field, a method or code (JVMS 4.7). */
@@ -25,6 +27,18 @@ final class Attributes {
     /** The name of the source, without its package (JVMS 4.7.10), or null. */
     String source() {
         return has("SourceFile") ? file.text(file.number(places.get("SourceFile"))) : null;
+    }
+
+    /** The names of the subclasses that a sealed class permits (JVMS 4.7.31); none of another. */
+    List<String> permitted() {
+        List<String> names = new ArrayList<>();
+        if (has("PermittedSubclasses")) {
+            int place = places.get("PermittedSubclasses");
+            for (int i = 1; i <= file.number(place); i++) {
+                names.add(file.className(file.number(place + 2 * i)));
+            }
+        }
+        return names;
     }
 
     /** Of a method the first line that its code comes from (JVMS 4.7.12); 0 where it says none. */

@@ -114,6 +114,7 @@ public final class Check {
         }
         add(options, "--warn", request.warn);
         add(options, "--dropped", request.dropped);
+        add(options, "--calls", request.calls);
         options.addAll(versions);
         add(options, "--modular", asModules);
         Comparison comparison = new Comparison(asModules, classes(0), classes(1), options);
@@ -187,7 +188,7 @@ public final class Check {
         host.out.flush();
     }
 
-    /** What stands first: the verdict, how many warnings there are, what Java is needed, which number is due. */
+    /** What stands first: the verdict, how many warnings and the like there are, what Java is needed, which number is due. */
     private List<String> head(Comparison comparison) {
         List<String> head = new ArrayList<>(List.of(Verdict.of(comparison)));
         head.addAll(Verdict.beside(comparison));

@@ -106,6 +106,7 @@ final class Document {
         map.put("collisions", count(lines, "collision"));
         map.put("warnings", comparison.options.contains("--warn") ? count(lines, "warning") : null);
         map.put("dropped", comparison.options.contains("--dropped") ? count(lines, "dropped") : null);
+        map.put("calls", comparison.options.contains("--calls") ? count(lines, Line.CALL) : null);
         map.put("notes", comparison.report.notes.size());
         map.put("accepted", comparison.accepted.size());
         map.put("left", count(comparison.left, "finding"));

@@ -12,6 +12,9 @@ import jcompat.SemanticVersion.Step;
 
 /** Which version number is due by Semantic Versioning, and why; what the gate <code>version</code> asks for, which knows findings and collisions alone. */
 final class Due {
+    private static final String FURTHER = "warning, dropped interface or line on calls";
+    private static final String SEVERAL_FURTHER = "warnings, dropped interfaces or lines on calls";
+
     private final SemanticVersion from;
     private final String fromText;
     private final SemanticVersion to;
@@ -52,7 +55,7 @@ final class Due {
         collisions = lines.size() - findings - further;
         add(Step.MAJOR, findings, "finding", lines.values().stream().filter(Line::isFinding).map(line -> line.text).findFirst().orElse(""));
         if (isStrict) {
-            add(Step.MAJOR, further, "warning or dropped interface", lines.values().stream().filter(Line::isFurther).map(line -> line.text).findFirst().orElse(""));
+            add(Step.MAJOR, further, FURTHER, lines.values().stream().filter(Line::isFurther).map(line -> line.text).findFirst().orElse(""));
         }
         add(Step.MINOR, collisions, "collision", lines.values().stream().filter(line -> line.kind().equals("collision")).map(line -> line.text).findFirst().orElse(""));
         add(Step.MINOR, added.size(), "addition", first(added));
@@ -66,7 +69,7 @@ final class Due {
 
     private void add(Step step, long count, String what, String first) {
         if (count > 0) {
-            String several = what.equals("warning or dropped interface") ? "warnings or dropped interfaces" : what + "s";
+            String several = what.equals(FURTHER) ? SEVERAL_FURTHER : what + "s";
             reasons.computeIfAbsent(step, any -> new ArrayList<>()).add(count + " " + (count == 1 ? what : several) + ", as " + first);
         }
     }
@@ -100,7 +103,7 @@ final class Due {
             lines.add("    the gate version asks for " + number(gate()) + ": it is proved, and looks at findings and collisions alone; the rest is tested, not proved");
         }
         if (!isStrict && further > 0 && step != Step.MAJOR) {
-            lines.add("    with --strict it is " + number(Step.MAJOR) + ": " + further + " warnings or dropped interfaces");
+            lines.add("    with --strict it is " + number(Step.MAJOR) + ": " + further + " " + SEVERAL_FURTHER);
         }
         if (from != null && to != null) {
             boolean isEnough = from.to(to).compareTo(step) >= 0;

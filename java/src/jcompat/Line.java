@@ -2,10 +2,15 @@ package jcompat;
 
 import java.util.Arrays;
 
-/** A finding, a collision, a warning or a dropped interface. The last two have no number; theirs is a place. */
+/** A finding, a collision, a warning, a dropped interface or a line on calls. The last three have no number; theirs is a place. */
 final class Line {
     static final String WARNING = "warning";
     static final String DROPPED = "dropped";
+    static final String CALL = "call";
+    /** The kinds of lines on calls, which are their rules. */
+    static final String REFERENCE = "reference";
+    static final String ACCESS = "access";
+    static final String CONSTANTS = "constants";
 
     final int number;
     final String rule;
@@ -46,18 +51,28 @@ final class Line {
         return new Line(new String[] {"" + place, DROPPED, type, dropped, "-", "-", "-"}, String.join(" ", DROPPED, type, dropped));
     }
 
+    /** The member of a line on a class is a hyphen. */
+    static Line call(int place, String type, String member, String kind) {
+        return new Line(new String[] {"" + place, kind, type, member, kind, "-", "-"}, String.join(" ", CALL, type, member, kind));
+    }
+
     boolean isFinding() {
         return rule.charAt(0) == 'H';
     }
 
-    /** A warning or a dropped interface, of which gates know nothing. */
-    boolean isFurther() {
-        return rule.equals(WARNING) || rule.equals(DROPPED);
+    /** A line on calls, of a kind that is known or not. */
+    boolean isCall() {
+        return text.startsWith(CALL + " ");
     }
 
-    /** <code>finding</code>, <code>collision</code>, <code>warning</code> or <code>dropped</code>. */
+    /** A warning, a dropped interface or a line on calls, of which no gate but <code>calls</code> knows anything. */
+    boolean isFurther() {
+        return rule.equals(WARNING) || rule.equals(DROPPED) || isCall();
+    }
+
+    /** <code>finding</code>, <code>collision</code>, <code>warning</code>, <code>dropped</code> or <code>call</code>. */
     String kind() {
-        return isFurther() ? rule : isFinding() ? "finding" : "collision";
+        return isCall() ? CALL : isFurther() ? rule : isFinding() ? "finding" : "collision";
     }
 
     /** On an assignment in which a class takes part that clients can't name. */

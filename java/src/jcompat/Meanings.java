@@ -4,12 +4,15 @@ import java.util.ArrayList;
 import java.util.HashMap;
 import java.util.LinkedHashMap;
 import java.util.List;
+import java.util.Locale;
 import java.util.Map;
 import java.util.Set;
 import java.util.TreeSet;
 
 /** What each rule means, out of the sections of FINDINGS.md: an anchor, a heading with the rule, and text. */
 final class Meanings {
+    private static final Set<String> FURTHER = Set.of(Line.DROPPED, Line.REFERENCE, Line.ACCESS, Line.CONSTANTS);
+
     private final Map<String, String> sections = new LinkedHashMap<>();
     private final List<String> rules = new ArrayList<>();
     private final Map<String, String> anchors = new HashMap<>();
@@ -30,7 +33,7 @@ final class Meanings {
                 if (line.matches("## \\w+: .*") && !line.startsWith("## Notes")) {
                     String rule = line.substring(3, line.indexOf(':'));
                     // sections of several lines are named by their number, lines by one
-                    rule = rule.equals("Warnings") ? Line.WARNING : rule.equals("Dropped") ? Line.DROPPED : rule;
+                    rule = rule.equals("Warnings") ? Line.WARNING : FURTHER.contains(rule.toLowerCase(Locale.ROOT)) ? rule.toLowerCase(Locale.ROOT) : rule;
                     rules.add(rule);
                     anchors.put(rule, anchor);
                     headings.put(rule, line.substring(line.indexOf(':') + 2));

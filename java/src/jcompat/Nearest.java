@@ -26,8 +26,9 @@ final class Nearest {
 
     private static int near(String[] word, Line line) {
         // whoever leaves out the rule begins with the class
-        int at = word[0].equals(line.rule) || word.length > 1 && !word[0].contains("/") ? 1 : 0;
-        int near = word[0].equals(line.rule) ? 2 : 0;
+        boolean isOfRule = line.text.startsWith(word[0] + " ");
+        int at = isOfRule || word.length > 1 && !word[0].contains("/") ? 1 : 0;
+        int near = isOfRule ? 2 : 0;
         String type = at < word.length ? word[at].replace('.', '/') : "";
         near += type.equals(line.type) ? 4 : !type.isEmpty() && Names.simple(type).equalsIgnoreCase(Names.simple(line.type)) ? 3 : 0;
         String member = at + 1 < word.length ? word[at + 1] : "";

@@ -18,7 +18,7 @@ import java.util.zip.ZipFile;
 
 /** Compares two Debian packages, jar by jar: jars that have the same name apart from a version, with others of both where they need these. */
 final class Packages {
-    private static final String ROW = "%6s %9s %10s %8s %7s %13s  %s%n";
+    private static final String ROW = "%6s %9s %10s %8s %7s %6s %13s  %s%n";
 
     private final Request request;
     private final String name;
@@ -72,7 +72,7 @@ final class Packages {
                 }
             }
         }
-        host.out.printf(ROW, "status", "findings", "collisions", "warnings", "dropped", "not compared", "jar");
+        host.out.printf(ROW, "status", "findings", "collisions", "warnings", "dropped", "calls", "not compared", "jar");
         table.forEach(host.out::print);
         return total;
     }
@@ -106,6 +106,7 @@ final class Packages {
         of.options.addAll(request.options);
         of.warn = request.warn;
         of.dropped = request.dropped;
+        of.calls = request.calls;
         of.views = request.views;
         of.java = request.java;
         of.whole = request.whole;
@@ -129,7 +130,7 @@ final class Packages {
         table(jar, status, check);
         // of jars of which there is nothing to tell the row of the table is enough
         String text = said.toString(StandardCharsets.UTF_8.name());
-        if (!text.matches("compatible: 0 findings, 0 collisions, 0 notes\n(?:0 warnings)?(?:, )?(?:0 dropped interfaces)?\n?")) {
+        if (!text.matches("compatible: 0 findings, 0 collisions, 0 notes\n(?:0 warnings)?(?:, )?(?:0 dropped interfaces)?(?:, )?(?:0 lines on calls)?\n?")) {
             host.out.print(jar + ":\n" + text + "\n");
         }
     }
@@ -147,9 +148,8 @@ final class Packages {
     private void table(String jar, int status, Comparison comparison) throws IOException {
         Report report = comparison.report;
         long findings = report.lines.stream().filter(Line::isFinding).count();
-        long warnings = report.further.stream().filter(line -> line.rule.equals(Line.WARNING)).count();
-        add("" + status, status, findings, report.lines.size() - findings, request.warn ? warnings : "-",
-                request.dropped ? report.further.size() - warnings : "-", report.unloadable("old").size(), jar);
+        add("" + status, status, findings, report.lines.size() - findings, request.warn ? report.count(Line.WARNING) : "-",
+                request.dropped ? report.count(Line.DROPPED) : "-", request.calls ? report.count(Line.CALL) : "-", report.unloadable("old").size(), jar);
         if (request.report != null) {
             Files.createDirectories(request.report);
             Files.write(request.report.resolve(jar), comparison.answer.out);
@@ -157,7 +157,7 @@ final class Packages {
     }
 
     private void row(String shown, int status, String text) {
-        add(shown, status, "-", "-", "-", "-", "-", text);
+        add(shown, status, "-", "-", "-", "-", "-", "-", text);
     }
 
     private void add(String shown, int status, Object... columns) {

@@ -79,6 +79,8 @@ final class Page {
                 tops.stream().filter(line -> line.rule.equals(Line.WARNING)).collect(Collectors.toList()), false);
         putGroup("dropped-of", "Dropped interfaces", "The code links, and an object may fail where it is used as the interface.",
                 tops.stream().filter(line -> line.rule.equals(Line.DROPPED)).collect(Collectors.toList()), false);
+        putGroup("calls-of", "Calls", "The code links, and a method reference, a call or a switch of some client fails when it runs.",
+                tops.stream().filter(Line::isCall).collect(Collectors.toList()), false);
         putGroup("made", "Collisions on names that compilers make", "On members with a $ in their name.", made, true);
         put("</div>\n");
         putNotes();
@@ -127,12 +129,14 @@ final class Page {
         }
         long findings = report.lines.stream().filter(Line::isFinding).count();
         long folded = report.all().size() + input.ofModules.size() - shown.size();
-        long warnings = report.further.stream().filter(line -> line.rule.equals(Line.WARNING)).count();
-        long dropped = report.further.size() - warnings;
+        long warnings = report.count(Line.WARNING);
+        long dropped = report.count(Line.DROPPED);
+        long onCalls = report.count(Line.CALL);
         long accepted = report.all().stream().filter(input::isAccepted).count();
         put("<p class=sum><strong>" + Html.count(findings, "finding") + "</strong>, " + Html.count(report.lines.size() - findings, "collision") + ", "
                 + Html.count(report.notes.size(), "note") + (warnings == 0 ? "" : ", " + Html.count(warnings, "warning"))
-                + (dropped == 0 ? "" : ", " + Html.count(dropped, "dropped interface")) + (accepted == 0 ? "" : ", " + String.format(Locale.ROOT, "%,d", accepted)
+                + (dropped == 0 ? "" : ", " + Html.count(dropped, "dropped interface")) + (onCalls == 0 ? "" : ", " + Html.count(onCalls, "line") + " on calls")
+                + (accepted == 0 ? "" : ", " + String.format(Locale.ROOT, "%,d", accepted)
                 + " of these accepted") + "." + (folded == 0 ? "" : " " + Html.count(folded, "line") + (folded == 1 ? " is" : " are")
                 + " folded into others, mostly the same member through a subclass.") + "</p></header>\n");
     }

@@ -80,6 +80,9 @@ final class PageData {
         if (line.rule.equals(Line.DROPPED)) {
             return "an assignment to the interface that is made when the code runs, as a cast";
         }
+        if (line.isCall()) {
+            return CallWords.fails(line);
+        }
         if (line.rule.equals(Line.WARNING)) {
             return "a call, when it runs: it may find another method than before, or none";
         }

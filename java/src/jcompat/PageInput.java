@@ -94,8 +94,8 @@ final class PageInput {
         return wordsOfModules.getOrDefault(line, words).safely(line);
     }
 
-    /** How many warnings there are that aren't accepted, and break somebody. */
+    /** How many warnings and lines on calls there are that aren't accepted, and break somebody. */
     long warnings() {
-        return report.further.stream().filter(line -> line.rule.equals(Line.WARNING) && !isAccepted(line) && !said(line).get(1).isEmpty()).count();
+        return report.further.stream().filter(line -> !line.rule.equals(Line.DROPPED) && !isAccepted(line) && !said(line).get(1).isEmpty()).count();
     }
 }

@@ -110,7 +110,7 @@ final class Printed {
         }
     }
 
-    /** How many warnings and dropped interfaces there are among the lines, as far as the options ask for them. */
+    /** How many warnings, dropped interfaces and lines on calls there are among the lines, as far as the options ask for them. */
     static String counts(List<Line> lines, List<String> options) {
         List<String> counts = new ArrayList<>();
         if (options.contains("--warn")) {
@@ -118,6 +118,9 @@ final class Printed {
         }
         if (options.contains("--dropped")) {
             counts.add(lines.stream().filter(line -> line.rule.equals(Line.DROPPED)).count() + " dropped interfaces");
+        }
+        if (options.contains("--calls")) {
+            counts.add(lines.stream().filter(Line::isCall).count() + " lines on calls");
         }
         return String.join(", ", counts);
     }

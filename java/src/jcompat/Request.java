@@ -15,6 +15,7 @@ public final class Request {
     public boolean row;
     public boolean warn = true;
     public boolean dropped = true;
+    public boolean calls = true;
     /** Which clients are asked about where a release has a module's file: those that have all on the class path, modules, or both. */
     public enum Views { ALL, CLASS_PATH, MODULES }
 

@@ -11,7 +11,7 @@ public final class Status {
     public static final int BREAKS = 1;
     /** A class of the old release wasn't compared, where all are asked for. */
     public static final int NOT_WHOLE = 71;
-    /** There are warnings or dropped interfaces, where none are asked for. */
+    /** There are warnings, dropped interfaces or lines on calls, where none are meant to be. */
     public static final int NOT_STRICT = 72;
     /** The new release doesn't run on the Java that was named. */
     public static final int NEEDS_JAVA = 73;

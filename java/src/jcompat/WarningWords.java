@@ -67,7 +67,7 @@ final class WarningWords {
             case GONE:
                 return type + " no longer gives classes " + method;
             case MOVED:
-                return method + " moved to the superinterface " + Names.simple(now.file.name) + ": breaks nobody";
+                return method + " moved to the superinterface " + Names.simple(now.file.name) + ": no call breaks";
             case ELSEWHERE:
                 return type + " gives classes " + method + " of " + Names.simple(now.file.name) + ", and gave that of " + Names.simple(before.file.name) + conflicts;
             default:

@@ -12,7 +12,7 @@ final class Words {
     private final Classes oldRelease;
     private final Classes newRelease;
     private static final Set<String> KNOWN = new HashSet<>(Arrays.asList("H1", "H2", "H3", "H4", "H5", "H6", "H7", "H8", "H9", "Constant", "Capture", "Final",
-            Line.WARNING, Line.DROPPED));
+            Line.WARNING, Line.DROPPED, Line.REFERENCE, Line.ACCESS, Line.CONSTANTS));
 
     Words(Classes oldRelease, Classes newRelease) {
         this.oldRelease = oldRelease;
@@ -94,6 +94,9 @@ final class Words {
             case Line.DROPPED:
                 return Arrays.asList(kind(line.type) + " " + type + " no longer " + (kind(line.type).equals("class") ? "implements " : "extends ") + Names.simple(line.member),
                         throughInterface(line.member, variable));
+            case Line.REFERENCE: case Line.ACCESS: case Line.CONSTANTS:
+                CallWords onCalls = new CallWords(line, oldRelease, newRelease);
+                return Arrays.asList(onCalls.said(), onCalls.client(variable));
             default:
                 return Arrays.asList("class " + type + " has a new final method " + declared(line), subclass(line, ""));
         }

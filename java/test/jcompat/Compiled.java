@@ -20,7 +20,12 @@ final class Compiled {
 
     /** The classes of the sources, of which each begins with its name and a colon, over the Java at hand; they go to a new folder of this name, sources to one beside it. */
     static Classes release(Path folder, String... sources) throws Exception {
-        List<String> words = new ArrayList<>(Arrays.asList("--release", "11", "-d", Files.createDirectories(folder).toString()));
+        return release(11, folder, sources);
+    }
+
+    /** The same of sources in the language of this Java. */
+    static Classes release(int java, Path folder, String... sources) throws Exception {
+        List<String> words = new ArrayList<>(Arrays.asList("--release", "" + java, "-d", Files.createDirectories(folder).toString()));
         Path beside = Files.createDirectories(folder.resolveSibling(folder.getFileName() + "-sources").resolve("p"));
         for (String each : sources) {
             int colon = each.indexOf(':');

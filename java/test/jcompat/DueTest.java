@@ -85,8 +85,8 @@ public class DueTest {
         Classes more = release("more", "A:public interface A { void draw(); }");
         List<String> lines = due("1.4.2", null, false, Compiled.comparison(one, more, WARNED));
         assertEquals("due: 1.5.0, a minor step from 1.4.2: 1 addition, as p/A draw()V", lines.get(0));
-        assertEquals("    with --strict it is 2.0.0: 1 warnings or dropped interfaces", lines.get(2));
-        assertEquals("due: 2.0.0, a major step from 1.4.2: 1 warning or dropped interface, as warning p/A draw()V defaults",
+        assertEquals("    with --strict it is 2.0.0: 1 warnings, dropped interfaces or lines on calls", lines.get(2));
+        assertEquals("due: 2.0.0, a major step from 1.4.2: 1 warning, dropped interface or line on calls, as warning p/A draw()V defaults",
                 due("1.4.2", null, true, Compiled.comparison(one, more, WARNED)).get(0));
         Comparison lacking = Compiled.comparison(one, one, NONE);
         lacking.isWhole = false;

@@ -65,9 +65,9 @@ public class ModulesTest {
     public void bothVerdictsAreSaid() throws Exception {
         DocumentText document = DocumentText.of(run(Status.BREAKS).document());
         assertEquals(2, document.comparisons().size());
-        assertEquals("on the class path:\ncompatible: 0 findings, 0 collisions, 0 notes\n1 warnings, 0 dropped interfaces\nwarning p/A draw()V lost\n"
+        assertEquals("on the class path:\ncompatible: 0 findings, 0 collisions, 0 notes\n1 warnings, 0 dropped interfaces, 0 lines on calls\nwarning p/A draw()V lost\n"
                 + "    class A gives classes no method void draw() to run any more\n    class Y extends A { }, without a method draw of its own, and the library calls draw() on it\n"
-                + "\nas modules:\nincompatible: 1 findings, 0 collisions, 0 notes\n0 warnings, 0 dropped interfaces\n1 H1 p/A - class - IllegalAccessError\n"
+                + "\nas modules:\nincompatible: 1 findings, 0 collisions, 0 notes\n0 warnings, 0 dropped interfaces, 0 lines on calls\n1 H1 p/A - class - IllegalAccessError\n"
                 + "    class A is in a package that its module doesn't export\n    Object object = (A) other;\n", printed.toString("UTF-8"));
         assertTrue(Files.readString(path("report")).startsWith("compatible"));
         assertTrue(Files.readString(path("report.modules")).startsWith("1 H1"));

@@ -18,14 +18,15 @@ import org.junit.rules.TemporaryFolder;
 public class ReportTest {
     private static final String TEXT = "1 H7 p/A size:I putfield java/lang/Object IllegalAccessError\n2 H7 p/B size:I putfield java/lang/Object IllegalAccessError\n"
             + "3 Final p/A close()V override - IncompatibleClassChangeError\nnote constant p/A MOST:I\nnote unloadable old p/C NoClassDefFoundError\n"
-            + "incompatible: 2 findings, 1 collisions, 2 notes\nwarning p/A draw()V lost\ndropped p/A p/I\n";
+            + "incompatible: 2 findings, 1 collisions, 2 notes\nwarning p/A draw()V lost\ndropped p/A p/I\ncall p/A draw()V reference\ncall p/A - constants\n";
     private static final String JSON = "{\"collisions\":[{\"class\":\"p/A\",\"error\":\"IncompatibleClassChangeError\",\"member\":\"close()V\",\"number\":3,"
             + "\"operation\":\"override\",\"rule\":\"Final\",\"seat\":null}],\"findings\":[{\"class\":\"p/A\",\"error\":\"IllegalAccessError\",\"member\":\"size:I\","
             + "\"number\":1,\"operation\":\"putfield\",\"rule\":\"H7\",\"seat\":\"java/lang/Object\"},{\"class\":\"p/B\",\"error\":\"IllegalAccessError\","
             + "\"member\":\"size:I\",\"number\":2,\"operation\":\"putfield\",\"rule\":\"H7\",\"seat\":\"java/lang/Object\"}],\"notes\":[{\"class\":\"p/A\","
             + "\"detail\":null,\"kind\":\"constant\",\"member\":\"MOST:I\",\"side\":null},{\"class\":\"p/C\",\"detail\":\"NoClassDefFoundError\","
             + "\"kind\":\"unloadable\",\"member\":null,\"side\":\"old\"}],\"verdict\":\"incompatible\"}\n{\"warnings\":[{\"class\":\"p/A\",\"kind\":\"lost\","
-            + "\"member\":\"draw()V\"}]}\n{\"dropped\":[{\"class\":\"p/A\",\"interface\":\"p/I\"}]}\n";
+            + "\"member\":\"draw()V\"}]}\n{\"dropped\":[{\"class\":\"p/A\",\"interface\":\"p/I\"}]}\n{\"calls\":[{\"class\":\"p/A\",\"kind\":\"reference\",\"member\":\"draw()V\"},"
+            + "{\"class\":\"p/A\",\"kind\":\"constants\",\"member\":null}]}\n";
     @Rule
     public final TemporaryFolder made = new TemporaryFolder();
 
@@ -37,7 +38,7 @@ public class ReportTest {
     public void readsLinesAndJsonAlike() {
         Report lines = new Report(TEXT);
         Report json = new Report(JSON);
-        assertEquals(5, lines.all().size());
+        assertEquals(7, lines.all().size());
         assertEquals(texts(lines), texts(json));
         assertEquals("incompatible: 2 findings, 1 collisions, 2 notes", lines.verdict);
         assertEquals("incompatible", json.verdict);

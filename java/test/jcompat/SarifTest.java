@@ -82,7 +82,7 @@ public class SarifTest {
         DocumentText document = DocumentText.of(check.document());
         Map<?, ?> line = DocumentText.maps(document.comparisons().get(0), "lines").get(0);
         assertEquals(8L, ((Map<?, ?>) line.get("source")).get("line"));
-        assertEquals("compatible but for 1 accepted (incompatible: 1 findings, 0 collisions, 1 notes); 1 warnings, 0 dropped interfaces; 1 warning only says again what a finding says",
+        assertEquals("compatible but for 1 accepted (incompatible: 1 findings, 0 collisions, 1 notes); 1 warnings, 0 dropped interfaces, 0 lines on calls; 1 warning only says again what a finding says",
                 check.summary());
     }
 

@@ -72,7 +72,7 @@ public class WordsTest {
         assertEquals("class Y implements I { }, without a method draw of its own, and draw() is called on it", client(opened, none, line));
         Classes own = release("own", "public interface J { } public interface I extends J { void draw(); }");
         Classes above = release("above", "public interface J { void draw(); } public interface I extends J { }");
-        assertEquals("void draw() moved to the superinterface J: breaks nobody", say(own, above, line));
+        assertEquals("void draw() moved to the superinterface J: no call breaks", say(own, above, line));
         assertEquals("", client(own, above, line));
         assertTrue(say(above, own, line).startsWith("I gives classes void draw() of I, and gave that of J"));
         Classes given = release("given", "public interface J { default void draw() { } } public interface I extends J { }");

@@ -44,6 +44,7 @@ returns-clause-limits c = record {
   findings = refl;
   warnings = refl;
   dropped = refl;
+  calls = refl;
   fewest_made = (refl, refl);
   most_made = (refl, refl);
   fewest_releases = (refl, refl);

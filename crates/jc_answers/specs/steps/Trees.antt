@@ -1,25 +1,22 @@
 -- What is found in the trees of clients, on the way.
-use Rattle.std.specs.Prelude.{◌≡◌, ◌≤◌, List, length, IsTrue, Result, Ok, Err}
-use Rattle.std.specs.List.{All}
+use Rattle.std.specs.Prelude.{◌≡◌, ◌≤◌, List, Result, Ok, Err}
 use Rattle.jc_base.specs.Causes.{Rose}
 use Rattle.jc_base.specs.States.{TreesState, Change}
-use Rattle.jc_facts.specs.declared.class_facts.ClassFacts.{ClassFacts}
-use Rattle.jc_facts.specs.file.Valid.{IsValidClass}
-use Rattle.jc_facts.specs.world.World.{differ_by_name}
 use Rattle.jc_answers.specs.Said.{HasFailedCall}
 use Rattle.jc_answers.specs.declared.answer.Answer.{Answer}
 use Rattle.jc_answers.specs.declared.answer.Answer.TheVariants as answers
+use Rattle.jc_losses.specs.Ground.{size_of_ground, IsGround}
+use Rattle.jc_losses.specs.declared.grounds.Ground.{Ground}
 use Rattle.jc_releases.specs.declared.stop.Stop.TheVariants as stops
 use Rattle.jc_trees.specs.Tree.{TreeOf}
 use Rattle.jc_trees.specs.declared.tree.TreeName.TheVariants as names
 use Rattle.jc_trees.specs.declared.trees_error.TreesError.{TreesError}
 use Rattle.jc_trees.specs.declared.trees_error.TreesError.TheVariants as trees_errors
 
--- a platform and a release in one list
-pub record IsOneList (both : List ClassFacts) : Type 0 where
-  pub valid : All IsValidClass both
-  pub differ : IsTrue (differ_by_name both)
-  pub few : length both ≤ 80000
+-- what was read of two trees
+pub record IsOfTwoTrees (g : Ground) : Type 0 where
+  pub lists : IsGround g
+  pub few : size_of_ground g ≤ 80000
 
 -- why nothing is said of the clients of a tree
 abbrev pub FailsIn : Change TreesState → TreeOf → TreesError → Type 0

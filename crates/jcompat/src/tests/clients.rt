@@ -45,9 +45,32 @@ $ clients --platform P --old O --new N A --witness W
 ! jcompat: usage: words
 ";
 
+const DOCUMENTS: &str = r#"$ clients --platform P --old O --new N --json A B C
+: P java/lang/Object init
+#1 one that breaks, one that isn't linked and one without class files, as JSON
+: O p/A init | A q/A extends=p/A init | B at q/A.class q/B init
+> {"clients":[{"classes":1,"errors":0,"lost":[{"class":"q/A","error":"NoClassDefFoundError","member":null,"name":null,"operation":null,"receiver":null}],"number":1,"outcomes":1,"refusal":null},{"classes":null,"errors":null,"lost":null,"number":2,"outcomes":null,"refusal":{"class":null,"path":"q/A.class","reason":"misplaced q/B"}},{"classes":0,"errors":0,"lost":[],"number":3,"outcomes":0,"refusal":null}],"total":{"broken":1,"clients":3,"refused":1}}
+#1 a class that a release declares, as JSON : O,N p/A init | A p/A init
+> {"clients":[{"classes":null,"errors":null,"lost":null,"number":1,"outcomes":null,"refusal":{"class":"p/A","path":null,"reason":"declared"}},{"classes":0,"errors":0,"lost":[],"number":2,"outcomes":0,"refusal":null},{"classes":0,"errors":0,"lost":[],"number":3,"outcomes":0,"refusal":null}],"total":{"broken":0,"clients":3,"refused":1}}
+"#;
+
+// The old release is a module `m` that exports the package `p`; the new one exports nothing.
+const MODULES: &str = "$ clients --platform P --old O --new N --modular A
+: P java/lang/Object init | O,N p/A init | A q/A extends=p/A init
+: O bytes module-info.class ca fe ba be 0 0 0 35 0 8 7 0 2 1 0 b 6d 6f 64 75 6c 65 2d 69 6e 66 6f 1 0 6 4d 6f 64 75 6c 65 13 0 5 1 0 1 6d 14 0 7 1 0 1 70 80 0 0 1 0 0 0 0 0 0 0 0 0 1 0 3 0 0 0 16 0 4 0 0 0 0 0 0 0 1 0 6 0 0 0 0 0 0 0 0 0 0
+: N bytes module-info.class ca fe ba be 0 0 0 35 0 8 7 0 2 1 0 b 6d 6f 64 75 6c 65 2d 69 6e 66 6f 1 0 6 4d 6f 64 75 6c 65 13 0 5 1 0 1 6d 14 0 7 1 0 1 70 80 0 0 1 0 0 0 0 0 0 0 0 0 1 0 3 0 0 0 10 0 4 0 0 0 0 0 0 0 0 0 0 0 0 0 0 0
+#1 a class whose package is no longer exported
+> client 1 class q/A IllegalAccessError | client 1 breaks: 1 classes, 1 outcomes, 0 errors before, 1 lost
+> clients: 1 clients, 1 broken, 0 refused
+#0 the same without modules
+$ clients --platform P --old O --new N A
+> client 1 keeps: 1 classes, 1 outcomes, 0 errors before, 0 lost
+> clients: 1 clients, 0 broken, 0 refused
+";
+
 #[test]
 fn clients_of_two_releases_are_judged(rt: HostRuntime) {
-    for table in [ROWS, WORDS] {
+    for table in [ROWS, WORDS, DOCUMENTS, MODULES] {
         see_table(&rt, table);
     }
 }

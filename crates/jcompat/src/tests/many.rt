@@ -54,6 +54,30 @@ fn more_dropped_interfaces_than_there_may_be(rt: HostRuntime) {
     see_run(&rt, &Row { common, own });
 }
 
+/// An interface whose methods each of the classes gets.
+const GETS: &str = "$ check --calls --platform P --old O --new N
+: P java/lang/Object init
+: P p/J flags=601";
+
+#[test]
+fn more_lines_on_calls_than_there_may_be(rt: HostRuntime) {
+    let mut table = String::from_str(rt.alloc(), GETS).expect(&rt, "memory");
+    put_numbered(&rt, &mut table, 1_000, " method=401:k@:()V");
+    put_numbered(
+        &rt,
+        &mut table,
+        1_001,
+        "\n: O q/A@ flags=421 init | N q/A@ flags=421 implements=p/J init",
+    );
+    let common = table.as_str();
+    let own =
+        "7 a thousand and one classes, each with a thousand lines on calls\n! jcompat: limit calls";
+    see_run(&rt, &Row { common, own });
+    let own =
+        "7 and as many warnings, which come before\n$ check --calls --warn --platform P --old O --new N\n! jcompat: limit warnings";
+    see_run(&rt, &Row { common, own });
+}
+
 /// A module with so many entries for the package `p` that it exports.
 const EXPORTS: &str = "$ check --modular --platform P --old O --new N
 : P java/lang/Object init | O,N p/A init

@@ -232,7 +232,7 @@ public class CompatTask extends DefaultTask {
         }
         getLogger().error(printed.toString(StandardCharsets.UTF_8.name()));
         throw new GradleException("jcompat: " + request.title + ": " + (status == Status.NOT_WHOLE ? "not all classes were compared"
-                : status == Status.NEEDS_JAVA ? "it needs a newer Java than " + java : status == Status.NOT_STRICT ? "there are warnings or dropped interfaces" : "clients break, or what else the gate " + gate + " asks")
+                : status == Status.NEEDS_JAVA ? "it needs a newer Java than " + java : status == Status.NOT_STRICT ? "there are warnings, dropped interfaces or lines on calls" : "clients break, or what else the gate " + gate + " asks")
                 + "; " + request.page + " tells more");
     }
 }

@@ -15,4 +15,5 @@ returns c =
     let nine = added _ _ _ _ _ c.in_ok-arg-9.ensures c.flag-2.ensures.local c.flag-2.ensures.rule eight in
     let ten = added _ _ _ _ _ c.in_ok-arg-10.ensures c.flag-3.ensures.local c.flag-3.ensures.rule nine in
     let eleven = added _ _ _ _ _ c.in_ok-arg-11.ensures c.flag-4.ensures.local c.flag-4.ensures.rule ten in
-    IfOk-weaker _ _ _ (λ x h. added _ x _ _ _ h c.flag-5.ensures.local c.flag-5.ensures.rule eleven) c.arg-12.ensures
+    let twelve = added _ _ _ _ _ c.in_ok-arg-12.ensures c.flag-5.ensures.local c.flag-5.ensures.rule eleven in
+    IfOk-weaker _ _ _ (λ x h. added _ x _ _ _ h c.flag-6.ensures.local c.flag-6.ensures.rule twelve) c.arg-13.ensures

@@ -13,6 +13,7 @@ returns c = record {
   warnings = refl;
   signatures = refl;
   dropped = refl;
+  calls = refl;
   modular = refl;
   versions = refl;
   link = refl;

@@ -1,0 +1,9 @@
+mod AccessLines
+mod Chosen
+mod ConstantLines
+mod Joined
+mod Limited
+mod LostLines
+mod LostReferences
+mod OpenAbove
+mod OpenChains

@@ -1,0 +1,185 @@
+-- Whether clients can name the classes of the methods that superinterfaces give.
+use Rattle.std.proofs.Common.{◌≡◌, Bool, true, false, cond, not, ◌||◌, ◌&&◌, ◌==◌, List, [], ◌∷◌, refl, sym, ◌∙◌, ap, Option, Some, None, ◌⊎◌, inl, inr}
+use Rattle.std.specs.Prelude.{IsTrue}
+use Rattle.std.specs.List.{list_all, Contains}
+use Rattle.std.proofs.lemmas.Bool.{eqb-true, not-true}
+use Rattle.jc_calls.specs.References.{is_of_open}
+use Rattle.jc_facts.specs.declared.class_facts.ClassFacts.{ClassFacts}
+use Rattle.jc_facts.specs.declared.key.Key.{Key}
+use Rattle.jc_facts.specs.Flags.{abstract_flag, public_flag}
+use Rattle.jc_facts.specs.Names.{Bytes, same}
+use Rattle.jc_facts.specs.Options.{some_and}
+use Rattle.jc_facts.specs.world.Loading.{load_fault}
+use Rattle.jc_facts.specs.world.Lookup.{only_or, superinterface_choices}
+use Rattle.jc_facts.specs.world.Modules.{is_visible}
+use Rattle.jc_facts.specs.world.World.{World, classes, differ_by_name, find_class, DeclaredMember}
+use Rattle.jc_facts.proofs.Same.{same_is, same_itself}
+use Rattle.jc_facts.proofs.World.{find-name}
+use Rattle.jc_index.specs.Ids.{name_at}
+use Rattle.jc_index.specs.Picks.{IsPick, methods_above}
+use Rattle.jc_index.specs.declared.ids.Found.{Found}
+use Rattle.jc_index.specs.steps.Choosing.{candidate_at, best_at, if_best, has_rival_below, FindsAbove}
+use Rattle.jc_index.proofs.Aboves.{same_number}
+use Rattle.jc_index.proofs.Choices.{IsOne, IsListed, one_of, listed, best, best_one, one_best, best_is, choices_declared}
+use Rattle.jc_lemmas.proofs.Bools.{contradicts}
+use Rattle.jc_lemmas.proofs.Listed.{EachOf, each_from, each_in, empty_from, list_all-each, here, there, none, cases}
+use Rattle.jc_call_lines.specs.steps.Openly.{open_class, hidden_offer, other_best}
+
+-- ---- lists
+
+pub all_each : {A : Type 0} (p : A → Bool) (xs : List A) → EachOf (λ x. p x ≡ true) xs → list_all p xs ≡ true
+all_each p [] h = refl
+all_each p (x ∷ xs) h = ap (λ b. b && list_all p xs) h.0 ∙ all_each p xs h.1
+
+not_last : (a : Bool) → (a && false) ≡ false
+not_last true = refl
+not_last false = refl
+
+pub not_all : {A : Type 0} (p : A → Bool) (xs : List A) (x : A) → Contains xs x → p x ≡ false → list_all p xs ≡ false
+not_all p [] x c e = absurd (none x c)
+not_all p (y ∷ ys) x c e = go (cases y ys x c) (not_all p ys x)
+  where
+    go : (y ≡ x) ⊎ Contains ys x → (Contains ys x → p x ≡ false → list_all p ys ≡ false) → (p y && list_all p ys) ≡ false
+    go (inl i) more = ap (λ b. b && list_all p ys) (ap p i ∙ e)
+    go (inr d) more = ap (λ b. p y && b) (more d e) ∙ not_last (p y)
+
+pub only_last : (a : Bool) → (a && true) ≡ a
+only_last true = refl
+only_last false = refl
+
+-- ---- the class of a method
+
+pub of_open : (W : World) (m : DeclaredMember) → is_of_open W m ≡ open_class W m.owner
+of_open W m = go (find_class W m.owner) refl
+  where
+    go : (o : Option ClassFacts) → find_class W m.owner ≡ o → some_and (λ c. is_visible W c.name && public_flag c.flags) o ≡ some_and (λ c. is_visible W m.owner && public_flag c.flags) o
+    go None e = refl
+    go (Some c) e = ap (λ y. is_visible W y && public_flag c.flags) (find-name W m.owner c e)
+
+-- ---- of a class that loads
+
+module _ (W : World) (x : Bytes) (loads : load_fault W x ≡ None) (k : Key) where
+  abbrev all : List DeclaredMember
+  all = methods_above W x k
+
+  abbrev are_open : Bool
+  are_open = list_all (is_of_open W) (superinterface_choices W x k)
+
+  -- ---- where clients can name all that declare the key
+
+  none_hidden : FindsAbove W x (hidden_offer W k) None → (m : DeclaredMember) → Contains (methods_above W x k) m → is_of_open W m ≡ true
+  none_hidden h m c = of_open W m ∙ ap (open_class W) (sym i.name) ∙ go (open_class W (name_at W i.number)) refl
+    where
+      i : IsOne W x loads k m
+      i = one_of W x loads k m c
+
+      f : Found
+      f = record { owner = i.number; flags = m.member.flags }
+
+      go : (b : Bool) → open_class W (name_at W i.number) ≡ b → b ≡ true
+      go true e = refl
+      go false e = absurd (let z : None ≡ Some f = sym (h i.number i.below i.above) ∙ ap (λ b. cond b None (candidate_at W k i.number)) e ∙ i.candidate in cc)
+
+  pub all_can : FindsAbove W x (hidden_offer W k) None → true ≡ list_all (is_of_open W) (superinterface_choices W x k)
+  all_can h = sym (all_each (is_of_open W) (superinterface_choices W x k) (each_from (λ m. is_of_open W m ≡ true) (superinterface_choices W x k) (λ m c. none_hidden h m (choices_declared W x k m c))))
+
+  -- ---- where they can't name one of them
+
+  -- one of the methods, whose class clients can't name
+  record IsShut : Type 0 where
+    method : DeclaredMember
+    is_in : Contains (methods_above W x k) method
+    shut : is_of_open W method ≡ false
+
+  some_hidden : (r : Found) → FindsAbove W x (hidden_offer W k) (Some r) → IsShut
+  some_hidden r h = go (open_class W (name_at W h.0)) refl h.3
+    where
+      go : (b : Bool) → open_class W (name_at W h.0) ≡ b → cond b None (candidate_at W k h.0) ≡ Some r → IsShut
+      go true e q = absurd (let clash : None ≡ Some r = q in cc)
+      go false e q =
+          let l : IsListed W x loads k h.0 r = listed W x loads k h.0 r h.2 q in
+          record { method = l.method; is_in = l.is_in; shut = of_open W l.method ∙ ap (open_class W) (sym l.owner) ∙ e }
+
+  -- where any of them may be found
+  any_shut : IsShut → only_or (best W x loads k) (methods_above W x k) ≡ methods_above W x k → false ≡ list_all (is_of_open W) (superinterface_choices W x k)
+  unfolding superinterface_choices
+  any_shut s e = sym (ap (list_all (is_of_open W)) e ∙ not_all (is_of_open W) (methods_above W x k) s.method s.is_in s.shut)
+
+  -- the pick is abstract
+  pub abstract_shut : (p r : Found) → FindsAbove W x (hidden_offer W k) (Some r) → IsPick W x k p → abstract_flag p.flags ≡ true → false ≡ list_all (is_of_open W) (superinterface_choices W x k)
+  unfolding only_or
+  abstract_shut p r h i a = any_shut (some_hidden r h) (ap (λ ms. only_or ms (methods_above W x k)) (empty_from (best W x loads k) no_best))
+    where
+      no_best : (m : DeclaredMember) → Contains (best W x loads k) m → ⊥
+      no_best m c =
+          let b = best_one W x loads k m c in
+          contradicts (abstract_flag m.member.flags) (i.first (ap abstract_flag (sym i.found.flags) ∙ a) m b.0 (ap not b.2)) b.1
+
+  two_best : (ms : List DeclaredMember) (m n : DeclaredMember) → Contains ms m → Contains ms n → same m.owner n.owner ≡ false → only_or ms (methods_above W x k) ≡ methods_above W x k
+  unfolding only_or
+  two_best [] m n c d e = absurd (none m c)
+  two_best (h ∷ t) m n c d e = go (list_all (λ o. same o.owner h.owner) t) refl
+    where
+      one : list_all (λ o. same o.owner h.owner) t ≡ true → (o : DeclaredMember) → Contains (h ∷ t) o → o.owner ≡ h.owner
+      one q o l = at (cases h t o l)
+        where
+          at : (h ≡ o) ⊎ Contains t o → o.owner ≡ h.owner
+          at (inl i) = ap (λ (v : DeclaredMember). v.owner) (sym i)
+          at (inr r) = same_is o.owner h.owner (each_in (λ v. same v.owner h.owner ≡ true) t o (list_all-each (λ v. same v.owner h.owner) t q) r)
+
+      go : (b : Bool) → list_all (λ o. same o.owner h.owner) t ≡ b → cond b (h ∷ []) (methods_above W x k) ≡ methods_above W x k
+      go false q = refl
+      go true q = absurd (contradicts (same m.owner n.owner) (ap (λ y. same y n.owner) (one q m c) ∙ ap (same h.owner) (one q n d) ∙ same_itself h.owner) e)
+
+  -- the method of a pick that isn't abstract is chosen before others
+  picked_best : (p : Found) (i : IsPick W x k p) → abstract_flag p.flags ≡ false → Contains (best W x loads k) i.method
+  picked_best p i a = one_best W x loads k i.method i.is_in (ap abstract_flag (sym i.found.flags) ∙ a) (not-true (has_rival_below W x k i.method.owner) i.maximal)
+
+  -- another one is chosen too
+  pub other_shut : IsTrue (differ_by_name (classes W)) → (p r q : Found) → FindsAbove W x (hidden_offer W k) (Some r) → IsPick W x k p → abstract_flag p.flags ≡ false → FindsAbove W x (other_best W x k p.owner) (Some q)
+      → false ≡ list_all (is_of_open W) (superinterface_choices W x k)
+  other_shut d p r q h i a o = go (o.0 == p.owner) refl o.3
+    where
+      go : (b : Bool) → (o.0 == p.owner) ≡ b → cond b None (best_at W x k o.0) ≡ Some q → false ≡ list_all (is_of_open W) (superinterface_choices W x k)
+      go true e t = absurd (let clash : None ≡ Some q = t in cc)
+      go false e t =
+          let b = best_is W x loads k o.0 q t in
+          let l : IsListed W x loads k o.0 q = listed W x loads k o.0 q o.2 b.0 in
+          let c : Contains (best W x loads k) l.method = one_best W x loads k l.method l.is_in (ap abstract_flag (sym l.flags) ∙ b.1) (ap (has_rival_below W x k) (sym (ap (name_at W) l.number ∙ l.owner)) ∙ b.2) in
+          let n : same l.method.owner i.method.owner ≡ false = ap (λ y. same y i.method.owner) (sym l.owner) ∙ ap (same (name_at W o.0)) (sym i.found.owner) ∙ same_number W d o.0 p.owner o.1 i.found.below ∙ e in
+          any_shut (some_hidden r h) (two_best (best W x loads k) l.method i.method c (picked_best p i a) n)
+
+  -- no other one is
+  sole : (ms : List DeclaredMember) (y : Bytes) (m : DeclaredMember) → Contains ms m → ((o : DeclaredMember) → Contains ms o → o.owner ≡ y) → list_all (is_of_open W) (only_or ms (methods_above W x k)) ≡ open_class W y
+  unfolding only_or
+  sole [] y m c each = absurd (none m c)
+  sole (h ∷ t) y m c each =
+      ap (λ b. list_all (is_of_open W) (cond b (h ∷ []) (methods_above W x k))) (all_each (λ o. same o.owner h.owner) t (each_from (λ o. same o.owner h.owner ≡ true) t alike))
+      ∙ only_last (is_of_open W h) ∙ of_open W h ∙ ap (open_class W) (each h (here h t))
+    where
+      alike : (o : DeclaredMember) → Contains t o → same o.owner h.owner ≡ true
+      alike o d = ap (λ z. same z h.owner) (each o (there o h t d) ∙ sym (each h (here h t))) ∙ same_itself h.owner
+
+  pub sole_pick : (p : Found) (b : Bool) → IsPick W x k p → abstract_flag p.flags ≡ false → FindsAbove W x (other_best W x k p.owner) None → b ≡ open_class W (name_at W p.owner) → b ≡ list_all (is_of_open W) (superinterface_choices W x k)
+  unfolding superinterface_choices
+  sole_pick p b i a n e = e ∙ sym (sole (best W x loads k) (name_at W p.owner) i.method (picked_best p i a) each)
+    where
+      each : (o : DeclaredMember) → Contains (best W x loads k) o → o.owner ≡ name_at W p.owner
+      each o c = go (j.number == p.owner) refl
+        where
+          t : (Contains (methods_above W x k) o) × (abstract_flag o.member.flags ≡ false) × (has_rival_below W x k o.owner ≡ false)
+          t = best_one W x loads k o c
+
+          j : IsOne W x loads k o
+          j = one_of W x loads k o t.0
+
+          f : Found
+          f = record { owner = j.number; flags = o.member.flags }
+
+          v : (abstract_flag o.member.flags || has_rival_below W x k (name_at W j.number)) ≡ false
+          v = ap (λ z. z || has_rival_below W x k (name_at W j.number)) t.1 ∙ ap (has_rival_below W x k) j.name ∙ t.2
+
+          go : (s : Bool) → (j.number == p.owner) ≡ s → o.owner ≡ name_at W p.owner
+          go true q = sym j.name ∙ ap (name_at W) (eqb-true j.number p.owner q)
+          go false q = absurd (
+              let z : None ≡ Some f = sym (n j.number j.below j.above) ∙ ap (λ s. cond s None (best_at W x k j.number)) q ∙ ap (if_best W x k) j.candidate ∙ ap (λ s. cond s None (Some f)) v in cc)

@@ -1,0 +1,6 @@
+-- Words of the clauses of private functions.
+pub mod AccessLines
+pub mod ConstantLines
+pub mod Kinds
+pub mod LostLines
+pub mod Openly

@@ -1,0 +1,46 @@
+-- Which classes clients can name, and what is declared by those that they can't name.
+--     open_class W y      clients can name the class y
+--     choices_open W x k      so it is with each class that declares what a reference to the class x may find
+--     hidden_at, hidden_offer, other_best      what superinterfaces are asked for, by the numbers of classes
+use Rattle.std.specs.Prelude.{ℕ, ◌==◌, ◌≡◌, Bool, true, cond, ◌&&◌, Option, None, Some}
+use Rattle.std.specs.List.{list_all}
+use Rattle.jc_facts.specs.declared.key.Key.{Key}
+use Rattle.jc_facts.specs.Names.{Bytes}
+use Rattle.jc_facts.specs.Flags.{public_flag}
+use Rattle.jc_facts.specs.world.World.{World, class_is}
+use Rattle.jc_facts.specs.world.Hierarchy.{in_chain}
+use Rattle.jc_facts.specs.world.Modules.{is_visible}
+use Rattle.jc_calls.specs.References.{is_of_open}
+use Rattle.jc_index.specs.Ids.{name_at}
+use Rattle.jc_index.specs.declared.ids.Found.{Found}
+use Rattle.jc_index.specs.steps.Choosing.{candidate_at, best_at, FindsAbove}
+use Rattle.jc_rows.specs.Rows.{lookup_choices}
+
+-- clients can name the class: it is public and visible (JVMS 5.4.4)
+abbrev pub open_class : World → Bytes → Bool
+open_class W y = class_is W (λ c. is_visible W y && public_flag c.flags) y
+
+-- so it is with each class that declares a method of the key that a reference to the class x may find
+abbrev pub choices_open : World → Bytes → Key → Bool
+choices_open W x k = list_all (is_of_open W) (lookup_choices W x k)
+
+-- ---- by numbers
+
+-- the class of number n, where clients can't name it
+abbrev pub hidden_at : World → ℕ → Option Found
+hidden_at W n = cond (open_class W (name_at W n)) None (Some (record { owner = n; flags = 0 }))
+
+-- the method of the key that it declares neither private nor static
+abbrev pub hidden_offer : World → Key → ℕ → Option Found
+hidden_offer W k n = cond (open_class W (name_at W n)) None (candidate_at W k n)
+
+-- the method that the steps on superinterfaces of x choose before others, of another class than that of number m
+abbrev pub other_best : World → Bytes → Key → ℕ → ℕ → Option Found
+other_best W x k m n = cond (n == m) None (best_at W x k n)
+
+-- ---- of all classes above one
+
+-- clients can name the class x, its superclasses and its superinterfaces
+pub record AreOpenAbove (W : World) (x : Bytes) : Type 0 where
+  pub chain : (y : Bytes) → in_chain W x y ≡ true → open_class W y ≡ true
+  pub interfaces : FindsAbove W x (hidden_at W) None

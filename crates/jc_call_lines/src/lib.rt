@@ -1,0 +1,9 @@
+//! The lines on calls between two sides: what ends otherwise when it runs, though all links.
+#![tactic(auto)]
+
+mod access;
+mod choice;
+mod constants;
+pub mod lines;
+mod openly;
+mod references;

@@ -1,0 +1,5 @@
+package shapes;
+
+public enum Shade {
+    LIGHT, DARK
+}

@@ -1,0 +1,10 @@
+package shapes;
+
+public class Canvas {
+    public Canvas() {
+    }
+
+    public void paint() {
+        System.out.println("painted");
+    }
+}

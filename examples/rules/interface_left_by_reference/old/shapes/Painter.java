@@ -1,0 +1,5 @@
+package shapes;
+
+public interface Painter {
+    void paint();
+}

@@ -1,0 +1,4 @@
+package shapes;
+
+public interface Painter extends Worker {
+}

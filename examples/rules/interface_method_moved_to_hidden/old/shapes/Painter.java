@@ -1,0 +1,5 @@
+package shapes;
+
+public interface Painter extends Worker {
+    void paint();
+}

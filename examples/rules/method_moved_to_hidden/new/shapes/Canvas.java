@@ -1,0 +1,4 @@
+package shapes;
+
+public class Canvas extends Surface {
+}

@@ -1,0 +1,7 @@
+package shapes;
+
+class Surface {
+    public static String title() {
+        return "canvas";
+    }
+}

@@ -1,0 +1,6 @@
+package shapes;
+
+import shapes.tools.Surface;
+
+public class Canvas extends Surface {
+}

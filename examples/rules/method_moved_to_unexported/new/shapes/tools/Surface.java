@@ -1,0 +1,7 @@
+package shapes.tools;
+
+public class Surface {
+    public static String title() {
+        return "canvas";
+    }
+}

@@ -1,0 +1,4 @@
+package shapes.tools;
+
+public class Surface {
+}

@@ -1,0 +1,9 @@
+package shapes;
+
+public class Canvas implements Resettable {
+    public Canvas() {
+    }
+
+    public void reset() {
+    }
+}

@@ -1,0 +1,5 @@
+package shapes;
+
+public interface Resettable {
+    void reset();
+}

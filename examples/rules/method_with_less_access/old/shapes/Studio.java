@@ -1,0 +1,9 @@
+package shapes;
+
+public class Studio {
+    public Studio() {
+    }
+
+    public void open(Canvas canvas) {
+    }
+}
