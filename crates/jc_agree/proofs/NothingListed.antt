@@ -7,9 +7,9 @@ use Rattle.std.proofs.lemmas.Bool.{and_parts, and_from}
 use Rattle.std.proofs.lemmas.List.Elements.{All-from_recursion}
 use Rattle.jc_facts.specs.declared.act.Act.{Act}
 use Rattle.jc_facts.specs.declared.act.Act.TheVariants as act
-use Rattle.jc_facts.specs.declared.call_line.CallKind.{CallKind}
-use Rattle.jc_facts.specs.declared.call_line.CallKind.TheVariants.{Reference, Access, Constants}
-use Rattle.jc_facts.specs.declared.call_line.CallLine.{CallLine}
+use Rattle.jc_call_kinds.specs.declared.call_line.CallKind.{CallKind}
+use Rattle.jc_call_kinds.specs.declared.call_line.CallKind.TheVariants.{Reference, Access, Constants}
+use Rattle.jc_call_kinds.specs.declared.call_line.CallLine.{CallLine}
 use Rattle.jc_facts.specs.declared.class_facts.ClassFacts.{ClassFacts}
 use Rattle.jc_facts.specs.declared.class_facts.Member.{Member}
 use Rattle.jc_facts.specs.declared.key.Key.{Key}

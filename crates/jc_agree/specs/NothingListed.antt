@@ -3,7 +3,7 @@
 --     SameReleaseLists, EmptyReleaseLists      releases of which this is so
 use Rattle.std.specs.Prelude.{◌≡◌, List, []}
 use Rattle.jc_calls.specs.Lines.{AreLines}
-use Rattle.jc_facts.specs.declared.call_line.CallLine.{CallLine}
+use Rattle.jc_call_kinds.specs.declared.call_line.CallLine.{CallLine}
 use Rattle.jc_facts.specs.declared.dropped.Dropped.{Dropped}
 use Rattle.jc_facts.specs.declared.sig_note.SigNote.{SigNote}
 use Rattle.jc_facts.specs.declared.warning.Warning.{Warning}

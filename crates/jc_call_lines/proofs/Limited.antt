@@ -11,8 +11,8 @@ use Rattle.jc_calls.specs.CallsKept.{LoseNoReference, ReferencesStay}
 use Rattle.jc_calls.specs.Lines.{AreLines, LineStands, line_order, place_of}
 use Rattle.jc_calls.specs.References.{reference_lost}
 use Rattle.jc_facts.specs.KeyOrder.{key_total}
-use Rattle.jc_facts.specs.declared.call_line.CallKind.TheVariants.{Reference}
-use Rattle.jc_facts.specs.declared.call_line.CallLine.{CallLine}
+use Rattle.jc_call_kinds.specs.declared.call_line.CallKind.TheVariants.{Reference}
+use Rattle.jc_call_kinds.specs.declared.call_line.CallLine.{CallLine}
 use Rattle.jc_facts.specs.world.World.{World}
 use Rattle.jc_sides.specs.Limit.{IsWithin}
 use Rattle.jc_sides.specs.SidesOf.{SidesOf, AreSides}

@@ -9,9 +9,9 @@ use Rattle.jc_facts.specs.Exactly.{Before, HasExactly}
 use Rattle.jc_facts.specs.KeyOrder.{key_cmp}
 use Rattle.jc_facts.specs.Names.{Bytes}
 use Rattle.jc_facts.specs.Options.{some_where}
-use Rattle.jc_facts.specs.declared.call_line.CallKind.{CallKind}
-use Rattle.jc_facts.specs.declared.call_line.CallKind.TheVariants.{Reference}
-use Rattle.jc_facts.specs.declared.call_line.CallLine.{CallLine}
+use Rattle.jc_call_kinds.specs.declared.call_line.CallKind.{CallKind}
+use Rattle.jc_call_kinds.specs.declared.call_line.CallKind.TheVariants.{Reference}
+use Rattle.jc_call_kinds.specs.declared.call_line.CallLine.{CallLine}
 use Rattle.jc_facts.specs.declared.key.Key.{Key}
 use Rattle.jc_facts.proofs.InOrder.{exact_none}
 use Rattle.jc_index.proofs.Numbers.{names-in}

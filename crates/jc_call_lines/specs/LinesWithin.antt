@@ -1,8 +1,8 @@
 -- The lines on calls within a limit, and what it means that none is of a method reference.
 use Rattle.std.specs.Prelude.{◌≡◌, ◌≢◌, ◌≤◌, ◌<◌, ℕ, List, [], length, Option, None, Some}
 use Rattle.std.specs.List.{All}
-use Rattle.jc_facts.specs.declared.call_line.CallKind.TheVariants.{Reference}
-use Rattle.jc_facts.specs.declared.call_line.CallLine.{CallLine}
+use Rattle.jc_call_kinds.specs.declared.call_line.CallKind.TheVariants.{Reference}
+use Rattle.jc_call_kinds.specs.declared.call_line.CallLine.{CallLine}
 use Rattle.jc_facts.specs.declared.client.ClientClass.{ClientClass}
 use Rattle.jc_facts.specs.declared.verdict.Verdict.{Verdict}
 use Rattle.jc_facts.specs.client.Valid.{facts_of}

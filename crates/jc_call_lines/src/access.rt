@@ -5,7 +5,7 @@ ghost use Rattle.jc_call_lines.specs.steps.AccessLines.{access_line, changed_bas
 ghost use Rattle.jc_call_lines.specs.steps.Kinds.{AreOfKind, OfKind};
 ghost use Rattle.jc_calls.specs.Access.{allows_less_access, is_called_above, is_public_in_chain};
 ghost use Rattle.jc_calls.specs.Lines.{line_order};
-ghost use Rattle.jc_facts.specs.declared.call_line.CallKind.TheVariants.{Access};
+ghost use Rattle.jc_call_kinds.specs.declared.call_line.CallKind.TheVariants.{Access};
 ghost use Rattle.jc_facts.specs.Options.{some_where};
 ghost use Rattle.jc_facts.specs.world.Inheritance.{is_final_in_chain};
 ghost use Rattle.jc_promises.specs.rule.Bases.{is_base_class, is_key_of_method};
@@ -16,7 +16,7 @@ use jc_base::name::Name;
 use jc_declared::changed::Changed;
 use jc_desc::names::is_initializer;
 use jc_facts::act::Act;
-use jc_facts::call_line::{CallKind, CallLine};
+use jc_call_kinds::call_line::{CallKind, CallLine};
 use jc_facts::flags::is_public;
 use jc_facts::key::Key;
 use jc_facts::link_error::LinkError;
@@ -45,7 +45,7 @@ struct AccessLine {
 }
 
 impl Model for AccessLine {
-    ghost use Rattle.jc_facts.specs.declared.call_line.CallLine.{CallLine as LineOf};
+    ghost use Rattle.jc_call_kinds.specs.declared.call_line.CallLine.{CallLine as LineOf};
 
     ghost Value = { LineOf };
 

@@ -4,7 +4,7 @@ ghost use Rattle.std.specs.List.{list_any};
 ghost use Rattle.jc_call_lines.specs.steps.ConstantLines.{constant_names, constants_line};
 ghost use Rattle.jc_call_lines.specs.steps.Kinds.{AreOfKind};
 ghost use Rattle.jc_calls.specs.Constants.{constants_added, gets_constant, gets_objects, permits_more};
-ghost use Rattle.jc_facts.specs.declared.call_line.CallKind.TheVariants.{Constants};
+ghost use Rattle.jc_call_kinds.specs.declared.call_line.CallKind.TheVariants.{Constants};
 ghost use Rattle.jc_facts.specs.Flags.{enum_flag};
 ghost use Rattle.jc_facts.specs.Names.{is_name_among};
 ghost use Rattle.jc_facts.specs.world.World.{size};
@@ -12,7 +12,7 @@ ghost use Rattle.jc_index.specs.Ids.{name_at};
 
 use jc_base::items::Items;
 use jc_base::name::Name;
-use jc_facts::call_line::{CallKind, CallLine};
+use jc_call_kinds::call_line::{CallKind, CallLine};
 use jc_facts::class_facts::{ClassFacts, Member};
 use jc_facts::flags::{is_abstract, is_enum};
 use jc_index::ids::ClassId;

@@ -4,7 +4,7 @@ ghost use Rattle.jc_acts.specs.Seats.{AreSeats};
 ghost use Rattle.jc_calls.specs.Lines.{LineStands, line_order};
 ghost use Rattle.jc_call_lines.specs.LinesWithin.{AreLinesWithin, ReferencesStill};
 ghost use Rattle.jc_call_lines.specs.steps.Kinds.{OfKind};
-ghost use Rattle.jc_facts.specs.declared.call_line.CallKind.TheVariants.{Reference, Access};
+ghost use Rattle.jc_call_kinds.specs.declared.call_line.CallKind.TheVariants.{Reference, Access};
 ghost use Rattle.jc_sides.specs.Limit.{IsWithin};
 
 use crate::access::accesses;
@@ -12,7 +12,7 @@ use crate::constants::constants;
 use crate::references::references;
 use jc_acts::seats::Seats;
 use jc_calls::references_stay;
-use jc_facts::call_line::CallLine;
+use jc_call_kinds::call_line::CallLine;
 use jc_sides::limit::left;
 use jc_sides::sides::Sides;
 use std::alloc::{AllocError, Global};

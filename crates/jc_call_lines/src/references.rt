@@ -9,7 +9,7 @@ ghost use Rattle.jc_calls.specs.References.{is_handle_lost, is_open_to_some, ref
 ghost use Rattle.jc_facts.specs.Exactly.{HasExactly};
 ghost use Rattle.jc_facts.specs.client.Acts.{is_field_form};
 ghost use Rattle.jc_facts.specs.client.Forms.{form_view};
-ghost use Rattle.jc_facts.specs.declared.call_line.CallKind.TheVariants.{Reference};
+ghost use Rattle.jc_call_kinds.specs.declared.call_line.CallKind.TheVariants.{Reference};
 ghost use Rattle.jc_facts.specs.world.Access.{is_member_open};
 ghost use Rattle.jc_facts.specs.world.Assignment.{is_interface_of};
 ghost use Rattle.jc_facts.specs.world.World.{size};
@@ -31,7 +31,7 @@ use jc_acts::members::method_closed;
 use jc_acts::seats::Seats;
 use jc_desc::names::is_initializer;
 use jc_facts::act::Form;
-use jc_facts::call_line::{CallKind, CallLine};
+use jc_call_kinds::call_line::{CallKind, CallLine};
 use jc_facts::flags::is_interface;
 use jc_facts::key::Key;
 use jc_index::ids::{ClassId, Found};

@@ -1,7 +1,7 @@
 -- The lines on calls, as a check reports them, where they are asked for.
 use Rattle.std.specs.Prelude.{◌≤◌, List, length, Bool, true, false, Option, Some, None}
 use Rattle.jc_calls.specs.Lines.{AreLines}
-use Rattle.jc_facts.specs.declared.call_line.CallLine.{CallLine}
+use Rattle.jc_call_kinds.specs.declared.call_line.CallLine.{CallLine}
 use Rattle.jc_facts.specs.world.World.{World}
 use Rattle.jc_releases.specs.declared.limits.TheConstants.{MAX_CALLS}
 

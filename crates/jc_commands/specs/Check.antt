@@ -5,8 +5,8 @@ use Rattle.std.specs.List.{All}
 use Rattle.jc_base.specs.Outside.{FileOf}
 use Rattle.jc_base.specs.States.{FolderState, Change}
 use Rattle.jc_facts.specs.declared.rule_numbers.TheConstants.{CLASS_GONE}
-use Rattle.jc_facts.specs.declared.call_line.CallKind.TheVariants.{Reference}
-use Rattle.jc_facts.specs.declared.call_line.CallLine.{CallLine}
+use Rattle.jc_call_kinds.specs.declared.call_line.CallKind.TheVariants.{Reference}
+use Rattle.jc_call_kinds.specs.declared.call_line.CallLine.{CallLine}
 use Rattle.jc_calls.specs.CallsKept.{ReferencesKept}
 use Rattle.jc_calls.specs.Lines.{AreLines}
 use Rattle.jc_facts.specs.declared.dropped.Dropped.{Dropped}

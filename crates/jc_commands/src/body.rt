@@ -1,5 +1,5 @@
 //! What is put of a command.
-use jc_facts::call_line::CallLine;
+use jc_call_kinds::call_line::CallLine;
 use jc_facts::dropped::Dropped;
 use jc_facts::sig_note::SigNote;
 use jc_facts::verdict::Verdict;

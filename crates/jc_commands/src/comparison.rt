@@ -13,7 +13,7 @@ ghost use Rattle.jc_trees.specs.ClassLists.{IsRecordList};
 ghost use Rattle.jc_words.specs.CommandView.{check_of};
 
 use crate::found::{Found, Judged, verdict_with_parts};
-use jc_facts::call_line::CallLine;
+use jc_call_kinds::call_line::CallLine;
 use jc_facts::class_facts::ClassFacts;
 use jc_facts::dropped::Dropped;
 use jc_facts::sig_note::SigNote;

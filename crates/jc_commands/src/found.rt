@@ -11,7 +11,7 @@ ghost use Rattle.jc_select.specs.DroppedWithin.{AreDroppedWithin, InterfacesStil
 
 use jc_acts::seats::Seats;
 use jc_call_lines::lines::lines_over;
-use jc_facts::call_line::CallLine;
+use jc_call_kinds::call_line::CallLine;
 use jc_facts::dropped::Dropped;
 use jc_facts::verdict::Verdict;
 use jc_releases::limits::{MAX_CALLS, MAX_DROPPED, MAX_FINDINGS};

@@ -1,7 +1,7 @@
 -- The objects of lines on calls.
 use Rattle.std.proofs.Common.{◌≡◌, false, None, refl}
 use Rattle.serde_json.specs.Written.{has_float}
-use Rattle.jc_facts.specs.declared.call_line.CallLine.{CallLine}
+use Rattle.jc_call_kinds.specs.declared.call_line.CallLine.{CallLine}
 use Rattle.jc_report.specs.CallForms.{call_value_of}
 use Rattle.jc_report.proofs.Floats.{member_plain}
 

@@ -1,9 +1,9 @@
 -- The printed forms of lines on calls, as bytes: lines, and JSON.
 use Rattle.std.specs.Prelude.{Bool, Option, None, List, [], ◌∷◌, ◌++◌, codes}
 use Rattle.serde_json.specs.Data.{Data, string, object}
-use Rattle.jc_facts.specs.declared.call_line.CallKind.{CallKind}
-use Rattle.jc_facts.specs.declared.call_line.CallKind.TheVariants.{Reference, Access, Constants}
-use Rattle.jc_facts.specs.declared.call_line.CallLine.{CallLine}
+use Rattle.jc_call_kinds.specs.declared.call_line.CallKind.{CallKind}
+use Rattle.jc_call_kinds.specs.declared.call_line.CallKind.TheVariants.{Reference, Access, Constants}
+use Rattle.jc_call_kinds.specs.declared.call_line.CallLine.{CallLine}
 use Rattle.jc_facts.specs.Names.{Bytes}
 use Rattle.jc_report.specs.Json.{member_or_null}
 use Rattle.jc_report.specs.Listing.{members_of, part_bytes}

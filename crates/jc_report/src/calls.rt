@@ -6,7 +6,7 @@ ghost use Rattle.jc_report.specs.CallForms.{word_of_call, line_of_call, call_val
 use crate::entry::Entry;
 use crate::json_values::{key_or_null_value, name_value};
 use crate::printed::{push_key_or_dash, push_printed};
-use jc_facts::call_line::{CallKind, CallLine};
+use jc_call_kinds::call_line::{CallKind, CallLine};
 use serde_json::{Value, json};
 use std::alloc::{AllocError, Global};
 

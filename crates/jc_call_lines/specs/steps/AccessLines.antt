@@ -1,7 +1,7 @@
 -- Lines on methods of interfaces that base classes have above them now.
 use Rattle.std.specs.Prelude.{Bool, Option, Some, ◌&&◌}
-use Rattle.jc_facts.specs.declared.call_line.CallKind.TheVariants.{Access}
-use Rattle.jc_facts.specs.declared.call_line.CallLine.{CallLine}
+use Rattle.jc_call_kinds.specs.declared.call_line.CallKind.TheVariants.{Access}
+use Rattle.jc_call_kinds.specs.declared.call_line.CallLine.{CallLine}
 use Rattle.jc_facts.specs.declared.key.Key.{Key}
 use Rattle.jc_facts.specs.Names.{Bytes}
 use Rattle.jc_facts.specs.Options.{some_where}

@@ -1,8 +1,8 @@
 -- Lines on classes of which a switch may list all values.
 use Rattle.std.specs.Prelude.{List, Option, None, map}
 use Rattle.std.specs.List.{filter}
-use Rattle.jc_facts.specs.declared.call_line.CallKind.TheVariants.{Constants}
-use Rattle.jc_facts.specs.declared.call_line.CallLine.{CallLine}
+use Rattle.jc_call_kinds.specs.declared.call_line.CallKind.TheVariants.{Constants}
+use Rattle.jc_call_kinds.specs.declared.call_line.CallLine.{CallLine}
 use Rattle.jc_facts.specs.declared.class_facts.ClassFacts.{ClassFacts}
 use Rattle.jc_facts.specs.Flags.{enum_flag}
 use Rattle.jc_facts.specs.Names.{Bytes}

@@ -1,7 +1,7 @@
 -- The lines on calls of one kind.
 use Rattle.std.specs.Prelude.{◌≡◌, ℕ, List, Option}
-use Rattle.jc_facts.specs.declared.call_line.CallKind.{CallKind}
-use Rattle.jc_facts.specs.declared.call_line.CallLine.{CallLine}
+use Rattle.jc_call_kinds.specs.declared.call_line.CallKind.{CallKind}
+use Rattle.jc_call_kinds.specs.declared.call_line.CallLine.{CallLine}
 use Rattle.jc_facts.specs.world.World.{World}
 use Rattle.jc_calls.specs.Lines.{LineStands, line_order}
 use Rattle.jc_sides.specs.Limit.{IsWithin}

@@ -2,7 +2,7 @@
 use Rattle.std.specs.Prelude.{◌≡◌, ◌<◌, ◌≤◌, ◌⊎◌, Bool, IsTrue, List, [], length, Option, None, Some, IfSome, IfOk, IfErr, option_map}
 use Rattle.std.specs.List.{All}
 use Rattle.jc_facts.specs.declared.rule_numbers.TheConstants.{CLASS_GONE}
-use Rattle.jc_facts.specs.declared.call_line.CallLine.{CallLine}
+use Rattle.jc_call_kinds.specs.declared.call_line.CallLine.{CallLine}
 use Rattle.jc_calls.specs.Lines.{AreLines}
 use Rattle.jc_call_lines.specs.LinesWithin.{ReferencesStill}
 use Rattle.jc_facts.specs.declared.dropped.Dropped.{Dropped}

@@ -1,6 +1,6 @@
 use Rattle.std.proofs.Common.{arith, inl, inr}
 use Rattle.jc_calls.specs.Lines.{line_order}
-use Rattle.jc_facts.specs.declared.call_line.CallKind.TheVariants.{Reference, Access}
+use Rattle.jc_call_kinds.specs.declared.call_line.CallKind.TheVariants.{Reference, Access}
 use Rattle.jc_call_lines.specs.steps.Kinds.{OfKind}
 use Rattle.jc_sides.proofs.Limits.{some_within, none_within}
 use Rattle.jc_call_lines.proofs.Joined.{OnMethod, accesses_later, joined, then_past}

@@ -1,7 +1,7 @@
 use Rattle.std.proofs.Common.{◌≡◌, false, length, take, map}
 use Rattle.jc_calls.specs.Lines.{line_order}
 use Rattle.jc_facts.specs.Exactly.{HasExactly}
-use Rattle.jc_facts.specs.declared.call_line.CallLine.{CallLine}
+use Rattle.jc_call_kinds.specs.declared.call_line.CallLine.{CallLine}
 use Rattle.jc_facts.proofs.Exactly.{OfNames}
 use Rattle.jc_sides.specs.Limit.{over}
 use Rattle.jc_sides.specs.SharedOf.{name_of}

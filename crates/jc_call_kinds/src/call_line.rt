@@ -1,5 +1,5 @@
 //! Lines on calls: what ends otherwise when it runs, though all that the verdict asks of still links.
-use crate::key::Key;
+use jc_facts::key::Key;
 use jc_base::name::Name;
 
 /// What a line on calls says of its class.
