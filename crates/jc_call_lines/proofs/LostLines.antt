@@ -70,7 +70,7 @@ is_rule = record {
   kept = λ s x c. kept_where (λ s x. is_steady s.old s.new x) steady_unkept s x c;
   on_covered = λ s are l h.
       let t = lost_where s l h in
-      let c : is_steady s.old s.new l.«class» ≡ true = (lost_parts s are l.«class» t.0 t.1).steady in
+      let c : is_steady s.old s.new l.«class» ≡ true = (lost_parts s l.«class» t.0 t.1).steady in
       (names-in s.old l.«class» (steady_parts s l.«class» c).both.there, c);
 }
   where
@@ -81,7 +81,7 @@ is_rule = record {
 
 -- its keys are among those that references found
 pub has_each : (s : SidesOf) → AreSides s → (x : Bytes) (keys : List Key) → HasAll (is_member members.OldMethods s x) keys → HasEachKey (lost_line s x) keys
-has_each s are x keys h k l e = h k (lost_found s are x k (made_where (reference_lost s.old s.new x k) (reference_line x k) l e).0)
+has_each s are x keys h k l e = h k (lost_found s x k (made_where (reference_lost s.old s.new x k) (reference_line x k) l e).0)
 
 -- nothing is lost of it
 pub none_lost : (s : SidesOf) (x : Bytes) (lines : List CallLine) → lines ≡ [] → ((k : Key) → reference_lost s.old s.new x k ≡ false) → HasExactly line_order (IsOf (λ (l : CallLine). l.«class») (OfReference s) x) lines
