@@ -18,7 +18,7 @@ use Rattle.jc_facts.specs.KeyOrder.{key_cmp}
 use Rattle.jc_facts.specs.Names.{Bytes}
 use Rattle.jc_facts.specs.Options.{some_where}
 use Rattle.jc_facts.specs.world.Assignment.{is_interface_of}
-use Rattle.jc_facts.specs.world.Hierarchy.{chain, superinterfaces}
+use Rattle.jc_facts.specs.world.Hierarchy.{chain}
 use Rattle.jc_facts.specs.world.Inheritance.{is_final_in_chain, offers}
 use Rattle.jc_facts.specs.world.Lookup.{are_none, first_declared, method_choices, or_choices, superinterface_choices}
 use Rattle.jc_facts.specs.world.World.{World, DeclaredMember}

@@ -15,15 +15,13 @@ use Rattle.jc_facts.specs.declared.act.Act.TheVariants as act
 use Rattle.jc_facts.specs.declared.class_facts.ClassFacts.{ClassFacts}
 use Rattle.jc_facts.specs.declared.key.Key.{Key}
 use Rattle.jc_facts.specs.declared.link_error.LinkError.{LinkError}
-use Rattle.jc_facts.specs.declared.link_error.LinkError.TheVariants.{IllegalAccessError, IncompatibleClassChangeError}
-use Rattle.jc_facts.specs.Flags.{static_flag, no_static_flag, final_flag, public_flag, interface_flag}
+use Rattle.jc_facts.specs.declared.link_error.LinkError.TheVariants.{IncompatibleClassChangeError}
+use Rattle.jc_facts.specs.Flags.{static_flag, no_static_flag, public_flag, interface_flag}
 use Rattle.jc_facts.specs.Names.{Bytes, object_name}
 use Rattle.jc_facts.specs.Options.{or_else, some_and}
 use Rattle.jc_facts.specs.client.Acts.{Form, MethodForm, InterfaceForm, form_of, is_act_on_static, is_put_act}
 use Rattle.jc_facts.specs.client.Outcome.{look_up, first_of, may_find}
-use Rattle.jc_facts.specs.world.Access.{is_member_open}
 use Rattle.jc_facts.specs.world.Assignment.{is_interface_of}
-use Rattle.jc_facts.specs.world.Loading.{fault_where}
 use Rattle.jc_facts.specs.world.Lookup.{are_none}
 use Rattle.jc_facts.specs.world.Modules.{is_visible}
 use Rattle.jc_facts.specs.world.World.{World, DeclaredMember, classes, find_class}

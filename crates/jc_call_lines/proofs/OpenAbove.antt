@@ -1,19 +1,15 @@
 -- Whether clients can name the classes of the methods that superinterfaces give.
-use Rattle.std.proofs.Common.{◌≡◌, Bool, true, false, cond, not, ◌||◌, ◌&&◌, ◌==◌, List, [], ◌∷◌, refl, sym, ◌∙◌, ap, Option, Some, None, ◌⊎◌, inl, inr}
+use Rattle.std.proofs.Common.{◌≡◌, Bool, true, false, cond, not, ◌||◌, ◌&&◌, ◌==◌, List, [], ◌∷◌, refl, sym, ◌∙◌, ap, Some, None, ◌⊎◌, inl, inr}
 use Rattle.std.specs.Prelude.{IsTrue}
 use Rattle.std.specs.List.{list_all, Contains}
 use Rattle.std.proofs.lemmas.Bool.{eqb-true, not-true}
-use Rattle.jc_facts.specs.declared.class_facts.ClassFacts.{ClassFacts}
 use Rattle.jc_facts.specs.declared.key.Key.{Key}
-use Rattle.jc_facts.specs.Flags.{abstract_flag, public_flag}
+use Rattle.jc_facts.specs.Flags.{abstract_flag}
 use Rattle.jc_facts.specs.Names.{Bytes, same}
-use Rattle.jc_facts.specs.Options.{some_and}
 use Rattle.jc_facts.specs.world.Loading.{load_fault}
 use Rattle.jc_facts.specs.world.Lookup.{only_or, superinterface_choices}
-use Rattle.jc_facts.specs.world.Modules.{is_visible}
-use Rattle.jc_facts.specs.world.World.{World, classes, differ_by_name, find_class, DeclaredMember}
+use Rattle.jc_facts.specs.world.World.{World, classes, differ_by_name, DeclaredMember}
 use Rattle.jc_facts.proofs.Same.{same_is, same_itself}
-use Rattle.jc_facts.proofs.World.{find-name}
 use Rattle.jc_index.specs.Ids.{name_at}
 use Rattle.jc_index.specs.Picks.{IsPick, methods_above}
 use Rattle.jc_index.specs.declared.ids.Found.{Found}

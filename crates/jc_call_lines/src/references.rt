@@ -20,8 +20,8 @@ ghost use Rattle.jc_call_lines.specs.steps.Openly.{choices_open, finds_public, A
 use crate::openly::{are_choices_open, are_open_above, finds_public};
 use jc_acts::members::method_closed;
 use jc_acts::seats::Seats;
-use jc_desc::names::is_initializer;
 use jc_call_kinds::call_line::{CallKind, CallLine};
+use jc_desc::names::is_initializer;
 use jc_facts::flags::is_interface;
 use jc_facts::key::Key;
 use jc_sides::classes::steady_classes;
@@ -68,12 +68,7 @@ fn is_declared_openly(
 
 // Whether the reference finds a method on the old side, and none that isn't public: then clients of each
 // seat could do the act, of which javac makes a handle.
-fn was_public(
-    sides: &Sides<'_>,
-    class: &Shared<'_>,
-    key: &Key,
-    numbers: &KeyNumbers,
-) -> bool
+fn was_public(sides: &Sides<'_>, class: &Shared<'_>, key: &Key, numbers: &KeyNumbers) -> bool
     requires class { IsShared sides.now «class».now }
     requires steady { IsTrue (is_steady sides.now.old sides.now.new (name_of «class».now)) }
     requires key { IsTrue (is_key_of_method key.now) }
@@ -85,12 +80,7 @@ fn was_public(
 
 // Whether clients could take a handle of an act apart and no longer can, where the class is of one kind
 // on both sides. Nearly all keys are done with the first test.
-fn is_handle_lost(
-    sides: &Sides<'_>,
-    class: &Shared<'_>,
-    key: &Key,
-    numbers: &KeyNumbers,
-) -> bool
+fn is_handle_lost(sides: &Sides<'_>, class: &Shared<'_>, key: &Key, numbers: &KeyNumbers) -> bool
     requires class { IsShared sides.now «class».now }
     requires steady { IsTrue (is_steady sides.now.old sides.now.new (name_of «class».now)) }
     requires kind { is_interface_of sides.now.old (name_of «class».now) ≡ is_interface_of sides.now.new (name_of «class».now) }
