@@ -217,15 +217,13 @@ module _ (O N : World) (alike : IsAlike O N) where
           ∙ abstract_never (is_some c.permits) (abstract_flag c.flags)
 
   no_line : (l : CallLine) → LineStands O N l → ⊥
-  no_line l h = go l.kind l.«class» l.key h
+  no_line l h = go l.kind l.«class» l.key l.target h
     where
-      go : (kind : CallKind) (x : Bytes) (k : Option Key) → is_due O N kind x k ≡ true → ⊥
-      go Reference x (Some k) d = contradicts (reference_lost O N x k) d (no_reference x k)
-      go Access x (Some k) d = contradicts (access_added O N x k) d (no_access x k)
-      go Constants x None d = contradicts (constants_added O N x) d (no_constants x)
-      go Reference x None d = let clash : false ≡ true = d in cc
-      go Access x None d = let clash : false ≡ true = d in cc
-      go Constants x (Some k) d = let clash : false ≡ true = d in cc
+      go : (kind : CallKind) (x : Bytes) (k : Option Key) (t : Option Bytes) → is_due O N kind x k t ≡ true → ⊥
+      go Reference x (Some k) None d = contradicts (reference_lost O N x k) d (no_reference x k)
+      go Access x (Some k) None d = contradicts (access_added O N x k) d (no_access x k)
+      go Constants x None None d = contradicts (constants_added O N x) d (no_constants x)
+      go kind x k t d = let clash : false ≡ true = d in cc
 
 -- ---- the lists
 

@@ -77,6 +77,7 @@ impl FromBroken for AccessLine {
             kind: CallKind::Access,
             class: class.copy(alloc)?,
             key: Some(key.copy(alloc)?),
+            target: None,
         };
         Ok(Some(AccessLine { line }))
     }

@@ -133,6 +133,7 @@ fn line(alloc: Global, class: &Shared<'_>, key: &Key) -> Result<CallLine, AllocE
         kind: CallKind::Reference,
         class: class.name.copy(alloc)?,
         key: Some(key.copy(alloc)?),
+        target: None,
     })
 }
 

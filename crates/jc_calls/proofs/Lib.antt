@@ -5,4 +5,5 @@ mod LostAccess
 mod Openly
 pub mod WorkedAccess
 pub mod WorkedConstants
+pub mod WorkedJoins
 pub mod WorkedReferences

@@ -16,7 +16,7 @@ changed_base s x = is_base_class s.old s.new x && may_be_closed s x
 
 -- the line on the class x and the key
 abbrev pub line_on : Bytes → Key → CallLine
-line_on x k = record { kind = Access; «class» = x; key = Some k }
+line_on x k = record { kind = Access; «class» = x; key = Some k; target = None }
 
 -- the same, where one is due
 abbrev pub access_line : SidesOf → Bytes → Key → Option CallLine

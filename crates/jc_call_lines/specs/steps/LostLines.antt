@@ -10,7 +10,7 @@ use Rattle.jc_sides.specs.SidesOf.{SidesOf}
 
 -- the line on the method of the key, named through the class x
 abbrev pub reference_line : Bytes → Key → CallLine
-reference_line x k = record { kind = Reference; «class» = x; key = Some k }
+reference_line x k = record { kind = Reference; «class» = x; key = Some k; target = None }
 
 -- the same, where its references are lost
 abbrev pub lost_line : SidesOf → Bytes → Key → Option CallLine
