@@ -1,4 +1,5 @@
 mod AccessKept
+mod JoinsKept
 mod Kept
 mod Lost
 mod LostAccess

@@ -5,6 +5,7 @@
 
 ghost use Rattle.jc_calls.specs.AccessKept.{AccessStays};
 ghost use Rattle.jc_calls.specs.CallsKept.{ReferencesStay};
+ghost use Rattle.jc_calls.specs.JoinsKept.{JoinsStay};
 ghost use Rattle.jc_calls.specs.Lost.{EachReferenceIsLost};
 ghost use Rattle.jc_calls.specs.LostAccess.{EachAccessIsLost};
 
@@ -28,4 +29,10 @@ pub fn each_access_is_lost()
 /// client's method refuses was refused before, or the seat's chain had the key as public.
 pub fn access_stays()
     ensures { AccessStays }
+{}
+
+/// Where the verdict has no finding, no superclass is lost where values of two classes met, and no collision is met, what the
+/// clients of a seat hold, and met others at a class that they can't name, is assignable to that (JVMS 4.10.1.2).
+pub fn joins_stay()
+    ensures { JoinsStay }
 {}
