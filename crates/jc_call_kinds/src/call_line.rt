@@ -1,6 +1,6 @@
 //! Lines on calls: what ends otherwise when it runs, though all that the verdict asks of still links.
-use jc_facts::key::Key;
 use jc_base::name::Name;
+use jc_facts::key::Key;
 
 /// What a line on calls says of its class.
 #[derive(Clone, Copy, PartialEq, Eq, PartialOrd, Ord, Debug, Drop)]

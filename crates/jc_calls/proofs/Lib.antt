@@ -3,6 +3,7 @@ mod JoinsKept
 mod Kept
 mod Lost
 mod LostAccess
+mod LostJoins
 mod Openly
 pub mod WorkedAccess
 pub mod WorkedConstants
