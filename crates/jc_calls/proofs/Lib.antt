@@ -1,7 +1,9 @@
 mod AccessKept
+mod JoinsKept
 mod Kept
 mod Lost
 mod LostAccess
+mod LostJoins
 mod Openly
 pub mod WorkedAccess
 pub mod WorkedConstants

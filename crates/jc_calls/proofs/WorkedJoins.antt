@@ -172,6 +172,18 @@ class_is_gone : let now = over (hidden Base object_name ∷ public p_A Base ∷ 
 unfolding meetings
 class_is_gone = (refl, refl)
 
+-- p/S, of which p/A gives objects, is gone: findings tell of the superclasses that clients can name, and a line of the other
+gives_none : let now = over (hidden Base object_name ∷ extending p_A Base [] (member (codes "give") (codes "()Lp/S;") 9 ∷ []) ∷ []) in
+    (join_lost (giving 9 Base) now p_S Base ≡ true) × (finding_at (giving 9 Base) now (on_target 4 p_S object_name) ≡ Some (exposed_finding 4 p_S (Some object_name) object_name VerifyError))
+unfolding meetings
+gives_none = (refl, refl)
+
+-- so it is where it is there, and doesn't load: java/lang/Object is above it still
+gives_unloadable : let now = over (hidden Base object_name ∷ extending p_A Base [] (member (codes "give") (codes "()Lp/S;") 9 ∷ []) ∷ record (hidden p_S object_name) { interfaces = codes "p/Gone" ∷ [] } ∷ []) in
+    (join_lost (giving 9 Base) now p_S Base ≡ true) × (finding_at (giving 9 Base) now (on_target 4 p_S object_name) ≡ None)
+unfolding meetings
+gives_unloadable = (refl, refl)
+
 -- ---- what isn't told
 
 -- p/S is exposed to the clients below p/A, and p/T to those below p/B, where one hands a value to the other

@@ -13,7 +13,6 @@ use Rattle.jc_facts.specs.Names.{Bytes}
 use Rattle.jc_facts.specs.world.World.{World, classes}
 use Rattle.jc_facts.specs.world.Assignment.{is_class_assignable}
 use Rattle.jc_facts.specs.world.Hierarchy.{chain, in_chain}
-use Rattle.jc_facts.specs.world.Loading.{loads}
 use Rattle.jc_promises.specs.rule.Exposed.{is_hidden}
 use Rattle.jc_promises.specs.rule.Findings.{finding_at, takes_part}
 use Rattle.jc_promises.specs.rule.OpenActs.{first_seat}
@@ -34,6 +33,6 @@ is_joined O N x t = is_some (first_seat O N (joins_for O N x t))
 abbrev pub is_found : World → World → Bytes → Bytes → Bool
 is_found O N x t = is_some (finding_at O N (record { rule = SUPERCLASS_LOST; «class» = x; key = None; target = Some t }))
 
--- clients can't name t, where values of x met others; x is still there and isn't assignable to it, and no finding on both tells so
+-- clients can't name t, where values of x met others; x isn't assignable to it any more, and no finding on both tells so
 unfoldable pub join_lost : World → World → Bytes → Bytes → Bool
-join_lost O N x t = is_hidden O t && is_joined O N x t && loads N x && not (is_class_assignable N x t) && not (is_found O N x t)
+join_lost O N x t = is_hidden O t && is_joined O N x t && not (is_class_assignable N x t) && not (is_found O N x t)
