@@ -7,8 +7,6 @@ use Rattle.std.specs.Prelude.{IsTrue}
 use Rattle.std.specs.List.{Contains, filter_map, list_any}
 use Rattle.std.specs.Cmp.{IsTotalOrder, then_total, on_total, first_so, second_so}
 use Rattle.std.specs.Cmp.Lexicographic.{nat_list_cmp_total, options_total}
-use Rattle.std.specs.Option.{option_cmp}
-use Rattle.std.specs.Ordering.{nat_cmp, ordering_then}
 use Rattle.std.proofs.lemmas.Bool.{or_cases, eqb-true}
 use Rattle.std.proofs.lemmas.Cmp.{nat_cmp_total}
 use Rattle.std.proofs.lemmas.List.Elements.{Contains-append_left, Contains-append_right}
@@ -18,8 +16,8 @@ use Rattle.jc_call_kinds.specs.declared.call_line.CallKind.TheVariants.{Referenc
 use Rattle.jc_call_kinds.specs.declared.call_line.CallLine.{CallLine}
 use Rattle.jc_facts.specs.declared.class_facts.ClassFacts.{ClassFacts}
 use Rattle.jc_facts.specs.declared.key.Key.{Key}
-use Rattle.jc_facts.specs.Exactly.{HasExactly, name_order}
-use Rattle.jc_facts.specs.KeyOrder.{key_cmp, key_total}
+use Rattle.jc_facts.specs.Exactly.{HasExactly}
+use Rattle.jc_facts.specs.KeyOrder.{key_total}
 use Rattle.jc_facts.specs.Names.{Bytes}
 use Rattle.jc_facts.specs.world.Hierarchy.{superinterfaces}
 use Rattle.jc_facts.specs.world.Inheritance.{is_inheritable, is_final_in_chain, offers}
@@ -31,6 +29,7 @@ use Rattle.jc_promises.specs.rule.Findings.{Subject}
 use Rattle.jc_promises.specs.rule.OpenActs.{act_fault, first_seat, method_acts}
 use Rattle.jc_calls.specs.Access.{access_added, is_called_above}
 use Rattle.jc_calls.specs.Constants.{constants_added}
+use Rattle.jc_calls.specs.Handles.{are_public}
 use Rattle.jc_calls.specs.Lines.{is_due, place_of, line_order, LineStands, AreLines}
 use Rattle.jc_calls.specs.References.{are_of_open, is_handle_lost, is_open_to_some, is_told, reference_lost}
 use Rattle.jc_facts.proofs.InOrder.{exact_same}
@@ -142,7 +141,9 @@ module _ (O N : World) where
             → list_any (declares_key k) (above O x) ≡ true
         go (inl p) r =
             seat_finds x k loaded what
-            (first_so (is_open_to_some O N x k what) (are_of_open O what x k) (first_so (is_open_to_some O N x k what && are_of_open O what x k) (not (are_of_open N what x k)) p))
+            (first_so (is_open_to_some O N x k what) (are_public O what x k)
+            (first_so (is_open_to_some O N x k what && are_public O what x k) (are_of_open O what x k)
+            (first_so (is_open_to_some O N x k what && are_public O what x k && are_of_open O what x k) (not (are_of_open N what x k)) p)))
         go (inr p) r = r p
 
     -- the parts of a subject, where the class is there and the key declared
