@@ -37,7 +37,6 @@ stands s x k l e =
     let p = made_where (reference_lost s.old s.new x k) (reference_line x k) l e in
     subst (λ (m : CallLine). IsOf (λ (n : CallLine). n.«class») (OfReference s) x m) p.1 (refl, (refl, p.0))
 
-
 made : (s : SidesOf) (l : CallLine) → OfReference s l → (k : Key) × (lost_line s l.«class» k ≡ Some l)
 made s l h = go l.key l.target refl refl (subst (λ c. is_due s.old s.new c l.«class» l.key l.target ≡ true) h.0 h.1)
   where
