@@ -1,5 +1,5 @@
 -- Lines on methods of interfaces that base classes have above them now.
-use Rattle.std.specs.Prelude.{Bool, Option, Some, ◌&&◌}
+use Rattle.std.specs.Prelude.{Bool, Option, None, Some, ◌&&◌}
 use Rattle.jc_call_kinds.specs.declared.call_line.CallKind.TheVariants.{Access}
 use Rattle.jc_call_kinds.specs.declared.call_line.CallLine.{CallLine}
 use Rattle.jc_facts.specs.declared.key.Key.{Key}

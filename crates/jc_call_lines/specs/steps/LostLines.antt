@@ -1,5 +1,5 @@
 -- Lines of references that are lost.
-use Rattle.std.specs.Prelude.{Option, Some}
+use Rattle.std.specs.Prelude.{Option, None, Some}
 use Rattle.jc_call_kinds.specs.declared.call_line.CallKind.TheVariants.{Reference}
 use Rattle.jc_call_kinds.specs.declared.call_line.CallLine.{CallLine}
 use Rattle.jc_facts.specs.declared.key.Key.{Key}
