@@ -56,6 +56,17 @@ public class CallsTest {
     }
 
     @Test
+    public void joinedClassesAreTold() throws Exception {
+        String[] beside = {"B:class B { }", "A:public class A extends B { }", "C:public class C extends A { }"};
+        Classes before = release("before", beside[0], beside[1], beside[2], "D:public class D extends B { }");
+        Classes now = release("now", beside[0], beside[1], beside[2], "D:public class D { }");
+        assertEquals(Arrays.asList("class D no longer extends B, which clients can't name: one that uses a D or another of its subclasses fails; keep it above both",
+                "Object o = isSo ? d : a;   // A extends B"), say(before, now, "call p/D p/B joined"));
+        assertEquals("Object o = isSo ? c : d;   // D extends B", say(before, now, "call p/C p/B joined").get(1));
+        assertTrue(say(before, release("gone", "A:public class A { }"), "call p/A p/B joined").get(0).startsWith("class B, above A, is gone, which clients can't name: "));
+    }
+
+    @Test
     public void newValuesAreNamed() throws Exception {
         Classes before = release("before", "A:public enum A { X, Z }");
         assertEquals(Arrays.asList("enum A has the constant Y now: a switch over all that were there fails when it meets another; give new ones only to clients that ask for them",
