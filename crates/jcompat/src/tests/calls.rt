@@ -5,6 +5,10 @@ const CALLS: &str = r#"$ check --calls --platform P --old O --new N
 : P java/lang/Object init
 #0 a method that moved to a class which clients can't name : O p/B flags=20 init | O p/A extends=p/B init method=1:run:()V | N p/B flags=20 init method=1:run:()V | N p/A extends=p/B init
 > compatible: 0 findings, 0 collisions, 0 notes | call p/A run()V reference
+#0 one of a class, to an interface of which that is so : O p/J flags=600 | O p/A implements=p/J init method=1:run:()V | N p/J flags=600 method=1:run:()V | N p/A implements=p/J init
+> compatible: 0 findings, 0 collisions, 0 notes
+#0 a protected one, of which javac makes a lambda : O p/B flags=20 init | O p/A extends=p/B init method=4:run:()V | N p/B flags=20 init method=4:run:()V | N p/A extends=p/B init
+> compatible: 0 findings, 0 collisions, 0 notes
 #0 the same as JSON : O p/B flags=20 init | O p/A extends=p/B init method=1:run:()V | N p/B flags=20 init method=1:run:()V | N p/A extends=p/B init
 $ check --calls --json --platform P --old O --new N
 > {"collisions":[],"findings":[],"notes":[],"verdict":"compatible"} | {"calls":[{"class":"p/A","kind":"reference","member":"run()V","target":null}]}
