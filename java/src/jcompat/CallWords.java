@@ -73,16 +73,7 @@ final class CallWords {
         Declaration hidden = hidden();
         String method = "method " + of.result + " " + type + "." + of.name + "(" + of.parameters() + ")"
                 + (hidden == null ? " comes from a class that clients can't name" : " moved to " + Names.simple(hidden.file.name) + ", which clients can't name");
-        return method + (breaksNobody(hidden) ? ": breaks no reference that javac made"
-                : hidden != null && hidden.isAbstract() ? ": declare it in " + type + " too" : ": leave a method " + of.name + " in " + type + " that calls it");
-    }
-
-    /** Of a protected method javac makes a lambda; and OpenJDK takes a class for the one that declares what it has from an interface. */
-    private boolean breaksNobody(Declaration hidden) {
-        Declaration before = oldRelease.declaration(line.type, line.member);
-        ClassFile now = newRelease.find(line.type);
-        boolean isFromInterface = hidden != null && hidden.file.is(ClassFile.INTERFACE) && now != null && !now.is(ClassFile.INTERFACE);
-        return isFromInterface || before != null && before.member.is(ClassFile.PROTECTED);
+        return method + (hidden != null && hidden.isAbstract() ? ": declare it in " + type + " too" : ": leave a method " + of.name + " in " + type + " that calls it");
     }
 
     /** The declaration that clients can't name; null where none is seen. */
@@ -102,7 +93,7 @@ final class CallWords {
     private String clientOfReference(String variable) {
         Declaration before = oldRelease.declaration(line.type, line.member);
         boolean isStatic = before != null && before.member.is(ClassFile.STATIC);
-        return breaksNobody(hidden()) ? "" : "takes(" + (isStatic ? type : variable) + "::" + Names.member(line.member) + ");";
+        return "takes(" + (isStatic ? type : variable) + "::" + Names.member(line.member) + ");";
     }
 
     // ---- less access
