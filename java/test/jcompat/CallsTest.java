@@ -33,10 +33,10 @@ public class CallsTest {
     @Test
     public void aReferenceTellsWhereTheMethodIs() throws Exception {
         String hidden = "H:class H { }";
-        Classes before = release("before", "A:public class A extends H { public static String m() { return null; } }", hidden,
-                "I:public interface I extends J { void draw(int n); }", "J:interface J { }");
-        Classes now = release("now", "A:public class A extends H { }", "H:class H { public static String m() { return null; } }",
-                "I:public interface I extends J { }", "J:interface J { void draw(int n); }");
+        Classes before = release("before", "A:public class A extends H { public static String m() { return null; } }", hidden, "I:public interface I extends J { void draw(int n); }",
+                "J:interface J { }");
+        Classes now = release("now", "A:public class A extends H { }", "H:class H { public static String m() { return null; } }", "I:public interface I extends J { }",
+                "J:interface J { void draw(int n); }");
         assertEquals(Arrays.asList("method String A.m() moved to H, which clients can't name: leave a method m in A that calls it", "takes(A::m);"),
                 say(before, now, "call p/A m()Ljava/lang/String; reference"));
         assertEquals(Arrays.asList("method void I.draw(int) moved to J, which clients can't name: declare it in I too", "takes(i::draw);"),
