@@ -1,7 +1,6 @@
 -- Worked examples of hidden interfaces that members take: a package-private p/I, which p/C no longer implements.
 use Rattle.std.proofs.Common.{◌≡◌, ℕ, true, false, List, [], ◌∷◌, refl, Some, codes}
 use Rattle.jc_facts.specs.declared.class_facts.ClassFacts.{ClassFacts}
-use Rattle.jc_facts.specs.declared.class_facts.Member.{Member}
 use Rattle.jc_facts.specs.Names.{Bytes, object_name}
 use Rattle.jc_facts.specs.world.World.{World}
 use Rattle.jc_promises.specs.rule.Bases.{is_steady}

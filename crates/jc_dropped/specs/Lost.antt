@@ -18,7 +18,7 @@ use Rattle.jc_facts.specs.client.Outcome.{Links}
 use Rattle.jc_facts.specs.client.Valid.{facts_of}
 use Rattle.jc_promises.specs.Pairs.{IsPair}
 use Rattle.jc_promises.specs.client.Scope.{IsInScope}
-use Rattle.jc_promises.specs.client.Reach.{is_opened_by, class_in_reach}
+use Rattle.jc_promises.specs.client.Reach.{class_in_reach}
 use Rattle.jc_promises.specs.client.Meets.{Meets}
 use Rattle.jc_promises.specs.rule.Bases.{allowed}
 use Rattle.jc_promises.specs.rule.Verdict.{IsVerdict}
@@ -30,11 +30,11 @@ pub record MayName (O N : World) (cs : List ClientClass) (c : ClientClass) (t : 
   pub old : Links (with_clients O (facts_of cs)) c.facts.name (item.Class t)
   pub new : Links (with_clients N (facts_of cs)) c.facts.name (item.Class t)
 
--- the client hands values of x over where t is asked for: with the old release x loads, and the client may name it or opens it itself, and it opens t
--- too, by a member that has t in its descriptor; and one of its items assigns x to t, which is Ok with both
+-- the client itself hands values of x over where t is asked for: with the old release it may name or opens each of the two classes, and one of its
+-- items assigns x to t, which is Ok with both
 pub record HandsOver (O N : World) (cs : List ClientClass) (c : ClientClass) (x t : Bytes) : Type 0 where
   pub holds : IsTrue (class_in_reach (with_clients O (facts_of cs)) c.facts.name (c ∷ []) x)
-  pub opens : IsTrue (is_opened_by (with_clients O (facts_of cs)) t c)
+  pub takes : IsTrue (class_in_reach (with_clients O (facts_of cs)) c.facts.name (c ∷ []) t)
   pub is_in : Contains c.items (item.Assign x t)
   pub old : Links (with_clients O (facts_of cs)) c.facts.name (item.Assign x t)
   pub new : Links (with_clients N (facts_of cs)) c.facts.name (item.Assign x t)
