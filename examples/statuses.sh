@@ -155,7 +155,7 @@ permits=(check --platform platform --old one --new two)
 missed=$'compatible: 0 findings, 0 collisions, 0 notes\ncall p/A - constants\n'
 see 'a call that nobody asks for' 0 "$compatible" '' "${permits[@]}"
 see 'a call' 0 "$missed" '' "${permits[@]}" --calls
-see 'a call, as JSON' 0 $'{"collisions":[],"findings":[],"notes":[],"verdict":"compatible"}\n{"calls":[{"class":"p/A","kind":"constants","member":null}]}\n' '' "${permits[@]}" --calls --json
+see 'a call, as JSON' 0 $'{"collisions":[],"findings":[],"notes":[],"verdict":"compatible"}\n{"calls":[{"class":"p/A","kind":"constants","member":null,"target":null}]}\n' '' "${permits[@]}" --calls --json
 see 'a call, last of the parts' 0 "$missed" '' "${permits[@]}" --calls --dropped --warn --signatures
 see 'the gate of calls, with all of its parts' 1 "$missed" '' "${permits[@]}" --warn --dropped --calls --gate calls
 check old --gate calls

@@ -42,6 +42,7 @@ use Rattle.jc_sound.proofs.Standing.{usable_parts}
 use Rattle.jc_calls.specs.Access.{access_added, allows_less_access, is_called_above, is_public_in_chain}
 use Rattle.jc_calls.specs.Constants.{constants_added, gets_constant, gets_objects, has_constant, permits_more}
 use Rattle.jc_calls.specs.Lines.{is_due, LineStands}
+use Rattle.jc_calls.specs.Handles.{are_public}
 use Rattle.jc_calls.specs.References.{are_of_open, is_handle_lost, is_of_open, is_open_to_some, is_told, reference_lost}
 use Rattle.jc_dropped.specs.Dropped.{is_held, asks_for, has_lost, loses_interface, loses_above, is_dropped, IsDropped}
 use Rattle.jc_dropped.proofs.Held.{held_loads}
@@ -53,7 +54,7 @@ use Rattle.jc_selection.proofs.Unchanged.{base_loads, part_loads, unchanged}
 use Rattle.jc_agree.proofs.EmptyRelease.{follows-not, find_old, find_alike, openly_alike, root_alike, still_loads}
 
 -- what the old side has, the new one has alike: of each class that loads with the old side what stands above it and what a reference to it finds, of each name the
--- class, and of each member whether clients can name its class
+-- class, and of each member that an act finds whether clients can name the class that is said to declare it
 pub record IsAlike (O N : World) : Type 0 where
   pub find : (x : Bytes) → load_fault O x ≡ None → find_class O x ≡ find_class N x
   pub chain : (x : Bytes) → load_fault O x ≡ None → chain O x ≡ chain N x
@@ -62,7 +63,7 @@ pub record IsAlike (O N : World) : Type 0 where
   pub records : (x : Bytes) (c d : ClassFacts) → find_class O x ≡ Some c → find_class N x ≡ Some d → c ≡ d
   pub methods : (x : Bytes) (k : Key) → load_fault O x ≡ None → method_choices O x k ≡ method_choices N x k
   pub interface_methods : (x : Bytes) (k : Key) → load_fault O x ≡ None → interface_choices O x k ≡ interface_choices N x k
-  pub openly : (m : DeclaredMember) (c : ClassFacts) → find_class O m.owner ≡ Some c → is_of_open O m ≡ is_of_open N m
+  pub openly : (what : Act) (m : DeclaredMember) (c : ClassFacts) → find_class O m.owner ≡ Some c → is_of_open O what m ≡ is_of_open N what m
 
 -- ---- signatures
 
@@ -172,27 +173,28 @@ own_permits None = refl
 own_permits (Some names) = any_none (λ x. not (is_name_among names x)) names (EachOf-map (λ x h. ap not h) names (among_each names))
 
 module _ (O N : World) (alike : IsAlike O N) where
-  all_openly : (k : Key) (ms : List DeclaredMember) → EachOf (IsDeclared O k) ms → list_all (is_of_open O) ms ≡ list_all (is_of_open N) ms
-  all_openly k [] h = refl
-  all_openly k (m ∷ ms) h = ap (λ b. b && list_all (is_of_open O) ms) (alike.openly m h.0.class h.0.is_there) ∙ ap (λ b. is_of_open N m && b) (all_openly k ms h.1)
+  module _ (what : Act) where
+    all_openly : (k : Key) (ms : List DeclaredMember) → EachOf (IsDeclared O k) ms → list_all (is_of_open O what) ms ≡ list_all (is_of_open N what) ms
+    all_openly k [] h = refl
+    all_openly k (m ∷ ms) h = ap (λ b. b && list_all (is_of_open O what) ms) (alike.openly what m h.0.class h.0.is_there) ∙ ap (λ b. is_of_open N what m && b) (all_openly k ms h.1)
 
-  by_method : (x : Bytes) (k : Key) → load_fault O x ≡ None → list_all (is_of_open O) (method_choices O x k) ≡ list_all (is_of_open N) (method_choices N x k)
-  by_method x k l = all_openly k (method_choices O x k) (method_choices-declared O x k l) ∙ ap (list_all (is_of_open N)) (alike.methods x k l)
+    by_method : (x : Bytes) (k : Key) → load_fault O x ≡ None → list_all (is_of_open O what) (method_choices O x k) ≡ list_all (is_of_open N what) (method_choices N x k)
+    by_method x k l = all_openly k (method_choices O x k) (method_choices-declared O x k l) ∙ ap (list_all (is_of_open N what)) (alike.methods x k l)
 
-  by_interface : (x : Bytes) (k : Key) → load_fault O x ≡ None → list_all (is_of_open O) (interface_choices O x k) ≡ list_all (is_of_open N) (interface_choices N x k)
-  by_interface x k l = all_openly k (interface_choices O x k) (interface_choices-declared O x k l) ∙ ap (list_all (is_of_open N)) (alike.interface_methods x k l)
+    by_interface : (x : Bytes) (k : Key) → load_fault O x ≡ None → list_all (is_of_open O what) (interface_choices O x k) ≡ list_all (is_of_open N what) (interface_choices N x k)
+    by_interface x k l = all_openly k (interface_choices O x k) (interface_choices-declared O x k l) ∙ ap (list_all (is_of_open N what)) (alike.interface_methods x k l)
 
   no_reference : (x : Bytes) (k : Key) → reference_lost O N x k ≡ false
   unfolding reference_lost
   no_reference x k = third_never (is_key_of_method k) (is_steady O N x) (list_any (is_handle_lost O N x k) method_acts) (not (is_told O N x k)) (λ steady.
       let l = steady_loads O N x steady in
       any_none (is_handle_lost O N x k) method_acts (
-        lost act.InvokeVirtual (by_method x k l),
-        (lost act.InvokeStatic (by_method x k l), (lost act.InvokeInterface (by_interface x k l), (lost act.InvokeStaticInterface (by_interface x k l), tt))),
+        lost act.InvokeVirtual (by_method act.InvokeVirtual x k l),
+        (lost act.InvokeStatic (by_method act.InvokeStatic x k l), (lost act.InvokeInterface (by_interface act.InvokeInterface x k l), (lost act.InvokeStaticInterface (by_interface act.InvokeStaticInterface x k l), tt))),
       ))
     where
       lost : (what : Act) → are_of_open O what x k ≡ are_of_open N what x k → is_handle_lost O N x k what ≡ false
-      lost what e = apart (is_open_to_some O N x k what) (are_of_open O what x k) (are_of_open N what x k) e
+      lost what e = apart (is_open_to_some O N x k what && are_public O what x k) (are_of_open O what x k) (are_of_open N what x k) e
 
   no_access : (x : Bytes) (k : Key) → access_added O N x k ≡ false
   unfolding access_added
@@ -215,15 +217,13 @@ module _ (O N : World) (alike : IsAlike O N) where
           ∙ abstract_never (is_some c.permits) (abstract_flag c.flags)
 
   no_line : (l : CallLine) → LineStands O N l → ⊥
-  no_line l h = go l.kind l.«class» l.key h
+  no_line l h = go l.kind l.«class» l.key l.target h
     where
-      go : (kind : CallKind) (x : Bytes) (k : Option Key) → is_due O N kind x k ≡ true → ⊥
-      go Reference x (Some k) d = contradicts (reference_lost O N x k) d (no_reference x k)
-      go Access x (Some k) d = contradicts (access_added O N x k) d (no_access x k)
-      go Constants x None d = contradicts (constants_added O N x) d (no_constants x)
-      go Reference x None d = let clash : false ≡ true = d in cc
-      go Access x None d = let clash : false ≡ true = d in cc
-      go Constants x (Some k) d = let clash : false ≡ true = d in cc
+      go : (kind : CallKind) (x : Bytes) (k : Option Key) (t : Option Bytes) → is_due O N kind x k t ≡ true → ⊥
+      go Reference x (Some k) None d = contradicts (reference_lost O N x k) d (no_reference x k)
+      go Access x (Some k) None d = contradicts (access_added O N x k) d (no_access x k)
+      go Constants x None None d = contradicts (constants_added O N x) d (no_constants x)
+      go kind x k t d = let clash : false ≡ true = d in cc
 
 -- ---- the lists
 
@@ -244,7 +244,7 @@ same_release O pair = lists_nothing O O (record {
   records = λ x c d f g. (let z : Some c ≡ Some d = sym f ∙ g in cc);
   methods = λ x k l. refl;
   interface_methods = λ x k l. refl;
-  openly = λ m c f. refl;
+  openly = λ what m c f. refl;
 })
 
 pub empty_release : EmptyReleaseLists

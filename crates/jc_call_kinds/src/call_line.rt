@@ -10,16 +10,21 @@ pub enum CallKind {
     /// A client's subclass that declares the key with less access than the interface asks, which the class
     /// now has above it, no longer answers calls of the interface (JVMS 6.5, `invokeinterface`).
     Access,
+    /// Values of the class and of another one no longer meet at the superclass, which clients can't name: a client
+    /// in whose code two such values meet is refused (JVMS 4.10.1.4).
+    Joined,
     /// A `switch` that lists all constants of the enum, or all subclasses that the class permits, misses one.
     Constants,
 }
 
-/// A change by which what clients do ends otherwise when it runs: the class, and the key where it is of one.
+/// A change by which what clients do ends otherwise when it runs: the class, the key where it is of one, and
+/// the superclass that values of the class no longer have, of `Joined` alone.
 ///
-/// They are ordered by kind, then by class, then by key.
+/// They are ordered by kind, then by class, then by key, then by superclass.
 #[derive(PartialEq, Eq, PartialOrd, Ord, Debug, Drop)]
 pub struct CallLine {
     pub kind: CallKind,
     pub class: Name,
     pub key: Option<Key>,
+    pub target: Option<Name>,
 }

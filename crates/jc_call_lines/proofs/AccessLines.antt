@@ -18,7 +18,7 @@ use Rattle.jc_facts.specs.KeyOrder.{key_cmp}
 use Rattle.jc_facts.specs.Names.{Bytes}
 use Rattle.jc_facts.specs.Options.{some_where}
 use Rattle.jc_facts.specs.world.Assignment.{is_interface_of}
-use Rattle.jc_facts.specs.world.Hierarchy.{chain, superinterfaces}
+use Rattle.jc_facts.specs.world.Hierarchy.{chain}
 use Rattle.jc_facts.specs.world.Inheritance.{is_final_in_chain, offers}
 use Rattle.jc_facts.specs.world.Lookup.{are_none, first_declared, method_choices, or_choices, superinterface_choices}
 use Rattle.jc_facts.specs.world.World.{World, DeclaredMember}
@@ -144,12 +144,13 @@ stands s x k l e =
     (ap (λ (c : CallLine). c.«class») (sym p.1), subst (OfKind Access s.old s.new) p.1 (refl, p.0))
 
 made : (s : SidesOf) (l : CallLine) → OfKind Access s.old s.new l → (k : Key) × (access_line s l.«class» k ≡ Some l)
-made s l h = go l.key refl (subst (λ k. IsTrue (is_due s.old s.new k l.«class» l.key)) h.0 h.1)
+made s l h = go l.key l.target refl refl (subst (λ k. IsTrue (is_due s.old s.new k l.«class» l.key l.target)) h.0 h.1)
   where
-    go : (o : Option Key) → l.key ≡ o → IsTrue (is_due s.old s.new Access l.«class» o) → (k : Key) × (access_line s l.«class» k ≡ Some l)
-    go None e t = absurd (let clash : false ≡ true = t in cc)
-    go (Some k) e t =
-        let is : line_on l.«class» k ≡ l = λ i. record { kind = sym h.0 i; «class» = l.«class»; key = sym e i } in
+    go : (o : Option Key) (p : Option Bytes) → l.key ≡ o → l.target ≡ p → IsTrue (is_due s.old s.new Access l.«class» o p) → (k : Key) × (access_line s l.«class» k ≡ Some l)
+    go None p e f t = absurd (let clash : false ≡ true = t in cc)
+    go (Some k) (Some p) e f t = absurd (let clash : false ≡ true = t in cc)
+    go (Some k) None e f t =
+        let is : line_on l.«class» k ≡ l = λ i. record { kind = sym h.0 i; «class» = l.«class»; key = sym e i; target = sym f i } in
         (k, ap (λ (b : Bool). some_where b (line_on l.«class» k)) t ∙ ap Some is)
 
 key_before : (x : Bytes) (k j : Key) → key_cmp k j ≡ Less → line_order (line_on x k) (line_on x j) ≡ Less

@@ -1,17 +1,16 @@
 -- What a reference may find is the one method that stands before the superinterfaces, or what these give.
-use Rattle.std.proofs.Common.{◌≡◌, ◌<◌, ℕ, Bool, true, false, not, ◌||◌, ◌==◌, List, [], ◌∷◌, refl, sym, ◌∙◌, ap, subst, Option, Some, None, ◌⊎◌, inl, inr}
+use Rattle.std.proofs.Common.{◌≡◌, ◌<◌, ℕ, Bool, true, false, not, ◌||◌, ◌&&◌, ◌==◌, List, [], ◌∷◌, refl, sym, ◌∙◌, ap, subst, Option, Some, None, ◌⊎◌, inl, inr}
 use Rattle.std.specs.List.{list_all, Contains}
 use Rattle.std.proofs.lemmas.Bool.{or_cases, eqb-true, not-true}
-use Rattle.jc_calls.specs.References.{is_of_open}
 use Rattle.jc_facts.specs.declared.class_facts.ClassFacts.{ClassFacts}
 use Rattle.jc_facts.specs.declared.key.Key.{Key}
-use Rattle.jc_facts.specs.Flags.{interface_flag}
+use Rattle.jc_facts.specs.Flags.{interface_flag, public_flag}
 use Rattle.jc_facts.specs.Names.{Bytes, same, object_name}
 use Rattle.jc_facts.specs.Options.{or_else, and_then, some_and}
 use Rattle.jc_facts.specs.world.Assignment.{is_interface_of}
 use Rattle.jc_facts.specs.world.Hierarchy.{chain, of_super, is_superinterface}
 use Rattle.jc_facts.specs.world.Loading.{load_fault}
-use Rattle.jc_facts.specs.world.Lookup.{first_declared, or_choices, method_choices, interface_choices, superinterface_choices, public_method_of_object}
+use Rattle.jc_facts.specs.world.Lookup.{first_declared, or_choices, method_choices, interface_choices, superinterface_choices, public_method_of_object, are_none}
 use Rattle.jc_facts.specs.world.Search.{supers, supers_of}
 use Rattle.jc_facts.specs.world.World.{World, size, find_class, own_method_of, declared_method, found_in, DeclaredMember}
 use Rattle.jc_facts.proofs.Options.{or_else-cases}
@@ -23,18 +22,21 @@ use Rattle.jc_index.specs.Sides.{IsSide}
 use Rattle.jc_index.specs.declared.ids.Found.{Found}
 use Rattle.jc_index.proofs.Aboves.{same_number}
 use Rattle.jc_index.proofs.Choices.{IsOne, one_of, choices_declared}
-use Rattle.jc_index.proofs.Sides.{root_at}
+use Rattle.jc_index.proofs.Sides.{root_at, side_valid}
 use Rattle.jc_index.proofs.Strictly.{above_good, no_circle}
 use Rattle.jc_lemmas.proofs.Bools.{contradicts, neither_first, neither_last}
-use Rattle.jc_lemmas.proofs.Listed.{EachOf, each_in, here, there}
+use Rattle.jc_lemmas.proofs.Listed.{EachOf, EachOf-map, each_from, each_in, here, there, none}
 use Rattle.jc_rows.specs.Rows.{choices_by, lookup_choices}
 use Rattle.jc_rows.specs.steps.Fronts.{front_by, front_method}
 use Rattle.jc_rows.proofs.MethodsAbove.{owner_of, the_one, super_is_class, of_object}
 use Rattle.jc_worlds.proofs.Above.{chain-each}
+use Rattle.jc_promises.specs.rule.Bases.{is_key_of_method}
+use Rattle.jc_desc.specs.Names.{is_init_name, is_clinit_name}
+use Rattle.jc_worlds.proofs.Inherited.{superinterface_choices-public}
 use Rattle.jc_worlds.proofs.Loaded.{loads-parts, loads-induction}
 use Rattle.jc_worlds.proofs.Unrolled.{chain-unroll}
-use Rattle.jc_call_lines.specs.steps.Openly.{open_class, choices_open}
-use Rattle.jc_call_lines.proofs.OpenAbove.{not_all, only_last, of_open}
+use Rattle.jc_call_lines.specs.steps.Openly.{open_class, is_owner_open, owners_open, is_said_open, choices_open, finds_public}
+use Rattle.jc_call_lines.proofs.OpenAbove.{all_each, not_all, only_last}
 
 -- ---- the front
 
@@ -120,8 +122,8 @@ module _ (W : World) where
 
     module _ (f : Found) (c : IsChoice W (Some f) (lookup_choices W x k)) where
       -- its class is one that clients can't name
-      pub one_shut : open_class W (name_at W f.owner) ≡ false → false ≡ choices_open W x k
-      one_shut e = sym (not_all (is_of_open W) (lookup_choices W x k) c.0 c.1 (of_open W c.0 ∙ ap (open_class W) (sym c.2.owner) ∙ e))
+      pub one_shut : open_class W (name_at W f.owner) ≡ false → false ≡ owners_open W x k
+      one_shut e = sym (not_all (is_owner_open W) (lookup_choices W x k) c.0 c.1 (ap (open_class W) (sym c.2.owner) ∙ e))
 
       -- it isn't one of a superinterface
       below : (name_at W f.owner ≡ x) ⊎ (is_interface_of W (name_at W f.owner) ≡ false) → (m : DeclaredMember) → Contains (superinterface_choices W x k) m → IsFound W f m → ⊥
@@ -140,12 +142,12 @@ module _ (W : World) where
           go (inr n) = contradicts (is_interface_of W (name_at W f.owner)) (above_good W x (name_at W f.owner) loads up).1 n
           go (inl e) = no_circle W side x loads (subst (λ y. is_interface_of W y ≡ true) e (above_good W x (name_at W f.owner) loads up).1) (subst (λ y. is_superinterface W x y ≡ true) e up)
 
-      pub front_can : open_class W (name_at W f.owner) ≡ true → (name_at W f.owner ≡ x) ⊎ (is_interface_of W (name_at W f.owner) ≡ false) → true ≡ choices_open W x k
+      pub front_can : open_class W (name_at W f.owner) ≡ true → (name_at W f.owner ≡ x) ⊎ (is_interface_of W (name_at W f.owner) ≡ false) → true ≡ owners_open W x k
       unfolding or_choices
-      front_can o t = sym (ap (list_all (is_of_open W)) (front_or W x k) ∙ go (front_method W x k) (subst (IsChoice W (Some f)) (front_or W x k) c))
+      front_can o t = sym (ap (list_all (is_owner_open W)) (front_or W x k) ∙ go (front_method W x k) (subst (IsChoice W (Some f)) (front_or W x k) c))
         where
-          go : (v : Option DeclaredMember) → IsChoice W (Some f) (or_choices v (superinterface_choices W x k)) → list_all (is_of_open W) (or_choices v (superinterface_choices W x k)) ≡ true
-          go (Some m) h = only_last (is_of_open W m) ∙ of_open W m ∙ ap (open_class W) (sym (the_one W f m (superinterface_choices W x k) h).owner) ∙ o
+          go : (v : Option DeclaredMember) → IsChoice W (Some f) (or_choices v (superinterface_choices W x k)) → list_all (is_owner_open W) (or_choices v (superinterface_choices W x k)) ≡ true
+          go (Some m) h = only_last (is_owner_open W m) ∙ ap (open_class W) (sym (the_one W f m (superinterface_choices W x k) h).owner) ∙ o
           go None h = absurd (below t h.0 h.1 h.2)
 
       -- it is one
@@ -164,15 +166,15 @@ module _ (W : World) where
 -- ---- by numbers
 
 module _ (W : World) (side : IsSide W) (a : ℕ) (l : a < size W) (loads : load_fault W (name_at W a) ≡ None) (k : Key) (f : Found) (c : IsChoice W (Some f) (lookup_choices W (name_at W a) k)) (below : f.owner < size W) where
-  pub front_said : (b : Bool) → b ≡ (f.owner == a || not (is_interface_of W (name_at W f.owner))) → b ≡ true → open_class W (name_at W f.owner) ≡ true → true ≡ choices_open W (name_at W a) k
+  pub front_said : (b : Bool) → b ≡ (f.owner == a || not (is_interface_of W (name_at W f.owner))) → b ≡ true → open_class W (name_at W f.owner) ≡ true → true ≡ owners_open W (name_at W a) k
   front_said b e t o = front_can W side (name_at W a) loads k f c o (go (or_cases (f.owner == a) (not (is_interface_of W (name_at W f.owner))) (sym e ∙ t)))
     where
       go : ((f.owner == a) ≡ true) ⊎ (not (is_interface_of W (name_at W f.owner)) ≡ true) → (name_at W f.owner ≡ name_at W a) ⊎ (is_interface_of W (name_at W f.owner) ≡ false)
       go (inl p) = inl (ap (name_at W) (eqb-true f.owner a p))
       go (inr p) = inr (not-true (is_interface_of W (name_at W f.owner)) p)
 
-  pub above_said : (b r : Bool) → b ≡ (f.owner == a || not (is_interface_of W (name_at W f.owner))) → b ≡ false → r ≡ list_all (is_of_open W) (superinterface_choices W (name_at W a) k) → r ≡ choices_open W (name_at W a) k
-  above_said b r e t h = h ∙ sym (ap (list_all (is_of_open W)) (above_only W side (name_at W a) loads k f c other kind))
+  pub above_said : (b r : Bool) → b ≡ (f.owner == a || not (is_interface_of W (name_at W f.owner))) → b ≡ false → r ≡ list_all (is_owner_open W) (superinterface_choices W (name_at W a) k) → r ≡ owners_open W (name_at W a) k
+  above_said b r e t h = h ∙ sym (ap (list_all (is_owner_open W)) (above_only W side (name_at W a) loads k f c other kind))
     where
       n : (f.owner == a || not (is_interface_of W (name_at W f.owner))) ≡ false
       n = sym e ∙ t
@@ -187,9 +189,65 @@ module _ (W : World) (side : IsSide W) (a : ℕ) (l : a < size W) (loads : load_
           go true q p = refl
           go false q p = absurd (let clash : true ≡ false = p in cc)
 
-  pub shut_said : (b : Bool) → b ≡ open_class W (name_at W f.owner) → b ≡ false → false ≡ choices_open W (name_at W a) k
+  pub shut_said : (b : Bool) → b ≡ open_class W (name_at W f.owner) → b ≡ false → false ≡ owners_open W (name_at W a) k
   shut_said b e t = one_shut W side (name_at W a) loads k f c (sym e ∙ t)
 
 -- nothing is found
 pub nothing_found : (W : World) (x : Bytes) (k : Key) → IsChoice W None (lookup_choices W x k) → true ≡ choices_open W x k
-nothing_found W x k h = sym (ap (list_all (is_of_open W)) h)
+nothing_found W x k h = sym (ap (list_all (is_said_open (is_interface_of W x) W)) h)
+
+-- ---- of references to an interface
+
+pub interface_said : (W : World) (x : Bytes) (k : Key) (b r : Bool) → b ≡ is_interface_of W x → b ≡ true → r ≡ owners_open W x k → r ≡ choices_open W x k
+interface_said W x k b r e t h = h ∙ ap (λ c. list_all (λ m. is_said_open c W m) (lookup_choices W x k)) (sym t ∙ e)
+
+-- ---- of references to a class
+
+module _ (W : World) (x : Bytes) (loads : load_fault W x ≡ None) (k : Key) where
+  -- what superinterfaces give is of interfaces
+  pub above_kind : (m : DeclaredMember) → Contains (superinterface_choices W x k) m → is_interface_of W m.owner ≡ true
+  above_kind m h =
+      let i : IsOne W x loads k m = one_of W x loads k m (choices_declared W x k m h) in
+      ap (is_interface_of W) (sym i.name) ∙ (above_good W x (name_at W i.number) loads i.above).1
+
+  pub above_said_open : list_all (is_said_open false W) (superinterface_choices W x k) ≡ true
+  above_said_open = all_each (is_said_open false W) (superinterface_choices W x k)
+      (each_from (λ m. is_said_open false W m ≡ true) (superinterface_choices W x k) (λ m h. ap (λ b. b || is_owner_open W m) (above_kind m h)))
+
+  -- one that may be found decides
+  class_said : (f : Found) → IsChoice W (Some f) (lookup_choices W x k) → is_interface_of W x ≡ false → (is_interface_of W (name_at W f.owner) || open_class W (name_at W f.owner)) ≡ choices_open W x k
+  unfolding or_choices
+  class_said f c i = sym (ap (λ b. list_all (is_said_open b W) (lookup_choices W x k)) i ∙ ap (list_all (is_said_open false W)) (front_or W x k) ∙ go (front_method W x k) (subst (IsChoice W (Some f)) (front_or W x k) c))
+    where
+      go : (v : Option DeclaredMember) → IsChoice W (Some f) (or_choices v (superinterface_choices W x k)) → list_all (is_said_open false W) (or_choices v (superinterface_choices W x k)) ≡ (is_interface_of W (name_at W f.owner) || open_class W (name_at W f.owner))
+      go (Some m) h = only_last (is_said_open false W m) ∙ ap (λ y. is_interface_of W y || open_class W y) (sym (the_one W f m (superinterface_choices W x k) h).owner)
+      go None h = above_said_open ∙ sym (ap (λ b. b || open_class W (name_at W f.owner)) (ap (is_interface_of W) h.2.owner ∙ above_kind h.0 h.1))
+
+  pub by_owner : (f : Found) → IsChoice W (Some f) (lookup_choices W x k) → (b r : Bool) → b ≡ is_interface_of W x → b ≡ false → r ≡ (is_interface_of W (name_at W f.owner) || open_class W (name_at W f.owner)) → r ≡ choices_open W x k
+  by_owner f c b r e t h = h ∙ class_said f c (sym e ∙ t)
+
+-- ---- what is public
+
+module _ (W : World) (side : IsSide W) (x : Bytes) (loads : load_fault W x ≡ None) (k : Key) (method : is_key_of_method k ≡ true) where
+  abbrev is_open : DeclaredMember → Bool
+  is_open m = public_flag m.member.flags
+
+  above_public : EachOf (λ m. is_open m ≡ true) (superinterface_choices W x k)
+  above_public = EachOf-map (λ m p. p.0) (superinterface_choices W x k) (superinterface_choices-public W (side_valid W side) x k loads (neither_last (is_init_name k.name) (is_clinit_name k.name) (not-true (is_init_name k.name || is_clinit_name k.name) method)))
+
+  some_there : (ms : List DeclaredMember) (m : DeclaredMember) → Contains ms m → not (are_none ms) ≡ true
+  some_there [] m h = absurd (none m h)
+  some_there (n ∷ ms) m h = refl
+
+  pub public_said : (f : Found) → IsChoice W (Some f) (lookup_choices W x k) → public_flag f.flags ≡ finds_public W x k
+  unfolding or_choices
+  public_said f c = sym (ap (λ ms. not (are_none ms) && list_all is_open ms) (front_or W x k) ∙ go (front_method W x k) (subst (IsChoice W (Some f)) (front_or W x k) c))
+    where
+      go : (v : Option DeclaredMember) → IsChoice W (Some f) (or_choices v (superinterface_choices W x k)) → (not (are_none (or_choices v (superinterface_choices W x k))) && list_all is_open (or_choices v (superinterface_choices W x k))) ≡ public_flag f.flags
+      go (Some m) h = only_last (is_open m) ∙ ap public_flag (sym (the_one W f m (superinterface_choices W x k) h).flags)
+      go None h =
+          ap (λ b. b && list_all is_open (superinterface_choices W x k)) (some_there (superinterface_choices W x k) h.0 h.1) ∙ all_each is_open (superinterface_choices W x k) above_public
+          ∙ sym (ap public_flag h.2.flags ∙ each_in (λ m. is_open m ≡ true) (superinterface_choices W x k) h.0 above_public h.1)
+
+  pub nothing_public : IsChoice W None (lookup_choices W x k) → false ≡ finds_public W x k
+  nothing_public h = sym (ap (λ ms. not (are_none ms) && list_all is_open ms) h)

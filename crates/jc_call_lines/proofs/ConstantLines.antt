@@ -102,7 +102,7 @@ module _ (s : SidesOf) (x : Bytes) where
 -- ---- the line on a class
 
 abbrev line : Bytes → CallLine
-line x = record { kind = Constants; «class» = x; key = None }
+line x = record { kind = Constants; «class» = x; key = None; target = None }
 
 pub no_line : (s : SidesOf) (x : Bytes) (b : Bool) → b ≡ constants_added s.old s.new x → b ≡ false → None ≡ constants_line s x
 no_line s x b e f = ap (λ (p : Bool). some_where p (line x)) (sym f ∙ e)
@@ -127,18 +127,19 @@ module _ (s : SidesOf) where
       let p = made_where (constants_added s.old s.new x) (line x) f e in
       subst (OfKind Constants s.old s.new) p.1 (refl, p.0)
 
-  of_class : (f : CallLine) → OfKind Constants s.old s.new f → (f.key ≡ None) × (constants_added s.old s.new f.«class» ≡ true)
-  of_class f h = go f.key (subst (λ k. IsTrue (is_due s.old s.new k f.«class» f.key)) h.0 h.1)
+  of_class : (f : CallLine) → OfKind Constants s.old s.new f → (f.key ≡ None) × (f.target ≡ None) × (constants_added s.old s.new f.«class» ≡ true)
+  of_class f h = go f.key f.target (subst (λ k. IsTrue (is_due s.old s.new k f.«class» f.key f.target)) h.0 h.1)
     where
-      go : (k : Option Key) → IsTrue (is_due s.old s.new Constants f.«class» k) → (k ≡ None) × (constants_added s.old s.new f.«class» ≡ true)
-      go None t = (refl, t)
-      go (Some k) t = absurd (let clash : false ≡ true = t in cc)
+      go : (k : Option Key) (t : Option Bytes) → IsTrue (is_due s.old s.new Constants f.«class» k t) → (k ≡ None) × (t ≡ None) × (constants_added s.old s.new f.«class» ≡ true)
+      go None None h = (refl, refl, h)
+      go None (Some t) h = absurd (let clash : false ≡ true = h in cc)
+      go (Some k) t h = absurd (let clash : false ≡ true = h in cc)
 
   gives : (f : CallLine) → OfKind Constants s.old s.new f → constants_line s f.«class» ≡ Some f
   gives f h =
       let p = of_class f h in
-      let is : line f.«class» ≡ f = λ i. record { kind = sym h.0 i; «class» = f.«class»; key = sym p.0 i } in
-      ap (λ (b : Bool). some_where b (line f.«class»)) p.1 ∙ ap Some is
+      let is : line f.«class» ≡ f = λ i. record { kind = sym h.0 i; «class» = f.«class»; key = sym p.0 i; target = sym p.1 i } in
+      ap (λ (b : Bool). some_where b (line f.«class»)) p.2 ∙ ap Some is
 
   steady : (x : Bytes) → constants_added s.old s.new x ≡ true → is_steady s.old s.new x ≡ true
   unfolding constants_added
@@ -148,7 +149,7 @@ module _ (s : SidesOf) where
   exact side = exact_given line_order (constants_line s) later (OfKind Constants s.old s.new) (names s.old) (names-rise s.old side.differ) (λ x f c e. stands x f e) complete
     where
       complete : (f : CallLine) → OfKind Constants s.old s.new f → Gives (constants_line s) (names s.old) f
-      complete f h = record { place = f.«class»; is_in = names-in s.old f.«class» ((steady_parts s f.«class» (steady f.«class» (of_class f h).1)).both.there); gives = gives f h }
+      complete f h = record { place = f.«class»; is_in = names-in s.old f.«class» ((steady_parts s f.«class» (steady f.«class» (of_class f h).2)).both.there); gives = gives f h }
 
   -- one more class; the table's world is the old side's
   pub one_more : (W : World) → W ≡ s.old → (n k : ℕ) (fs gs : List CallLine) (o : Option CallLine) → n < size W → some_where (nat_lt n (size W)) n ≡ Some k → fs ≡ filter_map (constants_line s) (take n (names s.old))

@@ -1,12 +1,12 @@
 -- Lines of one kind behind those of others.
-use Rattle.std.proofs.Common.{◌≡◌, ◌<◌, ◌++◌, ℕ, false, List, length, refl, sym, ◌∙◌, ap, subst, Option, ◌⊎◌, inl, inr, arith}
+use Rattle.std.proofs.Common.{◌≡◌, ◌<◌, ◌++◌, ℕ, true, false, List, length, refl, sym, ◌∙◌, ap, subst, Option, ◌⊎◌, inl, inr, arith}
 use Rattle.std.specs.Cmp.{nat_cmp_is}
 use Rattle.std.specs.declared.cmp.Ordering.{Ordering}
 use Rattle.std.specs.declared.cmp.Ordering.TheVariants.{Less}
-use Rattle.jc_calls.specs.Lines.{line_order, place_of, LineStands}
+use Rattle.jc_calls.specs.Lines.{is_due, line_order, place_of, LineStands}
 use Rattle.jc_facts.specs.Exactly.{HasExactly}
 use Rattle.jc_call_kinds.specs.declared.call_line.CallKind.{CallKind}
-use Rattle.jc_call_kinds.specs.declared.call_line.CallKind.TheVariants.{Reference, Access, Constants}
+use Rattle.jc_call_kinds.specs.declared.call_line.CallKind.TheVariants.{Reference, Access, Joined, Constants}
 use Rattle.jc_call_kinds.specs.declared.call_line.CallLine.{CallLine}
 use Rattle.jc_facts.specs.world.World.{World}
 use Rattle.jc_facts.proofs.InOrder.{exact_same, exact_append}
@@ -76,4 +76,5 @@ module _ (O N : World) where
       go : (c : CallKind) → l.kind ≡ c → OnMethod l ⊎ OnClass l
       go Reference e = inl (inl (e, h))
       go Access e = inl (inr (e, h))
+      go Joined e = absurd (let clash : false ≡ true = subst (λ (k : CallKind). is_due O N k l.«class» l.key l.target ≡ true) e h in cc)
       go Constants e = inr (e, h)

@@ -22,7 +22,7 @@ use Rattle.jc_call_lines.specs.LinesWithin.{AreLinesWithin, ReferencesStill}
 use Rattle.jc_call_lines.specs.steps.LostLines.{reference_line}
 
 line_total : IsTotalOrder line_order
-line_total = then_total (on_total (λ (l : CallLine). place_of l.kind) nat_cmp_total) (then_total (on_total (λ (l : CallLine). l.«class») nat_list_cmp_total) (on_total (λ (l : CallLine). l.key) (options_total key_total)))
+line_total = then_total (on_total (λ (l : CallLine). place_of l.kind) nat_cmp_total) (then_total (on_total (λ (l : CallLine). l.«class») nat_list_cmp_total) (then_total (on_total (λ (l : CallLine). l.key) (options_total key_total)) (on_total (λ (l : CallLine). l.target) (options_total nat_list_cmp_total))))
 
 pub within : (O N : World) (most : ℕ) (o : Option (List CallLine)) → IsWithin line_order (LineStands O N) (Some most) o → AreLinesWithin O N most o
 within O N most (Some ls) h = (h.0, ltb-false most (length ls) h.1)

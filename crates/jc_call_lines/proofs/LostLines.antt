@@ -9,7 +9,6 @@ use Rattle.jc_facts.specs.Exactly.{Before, HasExactly}
 use Rattle.jc_facts.specs.KeyOrder.{key_cmp}
 use Rattle.jc_facts.specs.Names.{Bytes}
 use Rattle.jc_facts.specs.Options.{some_where}
-use Rattle.jc_call_kinds.specs.declared.call_line.CallKind.{CallKind}
 use Rattle.jc_call_kinds.specs.declared.call_line.CallKind.TheVariants.{Reference}
 use Rattle.jc_call_kinds.specs.declared.call_line.CallLine.{CallLine}
 use Rattle.jc_facts.specs.declared.key.Key.{Key}
@@ -38,19 +37,15 @@ stands s x k l e =
     let p = made_where (reference_lost s.old s.new x k) (reference_line x k) l e in
     subst (λ (m : CallLine). IsOf (λ (n : CallLine). n.«class») (OfReference s) x m) p.1 (refl, (refl, p.0))
 
--- a line of a kind, a class and maybe a key
-line : CallKind → Bytes → Option Key → CallLine
-line kind x k = record { kind = kind; «class» = x; key = k }
-
 made : (s : SidesOf) (l : CallLine) → OfReference s l → (k : Key) × (lost_line s l.«class» k ≡ Some l)
-unfolding line
-made s l h = go l.key refl (subst (λ c. is_due s.old s.new c l.«class» l.key ≡ true) h.0 h.1)
+made s l h = go l.key l.target refl refl (subst (λ c. is_due s.old s.new c l.«class» l.key l.target ≡ true) h.0 h.1)
   where
-    go : (o : Option Key) → l.key ≡ o → is_due s.old s.new Reference l.«class» l.key ≡ true → (k : Key) × (lost_line s l.«class» k ≡ Some l)
-    go None e d = absurd (let clash : false ≡ true = ap (is_due s.old s.new Reference l.«class») (sym e) ∙ d in cc)
-    go (Some k) e d =
-        let t : reference_lost s.old s.new l.«class» k ≡ true = ap (is_due s.old s.new Reference l.«class») (sym e) ∙ d in
-        (k, ap (λ b. some_where b (reference_line l.«class» k)) t ∙ ap (λ o. Some (line Reference l.«class» o)) (sym e) ∙ ap (λ c. Some (line c l.«class» l.key)) (sym h.0))
+    go : (o : Option Key) (p : Option Bytes) → l.key ≡ o → l.target ≡ p → is_due s.old s.new Reference l.«class» o p ≡ true → (k : Key) × (lost_line s l.«class» k ≡ Some l)
+    go None p e f d = absurd (let clash : false ≡ true = d in cc)
+    go (Some k) (Some p) e f d = absurd (let clash : false ≡ true = d in cc)
+    go (Some k) None e f d =
+        let is : reference_line l.«class» k ≡ l = λ i. record { kind = sym h.0 i; «class» = l.«class»; key = sym e i; target = sym f i } in
+        (k, ap (λ b. some_where b (reference_line l.«class» k)) d ∙ ap Some is)
 
 key_before : (x : Bytes) (k l : Key) → key_cmp k l ≡ Less → line_order (reference_line x k) (reference_line x l) ≡ Less
 key_before x k l h = rw (tied_itself nat_list_cmp_total x, h) refl
@@ -70,7 +65,7 @@ is_rule = record {
   kept = λ s x c. kept_where (λ s x. is_steady s.old s.new x) steady_unkept s x c;
   on_covered = λ s are l h.
       let t = lost_where s l h in
-      let c : is_steady s.old s.new l.«class» ≡ true = (lost_parts s are l.«class» t.0 t.1).steady in
+      let c : is_steady s.old s.new l.«class» ≡ true = (lost_parts s l.«class» t.0 t.1).steady in
       (names-in s.old l.«class» (steady_parts s l.«class» c).both.there, c);
 }
   where
@@ -81,7 +76,7 @@ is_rule = record {
 
 -- its keys are among those that references found
 pub has_each : (s : SidesOf) → AreSides s → (x : Bytes) (keys : List Key) → HasAll (is_member members.OldMethods s x) keys → HasEachKey (lost_line s x) keys
-has_each s are x keys h k l e = h k (lost_found s are x k (made_where (reference_lost s.old s.new x k) (reference_line x k) l e).0)
+has_each s are x keys h k l e = h k (lost_found s x k (made_where (reference_lost s.old s.new x k) (reference_line x k) l e).0)
 
 -- nothing is lost of it
 pub none_lost : (s : SidesOf) (x : Bytes) (lines : List CallLine) → lines ≡ [] → ((k : Key) → reference_lost s.old s.new x k ≡ false) → HasExactly line_order (IsOf (λ (l : CallLine). l.«class») (OfReference s) x) lines

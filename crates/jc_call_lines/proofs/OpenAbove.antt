@@ -1,20 +1,15 @@
 -- Whether clients can name the classes of the methods that superinterfaces give.
-use Rattle.std.proofs.Common.{◌≡◌, Bool, true, false, cond, not, ◌||◌, ◌&&◌, ◌==◌, List, [], ◌∷◌, refl, sym, ◌∙◌, ap, Option, Some, None, ◌⊎◌, inl, inr}
+use Rattle.std.proofs.Common.{◌≡◌, Bool, true, false, cond, not, ◌||◌, ◌&&◌, ◌==◌, List, [], ◌∷◌, refl, sym, ◌∙◌, ap, Some, None, ◌⊎◌, inl, inr}
 use Rattle.std.specs.Prelude.{IsTrue}
 use Rattle.std.specs.List.{list_all, Contains}
 use Rattle.std.proofs.lemmas.Bool.{eqb-true, not-true}
-use Rattle.jc_calls.specs.References.{is_of_open}
-use Rattle.jc_facts.specs.declared.class_facts.ClassFacts.{ClassFacts}
 use Rattle.jc_facts.specs.declared.key.Key.{Key}
-use Rattle.jc_facts.specs.Flags.{abstract_flag, public_flag}
+use Rattle.jc_facts.specs.Flags.{abstract_flag}
 use Rattle.jc_facts.specs.Names.{Bytes, same}
-use Rattle.jc_facts.specs.Options.{some_and}
 use Rattle.jc_facts.specs.world.Loading.{load_fault}
 use Rattle.jc_facts.specs.world.Lookup.{only_or, superinterface_choices}
-use Rattle.jc_facts.specs.world.Modules.{is_visible}
-use Rattle.jc_facts.specs.world.World.{World, classes, differ_by_name, find_class, DeclaredMember}
+use Rattle.jc_facts.specs.world.World.{World, classes, differ_by_name, DeclaredMember}
 use Rattle.jc_facts.proofs.Same.{same_is, same_itself}
-use Rattle.jc_facts.proofs.World.{find-name}
 use Rattle.jc_index.specs.Ids.{name_at}
 use Rattle.jc_index.specs.Picks.{IsPick, methods_above}
 use Rattle.jc_index.specs.declared.ids.Found.{Found}
@@ -23,7 +18,7 @@ use Rattle.jc_index.proofs.Aboves.{same_number}
 use Rattle.jc_index.proofs.Choices.{IsOne, IsListed, one_of, listed, best, best_one, one_best, best_is, choices_declared}
 use Rattle.jc_lemmas.proofs.Bools.{contradicts}
 use Rattle.jc_lemmas.proofs.Listed.{EachOf, each_from, each_in, empty_from, list_all-each, here, there, none, cases}
-use Rattle.jc_call_lines.specs.steps.Openly.{open_class, hidden_offer, other_best}
+use Rattle.jc_call_lines.specs.steps.Openly.{open_class, is_owner_open, hidden_offer, other_best}
 
 -- ---- lists
 
@@ -47,15 +42,6 @@ pub only_last : (a : Bool) → (a && true) ≡ a
 only_last true = refl
 only_last false = refl
 
--- ---- the class of a method
-
-pub of_open : (W : World) (m : DeclaredMember) → is_of_open W m ≡ open_class W m.owner
-of_open W m = go (find_class W m.owner) refl
-  where
-    go : (o : Option ClassFacts) → find_class W m.owner ≡ o → some_and (λ c. is_visible W c.name && public_flag c.flags) o ≡ some_and (λ c. is_visible W m.owner && public_flag c.flags) o
-    go None e = refl
-    go (Some c) e = ap (λ y. is_visible W y && public_flag c.flags) (find-name W m.owner c e)
-
 -- ---- of a class that loads
 
 module _ (W : World) (x : Bytes) (loads : load_fault W x ≡ None) (k : Key) where
@@ -63,12 +49,12 @@ module _ (W : World) (x : Bytes) (loads : load_fault W x ≡ None) (k : Key) whe
   all = methods_above W x k
 
   abbrev are_open : Bool
-  are_open = list_all (is_of_open W) (superinterface_choices W x k)
+  are_open = list_all (is_owner_open W) (superinterface_choices W x k)
 
   -- ---- where clients can name all that declare the key
 
-  none_hidden : FindsAbove W x (hidden_offer W k) None → (m : DeclaredMember) → Contains (methods_above W x k) m → is_of_open W m ≡ true
-  none_hidden h m c = of_open W m ∙ ap (open_class W) (sym i.name) ∙ go (open_class W (name_at W i.number)) refl
+  none_hidden : FindsAbove W x (hidden_offer W k) None → (m : DeclaredMember) → Contains (methods_above W x k) m → is_owner_open W m ≡ true
+  none_hidden h m c = ap (open_class W) (sym i.name) ∙ go (open_class W (name_at W i.number)) refl
     where
       i : IsOne W x loads k m
       i = one_of W x loads k m c
@@ -80,8 +66,8 @@ module _ (W : World) (x : Bytes) (loads : load_fault W x ≡ None) (k : Key) whe
       go true e = refl
       go false e = absurd (let z : None ≡ Some f = sym (h i.number i.below i.above) ∙ ap (λ b. cond b None (candidate_at W k i.number)) e ∙ i.candidate in cc)
 
-  pub all_can : FindsAbove W x (hidden_offer W k) None → true ≡ list_all (is_of_open W) (superinterface_choices W x k)
-  all_can h = sym (all_each (is_of_open W) (superinterface_choices W x k) (each_from (λ m. is_of_open W m ≡ true) (superinterface_choices W x k) (λ m c. none_hidden h m (choices_declared W x k m c))))
+  pub all_can : FindsAbove W x (hidden_offer W k) None → true ≡ list_all (is_owner_open W) (superinterface_choices W x k)
+  all_can h = sym (all_each (is_owner_open W) (superinterface_choices W x k) (each_from (λ m. is_owner_open W m ≡ true) (superinterface_choices W x k) (λ m c. none_hidden h m (choices_declared W x k m c))))
 
   -- ---- where they can't name one of them
 
@@ -89,7 +75,7 @@ module _ (W : World) (x : Bytes) (loads : load_fault W x ≡ None) (k : Key) whe
   record IsShut : Type 0 where
     method : DeclaredMember
     is_in : Contains (methods_above W x k) method
-    shut : is_of_open W method ≡ false
+    shut : is_owner_open W method ≡ false
 
   some_hidden : (r : Found) → FindsAbove W x (hidden_offer W k) (Some r) → IsShut
   some_hidden r h = go (open_class W (name_at W h.0)) refl h.3
@@ -98,15 +84,15 @@ module _ (W : World) (x : Bytes) (loads : load_fault W x ≡ None) (k : Key) whe
       go true e q = absurd (let clash : None ≡ Some r = q in cc)
       go false e q =
           let l : IsListed W x loads k h.0 r = listed W x loads k h.0 r h.2 q in
-          record { method = l.method; is_in = l.is_in; shut = of_open W l.method ∙ ap (open_class W) (sym l.owner) ∙ e }
+          record { method = l.method; is_in = l.is_in; shut = ap (open_class W) (sym l.owner) ∙ e }
 
   -- where any of them may be found
-  any_shut : IsShut → only_or (best W x loads k) (methods_above W x k) ≡ methods_above W x k → false ≡ list_all (is_of_open W) (superinterface_choices W x k)
+  any_shut : IsShut → only_or (best W x loads k) (methods_above W x k) ≡ methods_above W x k → false ≡ list_all (is_owner_open W) (superinterface_choices W x k)
   unfolding superinterface_choices
-  any_shut s e = sym (ap (list_all (is_of_open W)) e ∙ not_all (is_of_open W) (methods_above W x k) s.method s.is_in s.shut)
+  any_shut s e = sym (ap (list_all (is_owner_open W)) e ∙ not_all (is_owner_open W) (methods_above W x k) s.method s.is_in s.shut)
 
   -- the pick is abstract
-  pub abstract_shut : (p r : Found) → FindsAbove W x (hidden_offer W k) (Some r) → IsPick W x k p → abstract_flag p.flags ≡ true → false ≡ list_all (is_of_open W) (superinterface_choices W x k)
+  pub abstract_shut : (p r : Found) → FindsAbove W x (hidden_offer W k) (Some r) → IsPick W x k p → abstract_flag p.flags ≡ true → false ≡ list_all (is_owner_open W) (superinterface_choices W x k)
   unfolding only_or
   abstract_shut p r h i a = any_shut (some_hidden r h) (ap (λ ms. only_or ms (methods_above W x k)) (empty_from (best W x loads k) no_best))
     where
@@ -137,10 +123,10 @@ module _ (W : World) (x : Bytes) (loads : load_fault W x ≡ None) (k : Key) whe
 
   -- another one is chosen too
   pub other_shut : IsTrue (differ_by_name (classes W)) → (p r q : Found) → FindsAbove W x (hidden_offer W k) (Some r) → IsPick W x k p → abstract_flag p.flags ≡ false → FindsAbove W x (other_best W x k p.owner) (Some q)
-      → false ≡ list_all (is_of_open W) (superinterface_choices W x k)
+      → false ≡ list_all (is_owner_open W) (superinterface_choices W x k)
   other_shut d p r q h i a o = go (o.0 == p.owner) refl o.3
     where
-      go : (b : Bool) → (o.0 == p.owner) ≡ b → cond b None (best_at W x k o.0) ≡ Some q → false ≡ list_all (is_of_open W) (superinterface_choices W x k)
+      go : (b : Bool) → (o.0 == p.owner) ≡ b → cond b None (best_at W x k o.0) ≡ Some q → false ≡ list_all (is_owner_open W) (superinterface_choices W x k)
       go true e t = absurd (let clash : None ≡ Some q = t in cc)
       go false e t =
           let b = best_is W x loads k o.0 q t in
@@ -150,17 +136,17 @@ module _ (W : World) (x : Bytes) (loads : load_fault W x ≡ None) (k : Key) whe
           any_shut (some_hidden r h) (two_best (best W x loads k) l.method i.method c (picked_best p i a) n)
 
   -- no other one is
-  sole : (ms : List DeclaredMember) (y : Bytes) (m : DeclaredMember) → Contains ms m → ((o : DeclaredMember) → Contains ms o → o.owner ≡ y) → list_all (is_of_open W) (only_or ms (methods_above W x k)) ≡ open_class W y
+  sole : (ms : List DeclaredMember) (y : Bytes) (m : DeclaredMember) → Contains ms m → ((o : DeclaredMember) → Contains ms o → o.owner ≡ y) → list_all (is_owner_open W) (only_or ms (methods_above W x k)) ≡ open_class W y
   unfolding only_or
   sole [] y m c each = absurd (none m c)
   sole (h ∷ t) y m c each =
-      ap (λ b. list_all (is_of_open W) (cond b (h ∷ []) (methods_above W x k))) (all_each (λ o. same o.owner h.owner) t (each_from (λ o. same o.owner h.owner ≡ true) t alike))
-      ∙ only_last (is_of_open W h) ∙ of_open W h ∙ ap (open_class W) (each h (here h t))
+      ap (λ b. list_all (is_owner_open W) (cond b (h ∷ []) (methods_above W x k))) (all_each (λ o. same o.owner h.owner) t (each_from (λ o. same o.owner h.owner ≡ true) t alike))
+      ∙ only_last (is_owner_open W h) ∙ ap (open_class W) (each h (here h t))
     where
       alike : (o : DeclaredMember) → Contains t o → same o.owner h.owner ≡ true
       alike o d = ap (λ z. same z h.owner) (each o (there o h t d) ∙ sym (each h (here h t))) ∙ same_itself h.owner
 
-  pub sole_pick : (p : Found) (b : Bool) → IsPick W x k p → abstract_flag p.flags ≡ false → FindsAbove W x (other_best W x k p.owner) None → b ≡ open_class W (name_at W p.owner) → b ≡ list_all (is_of_open W) (superinterface_choices W x k)
+  pub sole_pick : (p : Found) (b : Bool) → IsPick W x k p → abstract_flag p.flags ≡ false → FindsAbove W x (other_best W x k p.owner) None → b ≡ open_class W (name_at W p.owner) → b ≡ list_all (is_owner_open W) (superinterface_choices W x k)
   unfolding superinterface_choices
   sole_pick p b i a n e = e ∙ sym (sole (best W x loads k) (name_at W p.owner) i.method (picked_best p i a) each)
     where

@@ -1,9 +1,8 @@
 -- Classes above which clients can name all: what a reference to one finds, they can name the class of.
-use Rattle.std.proofs.Common.{◌≡◌, ◌<◌, ℕ, suc, Bool, true, false, cond, [], refl, sym, ◌∙◌, ap, Option, Some, None, ◌⊎◌, inl, inr}
+use Rattle.std.proofs.Common.{◌≡◌, ◌<◌, ℕ, suc, Bool, true, false, cond, ◌||◌, [], refl, sym, ◌∙◌, ap, Option, Some, None, ◌⊎◌, inl, inr}
 use Rattle.std.specs.Prelude.{IsTrue}
 use Rattle.std.specs.List.{list_all, Contains}
 use Rattle.std.proofs.lemmas.Bool.{or_left}
-use Rattle.jc_calls.specs.References.{is_of_open}
 use Rattle.jc_facts.specs.declared.class_facts.ClassFacts.{ClassFacts}
 use Rattle.jc_facts.specs.declared.key.Key.{Key}
 use Rattle.jc_facts.specs.Names.{Bytes, same, object_name}
@@ -28,9 +27,9 @@ use Rattle.jc_worlds.proofs.Bare.{has_root}
 use Rattle.jc_worlds.proofs.Chains.{chain_there}
 use Rattle.jc_worlds.proofs.Loaded.{loads-found}
 use Rattle.jc_worlds.proofs.Unrolled.{chain-unroll}
-use Rattle.jc_call_lines.specs.steps.Openly.{open_class, choices_open, AreOpenAbove}
-use Rattle.jc_call_lines.proofs.Chosen.{IsFirst, first_in, front_or, own_or_root}
-use Rattle.jc_call_lines.proofs.OpenAbove.{all_each, of_open}
+use Rattle.jc_call_lines.specs.steps.Openly.{open_class, is_owner_open, is_said_open, choices_open, AreOpenAbove}
+use Rattle.jc_call_lines.proofs.Chosen.{IsFirst, first_in, front_or, own_or_root, above_kind}
+use Rattle.jc_call_lines.proofs.OpenAbove.{all_each}
 
 -- ---- the walk up the chain
 
@@ -78,14 +77,18 @@ module _ (W : World) (d : IsTrue (differ_by_name (classes W))) (x : Bytes) where
 
 -- ---- what a reference finds
 
+or_true : (b : Bool) → (b || true) ≡ true
+or_true true = refl
+or_true false = refl
+
 module _ (W : World) (side : IsSide W) (x : Bytes) (loads : load_fault W x ≡ None) (h : AreOpenAbove W x) (k : Key) where
   itself : in_chain W x x ≡ true
   itself =
       let t = loads-found W x loads in
       ap (λ cs. names_in cs x) (chain-unroll W x t.0 t.1 loads) ∙ or_left (same t.0.name x) (names_in (of_super (chain W) t.0.superclass) x) (ap (λ y. same y x) (find-name W x t.0 t.1) ∙ same_itself x)
 
-  front_open : (m : DeclaredMember) → front_method W x k ≡ Some m → is_of_open W m ≡ true
-  front_open m e = of_open W m ∙ h.chain m.owner (go (is_interface_of W x) refl e)
+  front_open : (m : DeclaredMember) → front_method W x k ≡ Some m → is_owner_open W m ≡ true
+  front_open m e = h.chain m.owner (go (is_interface_of W x) refl e)
     where
       of_root : (m.owner ≡ x) ⊎ (m.owner ≡ object_name) → in_chain W x m.owner ≡ true
       of_root (inl p) = ap (in_chain W x) p ∙ itself
@@ -97,8 +100,8 @@ module _ (W : World) (side : IsSide W) (x : Bytes) (loads : load_fault W x ≡ N
           let f : IsFirst (chain W x) m = first_in k (chain W x) m q in
           any_has (λ (c : ClassFacts). same c.name m.owner) (chain W x) f.class f.is_in (ap (λ y. same y m.owner) (sym f.owner) ∙ same_itself m.owner)
 
-  above_open : (m : DeclaredMember) → Contains (superinterface_choices W x k) m → is_of_open W m ≡ true
-  above_open m c = of_open W m ∙ ap (open_class W) (sym i.name) ∙ go (open_class W (name_at W i.number)) refl
+  above_open : is_interface_of W x ≡ true → (m : DeclaredMember) → Contains (superinterface_choices W x k) m → is_owner_open W m ≡ true
+  above_open t m c = ap (open_class W) (sym i.name) ∙ go (open_class W (name_at W i.number)) refl
     where
       i : IsOne W x loads k m
       i = one_of W x loads k m (choices_declared W x k m c)
@@ -108,16 +111,28 @@ module _ (W : World) (side : IsSide W) (x : Bytes) (loads : load_fault W x ≡ N
 
       go : (b : Bool) → open_class W (name_at W i.number) ≡ b → b ≡ true
       go true e = refl
-      go false e = absurd (let z : None ≡ Some f = sym (h.interfaces i.number i.below i.above) ∙ ap (λ b. cond b None (Some f)) e in cc)
+      go false e = absurd (let z : None ≡ Some f = sym (h.interfaces t i.number i.below i.above) ∙ ap (λ b. cond b None (Some f)) e in cc)
+
+  -- what is said of one that stands in front, or above
+  front_said_open : (b : Bool) (m : DeclaredMember) → front_method W x k ≡ Some m → is_said_open b W m ≡ true
+  front_said_open true m e = front_open m e
+  front_said_open false m e = ap (λ o. is_interface_of W m.owner || o) (front_open m e) ∙ or_true (is_interface_of W m.owner)
+
+  above_said : (b : Bool) → is_interface_of W x ≡ b → (m : DeclaredMember) → Contains (superinterface_choices W x k) m → is_said_open b W m ≡ true
+  above_said true t m c = above_open t m c
+  above_said false t m c = ap (λ b. b || is_owner_open W m) (above_kind W x loads k m c)
 
   pub all_open : choices_open W x k ≡ true
   unfolding or_choices
-  all_open = ap (list_all (is_of_open W)) (front_or W x k) ∙ all_each (is_of_open W) (or_choices (front_method W x k) (superinterface_choices W x k)) (each_from (λ m. is_of_open W m ≡ true) (or_choices (front_method W x k) (superinterface_choices W x k)) (go (front_method W x k) refl))
+  all_open =
+      ap (list_all (is_said_open (is_interface_of W x) W)) (front_or W x k)
+      ∙ all_each (is_said_open (is_interface_of W x) W) (or_choices (front_method W x k) (superinterface_choices W x k))
+      (each_from (λ m. is_said_open (is_interface_of W x) W m ≡ true) (or_choices (front_method W x k) (superinterface_choices W x k)) (go (front_method W x k) refl))
     where
-      go : (v : Option DeclaredMember) → front_method W x k ≡ v → (m : DeclaredMember) → Contains (or_choices v (superinterface_choices W x k)) m → is_of_open W m ≡ true
-      go None e m c = above_open m c
+      go : (v : Option DeclaredMember) → front_method W x k ≡ v → (m : DeclaredMember) → Contains (or_choices v (superinterface_choices W x k)) m → is_said_open (is_interface_of W x) W m ≡ true
+      go None e m c = above_said (is_interface_of W x) refl m c
       go (Some n) e m c = at (cases n [] m c)
         where
-          at : (n ≡ m) ⊎ Contains [] m → is_of_open W m ≡ true
-          at (inl i) = ap (is_of_open W) (sym i) ∙ front_open n e
+          at : (n ≡ m) ⊎ Contains [] m → is_said_open (is_interface_of W x) W m ≡ true
+          at (inl i) = ap (is_said_open (is_interface_of W x) W) (sym i) ∙ front_said_open (is_interface_of W x) n e
           at (inr d) = absurd (none m d)

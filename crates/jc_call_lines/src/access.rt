@@ -13,10 +13,10 @@ ghost use Rattle.jc_sides.specs.SharedOf.{IsShared, name_of};
 
 use jc_acts::seats::Seats;
 use jc_base::name::Name;
+use jc_call_kinds::call_line::{CallKind, CallLine};
 use jc_declared::changed::Changed;
 use jc_desc::names::is_initializer;
 use jc_facts::act::Act;
-use jc_call_kinds::call_line::{CallKind, CallLine};
 use jc_facts::flags::is_public;
 use jc_facts::key::Key;
 use jc_facts::link_error::LinkError;
@@ -77,6 +77,7 @@ impl FromBroken for AccessLine {
             kind: CallKind::Access,
             class: class.copy(alloc)?,
             key: Some(key.copy(alloc)?),
+            target: None,
         };
         Ok(Some(AccessLine { line }))
     }

@@ -159,6 +159,7 @@ fn line_on(alloc: Global, sides: &Sides<'_>, id: ClassId) -> Result<Option<CallL
         kind: CallKind::Constants,
         class: name.copy(alloc)?,
         key: None,
+        target: None,
     }))
 }
 

@@ -1,7 +1,6 @@
-//! Whether clients can name the classes that declare what a reference finds.
+//! What a reference finds: whether it is public, and whether clients can name the classes that declare it.
 ghost use Rattle.std.specs.Prelude.{◌≡◌, ◌<◌, ◌==◌, ◌||◌, None, Some, not, true, IsTrue};
 ghost use Rattle.std.specs.List.{list_all};
-ghost use Rattle.jc_calls.specs.References.{is_of_open};
 ghost use Rattle.jc_facts.specs.Names.{Bytes};
 ghost use Rattle.jc_facts.specs.world.Assignment.{is_interface_of};
 ghost use Rattle.jc_facts.specs.world.Hierarchy.{in_chain};
@@ -11,18 +10,27 @@ ghost use Rattle.jc_facts.specs.world.World.{size};
 ghost use Rattle.jc_index.specs.Ids.{name_at};
 ghost use Rattle.jc_index.specs.Lookups.{IsChoice};
 ghost use Rattle.jc_index.specs.Picks.{Picks};
+ghost use Rattle.jc_promises.specs.rule.Bases.{is_key_of_method};
 ghost use Rattle.jc_rows.specs.Keys.{numbered_keys, IsNumber};
 ghost use Rattle.jc_rows.specs.Rows.{lookup_choices};
-ghost use Rattle.jc_call_lines.specs.steps.Openly.{open_class, choices_open, AreOpenAbove};
+ghost use Rattle.jc_call_lines.specs.steps.Openly.{open_class, is_owner_open, owners_open, choices_open, finds_public, AreOpenAbove};
 
 use crate::choice::{chosen_beside, hidden_above, offered_hidden};
-use jc_facts::flags::{is_abstract, is_interface};
+use jc_facts::flags::{is_abstract, is_interface, is_public};
 use jc_facts::key::Key;
 use jc_index::choose;
 use jc_index::ids::{ClassId, Found};
 use jc_method::find::{find_interface_method_by_number, find_method_by_number};
 use jc_table::naming::is_nameable;
 use jc_table::table::Table;
+
+// Whether the class is an interface.
+fn is_of_interface(table: &Table, class: ClassId) -> bool
+    requires { class < size table.now }
+    ensures { result ≡ is_interface_of table.now (name_at table.now class) }
+{
+    is_interface(table.facts(class).flags)
+}
 
 // ---- all classes above one
 
@@ -44,13 +52,19 @@ fn is_chain_open(table: &Table, class: ClassId) -> bool
     true
 }
 
-/// Whether clients can name the class, its superclasses and its superinterfaces: what a reference to it
-/// finds is declared by one of them.
+/// Whether clients can name the class and its superclasses and, where it is an interface, its
+/// superinterfaces: one of them is said to declare what a reference to it finds.
 pub(crate) fn are_open_above(table: &Table, class: ClassId) -> bool
     requires { class < size table.now }
     ensures { IsTrue result → AreOpenAbove table.now (name_at table.now class) }
 {
-    is_chain_open(table, class) && hidden_above(table, class).is_none()
+    if !is_chain_open(table, class) {
+        return false;
+    }
+    if !is_of_interface(table, class) {
+        return true;
+    }
+    hidden_above(table, class).is_none()
 }
 
 // ---- what a reference may find
@@ -63,7 +77,7 @@ fn found(table: &Table, class: ClassId, key: &Key, number: Option<usize>) -> Opt
     requires number { IsNumber (numbered_keys table.now) key.now number }
     ensures { IsChoice table.now result (lookup_choices table.now (name_at table.now class) key.now) }
 {
-    if is_interface(table.facts(class).flags) {
+    if is_of_interface(table, class) {
         return find_interface_method_by_number(table, class, key, number);
     }
     find_method_by_number(table, class, key, number)
@@ -74,7 +88,7 @@ fn is_front(table: &Table, class: ClassId, found: Found) -> bool
     requires owner { found.owner < size table.now }
     ensures { result ≡ (found.owner == «class» || not (is_interface_of table.now (name_at table.now found.owner))) }
 {
-    found.owner == class || !is_interface(table.facts(found.owner).flags)
+    found.owner == class || !is_of_interface(table, found.owner)
 }
 
 // What the superinterfaces give: a maximally specific method that isn't abstract, else one that is.
@@ -93,7 +107,7 @@ fn picked(table: &Table, class: ClassId, key: &Key) -> Option<Found>
 fn is_open_above(table: &Table, class: ClassId, key: &Key) -> bool
     requires class { class < size table.now }
     requires loads { load_fault table.now (name_at table.now class) ≡ None }
-    ensures { result ≡ list_all (is_of_open table.now) (superinterface_choices table.now (name_at table.now class) key.now) }
+    ensures { result ≡ list_all (is_owner_open table.now) (superinterface_choices table.now (name_at table.now class) key.now) }
 {
     // A count says that the table stands for a side.
     let _classes = table.count();
@@ -113,12 +127,12 @@ fn is_open_above(table: &Table, class: ClassId, key: &Key) -> bool
 }
 
 // Whether clients can name each class that declares what a reference may find, of which this is one.
-fn is_found_open(table: &Table, class: ClassId, key: &Key, found: Found) -> bool
+fn are_owners_open(table: &Table, class: ClassId, key: &Key, found: Found) -> bool
     requires class { class < size table.now }
     requires loads { load_fault table.now (name_at table.now class) ≡ None }
     requires owner { found.owner < size table.now }
     requires found { IsChoice table.now (Some found) (lookup_choices table.now (name_at table.now class) key.now) }
-    ensures { result ≡ choices_open table.now (name_at table.now class) key.now }
+    ensures { result ≡ owners_open table.now (name_at table.now class) key.now }
 {
     // A count says that the table stands for a side.
     let _classes = table.count();
@@ -131,9 +145,33 @@ fn is_found_open(table: &Table, class: ClassId, key: &Key, found: Found) -> bool
     is_open_above(table, class, key)
 }
 
-/// Whether clients can name each class that declares a method of the key that a reference to the class
-/// or the interface may find. The class has to load, and the number is the key's in the table. Mostly
-/// one method is found, of which the row tells the class.
+// Whether clients can name the class that is said to declare what a reference to a class finds in the
+// owner: it is the class named where that is an interface.
+fn is_said_open(table: &Table, owner: ClassId) -> bool
+    requires { owner < size table.now }
+    ensures { result ≡ (is_interface_of table.now (name_at table.now owner) || open_class table.now (name_at table.now owner)) }
+{
+    is_of_interface(table, owner) || is_nameable(table, owner)
+}
+
+// Whether clients can name each class that is said to declare what a reference may find, of which this
+// is one.
+fn is_found_open(table: &Table, class: ClassId, key: &Key, found: Found) -> bool
+    requires class { class < size table.now }
+    requires loads { load_fault table.now (name_at table.now class) ≡ None }
+    requires owner { found.owner < size table.now }
+    requires found { IsChoice table.now (Some found) (lookup_choices table.now (name_at table.now class) key.now) }
+    ensures { result ≡ choices_open table.now (name_at table.now class) key.now }
+{
+    if is_of_interface(table, class) {
+        return are_owners_open(table, class, key, found);
+    }
+    is_said_open(table, found.owner)
+}
+
+/// Whether clients can name each class that is said to declare a method of the key which a reference to
+/// the class or the interface may find. The class has to load, and the number is the key's in the table.
+/// Mostly one method is found, of which the row tells the class.
 pub(crate) fn are_choices_open(
     table: &Table,
     class: ClassId,
@@ -148,5 +186,23 @@ pub(crate) fn are_choices_open(
     match found(table, class, key, number) {
         None => true,
         Some(found) => is_found_open(table, class, key, found),
+    }
+}
+
+/// Whether a reference to the class or the interface finds a method of the key, and each that it may
+/// find is public. The class has to load, the key is no initializer's, and the number is the key's in
+/// the table. Where several may be found, all have the access of one.
+pub(crate) fn finds_public(table: &Table, class: ClassId, key: &Key, number: Option<usize>) -> bool
+    requires class { class < size table.now }
+    requires loads { load_fault table.now (name_at table.now class) ≡ None }
+    requires key { IsTrue (is_key_of_method key.now) }
+    requires number { IsNumber (numbered_keys table.now) key.now number }
+    ensures { result ≡ finds_public table.now (name_at table.now class) key.now }
+{
+    // A count says that the table stands for a side.
+    let _classes = table.count();
+    match found(table, class, key, number) {
+        None => false,
+        Some(found) => is_public(found.flags),
     }
 }

@@ -1,20 +1,13 @@
 //! Lines on method references that no longer link.
-ghost use Rattle.std.specs.Prelude.{◌≡◌, ◌<◌, IfOk, IsTrue, IsFalse, option_map};
+ghost use Rattle.std.specs.Prelude.{◌≡◌, IfOk, IsTrue, option_map};
 ghost use Rattle.std.specs.Bool.{beq};
-ghost use Rattle.std.specs.List.{All, list_any, filter_map};
+ghost use Rattle.std.specs.List.{list_any, filter_map};
 ghost use Rattle.jc_acts.specs.Seats.{AreSeats};
-ghost use Rattle.jc_acts.specs.steps.References.{acts_of, MayName};
 ghost use Rattle.jc_calls.specs.Lines.{line_order};
-ghost use Rattle.jc_calls.specs.References.{is_handle_lost, is_open_to_some, reference_lost};
+ghost use Rattle.jc_calls.specs.References.{is_handle_lost, reference_lost};
 ghost use Rattle.jc_facts.specs.Exactly.{HasExactly};
-ghost use Rattle.jc_facts.specs.client.Acts.{is_field_form};
-ghost use Rattle.jc_facts.specs.client.Forms.{form_view};
 ghost use Rattle.jc_call_kinds.specs.declared.call_line.CallKind.TheVariants.{Reference};
-ghost use Rattle.jc_facts.specs.world.Access.{is_member_open};
 ghost use Rattle.jc_facts.specs.world.Assignment.{is_interface_of};
-ghost use Rattle.jc_facts.specs.world.World.{size};
-ghost use Rattle.jc_index.specs.Ids.{name_at};
-ghost use Rattle.jc_index.specs.Lookups.{member_of};
 ghost use Rattle.jc_promises.specs.rule.Bases.{is_key_of_method, is_steady};
 ghost use Rattle.jc_promises.specs.rule.OpenActs.{method_acts};
 ghost use Rattle.jc_sides.specs.Numbering.{AreNumbers};
@@ -22,19 +15,15 @@ ghost use Rattle.jc_sides.specs.Rules.{IsOf};
 ghost use Rattle.jc_sides.specs.SharedOf.{AreThose, IsShared, name_of};
 ghost use Rattle.jc_call_lines.specs.steps.Kinds.{AreOfKind, OfKind};
 ghost use Rattle.jc_call_lines.specs.steps.LostLines.{lost_line, reference_line};
-ghost use Rattle.jc_call_lines.specs.steps.Openly.{choices_open, AreOpenAbove};
+ghost use Rattle.jc_call_lines.specs.steps.Openly.{choices_open, finds_public, AreOpenAbove};
 
-use crate::openly::{are_choices_open, are_open_above};
-use jc_access::access::{Seat, accessible};
-use jc_acts::lookup::look_up;
+use crate::openly::{are_choices_open, are_open_above, finds_public};
 use jc_acts::members::method_closed;
 use jc_acts::seats::Seats;
-use jc_desc::names::is_initializer;
-use jc_facts::act::Form;
 use jc_call_kinds::call_line::{CallKind, CallLine};
+use jc_desc::names::is_initializer;
 use jc_facts::flags::is_interface;
 use jc_facts::key::Key;
-use jc_index::ids::{ClassId, Found};
 use jc_sides::classes::steady_classes;
 use jc_sides::found::push_some;
 use jc_sides::item_rule::in_order;
@@ -43,99 +32,11 @@ use jc_sides::limit::is_over;
 use jc_sides::members::{Members, keys_of};
 use jc_sides::shared::{Shared, after, before};
 use jc_sides::sides::Sides;
-use jc_table::table::Table;
 use std::alloc::{AllocError, Global};
 
-// ---- what clients could do
+// ---- what is lost
 
-// Whether clients of the seat have access to the member, named through the class (JVMS 5.4.4).
-fn is_accessible(table: &Table, seat: ClassId, class: ClassId, found: Found) -> bool
-    requires seat { seat < size table.now }
-    requires class { class < size table.now }
-    requires owner { found.owner < size table.now }
-    ensures { result ≡ is_member_open table.now (name_at table.now seat) (name_at table.now class) (member_of table.now found) }
-{
-    accessible(table, Seat::Client(seat), found, class)
-}
-
-// The same on the old side.
-fn was_accessible(sides: &Sides<'_>, class: &Shared<'_>, found: &Found, seat: &Shared<'_>) -> bool
-    requires class { IsShared sides.now «class».now }
-    requires owner { found.now.owner < size sides.now.old }
-    requires seat { IsShared sides.now seat.now }
-    ensures { result ≡ is_member_open sides.now.old (name_of seat.now) (name_of «class».now) (member_of sides.now.old found.now) }
-{
-    is_accessible(sides.old, seat.old, class.old, *found)
-}
-
-// Whether clients of one of the seats had access to it.
-fn was_accessible_to_some(
-    sides: &Sides<'_>,
-    class: &Shared<'_>,
-    found: &Found,
-    seats: &[Shared<'_>],
-) -> bool
-    requires class { IsShared sides.now «class».now }
-    requires owner { found.now.owner < size sides.now.old }
-    requires seats { All (IsShared sides.now) seats.now }
-    ensures { result ≡ list_any (λ b. is_member_open sides.now.old (name_of b) (name_of «class».now) (member_of sides.now.old found.now)) seats.now }
-{
-    for seat in seats {
-        if was_accessible(sides, class, found, seat) {
-            return true;
-        }
-    }
-    false
-}
-
-// Whether clients of some seat could do an act on the method of the key by references of the form,
-// named through the steady class. Of the two acts of a form the one asks for a static method, and the
-// other for one of instances, so that access alone decides.
-fn was_open_by(
-    sides: &Sides<'_>,
-    seats: &Seats<'_>,
-    class: &Shared<'_>,
-    form: Form,
-    key: &Key,
-    numbers: &KeyNumbers,
-) -> bool
-    requires seats { AreSeats sides.now seats.now }
-    requires class { IsShared sides.now «class».now }
-    requires steady { IsTrue (is_steady sides.now.old sides.now.new (name_of «class».now)) }
-    requires form { IsFalse (is_field_form (form_view form)) }
-    requires key { MayName (form_view form) key.now }
-    requires numbers { AreNumbers sides.now key.now numbers.now }
-    ensures { result ≡ list_any (is_open_to_some sides.now.old sides.now.new (name_of «class».now) key.now) (acts_of form) }
-{
-    match look_up(sides.old, form, class.old, key, numbers.old) {
-        Err(_) => false,
-        Ok(found) => was_accessible_to_some(sides, class, &found, seats.as_slice()),
-    }
-}
-
-// Whether clients of some seat could do an act on the method of the key, named through the steady
-// class.
-fn was_open(
-    sides: &Sides<'_>,
-    seats: &Seats<'_>,
-    class: &Shared<'_>,
-    key: &Key,
-    numbers: &KeyNumbers,
-) -> bool
-    requires seats { AreSeats sides.now seats.now }
-    requires class { IsShared sides.now «class».now }
-    requires steady { IsTrue (is_steady sides.now.old sides.now.new (name_of «class».now)) }
-    requires key { IsTrue (is_key_of_method key.now) }
-    requires numbers { AreNumbers sides.now key.now numbers.now }
-    ensures { result ≡ list_any (is_open_to_some sides.now.old sides.now.new (name_of «class».now) key.now) method_acts }
-{
-    was_open_by(sides, seats, class, Form::Method, key, numbers)
-        || was_open_by(sides, seats, class, Form::Interface, key, numbers)
-}
-
-// ---- what they lose
-
-// Whether clients can name the classes that declare what the reference finds on the old side.
+// Whether clients can name the classes that are said to declare what the reference finds on the old side.
 fn was_declared_openly(
     sides: &Sides<'_>,
     class: &Shared<'_>,
@@ -165,16 +66,21 @@ fn is_declared_openly(
     are_choices_open(sides.new, class.new, key, numbers.new)
 }
 
-// Whether clients of some seat could take a handle of an act apart and no longer can, where the class
-// is of one kind on both sides. Nearly all keys are done with the first test.
-fn is_handle_lost(
-    sides: &Sides<'_>,
-    seats: &Seats<'_>,
-    class: &Shared<'_>,
-    key: &Key,
-    numbers: &KeyNumbers,
-) -> bool
-    requires seats { AreSeats sides.now seats.now }
+// Whether the reference finds a method on the old side, and none that isn't public: then clients of each
+// seat could do the act, of which javac makes a handle.
+fn was_public(sides: &Sides<'_>, class: &Shared<'_>, key: &Key, numbers: &KeyNumbers) -> bool
+    requires class { IsShared sides.now «class».now }
+    requires steady { IsTrue (is_steady sides.now.old sides.now.new (name_of «class».now)) }
+    requires key { IsTrue (is_key_of_method key.now) }
+    requires numbers { AreNumbers sides.now key.now numbers.now }
+    ensures { result ≡ finds_public sides.now.old (name_of «class».now) key.now }
+{
+    finds_public(sides.old, class.old, key, numbers.old)
+}
+
+// Whether clients could take a handle of an act apart and no longer can, where the class is of one kind
+// on both sides. Nearly all keys are done with the first test.
+fn is_handle_lost(sides: &Sides<'_>, class: &Shared<'_>, key: &Key, numbers: &KeyNumbers) -> bool
     requires class { IsShared sides.now «class».now }
     requires steady { IsTrue (is_steady sides.now.old sides.now.new (name_of «class».now)) }
     requires kind { is_interface_of sides.now.old (name_of «class».now) ≡ is_interface_of sides.now.new (name_of «class».now) }
@@ -185,10 +91,10 @@ fn is_handle_lost(
     if is_declared_openly(sides, class, key, numbers) {
         return false;
     }
-    if !was_declared_openly(sides, class, key, numbers) {
+    if !was_public(sides, class, key, numbers) {
         return false;
     }
-    was_open(sides, seats, class, key, numbers)
+    was_declared_openly(sides, class, key, numbers)
 }
 
 // Whether references to the method of the key, named through the steady class, no longer link, and no
@@ -210,7 +116,7 @@ fn is_lost(
     if is_initializer(key.name.as_bytes()) {
         return false;
     }
-    if !is_handle_lost(sides, seats, class, key, numbers) {
+    if !is_handle_lost(sides, class, key, numbers) {
         return false;
     }
     let closed = method_closed(sides, seats, class, key, numbers);
@@ -227,6 +133,7 @@ fn line(alloc: Global, class: &Shared<'_>, key: &Key) -> Result<CallLine, AllocE
         kind: CallKind::Reference,
         class: class.name.copy(alloc)?,
         key: Some(key.copy(alloc)?),
+        target: None,
     })
 }
 
@@ -282,7 +189,8 @@ fn is_of_one_kind(sides: &Sides<'_>, class: &Shared<'_>) -> bool
     is_interface(before(sides, class).flags) == is_interface(after(sides, class).flags)
 }
 
-// Whether clients can name the class and all above it on the new side, as they can with most.
+// Whether clients can name, on the new side, all that may be said to declare what the class has, as they
+// can with most.
 fn are_all_open(sides: &Sides<'_>, class: &Shared<'_>) -> bool
     requires class { IsShared sides.now «class».now }
     ensures { IsTrue result → AreOpenAbove sides.now.new (name_of «class».now) }
@@ -357,9 +265,10 @@ fn of_classes(
 
 /// The lines on method references that no longer link, in byte order of the classes' names, then by key,
 /// where they are within the limit, and None where they are more: a class that clients could and can
-/// still use, and a method that some of them could and can still call through it, where each class that
-/// declared what the reference finds was one that they can name, and one that declares what it finds now
-/// isn't (JVMS 5.4.3.5, 5.4.4). Past the limit no more lines are made than what one class adds.
+/// still use, and a public method that they could and can still call through it, where each class that
+/// was said to declare what the reference finds was one that they can name, and one that is said to
+/// declare what it finds now isn't (JVMS 5.4.3.5, 5.4.4). Past the limit no more lines are made than
+/// what one class adds.
 ///
 /// # Errors
 ///

@@ -2,9 +2,8 @@
 use Rattle.std.proofs.Common.{◌≡◌, ◌&&◌, ◌||◌, inr, Bool, true, false, not, List, refl, sym, ◌∙◌, ap, subst, Option, None, Some, is_none, is_some}
 use Rattle.std.proofs.lemmas.Bool.{and_parts, and_from, not-false}
 use Rattle.std.proofs.lemmas.List.Elements.{All-contains}
-use Rattle.std.specs.List.{list_any, list_all}
+use Rattle.std.specs.List.{list_any, Contains}
 use Rattle.jc_facts.specs.declared.act.Act.{Act}
-use Rattle.jc_facts.specs.declared.act.Act.TheVariants as act
 use Rattle.jc_facts.specs.declared.class_facts.ClassFacts.{ClassFacts}
 use Rattle.jc_facts.specs.declared.client.ClientClass.{ClientClass}
 use Rattle.jc_facts.specs.declared.client.Place.TheVariants.{Other}
@@ -19,9 +18,9 @@ use Rattle.jc_facts.specs.Options.{and_then}
 use Rattle.jc_facts.specs.world.World.{World, find_class, class_named, with_clients, is_client}
 use Rattle.jc_facts.specs.world.Access.{is_class_accessible, is_member_accessible, is_member_open}
 use Rattle.jc_facts.specs.world.Loading.{load_fault, fault_where}
-use Rattle.jc_facts.specs.client.Acts.{FieldForm, form_of, is_field_form, is_act_on_field}
+use Rattle.jc_facts.specs.client.Acts.{FieldForm, MethodForm, InterfaceForm, form_of, is_act_on_field}
 use Rattle.jc_promises.specs.client.Names.{is_free_name, is_client_name}
-use Rattle.jc_facts.specs.client.Outcome.{outcome, class_fault, use_fault, may_find}
+use Rattle.jc_facts.specs.client.Outcome.{outcome, class_fault, use_fault}
 use Rattle.jc_facts.specs.client.Valid.{facts_of}
 use Rattle.jc_facts.proofs.Options.{or_else-none}
 use Rattle.jc_facts.proofs.World.{find-name}
@@ -31,7 +30,7 @@ use Rattle.jc_promises.specs.rule.Collisions.{made_collision, final_added}
 use Rattle.jc_promises.specs.rule.OpenActs.{act_fault, first_seat, method_acts}
 use Rattle.jc_facts.specs.declared.act.Act.TheVariants.{Override}
 use Rattle.jc_lemmas.proofs.Bools.{contradicts}
-use Rattle.jc_lemmas.proofs.Listed.{each_from, not_any}
+use Rattle.jc_lemmas.proofs.Listed.{EachOf, each_in, not_any}
 use Rattle.jc_lemmas.proofs.Options.{none_where}
 use Rattle.jc_worlds.proofs.Above.{fault_where-none}
 use Rattle.jc_worlds.proofs.Alike.{class_step-named}
@@ -42,7 +41,7 @@ use Rattle.jc_sound.proofs.Context.{IsAccess, access-parts}
 use Rattle.jc_sound.proofs.FindingLaws.{empty_means_none}
 use Rattle.jc_sound.proofs.Ground.{Ground, no_client, root_library}
 use Rattle.jc_sound.proofs.Looked.{looked, look_up-takes, look_up-from, use-parts}
-use Rattle.jc_sound.proofs.MethodLooked.{goes_by, looked-declared, looked-side, no_put, of_method_acts, what_of}
+use Rattle.jc_sound.proofs.MethodLooked.{looked-declared, looked-side, no_put}
 use Rattle.jc_sound.proofs.OpenActs.{first_seat-none}
 use Rattle.jc_sound.proofs.Reach.{declared_library, seat_x}
 use Rattle.jc_sound.proofs.Sound.{ground, loads_kept, named_client, valid_item}
@@ -51,22 +50,9 @@ use Rattle.jc_sound.proofs.Standing.{IsUsable, all_quiet, stays_steady, stays_us
 use Rattle.jc_sound.proofs.Uses.{open-from, seat_use}
 use Rattle.jc_sound.proofs.ClientNames.{free_old, free_new, free_parts}
 use Rattle.jc_calls.specs.CallsKept.{ReferencesStay}
-use Rattle.jc_calls.specs.Handles.{handle_item, handle_ok}
-use Rattle.jc_calls.specs.References.{is_of_open, is_open_to_some, is_handle_lost, is_told, are_of_open, reference_lost}
-use Rattle.jc_calls.proofs.Openly.{handle_is}
-
--- an act that goes by another is open where that one is
-pub goes_as : (W : World) (a c : Bytes) (k : Key) (what : Act) → (form_of what ≡ FieldForm → ⊥) → act_fault W a c k what ≡ act_fault W a c k (what_of what)
-unfolding act_fault
-goes_as W a c k act.GetStatic n = absurd (n refl)
-goes_as W a c k act.PutStatic n = absurd (n refl)
-goes_as W a c k act.GetField n = absurd (n refl)
-goes_as W a c k act.PutField n = absurd (n refl)
-goes_as W a c k act.InvokeStatic n = refl
-goes_as W a c k act.InvokeInterface n = refl
-goes_as W a c k act.InvokeStaticInterface n = refl
-goes_as W a c k act.InvokeSpecialInterface n = refl
-goes_as W a c k _ n = refl
+use Rattle.jc_calls.specs.Handles.{handle_item, handle_ok, are_public}
+use Rattle.jc_calls.specs.References.{is_open_to_some, is_handle_lost, is_told, are_of_open, reference_lost}
+use Rattle.jc_calls.proofs.Openly.{handle_is, public_side}
 
 -- ---- on the sides
 
@@ -81,18 +67,15 @@ module _ (O N : World) (c : Bytes) (k : Key) (mk : is_key_of_method k ≡ true) 
           let all : (is_key_of_method k && is_steady O N c && list_any (is_handle_lost O N c k) method_acts && not (is_told O N c k)) ≡ true = rw (mk, steady, e, untold) refl in
           contradicts (is_key_of_method k && is_steady O N c && list_any (is_handle_lost O N c k) method_acts && not (is_told O N c k)) all kept)
 
-  one_kept : (what : Act) → is_handle_lost O N c k (what_of what) ≡ false
-  one_kept what = of_method_acts (λ a. is_handle_lost O N c k a ≡ false) (each_from (λ a. is_handle_lost O N c k a ≡ false) method_acts (λ a i. not_any (is_handle_lost O N c k) method_acts a none_lost i)) what
-
-  -- what a seat could do, and was of classes that clients can name, still is
-  pub stays_open : (what : Act) → is_open_to_some O N c k (what_of what) ≡ true → are_of_open O (what_of what) c k ≡ true → are_of_open N (what_of what) c k ≡ true
-  stays_open what o h = go (are_of_open N (what_of what) c k) refl
+  -- what a seat could do, and was public and of classes that clients can name, still is of such
+  pub stays_open : (what : Act) → Contains method_acts what → is_open_to_some O N c k what ≡ true → are_public O what c k ≡ true → are_of_open O what c k ≡ true → are_of_open N what c k ≡ true
+  stays_open what i o p h = go (are_of_open N what c k) refl
     where
-      go : (b : Bool) → are_of_open N (what_of what) c k ≡ b → b ≡ true
+      go : (b : Bool) → are_of_open N what c k ≡ b → b ≡ true
       go true e = refl
       go false e = absurd (
-          let all : (is_open_to_some O N c k (what_of what) && are_of_open O (what_of what) c k && not (are_of_open N (what_of what) c k)) ≡ true = rw (o, h, e) refl in
-          contradicts (is_handle_lost O N c k (what_of what)) all (one_kept what))
+          let all : (is_open_to_some O N c k what && are_public O what c k && are_of_open O what c k && not (are_of_open N what c k)) ≡ true = rw (o, p, h, e) refl in
+          contradicts (is_handle_lost O N c k what) all (not_any (is_handle_lost O N c k) method_acts what none_lost i))
 
 -- ---- of a client
 
@@ -154,29 +137,35 @@ module _ (O N : World) (ccs : List ClientClass) (g : Ground O N (facts_of ccs)) 
         fine = open-from O a t what m (record { access = sym same_access ∙ used.access; kind = used.kind; final = rw (no_put what is_method) refl });
       })
 
-  pub open_to_some : is_open_to_some O N t k (what_of what) ≡ true
+  pub open_to_some : is_open_to_some O N t k what ≡ true
   open_to_some = go (first_seat O N test) refl
     where
       test : Bytes → Bool
-      test s = is_none (act_fault O s t k (what_of what))
+      test s = is_none (act_fault O s t k what)
 
       go : (o : Option Bytes) → first_seat O N test ≡ o → is_some o ≡ true
       go (Some s) e = refl
-      go None e = absurd (contradicts (test a) (ap (λ o. is_none {T = LinkError} o) (sym (goes_as O a t k what is_method) ∙ open_to_seat)) (first_seat-none O N test e a (seat_x O N cs g x X.facts kx lx).is_seat))
+      go None e = absurd (contradicts (test a) (ap (λ o. is_none {T = LinkError} o) open_to_seat) (first_seat-none O N test e a (seat_x O N cs g x X.facts kx lx).is_seat))
 
 -- ---- the law
 
-not_field : (what : Act) → is_act_on_field what ≡ false → form_of what ≡ FieldForm → ⊥
-not_field what h e = contradicts (is_act_on_field what) (ap (λ f. is_field_form f) e) h
+-- none of the four is on a field
+abbrev pub IsOnMethod : Act → Type 0
+IsOnMethod what = (form_of what ≡ FieldForm → ⊥) × (is_act_on_field what ≡ false)
+
+on_methods : EachOf IsOnMethod method_acts
+on_methods = ((absurd_form, refl), ((absurd_form, refl), ((absurd_face, refl), ((absurd_face, refl), tt))))
+  where
+    absurd_form : MethodForm ≡ FieldForm → ⊥
+    absurd_form e = absurd (cc)
+
+    absurd_face : InterfaceForm ≡ FieldForm → ⊥
+    absurd_face e = absurd (cc)
 
 -- the act of the handle is Ok
 handle_links : (V : World) (x : Bytes) (what : Act) (t : Bytes) (k : Key) → handle_ok V x what t k ≡ true → is_none (outcome V x (handle_item what t k)) ≡ true
 unfolding handle_ok
 handle_links V x what t k h = (and_parts (is_none (outcome V x (handle_item what t k))) _ h).0
-
--- what is found depends on the form alone
-by_form : (W : World) (what : Act) (t : Bytes) (k : Key) → (form_of what ≡ FieldForm → ⊥) → are_of_open W (what_of what) t k ≡ are_of_open W what t k
-by_form W what t k n = ap (λ f. list_all (is_of_open W) (may_find W f t k)) (goes_by what n).form
 
 no_client_named : (O : World) (cs : List ClassFacts) (t : Bytes) → is_client (with_clients O cs) t ≡ false → class_named cs t ≡ None
 unfolding is_client
@@ -187,7 +176,7 @@ no_client_named O cs t h = go (class_named cs t) h
     go (Some c) e = absurd (cc)
 
 pub references_stay : ReferencesStay
-references_stay O N v pair verdict empty none cs scope met X what t k h l w nf nc ok =
+references_stay O N v pair verdict empty none cs scope met X what t k h l w one nc p ok =
     let W = with_clients O (facts_of cs) in
     let F = facts_of cs in
     let nothing = empty_means_none O N v verdict empty in
@@ -199,7 +188,8 @@ references_stay O N v pair verdict empty none cs scope met X what t k h l w nf n
     let g = ground O N cs pair q scope stay in
     let kx = named_client O N cs pair q scope X h in
     let kt = no_client_named O F t nc in
-    let n = not_field what nf in
+    let on = each_in IsOnMethod method_acts what on_methods one in
+    let n = on.0 in
     let name : is_client_name O N X.facts.name ≡ true = All-contains (λ (c : ClientClass). is_client_name O N c.facts.name ≡ true) cs X scope.names h in
     let free = free_old O N X.facts.name name in
     let root = root_library O N F g in
@@ -211,9 +201,10 @@ references_stay O N v pair verdict empty none cs scope met X what t k h l w nf n
     let uo = usable_parts O t us in
     let un = usable_parts N t now in
     let was : (is_none (outcome W X.facts.name (handle_item what t k)) && are_of_open O what t k) ≡ true = sym (handle_is O F g.fo X.facts.name X.facts kx free what t k n kt root uo.loaded) ∙ ok in
-    let opened : are_of_open O (what_of what) t k ≡ true = by_form O what t k n ∙ (and_parts (is_none (outcome W X.facts.name (handle_item what t k))) (are_of_open O what t k) was).1 in
-    let mk : is_key_of_method k ≡ true = subst (λ b. (b || is_key_of_method k) ≡ true) nf fine in
+    let opened : are_of_open O what t k ≡ true = (and_parts (is_none (outcome W X.facts.name (handle_item what t k))) (are_of_open O what t k) was).1 in
+    let public : are_public O what t k ≡ true = public_side O F g.fo what t k n kt root uo.loaded ∙ p in
+    let mk : is_key_of_method k ≡ true = subst (λ b. (b || is_key_of_method k) ≡ true) on.1 fine in
     let untold : is_told O N t k ≡ false = ap (λ o. is_some {T = Finding} o) (nothing (record { rule = METHOD_CLOSED; «class» = t; key = Some k; target = None })) in
-    let still : are_of_open N what t k ≡ true = sym (by_form N what t k n) ∙ stays_open O N t k mk (stays_steady O N q t us) untold (none t k) what (open_to_some O N cs g X kx lx free what t k n kt links) opened in
+    let still : are_of_open N what t k ≡ true = stays_open O N t k mk (stays_steady O N q t us) untold (none t k) what one (open_to_some O N cs g X kx lx free what t k n kt links) public opened in
     let goes : outcome (with_clients N F) X.facts.name (handle_item what t k) ≡ None = (keeps O N v cs pair verdict empty scope met).uses X (handle_item what t k) h l w refl links in
     handle_is N F g.fn X.facts.name X.facts kx (free_new O N X.facts.name name) what t k n kt root un.loaded ∙ and_from (is_none (outcome (with_clients N F) X.facts.name (handle_item what t k))) (are_of_open N what t k) (ap (λ o. is_none {T = LinkError} o) goes) still

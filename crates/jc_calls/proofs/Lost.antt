@@ -54,10 +54,10 @@ use Rattle.jc_complete.proofs.PlanSeats.{side_plain}
 use Rattle.jc_complete.proofs.PlanUser.{user_overrides}
 use Rattle.jc_complete.proofs.PlanUses.{kept_usable}
 use Rattle.jc_complete.proofs.PlanValid.{use_nothing, with_use}
-use Rattle.jc_calls.specs.Handles.{handle_item}
+use Rattle.jc_calls.specs.Handles.{handle_item, are_public}
 use Rattle.jc_calls.specs.References.{is_open_to_some, is_handle_lost, is_told, are_of_open, reference_lost}
 use Rattle.jc_calls.specs.Lost.{SomeClientLosesHandle, EachReferenceIsLost}
-use Rattle.jc_calls.proofs.Openly.{handle_is}
+use Rattle.jc_calls.proofs.Openly.{handle_is, public_side}
 
 -- what is Ok of some receiver is Ok where nothing is known of it
 pub any_receiver : (V : World) (x : Bytes) (what : Act) (t : Bytes) (k : Key) (r : Option Bytes) → outcome V x (item.Access what t k r Other) ≡ None → outcome V x (handle_item what t k) ≡ None
@@ -85,7 +85,7 @@ any_receiver V x what t k r o =
     loose m e = either (not (is_special what) || is_direct_super V x t) (is_act_on_static what) _ e
 
 module _ (O N : World) (w : Bytes) (r : Ready O N w) (a : Bytes) (b : IsBase O N a) (c : Bytes) (k : Key) (what : Act) (po : IsOpen O a c k what) (pn : IsOpen N a c k what) (is_method : form_of what ≡ FieldForm → ⊥)
-    (was : are_of_open O what c k ≡ true) (now : are_of_open N what c k ≡ false) where
+    (is_public : are_public O what c k ≡ true) (was : are_of_open O what c k ≡ true) (now : are_of_open N what c k ≡ false) where
   abbrev y : Bytes
   y = own_name O N (letter w 89) a
 
@@ -168,6 +168,7 @@ module _ (O N : World) (w : Bytes) (r : Ready O N w) (a : Bytes) (b : IsBase O N
     has = Contains-push (item.Init a (constructor O a) ∷ []) i;
     loads_new = loads_n;
     goes_on = links_n;
+    public = sym (public_side O (Yf ∷ []) fo what c k is_method (declared_library O (Yf ∷ []) fo c po.class.class po.class.is_there) (declared_library O (Yf ∷ []) fo object_name r.root r.old.there) po.class.loaded) ∙ is_public;
     was = handle_is O (Yf ∷ []) fo y Yf named (free_name O y own.old.allowed_o) what c k is_method (declared_library O (Yf ∷ []) fo c po.class.class po.class.is_there) (declared_library O (Yf ∷ []) fo object_name r.root r.old.there) po.class.loaded
         ∙ and_from (is_none (outcome VO y i)) (are_of_open O what c k) (ap (λ o. is_none {T = LinkError} o) links_o) was;
     lost = handle_is N (Yf ∷ []) fn y Yf named (free_name N y own.old.allowed_n) what c k is_method (declared_library N (Yf ∷ []) fn c pn.class.class pn.class.is_there) (declared_library N (Yf ∷ []) fn object_name r.root r.new.there) pn.class.loaded
@@ -221,18 +222,19 @@ module _ (O N : World) (can : CanPlan O N) (c : Bytes) (k : Key) (h : reference_
 
   by_act : (what : Act) → Contains method_acts what → is_handle_lost O N c k what ≡ true → SomeClientLosesHandle O N c k
   by_act what i l =
-      let p = and_parts (is_open_to_some O N c k what && are_of_open O what c k) (not (are_of_open N what c k)) l in
-      let q = and_parts (is_open_to_some O N c k what) (are_of_open O what c k) p.0 in
-      go (first_seat O N (λ a. is_none (act_fault O a c k what))) refl q.0 q.1 (not-true (are_of_open N what c k) p.1)
+      let p = and_parts (is_open_to_some O N c k what && are_public O what c k && are_of_open O what c k) (not (are_of_open N what c k)) l in
+      let q = and_parts (is_open_to_some O N c k what && are_public O what c k) (are_of_open O what c k) p.0 in
+      let s = and_parts (is_open_to_some O N c k what) (are_public O what c k) q.0 in
+      go (first_seat O N (λ a. is_none (act_fault O a c k what))) refl s.0 s.1 q.1 (not-true (are_of_open N what c k) p.1)
     where
-      go : (o : Option Bytes) → first_seat O N (λ a. is_none (act_fault O a c k what)) ≡ o → is_some o ≡ true → are_of_open O what c k ≡ true → are_of_open N what c k ≡ false → SomeClientLosesHandle O N c k
-      go None e s u n = absurd (cc)
-      go (Some a) e s u n =
+      go : (o : Option Bytes) → first_seat O N (λ a. is_none (act_fault O a c k what)) ≡ o → is_some o ≡ true → are_public O what c k ≡ true → are_of_open O what c k ≡ true → are_of_open N what c k ≡ false → SomeClientLosesHandle O N c k
+      go None e s v u n = absurd (cc)
+      go (Some a) e s v u n =
           let b : IsBase O N a = seat_base O N w r a (seat_of_first (λ a. is_none (act_fault O a c k what)) a e) in
           let o : act_fault O a c k what ≡ None = none_where (act_fault O a c k what) (first_seat-passes O N (λ a. is_none (act_fault O a c k what)) a e) in
           let po = open_on_method O r.old.valid a c k what both.0 o i parts.key in
           let pn = open_on_method N r.new.valid a c k what both.1 (goes_on what i a (is_seat a b (seat_of_first (λ a. is_none (act_fault O a c k what)) a e)) o) i parts.key in
-          loses_handle O N w r a b c k what po pn (of_method what i) u n
+          loses_handle O N w r a b c k what po pn (of_method what i) v u n
         where
           is_seat : (a : Bytes) → IsBase O N a → (a ≡ object_name) ⊎ (is_base_class O N a ≡ true) → IsSeat O N a
           is_seat a b (inl e) = inl e

@@ -1,5 +1,5 @@
 -- Handles of clients, by what stands of the library alone.
---     openly_is      a library's class that declares a method is accessible from a client exactly where clients can name it
+--     openly_is      a library's class that is said to declare a method is accessible from a client exactly where clients can name it
 --     handle_is      so the handle of an act named through a library's class is Ok exactly where the act is, and clients can name each class
 --                    that declares what it may find
 use Rattle.std.proofs.Common.{◌≡◌, ◌||◌, ◌&&◌, Bool, true, List, [], ◌∷◌, refl, sym, ◌∙◌, ap, None, Some, is_none}
@@ -26,7 +26,7 @@ use Rattle.jc_worlds.proofs.Sides.{method_choices-side, interface_choices-side}
 use Rattle.jc_worlds.proofs.VisibleFrom.{visible_from-client}
 use Rattle.jc_sound.proofs.MethodLooked.{interface_choices-declared}
 use Rattle.jc_complete.proofs.PlanLoads.{lib_find}
-use Rattle.jc_calls.specs.Handles.{handle_item, handle_ok, declares_openly}
+use Rattle.jc_calls.specs.Handles.{handle_item, handle_ok, declares_openly, are_public, is_said_of_named}
 use Rattle.jc_calls.specs.References.{is_of_open, are_of_open}
 use Rattle.jc_sound.proofs.ClientNames.{free_parts}
 
@@ -43,6 +43,10 @@ module _ (W : World) (cs : List ClassFacts) (fits : Fits W cs) where
   found_side MethodForm t k n l r h = method_choices-side W cs fits.bare fits.unused t k l h
   found_side InterfaceForm t k n l r h = interface_choices-side W cs fits.bare fits.unused t k l r h
 
+  -- and so is whether it is all public
+  pub public_side : (what : Act) (t : Bytes) (k : Key) → (form_of what ≡ FieldForm → ⊥) → class_named cs t ≡ None → class_named cs object_name ≡ None → load_fault W t ≡ None → are_public W what t k ≡ are_public (with_clients W cs) what t k
+  public_side what t k n l r h = ap (list_all (λ (m : DeclaredMember). public_flag m.member.flags)) (found_side (form_of what) t k n l r h)
+
   module _ (x : Bytes) (c : ClassFacts) (named : class_named cs x ≡ Some c) (free : is_free_name W x ≡ true) where
     pub accessible_is : (y : Bytes) (d : ClassFacts) → find_class W y ≡ Some d → is_class_accessible (with_clients W cs) x d ≡ (is_visible W d.name && public_flag d.flags)
     accessible_is y d f =
@@ -50,20 +54,21 @@ module _ (W : World) (cs : List ClassFacts) (fits : Fits W cs) where
         ∙ or-false (is_visible_from W x d.name && public_flag d.flags)
         ∙ ap (λ b. b && public_flag d.flags) (visible_from-client W x d.name (client_module W cs fits x c named))
 
-    pub openly_is : (m : DeclaredMember) (d : ClassFacts) → find_class W m.owner ≡ Some d → declares_openly (with_clients W cs) x m ≡ is_of_open W m
-    openly_is m d f =
-        ap (some_and (is_class_accessible (with_clients W cs) x)) (lib_find W cs fits m.owner d f) ∙ accessible_is m.owner d f
-        ∙ sym (ap (some_and (λ (e : ClassFacts). is_visible W e.name && public_flag e.flags)) f)
+    pub openly_is : (what : Act) (m : DeclaredMember) (d : ClassFacts) → find_class W m.owner ≡ Some d → declares_openly (with_clients W cs) x what m ≡ is_of_open W what m
+    openly_is what m d f =
+        ap (some_and (λ (e : ClassFacts). is_said_of_named what e || is_class_accessible (with_clients W cs) x e)) (lib_find W cs fits m.owner d f)
+        ∙ ap (λ b. is_said_of_named what d || b) (accessible_is m.owner d f)
+        ∙ sym (ap (some_and (λ (e : ClassFacts). is_said_of_named what e || (is_visible W e.name && public_flag e.flags))) f)
 
-    pub all_openly : (k : Key) (ms : List DeclaredMember) → EachOf (IsDeclared W k) ms → list_all (declares_openly (with_clients W cs) x) ms ≡ list_all (is_of_open W) ms
-    all_openly k [] h = refl
-    all_openly k (m ∷ ms) h =
-        ap (λ b. b && list_all (declares_openly (with_clients W cs) x) ms) (openly_is m h.0.class h.0.is_there)
-        ∙ ap (λ b. is_of_open W m && b) (all_openly k ms h.1)
+    pub all_openly : (what : Act) (k : Key) (ms : List DeclaredMember) → EachOf (IsDeclared W k) ms → list_all (declares_openly (with_clients W cs) x what) ms ≡ list_all (is_of_open W what) ms
+    all_openly what k [] h = refl
+    all_openly what k (m ∷ ms) h =
+        ap (λ b. b && list_all (declares_openly (with_clients W cs) x what) ms) (openly_is what m h.0.class h.0.is_there)
+        ∙ ap (λ b. is_of_open W what m && b) (all_openly what k ms h.1)
 
     pub handle_is : (what : Act) (t : Bytes) (k : Key) → (form_of what ≡ FieldForm → ⊥) → class_named cs t ≡ None → class_named cs object_name ≡ None → load_fault W t ≡ None
         → handle_ok (with_clients W cs) x what t k ≡ (is_none (outcome (with_clients W cs) x (handle_item what t k)) && are_of_open W what t k)
     unfolding handle_ok
     handle_is what t k n l r h =
         ap (λ (b : Bool). is_none (outcome (with_clients W cs) x (handle_item what t k)) && b)
-        (ap (list_all (declares_openly (with_clients W cs) x)) (sym (found_side (form_of what) t k n l r h)) ∙ all_openly k (may_find W (form_of what) t k) (found_declared W (form_of what) t k n h))
+        (ap (list_all (declares_openly (with_clients W cs) x what)) (sym (found_side (form_of what) t k n l r h)) ∙ all_openly what k (may_find W (form_of what) t k) (found_declared W (form_of what) t k n h))

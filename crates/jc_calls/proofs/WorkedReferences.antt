@@ -1,6 +1,6 @@
 -- Worked examples of method references: what pairs of small releases do to those of clients.
 use Rattle.std.proofs.Common.{◌≡◌, ℕ, true, false, List, [], ◌∷◌, refl, Some, None, codes}
-use Rattle.jc_facts.specs.declared.act.Act.TheVariants.{InvokeVirtual, InvokeStatic, InvokeInterface}
+use Rattle.jc_facts.specs.declared.act.Act.TheVariants.{InvokeVirtual, InvokeStatic, InvokeSpecial, InvokeInterface}
 use Rattle.jc_facts.specs.declared.class_facts.ClassFacts.{ClassFacts}
 use Rattle.jc_facts.specs.declared.class_facts.Member.{Member}
 use Rattle.jc_facts.specs.declared.key.Key.{Key}
@@ -8,7 +8,7 @@ use Rattle.jc_facts.specs.Names.{Bytes, object_name}
 use Rattle.jc_facts.specs.world.World.{World, modular_side, with_clients}
 use Rattle.jc_facts.specs.client.Outcome.{outcome}
 use Rattle.jc_sound.proofs.Examples.{computes, init, key, member, a_class, plain, object, over, extending}
-use Rattle.jc_calls.specs.Handles.{handle_item, handle_ok}
+use Rattle.jc_calls.specs.Handles.{handle_item, handle_ok, are_public}
 use Rattle.jc_calls.specs.References.{reference_lost}
 
 -- what these compute with
@@ -52,7 +52,11 @@ having x flags above methods = a_class x flags (Some above) [] [] (init 1 ∷ me
 abbrev face : Bytes → ℕ → List Bytes → List Member → ClassFacts
 face x flags above methods = a_class x flags (Some object_name) above [] methods
 
--- ---- methods that move up into a package-private class
+-- a class that has the package-private interface p/H above it
+abbrev over_face : Bytes → List Member → ClassFacts
+over_face x methods = a_class x 0x21 (Some object_name) (p_H ∷ []) [] (init 1 ∷ methods)
+
+-- ---- methods that move up into a package-private class or interface
 
 -- a static method
 abbrev old_static : World
@@ -106,10 +110,33 @@ with_bridge : reference_lost (over (having p_A 0x21 p_H (m 1 ∷ []) ∷ having 
 unfolding refers
 with_bridge = refl
 
--- a protected method, which clients below p/A alone can call
-handle_protected : reference_lost (over (having p_A 0x21 p_H (m 0xC ∷ []) ∷ having p_H 0x20 object_name [] ∷ [])) (over (having p_A 0x21 p_H [] ∷ having p_H 0x20 object_name (m 0xC ∷ []) ∷ [])) p_A m_key ≡ true
+-- a protected one, which clients below p/A alone can call: javac makes a lambda of it, and only a handle would be lost
+abbrev old_protected : World
+old_protected = over (having p_A 0x21 p_H (m 0xC ∷ []) ∷ having p_H 0x20 object_name [] ∷ [])
+
+abbrev new_protected : World
+new_protected = over (having p_A 0x21 p_H [] ∷ having p_H 0x20 object_name (m 0xC ∷ []) ∷ [])
+
+handle_protected : (reference_lost old_protected new_protected p_A m_key ≡ false) × (are_public old_protected InvokeStatic p_A m_key ≡ false)
+    × (handle_ok (with_clients old_protected (below ∷ [])) app_M InvokeStatic p_A m_key ≡ true) × (handle_ok (with_clients new_protected (below ∷ [])) app_M InvokeStatic p_A m_key ≡ false)
 unfolding refers
-handle_protected = refl
+handle_protected = (refl, refl, refl, refl)
+
+-- one of a class, into a package-private interface: the handle goes on. Only that of invokespecial doesn't, which javac makes of no reference
+abbrev old_default : World
+old_default = over (over_face p_A (m 1 ∷ []) ∷ face p_H 0x600 [] [] ∷ [])
+
+abbrev new_default : World
+new_default = over (over_face p_A [] ∷ face p_H 0x600 [] (m 1 ∷ []) ∷ [])
+
+handle_default : (reference_lost old_default new_default p_A m_key ≡ false)
+    × (handle_ok (with_clients old_default (user ∷ [])) app_M InvokeVirtual p_A m_key ≡ true) × (handle_ok (with_clients new_default (user ∷ [])) app_M InvokeVirtual p_A m_key ≡ true)
+unfolding refers
+handle_default = (refl, refl, refl)
+
+handle_special : (handle_ok (with_clients old_default (below ∷ [])) app_M InvokeSpecial p_A m_key ≡ true) × (handle_ok (with_clients new_default (below ∷ [])) app_M InvokeSpecial p_A m_key ≡ false)
+unfolding refers
+handle_special = (refl, refl)
 
 -- a package-private class of the client's own package is accessible, and so is one that is nested and protected, whose class file says that it is public
 own_package : (handle_ok (with_clients old_static (user ∷ having (codes "app/H") 0x20 object_name (m 8 ∷ []) ∷ [])) app_M InvokeStatic (codes "app/H") m_key ≡ true)

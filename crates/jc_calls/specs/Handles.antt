@@ -1,18 +1,23 @@
 -- Method handles of acts, as a method reference of a client has them (JVMS 4.4.8, 5.4.3.5).
 --     handle_ok W x what t k      the handle of the act on the key k, named through t, is Ok from the class x
+--     are_public W what t k      each method that the act may find is public
 -- A handle is resolved as the act itself is. LambdaMetafactory then takes it apart by MethodHandles.Lookup.revealDirect of the client's own lookup,
 -- which asks that the class that declares the method found be accessible from the client, and not only the one that the client names: where it
--- isn't, the call site ends with BootstrapMethodError. A virtual machine that may find several methods may find any, so it is asked of each.
-use Rattle.std.specs.Prelude.{Bool, None, is_none, ◌&&◌}
+-- isn't, the call site ends with BootstrapMethodError. What invokevirtual finds in an interface HotSpot says to be declared by the class named, which
+-- is accessible: such a handle goes on. What invokespecial and invokeinterface find it leaves to the interface. A virtual machine that may find several
+-- methods may find any, so it is asked of each.
+use Rattle.std.specs.Prelude.{Bool, true, false, None, is_none, ◌&&◌, ◌||◌}
 use Rattle.std.specs.List.{list_all}
 use Rattle.jc_facts.specs.declared.act.Act.{Act}
+use Rattle.jc_facts.specs.declared.act.Act.TheVariants.{InvokeVirtual, InvokeStatic}
+use Rattle.jc_facts.specs.declared.class_facts.ClassFacts.{ClassFacts}
 use Rattle.jc_facts.specs.declared.client.Item.{Item}
 use Rattle.jc_facts.specs.declared.client.Item.TheVariants as item
 use Rattle.jc_facts.specs.declared.client.Place.TheVariants.{Other}
 use Rattle.jc_facts.specs.declared.key.Key.{Key}
+use Rattle.jc_facts.specs.Flags.{public_flag, interface_flag}
 use Rattle.jc_facts.specs.Names.{Bytes}
-use Rattle.jc_facts.specs.Options.{some_and}
-use Rattle.jc_facts.specs.world.World.{World, find_class, DeclaredMember}
+use Rattle.jc_facts.specs.world.World.{World, class_is, DeclaredMember}
 use Rattle.jc_facts.specs.world.Access.{is_class_accessible}
 use Rattle.jc_facts.specs.client.Acts.{form_of}
 use Rattle.jc_facts.specs.client.Outcome.{outcome, may_find}
@@ -21,10 +26,24 @@ use Rattle.jc_facts.specs.client.Outcome.{outcome, may_find}
 abbrev pub handle_item : Act → Bytes → Key → Item
 handle_item what t k = item.Access what t k None Other
 
--- the class that declares the method is accessible from x (JVMS 5.4.4): its own, those of its package, and public ones that are visible
-abbrev pub declares_openly : World → Bytes → DeclaredMember → Bool
-declares_openly W x m = some_and (is_class_accessible W x) (find_class W m.owner)
+-- the act calls through the class that it names. By invokestatic no interface's method is found so (JVMS 5.4.3.3)
+abbrev pub is_through_class : Act → Bool
+is_through_class InvokeVirtual = true
+is_through_class InvokeStatic = true
+is_through_class _ = false
 
--- the act is Ok, and each method that it may find is declared by a class that is accessible too
+-- of what the act finds in d the class named is said to be the one that declares it
+abbrev pub is_said_of_named : Act → ClassFacts → Bool
+is_said_of_named what d = is_through_class what && interface_flag d.flags
+
+-- the class that is said to declare the method is accessible from x (JVMS 5.4.4): its own, those of its package, and public ones that are visible
+abbrev pub declares_openly : World → Bytes → Act → DeclaredMember → Bool
+declares_openly W x what m = class_is W (λ d. is_said_of_named what d || is_class_accessible W x d) m.owner
+
+-- the act is Ok, and each method that it may find is said to be declared by a class that is accessible too
 unfoldable pub handle_ok : World → Bytes → Act → Bytes → Key → Bool
-handle_ok W x what t k = is_none (outcome W x (handle_item what t k)) && list_all (declares_openly W x) (may_find W (form_of what) t k)
+handle_ok W x what t k = is_none (outcome W x (handle_item what t k)) && list_all (declares_openly W x what) (may_find W (form_of what) t k)
+
+-- each method that the act on the key k may find, named through t, is public: of a protected one of another package javac makes a lambda and no handle
+abbrev pub are_public : World → Act → Bytes → Key → Bool
+are_public W what t k = list_all (λ m. public_flag m.member.flags) (may_find W (form_of what) t k)

@@ -3,8 +3,11 @@ pub mod AccessKept
 pub mod CallsKept
 pub mod Constants
 pub mod Handles
+pub mod Joins
+pub mod JoinsKept
 pub mod Lines
 pub mod Lost
 pub mod LostAccess
+pub mod LostJoins
 pub mod References
 pub mod Selected

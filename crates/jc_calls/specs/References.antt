@@ -1,6 +1,6 @@
 -- Method references that no longer link, over the old side O and the new side N alone.
---     reference_lost O N c k      the handles of an act on the key k, named through the class c, were Ok and aren't, while the act goes on
-use Rattle.std.specs.Prelude.{Bool, not, None, Some, is_none, is_some, ◌&&◌}
+--     reference_lost O N c k      the handles of an act on the public method of the key k, named through the class c, were Ok and aren't, while the act goes on
+use Rattle.std.specs.Prelude.{Bool, not, None, Some, is_none, is_some, ◌&&◌, ◌||◌}
 use Rattle.std.specs.List.{list_any, list_all}
 use Rattle.jc_facts.specs.declared.act.Act.{Act}
 use Rattle.jc_facts.specs.declared.key.Key.{Key}
@@ -14,16 +14,18 @@ use Rattle.jc_facts.specs.client.Outcome.{may_find}
 use Rattle.jc_promises.specs.rule.Bases.{is_steady, is_key_of_method}
 use Rattle.jc_promises.specs.rule.Findings.{finding_at}
 use Rattle.jc_promises.specs.rule.OpenActs.{act_fault, first_seat, method_acts}
+use Rattle.jc_calls.specs.Handles.{are_public, is_said_of_named}
 
 -- ---- one side
 
--- clients can name the class that declares the method: it is public and visible (JVMS 5.4.4). No client is of a library's package
-abbrev pub is_of_open : World → DeclaredMember → Bool
-is_of_open W m = class_is W (λ c. is_visible W c.name && public_flag c.flags) m.owner
+-- clients can name the class that is said to declare the method that the act finds: the one that they name, or one that is public and visible (JVMS 5.4.4).
+-- No client is of a library's package
+abbrev pub is_of_open : World → Act → DeclaredMember → Bool
+is_of_open W what m = class_is W (λ c. is_said_of_named what c || (is_visible W c.name && public_flag c.flags)) m.owner
 
 -- so it is with each that the act on the key k may find, named through the class c
 abbrev pub are_of_open : World → Act → Bytes → Key → Bool
-are_of_open W what c k = list_all (is_of_open W) (may_find W (form_of what) c k)
+are_of_open W what c k = list_all (is_of_open W what) (may_find W (form_of what) c k)
 
 -- ---- two sides
 
@@ -31,9 +33,9 @@ are_of_open W what c k = list_all (is_of_open W) (may_find W (form_of what) c k)
 abbrev pub is_open_to_some : World → World → Bytes → Key → Act → Bool
 is_open_to_some O N c k what = is_some (first_seat O N (λ a. is_none (act_fault O a c k what)))
 
--- and take a handle of it apart, as they no longer can
+-- and take apart the handle that javac makes of it, as they no longer can
 abbrev pub is_handle_lost : World → World → Bytes → Key → Act → Bool
-is_handle_lost O N c k what = is_open_to_some O N c k what && are_of_open O what c k && not (are_of_open N what c k)
+is_handle_lost O N c k what = is_open_to_some O N c k what && are_public O what c k && are_of_open O what c k && not (are_of_open N what c k)
 
 -- a finding on the class and the key says that an act is closed
 abbrev pub is_told : World → World → Bytes → Key → Bool

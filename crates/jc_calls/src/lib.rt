@@ -5,8 +5,10 @@
 
 ghost use Rattle.jc_calls.specs.AccessKept.{AccessStays};
 ghost use Rattle.jc_calls.specs.CallsKept.{ReferencesStay};
+ghost use Rattle.jc_calls.specs.JoinsKept.{JoinsStay};
 ghost use Rattle.jc_calls.specs.Lost.{EachReferenceIsLost};
 ghost use Rattle.jc_calls.specs.LostAccess.{EachAccessIsLost};
+ghost use Rattle.jc_calls.specs.LostJoins.{EachJoinIsLost};
 
 /// Where the verdict has no finding, no reference is lost, and no collision is met, each method reference of a client that names a class
 /// of a library, and was Ok, is Ok.
@@ -28,4 +30,15 @@ pub fn each_access_is_lost()
 /// client's method refuses was refused before, or the seat's chain had the key as public.
 pub fn access_stays()
     ensures { AccessStays }
+{}
+
+/// Where the verdict has no finding, no superclass is lost where values of two classes met, and no collision is met, what the
+/// clients of a seat hold, and met others at a class that they can't name, is assignable to that (JVMS 4.10.1.2).
+pub fn joins_stay()
+    ensures { JoinsStay }
+{}
+
+/// Each superclass that is lost where values met refuses some client in scope, which meets no collision (JVMS 4.10.1.2).
+pub fn each_join_is_lost()
+    ensures { EachJoinIsLost }
 {}

@@ -7,19 +7,17 @@ use Rattle.std.specs.Prelude.{IsTrue}
 use Rattle.std.specs.List.{Contains, filter_map, list_any}
 use Rattle.std.specs.Cmp.{IsTotalOrder, then_total, on_total, first_so, second_so}
 use Rattle.std.specs.Cmp.Lexicographic.{nat_list_cmp_total, options_total}
-use Rattle.std.specs.Option.{option_cmp}
-use Rattle.std.specs.Ordering.{nat_cmp, ordering_then}
 use Rattle.std.proofs.lemmas.Bool.{or_cases, eqb-true}
 use Rattle.std.proofs.lemmas.Cmp.{nat_cmp_total}
 use Rattle.std.proofs.lemmas.List.Elements.{Contains-append_left, Contains-append_right}
 use Rattle.jc_facts.specs.declared.act.Act.{Act}
 use Rattle.jc_call_kinds.specs.declared.call_line.CallKind.{CallKind}
-use Rattle.jc_call_kinds.specs.declared.call_line.CallKind.TheVariants.{Reference, Access, Constants}
+use Rattle.jc_call_kinds.specs.declared.call_line.CallKind.TheVariants.{Reference, Access, Joined, Constants}
 use Rattle.jc_call_kinds.specs.declared.call_line.CallLine.{CallLine}
 use Rattle.jc_facts.specs.declared.class_facts.ClassFacts.{ClassFacts}
 use Rattle.jc_facts.specs.declared.key.Key.{Key}
-use Rattle.jc_facts.specs.Exactly.{HasExactly, name_order}
-use Rattle.jc_facts.specs.KeyOrder.{key_cmp, key_total}
+use Rattle.jc_facts.specs.Exactly.{HasExactly}
+use Rattle.jc_facts.specs.KeyOrder.{key_total}
 use Rattle.jc_facts.specs.Names.{Bytes}
 use Rattle.jc_facts.specs.world.Hierarchy.{superinterfaces}
 use Rattle.jc_facts.specs.world.Inheritance.{is_inheritable, is_final_in_chain, offers}
@@ -31,6 +29,7 @@ use Rattle.jc_promises.specs.rule.Findings.{Subject}
 use Rattle.jc_promises.specs.rule.OpenActs.{act_fault, first_seat, method_acts}
 use Rattle.jc_calls.specs.Access.{access_added, is_called_above}
 use Rattle.jc_calls.specs.Constants.{constants_added}
+use Rattle.jc_calls.specs.Handles.{are_public}
 use Rattle.jc_calls.specs.Lines.{is_due, place_of, line_order, LineStands, AreLines}
 use Rattle.jc_calls.specs.References.{are_of_open, is_handle_lost, is_open_to_some, is_told, reference_lost}
 use Rattle.jc_facts.proofs.InOrder.{exact_same}
@@ -49,69 +48,63 @@ use Rattle.jc_sides.proofs.Subjects.{subject_order}
 use Rattle.jc_worlds.specs.Hierarchy.{above}
 use Rattle.jc_commands.specs.CallsPart.{AreAskedCalls}
 use Rattle.jc_commands.proofs.Declarations.{above_in, super_all, some_key}
-use Rattle.jc_commands.proofs.SomeVerdict.{last_tied, of_kept, usable_name}
+use Rattle.jc_commands.proofs.SomeVerdict.{of_kept, usable_name}
 use Rattle.jc_commands.proofs.Subjects.{on_subject, rules, is_rule, none_or, names, keys, subjects, covered}
 use Rattle.jc_releases.specs.declared.limits.TheConstants.{MAX_CALLS}
 
 -- ---- lines by subject
 
 abbrev call_subject : CallLine → Subject
-call_subject l = on_subject (place_of l.kind) l.«class» l.key None
+call_subject l = on_subject (place_of l.kind) l.«class» l.key l.target
 
 call_ordered : (l m : CallLine) → subject_order (call_subject l) (call_subject m) ≡ line_order l m
-call_ordered l m =
-    ap (λ o. ordering_then (nat_cmp (place_of l.kind) (place_of m.kind)) (ordering_then (name_order l.«class» m.«class») o)) (last_tied (option_cmp key_cmp l.key m.key))
+call_ordered l m = refl
 
-abbrev line_of : CallKind → Bytes → Option Key → CallLine
-line_of kind x k = record { kind = kind; «class» = x; key = k }
+abbrev line_of : CallKind → Bytes → Option Key → Option Bytes → CallLine
+line_of kind x k t = record { kind = kind; «class» = x; key = k; target = t }
 
 module _ (O N : World) where
-  abbrev due_line : CallKind → Bytes → Option Key → Option CallLine
-  due_line kind x k = cond (is_due O N kind x k) (Some (line_of kind x k)) None
+  abbrev due_line : CallKind → Bytes → Option Key → Option Bytes → Option CallLine
+  due_line kind x k t = cond (is_due O N kind x k t) (Some (line_of kind x k t)) None
 
-  abbrev call_by : Subject → Option Bytes → Option CallLine
-  call_by s None =
-      cond (s.rule == 0) (due_line Reference s.«class» s.key) (cond (s.rule == 1) (due_line Access s.«class» s.key) (cond (s.rule == 2) (due_line Constants s.«class» s.key) None))
-  call_by s (Some t) = None
+  abbrev due_on : Subject → CallKind → Option CallLine
+  due_on s kind = due_line kind s.«class» s.key s.target
 
   abbrev call_here : Subject → Option CallLine
-  call_here s = call_by s s.target
+  call_here s = cond (s.rule == 0) (due_on s Reference) (cond (s.rule == 1) (due_on s Access) (cond (s.rule == 2) (due_on s Joined) (cond (s.rule == 3) (due_on s Constants) None)))
 
   call_is_on : (s : Subject) (l : CallLine) → call_here s ≡ Some l → call_subject l ≡ s
-  call_is_on s l e = go s.target refl e
+  call_is_on s l e = by_rule (s.rule == 0) (s.rule == 1) (s.rule == 2) (s.rule == 3) refl refl refl refl e
     where
-      made : (kind : CallKind) → s.rule ≡ place_of kind → s.target ≡ None → (b : Bool) → cond b (Some (line_of kind s.«class» s.key)) None ≡ Some l → call_subject l ≡ s
-      made kind p t true q =
-          let is : line_of kind s.«class» s.key ≡ l = cc in
-          ap call_subject (sym is)
-          ∙ sym (ap (λ (r : ℕ). on_subject r s.«class» s.key s.target) p ∙ ap (λ (o : Option Bytes). on_subject (place_of kind) s.«class» s.key o) t)
-      made kind p t false q = absurd (let clash : None ≡ Some l = q in cc)
+      made : (kind : CallKind) → s.rule ≡ place_of kind → (b : Bool) → cond b (Some (line_of kind s.«class» s.key s.target)) None ≡ Some l → call_subject l ≡ s
+      made kind p true q =
+          let is : line_of kind s.«class» s.key s.target ≡ l = cc in
+          ap call_subject (sym is) ∙ sym (ap (λ (r : ℕ). on_subject r s.«class» s.key s.target) p)
+      made kind p false q = absurd (let clash : None ≡ Some l = q in cc)
 
-      by_rule : (a b c : Bool) → (s.rule == 0) ≡ a → (s.rule == 1) ≡ b → (s.rule == 2) ≡ c → s.target ≡ None
-          → cond a (due_line Reference s.«class» s.key) (cond b (due_line Access s.«class» s.key) (cond c (due_line Constants s.«class» s.key) None)) ≡ Some l → call_subject l ≡ s
-      by_rule true b c p q r t w = made Reference (eqb-true s.rule 0 p) t (is_due O N Reference s.«class» s.key) w
-      by_rule false true c p q r t w = made Access (eqb-true s.rule 1 q) t (is_due O N Access s.«class» s.key) w
-      by_rule false false true p q r t w = made Constants (eqb-true s.rule 2 r) t (is_due O N Constants s.«class» s.key) w
-      by_rule false false false p q r t w = absurd (let clash : None ≡ Some l = w in cc)
+      by_rule : (a b c d : Bool) → (s.rule == 0) ≡ a → (s.rule == 1) ≡ b → (s.rule == 2) ≡ c → (s.rule == 3) ≡ d
+          → cond a (due_on s Reference) (cond b (due_on s Access) (cond c (due_on s Joined) (cond d (due_on s Constants) None))) ≡ Some l → call_subject l ≡ s
+      by_rule true b c d p q r t w = made Reference (eqb-true s.rule 0 p) (is_due O N Reference s.«class» s.key s.target) w
+      by_rule false true c d p q r t w = made Access (eqb-true s.rule 1 q) (is_due O N Access s.«class» s.key s.target) w
+      by_rule false false true d p q r t w = made Joined (eqb-true s.rule 2 r) (is_due O N Joined s.«class» s.key s.target) w
+      by_rule false false false true p q r t w = made Constants (eqb-true s.rule 3 t) (is_due O N Constants s.«class» s.key s.target) w
+      by_rule false false false false p q r t w = absurd (let clash : None ≡ Some l = w in cc)
 
-      go : (t : Option Bytes) → s.target ≡ t → call_by s t ≡ Some l → call_subject l ≡ s
-      go None t w = by_rule (s.rule == 0) (s.rule == 1) (s.rule == 2) refl refl refl t w
-      go (Some x) t w = absurd (let clash : None ≡ Some l = w in cc)
-
-  here_of : (kind : CallKind) (x : Bytes) (k : Option Key) → call_here (on_subject (place_of kind) x k None) ≡ due_line kind x k
-  here_of Reference x k = refl
-  here_of Access x k = refl
-  here_of Constants x k = refl
+  here_of : (kind : CallKind) (x : Bytes) (k : Option Key) (t : Option Bytes) → call_here (on_subject (place_of kind) x k t) ≡ due_line kind x k t
+  here_of Reference x k t = refl
+  here_of Access x k t = refl
+  here_of Joined x k t = refl
+  here_of Constants x k t = refl
 
   call_stands : (l : CallLine) → call_here (call_subject l) ≡ Some l → LineStands O N l
-  call_stands l e = go (is_due O N l.kind l.«class» l.key) (sym (here_of l.kind l.«class» l.key) ∙ e)
+  call_stands l e = go (is_due O N l.kind l.«class» l.key l.target) (sym (here_of l.kind l.«class» l.key l.target) ∙ e)
     where
-      go : (b : Bool) → cond b (Some (line_of l.kind l.«class» l.key)) None ≡ Some l → b ≡ true
+      go : (b : Bool) → cond b (Some (line_of l.kind l.«class» l.key l.target)) None ≡ Some l → b ≡ true
       go true q = refl
       go false q = absurd (let clash : None ≡ Some l = q in cc)
 
   call_found : (l : CallLine) → LineStands O N l → call_here (call_subject l) ≡ Some l
-  call_found l h = here_of l.kind l.«class» l.key ∙ ap (λ (b : Bool). cond b (Some (line_of l.kind l.«class» l.key)) None) h
+  call_found l h = here_of l.kind l.«class» l.key l.target ∙ ap (λ (b : Bool). cond b (Some (line_of l.kind l.«class» l.key l.target)) None) h
 
   -- a steady class was usable
   steady_usable : (x : Bytes) → is_steady O N x ≡ true → is_class_usable O x ≡ true
@@ -148,7 +141,9 @@ module _ (O N : World) where
             → list_any (declares_key k) (above O x) ≡ true
         go (inl p) r =
             seat_finds x k loaded what
-            (first_so (is_open_to_some O N x k what) (are_of_open O what x k) (first_so (is_open_to_some O N x k what && are_of_open O what x k) (not (are_of_open N what x k)) p))
+            (first_so (is_open_to_some O N x k what) (are_public O what x k)
+            (first_so (is_open_to_some O N x k what && are_public O what x k) (are_of_open O what x k)
+            (first_so (is_open_to_some O N x k what && are_public O what x k && are_of_open O what x k) (not (are_of_open N what x k)) p)))
         go (inr p) r = r p
 
     -- the parts of a subject, where the class is there and the key declared
@@ -177,24 +172,22 @@ module _ (O N : World) where
         (some_key k (classes O ++ classes N) (superinterfaces N x) (EachOf-map of_new (superinterfaces N x) (super_all N x))
         (any_weaker (offers k) (declares_key k) (test_declares k is_inheritable) (superinterfaces N x) called))
 
-    constants_covered : (x : Bytes) → constants_added O N x ≡ true → Contains (subjects O N).items (on_subject 2 x None None)
+    constants_covered : (x : Bytes) → constants_added O N x ≡ true → Contains (subjects O N).items (on_subject 3 x None None)
     unfolding constants_added
     constants_covered x h =
-        covered O N (on_subject 2 x None None) (is_rule 2 refl)
+        covered O N (on_subject 3 x None None) (is_rule 3 refl)
         (usable_name O N pair x (steady_usable x (first_so (is_steady O N x) _ h)))
         (none_or (keys O N) None (λ k is. absurd (let clash : None ≡ Some k = is in cc)))
         (none_or (names O N) None (λ t is. absurd (let clash : None ≡ Some t = is in cc)))
 
     call_covered : (l : CallLine) → call_here (call_subject l) ≡ Some l → Contains (subjects O N).items (call_subject l)
-    call_covered l e = go l.kind l.«class» l.key (call_stands l e)
+    call_covered l e = go l.kind l.«class» l.key l.target (call_stands l e)
       where
-        go : (kind : CallKind) (x : Bytes) (k : Option Key) → is_due O N kind x k ≡ true → Contains (subjects O N).items (on_subject (place_of kind) x k None)
-        go Reference x (Some k) h = reference_covered x k h
-        go Reference x None h = absurd (let clash : false ≡ true = h in cc)
-        go Access x (Some k) h = access_covered x k h
-        go Access x None h = absurd (let clash : false ≡ true = h in cc)
-        go Constants x (Some k) h = absurd (let clash : false ≡ true = h in cc)
-        go Constants x None h = constants_covered x h
+        go : (kind : CallKind) (x : Bytes) (k : Option Key) (t : Option Bytes) → is_due O N kind x k t ≡ true → Contains (subjects O N).items (on_subject (place_of kind) x k t)
+        go Reference x (Some k) None h = reference_covered x k h
+        go Access x (Some k) None h = access_covered x k h
+        go Constants x None None h = constants_covered x h
+        go kind x k t h = absurd (let clash : false ≡ true = h in cc)
 
     abbrev all_calls : List CallLine
     all_calls = filter_map call_here (subjects O N).items
@@ -210,7 +203,7 @@ module _ (O N : World) where
 -- ---- there is one list
 
 line_total : IsTotalOrder line_order
-line_total = then_total (on_total (λ (l : CallLine). place_of l.kind) nat_cmp_total) (then_total (on_total (λ (l : CallLine). l.«class») nat_list_cmp_total) (on_total (λ (l : CallLine). l.key) (options_total key_total)))
+line_total = then_total (on_total (λ (l : CallLine). place_of l.kind) nat_cmp_total) (then_total (on_total (λ (l : CallLine). l.«class») nat_list_cmp_total) (then_total (on_total (λ (l : CallLine). l.key) (options_total key_total)) (on_total (λ (l : CallLine). l.target) (options_total nat_list_cmp_total))))
 
 pub calls_are_one : (O N : World) (ls ms : List CallLine) → AreLines O N ls → AreLines O N ms → ls ≡ ms
 calls_are_one O N ls ms a b = exactly_one line_order line_total (LineStands O N) ls ms a b

@@ -10,8 +10,8 @@ ghost use Rattle.jc_commands.specs.steps.Check.{AreFoundWithin, AreJudgedWithin,
 ghost use Rattle.jc_select.specs.DroppedWithin.{AreDroppedWithin, InterfacesStill};
 
 use jc_acts::seats::Seats;
-use jc_call_lines::lines::lines_over;
 use jc_call_kinds::call_line::CallLine;
+use jc_call_lines::lines::lines_over;
 use jc_facts::dropped::Dropped;
 use jc_facts::verdict::Verdict;
 use jc_releases::limits::{MAX_CALLS, MAX_DROPPED, MAX_FINDINGS};

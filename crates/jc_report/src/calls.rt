@@ -4,8 +4,8 @@ ghost use Rattle.serde_json.specs.View.{view};
 ghost use Rattle.jc_report.specs.CallForms.{word_of_call, line_of_call, call_value_of};
 
 use crate::entry::Entry;
-use crate::json_values::{key_or_null_value, name_value};
-use crate::printed::{push_key_or_dash, push_printed};
+use crate::json_values::{key_or_null_value, name_or_null_value, name_value};
+use crate::printed::{push_member, push_printed};
 use jc_call_kinds::call_line::{CallKind, CallLine};
 use serde_json::{Value, json};
 use std::alloc::{AllocError, Global};
@@ -17,6 +17,7 @@ fn call_word(kind: CallKind) -> &'static str
     match kind {
         CallKind::Reference => "reference",
         CallKind::Access => "access",
+        CallKind::Joined => "joined",
         CallKind::Constants => "constants",
     }
 }
@@ -29,7 +30,7 @@ fn call_line(alloc: Global, call: &CallLine) -> Result<Vec<u8>, AllocError>
     let mut line = Vec::from_slice(alloc, b"call ")?;
     push_printed(&mut line, call.class.as_bytes())?;
     line.extend_from_slice(b" ")?;
-    push_key_or_dash(&mut line, &call.key)?;
+    push_member(&mut line, &call.key, &call.target)?;
     line.extend_from_slice(b" ")?;
     line.extend_from_slice(call_word(call.kind).as_bytes())?;
     line.extend_from_slice(b"\n")?;
@@ -43,7 +44,8 @@ fn call_value(alloc: Global, call: &CallLine) -> Result<Value, AllocError>
     json!(in alloc; {
         "class": name_value(alloc, &call.class)?,
         "kind": call_word(call.kind),
-        "member": key_or_null_value(alloc, &call.key)?
+        "member": key_or_null_value(alloc, &call.key)?,
+        "target": name_or_null_value(alloc, &call.target)?
     })
 }
 

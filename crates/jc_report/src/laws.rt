@@ -8,7 +8,7 @@ ghost use Rattle.jc_report.specs.DroppedForms.{dropped_bytes};
 ghost use Rattle.jc_report.specs.CallForms.{calls_bytes};
 ghost use Rattle.jc_report.specs.Listing.{json_line};
 ghost use Rattle.jc_report.specs.OutcomeJson.{outcome_json};
-ghost use Rattle.jc_report.specs.Worked.{capture, empty, mixed, body_lost, default_added, parameters_changed, result_changed, unread, no_longer_there, no_longer_named, reference_lost, access_added, constants_added, class_unloaded, call_unlinked, call_of_initializer, value_assigned};
+ghost use Rattle.jc_report.specs.Worked.{capture, empty, mixed, body_lost, default_added, parameters_changed, result_changed, unread, no_longer_there, no_longer_named, reference_lost, access_added, join_lost, constants_added, class_unloaded, call_unlinked, call_of_initializer, value_assigned};
 
 /// Keys stand in byte order, what isn't there is null, and a backslash of a printed form is escaped.
 pub fn worked_json()
@@ -40,10 +40,11 @@ pub fn worked_dropped()
     ensures none { dropped_bytes true (Some []) ≡ codes "{\"dropped\":[]}\n" }
 {}
 
-/// The member of a line of a class is `-`, or null in JSON; a kind is one word in lower case.
+/// A superclass stands in the place of the member; the member of a line of a class is `-`, and in JSON null
+/// is what isn't there. A kind is one word in lower case.
 pub fn worked_calls()
-    ensures text { calls_bytes false (Some (reference_lost ∷ access_added ∷ constants_added ∷ [])) ≡ codes "call p/A run()V reference\ncall p/\\\\\\xe9 run()V access\ncall p/E - constants\n" }
-    ensures json { calls_bytes true (Some (access_added ∷ constants_added ∷ [])) ≡ codes "{\"calls\":[{\"class\":\"p/\\\\\\\\\\\\xe9\",\"kind\":\"access\",\"member\":\"run()V\"},{\"class\":\"p/E\",\"kind\":\"constants\",\"member\":null}]}\n" }
+    ensures text { calls_bytes false (Some (reference_lost ∷ access_added ∷ join_lost ∷ constants_added ∷ [])) ≡ codes "call p/A run()V reference\ncall p/\\\\\\xe9 run()V access\ncall p/B p/\\\\\\xe9 joined\ncall p/E - constants\n" }
+    ensures json { calls_bytes true (Some (access_added ∷ join_lost ∷ constants_added ∷ [])) ≡ codes "{\"calls\":[{\"class\":\"p/\\\\\\\\\\\\xe9\",\"kind\":\"access\",\"member\":\"run()V\",\"target\":null},{\"class\":\"p/B\",\"kind\":\"joined\",\"member\":null,\"target\":\"p/\\\\\\\\\\\\xe9\"},{\"class\":\"p/E\",\"kind\":\"constants\",\"member\":null,\"target\":null}]}\n" }
     ensures none { calls_bytes true (Some []) ≡ codes "{\"calls\":[]}\n" }
     ensures unasked { calls_bytes true None ≡ [] }
 {}

@@ -1,9 +1,9 @@
 //! The lines of findings, collisions, notes and warnings.
 ghost use Rattle.std.specs.Prelude.{◌≡◌, ◌++◌, codes, OnOk, IfOk};
-ghost use Rattle.jc_report.specs.Text.{printed, printed_key, printed_member, word_of_side, name_of_error, line_of_finding, line_of_collision, line_of_note};
+ghost use Rattle.jc_report.specs.Text.{printed, printed_key, word_of_side, name_of_error, line_of_finding, line_of_collision, line_of_note};
 ghost use Rattle.jc_report.specs.WarnForms.{line_of_warning};
 
-use crate::printed::{push_decimal, push_key, push_name, push_printed};
+use crate::printed::{push_decimal, push_key, push_member, push_name, push_printed};
 use crate::printed_words::{act_word, error_name, rule_text, side_word, warn_word};
 use jc_base::name::Name;
 use jc_facts::finding::Finding;
@@ -12,15 +12,6 @@ use jc_facts::link_error::LinkError;
 use jc_facts::verdict::{Collision, Note};
 use jc_facts::warning::Warning;
 use std::alloc::{AllocError, Global};
-
-fn push_member(text: &mut Vec<u8>, finding: &Finding) -> Result<(), AllocError>
-    ensures { OnOk result (text.new.items ≡ text.old.items ++ printed_member finding.now.key finding.now.target) }
-{
-    match &finding.key {
-        Some(key) => push_key(text, key),
-        None => push_name(text, &finding.target),
-    }
-}
 
 /// The line of a finding of this number, its line end with it.
 ///
@@ -38,7 +29,7 @@ pub fn finding_line(alloc: Global, number: usize, finding: &Finding) -> Result<V
     line.extend_from_slice(b" ")?;
     push_printed(&mut line, finding.class.as_bytes())?;
     line.extend_from_slice(b" ")?;
-    push_member(&mut line, finding)?;
+    push_member(&mut line, &finding.key, &finding.target)?;
     line.extend_from_slice(b" ")?;
     line.extend_from_slice(act_word(finding.act).as_bytes())?;
     line.extend_from_slice(b" ")?;

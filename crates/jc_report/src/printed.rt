@@ -131,6 +131,21 @@ pub(crate) fn push_name(text: &mut Vec<u8>, name: &Option<Name>) -> Result<(), A
     }
 }
 
+/// Prints a member at the end of the text: its key, or else its target, or `-`. After an error the text
+/// may hold a part.
+pub(crate) fn push_member(
+    text: &mut Vec<u8>,
+    key: &Option<Key>,
+    target: &Option<Name>,
+) -> Result<(), AllocError>
+    ensures { OnOk result (text.new.items ≡ text.old.items ++ printed_member key.now target.now) }
+{
+    match key {
+        Some(key) => push_key(text, key),
+        None => push_name(text, target),
+    }
+}
+
 /// Prints a key at the end of the text, or `-` where there is none. After an error the text may hold a
 /// part.
 pub(crate) fn push_key_or_dash(text: &mut Vec<u8>, key: &Option<Key>) -> Result<(), AllocError>

@@ -2,6 +2,7 @@ package jcompat;
 
 import java.util.ArrayList;
 import java.util.List;
+import java.util.Set;
 import java.util.stream.Collectors;
 
 /** What a line on calls says in words, with what is safe in its place, and a client that breaks by it: one that was compiled with the old release. */
@@ -28,6 +29,8 @@ final class CallWords {
                 return saidOfReference();
             case Line.ACCESS:
                 return saidOfAccess();
+            case Line.JOINED:
+                return saidOfJoined();
             default:
                 return saidOfConstants();
         }
@@ -40,6 +43,8 @@ final class CallWords {
                 return clientOfReference(variable);
             case Line.ACCESS:
                 return clientOfAccess(variable);
+            case Line.JOINED:
+                return clientOfJoined(variable);
             default:
                 return clientOfConstants(variable);
         }
@@ -52,6 +57,8 @@ final class CallWords {
                 return "a method reference, where the code comes to it, ends with BootstrapMethodError";
             case Line.ACCESS:
                 return "a call through the interface, of a subclass's method that isn't public, ends with IllegalAccessError";
+            case Line.JOINED:
+                return "a class that uses objects of the one or of another is refused with VerifyError, or with NoClassDefFoundError where the superclass is gone";
             case Line.CONSTANTS:
                 return "a switch that meets what it doesn't list ends with IncompatibleClassChangeError, and compiled for Java 21 or later with MatchException";
             default:
@@ -66,16 +73,7 @@ final class CallWords {
         Declaration hidden = hidden();
         String method = "method " + of.result + " " + type + "." + of.name + "(" + of.parameters() + ")"
                 + (hidden == null ? " comes from a class that clients can't name" : " moved to " + Names.simple(hidden.file.name) + ", which clients can't name");
-        return method + (breaksNobody(hidden) ? ": breaks no reference that javac made"
-                : hidden != null && hidden.isAbstract() ? ": declare it in " + type + " too" : ": leave a method " + of.name + " in " + type + " that calls it");
-    }
-
-    /** Of a protected method javac makes a lambda; and OpenJDK takes a class for the one that declares what it has from an interface. */
-    private boolean breaksNobody(Declaration hidden) {
-        Declaration before = oldRelease.declaration(line.type, line.member);
-        ClassFile now = newRelease.find(line.type);
-        boolean isFromInterface = hidden != null && hidden.file.is(ClassFile.INTERFACE) && now != null && !now.is(ClassFile.INTERFACE);
-        return isFromInterface || before != null && before.member.is(ClassFile.PROTECTED);
+        return method + (hidden != null && hidden.isAbstract() ? ": declare it in " + type + " too" : ": leave a method " + of.name + " in " + type + " that calls it");
     }
 
     /** The declaration that clients can't name; null where none is seen. */
@@ -95,7 +93,7 @@ final class CallWords {
     private String clientOfReference(String variable) {
         Declaration before = oldRelease.declaration(line.type, line.member);
         boolean isStatic = before != null && before.member.is(ClassFile.STATIC);
-        return breaksNobody(hidden()) ? "" : "takes(" + (isStatic ? type : variable) + "::" + Names.member(line.member) + ");";
+        return "takes(" + (isStatic ? type : variable) + "::" + Names.member(line.member) + ");";
     }
 
     // ---- less access
@@ -128,6 +126,26 @@ final class CallWords {
         ClassFile from = called();
         return "class Y extends " + type + " { " + of.result + " " + of.name + "(" + of.named() + ") { ... } }   ((" + (from == null ? "I" : Names.simple(from.name)) + ") y)." + of.name
                 + "(" + of.values() + ");";
+    }
+
+    // ---- joined classes
+
+    private String saidOfJoined() {
+        String above = Names.simple(line.member);
+        String left = newRelease.find(line.member) == null ? "class " + above + ", above " + type + ", is gone" : "class " + type + " no longer extends " + above;
+        return left + ", which clients can't name: one that uses a " + type + " or another of its subclasses fails; keep it above both";
+    }
+
+    /** A choice between the class and one beside it; of several such the first in order. */
+    private String clientOfJoined(String variable) {
+        return oldRelease.names().stream().filter(this::isBeside).findFirst()
+                .map(other -> "Object o = isSo ? " + variable + " : " + Words.variable(other) + ";   // " + Names.simple(other) + " extends " + Names.simple(line.member)).orElse("");
+    }
+
+    /** Whether clients can name the class, and it has the superclass too, and neither it nor the line's class is above the other. */
+    private boolean isBeside(String name) {
+        Set<String> above = oldRelease.above(name);
+        return oldRelease.isNameable(name) && above.contains(line.member) && !above.contains(line.type) && !name.equals(line.type) && !oldRelease.above(line.type).contains(name);
     }
 
     // ---- values of a type

@@ -10,6 +10,7 @@ final class Line {
     /** The kinds of lines on calls, which are their rules. */
     static final String REFERENCE = "reference";
     static final String ACCESS = "access";
+    static final String JOINED = "joined";
     static final String CONSTANTS = "constants";
 
     final int number;
@@ -51,7 +52,7 @@ final class Line {
         return new Line(new String[] {"" + place, DROPPED, type, dropped, "-", "-", "-"}, String.join(" ", DROPPED, type, dropped));
     }
 
-    /** The member of a line on a class is a hyphen. */
+    /** The member of a line on a class is a hyphen, of one on joined classes the superclass. */
     static Line call(int place, String type, String member, String kind) {
         return new Line(new String[] {"" + place, kind, type, member, kind, "-", "-"}, String.join(" ", CALL, type, member, kind));
     }

@@ -11,7 +11,7 @@ import java.util.TreeSet;
 
 /** What each rule means, out of the sections of FINDINGS.md: an anchor, a heading with the rule, and text. */
 final class Meanings {
-    private static final Set<String> FURTHER = Set.of(Line.DROPPED, Line.REFERENCE, Line.ACCESS, Line.CONSTANTS);
+    private static final Set<String> FURTHER = Set.of(Line.DROPPED, Line.REFERENCE, Line.ACCESS, Line.JOINED, Line.CONSTANTS);
 
     private final Map<String, String> sections = new LinkedHashMap<>();
     private final List<String> rules = new ArrayList<>();

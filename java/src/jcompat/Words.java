@@ -12,7 +12,7 @@ final class Words {
     private final Classes oldRelease;
     private final Classes newRelease;
     private static final Set<String> KNOWN = new HashSet<>(Arrays.asList("H1", "H2", "H3", "H4", "H5", "H6", "H7", "H8", "H9", "Constant", "Capture", "Final",
-            Line.WARNING, Line.DROPPED, Line.REFERENCE, Line.ACCESS, Line.CONSTANTS));
+            Line.WARNING, Line.DROPPED, Line.REFERENCE, Line.ACCESS, Line.JOINED, Line.CONSTANTS));
 
     Words(Classes oldRelease, Classes newRelease) {
         this.oldRelease = oldRelease;
@@ -94,7 +94,7 @@ final class Words {
             case Line.DROPPED:
                 return Arrays.asList(kind(line.type) + " " + type + " no longer " + (kind(line.type).equals("class") ? "implements " : "extends ") + Names.simple(line.member),
                         throughInterface(line.member, variable));
-            case Line.REFERENCE: case Line.ACCESS: case Line.CONSTANTS:
+            case Line.REFERENCE: case Line.ACCESS: case Line.JOINED: case Line.CONSTANTS:
                 CallWords onCalls = new CallWords(line, oldRelease, newRelease);
                 return Arrays.asList(onCalls.said(), onCalls.client(variable));
             default:
@@ -215,7 +215,7 @@ final class Words {
         return "class Y extends " + Names.simple(line.type) + " { " + before + "public " + of.result + " " + of.name + "(" + of.named() + ") { ... } }";
     }
 
-    private static String variable(String type) {
+    static String variable(String type) {
         String simple = Names.simple(type);
         String last = simple.substring(simple.lastIndexOf('.') + 1);
         return Character.toLowerCase(last.charAt(0)) + last.substring(1);

@@ -33,16 +33,14 @@ public class CallsTest {
     @Test
     public void aReferenceTellsWhereTheMethodIs() throws Exception {
         String hidden = "H:class H { }";
-        Classes before = release("before", "A:public class A extends H { public static String m() { return null; } protected void n() { } }", hidden,
-                "I:public interface I extends J { void draw(int n); }", "J:interface J { }", "B:public abstract class B implements J { public abstract void draw(int n); }");
-        Classes now = release("now", "A:public class A extends H { }", "H:class H { public static String m() { return null; } protected void n() { } }",
-                "I:public interface I extends J { }", "J:interface J { void draw(int n); }", "B:public abstract class B implements J { }");
+        Classes before = release("before", "A:public class A extends H { public static String m() { return null; } }", hidden, "I:public interface I extends J { void draw(int n); }",
+                "J:interface J { }");
+        Classes now = release("now", "A:public class A extends H { }", "H:class H { public static String m() { return null; } }", "I:public interface I extends J { }",
+                "J:interface J { void draw(int n); }");
         assertEquals(Arrays.asList("method String A.m() moved to H, which clients can't name: leave a method m in A that calls it", "takes(A::m);"),
                 say(before, now, "call p/A m()Ljava/lang/String; reference"));
         assertEquals(Arrays.asList("method void I.draw(int) moved to J, which clients can't name: declare it in I too", "takes(i::draw);"),
                 say(before, now, "call p/I draw(I)V reference"));
-        assertEquals(Arrays.asList("method void A.n() moved to H, which clients can't name: breaks no reference that javac made", ""), say(before, now, "call p/A n()V reference"));
-        assertEquals("", say(before, now, "call p/B draw(I)V reference").get(1));
     }
 
     @Test
@@ -53,6 +51,17 @@ public class CallsTest {
         assertEquals(Arrays.asList("class A has void foo(int) from the interface I now: a subclass's own that isn't public can't be called through I; let another class implement that",
                 "class Y extends A { void foo(int a) { ... } }   ((I) y).foo(0);"), say(before, now, "call p/A foo(I)V access"));
         assertTrue(say(before, now, "call p/B run()V access").get(0).endsWith("through J; give the method another name"));
+    }
+
+    @Test
+    public void joinedClassesAreTold() throws Exception {
+        String[] beside = {"B:class B { }", "A:public class A extends B { }", "C:public class C extends A { }"};
+        Classes before = release("before", beside[0], beside[1], beside[2], "D:public class D extends B { }");
+        Classes now = release("now", beside[0], beside[1], beside[2], "D:public class D { }");
+        assertEquals(Arrays.asList("class D no longer extends B, which clients can't name: one that uses a D or another of its subclasses fails; keep it above both",
+                "Object o = isSo ? d : a;   // A extends B"), say(before, now, "call p/D p/B joined"));
+        assertEquals("Object o = isSo ? c : d;   // D extends B", say(before, now, "call p/C p/B joined").get(1));
+        assertTrue(say(before, release("gone", "A:public class A { }"), "call p/A p/B joined").get(0).startsWith("class B, above A, is gone, which clients can't name: "));
     }
 
     @Test

@@ -1,5 +1,5 @@
 -- Lines on methods of interfaces that base classes have above them now.
-use Rattle.std.specs.Prelude.{Bool, Option, Some, ◌&&◌}
+use Rattle.std.specs.Prelude.{Bool, Option, None, Some, ◌&&◌}
 use Rattle.jc_call_kinds.specs.declared.call_line.CallKind.TheVariants.{Access}
 use Rattle.jc_call_kinds.specs.declared.call_line.CallLine.{CallLine}
 use Rattle.jc_facts.specs.declared.key.Key.{Key}
@@ -16,7 +16,7 @@ changed_base s x = is_base_class s.old s.new x && may_be_closed s x
 
 -- the line on the class x and the key
 abbrev pub line_on : Bytes → Key → CallLine
-line_on x k = record { kind = Access; «class» = x; key = Some k }
+line_on x k = record { kind = Access; «class» = x; key = Some k; target = None }
 
 -- the same, where one is due
 abbrev pub access_line : SidesOf → Bytes → Key → Option CallLine

@@ -16,4 +16,4 @@ constant_names c = map (λ m. m.name) (filter (λ m. enum_flag m.flags) c.fields
 
 -- the line on the class x, where one is due
 abbrev pub constants_line : SidesOf → Bytes → Option CallLine
-constants_line s x = some_where (constants_added s.old s.new x) (record { kind = Constants; «class» = x; key = None })
+constants_line s x = some_where (constants_added s.old s.new x) (record { kind = Constants; «class» = x; key = None; target = None })

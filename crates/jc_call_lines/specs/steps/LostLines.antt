@@ -1,5 +1,5 @@
 -- Lines of references that are lost.
-use Rattle.std.specs.Prelude.{Option, Some}
+use Rattle.std.specs.Prelude.{Option, None, Some}
 use Rattle.jc_call_kinds.specs.declared.call_line.CallKind.TheVariants.{Reference}
 use Rattle.jc_call_kinds.specs.declared.call_line.CallLine.{CallLine}
 use Rattle.jc_facts.specs.declared.key.Key.{Key}
@@ -10,7 +10,7 @@ use Rattle.jc_sides.specs.SidesOf.{SidesOf}
 
 -- the line on the method of the key, named through the class x
 abbrev pub reference_line : Bytes → Key → CallLine
-reference_line x k = record { kind = Reference; «class» = x; key = Some k }
+reference_line x k = record { kind = Reference; «class» = x; key = Some k; target = None }
 
 -- the same, where its references are lost
 abbrev pub lost_line : SidesOf → Bytes → Key → Option CallLine

@@ -1,16 +1,18 @@
--- Which classes clients can name, and what is declared by those that they can't name.
+-- Which classes clients can name, what is declared by those that they can't name, and what is public.
 --     open_class W y      clients can name the class y
---     choices_open W x k      so it is with each class that declares what a reference to the class x may find
+--     choices_open W x k      so it is with each class that is said to declare what a reference to the class x may find
+--     finds_public W x k      a reference to the class x finds a method of the key, and none that isn't public
 --     hidden_at, hidden_offer, other_best      what superinterfaces are asked for, by the numbers of classes
-use Rattle.std.specs.Prelude.{ℕ, ◌==◌, ◌≡◌, Bool, true, cond, ◌&&◌, Option, None, Some}
+use Rattle.std.specs.Prelude.{ℕ, ◌==◌, ◌≡◌, Bool, true, false, not, cond, ◌&&◌, ◌||◌, Option, None, Some}
 use Rattle.std.specs.List.{list_all}
 use Rattle.jc_facts.specs.declared.key.Key.{Key}
 use Rattle.jc_facts.specs.Names.{Bytes}
 use Rattle.jc_facts.specs.Flags.{public_flag}
-use Rattle.jc_facts.specs.world.World.{World, class_is}
+use Rattle.jc_facts.specs.world.World.{World, class_is, DeclaredMember}
+use Rattle.jc_facts.specs.world.Assignment.{is_interface_of}
 use Rattle.jc_facts.specs.world.Hierarchy.{in_chain}
+use Rattle.jc_facts.specs.world.Lookup.{are_none}
 use Rattle.jc_facts.specs.world.Modules.{is_visible}
-use Rattle.jc_calls.specs.References.{is_of_open}
 use Rattle.jc_index.specs.Ids.{name_at}
 use Rattle.jc_index.specs.declared.ids.Found.{Found}
 use Rattle.jc_index.specs.steps.Choosing.{candidate_at, best_at, FindsAbove}
@@ -20,9 +22,26 @@ use Rattle.jc_rows.specs.Rows.{lookup_choices}
 abbrev pub open_class : World → Bytes → Bool
 open_class W y = class_is W (λ c. is_visible W y && public_flag c.flags) y
 
--- so it is with each class that declares a method of the key that a reference to the class x may find
+-- so it is with the class that declares the method
+abbrev pub is_owner_open : World → DeclaredMember → Bool
+is_owner_open W m = open_class W m.owner
+
+-- and with each that declares a method of the key which a reference to the class x may find
+abbrev pub owners_open : World → Bytes → Key → Bool
+owners_open W x k = list_all (is_owner_open W) (lookup_choices W x k)
+
+-- of references to an interface the class that declares the method is said to do so; of others, where that is an interface, the one named
+abbrev pub is_said_open : Bool → World → DeclaredMember → Bool
+is_said_open true W m = is_owner_open W m
+is_said_open false W m = is_interface_of W m.owner || is_owner_open W m
+
+-- clients can name each class that is said to declare a method of the key which a reference to the class x may find
 abbrev pub choices_open : World → Bytes → Key → Bool
-choices_open W x k = list_all (is_of_open W) (lookup_choices W x k)
+choices_open W x k = list_all (is_said_open (is_interface_of W x) W) (lookup_choices W x k)
+
+-- a reference to the class x finds a method of the key, and each that it may find is public
+abbrev pub finds_public : World → Bytes → Key → Bool
+finds_public W x k = not (are_none (lookup_choices W x k)) && list_all (λ m. public_flag m.member.flags) (lookup_choices W x k)
 
 -- ---- by numbers
 
@@ -40,7 +59,7 @@ other_best W x k m n = cond (n == m) None (best_at W x k n)
 
 -- ---- of all classes above one
 
--- clients can name the class x, its superclasses and its superinterfaces
+-- clients can name the class x and its superclasses and, where x is an interface, its superinterfaces
 pub record AreOpenAbove (W : World) (x : Bytes) : Type 0 where
   pub chain : (y : Bytes) → in_chain W x y ≡ true → open_class W y ≡ true
-  pub interfaces : FindsAbove W x (hidden_at W) None
+  pub interfaces : is_interface_of W x ≡ true → FindsAbove W x (hidden_at W) None

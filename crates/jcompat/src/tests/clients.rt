@@ -58,7 +58,7 @@ const DOCUMENTS: &str = r#"$ clients --platform P --old O --new N --json A B C
 const MODULES: &str = "$ clients --platform P --old O --new N --modular A
 : P java/lang/Object init | O,N p/A init | A q/A extends=p/A init
 : O bytes module-info.class ca fe ba be 0 0 0 35 0 8 7 0 2 1 0 b 6d 6f 64 75 6c 65 2d 69 6e 66 6f 1 0 6 4d 6f 64 75 6c 65 13 0 5 1 0 1 6d 14 0 7 1 0 1 70 80 0 0 1 0 0 0 0 0 0 0 0 0 1 0 3 0 0 0 16 0 4 0 0 0 0 0 0 0 1 0 6 0 0 0 0 0 0 0 0 0 0
-: N bytes module-info.class ca fe ba be 0 0 0 35 0 8 7 0 2 1 0 b 6d 6f 64 75 6c 65 2d 69 6e 66 6f 1 0 6 4d 6f 64 75 6c 65 13 0 5 1 0 1 6d 14 0 7 1 0 1 70 80 0 0 1 0 0 0 0 0 0 0 0 0 1 0 3 0 0 0 10 0 4 0 0 0 0 0 0 0 0 0 0 0 0 0 0 0
+: N bytes module-info.class ca fe ba be 0 0 0 35 0 8 7 0 2 1 0 b 6d 6f 64 75 6c 65 2d 69 6e 66 6f 1 0 6 4d 6f 64 75 6c 65 13 0 5 1 0 1 6d 14 0 7 1 0 1 70 80 0 0 1 0 0 0 0 0 0 0 0 0 1 0 3 0 0 0 10 0 4 0 0 0 0 0 0 0 0 0 0 0 0 0 0
 #1 a class whose package is no longer exported
 > client 1 class q/A IllegalAccessError | client 1 breaks: 1 classes, 1 outcomes, 0 errors before, 1 lost
 > clients: 1 clients, 1 broken, 0 refused

@@ -1,16 +1,12 @@
-use Rattle.std.proofs.Common.{sym, ◌∙◌}
-use Rattle.jc_call_lines.proofs.Chosen.{front_said, above_said, shut_said}
+use Rattle.jc_index.specs.Ids.{name_at}
+use Rattle.jc_call_lines.proofs.Chosen.{interface_said, by_owner}
 use Rattle.jc_call_lines.proofs.openly.is_found_open.Goals as goal
 
-pub returns-then-not-is_nameable : goal.returns-then-not-is_nameable
-returns-then-not-is_nameable c =
-    shut_said c.args.table.now c.count-classes.ensures.side c.args.class c.requires.class c.requires.loads c.args.key.now c.args.found c.requires.found c.requires.owner c.is_nameable.result c.is_nameable.ensures c.if-not-is_nameable.true
-
-pub returns-then-is_front : goal.returns-then-is_front
-returns-then-is_front c =
-    front_said c.args.table.now c.count-classes.ensures.side c.args.class c.requires.class c.requires.loads c.args.key.now c.args.found c.requires.found c.requires.owner c.is_front.result c.is_front.ensures c.if-is_front.true
-    (sym c.is_nameable.ensures ∙ c.if-not-is_nameable.false)
+pub returns-then-is_of_interface : goal.returns-then-is_of_interface
+returns-then-is_of_interface c =
+    interface_said c.args.table.now (name_at c.args.table.now c.args.class) c.args.key.now c.is_of_interface.result c.are_owners_open.result c.is_of_interface.ensures c.if-is_of_interface.true c.are_owners_open.ensures
 
 pub returns : goal.returns
 returns c =
-    above_said c.args.table.now c.count-classes.ensures.side c.args.class c.requires.class c.requires.loads c.args.key.now c.args.found c.requires.found c.requires.owner c.is_front.result c.is_open_above.result c.is_front.ensures c.if-is_front.false c.is_open_above.ensures
+    by_owner c.args.table.now (name_at c.args.table.now c.args.class) c.requires.loads c.args.key.now c.args.found c.requires.found c.is_of_interface.result c.is_said_open.result
+    c.is_of_interface.ensures c.if-is_of_interface.false c.is_said_open.ensures
