@@ -44,7 +44,7 @@ use Rattle.jc_calls.specs.Constants.{constants_added, gets_constant, gets_object
 use Rattle.jc_calls.specs.Lines.{is_due, LineStands}
 use Rattle.jc_calls.specs.Handles.{are_public}
 use Rattle.jc_calls.specs.References.{are_of_open, is_handle_lost, is_of_open, is_open_to_some, is_told, reference_lost}
-use Rattle.jc_dropped.specs.Dropped.{is_held, has_lost, loses_interface, loses_above, is_dropped, IsDropped}
+use Rattle.jc_dropped.specs.Dropped.{is_held, asks_for, has_lost, loses_interface, loses_above, is_dropped, IsDropped}
 use Rattle.jc_dropped.proofs.Held.{held_loads}
 use Rattle.jc_sig.specs.Notes.{signature_at, MemberChanges, ChangeAt, SigNoteStands}
 use Rattle.jc_agree.specs.NothingListed.{ListsNothing, SameReleaseLists, EmptyReleaseLists}
@@ -96,9 +96,9 @@ none_dropped : (O N : World) → IsAlike O N → (x t : Bytes) → is_dropped O 
 unfolding is_dropped loses_interface has_lost
 none_dropped O N alike x t = go (is_held O N x) refl
   where
-    go : (b : Bool) → is_held O N x ≡ b → (is_held O N x && (is_steady O N t && is_superinterface O x t && not (is_superinterface N x t)) && not (loses_above O N x t)) ≡ false
+    go : (b : Bool) → is_held O N x ≡ b → (is_held O N x && (asks_for O N x t && is_superinterface O x t && not (is_superinterface N x t)) && not (loses_above O N x t)) ≡ false
     go false e = rw e refl
-    go true e = rw (e, apart (is_steady O N t) (is_superinterface O x t) (is_superinterface N x t) (ap (λ cs. names_in cs t) (alike.superinterfaces x (held_loads O N x e).0))) refl
+    go true e = rw (e, apart (asks_for O N x t) (is_superinterface O x t) (is_superinterface N x t) (ap (λ cs. names_in cs t) (alike.superinterfaces x (held_loads O N x e).0))) refl
 
 -- ---- warnings
 

@@ -10,12 +10,11 @@ use Rattle.std.specs.Cmp.Lexicographic.{nat_list_cmp_total}
 use Rattle.std.proofs.lemmas.Bool.{or_cases, eqb-true}
 use Rattle.std.proofs.lemmas.List.Elements.{Contains-append_left}
 use Rattle.jc_facts.specs.declared.dropped.Dropped.{Dropped}
-use Rattle.jc_dropped.specs.Dropped.{has_lost, loses_interface, is_dropped, dropped_order, IsDropped, AreDropped}
+use Rattle.jc_dropped.specs.Dropped.{asks_for, has_lost, loses_interface, is_dropped, dropped_order, IsDropped, AreDropped}
 use Rattle.jc_facts.specs.declared.class_facts.ClassFacts.{ClassFacts}
 use Rattle.jc_facts.specs.declared.key.Key.{Key}
 use Rattle.jc_facts.specs.Exactly.{HasExactly}
 use Rattle.jc_facts.specs.Names.{Bytes, same}
-use Rattle.jc_promises.specs.rule.Bases.{is_steady}
 use Rattle.jc_promises.specs.rule.Findings.{Subject}
 use Rattle.jc_facts.specs.world.Hierarchy.{chain, chain_step, interfaces_of, superinterfaces, is_superinterface, names_in}
 use Rattle.jc_facts.specs.world.World.{World, classes, find_class, size}
@@ -93,7 +92,7 @@ module _ (O N : World) where
   was_above d h =
       let loses = first_so (loses_interface O N d.«class» d.interface) _ h in
       let lost = second_so _ (has_lost O N d.«class» d.interface) loses in
-      second_so (is_steady O N d.interface) (is_superinterface O d.«class» d.interface) (first_so (is_steady O N d.interface && is_superinterface O d.«class» d.interface) _ lost)
+      second_so (asks_for O N d.«class» d.interface) (is_superinterface O d.«class» d.interface) (first_so (asks_for O N d.«class» d.interface && is_superinterface O d.«class» d.interface) _ lost)
 
   nothing_above : (x t : Bytes) → find_class O x ≡ None → is_superinterface O x t ≡ false
   unfolding superinterfaces interfaces_of chain

@@ -3,11 +3,11 @@ use Rattle.std.proofs.Common.{◌≡◌, ℕ, true, false, List, [], ◌∷◌, 
 use Rattle.jc_facts.specs.Names.{Bytes, object_name}
 use Rattle.jc_facts.specs.declared.class_facts.ClassFacts.{ClassFacts}
 use Rattle.jc_sound.proofs.Examples.{computes, init, member, a_class, plain, public_class, public_interface, over, extending}
-use Rattle.jc_dropped.specs.Dropped.{stays_exposed, is_held, has_lost, loses_interface, is_dropped}
+use Rattle.jc_dropped.specs.Dropped.{stays_exposed, is_held, is_exposed_with, asks_for, has_lost, loses_interface, is_dropped}
 
 -- what these compute with
 unfoldable drops : ℕ
-unfolding computes stays_exposed is_held has_lost loses_interface is_dropped
+unfolding computes stays_exposed is_held is_exposed_with asks_for has_lost loses_interface is_dropped
 drops = 0
 
 abbrev p_A : Bytes

@@ -4,7 +4,7 @@
 -- Whatever a client does with such a value still links, so no outcome tells of it. A virtual machine asks at run time whether the class of the value has
 -- the interface: where it no longer has it, checkcast throws ClassCastException, aastore ArrayStoreException and invokeinterface
 -- IncompatibleClassChangeError, and instanceof gives 0 (JVMS 6.5).
-use Rattle.std.specs.Prelude.{List, [], ◌≡◌, None, All, Contains, IsTrue, IsFalse}
+use Rattle.std.specs.Prelude.{List, [], ◌∷◌, ◌≡◌, ◌⊎◌, None, All, Contains, IsTrue, IsFalse}
 use Rattle.jc_facts.specs.declared.client.ClientClass.{ClientClass}
 use Rattle.jc_facts.specs.declared.client.Item.TheVariants as item
 use Rattle.jc_facts.specs.declared.dropped.Dropped.{Dropped}
@@ -25,17 +25,30 @@ use Rattle.jc_promises.specs.rule.Verdict.{IsVerdict}
 use Rattle.jc_complete.specs.Completeness.{CanPlan, LinksWhole, MeetsNothing}
 use Rattle.jc_dropped.specs.Dropped.{is_dropped, AreDropped}
 
+-- the client may name the class t with both releases
+pub record MayName (O N : World) (cs : List ClientClass) (c : ClientClass) (t : Bytes) : Type 0 where
+  pub old : Links (with_clients O (facts_of cs)) c.facts.name (item.Class t)
+  pub new : Links (with_clients N (facts_of cs)) c.facts.name (item.Class t)
+
+-- the client itself hands values of x over where t is asked for: with the old release it may name or opens each of the two classes, and one of its
+-- items assigns x to t, which is Ok with both
+pub record HandsOver (O N : World) (cs : List ClientClass) (c : ClientClass) (x t : Bytes) : Type 0 where
+  pub holds : IsTrue (class_in_reach (with_clients O (facts_of cs)) c.facts.name (c ∷ []) x)
+  pub takes : IsTrue (class_in_reach (with_clients O (facts_of cs)) c.facts.name (c ∷ []) t)
+  pub is_in : Contains c.items (item.Assign x t)
+  pub old : Links (with_clients O (facts_of cs)) c.facts.name (item.Assign x t)
+  pub new : Links (with_clients N (facts_of cs)) c.facts.name (item.Assign x t)
+
 -- the client loads with both releases. With the old one it holds values of the class x: the class loads, and the client may name it, or a
--- client opens it; and x loads with the new one too. It may name t, an interface, with both. With the old release t is a superinterface of x,
--- and with the new one it isn't
+-- client opens it; and x loads with the new one too. It may name t, an interface, with both, or hands values of x over where t is asked for. With
+-- the old release t is a superinterface of x, and with the new one it isn't
 pub record Loses (O N : World) (cs : List ClientClass) (c : ClientClass) (x t : Bytes) : Type 0 where
   pub is_in : Contains cs c
   pub loads_old : load_fault (with_clients O (facts_of cs)) c.facts.name ≡ None
   pub loads_new : load_fault (with_clients N (facts_of cs)) c.facts.name ≡ None
   pub holds : IsTrue (class_in_reach (with_clients O (facts_of cs)) c.facts.name cs x)
   pub stays : load_fault (with_clients N (facts_of cs)) x ≡ None
-  pub names_old : Links (with_clients O (facts_of cs)) c.facts.name (item.Class t)
-  pub names_new : Links (with_clients N (facts_of cs)) c.facts.name (item.Class t)
+  pub asks : MayName O N cs c t ⊎ HandsOver O N cs c x t
   pub interface_old : IsTrue (is_interface_of (with_clients O (facts_of cs)) t)
   pub interface_new : IsTrue (is_interface_of (with_clients N (facts_of cs)) t)
   pub had : IsTrue (is_superinterface (with_clients O (facts_of cs)) x t)

@@ -9,6 +9,7 @@ mod DroppedLimits
 mod DroppedRows
 mod LostRows
 mod SetMarks
+mod SetsOf
 mod StillAgree
 mod Unchanged
 pub mod KindsWarned

@@ -1,13 +1,16 @@
-//! Interfaces that classes of both sides have lost, where clients can hold values of these.
-ghost use Rattle.std.specs.Prelude.{◌≡◌, ◌<◌, ◌||◌, IfOk, IsTrue, OnOk, Some, length};
-ghost use Rattle.std.specs.List.{All, filter};
+//! Interfaces that classes of both sides have lost, where clients can hold values of these and ask them
+//! for the interface.
+ghost use Rattle.std.specs.Prelude.{◌≡◌, ◌==◌, ◌<◌, ◌||◌, IfOk, IsTrue, OnOk, Some, length};
+ghost use Rattle.std.specs.List.{All, filter, list_any};
+ghost use Rattle.jc_dropped.specs.Dropped.{asks_for};
 ghost use Rattle.jc_acts.specs.Seats.{AreSeats};
 ghost use Rattle.jc_acts.specs.Touched.{flag_at};
 ghost use Rattle.jc_exposed.specs.Exposed.{AreExposed, AreWanted};
 ghost use Rattle.jc_promises.specs.rule.Bases.{is_kept, is_steady};
+ghost use Rattle.jc_facts.specs.world.Assignment.{is_interface_of};
 ghost use Rattle.jc_facts.specs.world.Loading.{loads};
 ghost use Rattle.jc_facts.specs.world.World.{size};
-ghost use Rattle.jc_select.specs.steps.Losing.{AreClear, AreLost, AreMarks, AreNumbersOf, AreRowsOf, has_left, hidden_of, is_asked, is_found, is_marked_now, lost_at, loses};
+ghost use Rattle.jc_select.specs.steps.Losing.{AreClear, AreLost, AreMarks, AreNumbersOf, AreRowsOf, AreSets, IsPut, IsSetOf, has_left, hidden_of, is_asked, is_found, is_in_some, is_marked_now, lost_at, loses_at, may_ask, row_at};
 ghost use Rattle.jc_index.specs.Ids.{name_at, id_of};
 
 use crate::marks::set_marks;
@@ -15,17 +18,19 @@ use crate::parts::above;
 use jc_acts::seats::Seats;
 use jc_base::items::Items;
 use jc_exposed::exposed::{Exposed, first_exposed};
+use jc_facts::flags::is_interface;
 use jc_index::ids::ClassId;
 use jc_sides::clients::is_steady;
 use jc_sides::kept::{is_hidden_class, kept};
 use jc_sides::sides::Sides;
 use std::alloc::{AllocError, Global};
+use std::collections::BTreeSet;
 
 /// What classes have lost, whether clients can hold values of them or not.
 pub struct Lost {
     // For each class of the old side, what it has lost, if it loads on both.
     rows: Vec<Items<ClassId>>,
-    // For each class, whether it is hidden, and has lost something.
+    // For each class, whether it is hidden, and has lost something or is lost.
     hidden: Vec<bool>,
 }
 
@@ -37,8 +42,8 @@ impl Drop for Lost {
 }
 
 impl Lost {
-    ghost use Rattle.std.specs.Prelude.{◌≡◌, IfOk};
-    ghost use Rattle.jc_select.specs.steps.Losing.{AreLost, hidden_of};
+    ghost use Rattle.std.specs.Prelude.{◌≡◌, ◌<◌, IfOk, length};
+    ghost use Rattle.jc_select.specs.steps.Losing.{AreLost, hidden_of, row_at};
 
     /// What classes have lost between the two sides. No member is looked at.
     ///
@@ -53,12 +58,20 @@ impl Lost {
         Ok(Lost { rows, hidden })
     }
 
-    /// For each class of the old side, whether it is hidden, and has lost something. Of such classes
-    /// alone it matters which members expose them.
+    /// For each class of the old side, whether it is hidden, and has lost an interface or is one that a
+    /// class has lost. Of such classes alone it matters which members expose them.
     pub fn hidden(&self) -> &[bool]
         ensures { result.now ≡ hidden_of self.now }
     {
         self.hidden.as_slice()
+    }
+
+    // What the class has lost, if it loads on both sides.
+    fn row(&self, id: ClassId) -> &[ClassId]
+        requires { id < length self.now.rows.items }
+        ensures { result.now ≡ row_at self.now.rows.items id }
+    {
+        self.rows[id.number() as usize].as_slice()
     }
 }
 
@@ -87,13 +100,32 @@ fn is_marked_now(sides: &Sides<'_>, marks: &[bool], of: ClassId) -> bool
     }
 }
 
-// Whether the old side's interface is steady, and isn't marked on the new side.
+// Whether the new side's class of the name of this one of the old side is an interface.
+fn is_interface_now(sides: &Sides<'_>, of: ClassId) -> bool
+    requires { of < size sides.now.old }
+    ensures { result ≡ is_interface_of sides.now.new (name_at sides.now.old of) }
+{
+    match sides.new_id(of) {
+        None => false,
+        Some(now) => is_interface(sides.new.facts(now).flags),
+    }
+}
+
+// Whether clients may ask for the interface: it is steady, or hidden, and still an interface.
+fn may_ask(sides: &Sides<'_>, of: ClassId) -> bool
+    requires { of < size sides.now.old }
+    ensures { result ≡ may_ask sides.now (name_at sides.now.old of) }
+{
+    is_steady_class(sides, of) || (is_hidden_class(sides.old, of) && is_interface_now(sides, of))
+}
+
+// Whether clients may ask for the old side's interface, and it isn't marked on the new side.
 fn has_left(sides: &Sides<'_>, above: &[bool], of: ClassId) -> bool
     requires above { length above.now ≡ size sides.now.new }
     requires of { of < size sides.now.old }
     ensures { result ≡ has_left sides.now above.now of }
 {
-    !is_marked_now(sides, above, of) && is_steady_class(sides, of)
+    !is_marked_now(sides, above, of) && may_ask(sides, of)
 }
 
 // Those of these interfaces that have left.
@@ -201,47 +233,78 @@ fn lost_rows(alloc: Global, sides: &Sides<'_>) -> Result<Vec<Items<ClassId>>, Al
 
 // ---- hidden classes
 
-// Whether the class is hidden, and has lost something.
-fn is_asked(sides: &Sides<'_>, rows: &[Items<ClassId>], id: ClassId) -> bool
+// Marks those that are in one of the rows. No mark is set before.
+fn set_lost(sides: &Sides<'_>, rows: &[Items<ClassId>], marks: &mut [bool])
     requires rows { AreRowsOf sides.now.old (lost_at sides.now) rows.now }
+    requires marks { length marks.old ≡ size sides.now.old }
+    requires clear { AreClear marks.old }
+    ensures { AreMarks sides.now.old (is_in_some rows.now) marks.new }
+{
+    for row in rows {
+        set_marks(marks, row.as_slice(), true);
+    }
+}
+
+// Whether the class is hidden, and has lost something or is marked as lost.
+fn is_asked(sides: &Sides<'_>, rows: &[Items<ClassId>], lost: &[bool], id: ClassId) -> bool
+    requires rows { AreRowsOf sides.now.old (lost_at sides.now) rows.now }
+    requires lost { AreMarks sides.now.old (is_in_some rows.now) lost.now }
     requires id { id < size sides.now.old }
     ensures { result ≡ is_asked sides.now rows.now id }
 {
-    if rows[id.number() as usize].as_slice().is_empty() {
+    let n = id.number() as usize;
+    if rows[n].as_slice().is_empty() && !lost[n] {
         return false;
     }
     is_hidden_class(sides.old, id)
 }
 
 // The same of each class.
-fn asked(alloc: Global, sides: &Sides<'_>, rows: &[Items<ClassId>]) -> Result<Vec<bool>, AllocError>
+fn asked_among(
+    alloc: Global,
+    sides: &Sides<'_>,
+    rows: &[Items<ClassId>],
+    lost: &[bool],
+) -> Result<Vec<bool>, AllocError>
     requires rows { AreRowsOf sides.now.old (lost_at sides.now) rows.now }
+    requires lost { AreMarks sides.now.old (is_in_some rows.now) lost.now }
     ensures { IfOk result (λ marks. AreMarks sides.now.old (is_asked sides.now rows.now) marks.items) }
 {
     let mut marks = Vec::with_capacity(alloc, sides.old.count() as usize)?;
     for n in 0..sides.old.count() {
         let id = sides.old.id(n).unwrap();
-        marks.push(is_asked(sides, rows, id))?;
+        marks.push(is_asked(sides, rows, lost, id))?;
     }
     Ok(marks)
 }
 
-// Whether the class is hidden, has lost something, and is exposed to the clients of some seat.
+// For each class, whether it is hidden, and has lost something or is lost.
+fn asked(alloc: Global, sides: &Sides<'_>, rows: &[Items<ClassId>]) -> Result<Vec<bool>, AllocError>
+    requires rows { AreRowsOf sides.now.old (lost_at sides.now) rows.now }
+    ensures { IfOk result (λ marks. AreMarks sides.now.old (is_asked sides.now rows.now) marks.items) }
+{
+    let mut lost = vec![in alloc; false; sides.old.count() as usize]?;
+    set_lost(sides, rows, &mut lost);
+    let marks = asked_among(alloc, sides, rows, lost.as_slice())?;
+    Ok(marks)
+}
+
+// Whether the class is asked about, and is exposed to the clients of some seat.
 fn is_found(
     sides: &Sides<'_>,
     seats: &Seats<'_>,
     exposed: &Exposed,
-    rows: &[Items<ClassId>],
+    lost: &Lost,
     id: ClassId,
 ) -> bool
     requires seats { AreSeats sides.now seats.now }
-    requires rows { AreRowsOf sides.now.old (lost_at sides.now) rows.now }
+    requires lost { AreLost sides.now lost.now }
     requires exposed { AreExposed sides.now exposed.now }
-    requires wanted { AreWanted sides.now (is_asked sides.now rows.now) exposed.now }
+    requires wanted { AreWanted sides.now (flag_at (hidden_of lost.now)) exposed.now }
     requires id { id < size sides.now.old }
-    ensures { result ≡ is_found sides.now rows.now id }
+    ensures { result ≡ is_found sides.now lost.now.rows.items id }
 {
-    if !is_asked(sides, rows, id) {
+    if !lost.hidden()[id.number() as usize] {
         return false;
     }
     first_exposed(sides, seats, exposed, &[id]).is_some()
@@ -253,83 +316,169 @@ fn found_among(
     sides: &Sides<'_>,
     seats: &Seats<'_>,
     exposed: &Exposed,
-    rows: &[Items<ClassId>],
+    lost: &Lost,
 ) -> Result<Vec<bool>, AllocError>
     requires seats { AreSeats sides.now seats.now }
-    requires rows { AreRowsOf sides.now.old (lost_at sides.now) rows.now }
+    requires lost { AreLost sides.now lost.now }
     requires exposed { AreExposed sides.now exposed.now }
-    requires wanted { AreWanted sides.now (is_asked sides.now rows.now) exposed.now }
-    ensures { IfOk result (λ marks. AreMarks sides.now.old (is_found sides.now rows.now) marks.items) }
+    requires wanted { AreWanted sides.now (flag_at (hidden_of lost.now)) exposed.now }
+    ensures { IfOk result (λ marks. AreMarks sides.now.old (is_found sides.now lost.now.rows.items) marks.items) }
 {
     let mut marks = Vec::with_capacity(alloc, sides.old.count() as usize)?;
     for n in 0..sides.old.count() {
         let id = sides.old.id(n).unwrap();
-        marks.push(is_found(sides, seats, exposed, rows, id))?;
+        marks.push(is_found(sides, seats, exposed, lost, id))?;
     }
     Ok(marks)
 }
 
 // ---- where clients can hold values
 
-// Whether the class, which has lost something, is kept, or hidden and exposed to the clients of some seat.
-fn is_held_class(sides: &Sides<'_>, rows: &[Items<ClassId>], found: &[bool], id: ClassId) -> bool
-    requires found { AreMarks sides.now.old (is_found sides.now rows.now) found.now }
-    requires id { id < size sides.now.old }
-    ensures { result ≡ (is_kept sides.now.old sides.now.new (name_at sides.now.old id) || is_found sides.now rows.now id) }
+// Whether the class is kept.
+fn is_kept_class(sides: &Sides<'_>, id: ClassId) -> bool
+    requires { id < size sides.now.old }
+    ensures { result ≡ is_kept sides.now.old sides.now.new (name_at sides.now.old id) }
 {
     match kept(sides, id) {
         Some(_) => true,
-        None => found[id.number() as usize],
+        None => false,
     }
 }
 
-// What the class has lost, if clients can hold values of it.
-fn held_row(
+// Whether clients can ask the class, which is kept or hidden and exposed, for the interface that it has
+// lost. A kept class takes part with each seat to which a hidden interface is exposed.
+fn can_ask(
+    sides: &Sides<'_>,
+    seats: &Seats<'_>,
+    exposed: &Exposed,
+    lost: &Lost,
+    found: &[bool],
+    kept: bool,
+    id: ClassId,
+    of: ClassId,
+) -> bool
+    requires seats { AreSeats sides.now seats.now }
+    requires lost { AreLost sides.now lost.now }
+    requires exposed { AreExposed sides.now exposed.now }
+    requires wanted { AreWanted sides.now (flag_at (hidden_of lost.now)) exposed.now }
+    requires found { AreMarks sides.now.old (is_found sides.now lost.now.rows.items) found.now }
+    requires id { id < size sides.now.old }
+    requires kept { kept ≡ is_kept sides.now.old sides.now.new (name_at sides.now.old id) }
+    requires held { IsTrue (kept || is_found sides.now lost.now.rows.items id) }
+    requires row { IsTrue (list_any (λ i. i == of) (row_at lost.now.rows.items id)) }
+    requires of { of < size sides.now.old }
+    ensures { result ≡ asks_for sides.now.old sides.now.new (name_at sides.now.old id) (name_at sides.now.old of) }
+{
+    let n = of.number() as usize;
+    if !lost.hidden()[n] {
+        return true;
+    }
+    if kept {
+        return found[n];
+    }
+    first_exposed(sides, seats, exposed, &[id, of]).is_some()
+}
+
+// Puts the class into the set, where that is wanted.
+fn put_if(set: &mut BTreeSet<ClassId>, id: ClassId, wanted: bool) -> Result<(), AllocError>
+    ensures { OnOk result (IsPut id wanted set.old set.new) }
+{
+    if !wanted {
+        return Ok(());
+    }
+    set.insert(id)?;
+    Ok(())
+}
+
+// Those of its row for which clients can ask the class, which is kept or hidden and exposed.
+fn asked_set(
     alloc: Global,
     sides: &Sides<'_>,
-    rows: &[Items<ClassId>],
+    seats: &Seats<'_>,
+    exposed: &Exposed,
+    lost: &Lost,
+    found: &[bool],
+    kept: bool,
+    id: ClassId,
+    row: &[ClassId],
+) -> Result<BTreeSet<ClassId>, AllocError>
+    requires seats { AreSeats sides.now seats.now }
+    requires lost { AreLost sides.now lost.now }
+    requires exposed { AreExposed sides.now exposed.now }
+    requires wanted { AreWanted sides.now (flag_at (hidden_of lost.now)) exposed.now }
+    requires found { AreMarks sides.now.old (is_found sides.now lost.now.rows.items) found.now }
+    requires id { id < size sides.now.old }
+    requires kept { kept ≡ is_kept sides.now.old sides.now.new (name_at sides.now.old id) }
+    requires held { IsTrue (kept || is_found sides.now lost.now.rows.items id) }
+    requires row { row.now ≡ row_at lost.now.rows.items id }
+    ensures { IfOk result (λ set. IsSetOf (loses_at sides.now (name_at sides.now.old id)) set) }
+{
+    let mut set = BTreeSet::new(alloc);
+    for of in row {
+        let wanted = can_ask(sides, seats, exposed, lost, found, kept, id, *of);
+        put_if(&mut set, *of, wanted)?;
+    }
+    Ok(set)
+}
+
+// What the class loses: nothing where clients can't hold values of it.
+fn held_set(
+    alloc: Global,
+    sides: &Sides<'_>,
+    seats: &Seats<'_>,
+    exposed: &Exposed,
+    lost: &Lost,
     found: &[bool],
     id: ClassId,
-) -> Result<Vec<ClassId>, AllocError>
-    requires rows { AreRowsOf sides.now.old (lost_at sides.now) rows.now }
-    requires found { AreMarks sides.now.old (is_found sides.now rows.now) found.now }
+) -> Result<BTreeSet<ClassId>, AllocError>
+    requires seats { AreSeats sides.now seats.now }
+    requires lost { AreLost sides.now lost.now }
+    requires exposed { AreExposed sides.now exposed.now }
+    requires wanted { AreWanted sides.now (flag_at (hidden_of lost.now)) exposed.now }
+    requires found { AreMarks sides.now.old (is_found sides.now lost.now.rows.items) found.now }
     requires id { id < size sides.now.old }
-    ensures { IfOk result (λ row. AreNumbersOf sides.now.old (loses sides.now (name_at sides.now.old id)) row.items) }
+    ensures { IfOk result (λ set. IsSetOf (loses_at sides.now (name_at sides.now.old id)) set) }
 {
-    let row = rows[id.number() as usize].as_slice();
+    let row = lost.row(id);
     if row.is_empty() {
-        return Ok(Vec::new(alloc));
+        return Ok(BTreeSet::new(alloc));
     }
-    if !is_held_class(sides, rows, found, id) {
-        return Ok(Vec::new(alloc));
+    let kept = is_kept_class(sides, id);
+    if !kept && !found[id.number() as usize] {
+        return Ok(BTreeSet::new(alloc));
     }
-    let copy = Vec::from_slice(alloc, row)?;
-    Ok(copy)
+    let set = asked_set(alloc, sides, seats, exposed, lost, found, kept, id, row)?;
+    Ok(set)
 }
 
 // The same of each class.
-fn held_rows(
+fn held_sets(
     alloc: Global,
     sides: &Sides<'_>,
-    rows: &[Items<ClassId>],
+    seats: &Seats<'_>,
+    exposed: &Exposed,
+    lost: &Lost,
     found: &[bool],
-) -> Result<Vec<Items<ClassId>>, AllocError>
-    requires rows { AreRowsOf sides.now.old (lost_at sides.now) rows.now }
-    requires found { AreMarks sides.now.old (is_found sides.now rows.now) found.now }
-    ensures { IfOk result (λ held. AreRowsOf sides.now.old (loses sides.now) held.items) }
+) -> Result<Vec<BTreeSet<ClassId>>, AllocError>
+    requires seats { AreSeats sides.now seats.now }
+    requires lost { AreLost sides.now lost.now }
+    requires exposed { AreExposed sides.now exposed.now }
+    requires wanted { AreWanted sides.now (flag_at (hidden_of lost.now)) exposed.now }
+    requires found { AreMarks sides.now.old (is_found sides.now lost.now.rows.items) found.now }
+    ensures { IfOk result (λ sets. AreSets sides.now sets.items) }
 {
     let mut held = Vec::with_capacity(alloc, sides.old.count() as usize)?;
     for n in 0..sides.old.count() {
         let id = sides.old.id(n).unwrap();
-        let row = held_row(alloc, sides, rows, found, id)?;
-        held.push(Items::from_vec(row))?;
+        let set = held_set(alloc, sides, seats, exposed, lost, found, id)?;
+        held.push(set)?;
     }
     Ok(held)
 }
 
-/// For each class of the old side, the interfaces that it has lost, if clients can hold values of it,
-/// in any order, and maybe twice. The members are those that expose at least the hidden classes that
-/// have lost one.
+/// For each class of the old side, the interfaces that it has lost and for which clients can ask it, if
+/// they can hold values of it. The members are those that expose at least the hidden classes that have
+/// lost an interface, and hidden interfaces that were lost.
 ///
 /// # Errors
 ///
@@ -340,15 +489,14 @@ pub(crate) fn losing(
     seats: &Seats<'_>,
     exposed: &Exposed,
     lost: &Lost,
-) -> Result<Vec<Items<ClassId>>, AllocError>
+) -> Result<Vec<BTreeSet<ClassId>>, AllocError>
     requires seats { AreSeats sides.now seats.now }
     requires exposed { AreExposed sides.now exposed.now }
     requires lost { AreLost sides.now lost.now }
     requires wanted { AreWanted sides.now (flag_at (hidden_of lost.now)) exposed.now }
-    ensures { IfOk result (λ rows. AreRowsOf sides.now.old (loses sides.now) rows.items) }
+    ensures { IfOk result (λ sets. AreSets sides.now sets.items) }
 {
-    let rows = lost.rows.as_slice();
-    let found = found_among(alloc, sides, seats, exposed, rows)?;
-    let held = held_rows(alloc, sides, rows, found.as_slice())?;
+    let found = found_among(alloc, sides, seats, exposed, lost)?;
+    let held = held_sets(alloc, sides, seats, exposed, lost, found.as_slice())?;
     Ok(held)
 }

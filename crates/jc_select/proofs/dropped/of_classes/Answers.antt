@@ -14,8 +14,6 @@ pub loop-n-init : goal.loop-n-init
 loop-n-init c = record {
   exact = start c.args.sides.now (subst AreSides c.sides.view_is c.sides.invariant.sides) c.new-dropped.result.items c.new-dropped.ensures.items;
   within = ap (λ xs. over (length xs) c.args.most) c.new-dropped.ensures.items ∙ over_none c.args.most;
-  count = c.requires.marks;
-  clear = c.requires.clear;
 }
 
 pub loop-n-preserved : goal.loop-n-preserved
@@ -23,10 +21,8 @@ loop-n-preserved c =
     let l : c.loop-n.n < size c.sides.inside.old.now = omega (arith, c.count-n-end.ensures.count) in
     record {
       exact = one_more c.args.sides.now (subst AreSides c.sides.view_is c.sides.invariant.sides) c.sides.inside.old.now (ap (λ (s : SidesOf). s.old) c.sides.view_is) c.loop-n.n c.unwrap-id.result c.loop-n.dropped.items
-          c.in_ok-of_class.field-0.items c.append.new.self.items l (sym c.id.ensures.value ∙ c.unwrap-id.ensures) c.loop-n.invariant.exact c.in_ok-of_class.ensures.exact c.in_ok-append.ensures.items;
+          c.in_ok-of_class.field-0.items c.append.new.self.items l (sym c.id.ensures.value ∙ c.unwrap-id.ensures) c.loop-n.invariant.exact c.in_ok-of_class.ensures c.in_ok-append.ensures.items;
       within = told c.args.most c.append.new.self.items c.len.result c.is_over.result false (omega (arith, c.len.ensures, c.append.new.self.ok.0)) c.is_over.ensures c.if-is_over.false;
-      count = c.of_class.ensures.count ∙ c.loop-n.invariant.count;
-      clear = c.in_ok-of_class.ensures.clear;
     }
 
 pub returns-then-is_over : goal.returns-then-is_over
@@ -34,7 +30,7 @@ returns-then-is_over c =
     let l : c.loop-n.n < size c.sides.inside.old.now = omega (arith, c.count-n-end.ensures.count) in
     past_of dropped_order (OfNames (λ (d : Dropped). d.«class») (IsDropped c.args.sides.now.old c.args.sides.now.new) (take (c.loop-n.n + 1) (names c.args.sides.now.old))) (IsDropped c.args.sides.now.old c.args.sides.now.new) c.args.most c.append.new.self.items (λ f p. p.1)
     (one_more c.args.sides.now (subst AreSides c.sides.view_is c.sides.invariant.sides) c.sides.inside.old.now (ap (λ (s : SidesOf). s.old) c.sides.view_is) c.loop-n.n c.unwrap-id.result c.loop-n.dropped.items
-    c.in_ok-of_class.field-0.items c.append.new.self.items l (sym c.id.ensures.value ∙ c.unwrap-id.ensures) c.loop-n.invariant.exact c.in_ok-of_class.ensures.exact c.in_ok-append.ensures.items)
+    c.in_ok-of_class.field-0.items c.append.new.self.items l (sym c.id.ensures.value ∙ c.unwrap-id.ensures) c.loop-n.invariant.exact c.in_ok-of_class.ensures c.in_ok-append.ensures.items)
     (told c.args.most c.append.new.self.items c.len.result c.is_over.result true (omega (arith, c.len.ensures, c.append.new.self.ok.0)) c.is_over.ensures c.if-is_over.true)
 
 pub returns : goal.returns

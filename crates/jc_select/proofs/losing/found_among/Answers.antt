@@ -7,16 +7,16 @@ use Rattle.jc_select.specs.steps.Losing.{is_found}
 use Rattle.jc_select.proofs.losing.found_among.Goals as goal
 
 pub loop-n-init : goal.loop-n-init
-loop-n-init c = done_none false (λ n b. b ≡ is_found c.args.sides.now c.args.rows.now n) c.in_ok-marks.marks.items c.in_ok-marks.ensures.items
+loop-n-init c = done_none false (λ n b. b ≡ is_found c.args.sides.now c.args.lost.now.rows.items n) c.in_ok-marks.marks.items c.in_ok-marks.ensures.items
 
 pub loop-n-preserved : goal.loop-n-preserved
 loop-n-preserved c =
     let k : c.unwrap-id.result ≡ c.loop-n.n = some_where-is (nat_lt c.loop-n.n (size c.sides.inside.old.now)) c.loop-n.n c.unwrap-id.result (sym c.id.ensures.value ∙ c.unwrap-id.ensures) in
-    done_more false (λ n b. b ≡ is_found c.args.sides.now c.args.rows.now n)
+    done_more false (λ n b. b ≡ is_found c.args.sides.now c.args.lost.now.rows.items n)
     c.loop-n.n c.unwrap-id.result c.loop-n.marks.items c.push.new.self.items c.is_found.result k c.in_ok-push.ensures.items c.is_found.ensures c.loop-n.invariant
 
 pub returns : goal.returns
 returns c =
     let v : size c.sides.inside.old.now ≡ size c.args.sides.now.old = ap (λ (s : SidesOf). size s.old) c.sides.view_is in
     let l : c.loop-n.n ≡ size c.args.sides.now.old = omega (arith, c.count-n-end.ensures.count) in
-    done_all false (λ n b. b ≡ is_found c.args.sides.now c.args.rows.now n) c.loop-n.n (size c.args.sides.now.old) c.loop-n.marks.items l c.loop-n.invariant
+    done_all false (λ n b. b ≡ is_found c.args.sides.now c.args.lost.now.rows.items n) c.loop-n.n (size c.args.sides.now.old) c.loop-n.marks.items l c.loop-n.invariant

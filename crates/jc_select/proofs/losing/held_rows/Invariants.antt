@@ -1,7 +1,0 @@
-use Rattle.std.proofs.Common.{[]}
-use Rattle.jc_index.specs.Ids.{name_at}
-use Rattle.jc_select.specs.steps.Losing.{AreDone, AreNumbersOf, loses}
-use Rattle.jc_select.proofs.losing.held_rows.Given as goal
-
-abbrev pub invariant-loop-n : goal.invariant-loop-n
-invariant-loop-n l = AreDone [] (λ n row. AreNumbersOf l.sides.old (loses l.sides (name_at l.sides.old n)) row) l.n l.held.items
