@@ -3,12 +3,12 @@ use Rattle.std.proofs.Common.{◌≡◌, Bool, true, false, not, cond, List, [],
 use Rattle.std.specs.Cmp.{first_so, second_so}
 use Rattle.std.specs.List.{list_any, list_all}
 use Rattle.std.specs.Option.{option_eq}
-use Rattle.std.proofs.lemmas.Bool.{and_parts, and_from}
+use Rattle.std.proofs.lemmas.Bool.{and_parts, and_from, or_right}
 use Rattle.std.proofs.lemmas.List.Elements.{All-from_recursion}
 use Rattle.jc_facts.specs.declared.act.Act.{Act}
 use Rattle.jc_facts.specs.declared.act.Act.TheVariants as act
 use Rattle.jc_call_kinds.specs.declared.call_line.CallKind.{CallKind}
-use Rattle.jc_call_kinds.specs.declared.call_line.CallKind.TheVariants.{Reference, Access, Constants}
+use Rattle.jc_call_kinds.specs.declared.call_line.CallKind.TheVariants.{Reference, Access, Joined, Constants}
 use Rattle.jc_call_kinds.specs.declared.call_line.CallLine.{CallLine}
 use Rattle.jc_facts.specs.declared.class_facts.ClassFacts.{ClassFacts}
 use Rattle.jc_facts.specs.declared.class_facts.Member.{Member}
@@ -19,11 +19,11 @@ use Rattle.jc_facts.specs.Flags.{interface_flag, enum_flag, abstract_flag}
 use Rattle.jc_facts.specs.Names.{Bytes, same, is_name_among, is_descriptor_of_method}
 use Rattle.jc_facts.specs.Options.{some_and}
 use Rattle.jc_facts.specs.world.World.{World, DeclaredMember, find_class, class_named, class_is}
-use Rattle.jc_facts.specs.world.Hierarchy.{chain, with_interfaces, superinterfaces, is_superinterface, names_in}
+use Rattle.jc_facts.specs.world.Hierarchy.{chain, in_chain, with_interfaces, superinterfaces, is_superinterface, names_in}
 use Rattle.jc_facts.specs.world.Inheritance.{offers, is_final_in_chain}
 use Rattle.jc_facts.specs.world.Loading.{load_fault}
 use Rattle.jc_facts.specs.world.Lookup.{interface_choices, method_choices}
-use Rattle.jc_facts.specs.world.Assignment.{is_interface_of}
+use Rattle.jc_facts.specs.world.Assignment.{is_class_assignable, is_interface_of}
 use Rattle.jc_promises.specs.rule.Bases.{became_class, is_base_class, is_class_closed, is_class_usable, is_extendable, is_kept, is_key_of_method, is_steady}
 use Rattle.jc_promises.specs.rule.OpenActs.{method_acts}
 use Rattle.jc_promises.specs.rule.Selection.{chain_kind}
@@ -41,10 +41,12 @@ use Rattle.jc_sound.proofs.MethodLooked.{interface_choices-declared}
 use Rattle.jc_sound.proofs.Standing.{usable_parts}
 use Rattle.jc_calls.specs.Access.{access_added, allows_less_access, is_called_above, is_public_in_chain}
 use Rattle.jc_calls.specs.Constants.{constants_added, gets_constant, gets_objects, has_constant, permits_more}
+use Rattle.jc_calls.specs.Joins.{join_lost}
 use Rattle.jc_calls.specs.Lines.{is_due, LineStands}
 use Rattle.jc_calls.specs.Handles.{are_public}
 use Rattle.jc_calls.specs.References.{are_of_open, is_handle_lost, is_of_open, is_open_to_some, is_told, reference_lost}
 use Rattle.jc_dropped.specs.Dropped.{is_held, asks_for, has_lost, loses_interface, loses_above, is_dropped, IsDropped}
+use Rattle.jc_calls.proofs.Parted.{IsParted, parted}
 use Rattle.jc_dropped.proofs.Held.{held_loads}
 use Rattle.jc_sig.specs.Notes.{signature_at, MemberChanges, ChangeAt, SigNoteStands}
 use Rattle.jc_agree.specs.NothingListed.{ListsNothing, SameReleaseLists, EmptyReleaseLists}
@@ -216,12 +218,23 @@ module _ (O N : World) (alike : IsAlike O N) where
           ∙ ap (λ b. b || permits_more c.permits c.permits || gets_objects c c) (own_constants c) ∙ ap (λ b. b || gets_objects c c) (own_permits c.permits)
           ∙ abstract_never (is_some c.permits) (abstract_flag c.flags)
 
+  no_join : (x t : Bytes) → join_lost O N x t ≡ false
+  no_join x t = go (join_lost O N x t) refl
+    where
+      go : (b : Bool) → join_lost O N x t ≡ b → b ≡ false
+      go false e = refl
+      go true e =
+          let p : IsParted O N x t = parted O N x t e in
+          let i : in_chain N x t ≡ true = ap (λ cs. names_in cs t) (sym (alike.chain x p.class_loads)) ∙ p.above in
+          absurd (contradicts (is_class_assignable N x t) (or_right (same x t || is_interface_of N t) (in_chain N x t) i) p.left)
+
   no_line : (l : CallLine) → LineStands O N l → ⊥
   no_line l h = go l.kind l.«class» l.key l.target h
     where
       go : (kind : CallKind) (x : Bytes) (k : Option Key) (t : Option Bytes) → is_due O N kind x k t ≡ true → ⊥
       go Reference x (Some k) None d = contradicts (reference_lost O N x k) d (no_reference x k)
       go Access x (Some k) None d = contradicts (access_added O N x k) d (no_access x k)
+      go Joined x None (Some t) d = contradicts (join_lost O N x t) d (no_join x t)
       go Constants x None None d = contradicts (constants_added O N x) d (no_constants x)
       go kind x k t d = let clash : false ≡ true = d in cc
 

@@ -1,9 +1,9 @@
 -- Lines of one kind behind those of others.
-use Rattle.std.proofs.Common.{◌≡◌, ◌<◌, ◌++◌, ℕ, true, false, List, length, refl, sym, ◌∙◌, ap, subst, Option, ◌⊎◌, inl, inr, arith}
+use Rattle.std.proofs.Common.{◌≡◌, ◌<◌, ◌++◌, ℕ, false, List, length, refl, sym, ◌∙◌, ap, subst, Option, ◌⊎◌, inl, inr, arith}
 use Rattle.std.specs.Cmp.{nat_cmp_is}
 use Rattle.std.specs.declared.cmp.Ordering.{Ordering}
 use Rattle.std.specs.declared.cmp.Ordering.TheVariants.{Less}
-use Rattle.jc_calls.specs.Lines.{is_due, line_order, place_of, LineStands}
+use Rattle.jc_calls.specs.Lines.{line_order, place_of, LineStands}
 use Rattle.jc_facts.specs.Exactly.{HasExactly}
 use Rattle.jc_call_kinds.specs.declared.call_line.CallKind.{CallKind}
 use Rattle.jc_call_kinds.specs.declared.call_line.CallKind.TheVariants.{Reference, Access, Joined, Constants}
@@ -56,19 +56,32 @@ module _ (O N : World) where
   abbrev pub OnMethod : CallLine → Type 0
   OnMethod l = OfKind Reference O N l ⊎ OfKind Access O N l
 
+  -- the lines on classes
   abbrev pub OnClass : CallLine → Type 0
-  OnClass l = OfKind Constants O N l
+  OnClass l = OfKind Joined O N l ⊎ OfKind Constants O N l
 
   pub accesses_later : (l m : CallLine) → OfKind Reference O N l → OfKind Access O N m → line_order l m ≡ Less
   accesses_later l m p q = placed Reference Access l m p.0 q.0 (omega arith)
 
-  pub constants_later : (l m : CallLine) → OnMethod l → OnClass m → line_order l m ≡ Less
-  constants_later l m (inl p) q = placed Reference Constants l m p.0 q.0 (omega arith)
-  constants_later l m (inr p) q = placed Access Constants l m p.0 q.0 (omega arith)
+  pub constants_later : (l m : CallLine) → OfKind Joined O N l → OfKind Constants O N m → line_order l m ≡ Less
+  constants_later l m p q = placed Joined Constants l m p.0 q.0 (omega arith)
+
+  -- those on classes follow those on methods
+  class_later : (a : CallKind) → place_of a < 2 → (l m : CallLine) → l.kind ≡ a → OnClass m → line_order l m ≡ Less
+  class_later a h l m p (inl q) = placed a Joined l m p q.0 h
+  class_later a h l m p (inr q) = placed a Constants l m p q.0 (omega (arith, h))
+
+  pub classes_later : (l m : CallLine) → OnMethod l → OnClass m → line_order l m ≡ Less
+  classes_later l m (inl p) q = class_later Reference (omega arith) l m p.0 q
+  classes_later l m (inr p) q = class_later Access (omega arith) l m p.0 q
 
   pub stands_first : (l : CallLine) → OnMethod l → LineStands O N l
   stands_first l (inl p) = p.1
   stands_first l (inr p) = p.1
+
+  pub stands_then : (l : CallLine) → OnClass l → LineStands O N l
+  stands_then l (inl p) = p.1
+  stands_then l (inr p) = p.1
 
   pub each_kind : (l : CallLine) → LineStands O N l → OnMethod l ⊎ OnClass l
   each_kind l h = go l.kind refl
@@ -76,5 +89,5 @@ module _ (O N : World) where
       go : (c : CallKind) → l.kind ≡ c → OnMethod l ⊎ OnClass l
       go Reference e = inl (inl (e, h))
       go Access e = inl (inr (e, h))
-      go Joined e = absurd (let clash : false ≡ true = subst (λ (k : CallKind). is_due O N k l.«class» l.key l.target ≡ true) e h in cc)
-      go Constants e = inr (e, h)
+      go Joined e = inr (inl (e, h))
+      go Constants e = inr (inr (e, h))

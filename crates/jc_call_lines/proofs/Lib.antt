@@ -1,6 +1,10 @@
 mod AccessLines
 mod Chosen
 mod ConstantLines
+mod JoinLeft
+mod JoinLines
+mod JoinSeats
+mod JoinWalk
 mod Joined
 mod Limited
 mod LostLines

@@ -4,6 +4,7 @@
 mod access;
 mod choice;
 mod constants;
+mod joins;
 pub mod lines;
 mod openly;
 mod references;

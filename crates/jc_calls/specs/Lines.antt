@@ -15,12 +15,14 @@ use Rattle.jc_facts.specs.Names.{Bytes}
 use Rattle.jc_facts.specs.world.World.{World}
 use Rattle.jc_calls.specs.Access.{access_added}
 use Rattle.jc_calls.specs.Constants.{constants_added}
+use Rattle.jc_calls.specs.Joins.{join_lost}
 use Rattle.jc_calls.specs.References.{reference_lost}
 
 -- a line of the kind is due for the class, and the key or the superclass where it has one
 abbrev pub is_due : World → World → CallKind → Bytes → Option Key → Option Bytes → Bool
 is_due O N Reference x (Some k) None = reference_lost O N x k
 is_due O N Access x (Some k) None = access_added O N x k
+is_due O N Joined x None (Some t) = join_lost O N x t
 is_due O N Constants x None None = constants_added O N x
 is_due O N kind x k t = false
 

@@ -30,8 +30,10 @@ use Rattle.jc_promises.specs.rule.OpenActs.{act_fault, first_seat, method_acts}
 use Rattle.jc_calls.specs.Access.{access_added, is_called_above}
 use Rattle.jc_calls.specs.Constants.{constants_added}
 use Rattle.jc_calls.specs.Handles.{are_public}
+use Rattle.jc_calls.specs.Joins.{join_lost}
 use Rattle.jc_calls.specs.Lines.{is_due, place_of, line_order, LineStands, AreLines}
 use Rattle.jc_calls.specs.References.{are_of_open, is_handle_lost, is_open_to_some, is_told, reference_lost}
+use Rattle.jc_calls.proofs.Parted.{IsParted, parted}
 use Rattle.jc_facts.proofs.InOrder.{exact_same}
 use Rattle.jc_lemmas.proofs.Bools.{second_of_five}
 use Rattle.jc_lemmas.proofs.Listed.{EachOf-map}
@@ -45,10 +47,11 @@ use Rattle.jc_sound.proofs.Standing.{usable_parts}
 use Rattle.jc_sound.proofs.VerdictLaw.{exactly_one}
 use Rattle.jc_sound.specs.Findings.{declares_key}
 use Rattle.jc_sides.proofs.Subjects.{subject_order}
+use Rattle.jc_worlds.proofs.Loaded.{loads-found}
 use Rattle.jc_worlds.specs.Hierarchy.{above}
 use Rattle.jc_commands.specs.CallsPart.{AreAskedCalls}
 use Rattle.jc_commands.proofs.Declarations.{above_in, super_all, some_key}
-use Rattle.jc_commands.proofs.SomeVerdict.{of_kept, usable_name}
+use Rattle.jc_commands.proofs.SomeVerdict.{found_name, of_kept, usable_name}
 use Rattle.jc_commands.proofs.Subjects.{on_subject, rules, is_rule, none_or, names, keys, subjects, covered}
 use Rattle.jc_releases.specs.declared.limits.TheConstants.{MAX_CALLS}
 
@@ -180,12 +183,22 @@ module _ (O N : World) where
         (none_or (keys O N) None (λ k is. absurd (let clash : None ≡ Some k = is in cc)))
         (none_or (names O N) None (λ t is. absurd (let clash : None ≡ Some t = is in cc)))
 
+    -- both classes of a join are of the old side
+    joined_covered : (x t : Bytes) → join_lost O N x t ≡ true → Contains (subjects O N).items (on_subject 2 x None (Some t))
+    joined_covered x t h =
+        let p : IsParted O N x t = parted O N x t h in
+        covered O N (on_subject 2 x None (Some t)) (is_rule 2 refl)
+        (found_name O N pair x (loads-found O x p.class_loads).0 (loads-found O x p.class_loads).1)
+        (none_or (keys O N) None (λ k is. absurd (let clash : None ≡ Some k = is in cc)))
+        (none_or (names O N) (Some t) (λ u is. let one : t ≡ u = cc in subst (Contains (names O N)) one (found_name O N pair t (loads-found O t p.target_loads).0 (loads-found O t p.target_loads).1)))
+
     call_covered : (l : CallLine) → call_here (call_subject l) ≡ Some l → Contains (subjects O N).items (call_subject l)
     call_covered l e = go l.kind l.«class» l.key l.target (call_stands l e)
       where
         go : (kind : CallKind) (x : Bytes) (k : Option Key) (t : Option Bytes) → is_due O N kind x k t ≡ true → Contains (subjects O N).items (on_subject (place_of kind) x k t)
         go Reference x (Some k) None h = reference_covered x k h
         go Access x (Some k) None h = access_covered x k h
+        go Joined x None (Some t) h = joined_covered x t h
         go Constants x None None h = constants_covered x h
         go kind x k t h = absurd (let clash : false ≡ true = h in cc)
 
