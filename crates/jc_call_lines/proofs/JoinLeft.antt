@@ -1,7 +1,6 @@
 -- Which classes were left, and which stand below them.
-use Rattle.std.proofs.Common.{◌≡◌, ◌<◌, ◌≤◌, ◌+◌, ◌++◌, ℕ, Bool, true, false, cond, ◌&&◌, ◌||◌, List, [], ◌∷◌, length, map, take, refl, sym, ◌∙◌, ap, subst, Option, None, Some, option_map, nat_lt, ◌⊎◌, inl, inr}
+use Rattle.std.proofs.Common.{◌≡◌, ◌<◌, ◌≤◌, ◌+◌, ◌++◌, ℕ, Bool, true, false, ◌&&◌, ◌||◌, List, [], ◌∷◌, length, map, take, refl, sym, ◌∙◌, ap, subst, Option, Some, nat_lt, ◌⊎◌, inl, inr}
 use Rattle.std.specs.List.{All, Contains, list_any, filter_map, cons_option}
-use Rattle.std.proofs.lemmas.Bool.{and_from}
 use Rattle.std.proofs.lemmas.List.{map-append, take_all}
 use Rattle.std.proofs.lemmas.List.Elements.{All-from_recursion, recursion_from_All, All-contains}
 use Rattle.std.proofs.lemmas.List.Folds.{list_any_more}
@@ -9,7 +8,6 @@ use Rattle.jc_acts.specs.Touched.{AreFlags, AreSet, flag_at, left_chain_of}
 use Rattle.jc_acts.proofs.LostChains.{set_as}
 use Rattle.jc_acts.proofs.SetFlags.{none_set}
 use Rattle.jc_exposed.specs.declared.exposed.Exposed.{Exposed}
-use Rattle.jc_exposed.specs.Exposed.{AreExposed, wanted_of}
 use Rattle.jc_facts.specs.Names.{Bytes}
 use Rattle.jc_facts.specs.Options.{some_where}
 use Rattle.jc_facts.specs.world.Hierarchy.{in_chain}
@@ -19,8 +17,7 @@ use Rattle.jc_facts.proofs.Options.{some_where-is}
 use Rattle.jc_index.specs.Ids.{name_at, names, id_of}
 use Rattle.jc_index.proofs.Numbers.{names-length, id_of-name_at, at-in}
 use Rattle.jc_lemmas.proofs.Bools.{or_assoc}
-use Rattle.jc_lemmas.proofs.Listed.{EachOf, EachOf-append, EachOf-map, any_has, each_from, none, cases, here, there}
-use Rattle.jc_promises.specs.rule.Exposed.{is_hidden}
+use Rattle.jc_lemmas.proofs.Listed.{EachOf, EachOf-append, any_has, each_from, none, cases, here, there}
 use Rattle.jc_sides.specs.SidesOf.{SidesOf}
 use Rattle.jc_sides.proofs.ByClass.{step, whole}
 use Rattle.jc_sides.proofs.ItemRules.{made_where}

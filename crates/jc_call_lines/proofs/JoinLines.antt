@@ -1,17 +1,18 @@
 -- Lines on superclasses where values met: when one is due, and their order.
-use Rattle.std.proofs.Common.{◌≡◌, ◌<◌, ◌≤◌, ◌+◌, ◌++◌, ℕ, Bool, true, false, not, ◌&&◌, ◌||◌, List, [], ◌∷◌, map, take, refl, sym, ◌∙◌, ap, subst, Option, None, Some, is_some, nat_lt, ◌⊎◌, inl, inr}
+use Rattle.std.proofs.Common.{◌≡◌, ◌<◌, ◌≤◌, ◌+◌, ◌++◌, ℕ, Bool, true, false, not, ◌&&◌, ◌||◌, List, [], ◌∷◌, map, take, refl, sym, ◌∙◌, ap, subst, Option, None, Some, is_some, nat_lt}
 use Rattle.std.specs.Prelude.{IsTrue}
-use Rattle.std.specs.List.{Contains, cons_option, filter_map, list_any}
+use Rattle.std.specs.List.{Contains, cons_option, filter_map}
 use Rattle.std.specs.Cmp.Lexicographic.{nat_list_cmp_total}
 use Rattle.std.specs.declared.cmp.Ordering.TheVariants.{Less}
-use Rattle.std.proofs.lemmas.Bool.{and_parts, and_from, not-true, or_cases, or_left, or_right}
+use Rattle.std.proofs.lemmas.Bool.{and_parts, and_from, or_right}
 use Rattle.std.proofs.lemmas.Cmp.{nat_cmp_total, tied_itself}
 use Rattle.jc_acts.specs.Seats.{loses_class}
 use Rattle.jc_acts.specs.Touched.{left_chain_of}
 use Rattle.jc_acts.proofs.SeatChains.{keeps}
 use Rattle.jc_call_kinds.specs.declared.call_line.CallKind.TheVariants.{Joined}
 use Rattle.jc_call_kinds.specs.declared.call_line.CallLine.{CallLine}
-use Rattle.jc_calls.specs.Joins.{is_found, is_join, is_joined, join_lost, joins_for}
+use Rattle.jc_calls.specs.Joins.{is_found, is_joined, join_lost}
+use Rattle.jc_calls.proofs.Parted.{IsParted, parted}
 use Rattle.jc_calls.specs.Lines.{is_due, line_order, place_of}
 use Rattle.jc_facts.specs.declared.class_facts.ClassFacts.{ClassFacts}
 use Rattle.jc_facts.specs.declared.key.Key.{Key}
@@ -21,7 +22,7 @@ use Rattle.jc_facts.specs.Options.{some_where}
 use Rattle.jc_facts.specs.world.Assignment.{is_class_assignable, is_interface_of}
 use Rattle.jc_facts.specs.world.Hierarchy.{in_chain}
 use Rattle.jc_facts.specs.world.Loading.{load_fault, loads}
-use Rattle.jc_facts.specs.world.World.{World, classes, find_class, size}
+use Rattle.jc_facts.specs.world.World.{World, find_class, size}
 use Rattle.jc_facts.proofs.Exact.{Gives, given}
 use Rattle.jc_facts.proofs.Exactly.{OfNames, grown_start, grown_more, grown_all}
 use Rattle.jc_facts.proofs.InOrder.{exact_given, given_rise}
@@ -29,19 +30,14 @@ use Rattle.jc_facts.proofs.Options.{some_where-is}
 use Rattle.jc_index.specs.Ids.{name_at, names}
 use Rattle.jc_index.proofs.Numbers.{names-in, names-length, names-rise}
 use Rattle.jc_lemmas.proofs.Bools.{contradicts}
-use Rattle.jc_lemmas.proofs.Listed.{Passes, any_has, any_passes}
+use Rattle.jc_lemmas.proofs.Listed.{any_has}
 use Rattle.jc_lemmas.proofs.Options.{none_where}
-use Rattle.jc_promises.specs.rule.Bases.{is_class_usable, is_kept}
-use Rattle.jc_promises.specs.rule.Exposed.{is_hidden, is_exposed}
-use Rattle.jc_promises.specs.rule.Findings.{takes_part}
-use Rattle.jc_promises.specs.rule.OpenActs.{first_seat}
+use Rattle.jc_promises.specs.rule.Bases.{is_class_usable}
+use Rattle.jc_promises.specs.rule.Exposed.{is_hidden}
 use Rattle.jc_sides.specs.Rules.{IsOf}
 use Rattle.jc_sides.specs.SidesOf.{SidesOf, AreSides}
 use Rattle.jc_sides.proofs.ItemRules.{made_where}
-use Rattle.jc_sound.proofs.OpenActs.{first_seat-passes}
-use Rattle.jc_sound.proofs.Standing.{usable_parts}
 use Rattle.jc_worlds.proofs.Chains.{chain_there, none_above}
-use Rattle.jc_worlds.proofs.Loaded.{loads-found}
 use Rattle.jc_worlds.proofs.Unrolled.{own_chain}
 use Rattle.jc_call_lines.specs.steps.JoinLines.{AreTargets, is_handed, is_left, is_losing, is_target, join_line, joined_line, left_by, may_be_held, share_seat, target_at}
 use Rattle.jc_call_lines.specs.steps.Kinds.{OfKind}
@@ -86,53 +82,12 @@ module _ (s : SidesOf) (x t : Bytes) (was : in_chain s.old x t ≡ true) (a : Bo
       twice true = refl
       twice false = refl
 
--- who joins has it above itself
-record IsLost (s : SidesOf) (x t : Bytes) : Type 0 where
-  hidden : is_hidden s.old t ≡ true
-  held : may_be_held s x ≡ true
-  above : in_chain s.old x t ≡ true
-  left : is_class_assignable s.new x t ≡ false
-
-lost_parts : (s : SidesOf) (x t : Bytes) → join_lost s.old s.new x t ≡ true → IsLost s x t
-unfolding join_lost is_exposed
-lost_parts s x t h = go (first_seat s.old s.new (joins_for s.old s.new x t)) refl c.1
-  where
-    a : ((is_hidden s.old t && is_joined s.old s.new x t && not (is_class_assignable s.new x t)) ≡ true) × (not (is_found s.old s.new x t) ≡ true)
-    a = and_parts (is_hidden s.old t && is_joined s.old s.new x t && not (is_class_assignable s.new x t)) (not (is_found s.old s.new x t)) h
-
-    b : ((is_hidden s.old t && is_joined s.old s.new x t) ≡ true) × (not (is_class_assignable s.new x t) ≡ true)
-    b = and_parts (is_hidden s.old t && is_joined s.old s.new x t) (not (is_class_assignable s.new x t)) a.0
-
-    c : (is_hidden s.old t ≡ true) × (is_joined s.old s.new x t ≡ true)
-    c = and_parts (is_hidden s.old t) (is_joined s.old s.new x t) b.0
-
-    by : (p : Bytes) → first_seat s.old s.new (joins_for s.old s.new x t) ≡ Some p → IsLost s x t
-    by p e =
-        let d = and_parts (takes_part s.old s.new p x) (list_any (λ y. takes_part s.old s.new p y.name && is_join s.old x y.name t) (classes s.old)) (first_seat-passes s.old s.new (joins_for s.old s.new x t) p e) in
-        let w : Passes (λ (y : ClassFacts). takes_part s.old s.new p y.name && is_join s.old x y.name t) (classes s.old) = any_passes (λ (y : ClassFacts). takes_part s.old s.new p y.name && is_join s.old x y.name t) (classes s.old) d.1 in
-        let j = (and_parts (takes_part s.old s.new p w.one.name) (is_join s.old x w.one.name t) w.passes).1 in
-        let k = and_parts (in_chain s.old x t && in_chain s.old w.one.name t) _ j in
-        record {
-          hidden = c.0;
-          held = part (or_cases (is_kept s.old s.new x) (is_exposed s.old p x) d.0);
-          above = (and_parts (in_chain s.old x t) (in_chain s.old w.one.name t) k.0).0;
-          left = not-true (is_class_assignable s.new x t) b.1;
-        }
-      where
-        part : (is_kept s.old s.new x ≡ true) ⊎ (is_exposed s.old p x ≡ true) → may_be_held s x ≡ true
-        part (inl k) = or_left (is_kept s.old s.new x) (is_hidden s.old x) k
-        part (inr q) = or_right (is_kept s.old s.new x) (is_hidden s.old x) (and_parts (is_hidden s.old x) _ q).0
-
-    go : (o : Option Bytes) → first_seat s.old s.new (joins_for s.old s.new x t) ≡ o → is_some o ≡ true → IsLost s x t
-    go (Some p) e i = by p e
-    go None e i = absurd (cc)
-
 pub not_above : (s : SidesOf) (x t : Bytes) (b : Bool) → b ≡ in_chain s.old x t → b ≡ false → None ≡ join_line s x t
 not_above s x t b e h = ap (λ z. some_where z (joined_line x t)) (go (join_lost s.old s.new x t) refl)
   where
     go : (c : Bool) → join_lost s.old s.new x t ≡ c → false ≡ join_lost s.old s.new x t
     go false q = sym q
-    go true q = absurd (contradicts (in_chain s.old x t) (lost_parts s x t q).above (sym e ∙ h))
+    go true q = absurd (contradicts (in_chain s.old x t) (parted s.old s.new x t q).above (sym e ∙ h))
 
 pub no_line : (s : SidesOf) (x t : Bytes) (b : Bool) → b ≡ join_lost s.old s.new x t → b ≡ false → None ≡ join_line s x t
 no_line s x t b e h = ap (λ z. some_where z (joined_line x t)) (sym h ∙ e)
@@ -183,8 +138,8 @@ unfolding is_hidden
 is_among s ts h x t d =
     subst (λ xs. Contains xs t) (sym h.names) (given (target_at s) (names s.old) t t (there t (in_there t p.above)) (ap (λ b. some_where b t) target))
   where
-    p : IsLost s x t
-    p = lost_parts s x t d
+    p : IsParted s.old s.new x t
+    p = parted s.old s.new x t d
 
     in_there : (y : Bytes) → in_chain s.old x y ≡ true → is_some (find_class s.old y) ≡ true
     in_there y i = chain_there s.old x y i
@@ -269,7 +224,7 @@ module _ (s : SidesOf) (are : AreSides s) where
 
   -- a line's class is one of the side
   named : (l : CallLine) → OfJoin s l → Contains (names s.old) l.«class»
-  named l p = let w = made s l p in names-in s.old l.«class» (is_there (find_class s.old l.«class») refl (lost_parts s l.«class» w.0 w.1).above)
+  named l p = let w = made s l p in names-in s.old l.«class» (is_there (find_class s.old l.«class») refl (parted s.old s.new l.«class» w.0 w.1).above)
     where
       is_there : (o : Option ClassFacts) → find_class s.old l.«class» ≡ o → in_chain s.old l.«class» (made s l p).0 ≡ true → is_some o ≡ true
       is_there (Some c) f i = refl

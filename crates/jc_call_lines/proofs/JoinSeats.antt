@@ -2,10 +2,9 @@
 use Rattle.std.proofs.Common.{◌≡◌, ◌<◌, ℕ, Bool, true, false, cond, not, ◌&&◌, ◌||◌, List, [], ◌∷◌, refl, sym, ◌∙◌, ap, subst, Option, None, Some, is_some, eqb}
 use Rattle.std.specs.Prelude.{IsTrue}
 use Rattle.std.specs.List.{All, Contains, list_all, list_any}
-use Rattle.std.proofs.lemmas.Bool.{and_from, and_parts, not-true}
+use Rattle.std.proofs.lemmas.Bool.{and_from, and_parts}
 use Rattle.std.proofs.lemmas.List.Elements.{All-contains, All-from_recursion, recursion_from_All}
-use Rattle.std.proofs.Math.Bool.{and-true}
-use Rattle.jc_calls.specs.Joins.{is_found, is_join, is_joined, join_lost, joins_for}
+use Rattle.jc_calls.specs.Joins.{is_found, is_join, is_joined, joins_for}
 use Rattle.jc_exposed.specs.declared.exposed.Exposed.{Exposed}
 use Rattle.jc_exposed.specs.Exposed.{are_all_exposed, is_wanted}
 use Rattle.std.specs.Ordering.{is_lt, nat_cmp}
@@ -21,7 +20,6 @@ use Rattle.jc_facts.specs.Options.{and_then, or_else, some_and}
 use Rattle.jc_facts.specs.world.Assignment.{is_class_assignable, is_interface_of}
 use Rattle.jc_facts.specs.world.Hierarchy.{in_chain}
 use Rattle.jc_facts.specs.world.World.{World, classes, differ_by_name, find_class, size}
-use Rattle.jc_facts.proofs.World.{find-name}
 use Rattle.jc_index.specs.Ids.{name_at, id_of}
 use Rattle.jc_index.specs.Sides.{IsSide}
 use Rattle.jc_index.proofs.Aboves.{same_number}

@@ -1,5 +1,5 @@
 -- A test on the classes of a chain, along a walk up the superclasses.
-use Rattle.std.proofs.Common.{◌≡◌, ◌<◌, ℕ, suc, Bool, true, false, not, ◌||◌, ◌&&◌, List, [], ◌∷◌, refl, sym, ◌∙◌, ap, subst, Option, None, Some}
+use Rattle.std.proofs.Common.{◌≡◌, ◌<◌, ℕ, suc, Bool, true, false, not, ◌||◌, ◌&&◌, List, [], ◌∷◌, refl, sym, ◌∙◌, ap, Option, None, Some}
 use Rattle.std.specs.List.{list_any, list_all}
 use Rattle.jc_facts.specs.declared.class_facts.ClassFacts.{ClassFacts}
 use Rattle.jc_facts.specs.world.Hierarchy.{chain, in_chain}
@@ -10,7 +10,6 @@ use Rattle.jc_index.specs.steps.Walking.{chain_from}
 use Rattle.jc_index.proofs.Numbers.{IsClass, class_at}
 use Rattle.jc_index.proofs.Walking.{from-step, from-none, from-nothing}
 use Rattle.jc_facts.specs.Names.{Bytes}
-use Rattle.jc_calls.specs.Joins.{is_join}
 
 -- the class stands in the chain of y, and not in that of t
 abbrev pub sooner : World → Bytes → Bytes → ClassFacts → Bool

@@ -5,6 +5,7 @@ mod Lost
 mod LostAccess
 mod LostJoins
 mod Openly
+pub mod Parted
 pub mod WorkedAccess
 pub mod WorkedConstants
 pub mod WorkedJoins

@@ -292,7 +292,7 @@ module _ (O N : World) (pair : IsPair O N) where
   of_new : (c : ClassFacts) → Contains (classes N) c → Contains (classes O ++ classes N) c
   of_new c m = Contains-append_right (classes O) (classes N) c m
 
-  found_name : (x : Bytes) (c : ClassFacts) → find_class O x ≡ Some c → Contains (names O N) x
+  pub found_name : (x : Bytes) (c : ClassFacts) → find_class O x ≡ Some c → Contains (names O N) x
   found_name x c e = name_of O N x c (of_old c (found_in_world O x c e)) (find-name O x c e)
 
   pub usable_name : (x : Bytes) → is_class_usable O x ≡ true → Contains (names O N) x

@@ -1,4 +1,4 @@
-use Rattle.std.proofs.Common.{◌≡◌, is_some, sym, ap, ◌∙◌}
+use Rattle.std.proofs.Common.{is_some, sym, ap, ◌∙◌}
 use Rattle.std.specs.List.{list_all}
 use Rattle.jc_promises.specs.rule.Exposed.{is_hidden}
 use Rattle.jc_index.specs.Ids.{name_at}

@@ -1,5 +1,4 @@
-use Rattle.std.proofs.Common.{◌≡◌, Some, sym, ap, subst, ◌∙◌, ℕ}
-use Rattle.jc_facts.specs.Names.{Bytes}
+use Rattle.std.proofs.Common.{◌≡◌, Some, sym, ap, subst, ◌∙◌}
 use Rattle.jc_facts.specs.Options.{some_and}
 use Rattle.jc_facts.specs.Flags.{interface_flag}
 use Rattle.jc_facts.specs.world.Assignment.{is_interface_of}

@@ -1,12 +1,11 @@
-use Rattle.std.proofs.Common.{◌<◌, ◌≤◌, ◌+◌, true, false, length, take, sym, ap, subst, ◌∙◌, arith}
+use Rattle.std.proofs.Common.{◌<◌, ◌≤◌, ◌+◌, true, false, length, take, sym, ap, ◌∙◌, arith}
 use Rattle.jc_calls.specs.Lines.{line_order}
 use Rattle.jc_call_kinds.specs.declared.call_line.CallLine.{CallLine}
 use Rattle.jc_facts.proofs.Exactly.{OfNames}
-use Rattle.jc_facts.proofs.Options.{some_where-is}
 use Rattle.jc_facts.specs.world.World.{size}
 use Rattle.jc_index.specs.Ids.{name_at, names}
 use Rattle.jc_sides.specs.Limit.{over}
-use Rattle.jc_sides.specs.SidesOf.{SidesOf, AreSides}
+use Rattle.jc_sides.specs.SidesOf.{SidesOf}
 use Rattle.jc_sides.proofs.Limits.{over_none, past_of, told}
 use Rattle.jc_call_lines.proofs.JoinLines.{OfJoin, class_exact, start, one_more, all_classes}
 use Rattle.jc_call_lines.proofs.joins.on_classes.Goals as goal
