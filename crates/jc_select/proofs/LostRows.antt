@@ -1,7 +1,7 @@
 -- Rows of interfaces that classes lost.
 --     done_none, done_more, done_all      a thing for one class after the other
 --     filtered, nothing_lost      what a class has lost
---     asked_wanted, asked_in_row      of which hidden classes members are kept
+--     asked_in_row      of which hidden classes members are kept
 --     asks_steady, asks_kept, asks_both      for which interfaces clients can ask
 --     held_where, unheld      of which classes they can hold values
 --     asked_all, empty_set, unheld_set      the set of what a class loses
@@ -17,11 +17,8 @@ use Rattle.std.proofs.lemmas.Bool.{eqb-true, ltb-true, ltb-false, and_parts, and
 use Rattle.std.proofs.lemmas.List.{get_or_append_left, length-append, take_all}
 use Rattle.std.proofs.lemmas.List.Folds.{list_any_at, list_any_none}
 use Rattle.std.proofs.lemmas.List.Elements.{recursion_from_All, All-from_recursion}
-use Rattle.jc_acts.specs.Touched.{flag_at}
 use Rattle.jc_dropped.proofs.Held.{exposed_hidden, held_loads, some_seat, seat_of_some, with_some, some_with, exposed_with}
 use Rattle.jc_dropped.specs.Dropped.{is_exposed_to_some, stays_exposed, is_held, is_exposed_with, is_taken, asks_for, has_lost, loses_interface}
-use Rattle.jc_exposed.specs.declared.exposed.Exposed.{Exposed}
-use Rattle.jc_exposed.specs.Exposed.{AreWanted}
 use Rattle.jc_facts.specs.declared.link_error.LinkError.{LinkError}
 use Rattle.jc_facts.specs.Names.{Bytes}
 use Rattle.jc_facts.specs.Options.{some_and}
@@ -42,8 +39,7 @@ use Rattle.jc_index.specs.Ids.{name_at, id_of}
 use Rattle.jc_select.proofs.Collected.{filtered_number, not_above}
 use Rattle.jc_select.proofs.SetMarks.{told}
 use Rattle.jc_select.proofs.SetsOf.{among, among_is, set_as}
-use Rattle.jc_select.specs.declared.losing.Lost.{Lost}
-use Rattle.jc_select.specs.steps.Losing.{AreClear, AreDone, AreLost, AreNumbersOf, AreRowsOf, AreSet, IsSetOf, has_gone, has_left, hidden_of, is_asked, is_found, is_in_some, is_marked_now, lost_at, loses, loses_at, mark_at, may_ask, row_at}
+use Rattle.jc_select.specs.steps.Losing.{AreClear, AreDone, AreNumbersOf, AreRowsOf, AreSet, IsSetOf, has_gone, has_left, is_asked, is_found, is_in_some, is_marked_now, lost_at, loses, loses_at, mark_at, may_ask, row_at}
 use Rattle.jc_select.specs.steps.Parts.{AreNamed}
 
 -- ---- a thing for one class after the other
@@ -153,10 +149,6 @@ pub lost_absent : (s : SidesOf) (x : Bytes) (ids : List ℕ) → ids ≡ [] → 
 lost_absent s x ids e h = lost_not_after s x ids e (ap (λ o. is_none {T = LinkError} o) (load_fault-absent s.new x (find-None s.new x h)))
 
 -- ---- hidden classes among them
-
--- where members are kept of the classes whose marks are set, they are of those that are asked
-pub asked_wanted : (s : SidesOf) (l : Lost) (e : Exposed) → AreLost s l → AreWanted s (flag_at (hidden_of l)) e → AreWanted s (is_asked s l.rows.items) e
-asked_wanted s l e are wanted = λ n i h. wanted n i (are.hidden.each n i ∙ h)
 
 pub in_row : (rows : List (List ℕ)) (n of : ℕ) → n < length rows → list_any (λ i. i == of) (row_at rows n) ≡ true → is_in_some rows of ≡ true
 in_row rows n of l h = list_any_at (λ row. list_any (λ i. i == of) row) rows n [] l h

@@ -1,5 +1,5 @@
 -- Marks that are set, and cleared again.
---     set_nothing, set_same, set_both      which marks are set
+--     set_same, set_both      which marks are set
 --     set_start, set_more      those of a list, of one item after the other
 --     told, cleared      what marks tell, and how they are clear again
 use Rattle.std.proofs.Common.{◌≡◌, ◌<◌, ◌+◌, ◌||◌, ℕ, Bool, true, false, cond, List, length, get_or, take, refl, sym, ◌∙◌, ap, subst, nat_lt, arith}
@@ -10,9 +10,6 @@ use Rattle.std.proofs.lemmas.List.Folds.{list_any_more}
 use Rattle.jc_select.specs.steps.Losing.{AreClear, AreSet, mark_at}
 
 -- ---- which are set
-
-pub set_nothing : (p : ℕ → Bool) (to : Bool) (marks : List Bool) → ((n : ℕ) → p n ≡ false) → AreSet p to marks marks
-set_nothing p to marks h = record { count = refl; each = λ n l. sym (ap (λ b. cond b to (mark_at marks n)) (h n)) }
 
 pub set_same : (p q : ℕ → Bool) (to : Bool) (before after : List Bool) → ((n : ℕ) → n < length before → p n ≡ q n) → AreSet p to before after → AreSet q to before after
 set_same p q to before after e h = record { count = h.count; each = λ n l. h.each n l ∙ ap (λ b. cond b to (mark_at before n)) (e n l) }
