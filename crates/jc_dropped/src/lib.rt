@@ -18,7 +18,8 @@ pub fn interfaces_stay()
 {}
 
 /// Where also the verdict has no finding, and no collision is met, these load with the new release, and
-/// keep each interface that clients can name.
+/// keep each interface that clients can name, and each hidden one that members take from the clients that
+/// hold their values.
 pub fn instances_stay()
     ensures { InstancesStay }
 {}

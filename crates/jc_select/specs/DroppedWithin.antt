@@ -12,7 +12,7 @@ abbrev pub AreDroppedWithin : World → World → ℕ → Option (List Dropped) 
 AreDroppedWithin O N most None = (ds : List Dropped) → AreDropped O N ds → most < length ds
 AreDroppedWithin O N most (Some ds) = AreDropped O N ds × (length ds ≤ most)
 
--- where these are none and the verdict has no finding, classes that clients hold values of keep the interfaces that clients can name, in each
--- client world in scope that meets none of the collisions
+-- where these are none and the verdict has no finding, classes that clients hold values of keep the interfaces that clients can name, and hidden
+-- ones that members take from them, in each client world in scope that meets none of the collisions
 abbrev pub InterfacesStill : World → World → List Dropped → Type 0
 InterfacesStill O N ds = (v : Verdict) → IsVerdict O N v → AllInterfacesKept O N v ds
