@@ -166,15 +166,28 @@ def dropped_of_many(n):
         yield "N", f"p/A{i:05}", class_file(f"p/A{i:05}", interfaces=above[i % 2::2])
 
 
+def dropped_chain(n):
+    """n classes that each name the same 2n interfaces, a chain that comes apart, and one of their own, and leave all but the last; with --dropped"""
+    face = PUBLIC | INTERFACE | ABSTRACT
+    chain = [f"p/I{i:05}" for i in range(2 * n)]
+    for i, name in enumerate(chain):
+        yield "O", name, class_file(name, interfaces=chain[max(i - 1, 0):i], methods=(), flags=face)
+        yield "N", name, class_file(name, methods=(), flags=face)
+    for i in range(n):
+        yield "ON", f"p/J{i:05}", class_file(f"p/J{i:05}", methods=(), flags=face)
+        yield "O", f"p/A{i:05}", class_file(f"p/A{i:05}", interfaces=chain + [f"p/J{i:05}"])
+        yield "N", f"p/A{i:05}", class_file(f"p/A{i:05}", interfaces=chain[-1:])
+
+
 SIZES = [(hidden_pairs, (1000, 2000, 4000)), (hidden_members, (1000, 4000, 16000)), (hidden_seats, (1000, 4000, 16000)),
          (hidden_pairs_and_seats, (250, 500, 1000)), (fat_interfaces, (16000, 65535)), (fat_permits, (16000, 65535)),
          (fat_fields, (15000, 60000)), (fat_methods, (15000, 60000)), (fat_turns, (15000, 60000)),
-         (signed_methods, (7500, 15000, 30000)), (wide_base, (500, 1000, 2000)), (dropped_interfaces, (2000, 4000, 8000)), (dropped_of_many, (100, 200, 400))]
+         (signed_methods, (7500, 15000, 30000)), (wide_base, (500, 1000, 2000)), (dropped_interfaces, (2000, 4000, 8000)), (dropped_of_many, (100, 200, 400)), (dropped_chain, (100, 200, 400))]
 SHAPES = {shape.__name__: shape for shape, _ in SIZES}
 # those that name long texts
 FAT = (fat_interfaces, fat_permits, fat_fields, fat_methods, fat_turns)
 # what a check of the shape is asked for besides
-ASKED = {signed_methods: ["--signatures"], wide_base: ["--warn"], dropped_interfaces: ["--dropped"], dropped_of_many: ["--dropped"]}
+ASKED = {signed_methods: ["--signatures"], wide_base: ["--warn"], dropped_interfaces: ["--dropped"], dropped_of_many: ["--dropped"], dropped_chain: ["--dropped"]}
 
 
 def written(shape, sizes, folder):

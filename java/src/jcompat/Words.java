@@ -93,7 +93,7 @@ final class Words {
                 return Arrays.asList(warning.said(declared(line)), warning.client(call(line)));
             case Line.DROPPED:
                 return Arrays.asList(kind(line.type) + " " + type + " no longer " + (kind(line.type).equals("class") ? "implements " : "extends ") + Names.simple(line.member),
-                        throughInterface(line.member, variable));
+                        isNamed(line.member) ? throughInterface(line.member, variable) : "the.takes(" + variable + "), where takes(" + Names.simple(line.member) + ")");
             case Line.REFERENCE: case Line.ACCESS: case Line.JOINED: case Line.CONSTANTS:
                 CallWords onCalls = new CallWords(line, oldRelease, newRelease);
                 return Arrays.asList(onCalls.said(), onCalls.client(variable));
@@ -112,6 +112,12 @@ final class Words {
             }
         }
         return Names.simple(type) + " i = (" + Names.simple(type) + ") (Object) " + variable + ";";
+    }
+
+    /** Whether clients can name the type; the platform's they can. */
+    private boolean isNamed(String type) {
+        ClassFile file = oldRelease.find(type);
+        return file == null || file.is(ClassFile.PUBLIC) && !oldRelease.isUnexported(type);
     }
 
     private String kind(String type) {

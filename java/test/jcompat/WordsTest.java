@@ -64,6 +64,15 @@ public class WordsTest {
     }
 
     @Test
+    public void anInterfaceThatClientsCantNameIsDroppedByWhatTakesIt() throws Exception {
+        Classes before = release("before", "public class C implements I, J { public void draw() { } } interface I { void draw(); } public interface J { void draw(); }");
+        Classes now = release("now", "public class C { public void draw() { } } interface I { void draw(); } public interface J { void draw(); }");
+        assertEquals("class C no longer implements I", say(before, now, "dropped p/C p/I"));
+        assertEquals("the.takes(c), where takes(I)", client(before, now, "dropped p/C p/I"));
+        assertEquals("J i = c;   i.draw();", client(before, now, "dropped p/C p/J"));
+    }
+
+    @Test
     public void aWarningHasNoClientThatNobodyCouldHold() throws Exception {
         Classes none = release("none", "public interface I { }");
         Classes opened = release("opened", "public interface I { void draw(); }");

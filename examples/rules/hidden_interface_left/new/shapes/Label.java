@@ -1,0 +1,7 @@
+package shapes;
+
+public class Label {
+    public String text() {
+        return "label";
+    }
+}

@@ -1,0 +1,7 @@
+package shapes;
+
+public class Label implements Mark {
+    public String text() {
+        return "label";
+    }
+}

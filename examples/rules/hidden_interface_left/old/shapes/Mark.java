@@ -1,0 +1,5 @@
+package shapes;
+
+interface Mark {
+    String text();
+}
