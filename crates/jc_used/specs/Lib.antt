@@ -1,0 +1,4 @@
+pub mod Above
+pub mod Explains
+pub mod Lines
+pub mod Worked
