@@ -1,5 +1,3 @@
-import java.io.ByteArrayOutputStream;
-import java.io.DataOutputStream;
 import java.io.IOException;
 import java.lang.reflect.Field;
 import java.lang.reflect.InvocationTargetException;
@@ -8,7 +6,6 @@ import java.net.URLClassLoader;
 import java.nio.file.Files;
 import java.nio.file.Path;
 import java.util.ArrayList;
-import java.util.LinkedHashMap;
 import java.util.List;
 import java.util.Map;
 import java.util.TreeMap;
@@ -26,7 +23,7 @@ import sun.misc.Unsafe;
  * which client by which error; <code>gone</code> is one whose method isn't there any more, which is a finding too. A warning needn't break any, as where a client must have the method itself with both releases.
  */
 public final class Warned {
-    private static final Unsafe UNSAFE = unsafe();
+    static final Unsafe UNSAFE = unsafe();
 
     private final ClassLoader before;
     private final ClassLoader after;
@@ -92,7 +89,7 @@ public final class Warned {
                 String name = member.substring(0, member.indexOf('('));
                 String descriptor = member.substring(member.indexOf('('));
                 if (isMixed) {
-                    clients.define("warned.J", new Written("warned/J", "java/lang/Object", List.of(), name, descriptor, true));
+                    clients.define("warned.J", Written.ofDefault("warned/J", name, descriptor));
                 }
                 List<String> interfaces = new ArrayList<>();
                 if (base.isInterface()) {
@@ -101,7 +98,7 @@ public final class Warned {
                 if (isMixed) {
                     interfaces.add("warned/J");
                 }
-                Class<?> client = clients.define("warned.U", new Written("warned/U", base.isInterface() ? "java/lang/Object" : above, interfaces, name, descriptor, false));
+                Class<?> client = clients.define("warned.U", Written.ofCall("warned/U", base.isInterface() ? "java/lang/Object" : above, interfaces, name, descriptor));
                 client.getMethod("call", client).invoke(null, UNSAFE.allocateInstance(client));
                 outcome[0] = "runs";
             } catch (InvocationTargetException called) {
@@ -134,7 +131,7 @@ public final class Warned {
         }
     }
 
-    private static final class Clients extends ClassLoader {
+    static final class Clients extends ClassLoader {
         Clients(ClassLoader release) {
             super(release);
         }
@@ -142,146 +139,6 @@ public final class Warned {
         Class<?> define(String name, Written file) {
             byte[] bytes = file.bytes();
             return defineClass(name, bytes, 0, bytes.length);
-        }
-    }
-
-    /** A class file (JVMS 4): an interface with one default method that does nothing, or a class with <code>call</code> alone. */
-    private static final class Written {
-        private final Map<List<Object>, Integer> pool = new LinkedHashMap<>();
-        private final String name;
-        private final String above;
-        private final List<String> interfaces;
-        private final String method;
-        private final String descriptor;
-        private final boolean isInterface;
-
-        Written(String name, String above, List<String> interfaces, String method, String descriptor, boolean isInterface) {
-            this.name = name;
-            this.above = above;
-            this.interfaces = interfaces;
-            this.method = method;
-            this.descriptor = descriptor;
-            this.isInterface = isInterface;
-        }
-
-        byte[] bytes() {
-            try {
-                ByteArrayOutputStream rest = new ByteArrayOutputStream();
-                write(new DataOutputStream(rest));
-                ByteArrayOutputStream whole = new ByteArrayOutputStream();
-                DataOutputStream file = new DataOutputStream(whole);
-                file.writeInt(0xcafebabe);
-                file.writeInt(52);
-                file.writeShort(pool.size() + 1);
-                for (List<Object> entry : pool.keySet()) {
-                    file.writeByte((Integer) entry.get(0));
-                    for (Object part : entry.subList(1, entry.size())) {
-                        if (part instanceof String) {
-                            file.writeUTF((String) part);
-                        } else {
-                            file.writeShort((Integer) part);
-                        }
-                    }
-                }
-                rest.writeTo(file);
-                return whole.toByteArray();
-            } catch (IOException impossible) {
-                throw new IllegalStateException(impossible);
-            }
-        }
-
-        private void write(DataOutputStream file) throws IOException {
-            file.writeShort(isInterface ? 0x601 : 0x21);
-            file.writeShort(type(name));
-            file.writeShort(type(above));
-            file.writeShort(interfaces.size());
-            for (String other : interfaces) {
-                file.writeShort(type(other));
-            }
-            // no fields, one method
-            file.writeShort(0);
-            file.writeShort(1);
-            file.writeShort(isInterface ? 1 : 9);
-            file.writeShort(text(isInterface ? method : "call"));
-            file.writeShort(text(isInterface ? descriptor : "(L" + name + ";)V"));
-            byte[] code = isInterface ? results(new ByteArrayOutputStream(), "return") : call();
-            file.writeShort(1);
-            file.writeShort(text("Code"));
-            file.writeInt(code.length + 12);
-            file.writeShort(520);
-            file.writeShort(520);
-            file.writeInt(code.length);
-            file.write(code);
-            file.writeInt(0);
-            file.writeShort(0);
-        }
-
-        /** Calls the method on the argument. */
-        private byte[] call() {
-            ByteArrayOutputStream code = new ByteArrayOutputStream();
-            // aload_0
-            code.write(0x2a);
-            for (String type : parameters()) {
-                zero(code, type);
-            }
-            int place = entry(10, type(name), entry(12, text(method), text(descriptor)));
-            code.write(0xb6);
-            code.write(place >> 8);
-            code.write(place);
-            return results(code, "drop");
-        }
-
-        /** Returns: a zero of the method's own result, or nothing after what the call gave is dropped. */
-        private byte[] results(ByteArrayOutputStream code, String how) {
-            String result = descriptor.substring(descriptor.indexOf(')') + 1);
-            boolean isWide = result.equals("J") || result.equals("D");
-            if (how.equals("drop")) {
-                if (!result.equals("V")) {
-                    code.write(isWide ? 0x58 : 0x57);
-                }
-                code.write(0xb1);
-            } else if (result.equals("V")) {
-                code.write(0xb1);
-            } else {
-                zero(code, result);
-                int kind = "JFD".indexOf(result.charAt(0));
-                code.write(result.matches("[\\[L].*") ? 0xb0 : kind < 0 ? 0xac : 0xad + kind);
-            }
-            return code.toByteArray();
-        }
-
-        /** aconst_null, or the zero of a number. */
-        private static void zero(ByteArrayOutputStream code, String type) {
-            int kind = "JFD".indexOf(type.charAt(0));
-            code.write(type.matches("[\\[L].*") ? 1 : kind < 0 ? 3 : new int[] {9, 11, 14}[kind]);
-        }
-
-        private List<String> parameters() {
-            List<String> types = new ArrayList<>();
-            for (int at = 1; descriptor.charAt(at) != ')';) {
-                int end = at;
-                while (descriptor.charAt(end) == '[') {
-                    end++;
-                }
-                end = descriptor.charAt(end) == 'L' ? descriptor.indexOf(';', end) + 1 : end + 1;
-                types.add(descriptor.substring(at, end));
-                at = end;
-            }
-            return types;
-        }
-
-        private int text(String text) {
-            return entry(1, text);
-        }
-
-        private int type(String name) {
-            return entry(7, text(name));
-        }
-
-        private int entry(Object... parts) {
-            List<Object> entry = List.of(parts);
-            pool.putIfAbsent(entry, pool.size() + 1);
-            return pool.get(entry);
         }
     }
 }

@@ -19,6 +19,7 @@ set -eu
 [ $# -ge 2 ] || { echo 'usage: bench/judge.sh PLATFORM PAIR..' >&2; exit 2; }
 here=$(dirname -- "$(dirname -- "$(readlink -f -- "$0")")")
 program=${PROGRAM:-$here/jcompat}
+. "$here/bench/common.sh"
 platform=$(readlink -f -- "$1")
 shift
 made=$(mktemp -d)
@@ -29,19 +30,6 @@ classes() { find "$1" -name '*.class' | wc -l; }
 
 # number WORD: how many lines of the replay begin with it
 number() { grep -c "^$1 " "$made/replay" || true; }
-
-# java_alone WORD..: a machine that leaves the others their processors
-java_alone() { java -XX:TieredStopAtLevel=1 -XX:+UseSerialGC -cp "$made/compiled" "$@"; }
-
-# over FOLDER: the platform, with the libraries of a pair
-over() {
-    [ -d "$1/with" ] || { printf '%s\n' "$platform"; return; }
-    rm -rf -- "$made/platform"
-    # links where both folders lie on one disk
-    cp -Rl -- "$platform" "$made/platform" 2>/dev/null || { rm -rf -- "$made/platform" && cp -R -- "$platform" "$made/platform"; }
-    cp -R --remove-destination -- "$1/with/." "$made/platform"
-    printf '%s\n' "$made/platform"
-}
 
 # sampled: the lines of the report whose witnesses are run; a finding on a class that clients can't name has a seat
 sampled() {
@@ -88,7 +76,7 @@ link() {
 }
 
 mkdir "$made/compiled"
-javac -J-XX:TieredStopAtLevel=1 -d "$made/compiled" "$here/examples/Replay.java" "$here/bench/Resolve.java" "$here/bench/Warned.java" 2>"$made/said" || { cat "$made/said" >&2; exit 1; }
+javac -J-XX:TieredStopAtLevel=1 -d "$made/compiled" "$here/examples/Replay.java" "$here/bench/Resolve.java" "$here/bench/Warned.java" "$here/bench/Written.java" 2>"$made/said" || { cat "$made/said" >&2; exit 1; }
 printf 'Commit %s, %s, %s processors, %s GB of memory, %s\n\n' "$(git -C "$here" rev-parse --short=10 HEAD 2>/dev/null || echo -)" "$(date -u +%F)" "$(nproc)" \
     "$(awk '/^MemTotal/ { printf "%d", $2 / 1000000 }' /proc/meminfo)" "$(java -version 2>&1 | head -n 1)"
 printf '| pair | classes | of the old ones not compared | findings | collisions | witnesses run | give the printed error | give another, for a known reason | hidden by the library | fail |\n'

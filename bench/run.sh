@@ -6,19 +6,12 @@
 # same files by `cat`, and how many times that the program takes. Each is the least of RUNS runs (3), after one that
 # brings the files into memory.
 set -u
+. "$(dirname -- "$(readlink -f -- "$0")")/common.sh"
 program=$(readlink -f -- "${1:?usage: bench/run.sh PROGRAM INPUTS}") || exit 1
 cd -- "${2:?usage: bench/run.sh PROGRAM INPUTS}" || exit 1
-time=$(type -P time) || { echo "run: no program time is installed" >&2; exit 1; }
+type -P time >/dev/null || { echo "run: no program time is installed" >&2; exit 1; }
 log=$(mktemp) || exit 1
 trap 'rm -f -- "$log"' EXIT
-
-# least COMMAND..: the least seconds of processor time, and the least kilobytes at the peak
-least() {
-    for _ in $(seq "${RUNS:-3}"); do
-        "$time" -q -o "$log" -f '%U %S %M' "$@" >/dev/null 2>&1
-        cat "$log"
-    done | awk '{ s = $1 + $2; if (NR == 1 || s < t) t = s; if (NR == 1 || $3 < m) m = $3 } END { printf "%.2f %d\n", t, m }'
-}
 
 read_by_cat() {
     find -L "$@" -name '*.class' -print0 | xargs -0 cat
