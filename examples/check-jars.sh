@@ -288,7 +288,7 @@ try 'dropped interfaces that nobody asks for' 0 '0 warnings, 0 lines on calls$' 
 try 'a method reference' 0 'call shapes/Canvas title()Ljava/lang/String; reference$' method_moved_to_hidden-old.jar method_moved_to_hidden-new.jar --explain
 too 'compatible: 0 findings, 0 collisions, 0 notes$' '0 warnings, 0 dropped interfaces, 1 lines on calls$' \
     "    method String Canvas.title() moved to Surface, which clients can't name: leave a method title in Canvas that calls it\$" '    takes(Canvas::title);$'
-try 'a method reference, as JSON' 72 '{"calls":\[{"class":"shapes/Canvas","kind":"reference","member":"title()Ljava/lang/String;"}\]}$' method_moved_to_hidden-old.jar method_moved_to_hidden-new.jar --strict -- --json
+try 'a method reference, as JSON' 72 '{"calls":\[{"class":"shapes/Canvas","kind":"reference","member":"title()Ljava/lang/String;","target":null}\]}$' method_moved_to_hidden-old.jar method_moved_to_hidden-new.jar --strict -- --json
 try 'a constant of an enum' 72 '    enum Shade has the constant GREY now: a switch over all that were there fails when it meets another' enum_constant_added-old.jar enum_constant_added-new.jar --strict
 try 'lines on calls that nobody asks for' 0 '0 warnings, 0 dropped interfaces$' enum_constant_added-old.jar enum_constant_added-new.jar --strict --no-calls
 try 'the gate of all that ends otherwise' 1 'call shapes/Shade - constants$' enum_constant_added-old.jar enum_constant_added-new.jar --gate calls
