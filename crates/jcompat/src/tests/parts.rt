@@ -10,7 +10,7 @@ const PARTS: &str =
 #0 all parts as JSON, of which each is one put, so that there is no sixth one to fail, out=6
 > {"collisions":[],"findings":[],"notes":[],"verdict":"compatible"} | {"warnings":[{"class":"p/J","kind":"defaults","member":"k()V"}]}
 > {"signatures":[{"change":"interfaces","class":"p/A","member":null}]} | {"dropped":[{"class":"p/A","interface":"p/I"}]}
-> {"calls":[{"class":"p/E","kind":"constants","member":null}]}
+> {"calls":[{"class":"p/E","kind":"constants","member":null,"target":null}]}
 #5 the second part is cut off, and no further one is put, out=2
 > {"collisions":[],"findings":[],"notes":[],"verdict":"compatible"} | {"warnings":[{"class":"p/J","kin\
 #5 the third part is cut off, out=3
@@ -22,7 +22,7 @@ const PARTS: &str =
 #5 the last part is cut off, out=5
 > {"collisions":[],"findings":[],"notes":[],"verdict":"compatible"} | {"warnings":[{"class":"p/J","kind":"defaults","member":"k()V"}]}
 > {"signatures":[{"change":"interfaces","class":"p/A","member":null}]} | {"dropped":[{"class":"p/A","interface":"p/I"}]}
-> {"calls":[{"class":"p/E","kind\
+> {"calls":[{"class":"p/E","kind":"cons\
 #5 the same as text, where the put behind the verdict fails, out=2
 $ check --calls --dropped --signatures --warn --platform P --old O --new N
 > compatible: 0 findings, 0 collisions, 0 notes | warning p/J k\
