@@ -158,7 +158,7 @@ update
 class files of the platform, the old release and the new one
 `check`
 `clients`, all at once
-two runs of `link` for each client
+two runs of `link` for each client, by the mean of those that were linked
 one `link`, the mean
 `clients` beyond a `check`, a client
 as a part of one `link`
