@@ -58,14 +58,20 @@ client_with n classes errors lost outcomes refusal = object (members_of (
     (codes "outcomes", outcomes) ∷
     (codes "refusal", refusal) ∷ []))
 
--- how many classes, errors and outcomes there are with the old release, and what is lost
+-- how many classes, errors and outcomes there are with the old release, and what is lost, whose objects are these
+abbrev pub losses_with : ℕ → Losses → List Data → Data
+losses_with n l lost = client_with n (counted l.classes) (counted l.errors) (array (items_of lost)) (counted l.outcomes) null
+
 abbrev pub losses_json : ℕ → Losses → Data
-losses_json n l = client_with n (counted l.classes) (counted l.errors) (array (items_of (values_from (λ (o : Outcome) (i : ℕ). outcome_json o) 0 l.lost))) (counted l.outcomes) null
+losses_json n l = losses_with n l (values_from (λ (o : Outcome) (i : ℕ). outcome_json o) 0 l.lost)
+
+abbrev pub refused_json : ℕ → Stop → Data
+refused_json n stop = client_with n null null null null (refusal_json stop)
 
 -- the client of this number
 abbrev pub client_json : Answer → ℕ → Data
 client_json (answers.Judged losses) n = losses_json n losses
-client_json (answers.Refused stop) n = client_with n null null null null (refusal_json stop)
+client_json (answers.Refused stop) n = refused_json n stop
 
 -- ---- all clients
 

@@ -1,7 +1,7 @@
 //! The JSON of what is said of one client.
-ghost use Rattle.std.specs.Prelude.{◌≡◌, IfOk};
+ghost use Rattle.std.specs.Prelude.{◌≡◌, map, IfOk};
 ghost use Rattle.serde_json.specs.View.{view};
-ghost use Rattle.jc_answers.specs.ClientsJson.{unread_json, refusal_json, losses_json, client_json};
+ghost use Rattle.jc_answers.specs.ClientsJson.{unread_json, refusal_json, losses_with as with_losses, losses_json, refused_json, client_json};
 
 use crate::answer::Answer;
 use jc_losses::losses::Losses;
@@ -55,11 +55,19 @@ fn refusal_value(alloc: Global, stop: &Stop) -> Result<Value, AllocError>
     }
 }
 
-// The object of what a client loses.
-fn losses_value(alloc: Global, number: usize, losses: &Losses) -> Result<Value, AllocError>
-    ensures { IfOk result (λ v. view v ≡ losses_json number losses.now) }
+/// The object of what a client loses, by the objects of its losses.
+///
+/// # Errors
+///
+/// `AllocError` where memory runs out.
+pub(crate) fn losses_with(
+    alloc: Global,
+    number: usize,
+    losses: &Losses,
+    lost: Vec<Value>,
+) -> Result<Value, AllocError>
+    ensures { IfOk result (λ v. view v ≡ with_losses number losses.now (map view lost.items)) }
 {
-    let lost = values(alloc, 0, losses.lost.as_slice())?;
     json!(in alloc; {
         "classes": losses.classes,
         "errors": losses.errors,
@@ -67,6 +75,32 @@ fn losses_value(alloc: Global, number: usize, losses: &Losses) -> Result<Value, 
         "number": number,
         "outcomes": losses.outcomes,
         "refusal": null
+    })
+}
+
+// The object of what a client loses.
+fn losses_value(alloc: Global, number: usize, losses: &Losses) -> Result<Value, AllocError>
+    ensures { IfOk result (λ v. view v ≡ losses_json number losses.now) }
+{
+    let lost = values(alloc, 0, losses.lost.as_slice())?;
+    losses_with(alloc, number, losses, lost)
+}
+
+/// The object of a client of this number that isn't linked.
+///
+/// # Errors
+///
+/// `AllocError` where memory runs out.
+pub(crate) fn refused_value(alloc: Global, number: usize, stop: &Stop) -> Result<Value, AllocError>
+    ensures { IfOk result (λ v. view v ≡ refused_json number stop.now) }
+{
+    json!(in alloc; {
+        "classes": null,
+        "errors": null,
+        "lost": null,
+        "number": number,
+        "outcomes": null,
+        "refusal": refusal_value(alloc, stop)?
     })
 }
 
@@ -84,13 +118,6 @@ pub(crate) fn client_value(
 {
     match answer {
         Answer::Judged(losses) => losses_value(alloc, number, losses),
-        Answer::Refused(stop) => json!(in alloc; {
-            "classes": null,
-            "errors": null,
-            "lost": null,
-            "number": number,
-            "outcomes": null,
-            "refusal": refusal_value(alloc, stop)?
-        }),
+        Answer::Refused(stop) => refused_value(alloc, number, stop),
     }
 }

@@ -1,6 +1,7 @@
 //! The text of what is said of one client.
-ghost use Rattle.std.specs.Prelude.{◌≡◌, IfOk};
-ghost use Rattle.jc_answers.specs.ClientsText.{word_of_losses, line_of_counts, losses_text_of, answer_text_of, client_front, client_text_of};
+ghost use Rattle.std.specs.Prelude.{◌≡◌, true, IfOk};
+ghost use Rattle.jc_answers.specs.ClientsText.{word_of_losses, line_of_counts, last_line_of_losses, losses_text_of, answer_text_of, client_front, client_text_of};
+ghost use Rattle.jc_report.specs.HistoryText.{with_front};
 
 use crate::answer::Answer;
 use jc_losses::losses::Losses;
@@ -38,20 +39,30 @@ fn losses_line(
     Ok(line)
 }
 
+/// The same of these losses.
+///
+/// # Errors
+///
+/// `AllocError` where memory runs out.
+pub(crate) fn last_of_losses(alloc: Global, losses: &Losses) -> Result<Vec<u8>, AllocError>
+    ensures { IfOk result (λ line. line.items ≡ last_line_of_losses losses.now) }
+{
+    losses_line(
+        alloc,
+        losses.classes,
+        losses.outcomes,
+        losses.errors,
+        losses.lost.as_slice().len(),
+    )
+}
+
 // The text of what one client loses.
 #[tactic(auto, unfolding(crate::specs::ClientsText::losses_text_of))]
 fn losses_text(alloc: Global, losses: &Losses) -> Result<Vec<u8>, AllocError>
     ensures { IfOk result (λ text. text.items ≡ losses_text_of losses.now) }
 {
-    let lost = losses.lost.as_slice();
-    let mut text = lines(alloc, lost)?;
-    let last = losses_line(
-        alloc,
-        losses.classes,
-        losses.outcomes,
-        losses.errors,
-        lost.len(),
-    )?;
+    let mut text = lines(alloc, losses.lost.as_slice())?;
+    let last = last_of_losses(alloc, losses)?;
     text.extend_from_slice(last.as_slice())?;
     Ok(text)
 }
@@ -75,6 +86,20 @@ fn front_of(alloc: Global, number: usize) -> Result<Vec<u8>, AllocError>
     Ok(front)
 }
 
+/// The lines of the client of this number, with that before each.
+///
+/// # Errors
+///
+/// `AllocError` where memory runs out.
+pub(crate) fn fronted(alloc: Global, number: usize, of_client: &[u8]) -> Result<Vec<u8>, AllocError>
+    ensures { IfOk result (λ text. text.items ≡ with_front (client_front number) true of_client.now) }
+{
+    let front = front_of(alloc, number)?;
+    let mut text = Vec::new(alloc);
+    push_lines(&mut text, front.as_slice(), of_client)?;
+    Ok(text)
+}
+
 /// Its lines, with its number before each.
 ///
 /// # Errors
@@ -87,9 +112,6 @@ pub(crate) fn client_text(
 ) -> Result<Vec<u8>, AllocError>
     ensures { IfOk result (λ text. text.items ≡ client_text_of answer.now number) }
 {
-    let front = front_of(alloc, number)?;
     let of_client = answer_text(alloc, answer)?;
-    let mut text = Vec::new(alloc);
-    push_lines(&mut text, front.as_slice(), of_client.as_slice())?;
-    Ok(text)
+    fronted(alloc, number, of_client.as_slice())
 }

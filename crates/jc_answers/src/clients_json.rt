@@ -10,8 +10,12 @@ use jc_report::json_line::json_line;
 use serde_json::{Value, json};
 use std::alloc::{AllocError, Global};
 
-// How many clients there are, how many lose something, and how many aren't linked.
-fn total_value(alloc: Global, answers: &[Answer]) -> Result<Value, AllocError>
+/// How many clients there are, how many lose something, and how many aren't linked.
+///
+/// # Errors
+///
+/// `AllocError` where memory runs out.
+pub(crate) fn total_value(alloc: Global, answers: &[Answer]) -> Result<Value, AllocError>
     ensures { IfOk result (λ v. view v ≡ total_json answers.now) }
 {
     json!(in alloc; {

@@ -51,8 +51,12 @@ pub(crate) fn count_refused(answers: &[Answer]) -> usize
     count
 }
 
-// The last line, its line end with it.
-fn last_line(alloc: Global, answers: &[Answer]) -> Result<Vec<u8>, AllocError>
+/// The last line, its line end with it.
+///
+/// # Errors
+///
+/// `AllocError` where memory runs out.
+pub(crate) fn last_line(alloc: Global, answers: &[Answer]) -> Result<Vec<u8>, AllocError>
     ensures { IfOk result (λ line. line.items ≡ last_line_of_clients answers.now) }
 {
     let mut line = Vec::from_slice(alloc, b"clients: ")?;

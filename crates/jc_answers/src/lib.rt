@@ -7,4 +7,12 @@ mod client_text;
 pub mod clients_json;
 pub mod clients_text;
 mod entry;
+pub mod laws;
+mod pair;
+#[cfg(test)]
+mod tests;
 pub mod trees;
+pub mod used;
+mod used_entry;
+pub mod used_json;
+pub mod used_text;

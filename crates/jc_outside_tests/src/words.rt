@@ -151,6 +151,7 @@ fn reads_clients_of_two_releases(rt: HostRuntime) {
         new: "N",
         json: true,
         modular: false,
+        used: false,
         clients: vec![in alloc; "A", "B", "A"].expect(&rt, "memory"),
     });
     let line = "clients A --new N B --platform=P --json --old O A";

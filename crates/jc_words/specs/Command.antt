@@ -40,14 +40,15 @@ pub record HistoryOf : Type 0 where
   pub platform : Text
   pub releases : List Text
 
--- clients of two releases: the roots of the platform and of both, whether the answer is JSON, whether the releases may be named modules, and the
--- root of the tree of each client, in their order
+-- clients of two releases: the roots of the platform and of both, whether the answer is JSON, whether the releases may be named modules, whether
+-- the lines of their check that explain losses are reported, and the root of the tree of each client, in their order
 pub record ClientsOf : Type 0 where
   pub platform : Text
   pub old : Text
   pub new : Text
   pub json : Bool
   pub modular : Bool
+  pub used : Bool
   pub clients : List Text
 
 -- what is asked for: a check of two releases, the linking of clients, the verdict on generated releases of so many classes, the verdicts on a
@@ -167,7 +168,8 @@ history_by words = history_by_matches (taken history_arguments words)
 
 abbrev pub clients_arguments : App
 clients_arguments = command_with (codes "clients")
-    (required_rule (codes "platform") ∷ required_rule (codes "old") ∷ required_rule (codes "new") ∷ flag_rule (codes "json") ∷ flag_rule (codes "modular") ∷ words_rule (codes "clients") ∷ [])
+    (required_rule (codes "platform") ∷ required_rule (codes "old") ∷ required_rule (codes "new") ∷ flag_rule (codes "json") ∷ flag_rule (codes "modular") ∷ flag_rule (codes "used")
+    ∷ words_rule (codes "clients") ∷ [])
 
 -- the clients of these matches
 abbrev pub clients_in : List Row → ClientsOf
@@ -177,6 +179,7 @@ clients_in rows = record {
   new = value_of (codes "new") rows;
   json = is_on (codes "json") rows;
   modular = is_on (codes "modular") rows;
+  used = is_on (codes "used") rows;
   clients = values_of (codes "clients") rows;
 }
 

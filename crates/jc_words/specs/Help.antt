@@ -35,6 +35,7 @@ help_lines =
     ∷ codes "  what each of 1 to 1,000 clients loses from the old release to the new one"
     ∷ codes "  --json            prints JSON"
     ∷ codes "  --modular         a release with a module-info.class is a named module"
+    ∷ codes "  --used            prints too which line of check explains each loss"
     ∷ []
     ∷ codes "jcompat link --platform FOLDER --release FOLDER --client FOLDER"
     ∷ codes "  what becomes of each class of a client, and each use, over one release"

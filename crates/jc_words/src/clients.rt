@@ -27,6 +27,8 @@ pub struct Clients<'a> {
     pub json: bool,
     /// Whether a file `module-info.class` at the root of a release makes it a named module.
     pub modular: bool,
+    /// Whether the lines of the check of the two that explain losses are reported.
+    pub used: bool,
     /// In their order, from 1 to 1,000.
     pub clients: Vec<&'a str>,
 }
@@ -60,6 +62,7 @@ impl<'a> Clients<'a> {
             new: value_of(matches, "new"),
             json: is_on(matches, "json"),
             modular: is_on(matches, "modular"),
+            used: is_on(matches, "used"),
             clients,
         })
     }
@@ -87,5 +90,6 @@ fn arguments<'a>(alloc: Global) -> Result<Command<'a>, AllocError>
         .arg(required(alloc, "new"))?
         .arg(flag(alloc, "json"))?
         .arg(flag(alloc, "modular"))?
+        .arg(flag(alloc, "used"))?
         .arg(words(alloc, "clients"))
 }

@@ -30,6 +30,7 @@ jcompat clients --platform FOLDER --old FOLDER --new FOLDER CLIENT..
   what each of 1 to 1,000 clients loses from the old release to the new one
   --json            prints JSON
   --modular         a release with a module-info.class is a named module
+  --used            prints too which line of check explains each loss
 
 jcompat link --platform FOLDER --release FOLDER --client FOLDER
   what becomes of each class of a client, and each use, over one release

@@ -127,6 +127,7 @@ pub fn clients_of_two_releases()
     ensures no_new { asked (typed (codes "clients --platform P --old O A")) ≡ Err usages.Words }
     ensures modular { asked (typed (codes "clients --platform P --old O --new N --modular A B")) ≡ Ok (ClientsCommand (record plain_clients { modular = true })) }
     ensures flags_between { asked (typed (codes "clients --json A --platform P --old O --new N --modular B")) ≡ Ok (ClientsCommand (record plain_clients { json = true; modular = true })) }
+    ensures used { asked (typed (codes "clients --used --platform P --old O --new N A B")) ≡ Ok (ClientsCommand (record plain_clients { used = true })) }
     ensures option_of_check { asked (typed (codes "clients --platform P --old O --new N --warn A")) ≡ Err usages.Words }
 {}
 

@@ -1,4 +1,4 @@
-use Rattle.std.proofs.Common.{◌≡◌, sym, ap, ◌∙◌, true, false}
+use Rattle.std.proofs.Common.{◌≡◌, sym, ap, ◌∙◌, true}
 use Rattle.jc_facts.specs.Names.{Bytes}
 use Rattle.jc_promises.specs.rule.Exposed.{is_hidden}
 use Rattle.jc_index.specs.Ids.{name_at}

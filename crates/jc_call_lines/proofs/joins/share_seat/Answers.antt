@@ -1,4 +1,4 @@
-use Rattle.std.proofs.Common.{true, false, ◌∙◌}
+use Rattle.std.proofs.Common.{◌∙◌}
 use Rattle.jc_facts.specs.Names.{Bytes}
 use Rattle.jc_promises.specs.rule.Bases.{is_kept}
 use Rattle.jc_index.specs.Ids.{name_at}
