@@ -18,7 +18,7 @@ help_lines =
     ∷ codes "  --witness FOLDER  writes there, for each break, a client that has it"
     ∷ codes "  --json            prints JSON"
     ∷ codes "  --gate NAME,..    which gates decide the status: links (as without this),"
-    ∷ codes "                    collisions, few, version"
+    ∷ codes "                    collisions, few, version, calls"
     ∷ codes "  --from VERSION    the version of the old release"
     ∷ codes "  --to VERSION      the version of the new release"
     ∷ codes "  --warn            prints too which calls may find no method to run"

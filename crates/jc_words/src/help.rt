@@ -13,7 +13,7 @@ jcompat check --platform FOLDER --old FOLDER --new FOLDER
   --witness FOLDER  writes there, for each break, a client that has it
   --json            prints JSON
   --gate NAME,..    which gates decide the status: links (as without this),
-                    collisions, few, version
+                    collisions, few, version, calls
   --from VERSION    the version of the old release
   --to VERSION      the version of the new release
   --warn            prints too which calls may find no method to run
