@@ -1,6 +1,7 @@
 -- The JSON of what is said of clients, with the lines of a check that explain it, as bytes.
+--     used_bytes json all explained entries      the same where it is asked for, and else the text
 --     used_json_of all explained entries      the object of `clients_json_of`, with the number of its line in each loss, and the lines that explain some
-use Rattle.std.specs.Prelude.{ℕ, List, [], ◌∷◌, codes, Option, None, Some}
+use Rattle.std.specs.Prelude.{ℕ, Bool, List, [], ◌∷◌, codes, Option, None, Some, if◌then◌else◌}
 use Rattle.std.specs.List.{zip}
 use Rattle.serde_json.specs.Data.{Data, null, boolean, number, string, array, object, put}
 use Rattle.serde_json.specs.View.{items_of}
@@ -9,6 +10,7 @@ use Rattle.jc_facts.specs.declared.outcome.Outcome.{Outcome}
 use Rattle.jc_facts.specs.Names.{Bytes}
 use Rattle.jc_answers.specs.ClientsJson.{counted, losses_with, refused_json, total_json}
 use Rattle.jc_answers.specs.Used.{UsedOf, used_from}
+use Rattle.jc_answers.specs.UsedText.{used_text_of}
 use Rattle.jc_answers.specs.declared.answer.Answer.{Answer}
 use Rattle.jc_answers.specs.declared.answer.Answer.TheVariants as answers
 use Rattle.jc_report.specs.Json.{finding_json}
@@ -58,3 +60,7 @@ used_json all explained entries =
 
 unfoldable pub used_json_of : List Answer → List (List (Option ℕ)) → List Finding → Bytes
 used_json_of all explained entries = json_line (used_json all explained entries)
+
+-- the same where it is asked for, and else the text
+abbrev pub used_bytes : Bool → List Answer → List (List (Option ℕ)) → List Finding → Bytes
+used_bytes json all explained entries = if json then used_json_of all explained entries else used_text_of all explained entries

@@ -34,9 +34,9 @@ explained_text_of (answers.Refused stop) numbers = line_of stop
 abbrev pub explained_client_of : Answer × List (Option ℕ) → ℕ → Bytes
 explained_client_of p n = with_front (client_front n) true (explained_text_of p.0 p.1)
 
--- a line that explains a loss: its number, how many clients it breaks, and the line as `check` prints it
+-- a line that explains a loss: how many clients it breaks, and the line as `check` prints it, which begins with its number
 abbrev pub line_of_used : UsedOf → ℕ → Bytes
-line_of_used u n = codes "used " ++ decimal u.number ++ codes " " ++ decimal u.clients ++ codes " " ++ line_of_finding u.number u.finding
+line_of_used u n = codes "used " ++ decimal u.clients ++ codes " " ++ line_of_finding u.number u.finding
 
 -- of each client what is said of it, then the lines that explain it, and the last line
 unfoldable pub used_text_of : List Answer → List (List (Option ℕ)) → List Finding → Bytes

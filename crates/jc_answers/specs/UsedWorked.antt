@@ -13,10 +13,7 @@ use Rattle.jc_answers.specs.declared.answer.Answer.{Answer}
 use Rattle.jc_answers.specs.declared.answer.Answer.TheVariants as answers
 use Rattle.jc_link.specs.declared.refusal.ClientPart.TheVariants as client_parts
 use Rattle.jc_releases.specs.declared.stop.Stop.TheVariants as stops
-
--- the finding that is printed as the collision is
-abbrev pub of_collision : Collision → Finding
-of_collision c = record { rule = c.rule; class = c.class; key = Some c.key; target = None; act = c.act; seat = None; error = c.error }
+use Rattle.jc_used.specs.Lines.{as_finding}
 
 abbrev pub run : Key
 run = record { name = codes "run"; descriptor = codes "()V" }
@@ -33,7 +30,7 @@ abbrev pub captures : Collision
 captures = record { rule = CAPTURE_ADDED; class = codes "p/D"; key = run; act = acts.InvokeVirtual; error = errors.IllegalAccessError }
 
 abbrev pub check : List Finding
-check = class_gone ∷ method_gone ∷ of_collision captures ∷ []
+check = class_gone ∷ method_gone ∷ as_finding captures ∷ []
 
 -- ---- clients
 

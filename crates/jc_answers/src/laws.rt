@@ -3,14 +3,15 @@ ghost use Rattle.std.specs.Prelude.{◌≡◌, ◌++◌, [], ◌∷◌, codes, �
 ghost use Rattle.jc_facts.specs.declared.verdict.Collision.{Collision};
 ghost use Rattle.jc_answers.specs.UsedJson.{used_json_of};
 ghost use Rattle.jc_answers.specs.UsedText.{used_text_of};
-ghost use Rattle.jc_answers.specs.UsedWorked.{of_collision, check, clients, explained, is_kept};
+ghost use Rattle.jc_answers.specs.UsedWorked.{check, clients, explained, is_kept};
 ghost use Rattle.jc_report.specs.Json.{finding_json, collision_json};
 ghost use Rattle.jc_report.specs.Text.{line_of_finding, line_of_collision};
+ghost use Rattle.jc_used.specs.Lines.{as_finding};
 
 /// A line of the check is printed once, with how many clients it breaks, however often it breaks one of
 /// them; a line that explains nothing isn't printed.
 pub fn worked_used_text()
-    ensures broken { used_text_of clients explained check ≡ codes "client 1 item c/C invokevirtual p/A run()V p/A NoSuchMethodError 2\nclient 1 class c/E VerifyError -\nclient 1 breaks: 2 classes, 5 outcomes, 1 errors before, 2 lost\nclient 2 jcompat: client: name p/A declared\nclient 3 item c/C invokevirtual p/A run()V p/A NoSuchMethodError 2\nclient 3 item c/C invokevirtual p/A run()V p/A NoSuchMethodError 2\nclient 3 item c/C invokevirtual c/D run()V - IllegalAccessError 3\nclient 3 breaks: 1 classes, 3 outcomes, 0 errors before, 3 lost\nused 2 2 2 H8 p/A run()V invokevirtual - NoSuchMethodError\nused 3 1 3 Capture p/D run()V invokevirtual - IllegalAccessError\nclients: 3 clients, 2 broken, 1 refused\n" }
+    ensures broken { used_text_of clients explained check ≡ codes "client 1 item c/C invokevirtual p/A run()V p/A NoSuchMethodError 2\nclient 1 class c/E VerifyError -\nclient 1 breaks: 2 classes, 5 outcomes, 1 errors before, 2 lost\nclient 2 jcompat: client: name p/A declared\nclient 3 item c/C invokevirtual p/A run()V p/A NoSuchMethodError 2\nclient 3 item c/C invokevirtual p/A run()V p/A NoSuchMethodError 2\nclient 3 item c/C invokevirtual c/D run()V - IllegalAccessError 3\nclient 3 breaks: 1 classes, 3 outcomes, 0 errors before, 3 lost\nused 2 2 H8 p/A run()V invokevirtual - NoSuchMethodError\nused 1 3 Capture p/D run()V invokevirtual - IllegalAccessError\nclients: 3 clients, 2 broken, 1 refused\n" }
     ensures kept { used_text_of (is_kept ∷ []) ([] ∷ []) check ≡ codes "client 1 keeps: 1 classes, 1 outcomes, 0 errors before, 0 lost\nclients: 1 clients, 0 broken, 0 refused\n" }
 {}
 
@@ -23,6 +24,6 @@ pub fn worked_used_json()
 
 /// A collision that is given as a finding has the line and the object that `check` gives it.
 pub fn printed_as_collisions()
-    ensures text { (n : ℕ) (c : Collision) → line_of_finding n (of_collision c) ≡ line_of_collision n c }
-    ensures json { (n : ℕ) (c : Collision) → finding_json n (of_collision c) ≡ collision_json n c }
+    ensures text { (n : ℕ) (c : Collision) → line_of_finding n (as_finding c) ≡ line_of_collision n c }
+    ensures json { (n : ℕ) (c : Collision) → finding_json n (as_finding c) ≡ collision_json n c }
 {}

@@ -7,6 +7,7 @@ mod client_text;
 pub mod clients_json;
 pub mod clients_text;
 mod entry;
+pub mod judged;
 pub mod laws;
 mod pair;
 #[cfg(test)]

@@ -16,7 +16,7 @@ use std::process::Abort;
 
 const TEXT: &[u8] = b"client 1 class c/C NoClassDefFoundError 1
 client 1 breaks: 1 classes, 1 outcomes, 0 errors before, 1 lost
-used 1 1 1 H1 p/A - class - NoClassDefFoundError
+used 1 1 H1 p/A - class - NoClassDefFoundError
 clients: 1 clients, 1 broken, 0 refused
 ";
 

@@ -1,9 +1,9 @@
 //! Which lines of a check explain what clients lose.
-ghost use Rattle.std.specs.Prelude.{◌≡◌, ◌++◌, count_by, IfOk, OnOk};
-ghost use Rattle.std.specs.List.{list_any};
-ghost use Rattle.jc_answers.specs.Used.{is_of, clients_by, used_where, used_from};
+ghost use Rattle.std.specs.Prelude.{◌≡◌, ◌++◌, [], count_by, IfOk, OnOk};
+ghost use Rattle.jc_answers.specs.Used.{clients_by, used_where, used_from};
 
 use jc_facts::finding::Finding;
+use jc_used::explained::has_number;
 use std::alloc::{AllocError, Global};
 use std::marker::Model;
 
@@ -21,6 +21,17 @@ impl Model for Explained {
     ghost Value = { List (Option ℕ) };
 
     ghost view = { λ e. e.numbers.items };
+}
+
+impl Explained {
+    /// That of clients that lose nothing, or of which no line is asked for.
+    pub(crate) fn none(alloc: Global) -> Explained
+        ensures { result ≡ [] }
+    {
+        Explained {
+            numbers: Vec::new(alloc),
+        }
+    }
 }
 
 /// A line of a check that explains a loss. A contract sees the finding without where it lies.
@@ -42,25 +53,13 @@ impl<'a> Model for UsedLine<'a> {
     ghost view = { λ u. record { number = u.number; clients = u.clients; finding = u.finding.now } };
 }
 
-// Whether the line of this number explains a loss of the client.
-fn has_number(explained: &Explained, number: usize) -> bool
-    ensures { result ≡ list_any (is_of number) explained.now }
-{
-    for one in &explained.numbers {
-        if *one == Some(number) {
-            return true;
-        }
-    }
-    false
-}
-
 // How many clients the line of this number breaks.
 fn count_clients(explained: &[Explained], number: usize) -> usize
     ensures { result ≡ clients_by explained.now number }
 {
     let mut count = 0;
     for client in explained {
-        if has_number(client, number) {
+        if has_number(client.numbers.as_slice(), number) {
             count += 1;
         }
     }

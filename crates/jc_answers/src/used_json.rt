@@ -1,13 +1,14 @@
 //! The JSON of what is said of clients, with the lines of a check that explain it.
 ghost use Rattle.std.specs.Prelude.{◌≡◌, map, IfOk};
 ghost use Rattle.serde_json.specs.View.{view};
-ghost use Rattle.jc_answers.specs.UsedJson.{with_member, number_or_null, loss_json, explained_json, explained_client_json, used_line_json, used_with as with_used, used_json as json_of, used_json_of};
+ghost use Rattle.jc_answers.specs.UsedJson.{with_member, number_or_null, loss_json, explained_json, explained_client_json, used_line_json, used_with as with_used, used_json as json_of, used_json_of, used_bytes as bytes_of};
 
 use crate::answer::Answer;
 use crate::client_json::{losses_with, refused_value};
 use crate::clients_json::total_value;
 use crate::pair::{Pair, pairs};
 use crate::used::{Explained, UsedLine, used_lines};
+use crate::used_text::used_text;
 use jc_facts::finding::Finding;
 use jc_facts::outcome::Outcome;
 use jc_losses::losses::Losses;
@@ -152,4 +153,25 @@ pub fn used_json(
 {
     let value = document(alloc, answers, explained, entries)?;
     json_line(alloc, &value)
+}
+
+/// The same where it is asked for, and else the text.
+///
+/// # Errors
+///
+/// `AllocError` where memory runs out.
+pub fn used_bytes(
+    alloc: Global,
+    as_json: bool,
+    answers: &[Answer],
+    explained: &[Explained],
+    entries: &[Finding],
+) -> Result<Vec<u8>, AllocError>
+    ensures { IfOk result (λ bytes. bytes.items ≡ bytes_of as_json answers.now explained.now entries.now) }
+{
+    if as_json {
+        used_json(alloc, answers, explained, entries)
+    } else {
+        used_text(alloc, answers, explained, entries)
+    }
 }

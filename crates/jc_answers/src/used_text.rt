@@ -101,8 +101,6 @@ pub(crate) fn used_line(alloc: Global, used: &UsedLine<'_>) -> Result<Vec<u8>, A
     ensures { IfOk result (λ line. line.items ≡ line_of_used used.now 0) }
 {
     let mut line = Vec::from_slice(alloc, b"used ")?;
-    push_decimal(alloc, &mut line, used.number)?;
-    line.push(b' ')?;
     push_decimal(alloc, &mut line, used.clients)?;
     line.push(b' ')?;
     let of_finding = used.finding.line(alloc, used.number)?;
@@ -111,9 +109,9 @@ pub(crate) fn used_line(alloc: Global, used: &UsedLine<'_>) -> Result<Vec<u8>, A
 }
 
 /// The text of what is said of clients, as `clients_text` gives it, where each loss has a further word, the
-/// number of the line of the check that explains it, or `-`; and, before the last line, a line `used NUMBER
-/// CLIENTS LINE` for each of the check's lines that explains a loss: its number, how many clients it breaks,
-/// and the line as `check` prints it. The entries are the findings of the check and then its collisions,
+/// number of the line of the check that explains it, or `-`; and, before the last line, a line `used CLIENTS
+/// LINE` for each of the check's lines that explains a loss: how many clients it breaks, and the line as
+/// `check` prints it, which begins with its number. The entries are the findings of the check and then its collisions,
 /// each as the finding that is printed as it is. Clients and losses without a list of numbers, or a number,
 /// of their own are left out.
 ///

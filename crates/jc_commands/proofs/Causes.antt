@@ -1,5 +1,5 @@
 -- Why a command has no report, and what it comes to.
-use Rattle.std.proofs.Common.{◌≡◌, ◌≤◌, inl, inr, List, [], ◌∷◌, map, Option, Some, None, refl, sym, ap, subst, ◌∙◌}
+use Rattle.std.proofs.Common.{◌≡◌, ◌≤◌, ℕ, Bool, true, false, inl, inr, List, [], ◌∷◌, map, option_map, Option, Some, None, refl, sym, ap, subst, ◌∙◌}
 use Rattle.jc_base.specs.Outside.{FileOf}
 use Rattle.jc_base.specs.States.{TreesState, Change}
 use Rattle.jc_facts.specs.declared.class_facts.ClassFacts.{ClassFacts}
@@ -36,15 +36,17 @@ use Rattle.jc_words.specs.Command.{CommandOf, CheckOf, LinkOf, HistoryOf, Client
 use Rattle.jc_commands.specs.History.{HistoryRecords}
 use Rattle.jc_commands.specs.steps.History.{IsJudged, StopsJudging}
 use Rattle.jc_commands.specs.Link.{LinkRecords, refusal_of, AreOutcomesOf}
-use Rattle.jc_releases.specs.Releases.{modules_in, read_of, side_of, old_and_new}
-use Rattle.jc_commands.specs.Clients.{ClientsRecords, AreAnswers}
-use Rattle.jc_commands.specs.steps.Clients.{GroundsFor}
+use Rattle.jc_releases.specs.Releases.{modules_in, read_of, side_of}
+use Rattle.jc_used.specs.declared.line.Line.{Line}
+use Rattle.jc_commands.specs.Clients.{ClientsRecords, AreAskedLines, IsExplained, IsClientsReport}
+use Rattle.jc_commands.specs.steps.Clients.{GroundsFor, StopsSiding, explanation_of, report_said}
 use Rattle.jc_commands.specs.declared.clients.TwoSides.{TwoSides}
 use Rattle.jc_losses.specs.Ground.{side_of_ground}
+use Rattle.jc_answers.specs.Numbered.{AreNumbered}
 use Rattle.jc_answers.specs.Said.{AreSaid}
 use Rattle.jc_answers.specs.steps.Trees.{FailsAmong}
 use Rattle.jc_answers.specs.declared.answer.Answer.{Answer}
-use Rattle.jc_answers.proofs.OneAnswer.{all_alike, all_borne_out}
+use Rattle.jc_answers.proofs.OneAnswer.{all_alike, all_borne_out, numbers_alike}
 use Rattle.jc_answers.proofs.TreesSaid.{failed_since}
 use Rattle.jc_commands.specs.Reports.{ToldTo, RecordsOf, Refuses}
 use Rattle.jc_releases.specs.declared.releases.Release.{Release}
@@ -58,7 +60,7 @@ use Rattle.jc_trees.specs.declared.tree_read.TreeRead.TheVariants as reads
 use Rattle.jc_commands.specs.ReportValue.{TellsOf, HasToShow, IsBare, puts_in, IsReportOf}
 use Rattle.jc_commands.proofs.Bodies.{bare_dir, bare_puts, bare_can}
 use Rattle.jc_commands.proofs.Compared.{some_broken, each_shown, show_dir, show_puts, can_show_any}
-use Rattle.jc_commands.proofs.Records.{IsOfRecords, unfit_says, refusal_says, unfit_row_says, mismatch_says, warned_few}
+use Rattle.jc_commands.proofs.Records.{IsOfRecords, unfit_says, refusal_says, unfit_row_says, unfit_clients_says, warned_few}
 use Rattle.jc_commands.proofs.SomeVerdict.{some_verdict, some_warnings}
 use Rattle.jc_commands.specs.DroppedPart.{AreAskedDropped}
 use Rattle.jc_commands.proofs.SomeCalls.{some_calls}
@@ -301,6 +303,26 @@ module _ (history : HistoryOf) (c : Change TreesState) (wanted : List TreeOf) (w
 
 -- ---- clients of two releases
 
+-- the releases don't go with the platform
+pub matching_clients : (used : Bool) (O N : World) (stop : Stop) → StopsMatching O N stop → StopsSiding used O N stop
+matching_clients used O N stop (inl h) = inl (inl h)
+matching_clients used O N stop (inr h) = inr h
+
+-- lines are asked for, and their verdict has too many findings
+pub counting_clients : (O N : World) (stop : Stop) → IsPair O N → mismatch_of O N ≡ None → StopsCounting O N stop → StopsSiding true O N stop
+counting_clients O N stop pair fits (inl (is, many)) =
+    let v = some_verdict O N pair in
+    inl (inr (refl, is, record { fits = fits; verdict = v.0; exact = v.1; many = many v.0 v.1 }))
+counting_clients O N stop pair fits (inr h) = inr h
+
+-- what the lines explain is what is reported of them
+explained_by_lines : (used : Bool) (files : List FileOf) (c : ClientsOf) (O N : World) (lines : Option (List Line)) (numbers : List (List (Option ℕ))) → AreAskedLines used O N lines
+    → AreNumbered files O N lines (client_trees 1 c.clients) numbers → IsExplained used files c O N (explanation_of lines numbers)
+explained_by_lines false files c O N None numbers h n = tt
+explained_by_lines false files c O N (Some lines) numbers h n = absurd h
+explained_by_lines true files c O N None numbers h n = absurd h
+explained_by_lines true files c O N (Some lines) numbers h n = record { check = h; numbered = n }
+
 module _ (clients : ClientsOf) (c : Change TreesState) (wanted : List TreeOf) (wanted_is : wanted ≡ trees_of (ClientsCommand clients))
     (all : List TreeRead) (platform : List ClassFacts) (old new : Release) (all_is : all ≡ reads.Library platform ∷ read_of old ∷ read_of new ∷ [])
     (read : Told c.before.content (λ files. GiveAll files wanted all)) where
@@ -314,33 +336,45 @@ module _ (clients : ClientsOf) (c : Change TreesState) (wanted : List TreeOf) (w
     are = told_reads c.before.content wanted (trees_of (ClientsCommand clients)) all (reads.Library platform ∷ read_of old ∷ read_of new ∷ []) wanted_is all_is read files told;
   }
 
-  pub cause_siding : (stop : Stop) → StopsMatching (side_of platform old) (side_of platform new) stop → StopsCommand (ClientsCommand clients) c stop
+  pub cause_siding : (stop : Stop) → StopsSiding clients.used (side_of platform old) (side_of platform new) stop → StopsCommand (ClientsCommand clients) c stop
   cause_siding stop (inl h) =
-      cause_refused (ClientsCommand clients) c stop (mismatch_says platform (old_and_new old.records new.records) stop h) (λ files told. (two_releases files told, h))
+      cause_refused (ClientsCommand clients) c stop (unfit_clients_says clients.used (side_of platform old) (side_of platform new) stop h) (λ files told. (two_releases files told, h))
   cause_siding stop (inr h) = cause_memory (ClientsCommand clients) c stop h
 
-  pub answers_reported : (sides : TwoSides) → GroundsFor (side_of platform old) (side_of platform new) sides
+  pub answers_reported : (sides : TwoSides) → GroundsFor clients.used (side_of platform old) (side_of platform new) sides
       → (each : List TreeOf) → each ≡ client_trees 1 clients.clients
       → (said : List Answer) → Told c.before.content (λ files. AreSaid files (side_of_ground sides.old) (side_of_ground sides.new) each said)
-      → (report : Report) → IsBare report.body → TellsOf (ClientsCommand clients) said report → IsReportOf (ClientsCommand clients) c.before report
-  answers_reported sides over each each_is said are report none tells = record {
-    of = said;
+      → (numbers : List (List (Option ℕ))) → Told c.before.content (λ files. AreNumbered files (side_of_ground sides.old) (side_of_ground sides.new) (option_map (λ ls. ls.items) sides.lines) each numbers)
+      → (report : Report) → IsBare report.body → TellsOf (ClientsCommand clients) (report_said said (option_map (λ ls. ls.items) sides.lines) numbers) report
+      → IsReportOf (ClientsCommand clients) c.before report
+  answers_reported sides over each each_is said are numbers numbered report none tells = record {
+    of = report_said said (option_map (λ ls. ls.items) sides.lines) numbers;
     tells = tells;
     dir_is = bare_dir report.body none;
     can_show = bare_can report.body none;
-    is_report = λ files told. (two_releases files told, answered files told, bare_puts report.body none);
-    upholds = λ files told. let a = answered files told in record {
+    is_report = λ files told. (two_releases files told, on_files files told, bare_puts report.body none);
+    upholds = λ files told. let r = on_files files told in record {
       records = two_releases files told;
-      answers = a;
-      borne_out = all_borne_out files (side_of platform old) (side_of platform new) (client_trees 1 clients.clients) said a.exact;
+      is_report = r;
+      borne_out = all_borne_out files (side_of platform old) (side_of platform new) (client_trees 1 clients.clients) said r.answers.exact;
     };
   }
     where
-      answered : (files : List FileOf) → c.before.content ≡ Some files → AreAnswers files clients (side_of platform old) (side_of platform new) said
-      answered files told = record {
-        fits = over.fits;
-        exact = all_alike files _ _ _ _ over.old.alike over.new.alike (client_trees 1 clients.clients) said
-            (subst (λ (ts : List TreeOf). AreSaid files (side_of_ground sides.old) (side_of_ground sides.new) ts said) each_is (are files told));
+      on_trees : (files : List FileOf) → c.before.content ≡ Some files
+          → AreNumbered files (side_of platform old) (side_of platform new) (option_map (λ ls. ls.items) sides.lines) (client_trees 1 clients.clients) numbers
+      on_trees files told =
+          numbers_alike files _ _ _ _ over.old.alike over.new.alike (option_map (λ ls. ls.items) sides.lines) (client_trees 1 clients.clients) numbers
+          (subst (λ (ts : List TreeOf). AreNumbered files (side_of_ground sides.old) (side_of_ground sides.new) (option_map (λ ls. ls.items) sides.lines) ts numbers) each_is (numbered files told))
+
+      on_files : (files : List FileOf) → c.before.content ≡ Some files
+          → IsClientsReport files clients (side_of platform old) (side_of platform new) (report_said said (option_map (λ ls. ls.items) sides.lines) numbers)
+      on_files files told = record {
+        answers = record {
+          fits = over.fits;
+          exact = all_alike files _ _ _ _ over.old.alike over.new.alike (client_trees 1 clients.clients) said
+              (subst (λ (ts : List TreeOf). AreSaid files (side_of_ground sides.old) (side_of_ground sides.new) ts said) each_is (are files told));
+        };
+        explained = explained_by_lines clients.used files clients (side_of platform old) (side_of platform new) (option_map (λ ls. ls.items) sides.lines) numbers over.lines (on_trees files told);
       }
 
 -- judging the clients stopped

@@ -20,7 +20,7 @@ use Rattle.jc_promises.specs.rule.Verdict.{IsVerdict}
 use Rattle.jc_facts.specs.Verdicts.{count_of}
 use Rattle.jc_promises.specs.rule.Warnings.{AreWarnings}
 use Rattle.jc_promises.specs.Pairs.{IsPair}
-use Rattle.jc_facts.specs.world.World.{World, Modules, OneModule, Several, is_modular}
+use Rattle.jc_facts.specs.world.World.{World, Modules, OneModule, Several, is_modular, side_in}
 use Rattle.jc_lemmas.proofs.Listed.{EachOf}
 use Rattle.jc_promises.proofs.Pairs.{pair_in}
 use Rattle.jc_facts.proofs.ReadLists.{read_valid}
@@ -44,6 +44,7 @@ use Rattle.jc_commands.specs.Link.{LinkRecords, release_side, refusal_of}
 use Rattle.jc_releases.specs.Releases.{read_as}
 use Rattle.jc_commands.specs.Clients.{ClientsRecords, side_before, side_after}
 use Rattle.jc_answers.proofs.OneAnswer.{some_answers}
+use Rattle.jc_commands.proofs.Explanations.{explained_on}
 use Rattle.jc_commands.specs.Reports.{RecordsOf, ReportOf, Refuses, Accepts, IsReportOn}
 use Rattle.jc_trees.specs.Tree.{TreeOf, library_at, clients_at}
 use Rattle.jc_releases.specs.declared.limits.TheConstants.{MAX_FINDINGS, MAX_WARNINGS, MAX_DROPPED, MAX_CALLS}
@@ -169,14 +170,25 @@ valid_release : (files : List FileOf) (tree : TreeOf) (m : Modules) (records : L
 valid_release files tree OneModule records h = valid_records files tree records h.1
 valid_release files tree (Several exports) records h = valid_modular files tree records exports h.1
 
--- the two sides are a pair of which promises are made
+-- the two sides of these trees are a pair of which promises are made
+pair_of : (files : List FileOf) (modular : Bool) (platform old new : Bytes) (ps os ns : List ClassFacts) (m k : Modules) → Gives files (library_at names.Platform platform) (reads.Library ps)
+    → Gives files (release_tree modular names.Old old) (read_as m os) → Gives files (release_tree modular names.New new) (read_as k ns)
+    → mismatch_of (side_in m ps os) (side_in k ps ns) ≡ None → IsPair (side_in m ps os) (side_in k ps ns)
+pair_of files modular platform old new ps os ns m k p o n fits =
+    let root : fault_of_root ps ≡ None = unmapped stops.BadRoot (fault_of_root ps) (first_none _ _ fits) in
+    let before = kind_asked files modular names.Old old m os o in
+    let after = kind_asked files modular names.New new k ns n in
+    pair_in m k ps os ns (before ∙ sym after) (has_root ps (sym root))
+    (valid_records files _ ps p.1) (valid_release files _ m os o) (valid_release files _ k ns n)
+
 pair_on : (files : List FileOf) (check : CheckOf) (s : CheckRecords files check) → mismatch_of (old_side s) (new_side s) ≡ None → IsPair (old_side s) (new_side s)
 pair_on files check s fits =
-    let root : fault_of_root s.platform ≡ None = unmapped stops.BadRoot (fault_of_root s.platform) (first_none _ _ fits) in
-    let old = kind_asked files check.modular names.Old check.old s.old_modules s.old s.are.1.0 in
-    let new = kind_asked files check.modular names.New check.new s.new_modules s.new s.are.1.1.0 in
-    pair_in s.old_modules s.new_modules s.platform s.old s.new (old ∙ sym new) (has_root s.platform (sym root))
-    (valid_records files _ s.platform s.are.0.1) (valid_release files _ s.old_modules s.old s.are.1.0) (valid_release files _ s.new_modules s.new s.are.1.1.0)
+    pair_of files check.modular check.platform check.old check.new s.platform s.old s.new s.old_modules s.new_modules s.are.0 s.are.1.0 s.are.1.1.0 fits
+
+-- and so are those of clients
+pair_for : (files : List FileOf) (c : ClientsOf) (s : ClientsRecords files c) → mismatch_of (side_before s) (side_after s) ≡ None → IsPair (side_before s) (side_after s)
+pair_for files c s fits =
+    pair_of files c.modular c.platform c.old c.new s.platform s.old s.new s.old_modules s.new_modules s.are.0 s.are.1.0 s.are.1.1.0 fits
 
 -- they have a verdict
 verdict_on : (files : List FileOf) (check : CheckOf) (s : CheckRecords files check) → mismatch_of (old_side s) (new_side s) ≡ None → (v : Verdict) × IsVerdict (old_side s) (new_side s) v
@@ -291,9 +303,21 @@ decided files (MakeCommand n) r = inl tt
 decided files HelpCommand r = inl tt
 decided files (ClientsCommand c) r = by_records (mismatch_of (side_before r) (side_after r)) refl
   where
+    by_count : mismatch_of (side_before r) (side_after r) ≡ None → IsTrue c.used → (v : Verdict) → IsVerdict (side_before r) (side_after r) v → (b : Bool) → nat_lt MAX_FINDINGS (count_of v) ≡ b
+        → Decided files (ClientsCommand c) r
+    by_count fits u v is true e = inr (stops.TooMany parts.Findings, inr (u, refl, record { fits = fits; verdict = v; exact = is; many = ltb-true MAX_FINDINGS (count_of v) e }))
+    by_count fits u v is false e = inl (record {
+      fits = fits;
+      few = λ t w k. subst (λ (x : Verdict). count_of x ≤ MAX_FINDINGS) (verdict_is_one (side_before r) (side_after r) v w is k) (ltb-false MAX_FINDINGS (count_of v) e);
+    })
+
+    by_used : mismatch_of (side_before r) (side_after r) ≡ None → (b : Bool) → c.used ≡ b → Decided files (ClientsCommand c) r
+    by_used fits false e = inl (record { fits = fits; few = λ t. absurd (let clash : false ≡ true = sym e ∙ t in cc) })
+    by_used fits true e = let v = some_verdict (side_before r) (side_after r) (pair_for files c r fits) in by_count fits e v.0 v.1 (nat_lt MAX_FINDINGS (count_of v.0)) refl
+
     by_records : (o : Option Stop) → mismatch_of (side_before r) (side_after r) ≡ o → Decided files (ClientsCommand c) r
-    by_records None e = inl e
-    by_records (Some stop) e = inr (stop, e)
+    by_records None e = by_used e c.used refl
+    by_records (Some stop) e = inr (stop, inl e)
 decided files (HistoryCommand c) r = by_records (mismatch_of_row r.platform r.releases) refl
   where
     by_records : (o : Option Stop) → mismatch_of_row r.platform r.releases ≡ o → Decided files (HistoryCommand c) r
@@ -318,7 +342,9 @@ accepted_report files (CheckCommand check) r a =
 accepted_report files (LinkCommand link) r a = (outcomes (release_side r) r.clients, record { fits = a; exact = refl })
 accepted_report files (ClientsCommand c) r a =
     let all = some_answers files (side_before r) (side_after r) 1 c.clients in
-    (all.0, record { fits = a; exact = all.1 })
+    let v = some_verdict (side_before r) (side_after r) (pair_for files c r a.fits) in
+    let e = explained_on c.used files c (side_before r) (side_after r) a.fits v.0 v.1 a.few in
+    (record { answers = all.0; explanation = e.0 }, record { answers = record { fits = a.fits; exact = all.1 }; explained = e.1 })
 accepted_report files (MakeCommand n) r a = made_verdict n r
 accepted_report files HelpCommand r a = (help_page, refl)
 accepted_report files (HistoryCommand c) r a =

@@ -33,7 +33,9 @@ use Rattle.jc_commands.specs.Make.{old_made, new_made}
 use Rattle.jc_commands.specs.CallsPart.{AreAskedCalls}
 use Rattle.jc_commands.specs.DroppedPart.{AreAskedDropped}
 use Rattle.jc_commands.specs.Signatures.{AreNoted}
-use Rattle.jc_commands.specs.Clients.{ClientsRecords, side_before, side_after}
+use Rattle.jc_commands.specs.Clients.{ClientsRecords, ClientsReport, Explanation, IsExplained, IsUnfitForClients, side_before, side_after}
+use Rattle.jc_commands.proofs.Explanations.{explained_few, explained_one}
+use Rattle.jc_answers.specs.declared.answer.Answer.{Answer}
 use Rattle.jc_answers.specs.Said.{AreSaid}
 use Rattle.jc_answers.proofs.OneAnswer.{all_said}
 use Rattle.jc_commands.specs.Reports.{RecordsOf, ReportOf, Refuses, Accepts, IsReportOn}
@@ -183,12 +185,16 @@ pub unfit_row_says : (platform : List ClassFacts) (releases : List (List ClassFa
 unfit_row_says platform releases stop (inl h) = mismatch_says platform (numbered 1 releases) stop h
 unfit_row_says platform releases stop (inr h) = subst IsOfRecords (sym h.0) tt
 
+pub unfit_clients_says : (used : Bool) (O N : World) (stop : Stop) → IsUnfitForClients used O N stop → IsOfRecords stop
+unfit_clients_says used O N stop (inl h) = mismatch_says O.platform (old_and_new O.release N.release) stop h
+unfit_clients_says used O N stop (inr h) = subst IsOfRecords (sym h.1) tt
+
 pub refuses_says : (files : List FileOf) (command : CommandOf) (r : RecordsOf files command) (stop : Stop) → Refuses files command r stop → IsOfRecords stop
 refuses_says files (CheckCommand check) r stop h = unfit_says check (old_side r) (new_side r) stop h
 refuses_says files (LinkCommand link) r stop h = refusal_says (release_side r) r.clients stop h
 refuses_says files (MakeCommand n) r stop h = absurd h
 refuses_says files HelpCommand r stop h = absurd h
-refuses_says files (ClientsCommand c) r stop h = mismatch_says r.platform (old_and_new r.old r.new) stop h
+refuses_says files (ClientsCommand c) r stop h = unfit_clients_says c.used (side_before r) (side_after r) stop h
 refuses_says files (HistoryCommand c) r stop h = unfit_row_says r.platform r.releases stop h
 
 -- too many findings are a cause before too many warnings
@@ -245,6 +251,12 @@ one_unfit_row platform releases a b (inl h) (inr k) = absurd (none_some (mismatc
 one_unfit_row platform releases a b (inr h) (inl k) = absurd (none_some (mismatch_of_row platform releases) b h.1.fits k)
 one_unfit_row platform releases a b (inr h) (inr k) = h.0 ∙ sym k.0
 
+one_unfit_clients : (used : Bool) (O N : World) (a b : Stop) → IsUnfitForClients used O N a → IsUnfitForClients used O N b → a ≡ b
+one_unfit_clients used O N a b (inl h) (inl k) = same_some (mismatch_of O N) a b h k
+one_unfit_clients used O N a b (inl h) (inr k) = absurd (none_some (mismatch_of O N) a k.2.fits h)
+one_unfit_clients used O N a b (inr h) (inl k) = absurd (none_some (mismatch_of O N) b h.2.fits k)
+one_unfit_clients used O N a b (inr h) (inr k) = h.1 ∙ sym k.1
+
 -- records are refused for one cause
 pub one_refused : (files : List FileOf) (command : CommandOf) (r s : RecordsOf files command) (a b : Stop) → Refuses files command r a → Refuses files command s b → a ≡ b
 one_refused files (CheckCommand check) r s a b h k = one_unfit check (old_side r) (new_side r) a b h (same_check files check (λ O N. IsUnfit check O N b) r s k)
@@ -252,7 +264,7 @@ one_refused files (LinkCommand link) r s a b h k =
     same_some (refusal_of (release_side r) r.clients) a b h (same_link files link (λ W cs. refusal_of W cs ≡ Some b) r s k)
 one_refused files (MakeCommand n) r s a b h k = absurd h
 one_refused files HelpCommand r s a b h k = absurd h
-one_refused files (ClientsCommand c) r s a b h k = same_some (mismatch_of (side_before r) (side_after r)) a b h (same_clients_of files c (λ O N. mismatch_of O N ≡ Some b) r s k)
+one_refused files (ClientsCommand c) r s a b h k = one_unfit_clients c.used (side_before r) (side_after r) a b h (same_clients_of files c (λ O N. IsUnfitForClients c.used O N b) r s k)
 one_refused files (HistoryCommand c) r s a b h k = one_unfit_row r.platform r.releases a b h (same_history files c (λ p q. IsUnfitRow p q b) r s k)
 
 -- and not where they are accepted
@@ -269,8 +281,11 @@ accepted_or_refused files (LinkCommand link) r s stop a h =
     none_some (refusal_of (release_side r) r.clients) stop a (same_link files link (λ W cs. refusal_of W cs ≡ Some stop) r s h)
 accepted_or_refused files (MakeCommand n) r s stop a h = h
 accepted_or_refused files HelpCommand r s stop a h = h
-accepted_or_refused files (ClientsCommand c) r s stop a h =
-    none_some (mismatch_of (side_before r) (side_after r)) stop a (same_clients_of files c (λ O N. mismatch_of O N ≡ Some stop) r s h)
+accepted_or_refused files (ClientsCommand c) r s stop a h = go (same_clients_of files c (λ O N. IsUnfitForClients c.used O N stop) r s h)
+  where
+    go : IsUnfitForClients c.used (side_before r) (side_after r) stop → ⊥
+    go (inl k) = none_some (mismatch_of (side_before r) (side_after r)) stop a.fits k
+    go (inr k) = apart_numbers (count_of k.2.verdict) MAX_FINDINGS (a.few k.0 k.2.verdict k.2.exact) k.2.many
 accepted_or_refused files (HistoryCommand c) r s stop a h = go (same_history files c (λ p q. IsUnfitRow p q stop) r s h)
   where
     go : IsUnfitRow r.platform r.releases stop → ⊥
@@ -306,13 +321,17 @@ report_accepted files (CheckCommand check) r report h = record {
 report_accepted files (LinkCommand link) r list h = h.fits
 report_accepted files (MakeCommand n) r v h = tt
 report_accepted files HelpCommand r page h = tt
-report_accepted files (ClientsCommand c) r all h = h.fits
+report_accepted files (ClientsCommand c) r report h =
+    record { fits = h.answers.fits; few = explained_few c.used files c (side_before r) (side_after r) report.explanation h.explained }
 report_accepted files (HistoryCommand c) r vs h = record {
   fits = h.fits;
   few = λ s is_step w k.
       let at = verdict_at (steps_of (row_of r.platform r.releases)) vs s h.exact is_step in
       subst (λ (x : Verdict). count_of x ≤ MAX_FINDINGS) (verdict_is_one s.old s.new at.verdict w at.exact k) (All-contains (λ v. count_of v ≤ MAX_FINDINGS) vs at.verdict h.few at.is_in);
 }
+
+abbrev clients_report : List Answer → Option Explanation → ClientsReport
+clients_report all o = record { answers = all; explanation = o }
 
 -- and has one
 pub one_report_of : (files : List FileOf) (command : CommandOf) (r s : RecordsOf files command) (a b : ReportOf command) → IsReportOn files command r a → IsReportOn files command s b → a ≡ b
@@ -329,7 +348,10 @@ one_report_of files (CheckCommand check) r s a b h k =
     (calls_one check.calls (old_side r) (new_side r) a.calls b.calls h.calls (same_check files check (λ O N. AreAskedCalls check.calls O N b.calls) r s k.calls))
 one_report_of files (LinkCommand link) r s a b h k = h.exact ∙ sym (same_link files link (λ W cs. b ≡ outcomes W cs) r s k.exact)
 one_report_of files (ClientsCommand c) r s a b h k =
-    all_said files (side_before r) (side_after r) (client_trees 1 c.clients) a b h.exact (same_clients_of files c (λ O N. AreSaid files O N (client_trees 1 c.clients) b) r s k.exact)
+    ap (λ (all : List Answer). clients_report all a.explanation)
+    (all_said files (side_before r) (side_after r) (client_trees 1 c.clients) a.answers b.answers h.answers.exact (same_clients_of files c (λ O N. AreSaid files O N (client_trees 1 c.clients) b.answers) r s k.answers.exact))
+    ∙ ap (clients_report b.answers)
+    (explained_one c.used files c (side_before r) (side_after r) a.explanation b.explanation h.explained (same_clients_of files c (λ O N. IsExplained c.used files c O N b.explanation) r s k.explained))
 one_report_of files (MakeCommand n) r s a b h k = verdict_is_one (old_made n) (new_made n) a b h k
 one_report_of files HelpCommand r s a b h k = h ∙ sym k
 one_report_of files (HistoryCommand c) r s a b h k =

@@ -143,7 +143,7 @@ Upholds content (CheckCommand check) report puts = Told content (λ files. IsChe
 Upholds content (LinkCommand link) list puts = Unit {0}
 Upholds content (MakeCommand n) v puts = Unit {0}
 Upholds content (HistoryCommand h) vs puts = Told content (λ files. IsKeptRow files h vs × IsBorneOutRow files h vs)
-Upholds content (ClientsCommand c) all puts = Told content (λ files. IsTold files c all)
+Upholds content (ClientsCommand c) report puts = Told content (λ files. IsTold files c report)
 Upholds content HelpCommand page puts = Unit {0}
 
 -- it tells of the command's report on the records of its trees

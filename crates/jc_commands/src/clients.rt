@@ -1,10 +1,9 @@
 //! Judging clients of two releases.
-ghost use Rattle.std.specs.Prelude.{◌≡◌, None, IfOk, IfErr};
+ghost use Rattle.std.specs.Prelude.{◌≡◌, None, IfOk, IfErr, option_map};
 ghost use Rattle.jc_base.specs.States.{change};
 ghost use Rattle.jc_commands.specs.Causes.{StopsCommand};
-ghost use Rattle.jc_commands.specs.ReportValue.{IsReportOf, IsSized};
-ghost use Rattle.jc_commands.specs.steps.Check.{StopsMatching};
-ghost use Rattle.jc_commands.specs.steps.Clients.{IsGroundFor, GroundsFor};
+ghost use Rattle.jc_commands.specs.ReportValue.{IsBare, IsReportOf, IsSized, TellsOf};
+ghost use Rattle.jc_commands.specs.steps.Clients.{IsGroundFor, GroundsFor, StopsSiding, report_said};
 ghost use Rattle.jc_facts.specs.world.World.{side_in};
 ghost use Rattle.jc_index.specs.Root.{fault_of_root};
 ghost use Rattle.jc_index.specs.Sides.{overlap_of};
@@ -12,11 +11,12 @@ ghost use Rattle.jc_releases.specs.Releases.{modules_in, side_of};
 ghost use Rattle.jc_releases.specs.steps.Releases.{AreOldAndNew, IsReleaseList, StopsRelease};
 ghost use Rattle.jc_table.specs.Tables.{HasCause as HasTableCause};
 ghost use Rattle.jc_trees.specs.ClassLists.{IsRecordList};
-ghost use Rattle.jc_words.specs.Command.{ClientsCommand};
+ghost use Rattle.jc_words.specs.Command.{ClientsOf, ClientsCommand};
 ghost use Rattle.jc_words.specs.CommandView.{clients_of};
 
 use crate::report::Report;
-use jc_answers::trees::judge_trees;
+use crate::used::lines_asked;
+use jc_answers::trees::{AllSaid, judge_trees};
 use jc_base::trees::Trees;
 use jc_facts::class_facts::ClassFacts;
 use jc_loading::platform::Platform;
@@ -29,14 +29,17 @@ use jc_table::table::TableError;
 use jc_trees::read_trees::read_trees;
 use jc_trees::tree::TreeName;
 use jc_trees::tree_read::take_records;
+use jc_used::line::Line;
 use jc_words::clients::Clients;
-use std::alloc::Global;
+use std::alloc::{AllocError, Global};
 
-// What the clients of two releases are judged over.
+// What the clients of two releases are judged over, and the lines of the check of these, where they are asked
+// for.
 #[derive(Drop)]
 struct TwoSides {
     old: Ground,
     new: Ground,
+    lines: Option<Vec<Line>>,
 }
 
 // What clients of the platform with the records of a release in these modules are judged over.
@@ -91,22 +94,63 @@ fn two_sides(
     platform: Vec<ClassFacts>,
     old: Release,
     new: Release,
+    used: bool,
 ) -> Result<TwoSides, Stop>
     requires platform { IsRecordList platform.items }
     requires releases { AreOldAndNew old new }
-    ensures sides { IfOk result (GroundsFor (side_of platform.items old) (side_of platform.items new)) }
-    ensures stopped { IfErr result (StopsMatching (side_of platform.items old) (side_of platform.items new)) }
+    ensures sides { IfOk result (GroundsFor used (side_of platform.items old) (side_of platform.items new)) }
+    ensures stopped { IfErr result (StopsSiding used (side_of platform.items old) (side_of platform.items new)) }
 {
     let Ok(shared) = Platform::new(alloc, platform) else {
         return Err(Stop::Memory);
+    };
+    let lines = match lines_asked(alloc, used, &shared, &old, &new) {
+        Ok(lines) => lines,
+        Err(stop) => return Err(stop),
     };
     let was = match ground_of(alloc, &shared, old) {
         Ok(was) => was,
         Err(stop) => return Err(stop),
     };
     match ground_of(alloc, &shared, new) {
-        Ok(now) => Ok(TwoSides { old: was, new: now }),
+        Ok(now) => Ok(TwoSides {
+            old: was,
+            new: now,
+            lines,
+        }),
         Err(stop) => Err(stop),
+    }
+}
+
+// The lines, where there are some.
+fn lent(lines: &Option<Vec<Line>>) -> Option<&[Line]>
+    ensures { option_map (λ ls. ls.now) result ≡ option_map (λ ls. ls.items) lines.now }
+{
+    match lines {
+        Some(lines) => Some(lines.as_slice()),
+        None => None,
+    }
+}
+
+// The report of what is said of the clients, with these lines, where there are some.
+fn reported<'a>(
+    alloc: Global,
+    as_json: bool,
+    said: &AllSaid,
+    lines: Option<Vec<Line>>,
+) -> Result<Report<'a>, AllocError>
+    ensures tells { IfOk result (λ report. (clients : ClientsOf) → clients.json ≡ as_json → TellsOf (ClientsCommand clients) (report_said said.now.answers.items (option_map (λ ls. ls.items) lines) said.now.explained.items) report) }
+    ensures shown { IfOk result (λ report. IsBare report.body) }
+{
+    match lines {
+        None => Report::of_answers(alloc, as_json, said.answers.as_slice()),
+        Some(lines) => Report::of_explained(
+            alloc,
+            as_json,
+            said.answers.as_slice(),
+            said.explained.as_slice(),
+            lines,
+        ),
     }
 }
 
@@ -116,8 +160,8 @@ fn two_sides(
 /// # Errors
 ///
 /// `Stop::Unread` where the tree of the platform or of a release isn't read, `ReadFault` where a call on a
-/// tree failed, `BadRoot` or `Overlap` where the releases don't go with the platform, and `Memory` where
-/// memory runs out.
+/// tree failed, `BadRoot` or `Overlap` where the releases don't go with the platform, `TooMany` where lines
+/// are asked for and the verdict on the releases is over its limit, and `Memory` where memory runs out.
 pub fn judge_clients<'a, T: Trees>(
     alloc: Global,
     asked: &Clients<'_>,
@@ -136,18 +180,19 @@ pub fn judge_clients<'a, T: Trees>(
     let platform = take_records(&mut all);
     let old = take_release(&mut all, TreeName::Old, asked.modular);
     let new = take_release(&mut all, TreeName::New, asked.modular);
-    let sides = match two_sides(alloc, platform, old, new) {
+    let sides = match two_sides(alloc, platform, old, new, asked.used) {
         Ok(sides) => sides,
         Err(stop) => return Err(stop),
     };
     let Ok(each) = trees_of_each_client(alloc, asked.clients.as_slice()) else {
         return Err(Stop::Memory);
     };
-    let answers = match judge_trees(alloc, each.as_slice(), &sides.old, &sides.new, trees) {
-        Ok(answers) => answers,
+    let TwoSides { old, new, lines } = sides;
+    let said = match judge_trees(alloc, each.as_slice(), &old, &new, lent(&lines), trees) {
+        Ok(said) => said,
         Err(error) => return Err(stop_of(error)),
     };
-    match Report::of_answers(alloc, asked.json, answers.as_slice()) {
+    match reported(alloc, asked.json, &said, lines) {
         Ok(report) => Ok(report),
         Err(_) => Err(Stop::Memory),
     }

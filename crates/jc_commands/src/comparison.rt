@@ -79,8 +79,12 @@ fn both_of(mut tables: Vec<Table>) -> (Table, Table)
     (first, second)
 }
 
-// The tables of the two sides of this platform, or why there are none.
-fn sides_over(
+/// The tables of the two sides of this platform, or why there are none.
+///
+/// # Errors
+///
+/// Those of `both_sides`.
+pub fn sides_over(
     alloc: Global,
     platform: &Platform,
     old: Release,
@@ -136,9 +140,13 @@ pub fn both_sides(
     }
 }
 
-// The verdict on two sides, unless there are too many findings, and the interfaces that classes drop
-// between them and the lines on calls, where they are asked for, or why these aren't reported.
-fn found_between(
+/// The verdict on two sides, unless there are too many findings, and the interfaces that classes drop
+/// between them and the lines on calls, where they are asked for, or why these aren't reported.
+///
+/// # Errors
+///
+/// `Stop::TooMany` where there are too many findings and collisions, and `Memory` where memory runs out.
+pub fn found_between(
     alloc: Global,
     old: &Table,
     new: &Table,

@@ -1,5 +1,6 @@
 -- The lines of a verdict that may explain a loss.
 --     lines_of N v      its findings, and then its collisions, each as a finding
+--     findings_in ls      what is printed of them
 --     lets_in N x      the names that the class x lets stand below itself on the new side
 use Rattle.std.specs.Prelude.{◌==◌, cond, List, [], ◌++◌, map, Option, None, Some}
 use Rattle.jc_facts.specs.declared.class_facts.ClassFacts.{ClassFacts}
@@ -41,3 +42,7 @@ line_of N f = record { finding = f; lets_in = lets_in_by N f }
 
 abbrev pub lines_of : World → Verdict → List Line
 lines_of N v = map (line_of N) (entries_of v)
+
+-- what is printed of lines
+abbrev pub findings_in : List Line → List Finding
+findings_in ls = map (λ l. l.finding) ls

@@ -1,7 +1,7 @@
 //! The lines of a verdict, as they are numbered.
 ghost use Rattle.std.specs.Prelude.{◌≡◌, ◌++◌, cond, [], map, IfOk, OnOk};
 ghost use Rattle.jc_facts.specs.declared.rule_numbers.TheConstants.{CLASS_CLOSED};
-ghost use Rattle.jc_used.specs.Lines.{as_finding, names_or_none, permitted_by, lets_in, lets_in_by, line_of, lines_of};
+ghost use Rattle.jc_used.specs.Lines.{as_finding, names_or_none, permitted_by, lets_in, lets_in_by, line_of, lines_of, findings_in as findings_of_lines};
 
 use crate::line::Line;
 use jc_base::items::Items;
@@ -14,8 +14,12 @@ use jc_table::table::Table;
 use std::alloc::{AllocError, Global};
 use std::mem::replace;
 
-// Copies of the names.
-fn copied(alloc: Global, names: &[Name]) -> Result<Vec<Name>, AllocError>
+/// Copies of the names.
+///
+/// # Errors
+///
+/// `AllocError` where memory runs out.
+pub fn copied(alloc: Global, names: &[Name]) -> Result<Vec<Name>, AllocError>
     ensures { IfOk result (λ copies. copies.items ≡ names.now) }
 {
     let mut copies = Vec::with_capacity(alloc, names.len())?;
@@ -138,4 +142,29 @@ pub fn lines_of(alloc: Global, new: &Table, verdict: Verdict) -> Result<Vec<Line
     push_findings(alloc, &mut lines, new, findings.into_vec())?;
     push_collisions(alloc, &mut lines, new, collisions.into_vec())?;
     Ok(lines)
+}
+
+fn finding_in(line: Line) -> Finding
+    ensures { result ≡ line.finding }
+{
+    let Line {
+        finding,
+        lets_in: _,
+    } = line;
+    finding
+}
+
+/// The findings of the lines, and those that are printed as the collisions are, as they are numbered.
+///
+/// # Errors
+///
+/// `AllocError` where memory runs out.
+pub fn findings_in(alloc: Global, lines: Vec<Line>) -> Result<Vec<Finding>, AllocError>
+    ensures { IfOk result (λ findings. findings.items ≡ findings_of_lines lines.items) }
+{
+    let mut findings = Vec::new(alloc);
+    for line in lines {
+        findings.push(finding_in(line))?;
+    }
+    Ok(findings)
 }

@@ -28,11 +28,9 @@ use Rattle.jc_trees.specs.ClassFiles.{Told}
 use Rattle.jc_releases.specs.Command.{step_of_check, witness_dir}
 use Rattle.jc_words.specs.Command.{CommandOf, CheckOf, HistoryOf, ClientsOf, CheckCommand, LinkCommand, MakeCommand, HistoryCommand, ClientsCommand, HelpCommand, asked}
 use Rattle.jc_words.specs.Help.{help_page}
-use Rattle.jc_commands.specs.Clients.{IsTold}
+use Rattle.jc_commands.specs.Clients.{ClientsReport, clients_report_bytes, IsTold}
 use Rattle.jc_commands.specs.History.{IsKeptRow, IsBorneOutRow}
-use Rattle.jc_answers.specs.ClientsJson.{clients_bytes}
 use Rattle.jc_answers.specs.ClientsText.{are_all_kept}
-use Rattle.jc_answers.specs.declared.answer.Answer.{Answer}
 use Rattle.jc_commands.specs.Reports.{ToldTo, RecordsOf, ReportOf, IsReportOn, rules_of, is_clear, told_of, passes, bytes_of, puts_of}
 use Rattle.jc_promises.specs.rule.Verdict.{IsVerdict}
 use Rattle.jc_facts.specs.Verdicts.{is_incompatible}
@@ -157,10 +155,10 @@ upheld_row trees report history HelpCommand e is = no_row_of_help history e
 
 -- what the report of clients of two releases upholds
 record UpheldClients (content : Option (List FileOf)) (clients : ClientsOf) (report : Report) : Type 0 where
-  of : List Answer
+  of : ClientsReport
   told : Told content (λ files. IsTold files clients of)
-  bytes : bytes_in report.body ≡ clients_bytes clients.json of
-  answer : (gates : List GateOf) → passes_by gates report.condition ≡ are_all_kept of
+  bytes : bytes_in report.body ≡ clients_report_bytes clients.json of
+  answer : (gates : List GateOf) → passes_by gates report.condition ≡ are_all_kept of.answers
 
 same_clients : (c d : ClientsOf) → ClientsCommand c ≡ ClientsCommand d → c ≡ d
 same_clients c d e = cc
@@ -185,7 +183,7 @@ upheld_clients : (trees : TreesState) (report : Report) (clients : ClientsOf) (c
 upheld_clients trees report clients (ClientsCommand c) e is = record {
   of = is.of;
   told = subst (λ (k : ClientsOf). Told trees.content (λ files. IsTold files k is.of)) (same_clients c clients e) is.upholds;
-  bytes = subst (λ (k : ClientsOf). bytes_in report.body ≡ clients_bytes k.json is.of) (same_clients c clients e) is.tells.text;
+  bytes = subst (λ (k : ClientsOf). bytes_in report.body ≡ clients_report_bytes k.json is.of) (same_clients c clients e) is.tells.text;
   answer = is.tells.answer;
 }
 upheld_clients trees report clients (CheckCommand c) e is = no_clients_of_check c clients e
@@ -456,16 +454,16 @@ module _ (r : Ran) (report : Report) (is : Reports r.gates r.words r.trees.befor
     abbrev up_clients : UpheldClients r.trees.before.content clients report
     up_clients = upheld_clients r.trees.before report clients is.command (same_ok (asked r.words) is.command (ClientsCommand clients) words_ask e) is.is
 
-    all_kept : r.status ≡ PASSED → IsTrue (are_all_kept up_clients.of)
+    all_kept : r.status ≡ PASSED → IsTrue (are_all_kept up_clients.of.answers)
     all_kept zero = sym (up_clients.answer r.gates) ∙ (is_passed zero the_case).0
 
-    passes_kept : IsTrue (are_all_kept up_clients.of) → (r.status ≡ PASSED) ⊎ (r.status ≡ NOT_PASSED) → r.status ≡ PASSED
+    passes_kept : IsTrue (are_all_kept up_clients.of.answers) → (r.status ≡ PASSED) ⊎ (r.status ≡ NOT_PASSED) → r.status ≡ PASSED
     passes_kept kept (inl zero) = zero
     passes_kept kept (inr one) = absurd (both_ways passed_by (is_not_passed one the_case).0 (up_clients.answer r.gates ∙ kept))
 
     lost : (r.status ≡ PASSED) ⊎ (r.status ≡ NOT_PASSED) → IsWhole
-        → (all : List Answer) × Puts r (clients_bytes clients.json all) × OfFiles r (λ files. IsTold files clients all) × ((r.status ≡ PASSED) ↔ IsTrue (are_all_kept all))
-    lost answered p = (up_clients.of, p.puts (clients_bytes clients.json up_clients.of) up_clients.bytes, up_clients.told, (all_kept, λ kept. passes_kept kept answered))
+        → (told : ClientsReport) × Puts r (clients_report_bytes clients.json told) × OfFiles r (λ files. IsTold files clients told) × ((r.status ≡ PASSED) ↔ IsTrue (are_all_kept told.answers))
+    lost answered p = (up_clients.of, p.puts (clients_report_bytes clients.json up_clients.of) up_clients.bytes, up_clients.told, (all_kept, λ kept. passes_kept kept answered))
 
   module _ (e : asked r.words ≡ Ok HelpCommand) where
     up_page : UpheldPage report

@@ -13,10 +13,8 @@ use Rattle.jc_trees.specs.ClassFiles.{Told}
 use Rattle.jc_releases.specs.Command.{witness_dir, step_of_check, asked_of}
 use Rattle.jc_words.specs.Command.{CommandOf, CheckOf, HistoryOf, ClientsOf, CheckCommand, HistoryCommand, ClientsCommand, HelpCommand, asked}
 use Rattle.jc_words.specs.Help.{help_page}
-use Rattle.jc_answers.specs.ClientsJson.{clients_bytes}
 use Rattle.jc_answers.specs.ClientsText.{are_all_kept}
-use Rattle.jc_answers.specs.declared.answer.Answer.{Answer}
-use Rattle.jc_commands.specs.Clients.{IsTold}
+use Rattle.jc_commands.specs.Clients.{ClientsReport, clients_report_bytes, IsTold}
 use Rattle.jc_commands.specs.History.{IsKeptRow, IsBorneOutRow}
 use Rattle.jc_commands.specs.Outputs.{IsQuiet, PutsAll, PutsFront, HasPutFault, IsUntouched, HasFolderFault}
 use Rattle.jc_commands.specs.ReportValue.{status_by}
@@ -181,10 +179,10 @@ pub record Answers (r : Ran) : Type 0 where
   pub judged : (r.status ≡ PASSED) ⊎ (r.status ≡ NOT_PASSED) → (history : HistoryOf) → asked r.words ≡ Ok (HistoryCommand history)
       → (vs : List Verdict) × Puts r (history_text_of vs) × OfFiles r (λ files. IsKeptRow files history vs) × OfFiles r (λ files. IsBorneOutRow files history vs)
   -- of clients of two releases: what was put is what is said of the clients of each tree, in their order, as text or as JSON: why they aren't linked, or what they lose,
-  -- which is exactly each outcome that `link` says to be Ok with the old release and to be an error with the new. It passes exactly where all are linked, and lose
-  -- nothing
+  -- which is exactly each outcome that `link` says to be Ok with the old release and to be an error with the new; and, where that is asked for, with each loss the
+  -- number of the first line of the verdict on these two sides that explains it, and these lines. It passes exactly where all are linked, and lose nothing
   pub lost : (r.status ≡ PASSED) ⊎ (r.status ≡ NOT_PASSED) → (clients : ClientsOf) → asked r.words ≡ Ok (ClientsCommand clients)
-      → (all : List Answer) × Puts r (clients_bytes clients.json all) × OfFiles r (λ files. IsTold files clients all) × ((r.status ≡ PASSED) ↔ IsTrue (are_all_kept all))
+      → (report : ClientsReport) × Puts r (clients_report_bytes clients.json report) × OfFiles r (λ files. IsTold files clients report) × ((r.status ≡ PASSED) ↔ IsTrue (are_all_kept report.answers))
   -- of help: what was put is its page, and it passes
   pub helped : (r.status ≡ PASSED) ⊎ (r.status ≡ NOT_PASSED) → asked r.words ≡ Ok HelpCommand → (r.status ≡ PASSED) × Puts r help_page
   -- where no witnesses are asked for, nothing was put into the folder

@@ -1,9 +1,9 @@
 -- What is found in the trees of clients, on the way.
-use Rattle.std.specs.Prelude.{◌≡◌, ◌≤◌, List, Result, Ok, Err}
+use Rattle.std.specs.Prelude.{◌≡◌, ◌≤◌, List, [], Result, Ok, Err}
 use Rattle.jc_base.specs.Causes.{Rose}
 use Rattle.jc_base.specs.States.{TreesState, Change}
 use Rattle.jc_answers.specs.Said.{HasFailedCall}
-use Rattle.jc_answers.specs.declared.answer.Answer.{Answer}
+use Rattle.jc_answers.specs.declared.judged.Said.{Said}
 use Rattle.jc_answers.specs.declared.answer.Answer.TheVariants as answers
 use Rattle.jc_losses.specs.Ground.{size_of_ground, IsGround}
 use Rattle.jc_losses.specs.declared.grounds.Ground.{Ground}
@@ -31,7 +31,7 @@ FailsAmong c trees (trees_errors.Fault name) = HasFailedCall c trees name
 FailsAmong c trees trees_errors.Memory = Unit {0}
 
 -- what is said of a tree that isn't read, or why nothing is
-abbrev pub error_said : TreesError → Result Answer TreesError
-error_said (trees_errors.Unread name fault) = Ok (answers.Refused (stops.Unread names.Client fault))
+abbrev pub error_said : TreesError → Result Said TreesError
+error_said (trees_errors.Unread name fault) = Ok (record { answer = answers.Refused (stops.Unread names.Client fault); explained = [] })
 error_said (trees_errors.Fault name) = Err (trees_errors.Fault name)
 error_said trees_errors.Memory = Err trees_errors.Memory

@@ -68,9 +68,36 @@ $ clients --platform P --old O --new N A
 > clients: 1 clients, 0 broken, 0 refused
 ";
 
+const USED: &str = r#"$ clients --platform P --old O --new N --used A B
+: P java/lang/Object init
+#1 a class that is gone, and a new final method that a class of the second client declares: its number follows that of the finding
+: O p/A init | O p/B init | N p/A init method=11:close:()V | A q/B extends=p/B init | B q/A extends=p/A init method=1:close:()V
+> client 1 class q/B NoClassDefFoundError 1 | client 1 breaks: 1 classes, 1 outcomes, 0 errors before, 1 lost
+> client 2 class q/A IncompatibleClassChangeError 2 | client 2 breaks: 1 classes, 1 outcomes, 0 errors before, 1 lost
+> used 1 1 H1 p/B - class - NoClassDefFoundError | used 1 2 Final p/A close()V override - IncompatibleClassChangeError
+> clients: 2 clients, 2 broken, 0 refused
+#1 a seal that permits fewer, of a class with a new final method, of which there is no line, though one that it still permits declares it
+: O p/S sealed permits=q/C permits=q/D init | N p/S sealed permits=q/C init method=11:close:()V | A q/C extends=p/S init method=1:close:()V | B q/D extends=p/S init
+> client 1 class q/C IncompatibleClassChangeError - | client 1 breaks: 1 classes, 1 outcomes, 0 errors before, 1 lost
+> client 2 class q/D IncompatibleClassChangeError 1 | client 2 breaks: 1 classes, 1 outcomes, 0 errors before, 1 lost
+> used 1 1 H2 p/S - extend - IncompatibleClassChangeError
+> clients: 2 clients, 2 broken, 0 refused
+#1 lines that explain nothing aren't printed, and a client that isn't linked has none : O p/A init | O p/B init | N p/C init | A p/A init | B q/B extends=p/B init
+> client 1 jcompat: client: name p/A declared
+> client 2 class q/B NoClassDefFoundError 2 | client 2 breaks: 1 classes, 1 outcomes, 0 errors before, 1 lost
+> used 1 2 H1 p/B - class - NoClassDefFoundError
+> clients: 2 clients, 1 broken, 1 refused
+#1 the same as JSON
+$ clients --platform P --old O --new N --used --json A
+: O p/A init | O p/B init | N p/C init | A q/B extends=p/B init
+> {"clients":[{"classes":1,"errors":0,"lost":[{"class":"q/B","error":"NoClassDefFoundError","explained":2,"member":null,"name":null,"operation":null,"receiver":null}],"number":1,"outcomes":1,"refusal":null}],"total":{"broken":1,"clients":1,"refused":0},"used":[{"class":"p/B","clients":1,"error":"NoClassDefFoundError","member":null,"number":2,"operation":"class","rule":"H1","seat":null}]}
+#3 a new release that declares a name of the platform, before the verdict : P p/A init | N p/A init ! jcompat: new: overlap p/A
+#4 a second client that isn't listed, behind the verdict, trees=6 ! jcompat: client 2: read fault
+"#;
+
 #[test]
 fn clients_of_two_releases_are_judged(rt: HostRuntime) {
-    for table in [ROWS, WORDS, DOCUMENTS, MODULES] {
+    for table in [ROWS, WORDS, DOCUMENTS, MODULES, USED] {
         see_table(&rt, table);
     }
 }

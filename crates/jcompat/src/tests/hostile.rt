@@ -124,11 +124,16 @@ fn see_chain(rt: &impl Host, own: &str, count: u32, is_kept: bool) {
 const BROKEN: &str = "7 a long chain of classes, and the same without the chain
 ! jcompat: limit findings";
 
+const ASKED: &str = "7 the same for the lines that explain what clients lose
+$ clients --platform P --old O --new N --used A
+! jcompat: limit findings";
+
 const KEPT: &str = "0 a long chain of classes
 > compatible: 0 findings, 0 collisions, 0 notes";
 
 #[test]
 fn a_long_chain_of_classes(rt: HostRuntime) {
     see_chain(&rt, BROKEN, 1_500, false);
+    see_chain(&rt, ASKED, 1_500, false);
     see_chain(&rt, KEPT, 2_000, true);
 }

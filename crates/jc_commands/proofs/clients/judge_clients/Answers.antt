@@ -54,11 +54,13 @@ returns-in-Err-judge_trees-clause-stopped g c =
     (map tree_of c.as_slice-2.result.now) (ap (map tree_of) c.as_slice-2.ensures.value ∙ (rw c.as_slice.ensures.value at c.in-Ok-trees_of_each_client.ensures))
     c.stop_of-in-Err-judge_trees.result c.in-Err-judge_trees.error c.stop_of-in-Err-judge_trees.ensures c.in-Err-judge_trees.ensures.stopped
 
-pub returns-in-Ok-of_answers-clause-report : goal.returns-in-Ok-of_answers-clause-report
-returns-in-Ok-of_answers-clause-report g c =
+pub returns-in-Ok-reported-clause-report : goal.returns-in-Ok-reported-clause-report
+returns-in-Ok-reported-clause-report g c =
     let taken = three_taken _ _ _ _ (all_kinds _ _ _ c.in-Ok.ensures.kinds c.trees_of_clients-wanted.ensures) _ _ c.take_records-platform.ensures _ _ c.take_release-old.ensures.read _ _ c.take_release-new.ensures.read in
+    let is = ap (map tree_of) c.as_slice-2.ensures.value ∙ (rw c.as_slice.ensures.value at c.in-Ok-trees_of_each_client.ensures) in
     answers_reported (clients_of c.args.asked.now) (change g.T.Trees.state c.args.trees.now c.read_trees.new.trees) _ c.trees_of_clients-wanted.ensures
     _ _ c.take_release-old.result c.take_release-new.result taken c.in-Ok.ensures.read c.in-Ok-two_sides.sides c.in-Ok-two_sides.ensures.sides
-    (map tree_of c.as_slice-2.result.now) (ap (map tree_of) c.as_slice-2.ensures.value ∙ (rw c.as_slice.ensures.value at c.in-Ok-trees_of_each_client.ensures))
-    c.in-Ok-judge_trees.answers.items (λ files told. c.in-Ok-judge_trees.ensures.said files (c.in-Ok.ensures.content ∙ told))
-    _ c.in-Ok-of_answers.ensures.shown ((rw c.as_slice-3.ensures.value at c.in-Ok-of_answers.ensures.tells) (clients_of c.args.asked.now) refl)
+    (map tree_of c.as_slice-2.result.now) is
+    c.in-Ok-judge_trees.said.answers.items (λ files told. c.in-Ok-judge_trees.ensures.said files (c.in-Ok.ensures.content ∙ told))
+    c.in-Ok-judge_trees.said.explained.items (λ files told. rw c.lent.ensures at (c.in-Ok-judge_trees.ensures.numbered files (c.in-Ok.ensures.content ∙ told)))
+    _ c.in-Ok-reported.ensures.shown (c.in-Ok-reported.ensures.tells (clients_of c.args.asked.now) refl)
