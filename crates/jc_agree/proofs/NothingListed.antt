@@ -43,7 +43,7 @@ use Rattle.jc_calls.specs.Access.{access_added, allows_less_access, is_called_ab
 use Rattle.jc_calls.specs.Constants.{constants_added, gets_constant, gets_objects, has_constant, permits_more}
 use Rattle.jc_calls.specs.Joins.{join_lost}
 use Rattle.jc_calls.specs.Lines.{is_due, LineStands}
-use Rattle.jc_calls.specs.Handles.{are_public}
+use Rattle.jc_calls.specs.Handles.{are_referable}
 use Rattle.jc_calls.specs.References.{are_of_open, is_handle_lost, is_of_open, is_open_to_some, is_told, reference_lost}
 use Rattle.jc_dropped.specs.Dropped.{is_held, asks_for, has_lost, loses_interface, loses_above, is_dropped, IsDropped}
 use Rattle.jc_calls.proofs.Parted.{IsParted, parted}
@@ -196,7 +196,7 @@ module _ (O N : World) (alike : IsAlike O N) where
       ))
     where
       lost : (what : Act) → are_of_open O what x k ≡ are_of_open N what x k → is_handle_lost O N x k what ≡ false
-      lost what e = apart (is_open_to_some O N x k what && are_public O what x k) (are_of_open O what x k) (are_of_open N what x k) e
+      lost what e = apart (is_open_to_some O N x k what && are_referable O what x k) (are_of_open O what x k) (are_of_open N what x k) e
 
   no_access : (x : Bytes) (k : Key) → access_added O N x k ≡ false
   unfolding access_added

@@ -2,9 +2,10 @@
 use Rattle.std.proofs.Common.{◌≡◌, ◌<◌, ℕ, Bool, true, false, not, ◌||◌, ◌&&◌, ◌==◌, List, [], ◌∷◌, refl, sym, ◌∙◌, ap, subst, Option, Some, None, ◌⊎◌, inl, inr}
 use Rattle.std.specs.List.{list_all, Contains}
 use Rattle.std.proofs.lemmas.Bool.{or_cases, eqb-true, not-true}
+use Rattle.jc_calls.specs.Handles.{is_referable}
 use Rattle.jc_facts.specs.declared.class_facts.ClassFacts.{ClassFacts}
 use Rattle.jc_facts.specs.declared.key.Key.{Key}
-use Rattle.jc_facts.specs.Flags.{interface_flag, public_flag}
+use Rattle.jc_facts.specs.Flags.{interface_flag}
 use Rattle.jc_facts.specs.Names.{Bytes, same, object_name}
 use Rattle.jc_facts.specs.Options.{or_else, and_then, some_and}
 use Rattle.jc_facts.specs.world.Assignment.{is_interface_of}
@@ -22,20 +23,17 @@ use Rattle.jc_index.specs.Sides.{IsSide}
 use Rattle.jc_index.specs.declared.ids.Found.{Found}
 use Rattle.jc_index.proofs.Aboves.{same_number}
 use Rattle.jc_index.proofs.Choices.{IsOne, one_of, choices_declared}
-use Rattle.jc_index.proofs.Sides.{root_at, side_valid}
+use Rattle.jc_index.proofs.Sides.{root_at}
 use Rattle.jc_index.proofs.Strictly.{above_good, no_circle}
 use Rattle.jc_lemmas.proofs.Bools.{contradicts, neither_first, neither_last}
-use Rattle.jc_lemmas.proofs.Listed.{EachOf, EachOf-map, each_from, each_in, here, there, none}
+use Rattle.jc_lemmas.proofs.Listed.{EachOf, each_from, each_in, here, there, none}
 use Rattle.jc_rows.specs.Rows.{choices_by, lookup_choices}
 use Rattle.jc_rows.specs.steps.Fronts.{front_by, front_method}
 use Rattle.jc_rows.proofs.MethodsAbove.{owner_of, the_one, super_is_class, of_object}
 use Rattle.jc_worlds.proofs.Above.{chain-each}
-use Rattle.jc_promises.specs.rule.Bases.{is_key_of_method}
-use Rattle.jc_desc.specs.Names.{is_init_name, is_clinit_name}
-use Rattle.jc_worlds.proofs.Inherited.{superinterface_choices-public}
 use Rattle.jc_worlds.proofs.Loaded.{loads-parts, loads-induction}
 use Rattle.jc_worlds.proofs.Unrolled.{chain-unroll}
-use Rattle.jc_call_lines.specs.steps.Openly.{open_class, is_owner_open, owners_open, is_said_open, choices_open, finds_public}
+use Rattle.jc_call_lines.specs.steps.Openly.{open_class, is_owner_open, owners_open, is_said_open, choices_open, finds_referable, are_flags_fit}
 use Rattle.jc_call_lines.proofs.OpenAbove.{all_each, not_all, only_last}
 
 -- ---- the front
@@ -142,12 +140,12 @@ module _ (W : World) where
           go (inr n) = contradicts (is_interface_of W (name_at W f.owner)) (above_good W x (name_at W f.owner) loads up).1 n
           go (inl e) = no_circle W side x loads (subst (λ y. is_interface_of W y ≡ true) e (above_good W x (name_at W f.owner) loads up).1) (subst (λ y. is_superinterface W x y ≡ true) e up)
 
-      pub front_can : open_class W (name_at W f.owner) ≡ true → (name_at W f.owner ≡ x) ⊎ (is_interface_of W (name_at W f.owner) ≡ false) → true ≡ owners_open W x k
+      pub front_passes : (p : DeclaredMember → Bool) → ((m : DeclaredMember) → IsFound W f m → p m ≡ true) → (name_at W f.owner ≡ x) ⊎ (is_interface_of W (name_at W f.owner) ≡ false) → true ≡ list_all p (lookup_choices W x k)
       unfolding or_choices
-      front_can o t = sym (ap (list_all (is_owner_open W)) (front_or W x k) ∙ go (front_method W x k) (subst (IsChoice W (Some f)) (front_or W x k) c))
+      front_passes p o t = sym (ap (list_all p) (front_or W x k) ∙ go (front_method W x k) (subst (IsChoice W (Some f)) (front_or W x k) c))
         where
-          go : (v : Option DeclaredMember) → IsChoice W (Some f) (or_choices v (superinterface_choices W x k)) → list_all (is_owner_open W) (or_choices v (superinterface_choices W x k)) ≡ true
-          go (Some m) h = only_last (is_owner_open W m) ∙ ap (open_class W) (sym (the_one W f m (superinterface_choices W x k) h).owner) ∙ o
+          go : (v : Option DeclaredMember) → IsChoice W (Some f) (or_choices v (superinterface_choices W x k)) → list_all p (or_choices v (superinterface_choices W x k)) ≡ true
+          go (Some m) h = only_last (p m) ∙ o m (the_one W f m (superinterface_choices W x k) h)
           go None h = absurd (below t h.0 h.1 h.2)
 
       -- it is one
@@ -166,15 +164,15 @@ module _ (W : World) where
 -- ---- by numbers
 
 module _ (W : World) (side : IsSide W) (a : ℕ) (l : a < size W) (loads : load_fault W (name_at W a) ≡ None) (k : Key) (f : Found) (c : IsChoice W (Some f) (lookup_choices W (name_at W a) k)) (below : f.owner < size W) where
-  pub front_said : (b : Bool) → b ≡ (f.owner == a || not (is_interface_of W (name_at W f.owner))) → b ≡ true → open_class W (name_at W f.owner) ≡ true → true ≡ owners_open W (name_at W a) k
-  front_said b e t o = front_can W side (name_at W a) loads k f c o (go (or_cases (f.owner == a) (not (is_interface_of W (name_at W f.owner))) (sym e ∙ t)))
+  pub front_holds : (p : DeclaredMember → Bool) → ((m : DeclaredMember) → IsFound W f m → p m ≡ true) → (b : Bool) → b ≡ (f.owner == a || not (is_interface_of W (name_at W f.owner))) → b ≡ true → true ≡ list_all p (lookup_choices W (name_at W a) k)
+  front_holds p o b e t = front_passes W side (name_at W a) loads k f c p o (go (or_cases (f.owner == a) (not (is_interface_of W (name_at W f.owner))) (sym e ∙ t)))
     where
       go : ((f.owner == a) ≡ true) ⊎ (not (is_interface_of W (name_at W f.owner)) ≡ true) → (name_at W f.owner ≡ name_at W a) ⊎ (is_interface_of W (name_at W f.owner) ≡ false)
       go (inl p) = inl (ap (name_at W) (eqb-true f.owner a p))
       go (inr p) = inr (not-true (is_interface_of W (name_at W f.owner)) p)
 
-  pub above_said : (b r : Bool) → b ≡ (f.owner == a || not (is_interface_of W (name_at W f.owner))) → b ≡ false → r ≡ list_all (is_owner_open W) (superinterface_choices W (name_at W a) k) → r ≡ owners_open W (name_at W a) k
-  above_said b r e t h = h ∙ sym (ap (list_all (is_owner_open W)) (above_only W side (name_at W a) loads k f c other kind))
+  pub above_holds : (p : DeclaredMember → Bool) (b r : Bool) → b ≡ (f.owner == a || not (is_interface_of W (name_at W f.owner))) → b ≡ false → r ≡ list_all p (superinterface_choices W (name_at W a) k) → r ≡ list_all p (lookup_choices W (name_at W a) k)
+  above_holds p b r e t h = h ∙ sym (ap (list_all p) (above_only W side (name_at W a) loads k f c other kind))
     where
       n : (f.owner == a || not (is_interface_of W (name_at W f.owner))) ≡ false
       n = sym e ∙ t
@@ -188,6 +186,9 @@ module _ (W : World) (side : IsSide W) (a : ℕ) (l : a < size W) (loads : load_
           go : (v : Bool) → is_interface_of W (name_at W f.owner) ≡ v → not v ≡ false → v ≡ true
           go true q p = refl
           go false q p = absurd (let clash : true ≡ false = p in cc)
+
+  pub front_said : (b : Bool) → b ≡ (f.owner == a || not (is_interface_of W (name_at W f.owner))) → b ≡ true → open_class W (name_at W f.owner) ≡ true → true ≡ owners_open W (name_at W a) k
+  front_said b e t o = front_holds (is_owner_open W) (λ m i. ap (open_class W) (sym i.owner) ∙ o) b e t
 
   pub shut_said : (b : Bool) → b ≡ open_class W (name_at W f.owner) → b ≡ false → false ≡ owners_open W (name_at W a) k
   shut_said b e t = one_shut W side (name_at W a) loads k f c (sym e ∙ t)
@@ -226,28 +227,25 @@ module _ (W : World) (x : Bytes) (loads : load_fault W x ≡ None) (k : Key) whe
   pub by_owner : (f : Found) → IsChoice W (Some f) (lookup_choices W x k) → (b r : Bool) → b ≡ is_interface_of W x → b ≡ false → r ≡ (is_interface_of W (name_at W f.owner) || open_class W (name_at W f.owner)) → r ≡ choices_open W x k
   by_owner f c b r e t h = h ∙ class_said f c (sym e ∙ t)
 
--- ---- what is public
+-- ---- of what javac makes handles
 
-module _ (W : World) (side : IsSide W) (x : Bytes) (loads : load_fault W x ≡ None) (k : Key) (method : is_key_of_method k ≡ true) where
-  abbrev is_open : DeclaredMember → Bool
-  is_open m = public_flag m.member.flags
+some_there : (ms : List DeclaredMember) (m : DeclaredMember) → Contains ms m → not (are_none ms) ≡ true
+some_there [] m h = absurd (none m h)
+some_there (n ∷ ms) m h = refl
 
-  above_public : EachOf (λ m. is_open m ≡ true) (superinterface_choices W x k)
-  above_public = EachOf-map (λ m p. p.0) (superinterface_choices W x k) (superinterface_choices-public W (side_valid W side) x k loads (neither_last (is_init_name k.name) (is_clinit_name k.name) (not-true (is_init_name k.name || is_clinit_name k.name) method)))
+pub nothing_referable : (W : World) (x : Bytes) (k : Key) → IsChoice W None (lookup_choices W x k) → false ≡ finds_referable W x k
+nothing_referable W x k h = sym (ap (λ ms. not (are_none ms) && list_all is_referable ms) h)
 
-  some_there : (ms : List DeclaredMember) (m : DeclaredMember) → Contains ms m → not (are_none ms) ≡ true
-  some_there [] m h = absurd (none m h)
-  some_there (n ∷ ms) m h = refl
+-- one is found, so that all decide
+all_decide : (W : World) (x : Bytes) (k : Key) (f : Found) → IsChoice W (Some f) (lookup_choices W x k) → list_all is_referable (lookup_choices W x k) ≡ finds_referable W x k
+all_decide W x k f c = sym (ap (λ b. b && list_all is_referable (lookup_choices W x k)) (some_there (lookup_choices W x k) c.0 c.1))
 
-  pub public_said : (f : Found) → IsChoice W (Some f) (lookup_choices W x k) → public_flag f.flags ≡ finds_public W x k
-  unfolding or_choices
-  public_said f c = sym (ap (λ ms. not (are_none ms) && list_all is_open ms) (front_or W x k) ∙ go (front_method W x k) (subst (IsChoice W (Some f)) (front_or W x k) c))
-    where
-      go : (v : Option DeclaredMember) → IsChoice W (Some f) (or_choices v (superinterface_choices W x k)) → (not (are_none (or_choices v (superinterface_choices W x k))) && list_all is_open (or_choices v (superinterface_choices W x k))) ≡ public_flag f.flags
-      go (Some m) h = only_last (is_open m) ∙ ap public_flag (sym (the_one W f m (superinterface_choices W x k) h).flags)
-      go None h =
-          ap (λ b. b && list_all is_open (superinterface_choices W x k)) (some_there (superinterface_choices W x k) h.0 h.1) ∙ all_each is_open (superinterface_choices W x k) above_public
-          ∙ sym (ap public_flag h.2.flags ∙ each_in (λ m. is_open m ≡ true) (superinterface_choices W x k) h.0 above_public h.1)
+pub unfit_said : (W : World) (x : Bytes) (k : Key) (f : Found) → IsChoice W (Some f) (lookup_choices W x k) → (b : Bool) → b ≡ are_flags_fit f.flags → b ≡ false → false ≡ finds_referable W x k
+unfit_said W x k f c b e t = sym (not_all is_referable (lookup_choices W x k) c.0 c.1 (ap are_flags_fit (sym c.2.flags) ∙ sym e ∙ t)) ∙ all_decide W x k f c
 
-  pub nothing_public : IsChoice W None (lookup_choices W x k) → false ≡ finds_public W x k
-  nothing_public h = sym (ap (λ ms. not (are_none ms) && list_all is_open ms) h)
+module _ (W : World) (side : IsSide W) (a : ℕ) (l : a < size W) (loads : load_fault W (name_at W a) ≡ None) (k : Key) (f : Found) (c : IsChoice W (Some f) (lookup_choices W (name_at W a) k)) (below : f.owner < size W) where
+  pub front_fits : (b : Bool) → b ≡ (f.owner == a || not (is_interface_of W (name_at W f.owner))) → b ≡ true → are_flags_fit f.flags ≡ true → true ≡ finds_referable W (name_at W a) k
+  front_fits b e t o = front_holds W side a l loads k f c below is_referable (λ m i. ap are_flags_fit (sym i.flags) ∙ o) b e t ∙ all_decide W (name_at W a) k f c
+
+  pub above_fits : (b r : Bool) → b ≡ (f.owner == a || not (is_interface_of W (name_at W f.owner))) → b ≡ false → r ≡ list_all is_referable (superinterface_choices W (name_at W a) k) → r ≡ finds_referable W (name_at W a) k
+  above_fits b r e t h = above_holds W side a l loads k f c below is_referable b r e t h ∙ all_decide W (name_at W a) k f c

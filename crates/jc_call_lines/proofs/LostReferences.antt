@@ -8,7 +8,7 @@ use Rattle.jc_acts.specs.Seats.{all_seats}
 use Rattle.jc_acts.specs.declared.closed_act.ClosedAct.{ClosedAct}
 use Rattle.jc_acts.specs.steps.LookedUp.{use_at}
 use Rattle.jc_acts.proofs.Firsts.{seat_is}
-use Rattle.jc_calls.specs.Handles.{are_public, is_through_class}
+use Rattle.jc_calls.specs.Handles.{is_referable, are_referable, is_through_class}
 use Rattle.jc_calls.specs.References.{are_of_open, is_handle_lost, is_of_open, is_open_to_some, is_told, reference_lost}
 use Rattle.jc_facts.specs.declared.act.Act.{Act}
 use Rattle.jc_facts.specs.declared.act.Act.TheVariants as act
@@ -16,7 +16,7 @@ use Rattle.jc_facts.specs.declared.class_facts.ClassFacts.{ClassFacts}
 use Rattle.jc_facts.specs.declared.key.Key.{Key}
 use Rattle.jc_facts.specs.declared.link_error.LinkError.{LinkError}
 use Rattle.jc_facts.specs.declared.link_error.LinkError.TheVariants.{IncompatibleClassChangeError}
-use Rattle.jc_facts.specs.Flags.{static_flag, no_static_flag, public_flag, interface_flag}
+use Rattle.jc_facts.specs.Flags.{static_flag, no_static_flag, public_flag, synthetic_flag, interface_flag}
 use Rattle.jc_facts.specs.Names.{Bytes, object_name}
 use Rattle.jc_facts.specs.Options.{or_else, some_and}
 use Rattle.jc_facts.specs.client.Acts.{Form, MethodForm, InterfaceForm, form_of, is_act_on_static, is_put_act}
@@ -41,7 +41,7 @@ use Rattle.jc_rows.specs.Rows.{choices_by, lookup_choices}
 use Rattle.jc_sides.specs.Rules.{on_key}
 use Rattle.jc_sides.specs.SidesOf.{SidesOf, AreSides}
 use Rattle.jc_sound.proofs.OpenActs.{IsSeat, first_act-none, first_seat-passes}
-use Rattle.jc_call_lines.specs.steps.Openly.{is_said_open, choices_open, finds_public}
+use Rattle.jc_call_lines.specs.steps.Openly.{is_said_open, choices_open, finds_referable}
 
 -- ---- tests of lists
 
@@ -95,8 +95,8 @@ module _ (W : World) (x : Bytes) (k : Key) (what : Act) (b : Bool) (f : form_of 
       go true = refl
       go false = refl
 
-  public_is : is_interface_of W x ≡ b → are_public W what x k ≡ list_all (λ m. public_flag m.member.flags) (lookup_choices W x k)
-  public_is i = may_by (list_all (λ (m : DeclaredMember). public_flag m.member.flags)) i
+  referable_is : is_interface_of W x ≡ b → are_referable W what x k ≡ list_all is_referable (lookup_choices W x k)
+  referable_is i = may_by (list_all is_referable) i
 
   may_is : is_through_class what ≡ not b → is_interface_of W x ≡ b → are_of_open W what x k ≡ choices_open W x k
   may_is t i =
@@ -188,11 +188,11 @@ module _ (s : SidesOf) (x : Bytes) (k : Key) where
       go true i q false t = any_has (is_open_to_some s.old s.new x k) method_acts act.InvokeInterface at_interface (by act.InvokeInterface true refl i q t refl)
       go true i q true t = any_has (is_open_to_some s.old s.new x k) method_acts act.InvokeStaticInterface at_static_interface (by act.InvokeStaticInterface true refl i q (ap not t) refl)
 
-  abbrev are_all_public : Bool
-  are_all_public = list_all (λ m. public_flag m.member.flags) (lookup_choices s.old x k)
+  abbrev are_all_fit : Bool
+  are_all_fit = list_all is_referable (lookup_choices s.old x k)
 
-  -- where all is public, some act is open exactly where something is found
-  found_opens : (some_open && are_all_public) ≡ finds_public s.old x k
+  -- where javac makes handles of all, some act is open exactly where something is found
+  found_opens : (some_open && are_all_fit) ≡ finds_referable s.old x k
   found_opens = go (lookup_choices s.old x k) refl
     where
       both : (a b c : Bool) → (c ≡ true → a ≡ true) → b ≡ c && b → (a && b) ≡ b
@@ -203,11 +203,11 @@ module _ (s : SidesOf) (x : Bytes) (k : Key) where
       shut : lookup_choices s.old x k ≡ [] → some_open ≡ false
       shut e = any_none (is_open_to_some s.old s.new x k) method_acts (each_from (λ what. open_some what ≡ false) method_acts (λ what i. let b = each_in IsBy method_acts what each_by i in none_open what (nothing_open s.old x k what b.0 b.1 e)))
 
-      go : (ms : List DeclaredMember) → lookup_choices s.old x k ≡ ms → (some_open && are_all_public) ≡ finds_public s.old x k
-      go [] e = ap (λ b. b && are_all_public) (shut e) ∙ sym (ap (λ ms. not (are_none ms) && are_all_public) e)
+      go : (ms : List DeclaredMember) → lookup_choices s.old x k ≡ ms → (some_open && are_all_fit) ≡ finds_referable s.old x k
+      go [] e = ap (λ b. b && are_all_fit) (shut e) ∙ sym (ap (λ ms. not (are_none ms) && are_all_fit) e)
       go (m ∷ ms) e =
-          both some_open are_all_public (public_flag m.member.flags) (public_first m ms e) (ap (list_all (λ (n : DeclaredMember). public_flag n.member.flags)) e ∙ twice (public_flag m.member.flags) (list_all (λ (n : DeclaredMember). public_flag n.member.flags) ms) ∙ sym (ap (λ (ns : List DeclaredMember). public_flag m.member.flags && list_all (λ (n : DeclaredMember). public_flag n.member.flags) ns) e))
-          ∙ sym (ap (λ (ns : List DeclaredMember). not (are_none ns) && are_all_public) e)
+          both some_open are_all_fit (is_referable m) (λ r. public_first m ms e (and_parts (public_flag m.member.flags) (not (synthetic_flag m.member.flags)) r).0) (ap (list_all is_referable) e ∙ twice (is_referable m) (list_all is_referable ms) ∙ sym (ap (λ (ns : List DeclaredMember). is_referable m && list_all is_referable ns) e))
+          ∙ sym (ap (λ (ns : List DeclaredMember). not (are_none ns) && are_all_fit) e)
         where
           twice : (a b : Bool) → (a && b) ≡ (a && (a && b))
           twice true b = refl
@@ -231,7 +231,7 @@ module _ (s : SidesOf) (x : Bytes) (k : Key) where
   module _ (kind : is_interface_of s.old x ≡ is_interface_of s.new x) where
     -- what is asked of the class alone
     abbrev is_shut : Bool
-    is_shut = are_all_public && (choices_open s.old x k && not (choices_open s.new x k))
+    is_shut = are_all_fit && (choices_open s.old x k && not (choices_open s.new x k))
 
     one_handle : (what : Act) → IsBy what → is_handle_lost s.old s.new x k what ≡ (open_some what && is_shut)
     one_handle what by = go (open_some what) refl
@@ -244,21 +244,21 @@ module _ (s : SidesOf) (x : Bytes) (k : Key) where
 
         go : (o : Bool) → open_some what ≡ o → is_handle_lost s.old s.new x k what ≡ (open_some what && is_shut)
         go false e =
-            ap (λ t. ((t && are_public s.old what x k) && are_of_open s.old what x k) && not (are_of_open s.new what x k)) e
+            ap (λ t. ((t && are_referable s.old what x k) && are_of_open s.old what x k) && not (are_of_open s.new what x k)) e
             ∙ sym (ap (λ t. t && is_shut) e)
         go true e =
             let i : is_interface_of s.old x ≡ by.0 = open_kind what by.0 by.1 e in
-            ap (λ t. ((open_some what && t) && are_of_open s.old what x k) && not (are_of_open s.new what x k)) (public_is s.old x k what by.0 by.1 i)
-            ∙ ap (λ t. ((open_some what && are_all_public) && t) && not (are_of_open s.new what x k)) (may_is s.old x k what by.0 by.1 by.2 i)
-            ∙ ap (λ t. ((open_some what && are_all_public) && choices_open s.old x k) && not t) (may_is s.new x k what by.0 by.1 by.2 (sym kind ∙ i))
-            ∙ four (open_some what) are_all_public (choices_open s.old x k) (not (choices_open s.new x k))
+            ap (λ t. ((open_some what && t) && are_of_open s.old what x k) && not (are_of_open s.new what x k)) (referable_is s.old x k what by.0 by.1 i)
+            ∙ ap (λ t. ((open_some what && are_all_fit) && t) && not (are_of_open s.new what x k)) (may_is s.old x k what by.0 by.1 by.2 i)
+            ∙ ap (λ t. ((open_some what && are_all_fit) && choices_open s.old x k) && not t) (may_is s.new x k what by.0 by.1 by.2 (sym kind ∙ i))
+            ∙ four (open_some what) are_all_fit (choices_open s.old x k) (not (choices_open s.new x k))
 
-    handles : list_any (is_handle_lost s.old s.new x k) method_acts ≡ (finds_public s.old x k && (choices_open s.old x k && not (choices_open s.new x k)))
+    handles : list_any (is_handle_lost s.old s.new x k) method_acts ≡ (finds_referable s.old x k && (choices_open s.old x k && not (choices_open s.new x k)))
     handles =
         list_any-same (is_handle_lost s.old s.new x k) (λ what. open_some what && is_shut) method_acts
         (each_from (λ what. is_handle_lost s.old s.new x k what ≡ (open_some what && is_shut)) method_acts (λ what c. one_handle what (each_in IsBy method_acts what each_by c)))
         ∙ any_and (is_open_to_some s.old s.new x k) is_shut method_acts
-        ∙ three some_open are_all_public (choices_open s.old x k && not (choices_open s.new x k)) ∙ ap (λ b. b && (choices_open s.old x k && not (choices_open s.new x k))) found_opens
+        ∙ three some_open are_all_fit (choices_open s.old x k && not (choices_open s.new x k)) ∙ ap (λ b. b && (choices_open s.old x k && not (choices_open s.new x k))) found_opens
       where
         three : (a b c : Bool) → (a && (b && c)) ≡ ((a && b) && c)
         three true b c = refl
@@ -266,17 +266,17 @@ module _ (s : SidesOf) (x : Bytes) (k : Key) where
 
     -- what the code asks, in its order
     pub new_open : (n : Bool) → n ≡ choices_open s.new x k → n ≡ true → false ≡ list_any (is_handle_lost s.old s.new x k) method_acts
-    new_open n e t = sym (handles ∙ ap (λ v. finds_public s.old x k && (choices_open s.old x k && not v)) (sym e ∙ t) ∙ go (finds_public s.old x k) (choices_open s.old x k))
+    new_open n e t = sym (handles ∙ ap (λ v. finds_referable s.old x k && (choices_open s.old x k && not v)) (sym e ∙ t) ∙ go (finds_referable s.old x k) (choices_open s.old x k))
       where
         go : (a b : Bool) → (a && (b && false)) ≡ false
         go true true = refl
         go true false = refl
         go false b = refl
 
-    pub none_public : (p : Bool) → p ≡ finds_public s.old x k → p ≡ false → false ≡ list_any (is_handle_lost s.old s.new x k) method_acts
-    none_public p e t = sym (handles ∙ ap (λ v. v && (choices_open s.old x k && not (choices_open s.new x k))) (sym e ∙ t))
+    pub none_referable : (p : Bool) → p ≡ finds_referable s.old x k → p ≡ false → false ≡ list_any (is_handle_lost s.old s.new x k) method_acts
+    none_referable p e t = sym (handles ∙ ap (λ v. v && (choices_open s.old x k && not (choices_open s.new x k))) (sym e ∙ t))
 
-    pub by_old : (n p o : Bool) → n ≡ choices_open s.new x k → n ≡ false → p ≡ finds_public s.old x k → p ≡ true → o ≡ choices_open s.old x k → o ≡ list_any (is_handle_lost s.old s.new x k) method_acts
+    pub by_old : (n p o : Bool) → n ≡ choices_open s.new x k → n ≡ false → p ≡ finds_referable s.old x k → p ≡ true → o ≡ choices_open s.old x k → o ≡ list_any (is_handle_lost s.old s.new x k) method_acts
     by_old n p o e f g h q =
         q ∙ sym (handles ∙ ap (λ v. v && (choices_open s.old x k && not (choices_open s.new x k))) (sym g ∙ h) ∙ ap (λ v. choices_open s.old x k && not v) (sym e ∙ f) ∙ go (choices_open s.old x k))
       where
@@ -289,9 +289,9 @@ module _ (s : SidesOf) (x : Bytes) (k : Key) where
   -- the act of a handle that is lost was open
   was_open : (what : Act) → is_handle_lost s.old s.new x k what ≡ true → open_some what ≡ true
   was_open what h =
-      let p = and_parts (open_some what && are_public s.old what x k && are_of_open s.old what x k) (not (are_of_open s.new what x k)) h in
-      let q = and_parts (open_some what && are_public s.old what x k) (are_of_open s.old what x k) p.0 in
-      (and_parts (open_some what) (are_public s.old what x k) q.0).0
+      let p = and_parts (open_some what && are_referable s.old what x k && are_of_open s.old what x k) (not (are_of_open s.new what x k)) h in
+      let q = and_parts (open_some what && are_referable s.old what x k) (are_of_open s.old what x k) p.0 in
+      (and_parts (open_some what) (are_referable s.old what x k) q.0).0
 
   -- where a reference is lost
   pub record IsLost : Type 0 where

@@ -6,9 +6,9 @@ ghost use Rattle.jc_facts.specs.world.Loading.{load_fault};
 ghost use Rattle.jc_index.specs.Ids.{name_at};
 ghost use Rattle.jc_index.specs.declared.ids.Found.{Found};
 ghost use Rattle.jc_index.specs.steps.Choosing.{candidate_at, rival_at, has_rival_below, first_at, FindsAbove};
-ghost use Rattle.jc_call_lines.specs.steps.Openly.{hidden_at, hidden_offer, other_best};
+ghost use Rattle.jc_call_lines.specs.steps.Openly.{are_flags_fit, hidden_at, hidden_offer, unfit_offer, other_best};
 
-use jc_facts::flags::is_abstract;
+use jc_facts::flags::{is_abstract, is_public, is_synthetic};
 use jc_facts::key::Key;
 use jc_index::ids::{ClassId, Found};
 use jc_index::own;
@@ -127,6 +127,45 @@ pub(crate) fn offered_hidden(table: &Table, class: ClassId, key: &Key) -> Option
     ensures { FindsAbove table.now (name_at table.now class) (hidden_offer table.now key.now) result }
 {
     choose(&HiddenOffer { key }, table, class)
+}
+
+// ---- those of which javac makes no handle
+
+/// Whether javac makes a handle of a reference to a method with these flags: it is public, and no bridge
+/// or other that a compiler made (JVMS 4.6).
+pub(crate) fn are_flags_fit(flags: u16) -> bool
+    ensures { result ≡ are_flags_fit flags }
+{
+    is_public(flags) && !is_synthetic(flags)
+}
+
+/// A method that the class declares neither private nor static, of which javac makes no handle.
+#[derive(Drop)]
+struct UnfitOffer<'k> {
+    key: &'k Key,
+}
+
+impl<'k> Choice for UnfitOffer<'k> {
+    ghost given = { λ choice W n. unfit_offer W choice.key.now n };
+
+    fn of(&self, table: &Table, id: ClassId) -> Option<Found> {
+        let Some(found) = candidate(table, id, self.key) else {
+            return None;
+        };
+        if are_flags_fit(found.flags) {
+            return None;
+        }
+        Some(found)
+    }
+}
+
+/// A method of the key that a superinterface of the class declares neither private nor static, of which
+/// javac makes no handle.
+pub(crate) fn offered_unfit(table: &Table, class: ClassId, key: &Key) -> Option<Found>
+    requires { class < size table.now }
+    ensures { FindsAbove table.now (name_at table.now class) (unfit_offer table.now key.now) result }
+{
+    choose(&UnfitOffer { key }, table, class)
 }
 
 // ---- those that are chosen before others

@@ -1,6 +1,7 @@
-//! What a reference finds: whether it is public, and whether clients can name the classes that declare it.
+//! What a reference finds: whether javac makes a handle of it, and whether clients can name the classes that declare it.
 ghost use Rattle.std.specs.Prelude.{◌≡◌, ◌<◌, ◌==◌, ◌||◌, None, Some, not, true, IsTrue};
 ghost use Rattle.std.specs.List.{list_all};
+ghost use Rattle.jc_calls.specs.Handles.{is_referable};
 ghost use Rattle.jc_facts.specs.Names.{Bytes};
 ghost use Rattle.jc_facts.specs.world.Assignment.{is_interface_of};
 ghost use Rattle.jc_facts.specs.world.Hierarchy.{in_chain};
@@ -10,13 +11,12 @@ ghost use Rattle.jc_facts.specs.world.World.{size};
 ghost use Rattle.jc_index.specs.Ids.{name_at};
 ghost use Rattle.jc_index.specs.Lookups.{IsChoice};
 ghost use Rattle.jc_index.specs.Picks.{Picks};
-ghost use Rattle.jc_promises.specs.rule.Bases.{is_key_of_method};
 ghost use Rattle.jc_rows.specs.Keys.{numbered_keys, IsNumber};
 ghost use Rattle.jc_rows.specs.Rows.{lookup_choices};
-ghost use Rattle.jc_call_lines.specs.steps.Openly.{open_class, is_owner_open, owners_open, choices_open, finds_public, AreOpenAbove};
+ghost use Rattle.jc_call_lines.specs.steps.Openly.{open_class, is_owner_open, owners_open, choices_open, finds_referable, AreOpenAbove};
 
-use crate::choice::{chosen_beside, hidden_above, offered_hidden};
-use jc_facts::flags::{is_abstract, is_interface, is_public};
+use crate::choice::{are_flags_fit, chosen_beside, hidden_above, offered_hidden, offered_unfit};
+use jc_facts::flags::{is_abstract, is_interface};
 use jc_facts::key::Key;
 use jc_index::choose;
 use jc_index::ids::{ClassId, Found};
@@ -189,20 +189,65 @@ pub(crate) fn are_choices_open(
     }
 }
 
-/// Whether a reference to the class or the interface finds a method of the key, and each that it may
-/// find is public. The class has to load, the key is no initializer's, and the number is the key's in
-/// the table. Where several may be found, all have the access of one.
-pub(crate) fn finds_public(table: &Table, class: ClassId, key: &Key, number: Option<usize>) -> bool
+// Whether javac makes handles of all that the superinterfaces give. Where it does of all that declare the
+// key, it does; else the method that is picked decides, as above.
+fn are_fit_above(table: &Table, class: ClassId, key: &Key) -> bool
     requires class { class < size table.now }
     requires loads { load_fault table.now (name_at table.now class) ≡ None }
-    requires key { IsTrue (is_key_of_method key.now) }
-    requires number { IsNumber (numbered_keys table.now) key.now number }
-    ensures { result ≡ finds_public table.now (name_at table.now class) key.now }
+    ensures { result ≡ list_all is_referable (superinterface_choices table.now (name_at table.now class) key.now) }
 {
     // A count says that the table stands for a side.
     let _classes = table.count();
+    let Some(_unfit) = offered_unfit(table, class, key) else {
+        return true;
+    };
+    let Some(found) = picked(table, class, key) else {
+        return true;
+    };
+    if is_abstract(found.flags) {
+        return false;
+    }
+    let None = chosen_beside(table, class, key, found.owner) else {
+        return false;
+    };
+    are_flags_fit(found.flags)
+}
+
+// Whether javac makes handles of all that a reference may find, of which this is one.
+fn is_found_referable(table: &Table, class: ClassId, key: &Key, found: Found) -> bool
+    requires class { class < size table.now }
+    requires loads { load_fault table.now (name_at table.now class) ≡ None }
+    requires owner { found.owner < size table.now }
+    requires found { IsChoice table.now (Some found) (lookup_choices table.now (name_at table.now class) key.now) }
+    ensures { result ≡ finds_referable table.now (name_at table.now class) key.now }
+{
+    // A count says that the table stands for a side.
+    let _classes = table.count();
+    if !are_flags_fit(found.flags) {
+        return false;
+    }
+    if is_front(table, class, found) {
+        return true;
+    }
+    are_fit_above(table, class, key)
+}
+
+/// Whether a reference to the class or the interface finds a method of the key, and javac makes a handle
+/// of each that it may find. The class has to load, and the number is the key's in the table. Mostly one
+/// method is found, of which the row tells the flags.
+pub(crate) fn finds_referable(
+    table: &Table,
+    class: ClassId,
+    key: &Key,
+    number: Option<usize>,
+) -> bool
+    requires class { class < size table.now }
+    requires loads { load_fault table.now (name_at table.now class) ≡ None }
+    requires number { IsNumber (numbered_keys table.now) key.now number }
+    ensures { result ≡ finds_referable table.now (name_at table.now class) key.now }
+{
     match found(table, class, key, number) {
         None => false,
-        Some(found) => is_public(found.flags),
+        Some(found) => is_found_referable(table, class, key, found),
     }
 }

@@ -8,16 +8,16 @@ ghost use Rattle.jc_calls.specs.References.{is_handle_lost, reference_lost};
 ghost use Rattle.jc_facts.specs.Exactly.{HasExactly};
 ghost use Rattle.jc_call_kinds.specs.declared.call_line.CallKind.TheVariants.{Reference};
 ghost use Rattle.jc_facts.specs.world.Assignment.{is_interface_of};
-ghost use Rattle.jc_promises.specs.rule.Bases.{is_key_of_method, is_steady};
+ghost use Rattle.jc_promises.specs.rule.Bases.{is_steady};
 ghost use Rattle.jc_promises.specs.rule.OpenActs.{method_acts};
 ghost use Rattle.jc_sides.specs.Numbering.{AreNumbers};
 ghost use Rattle.jc_sides.specs.Rules.{IsOf};
 ghost use Rattle.jc_sides.specs.SharedOf.{AreThose, IsShared, name_of};
 ghost use Rattle.jc_call_lines.specs.steps.Kinds.{AreOfKind, OfKind};
 ghost use Rattle.jc_call_lines.specs.steps.LostLines.{lost_line, reference_line};
-ghost use Rattle.jc_call_lines.specs.steps.Openly.{choices_open, finds_public, AreOpenAbove};
+ghost use Rattle.jc_call_lines.specs.steps.Openly.{choices_open, finds_referable, AreOpenAbove};
 
-use crate::openly::{are_choices_open, are_open_above, finds_public};
+use crate::openly::{are_choices_open, are_open_above, finds_referable};
 use jc_acts::members::method_closed;
 use jc_acts::seats::Seats;
 use jc_call_kinds::call_line::{CallKind, CallLine};
@@ -66,16 +66,15 @@ fn is_declared_openly(
     are_choices_open(sides.new, class.new, key, numbers.new)
 }
 
-// Whether the reference finds a method on the old side, and none that isn't public: then clients of each
-// seat could do the act, of which javac makes a handle.
-fn was_public(sides: &Sides<'_>, class: &Shared<'_>, key: &Key, numbers: &KeyNumbers) -> bool
+// Whether the reference finds a method on the old side, and none of which javac makes no handle: they are
+// public, so that clients of each seat could do the act.
+fn was_referable(sides: &Sides<'_>, class: &Shared<'_>, key: &Key, numbers: &KeyNumbers) -> bool
     requires class { IsShared sides.now «class».now }
     requires steady { IsTrue (is_steady sides.now.old sides.now.new (name_of «class».now)) }
-    requires key { IsTrue (is_key_of_method key.now) }
     requires numbers { AreNumbers sides.now key.now numbers.now }
-    ensures { result ≡ finds_public sides.now.old (name_of «class».now) key.now }
+    ensures { result ≡ finds_referable sides.now.old (name_of «class».now) key.now }
 {
-    finds_public(sides.old, class.old, key, numbers.old)
+    finds_referable(sides.old, class.old, key, numbers.old)
 }
 
 // Whether clients could take a handle of an act apart and no longer can, where the class is of one kind
@@ -84,14 +83,13 @@ fn is_handle_lost(sides: &Sides<'_>, class: &Shared<'_>, key: &Key, numbers: &Ke
     requires class { IsShared sides.now «class».now }
     requires steady { IsTrue (is_steady sides.now.old sides.now.new (name_of «class».now)) }
     requires kind { is_interface_of sides.now.old (name_of «class».now) ≡ is_interface_of sides.now.new (name_of «class».now) }
-    requires key { IsTrue (is_key_of_method key.now) }
     requires numbers { AreNumbers sides.now key.now numbers.now }
     ensures { result ≡ list_any (is_handle_lost sides.now.old sides.now.new (name_of «class».now) key.now) method_acts }
 {
     if is_declared_openly(sides, class, key, numbers) {
         return false;
     }
-    if !was_public(sides, class, key, numbers) {
+    if !was_referable(sides, class, key, numbers) {
         return false;
     }
     was_declared_openly(sides, class, key, numbers)
@@ -265,7 +263,7 @@ fn of_classes(
 
 /// The lines on method references that no longer link, in byte order of the classes' names, then by key,
 /// where they are within the limit, and None where they are more: a class that clients could and can
-/// still use, and a public method that they could and can still call through it, where each class that
+/// still use, and a public method, no bridge, that they could and can still call through it, where each class that
 /// was said to declare what the reference finds was one that they can name, and one that is said to
 /// declare what it finds now isn't (JVMS 5.4.3.5, 5.4.4). Past the limit no more lines are made than
 /// what one class adds.

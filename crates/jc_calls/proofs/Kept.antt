@@ -50,9 +50,9 @@ use Rattle.jc_sound.proofs.Standing.{IsUsable, all_quiet, stays_steady, stays_us
 use Rattle.jc_sound.proofs.Uses.{open-from, seat_use}
 use Rattle.jc_sound.proofs.ClientNames.{free_old, free_new, free_parts}
 use Rattle.jc_calls.specs.CallsKept.{ReferencesStay}
-use Rattle.jc_calls.specs.Handles.{handle_item, handle_ok, are_public}
+use Rattle.jc_calls.specs.Handles.{handle_item, handle_ok, are_referable}
 use Rattle.jc_calls.specs.References.{is_open_to_some, is_handle_lost, is_told, are_of_open, reference_lost}
-use Rattle.jc_calls.proofs.Openly.{handle_is, public_side}
+use Rattle.jc_calls.proofs.Openly.{handle_is, referable_side}
 
 -- ---- on the sides
 
@@ -68,13 +68,13 @@ module _ (O N : World) (c : Bytes) (k : Key) (mk : is_key_of_method k ≡ true) 
           contradicts (is_key_of_method k && is_steady O N c && list_any (is_handle_lost O N c k) method_acts && not (is_told O N c k)) all kept)
 
   -- what a seat could do, and was public and of classes that clients can name, still is of such
-  pub stays_open : (what : Act) → Contains method_acts what → is_open_to_some O N c k what ≡ true → are_public O what c k ≡ true → are_of_open O what c k ≡ true → are_of_open N what c k ≡ true
+  pub stays_open : (what : Act) → Contains method_acts what → is_open_to_some O N c k what ≡ true → are_referable O what c k ≡ true → are_of_open O what c k ≡ true → are_of_open N what c k ≡ true
   stays_open what i o p h = go (are_of_open N what c k) refl
     where
       go : (b : Bool) → are_of_open N what c k ≡ b → b ≡ true
       go true e = refl
       go false e = absurd (
-          let all : (is_open_to_some O N c k what && are_public O what c k && are_of_open O what c k && not (are_of_open N what c k)) ≡ true = rw (o, p, h, e) refl in
+          let all : (is_open_to_some O N c k what && are_referable O what c k && are_of_open O what c k && not (are_of_open N what c k)) ≡ true = rw (o, p, h, e) refl in
           contradicts (is_handle_lost O N c k what) all (not_any (is_handle_lost O N c k) method_acts what none_lost i))
 
 -- ---- of a client
@@ -202,9 +202,9 @@ references_stay O N v pair verdict empty none cs scope met X what t k h l w one 
     let un = usable_parts N t now in
     let was : (is_none (outcome W X.facts.name (handle_item what t k)) && are_of_open O what t k) ≡ true = sym (handle_is O F g.fo X.facts.name X.facts kx free what t k n kt root uo.loaded) ∙ ok in
     let opened : are_of_open O what t k ≡ true = (and_parts (is_none (outcome W X.facts.name (handle_item what t k))) (are_of_open O what t k) was).1 in
-    let public : are_public O what t k ≡ true = public_side O F g.fo what t k n kt root uo.loaded ∙ p in
+    let plain : are_referable O what t k ≡ true = referable_side O F g.fo what t k n kt root uo.loaded ∙ p in
     let mk : is_key_of_method k ≡ true = subst (λ b. (b || is_key_of_method k) ≡ true) on.1 fine in
     let untold : is_told O N t k ≡ false = ap (λ o. is_some {T = Finding} o) (nothing (record { rule = METHOD_CLOSED; «class» = t; key = Some k; target = None })) in
-    let still : are_of_open N what t k ≡ true = stays_open O N t k mk (stays_steady O N q t us) untold (none t k) what one (open_to_some O N cs g X kx lx free what t k n kt links) public opened in
+    let still : are_of_open N what t k ≡ true = stays_open O N t k mk (stays_steady O N q t us) untold (none t k) what one (open_to_some O N cs g X kx lx free what t k n kt links) plain opened in
     let goes : outcome (with_clients N F) X.facts.name (handle_item what t k) ≡ None = (keeps O N v cs pair verdict empty scope met).uses X (handle_item what t k) h l w refl links in
     handle_is N F g.fn X.facts.name X.facts kx (free_new O N X.facts.name name) what t k n kt root un.loaded ∙ and_from (is_none (outcome (with_clients N F) X.facts.name (handle_item what t k))) (are_of_open N what t k) (ap (λ o. is_none {T = LinkError} o) goes) still

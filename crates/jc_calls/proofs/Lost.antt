@@ -54,10 +54,10 @@ use Rattle.jc_complete.proofs.PlanSeats.{side_plain}
 use Rattle.jc_complete.proofs.PlanUser.{user_overrides}
 use Rattle.jc_complete.proofs.PlanUses.{kept_usable}
 use Rattle.jc_complete.proofs.PlanValid.{use_nothing, with_use}
-use Rattle.jc_calls.specs.Handles.{handle_item, are_public}
+use Rattle.jc_calls.specs.Handles.{handle_item, are_referable}
 use Rattle.jc_calls.specs.References.{is_open_to_some, is_handle_lost, is_told, are_of_open, reference_lost}
 use Rattle.jc_calls.specs.Lost.{SomeClientLosesHandle, EachReferenceIsLost}
-use Rattle.jc_calls.proofs.Openly.{handle_is, public_side}
+use Rattle.jc_calls.proofs.Openly.{handle_is, referable_side}
 
 -- what is Ok of some receiver is Ok where nothing is known of it
 pub any_receiver : (V : World) (x : Bytes) (what : Act) (t : Bytes) (k : Key) (r : Option Bytes) → outcome V x (item.Access what t k r Other) ≡ None → outcome V x (handle_item what t k) ≡ None
@@ -85,7 +85,7 @@ any_receiver V x what t k r o =
     loose m e = either (not (is_special what) || is_direct_super V x t) (is_act_on_static what) _ e
 
 module _ (O N : World) (w : Bytes) (r : Ready O N w) (a : Bytes) (b : IsBase O N a) (c : Bytes) (k : Key) (what : Act) (po : IsOpen O a c k what) (pn : IsOpen N a c k what) (is_method : form_of what ≡ FieldForm → ⊥)
-    (is_public : are_public O what c k ≡ true) (was : are_of_open O what c k ≡ true) (now : are_of_open N what c k ≡ false) where
+    (is_plain : are_referable O what c k ≡ true) (was : are_of_open O what c k ≡ true) (now : are_of_open N what c k ≡ false) where
   abbrev y : Bytes
   y = own_name O N (letter w 89) a
 
@@ -168,7 +168,7 @@ module _ (O N : World) (w : Bytes) (r : Ready O N w) (a : Bytes) (b : IsBase O N
     has = Contains-push (item.Init a (constructor O a) ∷ []) i;
     loads_new = loads_n;
     goes_on = links_n;
-    public = sym (public_side O (Yf ∷ []) fo what c k is_method (declared_library O (Yf ∷ []) fo c po.class.class po.class.is_there) (declared_library O (Yf ∷ []) fo object_name r.root r.old.there) po.class.loaded) ∙ is_public;
+    referable = sym (referable_side O (Yf ∷ []) fo what c k is_method (declared_library O (Yf ∷ []) fo c po.class.class po.class.is_there) (declared_library O (Yf ∷ []) fo object_name r.root r.old.there) po.class.loaded) ∙ is_plain;
     was = handle_is O (Yf ∷ []) fo y Yf named (free_name O y own.old.allowed_o) what c k is_method (declared_library O (Yf ∷ []) fo c po.class.class po.class.is_there) (declared_library O (Yf ∷ []) fo object_name r.root r.old.there) po.class.loaded
         ∙ and_from (is_none (outcome VO y i)) (are_of_open O what c k) (ap (λ o. is_none {T = LinkError} o) links_o) was;
     lost = handle_is N (Yf ∷ []) fn y Yf named (free_name N y own.old.allowed_n) what c k is_method (declared_library N (Yf ∷ []) fn c pn.class.class pn.class.is_there) (declared_library N (Yf ∷ []) fn object_name r.root r.new.there) pn.class.loaded
@@ -222,12 +222,12 @@ module _ (O N : World) (can : CanPlan O N) (c : Bytes) (k : Key) (h : reference_
 
   by_act : (what : Act) → Contains method_acts what → is_handle_lost O N c k what ≡ true → SomeClientLosesHandle O N c k
   by_act what i l =
-      let p = and_parts (is_open_to_some O N c k what && are_public O what c k && are_of_open O what c k) (not (are_of_open N what c k)) l in
-      let q = and_parts (is_open_to_some O N c k what && are_public O what c k) (are_of_open O what c k) p.0 in
-      let s = and_parts (is_open_to_some O N c k what) (are_public O what c k) q.0 in
+      let p = and_parts (is_open_to_some O N c k what && are_referable O what c k && are_of_open O what c k) (not (are_of_open N what c k)) l in
+      let q = and_parts (is_open_to_some O N c k what && are_referable O what c k) (are_of_open O what c k) p.0 in
+      let s = and_parts (is_open_to_some O N c k what) (are_referable O what c k) q.0 in
       go (first_seat O N (λ a. is_none (act_fault O a c k what))) refl s.0 s.1 q.1 (not-true (are_of_open N what c k) p.1)
     where
-      go : (o : Option Bytes) → first_seat O N (λ a. is_none (act_fault O a c k what)) ≡ o → is_some o ≡ true → are_public O what c k ≡ true → are_of_open O what c k ≡ true → are_of_open N what c k ≡ false → SomeClientLosesHandle O N c k
+      go : (o : Option Bytes) → first_seat O N (λ a. is_none (act_fault O a c k what)) ≡ o → is_some o ≡ true → are_referable O what c k ≡ true → are_of_open O what c k ≡ true → are_of_open N what c k ≡ false → SomeClientLosesHandle O N c k
       go None e s v u n = absurd (cc)
       go (Some a) e s v u n =
           let b : IsBase O N a = seat_base O N w r a (seat_of_first (λ a. is_none (act_fault O a c k what)) a e) in

@@ -26,7 +26,7 @@ use Rattle.jc_worlds.proofs.Sides.{method_choices-side, interface_choices-side}
 use Rattle.jc_worlds.proofs.VisibleFrom.{visible_from-client}
 use Rattle.jc_sound.proofs.MethodLooked.{interface_choices-declared}
 use Rattle.jc_complete.proofs.PlanLoads.{lib_find}
-use Rattle.jc_calls.specs.Handles.{handle_item, handle_ok, declares_openly, are_public, is_said_of_named}
+use Rattle.jc_calls.specs.Handles.{handle_item, handle_ok, declares_openly, is_referable, are_referable, is_said_of_named}
 use Rattle.jc_calls.specs.References.{is_of_open, are_of_open}
 use Rattle.jc_sound.proofs.ClientNames.{free_parts}
 
@@ -43,9 +43,9 @@ module _ (W : World) (cs : List ClassFacts) (fits : Fits W cs) where
   found_side MethodForm t k n l r h = method_choices-side W cs fits.bare fits.unused t k l h
   found_side InterfaceForm t k n l r h = interface_choices-side W cs fits.bare fits.unused t k l r h
 
-  -- and so is whether it is all public
-  pub public_side : (what : Act) (t : Bytes) (k : Key) → (form_of what ≡ FieldForm → ⊥) → class_named cs t ≡ None → class_named cs object_name ≡ None → load_fault W t ≡ None → are_public W what t k ≡ are_public (with_clients W cs) what t k
-  public_side what t k n l r h = ap (list_all (λ (m : DeclaredMember). public_flag m.member.flags)) (found_side (form_of what) t k n l r h)
+  -- and so is whether it is all public and no bridge
+  pub referable_side : (what : Act) (t : Bytes) (k : Key) → (form_of what ≡ FieldForm → ⊥) → class_named cs t ≡ None → class_named cs object_name ≡ None → load_fault W t ≡ None → are_referable W what t k ≡ are_referable (with_clients W cs) what t k
+  referable_side what t k n l r h = ap (list_all is_referable) (found_side (form_of what) t k n l r h)
 
   module _ (x : Bytes) (c : ClassFacts) (named : class_named cs x ≡ Some c) (free : is_free_name W x ≡ true) where
     pub accessible_is : (y : Bytes) (d : ClassFacts) → find_class W y ≡ Some d → is_class_accessible (with_clients W cs) x d ≡ (is_visible W d.name && public_flag d.flags)

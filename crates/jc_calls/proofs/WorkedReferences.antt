@@ -8,7 +8,7 @@ use Rattle.jc_facts.specs.Names.{Bytes, object_name}
 use Rattle.jc_facts.specs.world.World.{World, modular_side, with_clients}
 use Rattle.jc_facts.specs.client.Outcome.{outcome}
 use Rattle.jc_sound.proofs.Examples.{computes, init, key, member, a_class, plain, object, over, extending}
-use Rattle.jc_calls.specs.Handles.{handle_item, handle_ok, are_public}
+use Rattle.jc_calls.specs.Handles.{handle_item, handle_ok, are_referable}
 use Rattle.jc_calls.specs.References.{reference_lost}
 
 -- what these compute with
@@ -110,6 +110,18 @@ with_bridge : reference_lost (over (having p_A 0x21 p_H (m 1 ∷ []) ∷ having 
 unfolding refers
 with_bridge = refl
 
+-- where the bridge goes, and its method becomes final in the package-private class, no client loses a handle: javac had made a lambda
+abbrev old_bridge : World
+old_bridge = over (having p_A 0x21 p_H (m 0x1041 ∷ []) ∷ having p_H 0x20 object_name (m 1 ∷ []) ∷ [])
+
+abbrev new_bridge : World
+new_bridge = over (having p_A 0x21 p_H [] ∷ having p_H 0x20 object_name (m 0x11 ∷ []) ∷ [])
+
+bridge_goes : (reference_lost old_bridge new_bridge p_A m_key ≡ false) × (are_referable old_bridge InvokeVirtual p_A m_key ≡ false)
+    × (handle_ok (with_clients old_bridge (user ∷ [])) app_M InvokeVirtual p_A m_key ≡ true) × (handle_ok (with_clients new_bridge (user ∷ [])) app_M InvokeVirtual p_A m_key ≡ false)
+unfolding refers
+bridge_goes = (refl, refl, refl, refl)
+
 -- a protected one, which clients below p/A alone can call: javac makes a lambda of it, and only a handle would be lost
 abbrev old_protected : World
 old_protected = over (having p_A 0x21 p_H (m 0xC ∷ []) ∷ having p_H 0x20 object_name [] ∷ [])
@@ -117,7 +129,7 @@ old_protected = over (having p_A 0x21 p_H (m 0xC ∷ []) ∷ having p_H 0x20 obj
 abbrev new_protected : World
 new_protected = over (having p_A 0x21 p_H [] ∷ having p_H 0x20 object_name (m 0xC ∷ []) ∷ [])
 
-handle_protected : (reference_lost old_protected new_protected p_A m_key ≡ false) × (are_public old_protected InvokeStatic p_A m_key ≡ false)
+handle_protected : (reference_lost old_protected new_protected p_A m_key ≡ false) × (are_referable old_protected InvokeStatic p_A m_key ≡ false)
     × (handle_ok (with_clients old_protected (below ∷ [])) app_M InvokeStatic p_A m_key ≡ true) × (handle_ok (with_clients new_protected (below ∷ [])) app_M InvokeStatic p_A m_key ≡ false)
 unfolding refers
 handle_protected = (refl, refl, refl, refl)

@@ -1,7 +1,7 @@
 -- What clients keep of their method references, where none is lost.
 --     ReferencesKept O N cs      each handle that javac makes for the clients and that was Ok, named through a class of a library, is Ok
 --     ReferencesStay      so it is where the verdict has no finding and no reference is lost
--- Of a reference to a method that isn't public, as a protected one of a superclass in another package, and of super::m, which invokespecial calls, javac
+-- Of a reference to a method that isn't public, as a protected one of a superclass in another package, of one by a bridge, and of super::m, which invokespecial calls, javac
 -- makes a lambda. That calls the method, so no handle has to be taken apart but the lambda's own.
 -- Of handles named through a client's own class it isn't so: what such a one finds depends on the interfaces that the client names beside, and a
 -- public method that a package-private superclass of the library gets anew stands before that of a client's interface, breaks the handle, and is
@@ -20,7 +20,7 @@ use Rattle.jc_promises.specs.client.Meets.{Meets}
 use Rattle.jc_promises.specs.client.Scope.{IsInScope}
 use Rattle.jc_promises.specs.rule.Verdict.{IsVerdict}
 use Rattle.jc_promises.specs.rule.OpenActs.{method_acts}
-use Rattle.jc_calls.specs.Handles.{handle_item, handle_ok, are_public}
+use Rattle.jc_calls.specs.Handles.{handle_item, handle_ok, are_referable}
 use Rattle.jc_calls.specs.References.{reference_lost}
 
 -- no reference is lost
@@ -28,13 +28,13 @@ abbrev pub LoseNoReference : World → World → Type 0
 LoseNoReference O N = (c : Bytes) (k : Key) → reference_lost O N c k ≡ false
 
 -- each handle of an act on a method, one of four, that a client which loads has, named through a class that is no client, is Ok with the new release where
--- it is Ok with the old one, and all that it may find there is public
+-- it is Ok with the old one, and all that it may find there is public and no bridge
 abbrev pub ReferencesKept : World → World → List ClientClass → Type 0
 ReferencesKept O N cs =
     let before = with_clients O (facts_of cs) in
     let after = with_clients N (facts_of cs) in
     (c : ClientClass) (what : Act) (t : Bytes) (k : Key) → Contains cs c → load_fault before c.facts.name ≡ None → Contains c.items (handle_item what t k)
-    → Contains method_acts what → IsFalse (is_client before t) → IsTrue (are_public before what t k) → IsTrue (handle_ok before c.facts.name what t k) → IsTrue (handle_ok after c.facts.name what t k)
+    → Contains method_acts what → IsFalse (is_client before t) → IsTrue (are_referable before what t k) → IsTrue (handle_ok before c.facts.name what t k) → IsTrue (handle_ok after c.facts.name what t k)
 
 -- where the verdict has no finding and no reference is lost, so it is in each client world in scope that meets none of the collisions
 abbrev pub ReferencesStay : Type 0

@@ -13,11 +13,11 @@ use Rattle.jc_facts.specs.client.Valid.{facts_of}
 use Rattle.jc_promises.specs.client.Scope.{IsInScope}
 use Rattle.jc_promises.specs.rule.Bases.{allowed}
 use Rattle.jc_complete.specs.Completeness.{CanPlan, LinksWhole, MeetsNothing}
-use Rattle.jc_calls.specs.Handles.{handle_item, handle_ok, are_public}
+use Rattle.jc_calls.specs.Handles.{handle_item, handle_ok, are_referable}
 use Rattle.jc_calls.specs.References.{reference_lost}
 
 -- clients in scope, by allowed names, that link whole with the old release and meet no collision. One of them loads with the new one too, has an act
--- on the key of the class c, which stays Ok. Each method that it may find with the old one is public, as javac asks, and its handle was Ok and isn't
+-- on the key of the class c, which stays Ok. Each method that it may find with the old one is public and no bridge, as javac asks, and its handle was Ok and isn't
 pub record SomeClientLosesHandle (O N : World) (c : Bytes) (k : Key) : Type 0 where
   pub clients : List ClientClass
   pub in_scope : IsInScope O N clients
@@ -30,7 +30,7 @@ pub record SomeClientLosesHandle (O N : World) (c : Bytes) (k : Key) : Type 0 wh
   pub has : Contains client.items (handle_item act c k)
   pub loads_new : load_fault (with_clients N (facts_of clients)) client.facts.name ≡ None
   pub goes_on : Links (with_clients N (facts_of clients)) client.facts.name (handle_item act c k)
-  pub public : IsTrue (are_public (with_clients O (facts_of clients)) act c k)
+  pub referable : IsTrue (are_referable (with_clients O (facts_of clients)) act c k)
   pub was : IsTrue (handle_ok (with_clients O (facts_of clients)) client.facts.name act c k)
   pub lost : IsFalse (handle_ok (with_clients N (facts_of clients)) client.facts.name act c k)
 

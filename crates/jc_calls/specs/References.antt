@@ -14,7 +14,7 @@ use Rattle.jc_facts.specs.client.Outcome.{may_find}
 use Rattle.jc_promises.specs.rule.Bases.{is_steady, is_key_of_method}
 use Rattle.jc_promises.specs.rule.Findings.{finding_at}
 use Rattle.jc_promises.specs.rule.OpenActs.{act_fault, first_seat, method_acts}
-use Rattle.jc_calls.specs.Handles.{are_public, is_said_of_named}
+use Rattle.jc_calls.specs.Handles.{are_referable, is_said_of_named}
 
 -- ---- one side
 
@@ -35,7 +35,7 @@ is_open_to_some O N c k what = is_some (first_seat O N (λ a. is_none (act_fault
 
 -- and take apart the handle that javac makes of it, as they no longer can
 abbrev pub is_handle_lost : World → World → Bytes → Key → Act → Bool
-is_handle_lost O N c k what = is_open_to_some O N c k what && are_public O what c k && are_of_open O what c k && not (are_of_open N what c k)
+is_handle_lost O N c k what = is_open_to_some O N c k what && are_referable O what c k && are_of_open O what c k && not (are_of_open N what c k)
 
 -- a finding on the class and the key says that an act is closed
 abbrev pub is_told : World → World → Bytes → Key → Bool

@@ -29,7 +29,7 @@ use Rattle.jc_promises.specs.rule.Findings.{Subject}
 use Rattle.jc_promises.specs.rule.OpenActs.{act_fault, first_seat, method_acts}
 use Rattle.jc_calls.specs.Access.{access_added, is_called_above}
 use Rattle.jc_calls.specs.Constants.{constants_added}
-use Rattle.jc_calls.specs.Handles.{are_public}
+use Rattle.jc_calls.specs.Handles.{are_referable}
 use Rattle.jc_calls.specs.Joins.{join_lost}
 use Rattle.jc_calls.specs.Lines.{is_due, place_of, line_order, LineStands, AreLines}
 use Rattle.jc_calls.specs.References.{are_of_open, is_handle_lost, is_open_to_some, is_told, reference_lost}
@@ -144,9 +144,9 @@ module _ (O N : World) where
             → list_any (declares_key k) (above O x) ≡ true
         go (inl p) r =
             seat_finds x k loaded what
-            (first_so (is_open_to_some O N x k what) (are_public O what x k)
-            (first_so (is_open_to_some O N x k what && are_public O what x k) (are_of_open O what x k)
-            (first_so (is_open_to_some O N x k what && are_public O what x k && are_of_open O what x k) (not (are_of_open N what x k)) p)))
+            (first_so (is_open_to_some O N x k what) (are_referable O what x k)
+            (first_so (is_open_to_some O N x k what && are_referable O what x k) (are_of_open O what x k)
+            (first_so (is_open_to_some O N x k what && are_referable O what x k && are_of_open O what x k) (not (are_of_open N what x k)) p)))
         go (inr p) r = r p
 
     -- the parts of a subject, where the class is there and the key declared

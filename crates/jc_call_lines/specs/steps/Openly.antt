@@ -1,13 +1,14 @@
--- Which classes clients can name, what is declared by those that they can't name, and what is public.
+-- Which classes clients can name, what is declared by those that they can't name, and of what javac makes a handle.
 --     open_class W y      clients can name the class y
 --     choices_open W x k      so it is with each class that is said to declare what a reference to the class x may find
---     finds_public W x k      a reference to the class x finds a method of the key, and none that isn't public
---     hidden_at, hidden_offer, other_best      what superinterfaces are asked for, by the numbers of classes
+--     finds_referable W x k      a reference to the class x finds a method of the key, and none of which javac makes no handle
+--     hidden_at, hidden_offer, unfit_offer, other_best      what superinterfaces are asked for, by the numbers of classes
 use Rattle.std.specs.Prelude.{ℕ, ◌==◌, ◌≡◌, Bool, true, false, not, cond, ◌&&◌, ◌||◌, Option, None, Some}
 use Rattle.std.specs.List.{list_all}
+use Rattle.jc_calls.specs.Handles.{is_referable}
 use Rattle.jc_facts.specs.declared.key.Key.{Key}
 use Rattle.jc_facts.specs.Names.{Bytes}
-use Rattle.jc_facts.specs.Flags.{public_flag}
+use Rattle.jc_facts.specs.Flags.{public_flag, synthetic_flag}
 use Rattle.jc_facts.specs.world.World.{World, class_is, DeclaredMember}
 use Rattle.jc_facts.specs.world.Assignment.{is_interface_of}
 use Rattle.jc_facts.specs.world.Hierarchy.{in_chain}
@@ -39,9 +40,13 @@ is_said_open false W m = is_interface_of W m.owner || is_owner_open W m
 abbrev pub choices_open : World → Bytes → Key → Bool
 choices_open W x k = list_all (is_said_open (is_interface_of W x) W) (lookup_choices W x k)
 
--- a reference to the class x finds a method of the key, and each that it may find is public
-abbrev pub finds_public : World → Bytes → Key → Bool
-finds_public W x k = not (are_none (lookup_choices W x k)) && list_all (λ m. public_flag m.member.flags) (lookup_choices W x k)
+-- a reference to the class x finds a method of the key, and of each that it may find javac makes a handle
+abbrev pub finds_referable : World → Bytes → Key → Bool
+finds_referable W x k = not (are_none (lookup_choices W x k)) && list_all is_referable (lookup_choices W x k)
+
+-- so it does of one with these flags
+abbrev pub are_flags_fit : ℕ → Bool
+are_flags_fit flags = public_flag flags && not (synthetic_flag flags)
 
 -- ---- by numbers
 
@@ -52,6 +57,15 @@ hidden_at W n = cond (open_class W (name_at W n)) None (Some (record { owner = n
 -- the method of the key that it declares neither private nor static
 abbrev pub hidden_offer : World → Key → ℕ → Option Found
 hidden_offer W k n = cond (open_class W (name_at W n)) None (candidate_at W k n)
+
+-- the method, where javac makes no handle of it
+abbrev pub if_unfit : Option Found → Option Found
+if_unfit None = None
+if_unfit (Some f) = cond (are_flags_fit f.flags) None (Some f)
+
+-- such a one of the key that the class of number n declares neither private nor static
+abbrev pub unfit_offer : World → Key → ℕ → Option Found
+unfit_offer W k n = if_unfit (candidate_at W k n)
 
 -- the method that the steps on superinterfaces of x choose before others, of another class than that of number m
 abbrev pub other_best : World → Bytes → Key → ℕ → ℕ → Option Found
